@@ -1,0 +1,119 @@
+-- The chronicle of a replica: the steps that stand, newest first. What it says of blocks alone: votes, lock, decisions and its law.
+use Rattle.std.specs.Prelude.{ℕ, suc, ◌≡◌, ◌<◌, ◌≤◌, ◌==◌, ◌⊎◌, ◌&&◌, ◌||◌, Bool, true, List, [], ◌∷◌, ◌++◌, map, length, if◌then◌else◌, nat_lt, Option, ⊤}
+use Rattle.std.specs.List.{list_any, AllByRecursion}
+use Rattle.definitions.specs.Lists.{Among, AreDistinct, greatest}
+use Rattle.definitions.specs.Frames.{Command, Core, Certificate}
+use Rattle.definitions.specs.Branches.{Block, Branch, justify_height, just1, just2, just3, Extends, extends, branch_eq, highest}
+use Rattle.definitions.specs.Bytes.{Bytes}
+use Rattle.ids.specs.Sizes.{Sizes, replicas, quorum}
+use Rattle.definitions.specs.Histories.{History, history_of}
+
+-- A block that was admitted, by a proposal or on its own.
+pub record Admitted : Type 0 where
+  pub branch : Branch
+  pub core : Core  -- as it came
+  pub certificate : Certificate
+  pub counted : List ℕ  -- the voters whose tags for this replica verified
+  pub clear : Bool  -- so did the tag of each command
+  pub new : Bool  -- it was not in the tree before
+  pub voted : Bool
+
+-- what a replica took in and stored
+pub data Step : Type 0 where
+  took_block : Admitted → Step
+  got_vote : (voter : ℕ) → (vector : Bytes) → (block : Branch) → Step
+  got_new_view : (view sender : ℕ) → (certificate : Certificate) → (block : Branch) → Step
+  got_request : Command → Step
+  got_fetch : (sender : ℕ) → (block : Option Branch) → Step  -- the block of its digest, where it was in the tree
+  timed_out : Step
+  beat : Step
+
+-- the steps of one replica
+abbrev pub Chronicle : Type 0
+Chronicle = List Step
+
+-- ---- what stands there of blocks
+
+-- the blocks that it voted for
+unfoldable pub voted : Chronicle → List Branch
+voted [] = []
+voted (took_block a ∷ earlier) = if a.voted then a.branch ∷ voted earlier else voted earlier
+voted (s ∷ earlier) = voted earlier
+
+-- the blocks that weren't in the tree before
+unfoldable pub taken : Chronicle → List Admitted
+taken [] = []
+taken (took_block a ∷ earlier) = if a.new then a ∷ taken earlier else taken earlier
+taken (s ∷ earlier) = taken earlier
+
+-- the blocks that it knows, with genesis
+unfoldable pub tree : Chronicle → List Branch
+tree c = map (λ a. a.branch) (taken c) ++ [] ∷ []
+
+-- the greatest height that it voted for (HotStuff, PODC 2019, vheight)
+unfoldable pub vheight : Chronicle → ℕ
+vheight c = greatest (map length (voted c))
+
+-- the first of the greatest height among the second justified blocks of what it took (HotStuff, PODC 2019, b_lock)
+unfoldable pub lock : Chronicle → Branch
+lock c = highest (map (λ a. just2 a.branch) (taken c))
+
+-- three blocks in direct succession, each justified by the next, decide the first of them (HotStuff, PODC 2019, three-chain)
+unfoldable pub decides : Branch → Bool
+decides x = (length (just2 x) == suc (length (just3 x))) && (length (just1 x) == suc (length (just2 x)))
+
+-- what was decided by these blocks
+unfoldable pub decided_by : List Admitted → List Branch
+decided_by [] = []
+decided_by (a ∷ earlier) = if decides a.branch then just3 a.branch ∷ decided_by earlier else decided_by earlier
+
+-- what was decided, with genesis
+unfoldable pub decided : Chronicle → List Branch
+decided c = decided_by (taken c) ++ [] ∷ []
+
+-- the last executed block
+unfoldable pub executed : Chronicle → Branch
+executed c = highest (decided c)
+
+-- the commands that it executed
+unfoldable pub history : Chronicle → History
+history c = history_of (executed c)
+
+-- the block was taken as a clear one
+unfoldable pub is_clear : Branch → Chronicle → Bool
+is_clear x c = list_any (λ a. a.clear && branch_eq a.branch x) (taken c)
+
+-- so was each block of x's branch above this height
+unfoldable pub clear_above : ℕ → Branch → Chronicle → Bool
+clear_above height [] c = true
+clear_above height (b ∷ parent) c = if nat_lt height (suc (length parent)) then is_clear (b ∷ parent) c && clear_above height parent c else true
+
+-- a block may be voted for by height and lock
+unfoldable pub may_vote : Branch → Chronicle → Bool
+may_vote b c = nat_lt (vheight c) (length b) && (extends b (lock c) || nat_lt (length (lock c)) (justify_height b))
+
+-- ---- the law of a chronicle
+
+-- a vote for b is higher than any before, safe by the lock, and only for clear blocks that were taken
+pub record IsLawfulVote (b : Branch) (now earlier : Chronicle) : Type 0 where
+  pub higher : vheight earlier < length b
+  pub safe : Extends b (lock earlier) ⊎ (length (lock earlier) < length (just1 b))
+  pub clear : (x : Branch) → Extends b x → length (just1 b) < length x → (a : Admitted) × Among a (taken now) × (a.branch ≡ x) × (a.clear ≡ true)
+  pub taken : Among b (tree now)
+
+-- a taken block is new, stands on its parent, and justifies a certified block or genesis
+pub record IsLawfulTake (sizes : Sizes) (a : Admitted) (earlier : Chronicle) : Type 0 where
+  pub new : Among a.branch (tree earlier) → ⊥
+  pub parent : (b : Block) × (parent : Branch) × (a.branch ≡ b ∷ parent) × (b.justify < suc (length parent)) × Among parent (tree earlier)
+  pub certified : (AreDistinct a.counted × AllByRecursion (λ v. v < replicas sizes) a.counted × (quorum sizes ≤ length a.counted)) ⊎ (just1 a.branch ≡ [])
+
+-- what a step has to be
+abbrev pub IsLawfulStep : Sizes → Step → Chronicle → Type 0
+IsLawfulStep sizes (took_block a) earlier =
+    (a.voted ≡ true → IsLawfulVote a.branch (took_block a ∷ earlier) earlier) × (a.new ≡ true → IsLawfulTake sizes a earlier)
+IsLawfulStep sizes s earlier = ⊤
+
+-- each step of a chronicle is lawful
+abbrev pub IsLawful : Sizes → Chronicle → Type 0
+IsLawful sizes [] = ⊤
+IsLawful sizes (s ∷ earlier) = IsLawfulStep sizes s earlier × IsLawful sizes earlier

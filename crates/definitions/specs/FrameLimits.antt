@@ -1,0 +1,84 @@
+-- Which values are frames at given sizes, and which bytes spell them.
+use Rattle.std.specs.Prelude.{◌≡◌, ℕ, ◌*◌, ◌^◌, ◌<◌, ◌≤◌, ◌⊎◌, List, [], ◌∷◌, length, Option, Some, None, ⊤}
+use Rattle.std.specs.List.{AllByRecursion}
+use Rattle.ids.specs.Sizes.{Sizes, replicas, quorum}
+use Rattle.definitions.specs.Bytes.{Bytes}
+use Rattle.definitions.specs.Tags.{tag_len}
+use Rattle.definitions.specs.Frames.{Command, Core, Vote, Certificate, Frame, request, proposal, vote, new_view, reply, fetch, block, spelling}
+
+-- a digest of SHA-256 (FIPS 180-4)
+abbrev pub IsDigest : Bytes → Type 0
+IsDigest bytes = length bytes ≡ 32
+
+-- a whole tag
+abbrev pub IsTag : Bytes → Type 0
+IsTag bytes = length bytes ≡ tag_len
+
+-- a tag for each replica
+abbrev pub IsVector : Sizes → Bytes → Type 0
+IsVector sizes bytes = length bytes ≡ tag_len * replicas sizes
+
+-- the most bytes of a payload
+abbrev pub most_payload : ℕ
+most_payload = 4608
+
+-- the most commands of a block
+abbrev pub most_commands : ℕ
+most_commands = 16
+
+-- the most bytes of a reply's text
+abbrev pub most_text : ℕ
+most_text = 70293
+
+-- the limits of a command's numbers and payload
+pub record IsCommand (sizes : Sizes) (c : Command) : Type 0 where
+  pub client : c.client < sizes.clients
+  pub seq : (1 ≤ c.seq) × (c.seq < 2 ^ 64)
+  pub payload : length c.payload ≤ most_payload
+  pub vector : IsVector sizes c.vector
+
+-- above genesis, at most 16 commands, and a block below is justified
+pub record IsCore (sizes : Sizes) (k : Core) : Type 0 where
+  pub parent : IsDigest k.parent
+  pub height : (1 ≤ k.height) × (k.height < 2 ^ 64)
+  pub justify_height : k.justify_height < k.height
+  pub count : length k.commands ≤ most_commands
+  pub commands : AllByRecursion (IsCommand sizes) k.commands
+
+-- of a replica, with a tag for each replica
+pub record IsVote (sizes : Sizes) (v : Vote) : Type 0 where
+  pub voter : v.voter < replicas sizes
+  pub vector : IsVector sizes v.vector
+
+-- each voter's number is below the next one's
+abbrev pub Rise : List Vote → Type 0
+Rise [] = ⊤
+Rise (v ∷ []) = ⊤
+Rise (v ∷ w ∷ votes) = (v.voter < w.voter) × Rise (w ∷ votes)
+
+-- no votes, as genesis has, or a quorum to all of them, each voter once and in order
+pub record IsCertificate (sizes : Sizes) (q : Certificate) : Type 0 where
+  pub digest : IsDigest q.digest
+  pub count : (length q.votes ≡ 0) ⊎ ((quorum sizes ≤ length q.votes) × (length q.votes ≤ replicas sizes))
+  pub votes : AllByRecursion (IsVote sizes) q.votes
+  pub rising : Rise q.votes
+
+-- the frames that there are
+abbrev pub IsFrame : Sizes → Frame → Type 0
+IsFrame sizes (request c) = IsCommand sizes c
+IsFrame sizes (proposal view k q vector) = (view < 2 ^ 64) × IsCore sizes k × IsCertificate sizes q × IsVector sizes vector
+IsFrame sizes (vote digest v) = IsDigest digest × IsVote sizes v
+IsFrame sizes (new_view view sender q vector) = (view < 2 ^ 64) × (sender < replicas sizes) × IsCertificate sizes q × IsVector sizes vector
+IsFrame sizes (reply replica client seq place text tag) = (replica < replicas sizes) × (client < sizes.clients)
+    × ((1 ≤ seq) × (seq < 2 ^ 64)) × ((1 ≤ place) × (place < 2 ^ 64)) × (length text ≤ most_text) × IsTag tag
+IsFrame sizes (fetch sender digest tag) = (sender < replicas sizes) × IsDigest digest × IsTag tag
+IsFrame sizes (block sender k q tag) = (sender < replicas sizes) × IsCore sizes k × IsCertificate sizes q × IsTag tag
+
+-- the bytes are a frame, and which one: a relation between bytes and values
+abbrev pub Spells : Sizes → Bytes → Frame → Type 0
+Spells sizes bytes frame = IsFrame sizes frame × (bytes ≡ spelling frame)
+
+-- what the bytes are read as: the frame that they spell, or none where they spell none
+abbrev pub IsReadAs : Sizes → Bytes → Option Frame → Type 0
+IsReadAs sizes bytes (Some frame) = Spells sizes bytes frame
+IsReadAs sizes bytes None = (frame : Frame) → Spells sizes bytes frame → ⊥

@@ -1,0 +1,113 @@
+-- What an input comes to: the step that is to stand, or a refusal.
+use Rattle.ids.specs.declared.fault.Fault.{Fault}
+use Rattle.ids.specs.declared.fault.Fault.TheVariants as fault
+use Rattle.std.specs.Prelude.{ℕ, ◌==◌, ◌&&◌, not, Bool, true, false, ◌∷◌, length, if◌then◌else◌, nat_lt, Option, Some, None, find, count_by}
+use Rattle.std.specs.List.{list_any}
+use Rattle.std.specs.Str.{bytes_eq}
+use Rattle.definitions.specs.Frames.{Command, Core, Vote, Certificate}
+use Rattle.definitions.specs.Branches.{Branch, justify_height, just1, just3, extends}
+use Rattle.definitions.specs.Bytes.{Bytes}
+use Rattle.ids.specs.Sizes.{Sizes, leader}
+use Rattle.definitions.specs.Digests.{digest, digest_of}
+use Rattle.definitions.specs.Chronicles.{Admitted, Step, Step.took_block, Step.got_vote, Step.got_new_view, Step.got_request, Step.got_fetch, Step.timed_out, Step.beat, Chronicle, tree, decides, executed, history, may_vote, clear_above}
+use Rattle.definitions.specs.Checks.{Identity, counted, is_clear_core}
+use Rattle.definitions.specs.States.{view, is_same_request, is_due, pending}
+
+-- the most blocks of a tree, genesis counted
+abbrev pub most_blocks : ℕ
+most_blocks = 1048576
+
+-- the most blocks of one height
+abbrev pub most_of_height : ℕ
+most_of_height = 64
+
+-- the most requests that wait
+abbrev pub most_pending : ℕ
+most_pending = 4096
+
+-- what is taken in, after its tags were found right
+pub data Input : Type 0 where
+  proposal_in : (view : ℕ) → (core : Core) → (certificate : Certificate) → Input
+  block_in : (sender : ℕ) → (core : Core) → (certificate : Certificate) → Input
+  vote_in : (block : Bytes) → (vote : Vote) → Input
+  new_view_in : (view sender : ℕ) → (certificate : Certificate) → Input
+  request_in : Command → Input
+  fetch_in : (sender : ℕ) → (block : Bytes) → Input
+  timeout_in : Input
+  beat_in : Input
+
+-- The step that is to stand, or a refusal; `Unknown` names the digest that isn't in the tree, and who sent it.
+pub data Ruling : Type 0 where
+  due : Step → Ruling
+  missing : (sender : ℕ) → (block : Bytes) → Ruling
+  refusing : Fault → Ruling
+
+-- the block of this digest, as its branch
+unfoldable pub find_block : Bytes → Chronicle → Option Branch
+find_block d c = find (λ b. bytes_eq (digest_of b) d) (tree c)
+
+-- the certificate is for the block that b justifies
+abbrev pub justifies : Certificate → Branch → Bool
+justifies q b = bytes_eq q.digest (digest_of (just1 b))
+
+-- a block and what was found of it, before the vote
+unfoldable pub admitted : Identity → Branch → Core → Certificate → Bool → Admitted
+admitted self b core q new = record { branch = b; core = core; certificate = q; counted = counted self q; clear = is_clear_core self core; new = new; voted = false }
+
+-- the vote on a proposal of view w, if it is one
+unfoldable pub votes_for : Sizes → Option ℕ → Admitted → Chronicle → Bool
+votes_for s None a c = false
+votes_for s (Some w) a c = (w == view s c) && (may_vote a.branch c && clear_above (justify_height a.branch) a.branch (took_block a ∷ c))
+
+-- the block is admitted, with or without a vote
+abbrev pub take_block : Identity → Option ℕ → Admitted → Chronicle → Ruling
+take_block self w a c = due (took_block (record a { voted = votes_for self.sizes w a c }))
+
+-- a block that stands in the tree
+unfoldable pub on_known : Identity → Option ℕ → Branch → Core → Certificate → Chronicle → Ruling
+on_known self w b core q c = if justifies q b then take_block self w (admitted self b core q false) c else refusing fault.WrongJustify
+
+-- a block whose parent stands in the tree
+unfoldable pub on_new : Identity → Option ℕ → Branch → Core → Certificate → Chronicle → Ruling
+on_new self w parent core q c =
+    let b : Branch = record { commands = core.commands; justify = core.justify_height } ∷ parent in
+    if not (core.height == length b) then refusing fault.BadHeight
+    else (if not (justifies q b) then refusing fault.WrongJustify
+    else (if not (nat_lt (count_by (λ x. length x == length b) (tree c)) most_of_height) then refusing fault.Crowded
+    else (if not (nat_lt (length (tree c)) most_blocks) then refusing fault.Full
+    else take_block self w (admitted self b core q true) c)))
+
+-- a block with its certificate, as a proposal of this view or on its own
+unfoldable pub on_block : Identity → Option ℕ → ℕ → Core → Certificate → Chronicle → Ruling
+on_block self w sender core q c =
+    elim (find_block (digest core) c) [
+      | Some b ↦ on_known self w b core q c
+      | None ↦ elim (find_block core.parent c) [ Some parent ↦ on_new self w parent core q c | None ↦ missing sender core.parent ]
+    ]
+
+-- a request, where there is room for it
+unfoldable pub on_request : Command → Chronicle → Ruling
+on_request r c =
+    if is_due (history c) r && (not (list_any (is_same_request r) (pending c)) && not (nat_lt (length (pending c)) most_pending))
+    then refusing fault.PoolFull else due (got_request r)
+
+-- what follows where the block stands in the tree
+abbrev pub with_block : Option Branch → ℕ → Bytes → (Branch → Ruling) → Ruling
+with_block None sender d stands = missing sender d
+with_block (Some b) sender d stands = stands b
+
+-- what an input comes to
+unfoldable pub ruling : Identity → Input → Chronicle → Ruling
+ruling self (proposal_in w core q) c = on_block self (Some w) (leader self.sizes w) core q c
+ruling self (block_in sender core q) c = on_block self None sender core q c
+ruling self (vote_in d b) c = with_block (find_block d c) b.voter d (λ x. due (got_vote b.voter b.vector x))
+ruling self (new_view_in w sender q) c = with_block (find_block q.digest c) sender q.digest (λ x. due (got_new_view w sender q x))
+ruling self (request_in r) c = on_request r c
+ruling self (fetch_in sender d) c = due (got_fetch sender (find_block d c))
+ruling self timeout_in c = due timed_out
+ruling self beat_in c = due beat
+
+-- the block that a step decides neither extends the last executed one nor is extended by it
+unfoldable pub conflicts : Step → Chronicle → Bool
+conflicts (took_block a) c = a.new && (decides a.branch && (not (extends (just3 a.branch) (executed c)) && not (extends (executed c) (just3 a.branch))))
+conflicts s c = false

@@ -1,0 +1,145 @@
+-- The rest of a replica's state, read off its whole chronicle: views, votes, certificates, pending requests, and what to propose.
+use Rattle.std.specs.Prelude.{ℕ, suc, ◌-◌, ◌^◌, ◌==◌, ◌&&◌, not, Bool, List, [], ◌∷◌, ◌++◌, map, filter, take, length, min, max, if◌then◌else◌, nat_lt, nat_le, Option, Some, None}
+use Rattle.std.specs.List.{list_any}
+use Rattle.std.specs.Str.{bytes_eq}
+use Rattle.definitions.specs.Lists.{greatest, count_below}
+use Rattle.definitions.specs.Frames.{Command, Vote, Certificate, genesis_core}
+use Rattle.definitions.specs.FrameLimits.{most_commands}
+use Rattle.definitions.specs.Branches.{Branch, just1}
+use Rattle.definitions.specs.Bytes.{Bytes}
+use Rattle.ids.specs.Sizes.{Sizes, replicas, quorum, leader}
+use Rattle.definitions.specs.Digests.{digest, digest_of}
+use Rattle.definitions.specs.Histories.{History, last_seq, history_of}
+use Rattle.definitions.specs.Chronicles.{Step, Step.took_block, Step.got_vote, Step.got_new_view, Step.got_request, Step.timed_out, Step.beat, Chronicle, tree, history}
+use Rattle.definitions.specs.Checks.{Identity}
+
+-- each view that a replica announced, with its number
+unfoldable pub announcements : Chronicle → List (ℕ × ℕ)
+announcements [] = []
+announcements (got_new_view view sender q b ∷ earlier) = (sender, view) ∷ announcements earlier
+announcements (s ∷ earlier) = announcements earlier
+
+-- the greatest view that a replica announced
+unfoldable pub announced : ℕ → Chronicle → ℕ
+announced replica c = greatest (map (λ p. p.1) (filter (λ p. p.0 == replica) (announcements c)))
+
+-- the greatest view that more than f replicas have announced or passed
+unfoldable pub reached : Sizes → Chronicle → ℕ
+reached s c = greatest (filter (λ v. nat_lt s.faults (count_below (replicas s) (λ i. nat_le v (announced i c)))) (map (λ p. p.1) (announcements c)))
+
+-- the view: a timeout adds one, and new-view messages raise it
+unfoldable pub view : Sizes → Chronicle → ℕ
+view s [] = 0
+view s (timed_out ∷ earlier) = min (suc (view s earlier)) (2 ^ 64 - 1)
+view s (got_new_view w sender q b ∷ earlier) = max (view s earlier) (reached s (got_new_view w sender q b ∷ earlier))
+view s (x ∷ earlier) = view s earlier
+
+-- the kept votes for a block, one a voter and at most a quorum, newest first
+unfoldable pub votes : Sizes → Bytes → Chronicle → List Vote
+votes s d [] = []
+votes s d (got_vote voter v b ∷ earlier) =
+    if bytes_eq (digest_of b) d && (not (list_any (λ x. x.voter == voter) (votes s d earlier)) && nat_lt (length (votes s d earlier)) (quorum s))
+    then record { voter = voter; vector = v } ∷ votes s d earlier
+    else votes s d earlier
+votes s d (x ∷ earlier) = votes s d earlier
+
+-- put before the first of a greater voter
+unfoldable pub insert_vote : Vote → List Vote → List Vote
+insert_vote b [] = b ∷ []
+insert_vote b (x ∷ xs) = if nat_lt b.voter x.voter then b ∷ x ∷ xs else x ∷ insert_vote b xs
+
+-- votes by number of voter
+unfoldable pub by_voter : List Vote → List Vote
+by_voter [] = []
+by_voter (b ∷ bs) = insert_vote b (by_voter bs)
+
+-- A certificate with its block.
+pub record Justified : Type 0 where
+  pub block : Branch
+  pub certificate : Certificate
+
+-- the certificate that a step brings or completes, if any
+unfoldable pub raised : Sizes → Step → Chronicle → Option Justified
+raised s (took_block a) earlier = if a.new then Some (record { block = just1 a.branch; certificate = a.certificate }) else None
+raised s (got_new_view w sender q b) earlier = Some (record { block = b; certificate = q })
+raised s (got_vote voter v b) earlier =
+    if nat_lt (length (votes s (digest_of b) earlier)) (quorum s) && (length (votes s (digest_of b) (got_vote voter v b ∷ earlier)) == quorum s)
+    then Some (record { block = b; certificate = record { digest = digest_of b; votes = by_voter (votes s (digest_of b) (got_vote voter v b ∷ earlier)) } })
+    else None
+raised s x earlier = None
+
+-- the one of the greater height, the older one where they are equal
+abbrev pub higher : Option Justified → Justified → Justified
+higher None q = q
+higher (Some p) q = if nat_lt (length q.block) (length p.block) then p else q
+
+-- the first certificate of the greatest height
+unfoldable pub qc_high : Sizes → Chronicle → Justified
+qc_high s [] = record { block = []; certificate = record { digest = digest genesis_core; votes = [] } }
+qc_high s (x ∷ earlier) = higher (raised s x earlier) (qc_high s earlier)
+
+-- requests in order of arrival that aren't overtaken by the history
+abbrev pub is_same_request : Command → Command → Bool
+is_same_request a b = (a.client == b.client) && (a.seq == b.seq)
+
+-- the request's number is above the last executed one of its client
+unfoldable pub is_due : History → Command → Bool
+is_due h r = nat_lt (last_seq r.client h) r.seq
+
+-- a new request is added last
+abbrev pub with_request : Step → List Command → List Command
+with_request (got_request r) ps = if list_any (is_same_request r) ps then ps else ps ++ r ∷ []
+with_request s ps = ps
+
+-- the requests that wait
+unfoldable pub pending : Chronicle → List Command
+pending [] = []
+pending (s ∷ earlier) = filter (is_due (history (s ∷ earlier))) (with_request s (pending earlier))
+
+-- the replica's own number
+abbrev pub me : Identity → ℕ
+me self = self.ring.party
+
+-- whether it leads its view
+unfoldable pub leads : Identity → Chronicle → Bool
+leads self c = leader self.sizes (view self.sizes c) == me self
+
+-- whether a block of this digest stands in the tree
+unfoldable pub is_known : Bytes → Chronicle → Bool
+is_known d c = list_any (λ b. bytes_eq (digest_of b) d) (tree c)
+
+-- the pending requests that do not stand on the branch, 16 at most
+unfoldable pub picks : Chronicle → Branch → List Command
+picks c on = take most_commands (filter (λ r. not (list_any (λ e. (e.client == r.client) && (e.seq == r.seq)) (history_of on))) (pending c))
+
+-- the child that a beat makes on this leaf
+unfoldable pub child : Identity → Chronicle → Branch → Option Branch
+child self c leaf =
+    if leads self c && is_known (digest_of leaf) c
+    then Some (record { commands = picks c leaf; justify = length (qc_high self.sizes c).block } ∷ leaf)
+    else None
+
+-- the first, where there is one
+abbrev pub or_else : {A : Type 0} → Option A → A → A
+or_else None x = x
+or_else (Some y) x = y
+
+-- the block that the next proposal stands on (HotStuff, PODC 2019, b_leaf)
+unfoldable pub leaf : Identity → Chronicle → Branch
+leaf self [] = []
+leaf self (beat ∷ earlier) = or_else (child self earlier (leaf self earlier)) (leaf self earlier)
+leaf self (s ∷ earlier) =
+    if nat_lt (length (qc_high self.sizes earlier).block) (length (qc_high self.sizes (s ∷ earlier)).block)
+    then (qc_high self.sizes (s ∷ earlier)).block
+    else leaf self earlier
+
+-- the own last proposal
+abbrev pub made_with : Option Branch → Certificate → Option Justified → Option Justified
+made_with None q before = before
+made_with (Some b) q before = Some (record { block = b; certificate = q })
+
+-- the last block that it made, with the certificate that went along
+unfoldable pub proposed : Identity → Chronicle → Option Justified
+proposed self [] = None
+proposed self (beat ∷ earlier) = made_with (child self earlier (leaf self earlier)) (qc_high self.sizes earlier).certificate (proposed self earlier)
+proposed self (s ∷ earlier) = proposed self earlier

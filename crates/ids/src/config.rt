@@ -1,0 +1,71 @@
+ghost use Rattle.std.specs.Prelude.{◌≡◌, ◌↔◌, ◌≤◌, IsOk, IfOk, OnErr};
+ghost use Rattle.ids.specs.Sizes.{AreSizes, replicas, quorum};
+
+use crate::fault::Fault;
+use std::marker::Model;
+
+/// The most replicas that there are: the length of each fixed row over replicas.
+pub const MOST_REPLICAS: usize = 13;
+
+/// The sizes of a deployment: how many faulty replicas it bears, and how many clients it has.
+#[derive(Clone, Copy, Debug, PartialEq, Eq)]
+pub struct Config {
+    faults: u8,
+    clients: u8,
+}
+
+impl Model for Config {
+    ghost use Rattle.ids.specs.Sizes.{Sizes, AreSizes};
+
+    ghost Value = { Sizes };
+
+    ghost view = { λ c. record { faults = c.faults; clients = c.clients } };
+
+    ghost invariant = { λ c. AreSizes (record { faults = c.faults; clients = c.clients }) };
+
+    ghost inverse = { λ s. record { faults = s.faults; clients = s.clients } };
+}
+
+impl Config {
+    /// The sizes, where `faults` is 1 to 4 and `clients` 1 to 64; else `BadSize`.
+    pub fn new(faults: u8, clients: u8) -> Result<Config, Fault>
+        ensures made { IfOk result (λ config. config ≡ record { faults = faults; clients = clients }) }
+        ensures refused { OnErr result (result ≡ Err Fault.BadSize) }
+        ensures only { IsOk result ↔ AreSizes (record { faults = faults; clients = clients }) }
+    {
+        if (1..=4).contains(&faults) && (1..=64).contains(&clients) {
+            Ok(Config { faults, clients })
+        } else {
+            Err(Fault::BadSize)
+        }
+    }
+
+    /// The number f of faulty replicas that are borne.
+    pub fn faults(&self) -> u8
+        ensures { result ≡ self.now.faults }
+    {
+        self.faults
+    }
+
+    /// How many clients there are.
+    pub fn clients(&self) -> u8
+        ensures { result ≡ self.now.clients }
+    {
+        self.clients
+    }
+
+    /// The number n of replicas, 3f + 1.
+    pub fn n(&self) -> u8
+        ensures count { result ≡ replicas self.now }
+        ensures most { result ≤ MOST_REPLICAS }
+    {
+        3 * self.faults + 1
+    }
+
+    /// How many replicas make a quorum, n - f = 2f + 1: any two quorums share f + 1 replicas.
+    pub fn quorum(&self) -> u8
+        ensures { result ≡ quorum self.now }
+    {
+        2 * self.faults + 1
+    }
+}

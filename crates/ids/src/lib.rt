@@ -1,0 +1,26 @@
+//! The words that all crates share: the sizes of a deployment, the numbers of its parties and of what
+//! they count, the kinds of frames, and the one list of refusals.
+//!
+//! Each newtype is a number that must not be mixed with another one; a contract sees it as that number.
+//! No call of this crate takes memory.
+#![tactic(auto)]
+
+mod config;
+mod digest;
+mod fault;
+mod kind;
+mod line_fault;
+mod not_a_frame;
+mod numbers;
+mod party;
+#[cfg(test)]
+mod tests;
+
+pub use config::{Config, MOST_REPLICAS};
+pub use digest::Digest;
+pub use fault::Fault;
+pub use kind::Kind;
+pub use line_fault::LineFault;
+pub use not_a_frame::NotAFrame;
+pub use numbers::{Height, Place, Seq, View};
+pub use party::{ClientId, PartyId, ReplicaId};

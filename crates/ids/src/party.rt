@@ -1,0 +1,85 @@
+ghost use Rattle.std.specs.Prelude.{◌≡◌, ◌+◌};
+ghost use Rattle.ids.specs.Sizes.{client_party};
+
+use std::fmt;
+use std::marker::Model;
+
+/// The number of a replica, from 0. Displayed as in a schedule: `r2`.
+#[derive(Clone, Copy, Debug, PartialEq, Eq, PartialOrd, Ord, Hash)]
+pub struct ReplicaId(pub u8);
+
+impl Model for ReplicaId {
+    ghost use Rattle.std.specs.Prelude.{ℕ};
+
+    ghost Value = { ℕ };
+
+    ghost view = { λ replica. replica.0 };
+
+    ghost inverse = { λ n. record { 0 = n } };
+}
+
+impl fmt::Display for ReplicaId {
+    fn fmt<W: fmt::Write>(&self, f: &mut fmt::Formatter<W>) -> fmt::Result {
+        write!(f, "r{}", self.0)
+    }
+}
+
+/// The number of a client, from 0. Displayed as in a schedule: `c0`.
+#[derive(Clone, Copy, Debug, PartialEq, Eq, PartialOrd, Ord, Hash)]
+pub struct ClientId(pub u8);
+
+impl Model for ClientId {
+    ghost use Rattle.std.specs.Prelude.{ℕ};
+
+    ghost Value = { ℕ };
+
+    ghost view = { λ client. client.0 };
+
+    ghost inverse = { λ n. record { 0 = n } };
+}
+
+impl fmt::Display for ClientId {
+    fn fmt<W: fmt::Write>(&self, f: &mut fmt::Formatter<W>) -> fmt::Result {
+        write!(f, "c{}", self.0)
+    }
+}
+
+/// A party that sends or receives frames: replica i is i, client c is 256 + c.
+#[derive(Clone, Copy, Debug, PartialEq, Eq, PartialOrd, Ord, Hash)]
+pub struct PartyId(pub u16);
+
+impl Model for PartyId {
+    ghost use Rattle.std.specs.Prelude.{ℕ};
+
+    ghost Value = { ℕ };
+
+    ghost view = { λ party. party.0 };
+
+    ghost inverse = { λ n. record { 0 = n } };
+}
+
+impl From<ReplicaId> for PartyId {
+    ghost from_gives = { λ replica party. party ≡ replica };
+
+    fn from(replica: ReplicaId) -> PartyId {
+        PartyId(u16::from(replica.0))
+    }
+}
+
+impl From<ClientId> for PartyId {
+    ghost from_gives = { λ client party. party ≡ client_party client };
+
+    fn from(client: ClientId) -> PartyId {
+        PartyId(256 + u16::from(client.0))
+    }
+}
+
+impl fmt::Display for PartyId {
+    fn fmt<W: fmt::Write>(&self, f: &mut fmt::Formatter<W>) -> fmt::Result {
+        if self.0 < 256 {
+            write!(f, "r{}", self.0)
+        } else {
+            write!(f, "c{}", self.0 - 256)
+        }
+    }
+}
