@@ -1,10 +1,10 @@
--- Families of chronicles: certified blocks, orderly families, fronts.
+-- Families of chronicles: certified blocks, and orders of all their steps.
 use Rattle.std.specs.Prelude.{ℕ, ◌≡◌, ◌≤◌, ◌==◌, Bool, true, List, [], ◌∷◌, if◌then◌else◌, ⊤}
 use Rattle.std.specs.List.{list_any}
 use Rattle.definitions.specs.Lists.{Among, count_below}
 use Rattle.definitions.specs.Branches.{Branch, just1, branch_eq}
 use Rattle.ids.specs.Sizes.{Sizes, replicas, quorum}
-use Rattle.definitions.specs.Chronicles.{Step, Step.took_block, Chronicle, voted}
+use Rattle.definitions.specs.Chronicles.{Step, Step.took_block, Chronicle, voted, IsLawful}
 
 -- The chronicles of some replicas, the members.
 pub record Family : Type 0 where
@@ -50,3 +50,9 @@ pub record IsOrderly (fam : Family) : Type 0 where
   pub order : Order
   pub whole : (i : ℕ) → fam.is_member i ≡ true → steps_of i order ≡ fam.chronicle i
   pub ordered : IsOrdered fam.is_member order
+
+-- what agreement takes: a quorum of replicas, whose chronicles are lawful and stand in one order
+pub record IsLawfulFamily (fam : Family) : Type 0 where
+  pub enough : IsFamily fam
+  pub lawful : (i : ℕ) → fam.is_member i ≡ true → IsLawful fam.sizes (fam.chronicle i)
+  pub orderly : IsOrderly fam

@@ -1,6 +1,6 @@
 -- The request that a payload spells, as a function. There are eleven guesses, one a command, made of the
 -- fields of the first line; the payload spells the one that is a request and has it as its canonical text.
-use Rattle.std.specs.Prelude.{ℕ, ◌+◌, ◌-◌, ◌^◌, Bool, true, false, ◌&&◌, not, List, [], ◌∷◌, length, take, drop, Option, nat_lt, nat_le, ◌==◌, bytes_eq, if◌then◌else◌, slice_index, slice_index_or, find, is_some}
+use Rattle.std.specs.Prelude.{ℕ, ◌+◌, ◌-◌, ◌^◌, Bool, ◌&&◌, not, List, [], ◌∷◌, length, take, drop, Option, nat_lt, nat_le, ◌==◌, bytes_eq, if◌then◌else◌, slice_index, slice_index_or, find, is_some}
 use Rattle.std.specs.List.{slice_split, list_all}
 use Rattle.std.specs.Str.Parse.{digits_value}
 use Rattle.definitions.specs.Requests.{Asked, set, add, replace, append, prepend, store, cas, get, gets, delete, incr, decr, canonical, space, most_data}

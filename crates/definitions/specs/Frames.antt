@@ -8,6 +8,7 @@ use Rattle.ids.specs.declared.kind.Kind.TheVariants as kind
 use Rattle.ids.specs.Numbers.{kind_number}
 use Rattle.ids.specs.Sizes.{Sizes, leader, client_party}
 use Rattle.definitions.specs.Bytes.{Bytes}
+use Rattle.definitions.specs.Tags.{tag_of}
 
 -- ---- what a frame says
 
@@ -124,6 +125,8 @@ tags (block sender k q tag) = tag
 abbrev pub spelling : Frame → Bytes
 spelling frame = kind_number (kind_of frame) ∷ middle frame ++ tags frame
 
+-- ---- its own tags
+
 -- the party that sends it
 abbrev pub sender_of : Sizes → Frame → ℕ
 sender_of sizes (request c) = client_party c.client
@@ -134,10 +137,17 @@ sender_of sizes (reply replica client seq place text tag) = replica
 sender_of sizes (fetch sender digest tag) = sender
 sender_of sizes (block sender k q tag) = sender
 
--- what its tags speak of
+-- what its own tags speak of
 abbrev pub content_of : Frame → Bytes
 content_of (vote digest v) = digest
 content_of frame = middle frame
+
+-- its own tag for a party: that of its vector for this replica, or the one tag that it has
+abbrev pub own_tag : Frame → ℕ → Bytes
+own_tag (reply replica client seq place text tag) party = tag
+own_tag (fetch sender digest tag) party = tag
+own_tag (block sender k q tag) party = tag
+own_tag frame party = tag_of (tags frame) party
 
 -- ---- genesis
 

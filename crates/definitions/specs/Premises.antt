@@ -3,14 +3,14 @@ use Rattle.ids.specs.declared.kind.Kind.{Kind}
 use Rattle.ids.specs.declared.kind.Kind.TheVariants as kind
 use Rattle.std.specs.Prelude.{ℕ, ◌≡◌, ◌-◌, ◌==◌, ◌⊎◌, ◌&&◌, not, Bool, true, false, List, [], ◌∷◌, ◌++◌, map, filter, Option, Some, None, ⊤}
 use Rattle.definitions.specs.Lists.{Among}
-use Rattle.definitions.specs.Frames.{Command, Core, Vote, Certificate, Frame, spelling, genesis_core, command_content, proposal_content, new_view_content, reply_content, fetch_content, block_content}
+use Rattle.definitions.specs.Frames.{Core, Certificate, Frame, kind_of, sender_of, content_of, own_tag, genesis_core, command_content, reply_content}
 use Rattle.definitions.specs.FrameLimits.{IsReadAs}
 use Rattle.definitions.specs.Tags.{tag_of}
 use Rattle.definitions.specs.Bytes.{Bytes}
-use Rattle.ids.specs.Sizes.{Sizes, leader, client_party}
+use Rattle.ids.specs.Sizes.{Sizes, client_party}
 use Rattle.definitions.specs.Keyrings.{verify}
 use Rattle.definitions.specs.Checks.{Identity, vote_verifies, command_verifies}
-use Rattle.definitions.specs.Sendings.{To.to_party}
+use Rattle.definitions.specs.Sendings.{To, To.to_party}
 use Rattle.definitions.specs.Frames as frame
 use Rattle.definitions.specs.Worlds.{Sent, World, Event, Happening, is_replica, self_of}
 use Rattle.definitions.specs.Runs.{after}
@@ -25,33 +25,37 @@ pub record Claim : Type 0 where
   pub content : Bytes
   pub tag : Bytes
 
--- the tags that a party finds right in a frame that it admits
+-- the frame's own tag for the party that it comes to
+abbrev pub own_claim : Identity → Frame → Claim
+own_claim self f = record { label = kind_of f; sender = sender_of self.sizes f; receiver = self.ring.party; content = content_of f; tag = own_tag f self.ring.party }
+
+-- the votes of a certificate whose tags for the party verify
 abbrev pub vote_claims : Identity → Certificate → List Claim
 vote_claims self q = map (λ b. record { label = kind.Vote; sender = b.voter; receiver = self.ring.party; content = q.digest; tag = tag_of b.vector self.ring.party }) (filter (vote_verifies self q.digest) q.votes)
 
--- the commands' tags that a replica finds right
+-- the commands of a block whose tags for the party verify
 abbrev pub command_claims : Identity → Core → List Claim
 command_claims self core = map (λ c. record { label = kind.Request; sender = client_party c.client; receiver = self.ring.party; content = command_content c.client c.seq c.payload; tag = tag_of c.vector self.ring.party }) (filter (command_verifies self) core.commands)
 
 -- the tags that a party relies on where it admits the frame
 unfoldable pub accepted_tags : Identity → Frame → List Claim
-accepted_tags self (frame.request c) = record { label = kind.Request; sender = client_party c.client; receiver = self.ring.party; content = command_content c.client c.seq c.payload; tag = tag_of c.vector self.ring.party } ∷ []
-accepted_tags self (frame.proposal view core q v) = record { label = kind.Proposal; sender = leader self.sizes view; receiver = self.ring.party; content = proposal_content view core q; tag = tag_of v self.ring.party } ∷ vote_claims self q ++ command_claims self core
-accepted_tags self (frame.vote d b) = record { label = kind.Vote; sender = b.voter; receiver = self.ring.party; content = d; tag = tag_of b.vector self.ring.party } ∷ []
-accepted_tags self (frame.new_view view sender q v) = record { label = kind.NewView; sender = sender; receiver = self.ring.party; content = new_view_content view sender q; tag = tag_of v self.ring.party } ∷ vote_claims self q
-accepted_tags self (frame.reply replica client seq place text t) = record { label = kind.Reply; sender = replica; receiver = client_party client; content = reply_content replica client seq place text; tag = t } ∷ []
-accepted_tags self (frame.fetch sender d t) = record { label = kind.Fetch; sender = sender; receiver = self.ring.party; content = fetch_content sender d; tag = t } ∷ []
-accepted_tags self (frame.block sender core q t) = record { label = kind.Block; sender = sender; receiver = self.ring.party; content = block_content sender core q; tag = t } ∷ vote_claims self q ++ command_claims self core
+accepted_tags self (frame.proposal view core q v) = own_claim self (frame.proposal view core q v) ∷ vote_claims self q ++ command_claims self core
+accepted_tags self (frame.block sender core q t) = own_claim self (frame.block sender core q t) ∷ vote_claims self q ++ command_claims self core
+accepted_tags self (frame.new_view view sender q v) = own_claim self (frame.new_view view sender q v) ∷ vote_claims self q
+accepted_tags self (frame.reply replica client seq place text t) = record (own_claim self (frame.reply replica client seq place text t)) { receiver = client_party client } ∷ []
+accepted_tags self f = own_claim self f ∷ []
 
--- the frame is one whose own tags have this one among them; those of a block's commands and of a certificate's votes are others' tags
+-- a frame that was sent to this destination has its own tag for this party; a vector has one for each replica
+abbrev pub IsFor : ℕ → To → Frame → Type 0
+IsFor party to (frame.reply replica client seq place text t) = party ≡ client_party client
+IsFor party to (frame.fetch sender d t) = to ≡ to_party party
+IsFor party to (frame.block sender core q t) = to ≡ to_party party
+IsFor party to f = ⊤
+
+-- The tag is one of the frame's own. Those of a block's commands and of a certificate's votes are not: the
+-- sender only passes them on.
 abbrev pub IsTagOf : Claim → Sent → Frame → Type 0
-IsTagOf x s (frame.request c) = (x.label ≡ kind.Request) × (x.content ≡ command_content c.client c.seq c.payload) × (x.tag ≡ tag_of c.vector x.receiver)
-IsTagOf x s (frame.proposal view core q v) = (x.label ≡ kind.Proposal) × (x.content ≡ proposal_content view core q) × (x.tag ≡ tag_of v x.receiver)
-IsTagOf x s (frame.vote d b) = (x.label ≡ kind.Vote) × (x.content ≡ d) × (x.tag ≡ tag_of b.vector x.receiver)
-IsTagOf x s (frame.new_view view sender q v) = (x.label ≡ kind.NewView) × (x.content ≡ new_view_content view sender q) × (x.tag ≡ tag_of v x.receiver)
-IsTagOf x s (frame.reply replica client seq place text t) = (x.label ≡ kind.Reply) × (x.receiver ≡ client_party client) × (x.content ≡ reply_content replica client seq place text) × (x.tag ≡ t)
-IsTagOf x s (frame.fetch sender d t) = (x.label ≡ kind.Fetch) × (s.to ≡ to_party x.receiver) × (x.content ≡ fetch_content sender d) × (x.tag ≡ t)
-IsTagOf x s (frame.block sender core q t) = (x.label ≡ kind.Block) × (s.to ≡ to_party x.receiver) × (x.content ≡ block_content sender core q) × (x.tag ≡ t)
+IsTagOf x s f = (x.label ≡ kind_of f) × (x.content ≡ content_of f) × (x.tag ≡ own_tag f x.receiver) × IsFor x.receiver s.to f
 
 -- a party of the record sent this tag as its own
 abbrev pub WasSent : List Sent → Claim → Type 0

@@ -1,0 +1,3 @@
+mod Certified
+pub mod Agreement
+pub mod Example

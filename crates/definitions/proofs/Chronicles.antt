@@ -1,0 +1,258 @@
+-- What a chronicle says of its tree, votes, lock and decisions, and what its law adds.
+use Rattle.definitions.proofs.Branches.{just1-extends, extends-cases, highest-above, highest-among}
+use Rattle.std.proofs.Common.{◌≡◌, ◌<◌, ◌≤◌, ◌⊎◌, Bool, true, false, List, [], ◌∷◌, ◌++◌, length, cond, refl, sym, ap, subst, ◌∙◌, arith, inl, inr, map}
+use Rattle.std.specs.List.{AllByRecursion}
+use Rattle.definitions.proofs.Lists.{Among-after, Among-either, Among-map, greatest-above, Among-before, Among-mapped}
+use Rattle.definitions.specs.Lists.{Among, AreDistinct}
+use Rattle.definitions.specs.Branches.{Block, Branch, just1, Extends, IsBranch, just2, just3}
+use Rattle.ids.specs.Sizes.{Sizes, replicas, quorum}
+use Rattle.definitions.specs.Chronicles.{Admitted, Step, Step.took_block, Step.got_vote, Step.got_new_view, Step.got_request, Step.got_fetch, Step.timed_out, Step.beat, Chronicle, taken, tree, lock, IsLawfulVote, IsLawfulStep, IsLawful, voted, IsLawfulTake, vheight, decides, decided_by, decided}
+
+pub tree-genesis : (c : Chronicle) → Among [] (tree c)
+unfolding tree
+tree-genesis c = Among-after [] _ ([] ∷ []) (inl refl)
+
+-- ---- a step more
+
+pub tree-step : (a : Admitted) (c : Chronicle) (x : Branch) (t : Bool) → Among x (map (λ a. a.branch) (taken c) ++ [] ∷ []) → Among x (map (λ a. a.branch) (cond t (a ∷ taken c) (taken c)) ++ [] ∷ [])
+tree-step a c x true m = inr m
+tree-step a c x false m = m
+
+pub tree-grows : (st : Step) (c : Chronicle) (x : Branch) → Among x (tree c) → Among x (tree (st ∷ c))
+unfolding tree taken
+tree-grows (took_block a) c x m = tree-step a c x a.new m
+tree-grows (got_vote v t b) c x m = m
+tree-grows (got_new_view w s q b) c x m = m
+tree-grows (got_request r) c x m = m
+tree-grows (got_fetch s b) c x m = m
+tree-grows timed_out c x m = m
+tree-grows beat c x m = m
+
+pub voted-step : (a : Admitted) (c : Chronicle) (x : Branch) (t : Bool) → Among x (voted c) → Among x (cond t (a.branch ∷ voted c) (voted c))
+voted-step a c x true m = inr m
+voted-step a c x false m = m
+
+pub voted-grows : (st : Step) (c : Chronicle) (x : Branch) → Among x (voted c) → Among x (voted (st ∷ c))
+unfolding voted
+voted-grows (took_block a) c x m = voted-step a c x a.voted m
+voted-grows (got_vote v t b) c x m = m
+voted-grows (got_new_view w s q b) c x m = m
+voted-grows (got_request r) c x m = m
+voted-grows (got_fetch s b) c x m = m
+voted-grows timed_out c x m = m
+voted-grows beat c x m = m
+
+-- what was voted for was taken
+pub voted-tree-step : (a : Admitted) (c : Chronicle) (x : Branch) (t : Bool) → (t ≡ true → Among a.branch (tree (took_block a ∷ c))) → (Among x (voted c) → Among x (tree (took_block a ∷ c))) → Among x (cond t (a.branch ∷ voted c) (voted c)) → Among x (tree (took_block a ∷ c))
+voted-tree-step a c x true here rest (inl e) = subst (λ (y : Branch). Among y (tree (took_block a ∷ c))) (sym e) (here refl)
+voted-tree-step a c x true here rest (inr m) = rest m
+voted-tree-step a c x false here rest m = rest m
+
+pub voted-tree : (need : Sizes) (c : Chronicle) → IsLawful need c → (x : Branch) → Among x (voted c) → Among x (tree c)
+unfolding voted
+voted-tree need [] l x m = absurd m
+voted-tree need (took_block a ∷ c) l x m = voted-tree-step a c x a.voted (λ v. (l.0.0 v).taken) (λ k. tree-grows (took_block a) c x (voted-tree need c l.1 x k)) m
+voted-tree need (got_vote v t b ∷ c) l x m = tree-grows (got_vote v t b) c x (voted-tree need c l.1 x m)
+voted-tree need (got_new_view w s q b ∷ c) l x m = tree-grows (got_new_view w s q b) c x (voted-tree need c l.1 x m)
+voted-tree need (got_request r ∷ c) l x m = tree-grows (got_request r) c x (voted-tree need c l.1 x m)
+voted-tree need (got_fetch s b ∷ c) l x m = tree-grows (got_fetch s b) c x (voted-tree need c l.1 x m)
+voted-tree need (timed_out ∷ c) l x m = tree-grows timed_out c x (voted-tree need c l.1 x m)
+voted-tree need (beat ∷ c) l x m = tree-grows beat c x (voted-tree need c l.1 x m)
+
+-- ---- what a chronicle's law says of all of it
+
+pub taken-step : (a : Admitted) (c : Chronicle) (x : Admitted) (t : Bool) → Among x (taken c) → Among x (cond t (a ∷ taken c) (taken c))
+taken-step a c x true m = inr m
+taken-step a c x false m = m
+
+pub taken-grows : (st : Step) (c : Chronicle) (x : Admitted) → Among x (taken c) → Among x (taken (st ∷ c))
+unfolding taken
+taken-grows (took_block a) c x m = taken-step a c x a.new m
+taken-grows (got_vote v t b) c x m = m
+taken-grows (got_new_view w s q b) c x m = m
+taken-grows (got_request r) c x m = m
+taken-grows (got_fetch s b) c x m = m
+taken-grows timed_out c x m = m
+taken-grows beat c x m = m
+
+-- ---- counted votes, in an order
+
+pub taken-now : (st : Step) (c : Chronicle) (a : Admitted) → Among a (taken (st ∷ c)) → ((st ≡ took_block a) × (a.new ≡ true)) ⊎ Among a (taken c)
+unfolding taken
+taken-now (took_block b) c a m = by b.new refl m
+  where
+    by : (t : Bool) → b.new ≡ t → Among a (cond t (b ∷ taken c) (taken c)) → ((took_block b ≡ took_block a) × (a.new ≡ true)) ⊎ Among a (taken c)
+    by true n (inl e) = inl (ap (λ (x : Admitted). took_block x) (sym e), ap (λ (x : Admitted). x.new) e ∙ n)
+    by true n (inr k) = inr k
+    by false n k = inr k
+taken-now (got_vote v t b) c a m = inr m
+taken-now (got_new_view w s q b) c a m = inr m
+taken-now (got_request r) c a m = inr m
+taken-now (got_fetch s b) c a m = inr m
+taken-now timed_out c a m = inr m
+taken-now beat c a m = inr m
+
+pub tree-cases : (c : Chronicle) (b : Branch) → Among b (tree c) → (b ≡ []) ⊎ ((a : Admitted) × Among a (taken c) × (a.branch ≡ b))
+unfolding tree
+tree-cases c b m =
+    elim (Among-either b (map (λ a. a.branch) (taken c)) ([] ∷ []) m) [
+      | inl k ↦ (let r = Among-map (λ (a : Admitted). a.branch) (taken c) b k in inr (r.0, r.1, sym r.2))
+      | inr k ↦ (elim k [ inl e ↦ inl e | inr n ↦ absurd n ])
+    ]
+
+-- what was taken has a certificate
+abbrev pub Certifies : Sizes → Admitted → Type 0
+Certifies s a = (AreDistinct a.counted × AllByRecursion (λ v. v < replicas s) a.counted × (quorum s ≤ length a.counted)) ⊎ (just1 a.branch ≡ [])
+
+pub take-step : (s : Sizes) (a : Admitted) (c : Chronicle) (x : Admitted) (t : Bool) → a.new ≡ t → (a.new ≡ true → IsLawfulTake s a c) → (Among x (taken c) → Certifies s x × (IsBranch x.branch) × (x.new ≡ true)) → ((b : Branch) → Among b (tree c) → IsBranch b) → Among x (cond t (a ∷ taken c) (taken c)) → Certifies s x × IsBranch x.branch × (x.new ≡ true)
+take-step s a c x true e law rest br (inl i) =
+    let l = law e in
+    subst (λ (y : Admitted). Certifies s y × IsBranch y.branch × (y.new ≡ true)) (sym i)
+    (l.certified, subst IsBranch (sym l.parent.2) (l.parent.3, br l.parent.1 l.parent.4), e)
+take-step s a c x true e law rest br (inr m) = rest m
+take-step s a c x false e law rest br m = rest m
+
+pub tree-branch : (s : Sizes) (c : Chronicle) → ((x : Admitted) → Among x (taken c) → Certifies s x × IsBranch x.branch × (x.new ≡ true)) → (b : Branch) → Among b (tree c) → IsBranch b
+tree-branch s c f b m =
+    elim (tree-cases c b m) [ inl e ↦ subst IsBranch (sym e) tt | inr r ↦ subst IsBranch r.2 (f r.0 r.1).1 ]
+
+pub lawful-taken : (s : Sizes) (c : Chronicle) → IsLawful s c → (x : Admitted) → Among x (taken c) → Certifies s x × IsBranch x.branch × (x.new ≡ true)
+unfolding taken
+lawful-taken s [] l x m = absurd m
+lawful-taken s (took_block a ∷ c) l x m = take-step s a c x a.new refl l.0.1 (lawful-taken s c l.1 x) (λ b k. tree-branch s c (λ y n. lawful-taken s c l.1 y n) b k) m
+lawful-taken s (got_vote v t b ∷ c) l x m = lawful-taken s c l.1 x m
+lawful-taken s (got_new_view w r q b ∷ c) l x m = lawful-taken s c l.1 x m
+lawful-taken s (got_request r ∷ c) l x m = lawful-taken s c l.1 x m
+lawful-taken s (got_fetch r b ∷ c) l x m = lawful-taken s c l.1 x m
+lawful-taken s (timed_out ∷ c) l x m = lawful-taken s c l.1 x m
+lawful-taken s (beat ∷ c) l x m = lawful-taken s c l.1 x m
+
+-- ---- votes
+
+-- the newest step votes for b, by the law
+pub record IsVote (b : Branch) (now earlier : Chronicle) : Type 0 where
+  pub voted_is : voted now ≡ b ∷ voted earlier
+  pub law : IsLawfulVote b now earlier
+
+pub voted-height : (c : Chronicle) (b : Branch) → Among b (voted c) → length b ≤ vheight c
+unfolding vheight
+voted-height c b m = greatest-above (map length (voted c)) (length b) (Among-mapped length (voted c) b m)
+
+-- the newest vote is higher than each earlier one
+pub vote-higher : (b x : Branch) (now earlier : Chronicle) → IsVote b now earlier → Among x (voted earlier) → length x < length b
+vote-higher b x now earlier v m = omega (arith, v.law.higher, voted-height earlier x m)
+
+-- a step has one vote
+pub same-vote : (a b : Branch) (now earlier : Chronicle) → IsVote a now earlier → IsVote b now earlier → a ≡ b
+same-vote a b now earlier v w = let e = v.voted_is in let f = w.voted_is in cc
+
+-- the lock is as high as just2 of each block taken
+pub lock-above : (c : Chronicle) (a : Admitted) → Among a (taken c) → length (just2 a.branch) ≤ length (lock c)
+unfolding lock
+lock-above c a m = highest-above _ _ (Among-mapped (λ (x : Admitted). just2 x.branch) (taken c) a m)
+
+-- the lock is genesis, or just2 of a block taken
+pub lock-cases : (c : Chronicle) → (lock c ≡ []) ⊎ ((a : Admitted) × Among a (taken c) × (lock c ≡ just2 a.branch))
+unfolding lock
+lock-cases c =
+    elim (highest-among (map (λ (x : Admitted). just2 x.branch) (taken c))) [
+      | inl e ↦ inl e
+      | inr m ↦ inr (Among-map (λ (x : Admitted). just2 x.branch) (taken c) _ m)
+    ]
+
+-- ---- the tree
+
+-- what a taken block stands on is in the tree
+pub taken-parent : (s : Sizes) (c : Chronicle) → IsLawful s c → (a : Admitted) → Among a (taken c) → (b : Block) × (parent : Branch) × (a.branch ≡ b ∷ parent) × Among parent (tree c)
+unfolding taken
+taken-parent s [] l a m = absurd m
+taken-parent s (st ∷ c) l a m =
+    elim (taken-now st c a m) [
+      | inl now ↦ (let p = ((subst (λ (x : Step). IsLawfulStep s x c) now.0 l.0).1 now.1).parent in (p.0, p.1, p.2, tree-grows st c p.1 p.4))
+      | inr k ↦ (let p = taken-parent s c l.1 a k in (p.0, p.1, p.2, tree-grows st c p.1 p.3))
+    ]
+
+-- a block of the tree above genesis was taken
+pub tree-taken : (c : Chronicle) (b : Branch) → Among b (tree c) → 0 < length b → (a : Admitted) × Among a (taken c) × (a.branch ≡ b)
+tree-taken c b m h = elim (tree-cases c b m) [ inl e ↦ absurd (omega (arith, ap (λ (z : Branch). length z) e)) | inr r ↦ r ]
+
+-- the tree has the parent of each of its blocks
+pub tree-parent : (s : Sizes) (c : Chronicle) → IsLawful s c → (b : Block) (parent : Branch) → Among (b ∷ parent) (tree c) → Among parent (tree c)
+tree-parent s c l b parent m =
+    let a = tree-taken c (b ∷ parent) m (omega arith) in
+    let p = taken-parent s c l a.0 a.1 in
+    let e : p.1 ≡ parent = cc (a.2, p.2) in
+    subst (λ (x : Branch). Among x (tree c)) e p.3
+
+-- all below a block of the tree stands in it
+pub tree-extends : (s : Sizes) (c : Chronicle) → IsLawful s c → (b x : Branch) → Among b (tree c) → Extends b x → Among x (tree c)
+tree-extends s c l [] x m ([], e) = subst (λ (y : Branch). Among y (tree c)) (sym e) m
+tree-extends s c l [] x m (d ∷ added, e) = absurd (nil (sym e))
+  where
+    nil : [] ≡ d ∷ (added ++ x) → ⊥
+    nil k = cc
+tree-extends s c l (b ∷ parent) x m h =
+    elim (extends-cases b parent x h) [
+      | inl e ↦ subst (λ (y : Branch). Among y (tree c)) (sym e) m
+      | inr k ↦ tree-extends s c l parent x (tree-parent s c l b parent m) k
+    ]
+
+pub tree-just1 : (s : Sizes) (c : Chronicle) → IsLawful s c → (b : Branch) → Among b (tree c) → Among (just1 b) (tree c)
+tree-just1 s c l b m = tree-extends s c l b (just1 b) m (just1-extends b)
+
+-- a taken block is in the tree
+pub taken-tree : (c : Chronicle) (a : Admitted) → Among a (taken c) → Among a.branch (tree c)
+unfolding tree
+taken-tree c a m = Among-before a.branch (map (λ (x : Admitted). x.branch) (taken c)) ([] ∷ []) (Among-mapped (λ (x : Admitted). x.branch) (taken c) a m)
+
+-- ---- decisions
+
+pub decided-step : (a : Admitted) (before : List Admitted) (b : Branch) (t : Bool) → decides a.branch ≡ t → Among b (cond t (just3 a.branch ∷ decided_by before) (decided_by before)) → ((b ≡ just3 a.branch) × (decides a.branch ≡ true)) ⊎ Among b (decided_by before)
+decided-step a before b true d (inl e) = inl (e, d)
+decided-step a before b true d (inr m) = inr m
+decided-step a before b false d m = inr m
+
+pub decided_by-cases : (xs : List Admitted) (b : Branch) → Among b (decided_by xs) → (a : Admitted) × Among a xs × (b ≡ just3 a.branch) × (decides a.branch ≡ true)
+unfolding decided_by
+decided_by-cases [] b m = absurd m
+decided_by-cases (a ∷ before) b m =
+    elim (decided-step a before b (decides a.branch) refl m) [
+      | inl e ↦ (a, inl refl, e.0, e.1)
+      | inr k ↦ (let r = decided_by-cases before b k in (r.0, inr r.1, r.2, r.3))
+    ]
+
+-- what is decided is genesis, or the third below a taken block that decides it
+pub decided-cases : (c : Chronicle) (b : Branch) → Among b (decided c) → (b ≡ []) ⊎ ((a : Admitted) × Among a (taken c) × (b ≡ just3 a.branch) × (decides a.branch ≡ true))
+unfolding decided
+decided-cases c b m =
+    elim (Among-either b (decided_by (taken c)) ([] ∷ []) m) [
+      | inl k ↦ inr (decided_by-cases (taken c) b k)
+      | inr k ↦ (elim k [ inl e ↦ inl e | inr n ↦ absurd n ])
+    ]
+
+pub vote-cases : (a : Admitted) (c : Chronicle) (b : Branch) (t : Bool) → a.voted ≡ t → voted (took_block a ∷ c) ≡ cond t (a.branch ∷ voted c) (voted c) → (a.voted ≡ true → IsLawfulVote a.branch (took_block a ∷ c) c)
+    → Among b (cond t (a.branch ∷ voted c) (voted c)) → IsVote b (took_block a ∷ c) c ⊎ Among b (voted c)
+vote-cases a c b true e same law (inl i) = inl (subst (λ (x : Branch). IsVote x (took_block a ∷ c) c) (sym i) (record { voted_is = same; law = law e }))
+vote-cases a c b true e same law (inr m) = inr m
+vote-cases a c b false e same law m = inr m
+
+-- a vote is the newest step's, or an earlier one
+pub voted-cases : (s : Sizes) (st : Step) (c : Chronicle) (b : Branch) → IsLawful s (st ∷ c) → Among b (voted (st ∷ c)) → IsVote b (st ∷ c) c ⊎ Among b (voted c)
+unfolding voted
+voted-cases s (took_block a) c b l m = vote-cases a c b a.voted refl refl l.0.0 m
+voted-cases s (got_vote v t x) c b l m = inr m
+voted-cases s (got_new_view w r q x) c b l m = inr m
+voted-cases s (got_request r) c b l m = inr m
+voted-cases s (got_fetch r x) c b l m = inr m
+voted-cases s timed_out c b l m = inr m
+voted-cases s beat c b l m = inr m
+
+-- one height is voted for once
+pub one-vote : (s : Sizes) (c : Chronicle) → IsLawful s c → (a b : Branch) → Among a (voted c) → Among b (voted c) → length a ≡ length b → a ≡ b
+unfolding voted
+one-vote s [] l a b m n e = absurd m
+one-vote s (st ∷ c) l a b m n e =
+    elim (voted-cases s st c a l m) [
+      | inl v ↦ (elim (voted-cases s st c b l n) [ inl w ↦ same-vote a b (st ∷ c) c v w | inr k ↦ absurd (omega (arith, vote-higher a b (st ∷ c) c v k)) ])
+      | inr h ↦ (elim (voted-cases s st c b l n) [ inl w ↦ absurd (omega (arith, vote-higher b a (st ∷ c) c w h)) | inr k ↦ one-vote s c l.1 a b h k e ])
+    ]
