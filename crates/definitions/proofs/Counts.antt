@@ -95,3 +95,11 @@ count-not (suc n) p = count-not-step (p n) _ _ n (count-not n p)
 pub count-listed : (n : ℕ) (p : ℕ → Bool) (xs : List ℕ) → AreDistinct xs → AllByRecursion (λ x. x < n) xs → ((x : ℕ) → Among x xs → p x ≡ true) → length xs ≤ count_below n p
 count-listed n p xs distinct below pass =
     omega (arith, count-not n p, apart-count n (λ i. not (p i)) xs distinct below (AllByRecursion-from (λ x. not (p x) ≡ false) xs (λ x m. not_from_true (p x) (pass x m))))
+
+-- tests that answer alike below the bound have one count
+pub count-same : (n : ℕ) (p q : ℕ → Bool) → ((i : ℕ) → i < n → p i ≡ q i) → count_below n p ≡ count_below n q
+unfolding count_below
+count-same zero p q h = refl
+count-same (suc n) p q h =
+    let rest : count_below n p ≡ count_below n q = count-same n p q (λ i l. h i (omega (arith, l))) in
+    λ k. cond (h n (omega arith) k) (suc (rest k)) (rest k)

@@ -51,7 +51,7 @@ pub record IsOrderly (fam : Family) : Type 0 where
   pub whole : (i : ℕ) → fam.is_member i ≡ true → steps_of i order ≡ fam.chronicle i
   pub ordered : IsOrdered fam.is_member order
 
--- what agreement takes: a quorum of replicas, whose chronicles are lawful and stand in one order
+-- what agreement takes of a family: a quorum of replicas, whose chronicles are lawful and stand in one order
 pub record IsLawfulFamily (fam : Family) : Type 0 where
   pub enough : IsFamily fam
   pub lawful : (i : ℕ) → fam.is_member i ≡ true → IsLawful fam.sizes (fam.chronicle i)

@@ -1,18 +1,19 @@
 -- What is assumed of a run: what comes is read rightly, no tag is forged, and which cores must not collide.
 use Rattle.ids.specs.declared.kind.Kind.{Kind}
 use Rattle.ids.specs.declared.kind.Kind.TheVariants as kind
-use Rattle.std.specs.Prelude.{ℕ, ◌≡◌, ◌-◌, ◌==◌, ◌⊎◌, ◌&&◌, not, Bool, true, false, List, [], ◌∷◌, ◌++◌, map, filter, Option, Some, None, ⊤}
-use Rattle.definitions.specs.Lists.{Among}
+use Rattle.std.specs.Prelude.{ℕ, ◌≡◌, ◌-◌, ◌==◌, ◌⊎◌, ◌&&◌, not, Bool, true, false, List, [], ◌∷◌, ◌++◌, map, filter, Option, Some, None, ⊤, ◌≤◌}
+use Rattle.definitions.specs.Lists.{Among, count_below}
 use Rattle.definitions.specs.Frames.{Core, Certificate, Frame, kind_of, sender_of, content_of, own_tag, genesis_core, command_content, reply_content}
 use Rattle.definitions.specs.FrameLimits.{IsReadAs}
 use Rattle.definitions.specs.Tags.{tag_of}
 use Rattle.definitions.specs.Bytes.{Bytes}
-use Rattle.ids.specs.Sizes.{Sizes, client_party}
+use Rattle.ids.specs.Sizes.{Sizes, replicas, client_party}
+use Rattle.definitions.specs.Digests.{NoCollision}
 use Rattle.definitions.specs.Keyrings.{verify}
 use Rattle.definitions.specs.Checks.{Identity, vote_verifies, command_verifies}
 use Rattle.definitions.specs.Sendings.{To, To.to_party}
 use Rattle.definitions.specs.Frames as frame
-use Rattle.definitions.specs.Worlds.{Sent, World, Event, Happening, is_replica, self_of}
+use Rattle.definitions.specs.Worlds.{Sent, World, Event, Happening, is_replica, is_correct, self_of}
 use Rattle.definitions.specs.Runs.{after}
 use Rattle.definitions.specs.Events.{party_of, brought, bytes_of, happens}
 use Rattle.definitions.specs.Admission.{Checked, check, Checked.passes, Checked.rejected}
@@ -109,3 +110,12 @@ CoreBrought c w (h ∷ hs) = ((f : Frame) × (brought h.0 ≡ Some f) × CoreOf 
 -- the core is one of the run
 abbrev pub CoreOfRun : World → List Happening → Core → Type 0
 CoreOfRun w hs c = (c ≡ genesis_core) ⊎ (((s : Sent) × Among s (after w hs).sent × CoreOf c s.frame) ⊎ CoreBrought c w hs)
+
+-- What is assumed of a schedule that begins in this world: at most f replicas are faulty, each correct one has its
+-- own keys, what comes is read rightly, no tag is forged and no two cores collide.
+pub record ArePremises (start : World) (hs : List Happening) : Type 0 where
+  pub few : count_below (replicas start.sizes) start.is_faulty ≤ start.sizes.faults
+  pub keys : (p : ℕ) → is_correct start p ≡ true → (start.ring p).party ≡ p
+  pub read : AllRead start hs
+  pub no_forgery : NoForgery start hs
+  pub no_collision : NoCollision (CoreOfRun start hs)

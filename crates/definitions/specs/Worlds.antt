@@ -1,6 +1,6 @@
 -- Worlds: replicas, clients, what was sent, and every schedule of events.
 use Rattle.ids.specs.declared.fault.Fault.{Fault}
-use Rattle.std.specs.Prelude.{ℕ, ◌==◌, ◌&&◌, ◌||◌, Bool, List, [], if◌then◌else◌, nat_lt, nat_le, Option}
+use Rattle.std.specs.Prelude.{ℕ, ◌==◌, ◌&&◌, ◌||◌, Bool, List, [], if◌then◌else◌, nat_lt, nat_le, Option, not}
 use Rattle.definitions.specs.Frames.{Frame}
 use Rattle.definitions.specs.Bytes.{Bytes}
 use Rattle.ids.specs.Sizes.{Sizes, replicas, client_party}
@@ -74,6 +74,10 @@ is_client w p = nat_le 256 p && nat_lt p (client_party w.sizes.clients)
 -- the number is that of a party
 abbrev pub is_party : World → ℕ → Bool
 is_party w p = is_replica w p || is_client w p
+
+-- a replica that isn't faulty
+abbrev pub is_correct : World → ℕ → Bool
+is_correct w p = is_replica w p && not (w.is_faulty p)
 
 -- a replica of the world
 abbrev pub self_of : World → ℕ → Identity

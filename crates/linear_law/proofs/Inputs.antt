@@ -1,0 +1,253 @@
+-- What a step that stands has from the frame that came.
+use Rattle.ids.specs.declared.kind.Kind.TheVariants as kind
+use Rattle.ids.specs.declared.fault.Fault.TheVariants as fault
+use Rattle.std.proofs.Common.{ℕ, suc, ◌≡◌, ◌<◌, ◌&&◌, not, Bool, true, false, List, [], ◌∷◌, length, cond, refl, sym, subst, subst₂, arith, inl, inr, map, filter, Option, Some, None, true≢false, ◌==◌, nat_lt, count_by}
+use Rattle.std.specs.Bool.{⊤}
+use Rattle.std.specs.List.{list_any, AllByRecursion}
+use Rattle.std.proofs.lemmas.Bool.{and_parts, eqb-true, cond_both, not-false}
+use lib.Dec.{ltb}
+use Rattle.definitions.proofs.Lists.{Among-after, Among-before, Among-mapped, Among-kept, all-passes}
+use Rattle.linear_law.proofs.Sound.{IsChecked, IsCheckedInput, found, same_bytes, block_of}
+use Rattle.definitions.specs.Lists.{Among, AreDistinct}
+use Rattle.definitions.specs.Frames.{Command, Core, Vote, Certificate, Frame, command_content}
+use Rattle.definitions.specs.FrameLimits.{IsFrame, IsCore, IsVote, Rise}
+use Rattle.definitions.specs.Tags.{tag_of}
+use Rattle.definitions.specs.Branches.{Branch, just1}
+use Rattle.definitions.specs.Bytes.{Bytes}
+use Rattle.ids.specs.Sizes.{Sizes, replicas, client_party}
+use Rattle.definitions.specs.Digests.{digest, core_over, digest_of, core_of}
+use Rattle.definitions.specs.Chronicles.{Admitted, Step, Step.took_block, Step.got_vote, Step.got_new_view, Chronicle, tree, history}
+use Rattle.definitions.specs.Checks.{Identity, counted, is_good, vote_verifies, command_verifies, is_clear_core}
+use Rattle.definitions.specs.States.{is_due, pending, is_same_request}
+use Rattle.definitions.specs.Rulings.{Input, Input.proposal_in, Input.block_in, Input.vote_in, Input.new_view_in, Input.request_in, Input.fetch_in, Input.timeout_in, Input.beat_in, Ruling, Ruling.due, Ruling.missing, Ruling.refusing, find_block, justifies, admitted, on_known, on_new, on_block, on_request, with_block, ruling}
+use Rattle.definitions.specs.Admission.{check, Checked.passes, Checked.rejected, when}
+use Rattle.definitions.specs.Premises.{Claim, accepted_tags, vote_claims, command_claims, CoreOf}
+use Rattle.definitions.specs.Frames as frame
+
+abbrev pub Carries : Input → Core → Certificate → Type 0
+Carries (proposal_in w c p) core q = (c ≡ core) × (p ≡ q)
+Carries (block_in sender c p) core q = (c ≡ core) × (p ≡ q)
+Carries i core q = ⊥
+
+pub record TookFrom (self : Identity) (core : Core) (q : Certificate) (a : Admitted) : Type 0 where
+  pub stored : a.core ≡ core
+  pub counted_is : a.counted ≡ counted self q
+  pub core_is : a.new ≡ true → core_of a.branch ≡ core
+  pub justified : q.digest ≡ digest_of (just1 a.branch)
+  pub clear_is : a.clear ≡ is_clear_core self core
+
+abbrev pub FromInput : Identity → Input → Step → Type 0
+FromInput self i (took_block a) = (core : Core) × (q : Certificate) × Carries i core q × TookFrom self core q a
+FromInput self i st = ⊤
+
+abbrev pub AllStanding : (Step → Type 0) → Ruling → Type 0
+AllStanding P (due st) = P st
+AllStanding P (missing sender d) = ⊤
+AllStanding P (refusing n) = ⊤
+
+core-known : (core : Core) (parent : Branch) → core.parent ≡ digest_of parent → core.height ≡ suc (length parent) → core_of (block_of core ∷ parent) ≡ core
+unfolding core_of core_over
+core-known core parent ep eh = λ i. record { parent = sym ep i; height = sym eh i; justify_height = core.justify_height; commands = core.commands }
+
+known-from : (self : Identity) (i : Input) (w : Option ℕ) (b : Branch) (core : Core) (q : Certificate) (c : Chronicle) → Carries i core q → AllStanding (FromInput self i) (on_known self w b core q c)
+unfolding on_known admitted
+known-from self i w b core q c ca =
+    cond_both (justifies q b) _ _ P
+    (λ e. (core, q, ca, record { stored = refl; counted_is = refl; core_is = λ n. absurd (true≢false (sym n)); justified = same_bytes _ _ e; clear_is = refl }))
+    (λ e. tt)
+  where
+    P : Ruling → Type 0
+    P = AllStanding (FromInput self i)
+
+new-from : (self : Identity) (i : Input) (w : Option ℕ) (parent : Branch) (core : Core) (q : Certificate) (c : Chronicle) → Carries i core q → core.parent ≡ digest_of parent → AllStanding (FromInput self i) (on_new self w parent core q c)
+unfolding on_new admitted
+new-from self i w parent core q c ca ep =
+    cond_both (not (core.height == suc (length parent))) _ _ P (λ e. tt) (λ h.
+    cond_both (not (justifies q (block_of core ∷ parent))) _ _ P (λ e. tt) (λ j.
+    cond_both (not (nat_lt (count_by (λ x. length x == suc (length parent)) (tree c)) 64)) _ _ P (λ e. tt) (λ r.
+    cond_both (not (nat_lt (length (tree c)) 1048576)) _ _ P (λ e. tt) (λ f.
+    (core, q, ca, record { stored = refl; counted_is = refl; core_is = λ n. core-known core parent ep (eqb-true core.height (suc (length parent)) (not-false _ h)); justified = same_bytes _ _ (not-false _ j); clear_is = refl })))))
+  where
+    P : Ruling → Type 0
+    P = AllStanding (FromInput self i)
+
+block-from : (self : Identity) (i : Input) (w : Option ℕ) (sender : ℕ) (core : Core) (q : Certificate) (c : Chronicle) → Carries i core q → AllStanding (FromInput self i) (on_block self w sender core q c)
+unfolding on_block
+block-from self i w sender core q c ca = known (find_block (digest core) c)
+  where
+    over : (o : Option Branch) → find_block core.parent c ≡ o → AllStanding (FromInput self i) (elim o [ Some parent ↦ on_new self w parent core q c | None ↦ missing sender core.parent ])
+    over None e = tt
+    over (Some parent) e = new-from self i w parent core q c ca (sym (found core.parent c parent e).1)
+
+    known : (o : Option Branch) → AllStanding (FromInput self i) (elim o [ Some b ↦ on_known self w b core q c | None ↦ elim (find_block core.parent c) [ Some parent ↦ on_new self w parent core q c | None ↦ missing sender core.parent ] ])
+    known (Some b) = known-from self i w b core q c ca
+    known None = over (find_block core.parent c) refl
+
+vote-from : (self : Identity) (i : Input) (o : Option Branch) (b : Vote) (d : Bytes) → AllStanding (FromInput self i) (with_block o b.voter d (λ x. due (got_vote b.voter b.vector x)))
+vote-from self i None b d = tt
+vote-from self i (Some x) b d = tt
+
+new_view-from : (self : Identity) (i : Input) (o : Option Branch) (w sender : ℕ) (q : Certificate) (d : Bytes) → AllStanding (FromInput self i) (with_block o sender d (λ x. due (got_new_view w sender q x)))
+new_view-from self i None w sender q d = tt
+new_view-from self i (Some x) w sender q d = tt
+
+request-from : (self : Identity) (i : Input) (r : Command) (c : Chronicle) → AllStanding (FromInput self i) (on_request r c)
+unfolding on_request
+request-from self i r c = cond_both (is_due (history c) r && (not (list_any (is_same_request r) (pending c)) && not (nat_lt (length (pending c)) 4096))) _ _ P (λ e. tt) (λ e. tt)
+  where
+    P : Ruling → Type 0
+    P = AllStanding (FromInput self i)
+
+pub ruling-from : (self : Identity) (i : Input) (c : Chronicle) → AllStanding (FromInput self i) (ruling self i c)
+unfolding ruling
+ruling-from self (proposal_in w core q) c = block-from self (proposal_in w core q) _ _ core q c (refl, refl)
+ruling-from self (block_in sender core q) c = block-from self (block_in sender core q) _ _ core q c (refl, refl)
+ruling-from self (vote_in d b) c = vote-from self (vote_in d b) _ b d
+ruling-from self (new_view_in w sender q) c = new_view-from self (new_view_in w sender q) _ w sender q _
+ruling-from self (request_in r) c = request-from self (request_in r) r c
+ruling-from self (fetch_in sender d) c = tt
+ruling-from self timeout_in c = tt
+ruling-from self beat_in c = tt
+
+-- what holds of each holds of one
+pub all-among : {A : Type 0} (P : A → Type 0) (xs : List A) (x : A) → AllByRecursion P xs → Among x xs → P x
+all-among P [] x h m = absurd m
+all-among P (y ∷ xs) x h (inl e) = subst P (sym e) h.0
+all-among P (y ∷ xs) x h (inr m) = all-among P xs x h.1 m
+
+-- ---- what a check found
+
+when-good : (ok : Bool) (i j : Input) → when ok i ≡ passes j → (ok ≡ true) × (i ≡ j)
+when-good true i j e = (refl, cc)
+when-good false i j e = absurd (apart e)
+  where
+    apart : rejected fault.BadTag ≡ passes j → ⊥
+    apart h = cc
+
+-- votes by number of voter
+abbrev EachAbove : ℕ → List Vote → Type 0
+EachAbove v [] = ⊤
+EachAbove v (b ∷ bs) = (v < b.voter) × EachAbove v bs
+
+abbrev AreVotes : ℕ → List Vote → Type 0
+AreVotes n [] = ⊤
+AreVotes n (b ∷ bs) = (b.voter < n) × EachAbove b.voter bs × AreVotes n bs
+
+rise-above : (v : ℕ) (b : Vote) (bs : List Vote) → v < b.voter → Rise (b ∷ bs) → EachAbove v (b ∷ bs)
+rise-above v b [] l r = (l, tt)
+rise-above v b (c ∷ bs) l r = (l, rise-above v c bs (let k = r.0 in omega (arith, l, k)) r.1)
+
+are-votes : (s : Sizes) (bs : List Vote) → AllByRecursion (IsVote s) bs → Rise bs → AreVotes (replicas s) bs
+are-votes s [] h r = tt
+are-votes s (b ∷ []) h r = (h.0.voter, tt, tt)
+are-votes s (b ∷ c ∷ bs) h r = (h.0.voter, rise-above b.voter c bs r.0 r.1, are-votes s (c ∷ bs) h.1 r.1)
+
+-- the voters of votes in rising order are distinct, whichever are kept
+kept-above-step : (p : Vote → Bool) (v : ℕ) (b : Vote) (bs : List Vote) → v < b.voter → ((x : ℕ) → Among x (map (λ b. b.voter) (filter p bs)) → v < x) → (t : Bool) → (x : ℕ) → Among x (map (λ b. b.voter) (cond t (b ∷ filter p bs) (filter p bs))) → v < x
+kept-above-step p v b bs h rest true x (inl e) = subst (λ (y : ℕ). v < y) (sym e) h
+kept-above-step p v b bs h rest true x (inr k) = rest x k
+kept-above-step p v b bs h rest false x k = rest x k
+
+kept-above : (p : Vote → Bool) (v : ℕ) (bs : List Vote) → EachAbove v bs → (x : ℕ) → Among x (map (λ b. b.voter) (filter p bs)) → v < x
+kept-above p v [] h x m = absurd m
+kept-above p v (b ∷ bs) h x m = kept-above-step p v b bs h.0 (λ y k. kept-above p v bs h.1 y k) (p b) x m
+
+kept-distinct-step : (p : Vote → Bool) (b : Vote) (bs : List Vote) → (Among b.voter (map (λ b. b.voter) (filter p bs)) → ⊥) → AreDistinct (map (λ b. b.voter) (filter p bs)) → (t : Bool) → AreDistinct (map (λ b. b.voter) (cond t (b ∷ filter p bs) (filter p bs)))
+kept-distinct-step p b bs h d true = (h, d)
+kept-distinct-step p b bs h d false = d
+
+kept-distinct : (p : Vote → Bool) (n : ℕ) (bs : List Vote) → AreVotes n bs → AreDistinct (map (λ b. b.voter) (filter p bs))
+kept-distinct p n [] h = tt
+kept-distinct p n (b ∷ bs) h = kept-distinct-step p b bs (λ k. let l = kept-above p b.voter bs h.1 b.voter k in omega (arith, l)) (kept-distinct p n bs h.2) (p b)
+
+kept-within-step : (p : Vote → Bool) (n : ℕ) (b : Vote) (bs : List Vote) → b.voter < n → AllByRecursion (λ v. v < n) (map (λ b. b.voter) (filter p bs)) → (t : Bool) → AllByRecursion (λ v. v < n) (map (λ b. b.voter) (cond t (b ∷ filter p bs) (filter p bs)))
+kept-within-step p n b bs h d true = (h, d)
+kept-within-step p n b bs h d false = d
+
+kept-within : (p : Vote → Bool) (n : ℕ) (bs : List Vote) → AreVotes n bs → AllByRecursion (λ v. v < n) (map (λ b. b.voter) (filter p bs))
+kept-within p n [] h = tt
+kept-within p n (b ∷ bs) h = kept-within-step p n b bs h.0 (kept-within p n bs h.2) (p b)
+
+-- each counted vote is a tag that was found right
+IsVoteTag : Identity → Certificate → ℕ → Claim → Type 0
+IsVoteTag self q v x = (x.label ≡ kind.Vote) × (x.sender ≡ v) × (x.receiver ≡ self.ring.party) × (x.content ≡ q.digest)
+
+counted-claimed-in : (self : Identity) (q : Certificate) (bs : List Vote) (v : ℕ) → Among v (map (λ b. b.voter) bs) → (x : Claim) × Among x (map (λ b. record { label = kind.Vote; sender = b.voter; receiver = self.ring.party; content = q.digest; tag = tag_of b.vector self.ring.party }) bs) × IsVoteTag self q v x
+unfolding IsVoteTag
+counted-claimed-in self q [] v m = absurd m
+counted-claimed-in self q (b ∷ bs) v (inl e) = (record { label = kind.Vote; sender = b.voter; receiver = self.ring.party; content = q.digest; tag = tag_of b.vector self.ring.party }, inl refl, (refl, sym e, refl, refl))
+counted-claimed-in self q (b ∷ bs) v (inr k) = let r = counted-claimed-in self q bs v k in (r.0, inr r.1, r.2)
+
+counted-claimed : (self : Identity) (q : Certificate) (v : ℕ) → Among v (counted self q) → (x : Claim) × Among x (vote_claims self q) × IsVoteTag self q v x
+unfolding counted
+counted-claimed self q v m = counted-claimed-in self q (filter (vote_verifies self q.digest) q.votes) v m
+
+-- each command of a clear core is a tag that was found right
+IsCommandTag : Command → Claim → Type 0
+IsCommandTag k x = (x.label ≡ kind.Request) × (x.sender ≡ client_party k.client) × (x.content ≡ command_content k.client k.seq k.payload)
+
+clear-claimed : (self : Identity) (core : Core) (k : Command) → is_clear_core self core ≡ true → Among k core.commands → (x : Claim) × Among x (command_claims self core) × IsCommandTag k x
+unfolding is_clear_core IsCommandTag
+clear-claimed self core k h m = (
+  record { label = kind.Request; sender = client_party k.client; receiver = self.ring.party; content = command_content k.client k.seq k.payload; tag = tag_of k.vector self.ring.party },
+  Among-mapped _ _ k (Among-kept (command_verifies self) core.commands k m (all-passes (command_verifies self) core.commands k h m)),
+  (refl, refl, refl),
+)
+
+-- what is known of an input with a block
+pub record IsCarried (self : Identity) (f : Frame) (core : Core) (q : Certificate) : Type 0 where
+  pub checked : IsChecked self core q
+  pub core_is : IsCore self.sizes core
+  pub from : CoreOf core f
+  pub votes : (v : ℕ) → Among v (counted self q) → (x : Claim) × Among x (accepted_tags self f) × (x.label ≡ kind.Vote) × (x.sender ≡ v) × (x.receiver ≡ self.ring.party) × (x.content ≡ q.digest)
+  pub commands : (k : Command) → is_clear_core self core ≡ true → Among k core.commands → (x : Claim) × Among x (accepted_tags self f) × (x.label ≡ kind.Request) × (x.sender ≡ client_party k.client) × (x.content ≡ command_content k.client k.seq k.payload)
+
+proposal-carried : (self : Identity) (view : ℕ) (core : Core) (q : Certificate) (v : Bytes) → IsFrame self.sizes (frame.proposal view core q v) → is_good self q ≡ true → IsCarried self (frame.proposal view core q v) core q
+unfolding accepted_tags IsVoteTag IsCommandTag counted
+proposal-carried self view core q v fr g = record {
+  checked = record { below = fr.1.justify_height; distinct = kept-distinct (vote_verifies self q.digest) (replicas self.sizes) q.votes (are-votes self.sizes q.votes fr.2.votes fr.2.rising); voters = kept-within (vote_verifies self q.digest) (replicas self.sizes) q.votes (are-votes self.sizes q.votes fr.2.votes fr.2.rising); good = g };
+  core_is = fr.1;
+  from = refl;
+  votes = λ u m. let r = counted-claimed self q u m in (r.0, inr (Among-before r.0 _ _ r.1), r.2.0, r.2.1, r.2.2, r.2.3);
+  commands = λ k h m. let r = clear-claimed self core k h m in (r.0, inr (Among-after r.0 (vote_claims self q) _ r.1), r.2.0, r.2.1, r.2.2);
+}
+
+block-carried : (self : Identity) (sender : ℕ) (core : Core) (q : Certificate) (t : Bytes) → IsFrame self.sizes (frame.block sender core q t) → is_good self q ≡ true → IsCarried self (frame.block sender core q t) core q
+unfolding accepted_tags IsVoteTag IsCommandTag counted
+block-carried self sender core q t fr g = record {
+  checked = record { below = fr.1.justify_height; distinct = kept-distinct (vote_verifies self q.digest) (replicas self.sizes) q.votes (are-votes self.sizes q.votes fr.2.votes fr.2.rising); voters = kept-within (vote_verifies self q.digest) (replicas self.sizes) q.votes (are-votes self.sizes q.votes fr.2.votes fr.2.rising); good = g };
+  core_is = fr.1;
+  from = refl;
+  votes = λ u m. let r = counted-claimed self q u m in (r.0, inr (Among-before r.0 _ _ r.1), r.2.0, r.2.1, r.2.2, r.2.3);
+  commands = λ k h m. let r = clear-claimed self core k h m in (r.0, inr (Among-after r.0 (vote_claims self q) _ r.1), r.2.0, r.2.1, r.2.2);
+}
+
+abbrev CarriedBy : Identity → Frame → Input → Type 0
+CarriedBy self f i = (core : Core) (q : Certificate) → Carries i core q → IsCarried self f core q
+
+pub check-carried : (self : Identity) (f : Frame) (i : Input) → IsFrame self.sizes f → check self f ≡ passes i → CarriedBy self f i
+unfolding check
+check-carried self (frame.proposal view core q v) i fr e =
+    let g = when-good _ _ _ e in
+    subst (CarriedBy self (frame.proposal view core q v)) g.1 (λ c p ca. subst₂ (λ (x : Core) (y : Certificate). IsCarried self (frame.proposal view core q v) x y) ca.0 ca.1 (proposal-carried self view core q v fr (and_parts _ _ g.0).1))
+check-carried self (frame.block sender core q t) i fr e =
+    let g = when-good _ _ _ e in
+    subst (CarriedBy self (frame.block sender core q t)) g.1 (λ c p ca. subst₂ (λ (x : Core) (y : Certificate). IsCarried self (frame.block sender core q t) x y) ca.0 ca.1 (block-carried self sender core q t fr (and_parts _ _ g.0).1))
+check-carried self (frame.request c) i fr e = subst (CarriedBy self (frame.request c)) (when-good _ _ _ e).1 (λ c p ca. absurd ca)
+check-carried self (frame.vote d b) i fr e = subst (CarriedBy self (frame.vote d b)) (when-good _ _ _ e).1 (λ c p ca. absurd ca)
+check-carried self (frame.new_view w s q v) i fr e = subst (CarriedBy self (frame.new_view w s q v)) (when-good _ _ _ e).1 (λ c p ca. absurd ca)
+check-carried self (frame.fetch s d t) i fr e = subst (CarriedBy self (frame.fetch s d t)) (when-good _ _ _ e).1 (λ c p ca. absurd ca)
+check-carried self (frame.reply r c s p t g) i fr e = absurd (apart e)
+  where
+    apart : rejected fault.NotMine ≡ passes i → ⊥
+    apart h = cc
+
+pub carried-checked : (self : Identity) (f : Frame) (i : Input) → CarriedBy self f i → IsCheckedInput self i
+carried-checked self f (proposal_in w c q) h = (h c q (refl, refl)).checked
+carried-checked self f (block_in s c q) h = (h c q (refl, refl)).checked
+carried-checked self f (vote_in d b) h = tt
+carried-checked self f (new_view_in w s q) h = tt
+carried-checked self f (request_in c) h = tt
+carried-checked self f (fetch_in s d) h = tt
+carried-checked self f timeout_in h = tt
+carried-checked self f beat_in h = tt

@@ -1,0 +1,15 @@
+pub mod Contents
+pub mod Sound
+pub mod Inputs
+pub mod Rows
+pub mod Effects
+pub mod Runs
+pub mod Linear
+pub mod Clear
+pub mod Requested
+pub mod Entries
+pub mod Replies
+pub mod Fits
+pub mod Receipts
+pub mod Accounts
+pub mod Final

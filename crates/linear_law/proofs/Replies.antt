@@ -1,0 +1,206 @@
+-- Histories only grow, and a member's replies are those of its history.
+use Rattle.std.proofs.Common.{ℕ, zero, suc, ◌≡◌, ◌+◌, ◌-◌, ◌<◌, ◌≤◌, ◌&&◌, not, ◌==◌, Bool, true, false, List, [], ◌∷◌, ◌++◌, length, cond, refl, sym, ap, subst, ◌∙◌, arith, inl, inr, take, true≢false, ltb, nat_lt, min, Option, Some, None, ◌%◌}
+use Rattle.std.proofs.lemmas.Bool.{cond_both, and_cases, not-false, ltb-true, ltb-false}
+use Rattle.definitions.proofs.Lists.{Among-either, Among-map, length-added, find_some, Among-reverse}
+use Rattle.definitions.proofs.Branches.{extends-true, length-extends}
+use Rattle.linear_law.proofs.Sound.{Outcome, Outcome.unchanged, Outcome.refused, Outcome.lacks, Outcome.conflict, Outcome.stood, Outcome.cut}
+use Rattle.linear_law.proofs.Linear.{history_of-grows}
+use Rattle.definitions.specs.Lists.{beginning, IsBeginning, Among}
+use Rattle.definitions.specs.Frames.{Frame}
+use Rattle.definitions.specs.Branches.{Branch, just3, Extends, extends, highest}
+use Rattle.definitions.specs.Bytes.{Bytes}
+use Rattle.ids.specs.Sizes.{replicas}
+use Rattle.definitions.specs.Histories.{Entry, History, Answer, answers, is_fresh, answer_to, last_answer, if_numbered, last_seq}
+use Rattle.definitions.specs.Chronicles.{Admitted, Step, Step.took_block, Step.got_vote, Step.got_new_view, Step.got_request, Step.got_fetch, Step.timed_out, Step.beat, Chronicle, taken, decided, decided_by, decides, executed, history}
+use Rattle.definitions.specs.Checks.{Identity}
+use Rattle.definitions.specs.States.{Justified, view, leads, proposed}
+use Rattle.definitions.specs.Rulings.{conflicts, Ruling}
+use Rattle.definitions.specs.Sendings.{as_taken, To, To.to_all, To.to_party, Sending, sendings, new_replies, reply_to, vote_frame, proposes, again, supplies, block_frame, new_view_frame, proposal_frame}
+use Rattle.definitions.specs.Replicas.{Replica, Standing, Standing.running, Standing.stopped, Standing.cut_short, held_history, Reaction}
+use Rattle.definitions.specs.Frames as frame
+
+-- ---- histories grow
+
+longer-extends : (a : Admitted) (x e : Branch) → (not (extends x e) && not (extends e x)) ≡ false → length e < length x → Extends x e
+longer-extends a x e h l =
+    elim (and_cases _ _ h) [
+      | inl k ↦ extends-true x e (not-false _ k)
+      | inr k ↦ absurd (let m = length-extends e x (extends-true e x (not-false _ k)) in omega (arith, m, l))
+    ]
+
+decided-extends : (a : Admitted) (l : List Branch) (t : Bool) → decides a.branch ≡ t → (decides a.branch && (not (extends (just3 a.branch) (highest l)) && not (extends (highest l) (just3 a.branch)))) ≡ false → Extends (highest (cond t (just3 a.branch ∷ l) l)) (highest l)
+unfolding highest
+decided-extends a l true e h =
+    cond_both (ltb (length (highest l)) (length (just3 a.branch))) (just3 a.branch) (highest l) (λ (x : Branch). Extends x (highest l))
+    (λ k. longer-extends a (just3 a.branch) (highest l) (elim (and_cases _ _ h) [ inl n ↦ absurd (true≢false (sym e ∙ n)) | inr n ↦ n ]) (ltb-true _ _ k))
+    (λ k. ([], refl))
+decided-extends a l false e h = ([], refl)
+
+cond-append : {A : Type 0} (t : Bool) (x : A) (xs ys : List A) → cond t (x ∷ xs) xs ++ ys ≡ cond t (x ∷ (xs ++ ys)) (xs ++ ys)
+cond-append true x xs ys = refl
+cond-append false x xs ys = refl
+
+executed-step : (a : Admitted) (c : List Admitted) (t : Bool) → a.new ≡ t → (a.new && (decides a.branch && (not (extends (just3 a.branch) (highest (decided_by c ++ [] ∷ []))) && not (extends (highest (decided_by c ++ [] ∷ [])) (just3 a.branch))))) ≡ false → Extends (highest (decided_by (cond t (a ∷ c) c) ++ [] ∷ [])) (highest (decided_by c ++ [] ∷ []))
+unfolding decided_by
+executed-step a c true e h =
+    subst (λ (l : List Branch). Extends (highest l) (highest (decided_by c ++ [] ∷ []))) (sym (cond-append (decides a.branch) (just3 a.branch) (decided_by c) ([] ∷ [])))
+    (decided-extends a (decided_by c ++ [] ∷ []) (decides a.branch) refl (elim (and_cases _ _ h) [ inl n ↦ absurd (true≢false (sym e ∙ n)) | inr n ↦ n ]))
+executed-step a c false e h = ([], refl)
+
+pub executed-grows : (st : Step) (c : Chronicle) → conflicts st c ≡ false → Extends (executed (st ∷ c)) (executed c)
+unfolding conflicts executed decided taken
+executed-grows (took_block a) c h = executed-step a (taken c) a.new refl h
+executed-grows (got_vote v t b) c h = ([], refl)
+executed-grows (got_new_view w s q b) c h = ([], refl)
+executed-grows (got_request r) c h = ([], refl)
+executed-grows (got_fetch s b) c h = ([], refl)
+executed-grows timed_out c h = ([], refl)
+executed-grows beat c h = ([], refl)
+
+pub history-grows : (st : Step) (c : Chronicle) → conflicts st c ≡ false → IsBeginning (history c) (history (st ∷ c))
+unfolding history
+history-grows st c h = history_of-grows _ _ (executed-grows st c h)
+
+longer-step : {A : Type 0} (a : List A) (k : ℕ) (x : A) (older : List A) → (IsBeginning a older → IsBeginning a (beginning k older)) → length a ≤ k → k ≤ length older → IsBeginning a (x ∷ older) → IsBeginning a (beginning k older)
+longer-step {A} a k x older rest l s ([], e) = absurd (let m = ap (λ (z : List A). length z) e in omega (arith, m, s, l))
+longer-step {A} a k x older rest l s (y ∷ added, e) = rest (added, tail e)
+  where
+    tail : y ∷ (added ++ a) ≡ x ∷ older → added ++ a ≡ older
+    tail h = cc
+
+pub beginning-longer : {A : Type 0} (a : List A) (k : ℕ) (h : List A) → IsBeginning a h → length a ≤ k → IsBeginning a (beginning k h)
+unfolding beginning
+beginning-longer a k [] b l = b
+beginning-longer {A} a k (x ∷ older) b l =
+    cond_both (ltb (length older) k) (x ∷ older) (beginning k older) (λ (h : List A). IsBeginning a h) (λ e. b)
+    (λ e. longer-step a k x older (λ r. beginning-longer a k older r l) l (ltb-false _ _ e) b)
+
+-- ---- a longer history has the same answers and more
+
+answers-step : (e : Entry) (earlier : History) (x : Answer) (t : Bool) (new : Answer) → Among x (answers earlier) → Among x (cond t (new ∷ answers earlier) (answers earlier))
+answers-step e earlier x true new m = inr m
+answers-step e earlier x false new m = m
+
+pub answers-grow : (old new : History) → IsBeginning old new → (x : Answer) → Among x (answers old) → Among x (answers new)
+unfolding answers
+answers-grow old new ([], e) x m = subst (λ (h : History). Among x (answers h)) e m
+answers-grow old [] (y ∷ added, e) x m = absurd (nil (sym e))
+  where
+    nil : [] ≡ y ∷ (added ++ old) → ⊥
+    nil k = cc
+answers-grow old (z ∷ new) (y ∷ added, e) x m = answers-step z new x (is_fresh z new) _ (answers-grow old new (added, (cc)) x m)
+
+-- ---- what a member replies
+
+abbrev pub answer_at : ℕ → ℕ → ℕ → Bytes → Answer
+answer_at client seq place text = record { client = client; seq = seq; place = place; text = text }
+
+abbrev pub ReplyStands : History → Sending → Type 0
+ReplyStands h o = (replica client seq place : ℕ) (text t : Bytes) → o.1 ≡ frame.reply replica client seq place text t → Among (answer_at client seq place text) (answers h)
+
+own-reply : (self : Identity) (a : Answer) (h : History) → Among a (answers h) → (o : Sending) → o ≡ reply_to self a → ReplyStands h o
+unfolding reply_to
+own-reply self a h m o e replica client seq place text t k = subst (λ (x : Answer). Among x (answers h)) (same (sym (ap (λ (x : Sending). x.1) e) ∙ k)) m
+  where
+    same : (reply_to self a).1 ≡ frame.reply replica client seq place text t → a ≡ record { client = client; seq = seq; place = place; text = text }
+    same q = let c : a.client ≡ client = cc in let s : a.seq ≡ seq = cc in let p : a.place ≡ place = cc in let x : a.text ≡ text = cc in λ i. record { client = c i; seq = s i; place = p i; text = x i }
+
+Among-take : {A : Type 0} (n : ℕ) (xs : List A) (x : A) → Among x (take n xs) → Among x xs
+Among-take zero [] x m = m
+Among-take zero (y ∷ xs) x m = absurd m
+Among-take (suc n) [] x m = m
+Among-take (suc n) (y ∷ xs) x (inl e) = inl e
+Among-take (suc n) (y ∷ xs) x (inr m) = inr (Among-take n xs x m)
+
+new-replies-stand : (self : Identity) (st : Step) (c : Chronicle) (o : Sending) → Among o (new_replies self st c) → ReplyStands (history (st ∷ c)) o
+unfolding new_replies
+new-replies-stand self st c o m =
+    let r = Among-map (reply_to self) _ o m in
+    own-reply self r.0 (history (st ∷ c)) (Among-take (length (answers (history (st ∷ c))) - length (answers (history c))) (answers (history (st ∷ c))) r.0 (Among-reverse (take (length (answers (history (st ∷ c))) - length (answers (history c))) (answers (history (st ∷ c)))) r.0 r.1)) o r.2
+
+no-reply : (h : History) (to : To) (f : Frame) → ((replica client seq place : ℕ) (text t : Bytes) → f ≡ frame.reply replica client seq place text t → ⊥) → (o : Sending) → Among o ((to, f) ∷ []) → ReplyStands h o
+no-reply h to f apart o (inl i) r c s p x t k = absurd (apart r c s p x t (sym (ap (λ (y : Sending). y.1) i) ∙ k))
+no-reply h to f apart o (inr m) r c s p x t k = absurd m
+
+empty-replies : (h : History) (o : Sending) → Among o [] → ReplyStands h o
+empty-replies h o m = absurd m
+
+own-vote-reply : (self : Identity) (a : Admitted) (h : History) (t : Bool) (to : To) (o : Sending) → Among o (cond t ((to, vote_frame self a.branch) ∷ []) []) → ReplyStands h o
+unfolding vote_frame
+own-vote-reply self a h true to o m = no-reply h to (vote_frame self a.branch) (λ r c s p x t k. cc) o m
+own-vote-reply self a h false to o m = absurd m
+
+block-replies : (self : Identity) (a : Admitted) (c : Chronicle) (to : To) (o : Sending) → Among o (cond a.voted ((to, vote_frame self a.branch) ∷ []) [] ++ new_replies self (took_block a) c) → ReplyStands (history (took_block a ∷ c)) o
+block-replies self a c to o m =
+    elim (Among-either o (cond a.voted ((to, vote_frame self a.branch) ∷ []) []) (new_replies self (took_block a) c) m) [ inl k ↦ own-vote-reply self a _ a.voted to o k | inr k ↦ new-replies-stand self (took_block a) c o k ]
+
+-- what has a number is what it was
+numbered-is : (seq : ℕ) (o : Option Answer) (a : Answer) → if_numbered seq o ≡ Some a → o ≡ Some a
+numbered-is seq None a e = absurd (none e)
+  where
+    none : None ≡ Some a → ⊥
+    none k = cc
+numbered-is seq (Some b) a e = by (b.seq == seq) e
+  where
+    by : (t : Bool) → cond t (Some b) None ≡ Some a → Some b ≡ Some a
+    by true k = k
+    by false k = absurd (none k)
+      where
+        none : None ≡ Some a → ⊥
+        none j = cc
+
+again-reply : (self : Identity) (client seq : ℕ) (h : History) (a : Option Answer) → answer_to client seq h ≡ a → (o : Sending) → Among o (again self a) → ReplyStands h o
+unfolding answer_to last_answer
+again-reply self client seq h None e o m = absurd m
+again-reply self client seq h (Some a) e o (inl i) = own-reply self a h (find_some (λ (x : Answer). x.client == client) (answers h) a (numbered-is seq (last_answer client h) a e)).0 o i
+again-reply self client seq h (Some a) e o (inr m) = absurd m
+
+supplies-reply : (self : Identity) (to : ℕ) (a : Option Admitted) (h : History) (o : Sending) → Among o (supplies self to a) → ReplyStands h o
+unfolding block_frame
+supplies-reply self to None h o m = absurd m
+supplies-reply self to (Some a) h o m = no-reply h (to_party to) (block_frame self to a) (λ r c s p x t k. cc) o m
+
+proposes-reply : (self : Identity) (w : ℕ) (p : Option Justified) (h : History) (o : Sending) → Among o (proposes self w p) → ReplyStands h o
+unfolding proposal_frame
+proposes-reply self w None h o m = absurd m
+proposes-reply self w (Some p) h o m = no-reply h to_all (proposal_frame self w p) (λ r c s q x t k. cc) o m
+
+new_view-reply : (self : Identity) (k : Chronicle) (h : History) (o : Sending) → Among o ((to_all, new_view_frame self k) ∷ []) → ReplyStands h o
+unfolding new_view_frame
+new_view-reply self k h o m = no-reply h to_all (new_view_frame self k) (λ r c s q x t e. cc) o m
+
+pub sendings-reply : (self : Identity) (st : Step) (c : Chronicle) → conflicts st c ≡ false → (o : Sending) → Among o (sendings self st c) → ReplyStands (history (st ∷ c)) o
+unfolding sendings
+sendings-reply self (took_block a) c n o = λ m. block-replies self a c (to_party (view self.sizes c % replicas self.sizes)) o m
+sendings-reply self (got_vote v t b) c n o = λ m. absurd m
+sendings-reply self (got_new_view w s q b) c n o =
+    cond_both (nat_lt (view self.sizes c) (view self.sizes (got_new_view w s q b ∷ c))) _ [] (λ (l : List Sending). Among o l → ReplyStands (history (got_new_view w s q b ∷ c)) o) (λ e m. new_view-reply self (got_new_view w s q b ∷ c) _ o m) (λ e m. empty-replies _ o m)
+sendings-reply self (got_request r) c n o =
+    cond_both (r.seq == last_seq r.client (history c)) _ [] (λ (l : List Sending). Among o l → ReplyStands (history (got_request r ∷ c)) o)
+    (λ e m a b s p x t k. answers-grow (history c) (history (got_request r ∷ c)) (history-grows (got_request r) c n) _ (again-reply self r.client r.seq (history c) (answer_to r.client r.seq (history c)) refl o m a b s p x t k)) (λ e m. empty-replies _ o m)
+sendings-reply self (got_fetch s b) c n o = λ m. supplies-reply self s (as_taken b c) _ o m
+sendings-reply self timed_out c n o = λ m. new_view-reply self (timed_out ∷ c) _ o m
+sendings-reply self beat c n o =
+    cond_both (leads self c) _ [] (λ (l : List Sending). Among o l → ReplyStands (history (beat ∷ c)) o) (λ e m. proposes-reply self (view self.sizes c) (proposed self (beat ∷ c)) _ o m) (λ e m. empty-replies _ o m)
+
+-- what a member holds grows with each outcome
+held-running : (o : Replica) → o.standing ≡ running → held_history o ≡ history o.chronicle
+unfolding held_history
+held-running o u = ap (λ (s : Standing). elim s as (λ x. History) [ running ↦ history o.chronicle | stopped ↦ history o.chronicle | cut_short held ↦ beginning held (history o.chronicle) ]) u
+
+held-stops : (c : Chronicle) (stops : Bool) → held_history (record { chronicle = c; standing = cond stops stopped running }) ≡ history c
+unfolding held_history
+held-stops c true = refl
+held-stops c false = refl
+
+pub held-grows : (self : Identity) (v : Ruling) (old : Replica) (r : Replica × Reaction) → Outcome self old.chronicle v old r → IsBeginning (held_history old) (held_history r.0)
+unfolding held_history
+held-grows self v old r (unchanged n l) = ([], refl)
+held-grows self v old r (refused s n u l) = ([], held-running old u ∙ sym (held-stops old.chronicle s))
+held-grows self v old r (lacks sender d u) = ([], held-running old u)
+held-grows self v old r (conflict st u e h) = ([], held-running old u)
+held-grows self v old r (stood st u e h) = subst (λ (x : History). IsBeginning x (history (st ∷ old.chronicle))) (sym (held-running old u)) (history-grows st old.chronicle h)
+held-grows self v old r (cut st k u e h) =
+    subst (λ (x : History). IsBeginning x (beginning (min (length (history old.chronicle) + k) (length (history (st ∷ old.chronicle)))) (history (st ∷ old.chronicle)))) (sym (held-running old u))
+    (let g = history-grows st old.chronicle h in
+    beginning-longer (history old.chronicle) _ (history (st ∷ old.chronicle)) g (let a = length-added g.0 (history old.chronicle) in let b = ap (λ (x : History). length x) g.1 in omega (arith, a, b)))

@@ -1,0 +1,26 @@
+//! The laws of every run of a world, over the definitions alone; no code runs here. Each stands as the contract of
+//! a function with an empty body. A run is any list of submissions, deliveries, losses, repeats, timeouts, beats and
+//! invented frames; want of memory is its one free choice.
+#![tactic(auto)]
+
+ghost use Rattle.linear_law.specs.Law.{EveryRunIsLinear, ChroniclesAreLawful, ChroniclesAreAFamily, NoEventConflicts};
+
+/// Every run is linear.
+pub fn every_run_is_linear()
+    ensures { EveryRunIsLinear }
+{}
+
+/// The chronicle of each correct replica is lawful.
+pub fn chronicles_are_lawful()
+    ensures { ChroniclesAreLawful }
+{}
+
+/// The chronicles of the correct replicas are an orderly family, so that agreement holds of them.
+pub fn chronicles_are_a_family()
+    ensures { ChroniclesAreAFamily }
+{}
+
+/// No event is answered with a conflict.
+pub fn no_event_conflicts()
+    ensures { NoEventConflicts }
+{}
