@@ -30,3 +30,4 @@ pub mod Runs
 pub mod Premises
 pub mod Linearity
 pub mod Agreement
+pub mod Audit
