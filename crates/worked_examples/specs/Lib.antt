@@ -1,1 +1,5 @@
+pub mod Cache
+pub mod Chains
+pub mod Histories
 pub mod Tags
+pub mod Views

@@ -2,4 +2,8 @@
 //! function with an empty body: what stands here was computed or proved by the check, and runs no code.
 #![tactic(auto)]
 
+pub mod cache;
+pub mod chains;
+pub mod histories;
 pub mod tags;
+pub mod views;

@@ -1,0 +1,8 @@
+-- The definitions compute, with the laws of finite maps.
+use Rattle.std.specs.FinMap.{gets as map_laws}
+use Rattle.std.specs.Fmt.{digits}
+use Rattle.worked_examples.proofs.cache.some_commands_want_a_key_present_or_absent.Goals as goal
+
+pub returns : goal.returns
+unfolding digits
+returns c = simp map_laws
