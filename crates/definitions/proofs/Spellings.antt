@@ -21,78 +21,77 @@ append_parts a b s t same e = (
   sym (drop_at a s (length a) refl) ∙ (ap (drop (length a)) e ∙ drop_at b t (length a) (sym same)),
 )
 
--- k bytes are k
+-- the lowest k bytes of a number are k bytes
 length-bytes_high_first : (k n : ℕ) → length (bytes_high_first k n) ≡ k
 length-bytes_high_first zero n = refl
 length-bytes_high_first (suc k) n = ap suc (length-bytes_high_first k n)
 
--- the number is read back from its bytes of this width
+-- the number is read back from its bytes of this width: it fits
 abbrev pub IsReadBack : Width → ℕ → Type 0
 IsReadBack w n = from_be_bytes w (to_be_bytes w n) ≡ n
 
--- the bytes of a number determine it
-pub number_one : (w : Width) (m n : ℕ) → IsReadBack w m → IsReadBack w n → to_be_bytes w m ≡ to_be_bytes w n → m ≡ n
-number_one w m n hm hn e = sym hm ∙ (ap (from_be_bytes w) e ∙ hn)
+-- a number that is read back has its bytes alone
+pub to_be_bytes_injective : (w : Width) (m n : ℕ) → IsReadBack w m → IsReadBack w n → to_be_bytes w m ≡ to_be_bytes w n → m ≡ n
+to_be_bytes_injective w m n hm hn e = sym hm ∙ (ap (from_be_bytes w) e ∙ hn)
 
--- so do these bytes with others behind them, and the others
-pub number_first : (w : Width) (m n : ℕ) (s t : Bytes) → IsReadBack w m → IsReadBack w n → to_be_bytes w m ++ s ≡ to_be_bytes w n ++ t → (m ≡ n) × (s ≡ t)
-number_first w m n s t hm hn e =
+-- its bytes with others behind them determine it, and the others
+pub to_be_bytes_parts : (w : Width) (m n : ℕ) (s t : Bytes) → IsReadBack w m → IsReadBack w n → to_be_bytes w m ++ s ≡ to_be_bytes w n ++ t → (m ≡ n) × (s ≡ t)
+to_be_bytes_parts w m n s t hm hn e =
     let len : length (to_be_bytes w m) ≡ length (to_be_bytes w n) = length-bytes_high_first (byte_len w) m ∙ sym (length-bytes_high_first (byte_len w) n) in
     let p = append_parts (to_be_bytes w m) (to_be_bytes w n) s t len e in
-    (number_one w m n hm hn p.0, p.1)
+    (to_be_bytes_injective w m n hm hn p.0, p.1)
 
--- bytes written for values of this kind, with any bytes behind them, determine the value and the bytes behind
+-- the bytes of these values show where they end: with any others behind them they determine the value, and the others
 abbrev pub IsSelfEnding : {X : Type 0} → (X → Type 0) → (X → Bytes) → Type 0
 IsSelfEnding {X} P bytes = (x y : X) (s t : Bytes) → P x → P y → bytes x ++ s ≡ bytes y ++ t → (x ≡ y) × (s ≡ t)
 
--- what is so with bytes behind it is so with none
-pub alone : {X : Type 0} (P : X → Type 0) (bytes : X → Bytes) → IsSelfEnding P bytes → (x y : X) → P x → P y → bytes x ≡ bytes y → x ≡ y
-alone P bytes ends x y hx hy e = (ends x y [] [] hx hy (ap (λ (l : Bytes). l ++ []) e)).0
+-- such bytes alone determine the value
+pub IsSelfEnding-injective : {X : Type 0} (P : X → Type 0) (bytes : X → Bytes) → IsSelfEnding P bytes → (x y : X) → P x → P y → bytes x ≡ bytes y → x ≡ y
+IsSelfEnding-injective P bytes ends x y hx hy e = (ends x y [] [] hx hy (ap (λ (l : Bytes). l ++ []) e)).0
 
--- lists of as many such values, spelled one after the other, are such values too
-pub flat_map_first : {X : Type 0} (P : X → Type 0) (bytes : X → Bytes) → IsSelfEnding P bytes → (xs ys : List X) (s t : Bytes)
+-- spelled one after the other, as many such values are determined, and what stands behind them
+pub flat_map_parts : {X : Type 0} (P : X → Type 0) (bytes : X → Bytes) → IsSelfEnding P bytes → (xs ys : List X) (s t : Bytes)
     → AllByRecursion P xs → AllByRecursion P ys → length xs ≡ length ys → flat_map bytes xs ++ s ≡ flat_map bytes ys ++ t → (xs ≡ ys) × (s ≡ t)
-flat_map_first P bytes ends [] [] s t hx hy same e = (refl, e)
-flat_map_first P bytes ends [] (y ∷ ys) s t hx hy same e = absurd cc
-flat_map_first P bytes ends (x ∷ xs) [] s t hx hy same e = absurd cc
-flat_map_first P bytes ends (x ∷ xs) (y ∷ ys) s t hx hy same e =
+flat_map_parts P bytes ends [] [] s t hx hy same e = (refl, e)
+flat_map_parts P bytes ends [] (y ∷ ys) s t hx hy same e = absurd cc
+flat_map_parts P bytes ends (x ∷ xs) [] s t hx hy same e = absurd cc
+flat_map_parts P bytes ends (x ∷ xs) (y ∷ ys) s t hx hy same e =
     let here = ends x y (flat_map bytes xs ++ s) (flat_map bytes ys ++ t) hx.0 hy.0
     (sym (append_assoc (bytes x) (flat_map bytes xs) s) ∙ (e ∙ append_assoc (bytes y) (flat_map bytes ys) t)) in
-    let rest = flat_map_first P bytes ends xs ys s t hx.1 hy.1 (cc) here.1 in
+    let rest = flat_map_parts P bytes ends xs ys s t hx.1 hy.1 (cc) here.1 in
     (cc, rest.1)
 
--- the same behind their number in a byte
-pub counted_first : {X : Type 0} (P : X → Type 0) (bytes : X → Bytes) → IsSelfEnding P bytes → (xs ys : List X) (s t : Bytes)
-    → AllByRecursion P xs → AllByRecursion P ys → (length xs ∷ flat_map bytes xs) ++ s ≡ (length ys ∷ flat_map bytes ys) ++ t → (xs ≡ ys) × (s ≡ t)
-counted_first P bytes ends xs ys s t hx hy e = flat_map_first P bytes ends xs ys s t hx hy (ap (λ (l : Bytes). get_or l 0 0) e) (ap (drop 1) e)
+-- a list behind its number of elements shows where it ends
+pub IsSelfEnding-counted : {X : Type 0} (P : X → Type 0) (bytes : X → Bytes) → IsSelfEnding P bytes → IsSelfEnding (AllByRecursion P) (λ xs. length xs ∷ flat_map bytes xs)
+IsSelfEnding-counted P bytes ends xs ys s t hx hy e = flat_map_parts P bytes ends xs ys s t hx hy (ap (λ (l : Bytes). get_or l 0 0) e) (ap (drop 1) e)
 
 -- ---- contents of tags
 
--- what a client's tags speak of determines the number and the payload
-pub command_content-one : (c d s t : ℕ) (p q : Bytes) → s < 2 ^ 64 → t < 2 ^ 64 → command_content c s p ≡ command_content d t q → (s ≡ t) × (p ≡ q)
-command_content-one c d s t p q hs ht e = (
-  number_one w64 s t (from_be_bytes-to_be_bytes_8 s hs) (from_be_bytes-to_be_bytes_8 t ht) (ap (λ (l : Bytes). take 8 (drop 2 l)) e),
+-- what a client's tags speak of determines the number, where it fits 8 bytes, and the payload
+pub command_content_injective : (c d s t : ℕ) (p q : Bytes) → s < 2 ^ 64 → t < 2 ^ 64 → command_content c s p ≡ command_content d t q → (s ≡ t) × (p ≡ q)
+command_content_injective c d s t p q hs ht e = (
+  to_be_bytes_injective w64 s t (from_be_bytes-to_be_bytes_8 s hs) (from_be_bytes-to_be_bytes_8 t ht) (ap (λ (l : Bytes). take 8 (drop 2 l)) e),
   ap (drop 12) e,
 )
 
--- what a reply's tag speaks of determines the number, the place and the text
-pub reply_content-one : (r c s p : ℕ) (x : Bytes) (a b d e : ℕ) (y : Bytes) → s < 2 ^ 64 → p < 2 ^ 64 → d < 2 ^ 64 → e < 2 ^ 64
+-- what a reply's tag speaks of determines the number and the place, where they fit 8 bytes, and the text
+pub reply_content_injective : (r c s p : ℕ) (x : Bytes) (a b d e : ℕ) (y : Bytes) → s < 2 ^ 64 → p < 2 ^ 64 → d < 2 ^ 64 → e < 2 ^ 64
     → reply_content r c s p x ≡ reply_content a b d e y → (s ≡ d) × (p ≡ e) × (x ≡ y)
-reply_content-one r c s p x a b d e y hs hp hd he h = (
-  number_one w64 s d (from_be_bytes-to_be_bytes_8 s hs) (from_be_bytes-to_be_bytes_8 d hd) (ap (λ (l : Bytes). take 8 (drop 4 l)) h),
-  number_one w64 p e (from_be_bytes-to_be_bytes_8 p hp) (from_be_bytes-to_be_bytes_8 e he) (ap (λ (l : Bytes). take 8 (drop 12 l)) h),
+reply_content_injective r c s p x a b d e y hs hp hd he h = (
+  to_be_bytes_injective w64 s d (from_be_bytes-to_be_bytes_8 s hs) (from_be_bytes-to_be_bytes_8 d hd) (ap (λ (l : Bytes). take 8 (drop 4 l)) h),
+  to_be_bytes_injective w64 p e (from_be_bytes-to_be_bytes_8 p hp) (from_be_bytes-to_be_bytes_8 e he) (ap (λ (l : Bytes). take 8 (drop 12 l)) h),
   ap (drop 24) h,
 )
 
 -- ---- the parts of a frame
 
 -- the bytes of a number, of a party or a length, that fits 2 bytes
-short_first : (m n : ℕ) (s t : Bytes) → m < 2 ^ 16 → n < 2 ^ 16 → to_be_bytes w16 m ++ s ≡ to_be_bytes w16 n ++ t → (m ≡ n) × (s ≡ t)
-short_first m n s t hm hn = number_first w16 m n s t (from_be_bytes-to_be_bytes_2 m hm) (from_be_bytes-to_be_bytes_2 n hn)
+short_parts : (m n : ℕ) (s t : Bytes) → m < 2 ^ 16 → n < 2 ^ 16 → to_be_bytes w16 m ++ s ≡ to_be_bytes w16 n ++ t → (m ≡ n) × (s ≡ t)
+short_parts m n s t hm hn = to_be_bytes_parts w16 m n s t (from_be_bytes-to_be_bytes_2 m hm) (from_be_bytes-to_be_bytes_2 n hn)
 
 -- the bytes of a number, of a request, a height or a view, that fits 8 bytes
-long_first : (m n : ℕ) (s t : Bytes) → m < 2 ^ 64 → n < 2 ^ 64 → to_be_bytes w64 m ++ s ≡ to_be_bytes w64 n ++ t → (m ≡ n) × (s ≡ t)
-long_first m n s t hm hn = number_first w64 m n s t (from_be_bytes-to_be_bytes_8 m hm) (from_be_bytes-to_be_bytes_8 n hn)
+long_parts : (m n : ℕ) (s t : Bytes) → m < 2 ^ 64 → n < 2 ^ 64 → to_be_bytes w64 m ++ s ≡ to_be_bytes w64 n ++ t → (m ≡ n) × (s ≡ t)
+long_parts m n s t hm hn = to_be_bytes_parts w64 m n s t (from_be_bytes-to_be_bytes_8 m hm) (from_be_bytes-to_be_bytes_8 n hn)
 
 -- the bytes of a core behind its parent
 abbrev core_end : Core → Bytes
@@ -108,40 +107,40 @@ certificate_end q = length q.votes ∷ flat_map vote_bytes q.votes
 
 module _ (sizes : Sizes) (are : AreSizes sizes) where
   -- a vote shows where it ends
-  pub vote_first : IsSelfEnding (IsVote sizes) vote_bytes
-  vote_first v w s t hv hw e =
-      let number = short_first v.voter w.voter (v.vector ++ s) (w.vector ++ t) (omega (arith, hv.voter)) (omega (arith, hw.voter)) e in
+  pub IsSelfEnding-vote_bytes : IsSelfEnding (IsVote sizes) vote_bytes
+  IsSelfEnding-vote_bytes v w s t hv hw e =
+      let number = short_parts v.voter w.voter (v.vector ++ s) (w.vector ++ t) (omega (arith, hv.voter)) (omega (arith, hw.voter)) e in
       let vector = append_parts v.vector w.vector s t (hv.vector ∙ sym hw.vector) number.1 in
       ((λ i. record { voter = number.0 i; vector = vector.0 i }), vector.1)
 
   -- a command shows where it ends
-  pub command_first : IsSelfEnding (IsCommand sizes) command_bytes
-  command_first c d s t hc hd e =
-      let client = short_first c.client d.client _ _ (omega (arith, hc.client)) (omega (arith, hd.client)) e in
-      let seq = long_first c.seq d.seq _ _ hc.seq.1 hd.seq.1 client.1 in
-      let size = short_first (length c.payload) (length d.payload) ((c.payload ++ c.vector) ++ s) ((d.payload ++ d.vector) ++ t) (omega (arith, hc.payload)) (omega (arith, hd.payload)) seq.1 in
+  pub IsSelfEnding-command_bytes : IsSelfEnding (IsCommand sizes) command_bytes
+  IsSelfEnding-command_bytes c d s t hc hd e =
+      let client = short_parts c.client d.client _ _ (omega (arith, hc.client)) (omega (arith, hd.client)) e in
+      let seq = long_parts c.seq d.seq _ _ hc.seq.1 hd.seq.1 client.1 in
+      let size = short_parts (length c.payload) (length d.payload) ((c.payload ++ c.vector) ++ s) ((d.payload ++ d.vector) ++ t) (omega (arith, hc.payload)) (omega (arith, hd.payload)) seq.1 in
       let payload = append_parts c.payload d.payload (c.vector ++ s) (d.vector ++ t) size.0 (sym (append_assoc c.payload c.vector s) ∙ (size.1 ∙ append_assoc d.payload d.vector t)) in
       let vector = append_parts c.vector d.vector s t (hc.vector ∙ sym hd.vector) payload.1 in
       ((λ i. record { client = client.0 i; seq = seq.0 i; payload = payload.0 i; vector = vector.0 i }), vector.1)
 
   -- a core shows where it ends
-  pub core_first : IsSelfEnding (IsCore sizes) core_bytes
-  core_first k l s t hk hl e =
+  pub IsSelfEnding-core_bytes : IsSelfEnding (IsCore sizes) core_bytes
+  IsSelfEnding-core_bytes k l s t hk hl e =
       let parent = append_parts k.parent l.parent (core_end k ++ s) (core_end l ++ t) (hk.parent ∙ sym hl.parent) (sym (core_bytes-append k s) ∙ (e ∙ core_bytes-append l t)) in
-      let height = long_first k.height l.height _ _ hk.height.1 hl.height.1 parent.1 in
+      let height = long_parts k.height l.height _ _ hk.height.1 hl.height.1 parent.1 in
       let below_k = hk.justify_height in
       let below_l = hl.justify_height in
       let top_k = hk.height.1 in
       let top_l = hl.height.1 in
-      let justify = long_first k.justify_height l.justify_height _ _ (omega (arith, below_k, top_k)) (omega (arith, below_l, top_l)) height.1 in
-      let commands = counted_first (IsCommand sizes) command_bytes command_first k.commands l.commands s t hk.commands hl.commands justify.1 in
+      let justify = long_parts k.justify_height l.justify_height _ _ (omega (arith, below_k, top_k)) (omega (arith, below_l, top_l)) height.1 in
+      let commands = IsSelfEnding-counted (IsCommand sizes) command_bytes IsSelfEnding-command_bytes k.commands l.commands s t hk.commands hl.commands justify.1 in
       ((λ i. record { parent = parent.0 i; height = height.0 i; justify_height = justify.0 i; commands = commands.0 i }), commands.1)
 
   -- a certificate shows where it ends
-  pub certificate_first : IsSelfEnding (IsCertificate sizes) certificate_bytes
-  certificate_first q r s t hq hr e =
+  pub IsSelfEnding-certificate_bytes : IsSelfEnding (IsCertificate sizes) certificate_bytes
+  IsSelfEnding-certificate_bytes q r s t hq hr e =
       let digest = append_parts q.digest r.digest (certificate_end q ++ s) (certificate_end r ++ t) (hq.digest ∙ sym hr.digest) (sym (append_assoc q.digest (certificate_end q) s) ∙ (e ∙ append_assoc r.digest (certificate_end r) t)) in
-      let votes = counted_first (IsVote sizes) vote_bytes vote_first q.votes r.votes s t hq.votes hr.votes digest.1 in
+      let votes = IsSelfEnding-counted (IsVote sizes) vote_bytes IsSelfEnding-vote_bytes q.votes r.votes s t hq.votes hr.votes digest.1 in
       ((λ i. record { digest = digest.0 i; votes = votes.0 i }), votes.1)
 
 -- ---- frames
@@ -161,62 +160,62 @@ kind_there kind.Fetch = refl
 kind_there kind.Block = refl
 
 -- a number is of one kind
-pub kind_number-one : (k l : Kind) → kind_number k ≡ kind_number l → k ≡ l
-kind_number-one k l e = sym (kind_there k) ∙ (ap (λ (n : ℕ). get_or kinds n kind.Request) e ∙ kind_there l)
+pub kind_number_injective : (k l : Kind) → kind_number k ≡ kind_number l → k ≡ l
+kind_number_injective k l e = sym (kind_there k) ∙ (ap (λ (n : ℕ). get_or kinds n kind.Request) e ∙ kind_there l)
 
 -- frames of one spelling are of one kind
 pub spelling-kind : (f g : Frame) → spelling f ≡ spelling g → kind_of f ≡ kind_of g
-spelling-kind f g e = kind_number-one (kind_of f) (kind_of g) (ap (λ (l : Bytes). get_or l 0 0) e)
+spelling-kind f g e = kind_number_injective (kind_of f) (kind_of g) (ap (λ (l : Bytes). get_or l 0 0) e)
 
 module _ (sizes : Sizes) (are : AreSizes sizes) where
   -- a core and a certificate behind it, with bytes behind them
-  core_and_certificate : (k l : Core) (q r : Certificate) (s t : Bytes) → IsCore sizes k → IsCore sizes l → IsCertificate sizes q → IsCertificate sizes r
+  pub core_and_certificate_parts : (k l : Core) (q r : Certificate) (s t : Bytes) → IsCore sizes k → IsCore sizes l → IsCertificate sizes q → IsCertificate sizes r
       → (core_bytes k ++ certificate_bytes q) ++ s ≡ (core_bytes l ++ certificate_bytes r) ++ t → (k ≡ l) × (q ≡ r) × (s ≡ t)
-  core_and_certificate k l q r s t hk hl hq hr e =
-      let core = core_first sizes are k l (certificate_bytes q ++ s) (certificate_bytes r ++ t) hk hl
+  core_and_certificate_parts k l q r s t hk hl hq hr e =
+      let core = IsSelfEnding-core_bytes sizes are k l (certificate_bytes q ++ s) (certificate_bytes r ++ t) hk hl
       (sym (append_assoc (core_bytes k) (certificate_bytes q) s) ∙ (e ∙ append_assoc (core_bytes l) (certificate_bytes r) t)) in
-      let cert = certificate_first sizes are q r s t hq hr core.1 in
+      let cert = IsSelfEnding-certificate_bytes sizes are q r s t hq hr core.1 in
       (core.0, cert.0, cert.1)
 
-  -- the spelling of a frame is of this frame alone
-  pub spelling-one : (f g : Frame) → IsFrame sizes f → IsFrame sizes g → spelling f ≡ spelling g → f ≡ g
-  spelling-one (request c) (request d) hf hg e = ap request (alone (IsCommand sizes) command_bytes (command_first sizes are) c d hf hg (ap (drop 1) e))
-  spelling-one (proposal view k q vector) (proposal view' k' q' vector') hf hg e =
-      let number = long_first view view' _ _ hf.0 hg.0 (ap (drop 1) e) in
-      let parts = core_and_certificate k k' q q' vector vector' hf.1 hg.1 hf.2 hg.2 number.1 in
+  -- the spelling of a frame is of this frame IsSelfEnding-injective
+  pub spelling_injective : (f g : Frame) → IsFrame sizes f → IsFrame sizes g → spelling f ≡ spelling g → f ≡ g
+  spelling_injective (request c) (request d) hf hg e = ap request (IsSelfEnding-injective (IsCommand sizes) command_bytes (IsSelfEnding-command_bytes sizes are) c d hf hg (ap (drop 1) e))
+  spelling_injective (proposal view k q vector) (proposal view' k' q' vector') hf hg e =
+      let number = long_parts view view' _ _ hf.0 hg.0 (ap (drop 1) e) in
+      let parts = core_and_certificate_parts k k' q q' vector vector' hf.1 hg.1 hf.2 hg.2 number.1 in
       λ i. proposal (number.0 i) (parts.0 i) (parts.1 i) (parts.2 i)
-  spelling-one (vote digest v) (vote digest' v') hf hg e =
+  spelling_injective (vote digest v) (vote digest' v') hf hg e =
       let first = append_parts digest digest' (vote_bytes v) (vote_bytes v') (hf.0 ∙ sym hg.0)
       (sym (append_assoc digest (to_be_bytes w16 v.voter) v.vector) ∙ (ap (drop 1) e ∙ append_assoc digest' (to_be_bytes w16 v'.voter) v'.vector)) in
-      let second = alone (IsVote sizes) vote_bytes (vote_first sizes are) v v' hf.1 hg.1 first.1 in
+      let second = IsSelfEnding-injective (IsVote sizes) vote_bytes (IsSelfEnding-vote_bytes sizes are) v v' hf.1 hg.1 first.1 in
       λ i. vote (first.0 i) (second i)
-  spelling-one (new_view view sender q vector) (new_view view' sender' q' vector') hf hg e =
-      let number = long_first view view' _ _ hf.0 hg.0 (ap (drop 1) e) in
-      let from = short_first sender sender' (certificate_bytes q ++ vector) (certificate_bytes q' ++ vector') (omega (arith, hf.1)) (omega (arith, hg.1)) number.1 in
-      let cert = certificate_first sizes are q q' vector vector' hf.2 hg.2 from.1 in
+  spelling_injective (new_view view sender q vector) (new_view view' sender' q' vector') hf hg e =
+      let number = long_parts view view' _ _ hf.0 hg.0 (ap (drop 1) e) in
+      let from = short_parts sender sender' (certificate_bytes q ++ vector) (certificate_bytes q' ++ vector') (omega (arith, hf.1)) (omega (arith, hg.1)) number.1 in
+      let cert = IsSelfEnding-certificate_bytes sizes are q q' vector vector' hf.2 hg.2 from.1 in
       λ i. new_view (number.0 i) (from.0 i) (cert.0 i) (cert.1 i)
-  spelling-one (reply replica client seq place text tag) (reply replica' client' seq' place' text' tag') hf hg e =
-      let from = short_first replica replica' _ _ (omega (arith, hf.0)) (omega (arith, hg.0)) (ap (drop 1) e) in
-      let to = short_first client client' _ _ (omega (arith, hf.1)) (omega (arith, hg.1)) from.1 in
-      let number = long_first seq seq' _ _ hf.2.1 hg.2.1 to.1 in
-      let order = long_first place place' _ _ hf.3.1 hg.3.1 number.1 in
-      let size = number_first w32 (length text) (length text') (text ++ tag) (text' ++ tag')
+  spelling_injective (reply replica client seq place text tag) (reply replica' client' seq' place' text' tag') hf hg e =
+      let from = short_parts replica replica' _ _ (omega (arith, hf.0)) (omega (arith, hg.0)) (ap (drop 1) e) in
+      let to = short_parts client client' _ _ (omega (arith, hf.1)) (omega (arith, hg.1)) from.1 in
+      let number = long_parts seq seq' _ _ hf.2.1 hg.2.1 to.1 in
+      let order = long_parts place place' _ _ hf.3.1 hg.3.1 number.1 in
+      let size = to_be_bytes_parts w32 (length text) (length text') (text ++ tag) (text' ++ tag')
       (from_be_bytes-to_be_bytes_4 (length text) (omega (arith, hf.4))) (from_be_bytes-to_be_bytes_4 (length text') (omega (arith, hg.4))) order.1 in
       let last = append_parts text text' tag tag' size.0 size.1 in
       λ i. reply (from.0 i) (to.0 i) (number.0 i) (order.0 i) (last.0 i) (last.1 i)
-  spelling-one (fetch sender digest tag) (fetch sender' digest' tag') hf hg e =
-      let from = short_first sender sender' (digest ++ tag) (digest' ++ tag') (omega (arith, hf.0)) (omega (arith, hg.0)) (ap (drop 1) e) in
+  spelling_injective (fetch sender digest tag) (fetch sender' digest' tag') hf hg e =
+      let from = short_parts sender sender' (digest ++ tag) (digest' ++ tag') (omega (arith, hf.0)) (omega (arith, hg.0)) (ap (drop 1) e) in
       let last = append_parts digest digest' tag tag' (hf.1 ∙ sym hg.1) from.1 in
       λ i. fetch (from.0 i) (last.0 i) (last.1 i)
-  spelling-one (block sender k q tag) (block sender' k' q' tag') hf hg e =
-      let from = short_first sender sender' _ _ (omega (arith, hf.0)) (omega (arith, hg.0)) (ap (drop 1) e) in
-      let parts = core_and_certificate k k' q q' tag tag' hf.1 hg.1 hf.2 hg.2 from.1 in
+  spelling_injective (block sender k q tag) (block sender' k' q' tag') hf hg e =
+      let from = short_parts sender sender' _ _ (omega (arith, hf.0)) (omega (arith, hg.0)) (ap (drop 1) e) in
+      let parts = core_and_certificate_parts k k' q q' tag tag' hf.1 hg.1 hf.2 hg.2 from.1 in
       λ i. block (from.0 i) (parts.0 i) (parts.1 i) (parts.2 i)
-  spelling-one f g hf hg e = absurd (cc (spelling-kind f g e))
+  spelling_injective f g hf hg e = absurd (cc (spelling-kind f g e))
 
   -- what bytes are read as is one thing
-  pub read_as-one : (bytes : Bytes) (a b : Option Frame) → IsReadAs sizes bytes a → IsReadAs sizes bytes b → a ≡ b
-  read_as-one bytes (Some f) (Some g) ha hb = ap Some (spelling-one f g ha.0 hb.0 (sym ha.1 ∙ hb.1))
-  read_as-one bytes (Some f) None ha hb = absurd (hb f ha)
-  read_as-one bytes None (Some g) ha hb = absurd (ha g hb)
-  read_as-one bytes None None ha hb = refl
+  pub IsReadAs-unique : (bytes : Bytes) (a b : Option Frame) → IsReadAs sizes bytes a → IsReadAs sizes bytes b → a ≡ b
+  IsReadAs-unique bytes (Some f) (Some g) ha hb = ap Some (spelling_injective f g ha.0 hb.0 (sym ha.1 ∙ hb.1))
+  IsReadAs-unique bytes (Some f) None ha hb = absurd (hb f ha)
+  IsReadAs-unique bytes None (Some g) ha hb = absurd (ha g hb)
+  IsReadAs-unique bytes None None ha hb = refl

@@ -4,9 +4,11 @@ use Rattle.std.proofs.lemmas.Bool.{cases_lt}
 use Rattle.std.proofs.lemmas.List.{take_all, drop_at, take-append-le, drop-append-le, length-drop}
 use Rattle.sha2.proofs.Facts256.{length-sha256}
 use Rattle.ids.specs.declared.kind.Kind.{Kind}
+use Rattle.ids.specs.Sizes.{Sizes, replicas}
 use Rattle.definitions.specs.Bytes.{Bytes}
 use Rattle.definitions.specs.Tags.{hmac, tag_len, tag_of}
-use Rattle.definitions.specs.Keyrings.{Keyring, tag_for, tags_for}
+use Rattle.definitions.specs.Keyrings.{Keyring, tag_for, tags_for, vector_for}
+use Rattle.definitions.specs.FrameLimits.{IsVector}
 
 -- a tag is as long as a digest of SHA-256
 pub length-hmac : (key text : Bytes) → length (hmac key text) ≡ tag_len
@@ -16,13 +18,13 @@ length-hmac key text = length-sha256 _
 -- ---- tags one after the other
 
 -- a tag within the front stands there
-tag_of-append_left : (tags more : Bytes) (u : ℕ) → tag_len * u + tag_len ≤ length tags → tag_of (tags ++ more) u ≡ tag_of tags u
+pub tag_of-append_left : (tags more : Bytes) (u : ℕ) → tag_len * u + tag_len ≤ length tags → tag_of (tags ++ more) u ≡ tag_of tags u
 tag_of-append_left tags more u fits =
     ap (take tag_len) (drop-append-le (tag_len * u) tags more (omega arith))
     ∙ take-append-le tag_len (drop (tag_len * u) tags) more (omega (arith, length-drop (tag_len * u) tags))
 
 -- the last tag stands behind the others
-tag_of-append_right : (tags last : Bytes) (u : ℕ) → length tags ≡ tag_len * u → length last ≡ tag_len → tag_of (tags ++ last) u ≡ last
+pub tag_of-append_right : (tags last : Bytes) (u : ℕ) → length tags ≡ tag_len * u → length last ≡ tag_len → tag_of (tags ++ last) u ≡ last
 tag_of-append_right tags last u before len = ap (take tag_len) (drop_at tags last (tag_len * u) before) ∙ take_all tag_len last (omega arith)
 
 module _ (ring : Keyring) (label : Kind) (content : Bytes) where
@@ -47,3 +49,12 @@ module _ (ring : Keyring) (label : Kind) (content : Bytes) where
         let last : n ≡ u = omega arith in
         rw last (tag_of-append_right (tags_for ring label content u) (tag_for ring label u content) u (length-tags_for u) (length-tag_for u))
   ]
+
+-- a vector has a tag for each replica
+pub IsVector-vector_for : (sizes : Sizes) (ring : Keyring) (label : Kind) (content : Bytes) → IsVector sizes (vector_for sizes ring label content)
+IsVector-vector_for sizes ring label content = length-tags_for ring label content (replicas sizes)
+
+-- the tag of a vector for a replica is at its place
+pub tag_of-vector_for : (sizes : Sizes) (ring : Keyring) (label : Kind) (content : Bytes) (u : ℕ) → u < replicas sizes
+    → tag_of (vector_for sizes ring label content) u ≡ tag_for ring label u content
+tag_of-vector_for sizes ring label content u lt = tag_of-tags_for ring label content (replicas sizes) u lt
