@@ -30,7 +30,7 @@ length-bytes_high_first (suc k) n = ap suc (length-bytes_high_first k n)
 abbrev pub IsReadBack : Width → ℕ → Type 0
 IsReadBack w n = from_be_bytes w (to_be_bytes w n) ≡ n
 
--- a number that is read back has its bytes alone
+-- numbers that are read back and have the same bytes are one number
 pub to_be_bytes_injective : (w : Width) (m n : ℕ) → IsReadBack w m → IsReadBack w n → to_be_bytes w m ≡ to_be_bytes w n → m ≡ n
 to_be_bytes_injective w m n hm hn e = sym hm ∙ (ap (from_be_bytes w) e ∙ hn)
 
@@ -85,11 +85,11 @@ reply_content_injective r c s p x a b d e y hs hp hd he h = (
 
 -- ---- the parts of a frame
 
--- the bytes of a number, of a party or a length, that fits 2 bytes
+-- the 2 bytes of a party's number or of a length, with others behind them, determine it, and the others
 short_parts : (m n : ℕ) (s t : Bytes) → m < 2 ^ 16 → n < 2 ^ 16 → to_be_bytes w16 m ++ s ≡ to_be_bytes w16 n ++ t → (m ≡ n) × (s ≡ t)
 short_parts m n s t hm hn = to_be_bytes_parts w16 m n s t (from_be_bytes-to_be_bytes_2 m hm) (from_be_bytes-to_be_bytes_2 n hn)
 
--- the bytes of a number, of a request, a height or a view, that fits 8 bytes
+-- the 8 bytes of a request's number, a height, a view or a place determine it likewise
 long_parts : (m n : ℕ) (s t : Bytes) → m < 2 ^ 64 → n < 2 ^ 64 → to_be_bytes w64 m ++ s ≡ to_be_bytes w64 n ++ t → (m ≡ n) × (s ≡ t)
 long_parts m n s t hm hn = to_be_bytes_parts w64 m n s t (from_be_bytes-to_be_bytes_8 m hm) (from_be_bytes-to_be_bytes_8 n hn)
 
@@ -97,7 +97,7 @@ long_parts m n s t hm hn = to_be_bytes_parts w64 m n s t (from_be_bytes-to_be_by
 abbrev core_end : Core → Bytes
 core_end k = to_be_bytes w64 k.height ++ to_be_bytes w64 k.justify_height ++ length k.commands ∷ flat_map command_bytes k.commands
 
--- a core's bytes are its parent and these
+-- the bytes of a core are its parent and then these
 core_bytes-append : (k : Core) (s : Bytes) → core_bytes k ++ s ≡ k.parent ++ (core_end k ++ s)
 core_bytes-append k s = simp append_assoc
 
@@ -168,7 +168,7 @@ pub spelling-kind : (f g : Frame) → spelling f ≡ spelling g → kind_of f �
 spelling-kind f g e = kind_number_injective (kind_of f) (kind_of g) (ap (λ (l : Bytes). get_or l 0 0) e)
 
 module _ (sizes : Sizes) (are : AreSizes sizes) where
-  -- a core and a certificate behind it, with bytes behind them
+  -- the bytes of a core and then a certificate, with others behind them, determine both, and the others
   pub core_and_certificate_parts : (k l : Core) (q r : Certificate) (s t : Bytes) → IsCore sizes k → IsCore sizes l → IsCertificate sizes q → IsCertificate sizes r
       → (core_bytes k ++ certificate_bytes q) ++ s ≡ (core_bytes l ++ certificate_bytes r) ++ t → (k ≡ l) × (q ≡ r) × (s ≡ t)
   core_and_certificate_parts k l q r s t hk hl hq hr e =
@@ -177,7 +177,7 @@ module _ (sizes : Sizes) (are : AreSizes sizes) where
       let cert = IsSelfEnding-certificate_bytes sizes are q r s t hq hr core.1 in
       (core.0, cert.0, cert.1)
 
-  -- the spelling of a frame is of this frame IsSelfEnding-injective
+  -- the spelling of a frame is that of no other
   pub spelling_injective : (f g : Frame) → IsFrame sizes f → IsFrame sizes g → spelling f ≡ spelling g → f ≡ g
   spelling_injective (request c) (request d) hf hg e = ap request (IsSelfEnding-injective (IsCommand sizes) command_bytes (IsSelfEnding-command_bytes sizes are) c d hf hg (ap (drop 1) e))
   spelling_injective (proposal view k q vector) (proposal view' k' q' vector') hf hg e =
