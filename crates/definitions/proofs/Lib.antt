@@ -5,3 +5,5 @@ pub mod Branches
 pub mod Digests
 pub mod Chronicles
 pub mod Orders
+pub mod Spellings
+pub mod Vectors

@@ -1,5 +1,6 @@
 pub mod Cache
 pub mod Chains
+pub mod Frames
 pub mod Histories
 pub mod Tags
 pub mod Views

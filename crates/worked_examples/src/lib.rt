@@ -4,6 +4,7 @@
 
 pub mod cache;
 pub mod chains;
+pub mod frames;
 pub mod histories;
 pub mod tags;
 pub mod views;

@@ -1,0 +1,51 @@
+//! Frames: how many bytes they have with four replicas, and what a spelling and a vector determine.
+
+ghost use Rattle.worked_examples.specs.Frames.{CommandSize, CoreSize, VoteSize, CertificateSize, GenesisBytes, RequestSize, ReplySize, ProposalSize, BlockSize, VoteFrameSize, NewViewSize, FetchSize, SpellingIsOfOneFrame, BytesAreReadAsOneThing, VectorsAreWhole, EachTagIsForItsReplica};
+
+/// How many bytes a command, a core, a vote and a certificate have with four replicas.
+pub fn sizes_of_the_parts_for_four_replicas()
+    ensures command { CommandSize }
+    ensures core { CoreSize }
+    ensures vote { VoteSize }
+    ensures certificate { CertificateSize }
+{}
+
+/// The bytes whose digest names genesis.
+pub fn genesis_is_49_zero_bytes()
+    ensures { GenesisBytes }
+{}
+
+/// How many bytes the frames from and to clients have with four replicas.
+pub fn sizes_of_requests_and_replies_for_four_replicas()
+    ensures request { RequestSize }
+    ensures reply { ReplySize }
+{}
+
+/// How many bytes the frames that carry a block have with four replicas.
+pub fn sizes_of_frames_with_a_block_for_four_replicas()
+    ensures proposal { ProposalSize }
+    ensures block { BlockSize }
+{}
+
+/// How many bytes the other frames between replicas have with four replicas.
+pub fn sizes_of_votes_new_views_and_fetches_for_four_replicas()
+    ensures vote { VoteFrameSize }
+    ensures new_view { NewViewSize }
+    ensures fetch { FetchSize }
+{}
+
+/// No two frames have the same bytes.
+pub fn a_spelling_is_of_one_frame()
+    ensures { SpellingIsOfOneFrame }
+{}
+
+/// Two readers of the same bytes that keep to the definitions read the same.
+pub fn bytes_are_read_as_one_thing()
+    ensures { BytesAreReadAsOneThing }
+{}
+
+/// A vector has a tag for each replica, and at each replica's place the tag that is made for it.
+pub fn each_tag_of_a_vector_is_the_tag_for_its_replica()
+    ensures whole { VectorsAreWhole }
+    ensures each { EachTagIsForItsReplica }
+{}
