@@ -17,7 +17,7 @@ use Rattle.linear_law.specs.Law.{EveryRunIsLinear, ChroniclesAreLawful, Chronicl
 use Rattle.definitions.specs.Frames.{Command, Core, genesis_core}
 use Rattle.ids.specs.Sizes.{Sizes, replicas, quorum, client_party}
 use Rattle.definitions.specs.Keyrings.{Keyring}
-use Rattle.linear_law.proofs.Contents.{command_content-one}
+use Rattle.definitions.proofs.Spellings.{command_content_injective}
 use Rattle.definitions.specs.Digests.{NoCollision}
 use Rattle.definitions.specs.Histories.{Entry, History, history_of, Answer, answers, is_fresh}
 use Rattle.definitions.specs.Chronicles.{executed, history}
@@ -106,7 +106,7 @@ module _ (Known : Core → Type 0) where
           let r = entry-requested w (record { enough = g.made.enough; orderly = g.run.row.orderly; lawful = λ p mp. (g.run.row.sound p mp).lawful }) g.requested v mv y (subst (λ (l : History). Among y l) b.1 (Among-after y b.0 (held w v) n)) o in
           let q = r.2 in
           let own = a.fits q.0 q.1 r.0.client q.2 q.4 q.3 in
-          (q.0, q.1, Among-before q.0 w.sent _ q.2, q.3 ∙ ap (λ (z : Entry). client_party z.client) r.1, q.4, sym (command_content-one r.0.client q.1.client r.0.seq q.1.seq r.0.payload q.1.payload q.6 own.1 q.5).0 ∙ ap (λ (z : Entry). z.seq) r.1, a.times q.0 q.2)
+          (q.0, q.1, Among-before q.0 w.sent _ q.2, q.3 ∙ ap (λ (z : Entry). client_party z.client) r.1, q.4, sym (command_content_injective r.0.client q.1.client r.0.seq q.1.seq r.0.payload q.1.payload q.6 own.1 q.5).0 ∙ ap (λ (z : Entry). z.seq) r.1, a.times q.0 q.2)
 
       new-receipt : (r : AcceptedBy) → Among r (map accepted f.accepted) → ReceiptHolds (happens w (e, m)) r
       new-receipt r x =

@@ -1,4 +1,3 @@
-pub mod Contents
 pub mod Sound
 pub mod Inputs
 pub mod Rows

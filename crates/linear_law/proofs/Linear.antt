@@ -18,7 +18,7 @@ use Rattle.definitions.specs.FrameLimits.{IsCore}
 use Rattle.definitions.specs.Branches.{Block, Branch, IsBranch, Extends, extends}
 use Rattle.ids.specs.Sizes.{Sizes, replicas, quorum, client_party}
 use Rattle.definitions.specs.Keyrings.{Keyring}
-use Rattle.linear_law.proofs.Contents.{command_content-one}
+use Rattle.definitions.proofs.Spellings.{command_content_injective}
 use Rattle.definitions.specs.Digests.{AllKnown, NoCollision}
 use Rattle.definitions.specs.Histories.{Entry, entry_of, History, history_of}
 use Rattle.definitions.specs.Chronicles.{tree, taken, executed, history}
@@ -190,7 +190,7 @@ history-submitted Known w g fits j m e k ok =
     let r = entry-requested w (record { enough = g.made.enough; orderly = g.run.row.orderly; lawful = λ p mp. (g.run.row.sound p mp).lawful }) g.requested j m e k ok in
     let s = r.2 in
     let own = fits s.0 s.1 r.0.client s.2 s.4 s.3 in
-    let one = command_content-one r.0.client s.1.client r.0.seq s.1.seq r.0.payload s.1.payload s.6 own.1 s.5 in
+    let one = command_content_injective r.0.client s.1.client r.0.seq s.1.seq r.0.payload s.1.payload s.6 own.1 s.5 in
     let client : s.1.client ≡ e.client = own.0 ∙ ap (λ (x : Entry). x.client) r.1 in
     let seq : s.1.seq ≡ e.seq = sym one.0 ∙ ap (λ (x : Entry). x.seq) r.1 in
     let payload : s.1.payload ≡ e.payload = sym one.1 ∙ ap (λ (x : Entry). x.payload) r.1 in

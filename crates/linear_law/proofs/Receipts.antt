@@ -19,7 +19,7 @@ use Rattle.definitions.specs.Bytes.{Bytes}
 use Rattle.ids.specs.Sizes.{replicas, quorum, client_party}
 use Rattle.definitions.specs.Frames.{Core, Frame, reply_content}
 use Rattle.definitions.specs.FrameLimits.{IsFrame}
-use Rattle.linear_law.proofs.Contents.{reply_content-one}
+use Rattle.definitions.proofs.Spellings.{reply_content_injective}
 use Rattle.definitions.specs.Keyrings.{verify}
 use Rattle.definitions.specs.Histories.{History, Answer, answers}
 use Rattle.definitions.specs.Chronicles.{history}
@@ -157,7 +157,7 @@ counted-true w e r cl q pl tx g rs fit fr nf b rep ok pa mine good mem =
     let i = reply-tag x sent.0 sent.0.frame refl sent.3 in
     let a : Among (answer_at i.1 i.2 i.3 i.4) (answers (held w r)) = subst (λ (p : ℕ). Among (answer_at i.1 i.2 i.3 i.4) (answers (held w p))) sent.2 (rs sent.0 sent.1 (ap (is_member w) sent.2 ∙ mem) i.0 i.1 i.2 i.3 i.4 i.5 i.6) in
     let small = fit r mem (answer_at i.1 i.2 i.3 i.4) a in
-    let one = reply_content-one r cl q pl tx i.0 i.1 i.2 i.3 i.4 fr.2.1 fr.3.1 small.0 small.1 i.7 in
+    let one = reply_content_injective r cl q pl tx i.0 i.1 i.2 i.3 i.4 fr.2.1 fr.3.1 small.0 small.1 i.7 in
     let client : cl ≡ i.1 = same-party cl i.1 i.8 in
     subst (λ (y : Answer). Among y (answers (held w r))) (λ k. record { client = sym client k; seq = sym one.0 k; place = sym one.1 k; text = sym one.2 k }) a
 
