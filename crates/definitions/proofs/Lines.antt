@@ -344,7 +344,8 @@ length-line (decr key value) noreply form may = omega (arith, length-noreply_fie
 
 -- ---- where two lines begin one text, they are one
 
-rest_has_none : (x : ℕ) (l : Bytes) → HasNoEnd (x ∷ l) → HasNoEnd l
+-- without its first byte a text has no end either
+pub rest_has_none : (x : ℕ) (l : Bytes) → HasNoEnd (x ∷ l) → HasNoEnd l
 rest_has_none x l none i e f = let next : suc i + 1 ≡ suc (i + 1) = omega arith in none (suc i) e (ap (λ (k : ℕ). slice_index (x ∷ l) k) next ∙ f)
 
 one_line : (l m r s : Bytes) → HasNoEnd l → HasNoEnd m → l ++ 13 ∷ 10 ∷ r ≡ m ++ 13 ∷ 10 ∷ s → (l ≡ m) × (r ≡ s)
