@@ -315,7 +315,8 @@ short_keys : (keys : List Bytes) → AllByRecursion IsKey keys → AllByRecursio
 short_keys [] are = tt
 short_keys (key ∷ keys) are = (are.0.1, short_keys keys are.1)
 
-length-verb_name : (verb : Verb) → length (verb_name verb) ≤ 7
+-- the longest name of a storage command
+pub length-verb_name : (verb : Verb) → length (verb_name verb) ≤ 7
 length-verb_name set = omega arith
 length-verb_name add = omega arith
 length-verb_name replace = omega arith

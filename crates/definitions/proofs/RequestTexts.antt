@@ -1,7 +1,7 @@
 -- The text of a request determines the request, and request_of finds it again.
 use Rattle.std.proofs.Common.{◌≡◌, ℕ, suc, ◌+◌, ◌-◌, ◌^◌, ◌<◌, ◌≤◌, ◌⊎◌, Bool, true, false, cond, List, [], ◌∷◌, ◌++◌, length, take, drop, Option, Some, None, refl, sym, ap, subst, ◌∙◌, inl, inr, arith, length-append, append_assoc, true≢false, find}
 use Rattle.std.specs.Prelude.{◌==◌, ◌&&◌, codes, decimal, bytes_eq, slice_index, slice_index_or, nat_le, nat_lt, IfSome}
-use Rattle.std.specs.List.{list_all}
+use Rattle.std.specs.List.{list_all, join_with_byte}
 use Rattle.std.specs.Str.Parse.{digits_value}
 use Rattle.std.proofs.lemmas.Bool.{and_parts, and_from, and_left, and_right, leb-true, le-leb, ltb-true, lt-ltb, ne_eqb, cases_eq, cond-true, cond-false}
 use Rattle.std.proofs.lemmas.List.{append-nil, take_at, drop_at, append_cancel_left}
@@ -13,7 +13,7 @@ use Rattle.definitions.specs.Lists.{Among}
 use Rattle.definitions.specs.Requests.{Verb, set, add, replace, append, prepend, Asked, Head, store, cas, get, gets, delete, incr, decr, head_of, stored_of, crlf, space, verb_name, fields, noreply_field, line, data_block, spelling, canonical, IsKey, most_data, most_line, HasForm, MayHave, IsRequest}
 use Rattle.definitions.specs.Items.{HasNoEnd, IsLineOf}
 use Rattle.definitions.specs.Canonical.{first_line, guesses, is_key, is_request, request_of}
-use Rattle.definitions.proofs.Lines.{parts, value, key_passes, is_key-passes, keys_pass, are_keys-pass, line_has_no_end, first_lines_same, IsLineOf-unique, may_have, may_passes, form_passes, is_form-passes, parts-line, rest_has_none, length-line}
+use Rattle.definitions.proofs.Lines.{parts, value, key_passes, is_key-passes, keys_pass, are_keys-pass, line_has_no_end, first_lines_same, IsLineOf-unique, may_have, may_passes, form_passes, is_form-passes, parts-line, rest_has_none, length-line, length-verb_name}
 
 -- ---- a request by its line and its data
 
@@ -214,3 +214,51 @@ request_of-canonical r is =
     find_one (λ s. is_request s && bytes_eq (canonical s) (canonical r)) (guesses (canonical r)) r (passes r is)
         (λ s t. let p = and_parts _ _ t in canonical-injective s r (request_passes s false p.0 refl) is ((bytes_eq-Decides _ _).0 p.1))
         (among_guesses r is)
+
+-- ---- how long a canonical text is
+
+-- the bytes of fields, each with a space
+spaced : List Bytes → ℕ
+spaced [] = 0
+spaced (field ∷ more) = suc (length field + spaced more)
+
+length_spaced : (field : Bytes) (more : List Bytes) → length (join_with_byte space (field ∷ more)) + 1 ≡ spaced (field ∷ more)
+unfolding spaced
+length_spaced field [] = omega arith
+length_spaced field (next ∷ more) = omega (arith, length_spaced next more, length-append field (space ∷ join_with_byte space (next ∷ more)))
+
+-- a spelling is its line, two bytes, and the data
+length-spelling : (r : Asked) (n : Bool) → length (spelling r n) ≡ length (line (head_of r) n) + 2 + length (data_block r)
+length-spelling r n = omega (arith, length-append (line (head_of r) n ++ crlf) (data_block r), length-append (line (head_of r) n) crlf)
+
+-- without data the spelling is a line
+short_line : (r : Asked) → IsRequest r false → length (data_block r) ≡ 0 → length (canonical r) ≤ 4393
+short_line r is none = let fits = length-line (head_of r) false is.0 is.1 in omega (arith, length-spelling r false, none, fits)
+
+length_store : (verb : Verb) (key : Bytes) (flags bytes : ℕ) → IsKey key → flags < 2 ^ 32 → bytes ≤ most_data → length (line (store verb key flags bytes) false) ≤ 276
+unfolding spaced
+length_store verb key flags bytes is small few =
+    let whole = length_spaced (verb_name verb) (key ∷ decimal flags ∷ codes "0" ∷ decimal bytes ∷ []) in
+    let name = length-verb_name verb in
+    let ten = length-decimal-le 10 flags (omega arith) (omega arith) (omega arith) in
+    let four = length-decimal-le 4 bytes (omega arith) (omega arith) (omega arith) in
+    omega (arith, whole, name, ten, four, is.1)
+
+length_cas : (key : Bytes) (flags bytes unique : ℕ) → IsKey key → flags < 2 ^ 32 → bytes ≤ most_data → unique < 2 ^ 64 → length (line (cas key flags bytes unique) false) ≤ 293
+unfolding spaced
+length_cas key flags bytes unique is small few low =
+    let whole = length_spaced (codes "cas") (key ∷ decimal flags ∷ codes "0" ∷ decimal bytes ∷ decimal unique ∷ []) in
+    let ten = length-decimal-le 10 flags (omega arith) (omega arith) (omega arith) in
+    let four = length-decimal-le 4 bytes (omega arith) (omega arith) (omega arith) in
+    let twenty = length-decimal-le 20 unique (omega arith) (omega arith) low in
+    omega (arith, whole, ten, four, twenty, is.1)
+
+-- a canonical text has at most 4,393 bytes
+pub length-canonical : (r : Asked) → IsRequest r false → length (canonical r) ≤ 4393
+length-canonical (store verb key flags stored) is = let few = length_store verb key flags (length stored) is.0.0 is.0.1 is.2 in omega (arith, few, is.2, length-spelling (store verb key flags stored) false, length-append stored crlf)
+length-canonical (cas key flags stored unique) is = let few = length_cas key flags (length stored) unique is.0.0 is.0.1 is.2 is.0.3 in omega (arith, few, is.2, length-spelling (cas key flags stored unique) false, length-append stored crlf)
+length-canonical (get keys) is = short_line (get keys) is refl
+length-canonical (gets keys) is = short_line (gets keys) is refl
+length-canonical (delete key) is = short_line (delete key) is refl
+length-canonical (incr key n) is = short_line (incr key n) is refl
+length-canonical (decr key n) is = short_line (decr key n) is refl
