@@ -228,7 +228,7 @@ length_spaced field [] = omega arith
 length_spaced field (next ∷ more) = omega (arith, length_spaced next more, length-append field (space ∷ join_with_byte space (next ∷ more)))
 
 -- a spelling is its line, two bytes, and the data
-length-spelling : (r : Asked) (n : Bool) → length (spelling r n) ≡ length (line (head_of r) n) + 2 + length (data_block r)
+pub length-spelling : (r : Asked) (n : Bool) → length (spelling r n) ≡ length (line (head_of r) n) + 2 + length (data_block r)
 length-spelling r n = omega (arith, length-append (line (head_of r) n ++ crlf) (data_block r), length-append (line (head_of r) n) crlf)
 
 -- without data the spelling is a line

@@ -1,0 +1,290 @@
+-- A text has one first item, which stays when bytes are appended; an unfinished text has none.
+use Rattle.std.proofs.Common.{◌≡◌, ◌≢◌, ℕ, zero, suc, ◌+◌, ◌<◌, ◌≤◌, ◌⊎◌, Bool, true, false, List, [], ◌∷◌, ◌++◌, length, get_or, take, drop, Option, Some, None, refl, sym, ap, subst, ◌∙◌, inl, inr, arith, length-append, length-drop, append_assoc, true≢false}
+use Rattle.std.specs.Prelude.{Contains, IsSomeAnd, codes, bytes_eq, if◌then◌else◌, nat_lt, nat_le, slice_index, slice_index_or, ◌==◌}
+use Rattle.std.specs.List.{list_any, list_all, position_or_len}
+use Rattle.std.proofs.lemmas.Bool.{cases_lt, or_cases, or_left, or_right, le-ltb, lt-ltb, cond-true, cond-false, false_from_ne_true, leb-true}
+use Rattle.std.proofs.lemmas.List.{take_all, take_at, drop_at, get_or-append-add, get_or-take, take-append-le, drop-append-le}
+use Rattle.std.proofs.lemmas.List.Sums.{fails_before_first, AllPass-from_list_all}
+use Rattle.std.proofs.lemmas.List.Splits.{slice_split_none, slice_split_first}
+use Rattle.std.proofs.lemmas.Option.{some_pair_parts}
+use Rattle.std.proofs.lemmas.Slice.Eq.{bytes_eq-Decides}
+use Rattle.ids.specs.declared.line_fault.LineFault.{LineFault}
+use Rattle.ids.specs.declared.line_fault.LineFault.TheVariants.{UnknownName, BadFields, TooLarge, BadChunk, LineTooLong}
+use Rattle.definitions.specs.Bytes.{Bytes}
+use Rattle.definitions.specs.Requests.{Verb, set, add, replace, append, prepend, Asked, Head, store, cas, get, gets, delete, incr, decr, head_of, stored_of, crlf, space, fields, noreply_field, line, data_block, spelling, most_data, most_line, HasForm, MayHave, IsRequest}
+use Rattle.definitions.specs.Items.{names, name_of, StartsWith, HasNoEnd, FirstLine, IsLineOf, Item, asked, quit, bad, IsItemAt, IsUnfinished}
+use Rattle.definitions.proofs.Lines.{parts, parts-line, no_cr, line_has_no_end, length-line, said, says, says-line, line_says, says_nothing, first_lines_same}
+use Rattle.definitions.proofs.RequestTexts.{with_data, with_data-again, spelling_behind, length-spelling}
+
+-- ---- the name of a line
+
+-- the name is the first of the fields
+pub name_first : (l : Bytes) → slice_index_or (parts l) 0 [] ≡ name_of l
+name_first l =
+    elim (cases_lt (position_or_len (λ b. b == space) l) (length l)) [
+      | inl within ↦ ap (λ (t : List Bytes). slice_index_or t 0 []) (slice_split_first (λ b. b == space) l 0 within)
+      | inr past ↦ ap (λ (t : List Bytes). slice_index_or t 0 []) (slice_split_none (λ b. b == space) l (λ k d within. fails_before_first (λ b. b == space) l k d (omega arith))) ∙ sym (take_all _ l past)
+    ]
+
+-- whether the word is one of the twelve names
+abbrev pub is_known : Bytes → Bool
+is_known word = list_any (λ name. bytes_eq name word) names
+
+one_of : (ns : List Bytes) (word : Bytes) → list_any (λ name. bytes_eq name word) ns ≡ true → Contains ns word
+one_of [] word e = absurd cc
+one_of (name ∷ ns) word e =
+    elim (or_cases _ _ e) [
+      | inl same ↦ (0, omega arith, (bytes_eq-Decides name word).0 same)
+      | inr later ↦ let rest = one_of ns word later in (suc rest.0, omega (arith, rest.1), rest.2)
+    ]
+
+found_at : (ns : List Bytes) (word : Bytes) (k : ℕ) → k < length ns → slice_index_or ns k word ≡ word → list_any (λ name. bytes_eq name word) ns ≡ true
+found_at [] word k within e = absurd (omega arith)
+found_at (name ∷ ns) word zero within e = or_left _ _ ((bytes_eq-Decides name word).1 e)
+found_at (name ∷ ns) word (suc k) within e = or_right _ _ (found_at ns word k (omega arith) e)
+
+pub known_is : (word : Bytes) → is_known word ≡ true → Contains names word
+known_is word e = one_of names word e
+
+pub is_known-name : (word : Bytes) → Contains names word → is_known word ≡ true
+is_known-name word c = found_at names word c.0 c.1 c.2
+
+first_known : (head : Head) (noreply : Bool) → is_known (slice_index_or (fields head ++ noreply_field noreply) 0 []) ≡ true
+first_known (store set key flags bytes) noreply = refl
+first_known (store add key flags bytes) noreply = refl
+first_known (store replace key flags bytes) noreply = refl
+first_known (store append key flags bytes) noreply = refl
+first_known (store prepend key flags bytes) noreply = refl
+first_known (cas key flags bytes unique) noreply = refl
+first_known (get keys) noreply = refl
+first_known (gets keys) noreply = refl
+first_known (delete key) noreply = refl
+first_known (incr key value) noreply = refl
+first_known (decr key value) noreply = refl
+
+-- the name of a well-formed line is one of the twelve
+pub line_has_name : (l : Bytes) (head : Head) (noreply : Bool) → IsLineOf l head noreply → Contains names (name_of l)
+line_has_name l head noreply is =
+    let name : slice_index_or (fields head ++ noreply_field noreply) 0 [] ≡ name_of l =
+        sym (ap (λ (t : List Bytes). slice_index_or t 0 []) (ap parts is.2 ∙ parts-line head noreply is.0)) ∙ name_first l in
+    known_is (name_of l) (sym (ap is_known name) ∙ first_known head noreply)
+
+-- ---- what a line and what stands behind it make
+
+-- what a line makes that says a request, by the number of bytes that it announces
+abbrev pub by_data : Asked → Bool → ℕ → Option ℕ → Bytes → Option (Item × ℕ)
+by_data r noreply start None rest = Some (asked r noreply, start)
+by_data r noreply start (Some bytes) rest =
+    if nat_lt most_data bytes then Some (bad TooLarge, 0)
+    else if nat_lt (length rest) (bytes + 2) then None
+    else if bytes_eq (take 2 (drop bytes rest)) crlf then Some (asked r noreply, start + (bytes + 2))
+    else Some (bad BadChunk, 0)
+
+-- what a line makes, by what it says
+abbrev pub by_line : Bytes → Bytes → Option (Head × Bool) → Option (Item × ℕ)
+by_line l rest (Some (head, noreply)) = by_data (with_data head rest) noreply (length l + 2) (stored_of head) rest
+by_line l rest None =
+    if bytes_eq l (codes "quit") then Some (quit, 6)
+    else if is_known (name_of l) then Some (bad BadFields, 0)
+    else Some (bad UnknownName, length l + 2)
+
+-- the text has this first line, and this stands behind it
+abbrev pub HasFirst : Bytes → Bytes → Bytes → Type 0
+HasFirst text l rest = HasNoEnd l × (length l + 2 ≤ most_line) × (text ≡ l ++ crlf ++ rest)
+
+-- a text's first item is what its first line and the rest make, or else the line is too long
+abbrev pub IsMade : Bytes → Item → ℕ → Type 0
+IsMade text x used = ((l : Bytes) × (rest : Bytes) × HasFirst text l rest × (by_line l rest (says l) ≡ Some (x, used)))
+    ⊎ ((x ≡ bad LineTooLong) × (used ≡ 0) × (most_line ≤ length text) × HasNoEnd (take most_line text))
+
+-- ---- every item is made so
+
+some_and : {A : Type 0} (o : Option A) (P : A → Type 0) → IsSomeAnd o P → (x : A) × (o ≡ Some x) × P x
+some_and None P h = absurd h
+some_and (Some x) P h = (x, refl, h)
+
+bytes_differ : (a b : Bytes) → a ≢ b → bytes_eq a b ≡ false
+bytes_differ a b ne = false_from_ne_true _ (λ e. ne ((bytes_eq-Decides a b).0 e))
+
+-- a well-formed line stands first where it stands
+line_first : (text l rest : Bytes) (head : Head) (noreply : Bool) → IsLineOf l head noreply → text ≡ l ++ crlf ++ rest → HasFirst text l rest
+line_first text l rest head noreply is e =
+    (subst HasNoEnd (sym is.2) (line_has_no_end head noreply is.0), subst (λ (t : Bytes). length t + 2 ≤ most_line) (sym is.2) (length-line head noreply is.0 is.1), e)
+
+data_there : (r : Asked) (noreply : Bool) (start : ℕ) (stored more : Bytes) → length stored ≤ most_data
+    → by_data r noreply start (Some (length stored)) (stored ++ crlf ++ more) ≡ Some (asked r noreply, start + (length stored + 2))
+data_there r noreply start stored more few =
+    let behind : drop (length stored) (stored ++ crlf ++ more) ≡ crlf ++ more = ap (drop (length stored)) (append_assoc stored crlf more) ∙ drop_at stored (crlf ++ more) (length stored) refl in
+    let long : length stored + 2 ≤ length (stored ++ crlf ++ more) = omega (arith, length-append (stored ++ crlf) more, length-append stored crlf) in
+    cond-false _ _ _ (le-ltb most_data (length stored) few) ∙ cond-false _ _ _ (le-ltb _ _ long)
+    ∙ cond-true _ _ _ ((bytes_eq-Decides (take 2 (drop (length stored) (stored ++ crlf ++ more))) crlf).1 (ap (take 2) behind))
+
+-- a request's text makes the request
+asked_made : (r : Asked) (n : Bool) (more : Bytes) → IsRequest r n
+    → by_line (line (head_of r) n) (data_block r ++ more) (Some (head_of r, n)) ≡ Some (asked r n, length (spelling r n))
+asked_made (store verb key flags stored) n more is =
+    let r : Asked = store verb key flags stored in
+    let start = length (line (head_of r) n) + 2 in
+    let long : start + (length stored + 2) ≡ length (spelling r n) = omega (arith, length-spelling r n, length-append stored crlf) in
+    ap (λ (s : Asked). by_data s n start (Some (length stored)) (data_block r ++ more)) (with_data-again r more)
+    ∙ data_there r n start stored more is.2 ∙ ap (λ (u : ℕ). Some (asked r n, u)) long
+asked_made (cas key flags stored unique) n more is =
+    let r : Asked = cas key flags stored unique in
+    let start = length (line (head_of r) n) + 2 in
+    let long : start + (length stored + 2) ≡ length (spelling r n) = omega (arith, length-spelling r n, length-append stored crlf) in
+    ap (λ (s : Asked). by_data s n start (Some (length stored)) (data_block r ++ more)) (with_data-again r more)
+    ∙ data_there r n start stored more is.2 ∙ ap (λ (u : ℕ). Some (asked r n, u)) long
+asked_made (get keys) n more is = let long = length-spelling (get keys) n in ap (λ (u : ℕ). Some (asked (get keys) n, u)) (omega (arith, long))
+asked_made (gets keys) n more is = let long = length-spelling (gets keys) n in ap (λ (u : ℕ). Some (asked (gets keys) n, u)) (omega (arith, long))
+asked_made (delete key) n more is = let long = length-spelling (delete key) n in ap (λ (u : ℕ). Some (asked (delete key) n, u)) (omega (arith, long))
+asked_made (incr key value) n more is = let long = length-spelling (incr key value) n in ap (λ (u : ℕ). Some (asked (incr key value) n, u)) (omega (arith, long))
+asked_made (decr key value) n more is = let long = length-spelling (decr key value) n in ap (λ (u : ℕ). Some (asked (decr key value) n, u)) (omega (arith, long))
+
+-- what a line makes, by what it is known to say
+made_by : (l rest : Bytes) (o : Option (Head × Bool)) (y : Option (Item × ℕ)) → says l ≡ o → by_line l rest o ≡ y → by_line l rest (says l) ≡ y
+made_by l rest o y e f = ap (by_line l rest) e ∙ f
+
+-- what is made takes as many bytes
+at_used : (o : Option (Item × ℕ)) (x : Item) (m n : ℕ) → n ≡ m → o ≡ Some (x, m) → o ≡ Some (x, n)
+at_used o x m n e f = cc
+
+quit_says : says (codes "quit") ≡ None
+unfolding says said
+quit_says = refl
+
+-- a plain word has no end in it
+pub word_has_no_end : (text : Bytes) → list_all (λ b. nat_le 32 b) text ≡ true → HasNoEnd text
+word_has_no_end text high i e _ = no_cr text (λ k d within. leb-true _ _ (AllPass-from_list_all (λ b. nat_le 32 b) text high k d within)) i e
+
+unknown_made : (l rest : Bytes) → ¬ (Contains names (name_of l)) → by_line l rest None ≡ Some (bad UnknownName, length l + 2)
+unknown_made l rest unknown =
+    cond-false _ _ _ (bytes_differ l (codes "quit") (λ e. unknown (known_is (name_of l) (ap (λ (t : Bytes). is_known (name_of t)) e))))
+    ∙ cond-false _ _ _ (false_from_ne_true _ (λ e. unknown (known_is (name_of l) e)))
+
+fields_made : (l rest : Bytes) → Contains names (name_of l) → l ≢ codes "quit" → by_line l rest None ≡ Some (bad BadFields, 0)
+fields_made l rest known ne = cond-false _ _ _ (bytes_differ l (codes "quit") ne) ∙ cond-true _ _ _ (is_known-name (name_of l) known)
+
+large_made : (r : Asked) (noreply : Bool) (start : ℕ) (o : Option ℕ) (rest : Bytes) → IsSomeAnd o (λ bytes. most_data < bytes) → by_data r noreply start o rest ≡ Some (bad TooLarge, 0)
+large_made r noreply start None rest h = absurd h
+large_made r noreply start (Some bytes) rest h = cond-true _ _ _ (lt-ltb most_data bytes h)
+
+chunk_made : (r : Asked) (noreply : Bool) (start : ℕ) (o : Option ℕ) (rest : Bytes)
+    → IsSomeAnd o (λ bytes. (bytes ≤ most_data) × (bytes + 2 ≤ length rest) × (take 2 (drop bytes rest) ≢ crlf)) → by_data r noreply start o rest ≡ Some (bad BadChunk, 0)
+chunk_made r noreply start None rest h = absurd h
+chunk_made r noreply start (Some bytes) rest h =
+    cond-false _ _ _ (le-ltb most_data bytes h.0) ∙ cond-false _ _ _ (le-ltb (length rest) (bytes + 2) h.1) ∙ cond-false _ _ _ (bytes_differ _ _ h.2)
+
+short_made : (r : Asked) (noreply : Bool) (start : ℕ) (o : Option ℕ) (rest : Bytes)
+    → IsSomeAnd o (λ bytes. (bytes ≤ most_data) × (length rest < bytes + 2)) → by_data r noreply start o rest ≡ None
+short_made r noreply start None rest h = absurd h
+short_made r noreply start (Some bytes) rest h = cond-false _ _ _ (le-ltb most_data bytes h.0) ∙ cond-true _ _ _ (lt-ltb (length rest) (bytes + 2) h.1)
+
+-- every item of a text is what its first line and the rest make
+pub item_made : (text : Bytes) (x : Item) (used : ℕ) → IsItemAt text x used → IsMade text x used
+item_made text (asked r n) used is =
+    let more = is.1.0 in
+    let l : Bytes = line (head_of r) n in
+    let rest : Bytes = data_block r ++ more in
+    let of : IsLineOf l (head_of r) n = (is.0.0, is.0.1, refl) in
+    inl (l, rest, line_first text l rest (head_of r) n of (is.1.1 ∙ spelling_behind r n more),
+        at_used _ _ _ _ is.2 (made_by l rest _ _ (says-line l (head_of r) n of) (asked_made r n more is.0)))
+item_made text quit used is =
+    inl (codes "quit", is.0.0, (word_has_no_end (codes "quit") refl, omega arith, is.0.1),
+        at_used _ _ _ _ is.1 (made_by (codes "quit") is.0.0 None _ quit_says refl))
+item_made text (bad UnknownName) used is =
+    let l : Bytes = is.0 in
+    let first = is.1 in
+    inl (l, first.2.0, (first.0, first.1, first.2.1),
+        at_used _ _ _ _ is.3 (made_by l first.2.0 None _ (says_nothing l (λ head noreply of. is.2 (line_has_name l head noreply of))) (unknown_made l first.2.0 is.2)))
+item_made text (bad BadFields) used is =
+    let l : Bytes = is.0 in
+    let first = is.1 in
+    inl (l, first.2.0, (first.0, first.1, first.2.1), at_used _ _ _ _ is.5 (made_by l first.2.0 None _ (says_nothing l is.4) (fields_made l first.2.0 is.2 is.3)))
+item_made text (bad TooLarge) used is =
+    let l : Bytes = is.0 in
+    let first = is.1 in
+    inl (l, first.2.0, (first.0, first.1, first.2.1),
+        at_used _ _ _ _ is.6 (made_by l first.2.0 _ _ (says-line l is.2 is.3 is.4) (large_made (with_data is.2 first.2.0) is.3 (length l + 2) (stored_of is.2) first.2.0 is.5)))
+item_made text (bad BadChunk) used is =
+    let l : Bytes = is.0 in
+    let rest : Bytes = is.1 in
+    inl (l, rest, line_first text l rest is.2 is.3 is.4 is.5,
+        at_used _ _ _ _ is.7 (made_by l rest _ _ (says-line l is.2 is.3 is.4) (chunk_made (with_data is.2 rest) is.3 (length l + 2) (stored_of is.2) rest is.6)))
+item_made text (bad LineTooLong) used is = inr (refl, is.2, is.0, is.1)
+
+-- ---- one first item
+
+-- where a text has a first line, an end stands within
+ends_within : (text l rest : Bytes) → HasFirst text l rest → HasNoEnd (take most_line text) → ⊥
+ends_within text l rest first none =
+    let whole : text ≡ l ++ 13 ∷ 10 ∷ rest = first.2 ∙ append_assoc l crlf rest in
+    let short : length l + 2 ≤ most_line = first.1 in
+    let cr : slice_index (take most_line text) (length l + 0) ≡ 13 = get_or-take most_line text (length l + 0) 0 (omega arith) ∙ ap (λ (t : Bytes). get_or t (length l + 0) 0) whole ∙ get_or-append-add l (13 ∷ 10 ∷ rest) 0 0 in
+    let lf : slice_index (take most_line text) (length l + 1) ≡ 10 = get_or-take most_line text (length l + 1) 0 (omega arith) ∙ ap (λ (t : Bytes). get_or t (length l + 1) 0) whole ∙ get_or-append-add l (13 ∷ 10 ∷ rest) 1 0 in
+    let here : length l + 0 + 1 ≡ length l + 1 = omega arith in
+    none (length l + 0) cr (ap (λ (k : ℕ). slice_index (take most_line text) k) here ∙ lf)
+
+-- what a text's first line and the rest make is one
+same_made : (text l m r s : Bytes) → HasFirst text l r → HasFirst text m s → by_line l r (says l) ≡ by_line m s (says m)
+same_made text l m r s a b =
+    let both = first_lines_same l m r s a.0 b.0 (sym a.2 ∙ b.2) in
+    ap (λ (t : Bytes). by_line t r (says t)) both.0 ∙ ap (λ (t : Bytes). by_line m t (says m)) both.1
+
+one_made : (text : Bytes) (x y : Item) (m n : ℕ) → IsMade text x m → IsMade text y n → (x ≡ y) × (m ≡ n)
+one_made text x y m n (inl a) (inl b) = some_pair_parts x y m n (sym a.3 ∙ same_made text a.0 b.0 a.1 b.1 a.2 b.2 ∙ b.3)
+one_made text x y m n (inl a) (inr b) = absurd (ends_within text a.0 a.1 a.2 b.3)
+one_made text x y m n (inr a) (inl b) = absurd (ends_within text b.0 b.1 b.2 a.3)
+one_made text x y m n (inr a) (inr b) = (a.0 ∙ sym b.0, a.1 ∙ sym b.1)
+
+-- a text has one first item
+pub IsItemAt-unique : (text : Bytes) (x y : Item) (m n : ℕ) → IsItemAt text x m → IsItemAt text y n → (x ≡ y) × (m ≡ n)
+IsItemAt-unique text x y m n a b = one_made text x y m n (item_made text x m a) (item_made text y n b)
+
+-- ---- bytes appended
+
+starts_more : (text front more : Bytes) → StartsWith text front → StartsWith (text ++ more) front
+starts_more text front more h = (h.0 ++ more, ap (λ (t : Bytes). t ++ more) h.1 ∙ append_assoc front h.0 more)
+
+first_more : (text l more : Bytes) → FirstLine text l → FirstLine (text ++ more) l
+first_more text l more h = (h.0, h.1, starts_more text (l ++ crlf) more h.2)
+
+chunk_more : (o : Option ℕ) (rest more : Bytes) → IsSomeAnd o (λ bytes. (bytes ≤ most_data) × (bytes + 2 ≤ length rest) × (take 2 (drop bytes rest) ≢ crlf))
+    → IsSomeAnd o (λ bytes. (bytes ≤ most_data) × (bytes + 2 ≤ length (rest ++ more)) × (take 2 (drop bytes (rest ++ more)) ≢ crlf))
+chunk_more None rest more h = h
+chunk_more (Some bytes) rest more h =
+    let long : bytes + 2 ≤ length rest = h.1 in
+    let same : take 2 (drop bytes (rest ++ more)) ≡ take 2 (drop bytes rest) =
+        ap (take 2) (drop-append-le bytes rest more (omega arith)) ∙ take-append-le 2 (drop bytes rest) more (omega (arith, length-drop bytes rest)) in
+    (h.0, omega (arith, length-append rest more), λ e. h.2 (sym same ∙ e))
+
+-- an item stays one when bytes are appended
+pub IsItemAt-append : (text more : Bytes) (x : Item) (used : ℕ) → IsItemAt text x used → IsItemAt (text ++ more) x used
+IsItemAt-append text more (asked r n) used is = (is.0, starts_more text (spelling r n) more is.1, is.2)
+IsItemAt-append text more quit used is = (starts_more text (codes "quit" ++ crlf) more is.0, is.1)
+IsItemAt-append text more (bad UnknownName) used is = (is.0, first_more text is.0 more is.1, is.2, is.3)
+IsItemAt-append text more (bad BadFields) used is = (is.0, first_more text is.0 more is.1, is.2, is.3, is.4, is.5)
+IsItemAt-append text more (bad TooLarge) used is = (is.0, first_more text is.0 more is.1, is.2, is.3, is.4, is.5, is.6)
+IsItemAt-append text more (bad BadChunk) used is =
+    (is.0, is.1 ++ more, is.2, is.3, is.4, ap (λ (t : Bytes). t ++ more) is.5 ∙ append_assoc (is.0 ++ crlf) is.1 more, chunk_more (stored_of is.2) is.1 more is.6, is.7)
+IsItemAt-append text more (bad LineTooLong) used is =
+    let long : most_line ≤ length text = is.0 in
+    (omega (arith, length-append text more), subst HasNoEnd (sym (take-append-le most_line text more long)) is.1, is.2)
+
+-- ---- unfinished texts
+
+unfinished_made : (text : Bytes) (x : Item) (used : ℕ) → IsUnfinished text → IsMade text x used → ⊥
+unfinished_made text x used (inl u) (inl a) =
+    let short : length text < most_line = u.0 in
+    ends_within text a.0 a.1 a.2 (subst HasNoEnd (sym (take_all most_line text (omega arith))) u.1)
+unfinished_made text x used (inl u) (inr a) = omega (arith, u.0, a.2)
+unfinished_made text x used (inr u) (inl a) =
+    let first = line_first text u.0 u.1 u.2 u.3 u.4 u.5 in
+    let nothing = made_by u.0 u.1 _ _ (says-line u.0 u.2 u.3 u.4) (short_made (with_data u.2 u.1) u.3 (length u.0 + 2) (stored_of u.2) u.1 u.6) in
+    let one = same_made text u.0 a.0 u.1 a.1 first a.2 in
+    let made = a.3 in
+    cc
+unfinished_made text x used (inr u) (inr a) = ends_within text u.0 u.1 (line_first text u.0 u.1 u.2 u.3 u.4 u.5) a.3
+
+-- an unfinished text has no item
+pub IsUnfinished-no_item : (text : Bytes) (x : Item) (used : ℕ) → IsUnfinished text → IsItemAt text x used → ⊥
+IsUnfinished-no_item text x used open_yet is = unfinished_made text x used open_yet (item_made text x used is)
