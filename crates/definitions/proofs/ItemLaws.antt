@@ -1,19 +1,18 @@
 -- A text has one first item, which stays when bytes are appended; an unfinished text has none.
-use Rattle.std.proofs.Common.{◌≡◌, ◌≢◌, ℕ, zero, suc, ◌+◌, ◌<◌, ◌≤◌, ◌⊎◌, Bool, true, false, List, [], ◌∷◌, ◌++◌, length, get_or, take, drop, Option, Some, None, refl, sym, ap, subst, ◌∙◌, inl, inr, arith, length-append, length-drop, append_assoc, true≢false}
-use Rattle.std.specs.Prelude.{Contains, IsSomeAnd, codes, bytes_eq, if◌then◌else◌, nat_lt, nat_le, slice_index, slice_index_or, ◌==◌}
+use Rattle.std.proofs.Common.{◌≡◌, ◌≢◌, ℕ, zero, suc, ◌+◌, ◌<◌, ◌≤◌, ◌⊎◌, Bool, true, false, cond, List, [], ◌∷◌, ◌++◌, length, get_or, take, drop, Option, Some, None, refl, sym, ap, subst, ◌∙◌, inl, inr, arith, length-append, length-drop, append_assoc, true≢false}
+use Rattle.std.specs.Prelude.{Contains, IsSomeAnd, IfSome, codes, bytes_eq, if◌then◌else◌, nat_lt, nat_le, slice_index, slice_index_or, ◌==◌}
 use Rattle.std.specs.List.{list_any, list_all, position_or_len}
-use Rattle.std.proofs.lemmas.Bool.{cases_lt, or_cases, or_left, or_right, le-ltb, lt-ltb, cond-true, cond-false, false_from_ne_true, leb-true}
-use Rattle.std.proofs.lemmas.List.{take_all, take_at, drop_at, get_or-append-add, get_or-take, take-append-le, drop-append-le}
+use Rattle.std.proofs.lemmas.Bool.{cases_lt, cases_eq, cases_order, or_cases, or_left, or_right, le-ltb, lt-ltb, cond-true, cond-false, false_from_ne_true, leb-true, ltb-true, ltb-false}
+use Rattle.std.proofs.lemmas.List.{take_all, drop_at, get_or-append-add, get_or-take, get_or_at, get_or_append_left, get_or_past, length-take, take-append-le, take-append-drop, length-take-le, drop-append-le}
 use Rattle.std.proofs.lemmas.List.Sums.{fails_before_first, AllPass-from_list_all}
 use Rattle.std.proofs.lemmas.List.Splits.{slice_split_none, slice_split_first}
 use Rattle.std.proofs.lemmas.Option.{some_pair_parts}
 use Rattle.std.proofs.lemmas.Slice.Eq.{bytes_eq-Decides}
-use Rattle.ids.specs.declared.line_fault.LineFault.{LineFault}
 use Rattle.ids.specs.declared.line_fault.LineFault.TheVariants.{UnknownName, BadFields, TooLarge, BadChunk, LineTooLong}
 use Rattle.definitions.specs.Bytes.{Bytes}
-use Rattle.definitions.specs.Requests.{Verb, set, add, replace, append, prepend, Asked, Head, store, cas, get, gets, delete, incr, decr, head_of, stored_of, crlf, space, fields, noreply_field, line, data_block, spelling, most_data, most_line, HasForm, MayHave, IsRequest}
+use Rattle.definitions.specs.Requests.{set, add, replace, append, prepend, Asked, Head, store, cas, get, gets, delete, incr, decr, head_of, stored_of, crlf, space, fields, noreply_field, line, data_block, spelling, most_data, most_line, IsRequest}
 use Rattle.definitions.specs.Items.{names, name_of, StartsWith, HasNoEnd, FirstLine, IsLineOf, Item, asked, quit, bad, IsItemAt, IsUnfinished}
-use Rattle.definitions.proofs.Lines.{parts, parts-line, no_cr, line_has_no_end, length-line, said, says, says-line, line_says, says_nothing, first_lines_same}
+use Rattle.definitions.proofs.Lines.{parts, parts-line, no_cr, line_has_no_end, length-line, said, says, says-line, line_says, has_no_form, says_nothing, first_lines_same}
 use Rattle.definitions.proofs.RequestTexts.{with_data, with_data-again, spelling_behind, length-spelling}
 
 -- ---- the name of a line
@@ -66,7 +65,7 @@ first_known (decr key value) noreply = refl
 pub line_has_name : (l : Bytes) (head : Head) (noreply : Bool) → IsLineOf l head noreply → Contains names (name_of l)
 line_has_name l head noreply is =
     let name : slice_index_or (fields head ++ noreply_field noreply) 0 [] ≡ name_of l =
-        sym (ap (λ (t : List Bytes). slice_index_or t 0 []) (ap parts is.2 ∙ parts-line head noreply is.0)) ∙ name_first l in
+    sym (ap (λ (t : List Bytes). slice_index_or t 0 []) (ap parts is.2 ∙ parts-line head noreply is.0)) ∙ name_first l in
     known_is (name_of l) (sym (ap is_known name) ∙ first_known head noreply)
 
 -- ---- what a line and what stands behind it make
@@ -186,16 +185,28 @@ item_made text (asked r n) used is =
     let l : Bytes = line (head_of r) n in
     let rest : Bytes = data_block r ++ more in
     let of : IsLineOf l (head_of r) n = (is.0.0, is.0.1, refl) in
-    inl (l, rest, line_first text l rest (head_of r) n of (is.1.1 ∙ spelling_behind r n more),
-        at_used _ _ _ _ is.2 (made_by l rest _ _ (says-line l (head_of r) n of) (asked_made r n more is.0)))
+    inl (
+      l,
+      rest,
+      line_first text l rest (head_of r) n of (is.1.1 ∙ spelling_behind r n more),
+      at_used _ _ _ _ is.2 (made_by l rest _ _ (says-line l (head_of r) n of) (asked_made r n more is.0)),
+    )
 item_made text quit used is =
-    inl (codes "quit", is.0.0, (word_has_no_end (codes "quit") refl, omega arith, is.0.1),
-        at_used _ _ _ _ is.1 (made_by (codes "quit") is.0.0 None _ quit_says refl))
+    inl (
+      codes "quit",
+      is.0.0,
+      (word_has_no_end (codes "quit") refl, omega arith, is.0.1),
+      at_used _ _ _ _ is.1 (made_by (codes "quit") is.0.0 None _ quit_says refl),
+    )
 item_made text (bad UnknownName) used is =
     let l : Bytes = is.0 in
     let first = is.1 in
-    inl (l, first.2.0, (first.0, first.1, first.2.1),
-        at_used _ _ _ _ is.3 (made_by l first.2.0 None _ (says_nothing l (λ head noreply of. is.2 (line_has_name l head noreply of))) (unknown_made l first.2.0 is.2)))
+    inl (
+      l,
+      first.2.0,
+      (first.0, first.1, first.2.1),
+      at_used _ _ _ _ is.3 (made_by l first.2.0 None _ (says_nothing l (λ head noreply of. is.2 (line_has_name l head noreply of))) (unknown_made l first.2.0 is.2)),
+    )
 item_made text (bad BadFields) used is =
     let l : Bytes = is.0 in
     let first = is.1 in
@@ -203,13 +214,21 @@ item_made text (bad BadFields) used is =
 item_made text (bad TooLarge) used is =
     let l : Bytes = is.0 in
     let first = is.1 in
-    inl (l, first.2.0, (first.0, first.1, first.2.1),
-        at_used _ _ _ _ is.6 (made_by l first.2.0 _ _ (says-line l is.2 is.3 is.4) (large_made (with_data is.2 first.2.0) is.3 (length l + 2) (stored_of is.2) first.2.0 is.5)))
+    inl (
+      l,
+      first.2.0,
+      (first.0, first.1, first.2.1),
+      at_used _ _ _ _ is.6 (made_by l first.2.0 _ _ (says-line l is.2 is.3 is.4) (large_made (with_data is.2 first.2.0) is.3 (length l + 2) (stored_of is.2) first.2.0 is.5)),
+    )
 item_made text (bad BadChunk) used is =
     let l : Bytes = is.0 in
     let rest : Bytes = is.1 in
-    inl (l, rest, line_first text l rest is.2 is.3 is.4 is.5,
-        at_used _ _ _ _ is.7 (made_by l rest _ _ (says-line l is.2 is.3 is.4) (chunk_made (with_data is.2 rest) is.3 (length l + 2) (stored_of is.2) rest is.6)))
+    inl (
+      l,
+      rest,
+      line_first text l rest is.2 is.3 is.4 is.5,
+      at_used _ _ _ _ is.7 (made_by l rest _ _ (says-line l is.2 is.3 is.4) (chunk_made (with_data is.2 rest) is.3 (length l + 2) (stored_of is.2) rest is.6)),
+    )
 item_made text (bad LineTooLong) used is = inr (refl, is.2, is.0, is.1)
 
 -- ---- one first item
@@ -254,7 +273,7 @@ chunk_more None rest more h = h
 chunk_more (Some bytes) rest more h =
     let long : bytes + 2 ≤ length rest = h.1 in
     let same : take 2 (drop bytes (rest ++ more)) ≡ take 2 (drop bytes rest) =
-        ap (take 2) (drop-append-le bytes rest more (omega arith)) ∙ take-append-le 2 (drop bytes rest) more (omega (arith, length-drop bytes rest)) in
+    ap (take 2) (drop-append-le bytes rest more (omega arith)) ∙ take-append-le 2 (drop bytes rest) more (omega (arith, length-drop bytes rest)) in
     (h.0, omega (arith, length-append rest more), λ e. h.2 (sym same ∙ e))
 
 -- an item stays one when bytes are appended
@@ -288,3 +307,248 @@ unfinished_made text x used (inr u) (inr a) = ends_within text u.0 u.1 (line_fir
 -- an unfinished text has no item
 pub IsUnfinished-no_item : (text : Bytes) (x : Item) (used : ℕ) → IsUnfinished text → IsItemAt text x used → ⊥
 IsUnfinished-no_item text x used open_yet is = unfinished_made text x used open_yet (item_made text x used is)
+
+-- ---- what is made is an item
+
+-- by a test, which way it went
+by_test : {A P : Type 0} (b : Bool) (x y z : A) → cond b x y ≡ z → (b ≡ true → x ≡ z → P) → (b ≡ false → y ≡ z → P) → P
+by_test true x y z e p q = p refl e
+by_test false x y z e p q = q refl e
+
+-- the same item, with as many bytes
+item_is : (text : Bytes) (a x : Item) (m n : ℕ) → ◌≡◌ {A = Option (Item × ℕ)} (Some (a, m)) (Some (x, n)) → IsItemAt text a m → IsItemAt text x n
+item_is text a x m n e is =
+    let same = some_pair_parts a x m n e in
+    subst (λ (y : Item). IsItemAt text y n) same.0 (subst (λ (k : ℕ). IsItemAt text a k) same.1 is)
+
+-- a line and its data are a request
+asked_item : (text l more : Bytes) (r : Asked) (head : Head) (noreply : Bool) → IsLineOf l head noreply → head_of r ≡ head → IfSome (stored_of r) (λ stored. length stored ≤ most_data)
+    → text ≡ l ++ crlf ++ (data_block r ++ more) → IsItemAt text (asked r noreply) (length l + 2 + length (data_block r))
+asked_item text l more r head noreply is e few whole =
+    let of : IsLineOf l (head_of r) noreply = subst (λ (h : Head). IsLineOf l h noreply) (sym e) is in (
+      (of.0, of.1, few),
+      (more, whole ∙ ap (λ (t : Bytes). t ++ crlf ++ (data_block r ++ more)) of.2 ∙ sym (spelling_behind r noreply more)),
+      omega (arith, ap (λ (t : Bytes). length t) of.2, length-spelling r noreply),
+    )
+
+-- a line that announces data, with the data
+data_of : (head : Head) (bytes : ℕ) (rest : Bytes) → stored_of head ≡ Some bytes → bytes ≤ length rest → bytes ≤ most_data
+    → (head_of (with_data head rest) ≡ head) × (data_block (with_data head rest) ≡ take bytes rest ++ crlf) × IfSome (stored_of (with_data head rest)) (λ stored. length stored ≤ most_data)
+data_of (store verb key flags b) bytes rest e long few =
+    let i : b ≡ bytes = cc in
+    let size = length-take-le b rest (omega arith) in
+    (ap (λ (k : ℕ). store verb key flags k) size, ap (λ (k : ℕ). take k rest ++ crlf) i, omega (arith, size))
+data_of (cas key flags b unique) bytes rest e long few =
+    let i : b ≡ bytes = cc in
+    let size = length-take-le b rest (omega arith) in
+    (ap (λ (k : ℕ). cas key flags k unique) size, ap (λ (k : ℕ). take k rest ++ crlf) i, omega (arith, size))
+data_of (get keys) bytes rest e long few = absurd cc
+data_of (gets keys) bytes rest e long few = absurd cc
+data_of (delete key) bytes rest e long few = absurd cc
+data_of (incr key value) bytes rest e long few = absurd cc
+data_of (decr key value) bytes rest e long few = absurd cc
+
+-- the rest is the data, its end, and more
+rest_parts : (bytes : ℕ) (rest : Bytes) → take 2 (drop bytes rest) ≡ crlf → rest ≡ take bytes rest ++ crlf ++ drop 2 (drop bytes rest)
+rest_parts bytes rest e =
+    sym (take-append-drop bytes rest) ∙ ap (λ (t : Bytes). take bytes rest ++ t) (sym (take-append-drop 2 (drop bytes rest)) ∙ ap (λ (t : Bytes). t ++ drop 2 (drop bytes rest)) e)
+    ∙ sym (append_assoc (take bytes rest) crlf (drop 2 (drop bytes rest)))
+
+at_some : (o : Option ℕ) (bytes : ℕ) (P : ℕ → Type 0) → o ≡ Some bytes → P bytes → IsSomeAnd o P
+at_some o bytes P e p = subst (λ (q : Option ℕ). IsSomeAnd q P) (sym e) p
+
+-- the data is there
+whole_item : (text l rest : Bytes) (head : Head) (noreply : Bool) (bytes : ℕ) → IsLineOf l head noreply → text ≡ l ++ crlf ++ rest → stored_of head ≡ Some bytes
+    → bytes ≤ most_data → bytes + 2 ≤ length rest → take 2 (drop bytes rest) ≡ crlf → IsItemAt text (asked (with_data head rest) noreply) (length l + 2 + (bytes + 2))
+whole_item text l rest head noreply bytes is whole e few long ends =
+    let d = data_of head bytes rest e (omega arith) few in
+    let block : rest ≡ data_block (with_data head rest) ++ drop 2 (drop bytes rest) = rest_parts bytes rest ends ∙ ap (λ (t : Bytes). t ++ drop 2 (drop bytes rest)) (sym d.1) in
+    let size : length l + 2 + length (data_block (with_data head rest)) ≡ length l + 2 + (bytes + 2) =
+    omega (arith, ap (λ (t : Bytes). length t) d.1, length-append (take bytes rest) crlf, length-take-le bytes rest (omega arith)) in
+    subst (λ (k : ℕ). IsItemAt text (asked (with_data head rest) noreply) k) size
+    (asked_item text l (drop 2 (drop bytes rest)) (with_data head rest) head noreply is d.0 d.2 (whole ∙ ap (λ (t : Bytes). l ++ crlf ++ t) block))
+
+stored_item : (text l rest : Bytes) (head : Head) (noreply : Bool) (bytes : ℕ) (x : Item) (used : ℕ) → IsLineOf l head noreply → text ≡ l ++ crlf ++ rest → stored_of head ≡ Some bytes
+    → by_data (with_data head rest) noreply (length l + 2) (Some bytes) rest ≡ Some (x, used) → IsItemAt text x used
+stored_item text l rest head noreply bytes x used is whole e made =
+    let first = line_first text l rest head noreply is whole in
+    by_test _ _ _ _ made
+    (λ large f. item_is text (bad TooLarge) x 0 used f (l, (first.0, first.1, (rest, whole)), head, noreply, is, at_some _ bytes _ e (ltb-true most_data bytes large), refl))
+    (λ few f. by_test _ _ _ _ f (λ short g. absurd cc)
+    (λ long g. by_test _ _ _ _ g
+    (λ ends h. item_is text (asked (with_data head rest) noreply) x (length l + 2 + (bytes + 2)) used h
+    (whole_item text l rest head noreply bytes is whole e (ltb-false most_data bytes few) (ltb-false (length rest) (bytes + 2) long) ((bytes_eq-Decides _ _).0 ends)))
+    (λ differs h. item_is text (bad BadChunk) x 0 used h (
+      l,
+      rest,
+      head,
+      noreply,
+      is,
+      whole,
+      at_some _ bytes _ e (ltb-false most_data bytes few, ltb-false (length rest) (bytes + 2) long, λ same. true≢false (sym ((bytes_eq-Decides _ _).1 same) ∙ differs)),
+      refl,
+    ))))
+
+both_some : {A : Type 0} (b : Bool) (x y : A) → cond b (Some x) (Some y) ≡ None → ⊥
+both_some true x y e = cc
+both_some false x y e = cc
+
+stored_open : (text l rest : Bytes) (head : Head) (noreply : Bool) (bytes : ℕ) → IsLineOf l head noreply → text ≡ l ++ crlf ++ rest → stored_of head ≡ Some bytes
+    → by_data (with_data head rest) noreply (length l + 2) (Some bytes) rest ≡ None → IsUnfinished text
+stored_open text l rest head noreply bytes is whole e made =
+    by_test _ _ _ _ made (λ large f. absurd cc)
+    (λ few f. by_test _ _ _ _ f (λ short g. inr (l, rest, head, noreply, is, whole, at_some _ bytes _ e (ltb-false most_data bytes few, ltb-true (length rest) (bytes + 2) short)))
+    (λ long g. absurd (both_some _ _ _ g)))
+
+-- a line without data is the request itself
+lone_item : (text l rest : Bytes) (r : Asked) (noreply : Bool) (x : Item) (used : ℕ) → IsLineOf l (head_of r) noreply → text ≡ l ++ crlf ++ rest → stored_of r ≡ None → data_block r ≡ []
+    → ◌≡◌ {A = Option (Item × ℕ)} (Some (asked r noreply, length l + 2)) (Some (x, used)) → IsItemAt text x used
+lone_item text l rest r noreply x used is whole none empty made =
+    let block : rest ≡ data_block r ++ rest = ap (λ (t : Bytes). t ++ rest) (sym empty) in
+    let size : length l + 2 + length (data_block r) ≡ length l + 2 = omega (arith, ap (λ (t : Bytes). length t) empty) in
+    let few : IfSome (stored_of r) (λ stored. length stored ≤ most_data) = subst (λ (o : Option Bytes). IfSome o (λ stored. length stored ≤ most_data)) (sym none) tt in
+    item_is text (asked r noreply) x (length l + 2) used made
+    (subst (λ (k : ℕ). IsItemAt text (asked r noreply) k) size (asked_item text l rest r (head_of r) noreply is refl few (whole ∙ ap (λ (t : Bytes). l ++ crlf ++ t) block)))
+
+-- what a well-formed line makes is an item
+line_item : (text l rest : Bytes) (head : Head) (noreply : Bool) (x : Item) (used : ℕ) → IsLineOf l head noreply → text ≡ l ++ crlf ++ rest
+    → by_line l rest (Some (head, noreply)) ≡ Some (x, used) → IsItemAt text x used
+line_item text l rest (store verb key flags bytes) noreply x used is whole made = stored_item text l rest (store verb key flags bytes) noreply bytes x used is whole refl made
+line_item text l rest (cas key flags bytes unique) noreply x used is whole made = stored_item text l rest (cas key flags bytes unique) noreply bytes x used is whole refl made
+line_item text l rest (get keys) noreply x used is whole made = lone_item text l rest (get keys) noreply x used is whole refl refl made
+line_item text l rest (gets keys) noreply x used is whole made = lone_item text l rest (gets keys) noreply x used is whole refl refl made
+line_item text l rest (delete key) noreply x used is whole made = lone_item text l rest (delete key) noreply x used is whole refl refl made
+line_item text l rest (incr key value) noreply x used is whole made = lone_item text l rest (incr key value) noreply x used is whole refl refl made
+line_item text l rest (decr key value) noreply x used is whole made = lone_item text l rest (decr key value) noreply x used is whole refl refl made
+
+line_open : (text l rest : Bytes) (head : Head) (noreply : Bool) → IsLineOf l head noreply → text ≡ l ++ crlf ++ rest → by_line l rest (Some (head, noreply)) ≡ None → IsUnfinished text
+line_open text l rest (store verb key flags bytes) noreply is whole made = stored_open text l rest (store verb key flags bytes) noreply bytes is whole refl made
+line_open text l rest (cas key flags bytes unique) noreply is whole made = stored_open text l rest (cas key flags bytes unique) noreply bytes is whole refl made
+line_open text l rest (get keys) noreply is whole made = absurd cc
+line_open text l rest (gets keys) noreply is whole made = absurd cc
+line_open text l rest (delete key) noreply is whole made = absurd cc
+line_open text l rest (incr key value) noreply is whole made = absurd cc
+line_open text l rest (decr key value) noreply is whole made = absurd cc
+
+-- what another line makes is an item
+other_item : (text l rest : Bytes) (x : Item) (used : ℕ) → HasFirst text l rest → says l ≡ None → by_line l rest None ≡ Some (x, used) → IsItemAt text x used
+other_item text l rest x used first none made =
+    by_test _ _ _ _ made
+    (λ same f.
+    let e : l ≡ codes "quit" = (bytes_eq-Decides _ _).0 same in
+    item_is text quit x 6 used f ((rest, first.2 ∙ ap (λ (t : Bytes). t ++ crlf ++ rest) e), refl))
+    (λ differs f. by_test _ _ _ _ f
+    (λ known g. item_is text (bad BadFields) x 0 used g (l, (first.0, first.1, (rest, first.2)), known_is (name_of l) known, λ e. true≢false (sym ((bytes_eq-Decides _ _).1 e) ∙ differs), has_no_form l none, refl))
+    (λ unknown g. item_is text (bad UnknownName) x (length l + 2) used g (l, (first.0, first.1, (rest, first.2)), λ c. true≢false (sym (is_known-name (name_of l) c) ∙ unknown), refl)))
+
+all_some : {A : Type 0} (a b : Bool) (x y z : A) → cond a (Some x) (cond b (Some y) (Some z)) ≡ None → ⊥
+all_some true b x y z e = cc
+all_some false b x y z e = both_some b y z e
+
+not_open : (l rest : Bytes) → by_line l rest None ≡ None → ⊥
+not_open l rest made = all_some (bytes_eq l (codes "quit")) (is_known (name_of l)) _ _ _ made
+
+-- what a text's first line and the rest make is its item
+pub made_item : (text l rest : Bytes) (x : Item) (used : ℕ) → HasFirst text l rest → by_line l rest (says l) ≡ Some (x, used) → IsItemAt text x used
+made_item text l rest x used first made = go (says l) refl
+  where
+    go : (o : Option (Head × Bool)) → says l ≡ o → IsItemAt text x used
+    go None e = other_item text l rest x used first e (ap (by_line l rest) (sym e) ∙ made)
+    go (Some (head, noreply)) e = line_item text l rest head noreply x used (line_says l head noreply e) first.2 (ap (by_line l rest) (sym e) ∙ made)
+
+-- where they make none, the text is unfinished
+pub made_open : (text l rest : Bytes) → HasFirst text l rest → by_line l rest (says l) ≡ None → IsUnfinished text
+made_open text l rest first made = go (says l) refl
+  where
+    go : (o : Option (Head × Bool)) → says l ≡ o → IsUnfinished text
+    go None e = absurd (not_open l rest (ap (by_line l rest) (sym e) ∙ made))
+    go (Some (head, noreply)) e = line_open text l rest head noreply (line_says l head noreply e) first.2 (ap (by_line l rest) (sym e) ∙ made)
+
+-- ---- every text has an item or is unfinished
+
+no_end_cons : (x : ℕ) (l : Bytes) → HasNoEnd l → (x ≡ 13 → slice_index l 0 ≢ 10) → HasNoEnd (x ∷ l)
+no_end_cons x l none first zero e f = first e f
+no_end_cons x l none first (suc i) e f = let next : suc (i + 1) ≡ suc i + 1 = omega arith in none i e (ap (λ (k : ℕ). slice_index (x ∷ l) k) next ∙ f)
+
+-- an end stands here
+ends_at : (x : ℕ) (t : Bytes) → x ≡ 13 → slice_index t 0 ≡ 10 → x ∷ t ≡ crlf ++ drop 1 t
+ends_at x [] e f = absurd (omega (arith, f))
+ends_at x (y ∷ t) e f = let g : y ≡ 10 = f in cc
+
+same_first : (l rest t : Bytes) → t ≡ l ++ crlf ++ rest → slice_index l 0 ≡ 10 → slice_index t 0 ≡ 10
+same_first [] rest t e f = absurd (omega (arith, f))
+same_first (y ∷ l) rest t e f = ap (λ (s : Bytes). slice_index s 0) e ∙ f
+
+-- a text has a first end or none
+abbrev Cut : Bytes → Type 0
+Cut text = ((l : Bytes) × (rest : Bytes) × HasNoEnd l × (text ≡ l ++ crlf ++ rest)) ⊎ HasNoEnd text
+
+cut_later : (x : ℕ) (t : Bytes) → (x ≡ 13 → slice_index t 0 ≢ 10) → Cut t → Cut (x ∷ t)
+cut_later x t differs (inl c) = inl (x ∷ c.0, c.1, no_end_cons x c.0 c.2 (λ e f. differs e (same_first c.0 c.1 t c.3 f)), ap (λ (s : Bytes). x ∷ s) c.3)
+cut_later x t differs (inr none) = inr (no_end_cons x t none differs)
+
+cut_at : (text : Bytes) → Cut text
+cut_at [] = inr (word_has_no_end [] refl)
+cut_at (x ∷ t) =
+    let later = cut_at t in
+    elim (cases_eq x 13) [
+      | inl e ↦ elim (cases_eq (slice_index t 0) 10) [
+        | inl f ↦ inl ([], drop 1 t, word_has_no_end [] refl, ends_at x t e f)
+        | inr ne ↦ cut_later x t (λ _. ne) later
+      ]
+      | inr ne ↦ cut_later x t (λ e. absurd (ne e)) later
+    ]
+
+-- the front of a text with no end has none
+front_has_none : (n : ℕ) (text : Bytes) → HasNoEnd text → HasNoEnd (take n text)
+front_has_none n text none i e f =
+    elim (cases_lt (i + 1) n) [
+      | inl within ↦ none i (sym (get_or-take n text i 0 (omega arith)) ∙ e) (sym (get_or-take n text (i + 1) 0 within) ∙ f)
+      | inr past ↦ omega (arith, f, get_or_past (take n text) (i + 1) 0 (omega (arith, length-take n text)))
+    ]
+
+-- a CR at the end is no end
+cr_has_none : (l : Bytes) → HasNoEnd l → HasNoEnd (l ++ 13 ∷ [])
+cr_has_none l none i e f =
+    elim (cases_order (i + 1) (length l)) [
+      | inl here ↦ omega (arith, f, get_or_at l 13 [] 0 (i + 1) (sym here))
+      | inr either ↦ elim either [
+        | inl within ↦ none i (sym (get_or_append_left l (13 ∷ []) 0 i (omega arith)) ∙ e) (sym (get_or_append_left l (13 ∷ []) 0 (i + 1) within) ∙ f)
+        | inr past ↦ omega (arith, f, get_or_past (l ++ 13 ∷ []) (i + 1) 0 (omega (arith, length-append l (13 ∷ []))))
+      ]
+    ]
+
+-- an item, or unfinished
+abbrev Read : Bytes → Type 0
+Read text = ((x : Item) × (used : ℕ) × IsItemAt text x used) ⊎ IsUnfinished text
+
+read_first : (text l rest : Bytes) → HasFirst text l rest → Read text
+read_first text l rest first = go (by_line l rest (says l)) refl
+  where
+    go : (o : Option (Item × ℕ)) → by_line l rest (says l) ≡ o → Read text
+    go None e = inr (made_open text l rest first e)
+    go (Some (x, used)) e = inl (x, used, made_item text l rest x used first e)
+
+-- no line ends within the limit
+read_long : (text l rest : Bytes) → HasNoEnd l → text ≡ l ++ crlf ++ rest → most_line ≤ length l + 1 → IsItemAt text (bad LineTooLong) 0
+read_long text l rest none e long =
+    let whole : text ≡ (l ++ 13 ∷ []) ++ 10 ∷ rest = e ∙ append_assoc l crlf rest ∙ sym (append_assoc l (13 ∷ []) (10 ∷ rest)) in
+    let front : take most_line text ≡ take most_line (l ++ 13 ∷ []) = ap (take most_line) whole ∙ take-append-le most_line (l ++ 13 ∷ []) (10 ∷ rest) (omega (arith, length-append l (13 ∷ []))) in
+    let many : most_line ≤ length text = omega (arith, ap (λ (t : Bytes). length t) whole, length-append (l ++ 13 ∷ []) (10 ∷ rest), length-append l (13 ∷ [])) in
+    (many, subst HasNoEnd (sym front) (front_has_none most_line (l ++ 13 ∷ []) (cr_has_none l none)), refl)
+
+read_cut : (text : Bytes) → Cut text → Read text
+read_cut text (inl (l, rest, none, e)) =
+    elim (cases_lt (length l + 1) most_line) [
+      | inl short ↦ read_first text l rest (none, omega arith, e)
+      | inr long ↦ inl (bad LineTooLong, 0, read_long text l rest none e long)
+    ]
+read_cut text (inr none) =
+    elim (cases_lt (length text) most_line) [
+      | inl short ↦ inr (inl (short, none))
+      | inr long ↦ inl (bad LineTooLong, 0, (long, front_has_none most_line text none, refl))
+    ]
+
+-- every text has an item or is unfinished
+pub item_or_unfinished : (text : Bytes) → ((x : Item) × (used : ℕ) × IsItemAt text x used) ⊎ IsUnfinished text
+item_or_unfinished text = read_cut text (cut_at text)

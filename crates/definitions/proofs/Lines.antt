@@ -1,9 +1,9 @@
 -- Request lines: their fields are found again at the spaces, and a line says one thing.
-use Rattle.std.proofs.Common.{◌≡◌, ℕ, suc, ◌+◌, ◌*◌, ◌^◌, ◌<◌, ◌≤◌, Bool, true, false, not, List, [], ◌∷◌, ◌++◌, length, get_or, All, Option, Some, None, refl, sym, ap, subst, ◌∙◌, inl, inr, arith, length-append, append_assoc}
-use Rattle.std.specs.Prelude.{◌==◌, ◌&&◌, IsTrue, nat_lt, nat_le, codes, decimal, bytes_eq, if◌then◌else◌, slice_index, slice_index_or, drop}
+use Rattle.std.proofs.Common.{◌≡◌, ℕ, suc, ◌+◌, ◌*◌, ◌^◌, ◌<◌, ◌≤◌, Bool, true, false, not, List, [], ◌∷◌, ◌++◌, length, All, Option, Some, None, refl, sym, ap, subst, ◌∙◌, inl, inr, arith, length-append, append_assoc}
+use Rattle.std.specs.Prelude.{◌==◌, ◌&&◌, nat_lt, nat_le, codes, decimal, bytes_eq, if◌then◌else◌, slice_index, slice_index_or, drop}
 use Rattle.std.specs.List.{list_all, AllByRecursion, join_with_byte, slice_split}
 use Rattle.std.specs.Str.Parse.{digits_value}
-use Rattle.std.proofs.lemmas.Bool.{and_parts, and_from, leb-true, le-leb, ltb-true, lt-ltb, eqb-false, ne_eqb, not-true, cases_lt, cond-true, cond_both}
+use Rattle.std.proofs.lemmas.Bool.{and_parts, and_from, leb-true, le-leb, ltb-true, lt-ltb, eqb-false, ne_eqb, not-true, cases_lt, cond-true}
 use Rattle.std.proofs.lemmas.List.{append-nil, get_or_past}
 use Rattle.std.proofs.lemmas.List.Sums.{AllPass-from_list_all, list_all-from_AllPass}
 use Rattle.std.proofs.lemmas.List.Elements.{All-nil, All-append, All-cons, All-weaker, All-from_get_or}
@@ -11,9 +11,9 @@ use Rattle.std.proofs.lemmas.List.Splits.{slice_split_none, slice_split_at}
 use Rattle.std.proofs.lemmas.Str.Parse.{digit_at}
 use Rattle.std.proofs.lemmas.Fmt.{decimal_is_IsNumeral, length-decimal-le}
 use Rattle.std.proofs.lemmas.Slice.Eq.{bytes_eq-Decides}
-use Rattle.std.proofs.lemmas.Option.{same_Some, some_pair_parts, cond_some}
+use Rattle.std.proofs.lemmas.Option.{some_pair_parts, cond_some}
 use Rattle.definitions.specs.Bytes.{Bytes}
-use Rattle.definitions.specs.Requests.{Verb, set, add, replace, append, prepend, Head, store, cas, get, gets, delete, incr, decr, takes_noreply, crlf, space, verb_name, fields, noreply_field, line, IsKeyByte, IsKey, AreKeys, most_line, HasForm, MayHave}
+use Rattle.definitions.specs.Requests.{Verb, set, add, replace, append, prepend, Head, store, cas, get, gets, delete, incr, decr, takes_noreply, crlf, space, verb_name, fields, noreply_field, line, IsKey, AreKeys, most_line, HasForm, MayHave}
 use Rattle.definitions.specs.Items.{HasNoEnd, IsLineOf}
 use Rattle.definitions.specs.Canonical.{is_key}
 
@@ -180,17 +180,20 @@ IsLineOf-unique l h k q r a b = some_pair_parts h k q r (sym (said-parts l h q a
 pub key_passes : (key : Bytes) → is_key key ≡ true → IsKey key
 key_passes key e =
     let p = and_parts _ _ e in
-    let q = and_parts _ _ p.0 in
-    (leb-true _ _ q.0, leb-true _ _ q.1, λ i d within.
-        let byte = and_parts _ _ (AllPass-from_list_all (λ b. nat_le 33 b && nat_lt b 256 && not (b == 127)) key p.1 i d within) in
-        let range = and_parts _ _ byte.0 in
-        (leb-true _ _ range.0, ltb-true _ _ range.1, eqb-false _ _ (not-true _ byte.1)))
+    let q = and_parts _ _ p.0 in (
+      leb-true _ _ q.0,
+      leb-true _ _ q.1,
+      λ i d within.
+          let byte = and_parts _ _ (AllPass-from_list_all (λ b. nat_le 33 b && nat_lt b 256 && not (b == 127)) key p.1 i d within) in
+          let range = and_parts _ _ byte.0 in
+          (leb-true _ _ range.0, ltb-true _ _ range.1, eqb-false _ _ (not-true _ byte.1)),
+    )
 
 pub is_key-passes : (key : Bytes) → IsKey key → is_key key ≡ true
 is_key-passes key is =
     and_from _ _ (and_from _ _ (le-leb _ _ is.0) (le-leb _ _ is.1))
     (list_all-from_AllPass (λ b. nat_le 33 b && nat_lt b 256 && not (b == 127)) key
-        (λ i d within. let byte = is.2 i d within in and_from _ _ (and_from _ _ (le-leb _ _ byte.0) (lt-ltb _ _ byte.1)) (ap not (ne_eqb _ 127 byte.2))))
+    (λ i d within. let byte = is.2 i d within in and_from _ _ (and_from _ _ (le-leb _ _ byte.0) (lt-ltb _ _ byte.1)) (ap not (ne_eqb _ 127 byte.2))))
 
 pub keys_pass : (keys : List Bytes) → list_all is_key keys ≡ true → AllByRecursion IsKey keys
 keys_pass [] e = tt
@@ -275,7 +278,7 @@ line_checked l (Some (h, q)) head noreply e =
     let all = and_parts _ _ p.0 in
     let front = and_parts _ _ all.0 in
     subst (λ (k : Head). IsLineOf l k noreply) same.0 (subst (λ (r : Bool). IsLineOf l h r) same.1
-        (form_passes h front.0, may_passes h q front.1, sym ((bytes_eq-Decides _ _).0 all.1)))
+    (form_passes h front.0, may_passes h q front.1, sym ((bytes_eq-Decides _ _).0 all.1)))
 
 -- what a line says has that line
 pub line_says : (l : Bytes) (head : Head) (noreply : Bool) → says l ≡ Some (head, noreply) → IsLineOf l head noreply
@@ -330,11 +333,20 @@ length-noreply_field false = omega arith
 -- a well-formed line with its CR LF fits
 pub length-line : (head : Head) (noreply : Bool) → HasForm head → MayHave head noreply → length (line head noreply) + 2 ≤ most_line
 length-line (store verb key flags bytes) noreply form may =
-    omega (arith, length-verb_name verb, length-noreply_field noreply, length-joined (verb_name verb) (key ∷ decimal flags ∷ codes "0" ∷ decimal bytes ∷ noreply_field noreply)
-        (form.0.1, (short_decimal flags (omega (arith, form.1)), (omega arith, (short_decimal bytes form.2, short_noreply noreply)))))
+    omega (
+      arith,
+      length-verb_name verb,
+      length-noreply_field noreply,
+      length-joined (verb_name verb) (key ∷ decimal flags ∷ codes "0" ∷ decimal bytes ∷ noreply_field noreply)
+          (form.0.1, (short_decimal flags (omega (arith, form.1)), (omega arith, (short_decimal bytes form.2, short_noreply noreply)))),
+    )
 length-line (cas key flags bytes unique) noreply form may =
-    omega (arith, length-noreply_field noreply, length-joined (codes "cas") (key ∷ decimal flags ∷ codes "0" ∷ decimal bytes ∷ decimal unique ∷ noreply_field noreply)
-        (form.0.1, (short_decimal flags (omega (arith, form.1)), (omega arith, (short_decimal bytes form.2, (short_decimal unique form.3, short_noreply noreply))))))
+    omega (
+      arith,
+      length-noreply_field noreply,
+      length-joined (codes "cas") (key ∷ decimal flags ∷ codes "0" ∷ decimal bytes ∷ decimal unique ∷ noreply_field noreply)
+          (form.0.1, (short_decimal flags (omega (arith, form.1)), (omega arith, (short_decimal bytes form.2, (short_decimal unique form.3, short_noreply noreply))))),
+    )
 length-line (get keys) true form may = absurd (let no : false ≡ true = may refl in cc)
 length-line (get keys) false form may = let few : length keys ≤ 16 = form.1 in omega (arith, few, length-append keys [], length-joined (codes "get") (keys ++ []) (short_keys keys form.2))
 length-line (gets keys) true form may = absurd (let no : false ≡ true = may refl in cc)

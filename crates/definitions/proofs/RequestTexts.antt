@@ -1,19 +1,19 @@
 -- The text of a request determines the request, and request_of finds it again.
-use Rattle.std.proofs.Common.{◌≡◌, ℕ, suc, ◌+◌, ◌-◌, ◌^◌, ◌<◌, ◌≤◌, ◌⊎◌, Bool, true, false, cond, List, [], ◌∷◌, ◌++◌, length, take, drop, Option, Some, None, refl, sym, ap, subst, ◌∙◌, inl, inr, arith, length-append, append_assoc, true≢false, find}
-use Rattle.std.specs.Prelude.{◌==◌, ◌&&◌, codes, decimal, bytes_eq, slice_index, slice_index_or, nat_le, nat_lt, IfSome}
-use Rattle.std.specs.List.{list_all, join_with_byte}
+use Rattle.std.proofs.Common.{◌≡◌, ℕ, suc, ◌+◌, ◌-◌, ◌^◌, ◌<◌, ◌≤◌, Bool, true, false, cond, List, [], ◌∷◌, ◌++◌, length, take, drop, Option, Some, refl, sym, ap, subst, ◌∙◌, inl, inr, arith, length-append, append_assoc, true≢false, find}
+use Rattle.std.specs.Prelude.{◌==◌, ◌&&◌, codes, decimal, bytes_eq, slice_index, slice_index_or, IfSome}
+use Rattle.std.specs.List.{join_with_byte}
 use Rattle.std.specs.Str.Parse.{digits_value}
-use Rattle.std.proofs.lemmas.Bool.{and_parts, and_from, and_left, and_right, leb-true, le-leb, ltb-true, lt-ltb, ne_eqb, cases_eq, cond-true, cond-false}
-use Rattle.std.proofs.lemmas.List.{append-nil, take_at, drop_at, append_cancel_left}
+use Rattle.std.proofs.lemmas.Bool.{and_parts, and_from, and_left, and_right, leb-true, le-leb, ltb-true, lt-ltb, ne_eqb, cases_eq, cond-false}
+use Rattle.std.proofs.lemmas.List.{append-nil, take_at, drop_at}
 use Rattle.std.proofs.lemmas.Option.{same_Some}
 use Rattle.std.proofs.lemmas.Slice.Eq.{bytes_eq-Decides}
 use Rattle.std.proofs.lemmas.Fmt.{length-decimal-le}
 use Rattle.definitions.specs.Bytes.{Bytes}
 use Rattle.definitions.specs.Lists.{Among}
-use Rattle.definitions.specs.Requests.{Verb, set, add, replace, append, prepend, Asked, Head, store, cas, get, gets, delete, incr, decr, head_of, stored_of, crlf, space, verb_name, fields, noreply_field, line, data_block, spelling, canonical, IsKey, most_data, most_line, HasForm, MayHave, IsRequest}
+use Rattle.definitions.specs.Requests.{Verb, set, add, replace, append, prepend, Asked, Head, store, cas, get, gets, delete, incr, decr, head_of, stored_of, crlf, space, verb_name, fields, line, data_block, spelling, canonical, IsKey, most_data, HasForm, IsRequest}
 use Rattle.definitions.specs.Items.{HasNoEnd, IsLineOf}
-use Rattle.definitions.specs.Canonical.{first_line, guesses, is_key, is_request, request_of}
-use Rattle.definitions.proofs.Lines.{parts, value, key_passes, is_key-passes, keys_pass, are_keys-pass, line_has_no_end, first_lines_same, IsLineOf-unique, may_have, may_passes, form_passes, is_form-passes, parts-line, rest_has_none, length-line, length-verb_name}
+use Rattle.definitions.specs.Canonical.{first_line, guesses, is_request, request_of}
+use Rattle.definitions.proofs.Lines.{parts, value, key_passes, is_key-passes, line_has_no_end, first_lines_same, IsLineOf-unique, may_have, may_passes, form_passes, is_form-passes, parts-line, rest_has_none, length-line, length-verb_name}
 
 -- ---- a request by its line and its data
 
@@ -52,10 +52,10 @@ spelling_line r n is = (is.0, is.1, refl)
 pub spelling_one : (r s : Asked) (n m : Bool) (x y : Bytes) → IsRequest r n → IsRequest s m → spelling r n ++ x ≡ spelling s m ++ y → (r ≡ s) × (n ≡ m)
 spelling_one r s n m x y a b e =
     let both = first_lines_same (line (head_of r) n) (line (head_of s) m) (data_block r ++ x) (data_block s ++ y)
-        (line_has_no_end (head_of r) n a.0) (line_has_no_end (head_of s) m b.0) (sym (spelling_behind r n x) ∙ e ∙ spelling_behind s m y) in
+    (line_has_no_end (head_of r) n a.0) (line_has_no_end (head_of s) m b.0) (sym (spelling_behind r n x) ∙ e ∙ spelling_behind s m y) in
     let one = IsLineOf-unique (line (head_of r) n) (head_of r) (head_of s) n m (spelling_line r n a) (b.0, b.1, both.0) in
     let whole : with_data (head_of r) (data_block r ++ x) ≡ with_data (head_of s) (data_block s ++ y) =
-        ap (λ (h : Head). with_data h (data_block r ++ x)) one.0 ∙ ap (with_data (head_of s)) both.1 in
+    ap (λ (h : Head). with_data h (data_block r ++ x)) one.0 ∙ ap (with_data (head_of s)) both.1 in
     (sym (with_data-again r x) ∙ whole ∙ with_data-again s y, one.1)
 
 -- the spelling determines the request and whether noreply stands there
@@ -191,8 +191,8 @@ among_guesses r is =
     let front : first_line (canonical r) ≡ line (head_of r) false = first_line-line (line (head_of r) false) (data_block r) (line_has_no_end (head_of r) false is.0) in
     let fs : parts (first_line (canonical r)) ≡ fields (head_of r) ++ [] = ap parts front ∙ parts-line (head_of r) false is.0 in
     let same : guesses (canonical r) ≡ guessed (fields (head_of r) ++ []) (data_in (canonical r) (line (head_of r) false)) =
-        ap (λ (t : List Bytes). guessed t (data_in (canonical r) (first_line (canonical r)))) fs
-        ∙ ap (λ (t : Bytes). guessed (fields (head_of r) ++ []) (data_in (canonical r) t)) front in
+    ap (λ (t : List Bytes). guessed t (data_in (canonical r) (first_line (canonical r)))) fs
+    ∙ ap (λ (t : Bytes). guessed (fields (head_of r) ++ []) (data_in (canonical r) t)) front in
     subst (λ (t : List Asked). Among r t) (sym same) (among_guessed r _ is (stored_found r))
 
 -- ---- request_of
@@ -212,8 +212,8 @@ pub request_of-canonical : (r : Asked) → IsRequest r false → request_of (can
 unfolding request_of
 request_of-canonical r is =
     find_one (λ s. is_request s && bytes_eq (canonical s) (canonical r)) (guesses (canonical r)) r (passes r is)
-        (λ s t. let p = and_parts _ _ t in canonical-injective s r (request_passes s false p.0 refl) is ((bytes_eq-Decides _ _).0 p.1))
-        (among_guesses r is)
+    (λ s t. let p = and_parts _ _ t in canonical-injective s r (request_passes s false p.0 refl) is ((bytes_eq-Decides _ _).0 p.1))
+    (among_guesses r is)
 
 -- ---- how long a canonical text is
 
