@@ -508,7 +508,7 @@ front_has_none n text none i e f =
     ]
 
 -- a CR at the end is no end
-cr_has_none : (l : Bytes) → HasNoEnd l → HasNoEnd (l ++ 13 ∷ [])
+pub cr_has_none : (l : Bytes) → HasNoEnd l → HasNoEnd (l ++ 13 ∷ [])
 cr_has_none l none i e f =
     elim (cases_order (i + 1) (length l)) [
       | inl here ↦ omega (arith, f, get_or_at l 13 [] 0 (i + 1) (sym here))
