@@ -12,7 +12,7 @@ use Rattle.ids.specs.declared.line_fault.LineFault.TheVariants.{UnknownName, Bad
 use Rattle.definitions.specs.Bytes.{Bytes}
 use Rattle.definitions.specs.Requests.{set, add, replace, append, prepend, Asked, Head, store, cas, get, gets, delete, incr, decr, head_of, stored_of, crlf, space, fields, noreply_field, line, data_block, spelling, most_data, most_line, IsRequest}
 use Rattle.definitions.specs.Items.{names, name_of, StartsWith, HasNoEnd, FirstLine, IsLineOf, Item, asked, quit, bad, IsItemAt, IsUnfinished}
-use Rattle.definitions.proofs.Lines.{parts, parts-line, no_cr, line_has_no_end, length-line, said, says, says-line, line_says, has_no_form, says_nothing, first_lines_same}
+use Rattle.definitions.proofs.Lines.{parts, parts-line, no_cr, line_has_no_end, length-line, head_in, head_at, head_at-line, line_has_head, has_no_form, head_at-none, first_lines_same}
 use Rattle.definitions.proofs.RequestTexts.{with_data, with_data-again, spelling_behind, length-spelling}
 
 -- ---- the name of a line
@@ -29,6 +29,7 @@ name_first l =
 abbrev pub is_known : Bytes → Bool
 is_known word = list_any (λ name. bytes_eq name word) names
 
+-- a word that passes is among the names
 one_of : (ns : List Bytes) (word : Bytes) → list_any (λ name. bytes_eq name word) ns ≡ true → Contains ns word
 one_of [] word e = absurd cc
 one_of (name ∷ ns) word e =
@@ -37,17 +38,21 @@ one_of (name ∷ ns) word e =
       | inr later ↦ let rest = one_of ns word later in (suc rest.0, omega (arith, rest.1), rest.2)
     ]
 
+-- a word among the names passes
 found_at : (ns : List Bytes) (word : Bytes) (k : ℕ) → k < length ns → slice_index_or ns k word ≡ word → list_any (λ name. bytes_eq name word) ns ≡ true
 found_at [] word k within e = absurd (omega arith)
 found_at (name ∷ ns) word zero within e = or_left _ _ ((bytes_eq-Decides name word).1 e)
 found_at (name ∷ ns) word (suc k) within e = or_right _ _ (found_at ns word k (omega arith) e)
 
+-- a known word is a name
 pub known_is : (word : Bytes) → is_known word ≡ true → Contains names word
 known_is word e = one_of names word e
 
+-- a name is known
 pub is_known-name : (word : Bytes) → Contains names word → is_known word ≡ true
 is_known-name word c = found_at names word c.0 c.1 c.2
 
+-- the first field of a line is a name
 first_known : (head : Head) (noreply : Bool) → is_known (slice_index_or (fields head ++ noreply_field noreply) 0 []) ≡ true
 first_known (store set key flags bytes) noreply = refl
 first_known (store add key flags bytes) noreply = refl
@@ -71,18 +76,18 @@ line_has_name l head noreply is =
 -- ---- what a line and what stands behind it make
 
 -- what a line makes that says a request, by the number of bytes that it announces
-abbrev pub by_data : Asked → Bool → ℕ → Option ℕ → Bytes → Option (Item × ℕ)
-by_data r noreply start None rest = Some (asked r noreply, start)
-by_data r noreply start (Some bytes) rest =
+abbrev pub item_by_data : Asked → Bool → ℕ → Option ℕ → Bytes → Option (Item × ℕ)
+item_by_data r noreply start None rest = Some (asked r noreply, start)
+item_by_data r noreply start (Some bytes) rest =
     if nat_lt most_data bytes then Some (bad TooLarge, 0)
     else if nat_lt (length rest) (bytes + 2) then None
     else if bytes_eq (take 2 (drop bytes rest)) crlf then Some (asked r noreply, start + (bytes + 2))
     else Some (bad BadChunk, 0)
 
 -- what a line makes, by what it says
-abbrev pub by_line : Bytes → Bytes → Option (Head × Bool) → Option (Item × ℕ)
-by_line l rest (Some (head, noreply)) = by_data (with_data head rest) noreply (length l + 2) (stored_of head) rest
-by_line l rest None =
+abbrev pub item_by_line : Bytes → Bytes → Option (Head × Bool) → Option (Item × ℕ)
+item_by_line l rest (Some (head, noreply)) = item_by_data (with_data head rest) noreply (length l + 2) (stored_of head) rest
+item_by_line l rest None =
     if bytes_eq l (codes "quit") then Some (quit, 6)
     else if is_known (name_of l) then Some (bad BadFields, 0)
     else Some (bad UnknownName, length l + 2)
@@ -93,15 +98,17 @@ HasFirst text l rest = HasNoEnd l × (length l + 2 ≤ most_line) × (text ≡ l
 
 -- a text's first item is what its first line and the rest make, or else the line is too long
 abbrev pub IsMade : Bytes → Item → ℕ → Type 0
-IsMade text x used = ((l : Bytes) × (rest : Bytes) × HasFirst text l rest × (by_line l rest (says l) ≡ Some (x, used)))
+IsMade text x used = ((l : Bytes) × (rest : Bytes) × HasFirst text l rest × (item_by_line l rest (head_at l) ≡ Some (x, used)))
     ⊎ ((x ≡ bad LineTooLong) × (used ≡ 0) × (most_line ≤ length text) × HasNoEnd (take most_line text))
 
 -- ---- every item is made so
 
+-- what a value is of which something holds
 some_and : {A : Type 0} (o : Option A) (P : A → Type 0) → IsSomeAnd o P → (x : A) × (o ≡ Some x) × P x
 some_and None P h = absurd h
 some_and (Some x) P h = (x, refl, h)
 
+-- different texts fail the test
 bytes_differ : (a b : Bytes) → a ≢ b → bytes_eq a b ≡ false
 bytes_differ a b ne = false_from_ne_true _ (λ e. ne ((bytes_eq-Decides a b).0 e))
 
@@ -110,8 +117,9 @@ line_first : (text l rest : Bytes) (head : Head) (noreply : Bool) → IsLineOf l
 line_first text l rest head noreply is e =
     (subst HasNoEnd (sym is.2) (line_has_no_end head noreply is.0), subst (λ (t : Bytes). length t + 2 ≤ most_line) (sym is.2) (length-line head noreply is.0 is.1), e)
 
+-- data with its end makes the request
 data_there : (r : Asked) (noreply : Bool) (start : ℕ) (stored more : Bytes) → length stored ≤ most_data
-    → by_data r noreply start (Some (length stored)) (stored ++ crlf ++ more) ≡ Some (asked r noreply, start + (length stored + 2))
+    → item_by_data r noreply start (Some (length stored)) (stored ++ crlf ++ more) ≡ Some (asked r noreply, start + (length stored + 2))
 data_there r noreply start stored more few =
     let behind : drop (length stored) (stored ++ crlf ++ more) ≡ crlf ++ more = ap (drop (length stored)) (append_assoc stored crlf more) ∙ drop_at stored (crlf ++ more) (length stored) refl in
     let long : length stored + 2 ≤ length (stored ++ crlf ++ more) = omega (arith, length-append (stored ++ crlf) more, length-append stored crlf) in
@@ -120,18 +128,18 @@ data_there r noreply start stored more few =
 
 -- a request's text makes the request
 asked_made : (r : Asked) (n : Bool) (more : Bytes) → IsRequest r n
-    → by_line (line (head_of r) n) (data_block r ++ more) (Some (head_of r, n)) ≡ Some (asked r n, length (spelling r n))
+    → item_by_line (line (head_of r) n) (data_block r ++ more) (Some (head_of r, n)) ≡ Some (asked r n, length (spelling r n))
 asked_made (store verb key flags stored) n more is =
     let r : Asked = store verb key flags stored in
     let start = length (line (head_of r) n) + 2 in
     let long : start + (length stored + 2) ≡ length (spelling r n) = omega (arith, length-spelling r n, length-append stored crlf) in
-    ap (λ (s : Asked). by_data s n start (Some (length stored)) (data_block r ++ more)) (with_data-again r more)
+    ap (λ (s : Asked). item_by_data s n start (Some (length stored)) (data_block r ++ more)) (with_data-again r more)
     ∙ data_there r n start stored more is.2 ∙ ap (λ (u : ℕ). Some (asked r n, u)) long
 asked_made (cas key flags stored unique) n more is =
     let r : Asked = cas key flags stored unique in
     let start = length (line (head_of r) n) + 2 in
     let long : start + (length stored + 2) ≡ length (spelling r n) = omega (arith, length-spelling r n, length-append stored crlf) in
-    ap (λ (s : Asked). by_data s n start (Some (length stored)) (data_block r ++ more)) (with_data-again r more)
+    ap (λ (s : Asked). item_by_data s n start (Some (length stored)) (data_block r ++ more)) (with_data-again r more)
     ∙ data_there r n start stored more is.2 ∙ ap (λ (u : ℕ). Some (asked r n, u)) long
 asked_made (get keys) n more is = let long = length-spelling (get keys) n in ap (λ (u : ℕ). Some (asked (get keys) n, u)) (omega (arith, long))
 asked_made (gets keys) n more is = let long = length-spelling (gets keys) n in ap (λ (u : ℕ). Some (asked (gets keys) n, u)) (omega (arith, long))
@@ -140,41 +148,47 @@ asked_made (incr key value) n more is = let long = length-spelling (incr key val
 asked_made (decr key value) n more is = let long = length-spelling (decr key value) n in ap (λ (u : ℕ). Some (asked (decr key value) n, u)) (omega (arith, long))
 
 -- what a line makes, by what it is known to say
-made_by : (l rest : Bytes) (o : Option (Head × Bool)) (y : Option (Item × ℕ)) → says l ≡ o → by_line l rest o ≡ y → by_line l rest (says l) ≡ y
-made_by l rest o y e f = ap (by_line l rest) e ∙ f
+made_by : (l rest : Bytes) (o : Option (Head × Bool)) (y : Option (Item × ℕ)) → head_at l ≡ o → item_by_line l rest o ≡ y → item_by_line l rest (head_at l) ≡ y
+made_by l rest o y e f = ap (item_by_line l rest) e ∙ f
 
 -- what is made takes as many bytes
 at_used : (o : Option (Item × ℕ)) (x : Item) (m n : ℕ) → n ≡ m → o ≡ Some (x, m) → o ≡ Some (x, n)
 at_used o x m n e f = cc
 
-quit_says : says (codes "quit") ≡ None
-unfolding says said
-quit_says = refl
+-- the line quit says no request
+head_at-quit : head_at (codes "quit") ≡ None
+unfolding head_at head_in
+head_at-quit = refl
 
 -- a plain word has no end in it
 pub word_has_no_end : (text : Bytes) → list_all (λ b. nat_le 32 b) text ≡ true → HasNoEnd text
 word_has_no_end text high i e _ = no_cr text (λ k d within. leb-true _ _ (AllPass-from_list_all (λ b. nat_le 32 b) text high k d within)) i e
 
-unknown_made : (l rest : Bytes) → ¬ (Contains names (name_of l)) → by_line l rest None ≡ Some (bad UnknownName, length l + 2)
+-- a line with an unknown name makes that fault
+unknown_made : (l rest : Bytes) → ¬ (Contains names (name_of l)) → item_by_line l rest None ≡ Some (bad UnknownName, length l + 2)
 unknown_made l rest unknown =
     cond-false _ _ _ (bytes_differ l (codes "quit") (λ e. unknown (known_is (name_of l) (ap (λ (t : Bytes). is_known (name_of t)) e))))
     ∙ cond-false _ _ _ (false_from_ne_true _ (λ e. unknown (known_is (name_of l) e)))
 
-fields_made : (l rest : Bytes) → Contains names (name_of l) → l ≢ codes "quit" → by_line l rest None ≡ Some (bad BadFields, 0)
+-- another line makes the fault of bad fields
+fields_made : (l rest : Bytes) → Contains names (name_of l) → l ≢ codes "quit" → item_by_line l rest None ≡ Some (bad BadFields, 0)
 fields_made l rest known ne = cond-false _ _ _ (bytes_differ l (codes "quit") ne) ∙ cond-true _ _ _ (is_known-name (name_of l) known)
 
-large_made : (r : Asked) (noreply : Bool) (start : ℕ) (o : Option ℕ) (rest : Bytes) → IsSomeAnd o (λ bytes. most_data < bytes) → by_data r noreply start o rest ≡ Some (bad TooLarge, 0)
+-- too much data makes that fault
+large_made : (r : Asked) (noreply : Bool) (start : ℕ) (o : Option ℕ) (rest : Bytes) → IsSomeAnd o (λ bytes. most_data < bytes) → item_by_data r noreply start o rest ≡ Some (bad TooLarge, 0)
 large_made r noreply start None rest h = absurd h
 large_made r noreply start (Some bytes) rest h = cond-true _ _ _ (lt-ltb most_data bytes h)
 
+-- data without its end makes that fault
 chunk_made : (r : Asked) (noreply : Bool) (start : ℕ) (o : Option ℕ) (rest : Bytes)
-    → IsSomeAnd o (λ bytes. (bytes ≤ most_data) × (bytes + 2 ≤ length rest) × (take 2 (drop bytes rest) ≢ crlf)) → by_data r noreply start o rest ≡ Some (bad BadChunk, 0)
+    → IsSomeAnd o (λ bytes. (bytes ≤ most_data) × (bytes + 2 ≤ length rest) × (take 2 (drop bytes rest) ≢ crlf)) → item_by_data r noreply start o rest ≡ Some (bad BadChunk, 0)
 chunk_made r noreply start None rest h = absurd h
 chunk_made r noreply start (Some bytes) rest h =
     cond-false _ _ _ (le-ltb most_data bytes h.0) ∙ cond-false _ _ _ (le-ltb (length rest) (bytes + 2) h.1) ∙ cond-false _ _ _ (bytes_differ _ _ h.2)
 
+-- data that is cut makes nothing yet
 short_made : (r : Asked) (noreply : Bool) (start : ℕ) (o : Option ℕ) (rest : Bytes)
-    → IsSomeAnd o (λ bytes. (bytes ≤ most_data) × (length rest < bytes + 2)) → by_data r noreply start o rest ≡ None
+    → IsSomeAnd o (λ bytes. (bytes ≤ most_data) × (length rest < bytes + 2)) → item_by_data r noreply start o rest ≡ None
 short_made r noreply start None rest h = absurd h
 short_made r noreply start (Some bytes) rest h = cond-false _ _ _ (le-ltb most_data bytes h.0) ∙ cond-true _ _ _ (lt-ltb (length rest) (bytes + 2) h.1)
 
@@ -189,14 +203,14 @@ item_made text (asked r n) used is =
       l,
       rest,
       line_first text l rest (head_of r) n of (is.1.1 ∙ spelling_behind r n more),
-      at_used _ _ _ _ is.2 (made_by l rest _ _ (says-line l (head_of r) n of) (asked_made r n more is.0)),
+      at_used _ _ _ _ is.2 (made_by l rest _ _ (head_at-line l (head_of r) n of) (asked_made r n more is.0)),
     )
 item_made text quit used is =
     inl (
       codes "quit",
       is.0.0,
       (word_has_no_end (codes "quit") refl, omega arith, is.0.1),
-      at_used _ _ _ _ is.1 (made_by (codes "quit") is.0.0 None _ quit_says refl),
+      at_used _ _ _ _ is.1 (made_by (codes "quit") is.0.0 None _ head_at-quit refl),
     )
 item_made text (bad UnknownName) used is =
     let l : Bytes = is.0 in
@@ -205,12 +219,12 @@ item_made text (bad UnknownName) used is =
       l,
       first.2.0,
       (first.0, first.1, first.2.1),
-      at_used _ _ _ _ is.3 (made_by l first.2.0 None _ (says_nothing l (λ head noreply of. is.2 (line_has_name l head noreply of))) (unknown_made l first.2.0 is.2)),
+      at_used _ _ _ _ is.3 (made_by l first.2.0 None _ (head_at-none l (λ head noreply of. is.2 (line_has_name l head noreply of))) (unknown_made l first.2.0 is.2)),
     )
 item_made text (bad BadFields) used is =
     let l : Bytes = is.0 in
     let first = is.1 in
-    inl (l, first.2.0, (first.0, first.1, first.2.1), at_used _ _ _ _ is.5 (made_by l first.2.0 None _ (says_nothing l is.4) (fields_made l first.2.0 is.2 is.3)))
+    inl (l, first.2.0, (first.0, first.1, first.2.1), at_used _ _ _ _ is.5 (made_by l first.2.0 None _ (head_at-none l is.4) (fields_made l first.2.0 is.2 is.3)))
 item_made text (bad TooLarge) used is =
     let l : Bytes = is.0 in
     let first = is.1 in
@@ -218,7 +232,7 @@ item_made text (bad TooLarge) used is =
       l,
       first.2.0,
       (first.0, first.1, first.2.1),
-      at_used _ _ _ _ is.6 (made_by l first.2.0 _ _ (says-line l is.2 is.3 is.4) (large_made (with_data is.2 first.2.0) is.3 (length l + 2) (stored_of is.2) first.2.0 is.5)),
+      at_used _ _ _ _ is.6 (made_by l first.2.0 _ _ (head_at-line l is.2 is.3 is.4) (large_made (with_data is.2 first.2.0) is.3 (length l + 2) (stored_of is.2) first.2.0 is.5)),
     )
 item_made text (bad BadChunk) used is =
     let l : Bytes = is.0 in
@@ -227,7 +241,7 @@ item_made text (bad BadChunk) used is =
       l,
       rest,
       line_first text l rest is.2 is.3 is.4 is.5,
-      at_used _ _ _ _ is.7 (made_by l rest _ _ (says-line l is.2 is.3 is.4) (chunk_made (with_data is.2 rest) is.3 (length l + 2) (stored_of is.2) rest is.6)),
+      at_used _ _ _ _ is.7 (made_by l rest _ _ (head_at-line l is.2 is.3 is.4) (chunk_made (with_data is.2 rest) is.3 (length l + 2) (stored_of is.2) rest is.6)),
     )
 item_made text (bad LineTooLong) used is = inr (refl, is.2, is.0, is.1)
 
@@ -244,11 +258,12 @@ ends_within text l rest first none =
     none (length l + 0) cr (ap (λ (k : ℕ). slice_index (take most_line text) k) here ∙ lf)
 
 -- what a text's first line and the rest make is one
-same_made : (text l m r s : Bytes) → HasFirst text l r → HasFirst text m s → by_line l r (says l) ≡ by_line m s (says m)
+same_made : (text l m r s : Bytes) → HasFirst text l r → HasFirst text m s → item_by_line l r (head_at l) ≡ item_by_line m s (head_at m)
 same_made text l m r s a b =
     let both = first_lines_same l m r s a.0 b.0 (sym a.2 ∙ b.2) in
-    ap (λ (t : Bytes). by_line t r (says t)) both.0 ∙ ap (λ (t : Bytes). by_line m t (says m)) both.1
+    ap (λ (t : Bytes). item_by_line t r (head_at t)) both.0 ∙ ap (λ (t : Bytes). item_by_line m t (head_at m)) both.1
 
+-- what is made of a text is one
 one_made : (text : Bytes) (x y : Item) (m n : ℕ) → IsMade text x m → IsMade text y n → (x ≡ y) × (m ≡ n)
 one_made text x y m n (inl a) (inl b) = some_pair_parts x y m n (sym a.3 ∙ same_made text a.0 b.0 a.1 b.1 a.2 b.2 ∙ b.3)
 one_made text x y m n (inl a) (inr b) = absurd (ends_within text a.0 a.1 a.2 b.3)
@@ -261,12 +276,15 @@ IsItemAt-unique text x y m n a b = one_made text x y m n (item_made text x m a) 
 
 -- ---- bytes appended
 
+-- a longer text begins with the same
 starts_more : (text front more : Bytes) → StartsWith text front → StartsWith (text ++ more) front
 starts_more text front more h = (h.0 ++ more, ap (λ (t : Bytes). t ++ more) h.1 ∙ append_assoc front h.0 more)
 
+-- a longer text has the same first line
 first_more : (text l more : Bytes) → FirstLine text l → FirstLine (text ++ more) l
 first_more text l more h = (h.0, h.1, starts_more text (l ++ crlf) more h.2)
 
+-- data without its end stays so
 chunk_more : (o : Option ℕ) (rest more : Bytes) → IsSomeAnd o (λ bytes. (bytes ≤ most_data) × (bytes + 2 ≤ length rest) × (take 2 (drop bytes rest) ≢ crlf))
     → IsSomeAnd o (λ bytes. (bytes ≤ most_data) × (bytes + 2 ≤ length (rest ++ more)) × (take 2 (drop bytes (rest ++ more)) ≢ crlf))
 chunk_more None rest more h = h
@@ -291,6 +309,7 @@ IsItemAt-append text more (bad LineTooLong) used is =
 
 -- ---- unfinished texts
 
+-- nothing is made of an unfinished text
 unfinished_made : (text : Bytes) (x : Item) (used : ℕ) → IsUnfinished text → IsMade text x used → ⊥
 unfinished_made text x used (inl u) (inl a) =
     let short : length text < most_line = u.0 in
@@ -298,7 +317,7 @@ unfinished_made text x used (inl u) (inl a) =
 unfinished_made text x used (inl u) (inr a) = omega (arith, u.0, a.2)
 unfinished_made text x used (inr u) (inl a) =
     let first = line_first text u.0 u.1 u.2 u.3 u.4 u.5 in
-    let nothing = made_by u.0 u.1 _ _ (says-line u.0 u.2 u.3 u.4) (short_made (with_data u.2 u.1) u.3 (length u.0 + 2) (stored_of u.2) u.1 u.6) in
+    let nothing = made_by u.0 u.1 _ _ (head_at-line u.0 u.2 u.3 u.4) (short_made (with_data u.2 u.1) u.3 (length u.0 + 2) (stored_of u.2) u.1 u.6) in
     let one = same_made text u.0 a.0 u.1 a.1 first a.2 in
     let made = a.3 in
     cc
@@ -354,6 +373,7 @@ rest_parts bytes rest e =
     sym (take-append-drop bytes rest) ∙ ap (λ (t : Bytes). take bytes rest ++ t) (sym (take-append-drop 2 (drop bytes rest)) ∙ ap (λ (t : Bytes). t ++ drop 2 (drop bytes rest)) e)
     ∙ sym (append_assoc (take bytes rest) crlf (drop 2 (drop bytes rest)))
 
+-- what holds of a value holds of it in an option
 at_some : (o : Option ℕ) (bytes : ℕ) (P : ℕ → Type 0) → o ≡ Some bytes → P bytes → IsSomeAnd o P
 at_some o bytes P e p = subst (λ (q : Option ℕ). IsSomeAnd q P) (sym e) p
 
@@ -368,8 +388,9 @@ whole_item text l rest head noreply bytes is whole e few long ends =
     subst (λ (k : ℕ). IsItemAt text (asked (with_data head rest) noreply) k) size
     (asked_item text l (drop 2 (drop bytes rest)) (with_data head rest) head noreply is d.0 d.2 (whole ∙ ap (λ (t : Bytes). l ++ crlf ++ t) block))
 
+-- what a line makes that announces data is an item
 stored_item : (text l rest : Bytes) (head : Head) (noreply : Bool) (bytes : ℕ) (x : Item) (used : ℕ) → IsLineOf l head noreply → text ≡ l ++ crlf ++ rest → stored_of head ≡ Some bytes
-    → by_data (with_data head rest) noreply (length l + 2) (Some bytes) rest ≡ Some (x, used) → IsItemAt text x used
+    → item_by_data (with_data head rest) noreply (length l + 2) (Some bytes) rest ≡ Some (x, used) → IsItemAt text x used
 stored_item text l rest head noreply bytes x used is whole e made =
     let first = line_first text l rest head noreply is whole in
     by_test _ _ _ _ made
@@ -389,12 +410,14 @@ stored_item text l rest head noreply bytes x used is whole e made =
       refl,
     ))))
 
+-- neither branch is none
 both_some : {A : Type 0} (b : Bool) (x y : A) → cond b (Some x) (Some y) ≡ None → ⊥
 both_some true x y e = cc
 both_some false x y e = cc
 
+-- where it makes nothing, the data is cut
 stored_open : (text l rest : Bytes) (head : Head) (noreply : Bool) (bytes : ℕ) → IsLineOf l head noreply → text ≡ l ++ crlf ++ rest → stored_of head ≡ Some bytes
-    → by_data (with_data head rest) noreply (length l + 2) (Some bytes) rest ≡ None → IsUnfinished text
+    → item_by_data (with_data head rest) noreply (length l + 2) (Some bytes) rest ≡ None → IsUnfinished text
 stored_open text l rest head noreply bytes is whole e made =
     by_test _ _ _ _ made (λ large f. absurd cc)
     (λ few f. by_test _ _ _ _ f (λ short g. inr (l, rest, head, noreply, is, whole, at_some _ bytes _ e (ltb-false most_data bytes few, ltb-true (length rest) (bytes + 2) short)))
@@ -412,7 +435,7 @@ lone_item text l rest r noreply x used is whole none empty made =
 
 -- what a well-formed line makes is an item
 line_item : (text l rest : Bytes) (head : Head) (noreply : Bool) (x : Item) (used : ℕ) → IsLineOf l head noreply → text ≡ l ++ crlf ++ rest
-    → by_line l rest (Some (head, noreply)) ≡ Some (x, used) → IsItemAt text x used
+    → item_by_line l rest (Some (head, noreply)) ≡ Some (x, used) → IsItemAt text x used
 line_item text l rest (store verb key flags bytes) noreply x used is whole made = stored_item text l rest (store verb key flags bytes) noreply bytes x used is whole refl made
 line_item text l rest (cas key flags bytes unique) noreply x used is whole made = stored_item text l rest (cas key flags bytes unique) noreply bytes x used is whole refl made
 line_item text l rest (get keys) noreply x used is whole made = lone_item text l rest (get keys) noreply x used is whole refl refl made
@@ -421,7 +444,8 @@ line_item text l rest (delete key) noreply x used is whole made = lone_item text
 line_item text l rest (incr key value) noreply x used is whole made = lone_item text l rest (incr key value) noreply x used is whole refl refl made
 line_item text l rest (decr key value) noreply x used is whole made = lone_item text l rest (decr key value) noreply x used is whole refl refl made
 
-line_open : (text l rest : Bytes) (head : Head) (noreply : Bool) → IsLineOf l head noreply → text ≡ l ++ crlf ++ rest → by_line l rest (Some (head, noreply)) ≡ None → IsUnfinished text
+-- where a well-formed line makes nothing, the text is unfinished
+line_open : (text l rest : Bytes) (head : Head) (noreply : Bool) → IsLineOf l head noreply → text ≡ l ++ crlf ++ rest → item_by_line l rest (Some (head, noreply)) ≡ None → IsUnfinished text
 line_open text l rest (store verb key flags bytes) noreply is whole made = stored_open text l rest (store verb key flags bytes) noreply bytes is whole refl made
 line_open text l rest (cas key flags bytes unique) noreply is whole made = stored_open text l rest (cas key flags bytes unique) noreply bytes is whole refl made
 line_open text l rest (get keys) noreply is whole made = absurd cc
@@ -431,7 +455,7 @@ line_open text l rest (incr key value) noreply is whole made = absurd cc
 line_open text l rest (decr key value) noreply is whole made = absurd cc
 
 -- what another line makes is an item
-other_item : (text l rest : Bytes) (x : Item) (used : ℕ) → HasFirst text l rest → says l ≡ None → by_line l rest None ≡ Some (x, used) → IsItemAt text x used
+other_item : (text l rest : Bytes) (x : Item) (used : ℕ) → HasFirst text l rest → head_at l ≡ None → item_by_line l rest None ≡ Some (x, used) → IsItemAt text x used
 other_item text l rest x used first none made =
     by_test _ _ _ _ made
     (λ same f.
@@ -441,31 +465,34 @@ other_item text l rest x used first none made =
     (λ known g. item_is text (bad BadFields) x 0 used g (l, (first.0, first.1, (rest, first.2)), known_is (name_of l) known, λ e. true≢false (sym ((bytes_eq-Decides _ _).1 e) ∙ differs), has_no_form l none, refl))
     (λ unknown g. item_is text (bad UnknownName) x (length l + 2) used g (l, (first.0, first.1, (rest, first.2)), λ c. true≢false (sym (is_known-name (name_of l) c) ∙ unknown), refl)))
 
+-- no branch is none
 all_some : {A : Type 0} (a b : Bool) (x y z : A) → cond a (Some x) (cond b (Some y) (Some z)) ≡ None → ⊥
 all_some true b x y z e = cc
 all_some false b x y z e = both_some b y z e
 
-not_open : (l rest : Bytes) → by_line l rest None ≡ None → ⊥
+-- a line without a form makes something
+not_open : (l rest : Bytes) → item_by_line l rest None ≡ None → ⊥
 not_open l rest made = all_some (bytes_eq l (codes "quit")) (is_known (name_of l)) _ _ _ made
 
 -- what a text's first line and the rest make is its item
-pub made_item : (text l rest : Bytes) (x : Item) (used : ℕ) → HasFirst text l rest → by_line l rest (says l) ≡ Some (x, used) → IsItemAt text x used
-made_item text l rest x used first made = go (says l) refl
+pub made_item : (text l rest : Bytes) (x : Item) (used : ℕ) → HasFirst text l rest → item_by_line l rest (head_at l) ≡ Some (x, used) → IsItemAt text x used
+made_item text l rest x used first made = go (head_at l) refl
   where
-    go : (o : Option (Head × Bool)) → says l ≡ o → IsItemAt text x used
-    go None e = other_item text l rest x used first e (ap (by_line l rest) (sym e) ∙ made)
-    go (Some (head, noreply)) e = line_item text l rest head noreply x used (line_says l head noreply e) first.2 (ap (by_line l rest) (sym e) ∙ made)
+    go : (o : Option (Head × Bool)) → head_at l ≡ o → IsItemAt text x used
+    go None e = other_item text l rest x used first e (ap (item_by_line l rest) (sym e) ∙ made)
+    go (Some (head, noreply)) e = line_item text l rest head noreply x used (line_has_head l head noreply e) first.2 (ap (item_by_line l rest) (sym e) ∙ made)
 
 -- where they make none, the text is unfinished
-pub made_open : (text l rest : Bytes) → HasFirst text l rest → by_line l rest (says l) ≡ None → IsUnfinished text
-made_open text l rest first made = go (says l) refl
+pub made_open : (text l rest : Bytes) → HasFirst text l rest → item_by_line l rest (head_at l) ≡ None → IsUnfinished text
+made_open text l rest first made = go (head_at l) refl
   where
-    go : (o : Option (Head × Bool)) → says l ≡ o → IsUnfinished text
-    go None e = absurd (not_open l rest (ap (by_line l rest) (sym e) ∙ made))
-    go (Some (head, noreply)) e = line_open text l rest head noreply (line_says l head noreply e) first.2 (ap (by_line l rest) (sym e) ∙ made)
+    go : (o : Option (Head × Bool)) → head_at l ≡ o → IsUnfinished text
+    go None e = absurd (not_open l rest (ap (item_by_line l rest) (sym e) ∙ made))
+    go (Some (head, noreply)) e = line_open text l rest head noreply (line_has_head l head noreply e) first.2 (ap (item_by_line l rest) (sym e) ∙ made)
 
 -- ---- every text has an item or is unfinished
 
+-- one more byte in front makes no end where it is no CR before LF
 no_end_cons : (x : ℕ) (l : Bytes) → HasNoEnd l → (x ≡ 13 → slice_index l 0 ≢ 10) → HasNoEnd (x ∷ l)
 no_end_cons x l none first zero e f = first e f
 no_end_cons x l none first (suc i) e f = let next : suc (i + 1) ≡ suc i + 1 = omega arith in none i e (ap (λ (k : ℕ). slice_index (x ∷ l) k) next ∙ f)
@@ -475,6 +502,7 @@ ends_at : (x : ℕ) (t : Bytes) → x ≡ 13 → slice_index t 0 ≡ 10 → x �
 ends_at x [] e f = absurd (omega (arith, f))
 ends_at x (y ∷ t) e f = let g : y ≡ 10 = f in cc
 
+-- a line and its text have one first byte
 same_first : (l rest t : Bytes) → t ≡ l ++ crlf ++ rest → slice_index l 0 ≡ 10 → slice_index t 0 ≡ 10
 same_first [] rest t e f = absurd (omega (arith, f))
 same_first (y ∷ l) rest t e f = ap (λ (s : Bytes). slice_index s 0) e ∙ f
@@ -483,10 +511,12 @@ same_first (y ∷ l) rest t e f = ap (λ (s : Bytes). slice_index s 0) e ∙ f
 abbrev Cut : Bytes → Type 0
 Cut text = ((l : Bytes) × (rest : Bytes) × HasNoEnd l × (text ≡ l ++ crlf ++ rest)) ⊎ HasNoEnd text
 
+-- an end behind the first byte
 cut_later : (x : ℕ) (t : Bytes) → (x ≡ 13 → slice_index t 0 ≢ 10) → Cut t → Cut (x ∷ t)
 cut_later x t differs (inl c) = inl (x ∷ c.0, c.1, no_end_cons x c.0 c.2 (λ e f. differs e (same_first c.0 c.1 t c.3 f)), ap (λ (s : Bytes). x ∷ s) c.3)
 cut_later x t differs (inr none) = inr (no_end_cons x t none differs)
 
+-- where the first end is
 cut_at : (text : Bytes) → Cut text
 cut_at [] = inr (word_has_no_end [] refl)
 cut_at (x ∷ t) =
@@ -522,10 +552,11 @@ cr_has_none l none i e f =
 abbrev Read : Bytes → Type 0
 Read text = ((x : Item) × (used : ℕ) × IsItemAt text x used) ⊎ IsUnfinished text
 
+-- a text with a first line
 read_first : (text l rest : Bytes) → HasFirst text l rest → Read text
-read_first text l rest first = go (by_line l rest (says l)) refl
+read_first text l rest first = go (item_by_line l rest (head_at l)) refl
   where
-    go : (o : Option (Item × ℕ)) → by_line l rest (says l) ≡ o → Read text
+    go : (o : Option (Item × ℕ)) → item_by_line l rest (head_at l) ≡ o → Read text
     go None e = inr (made_open text l rest first e)
     go (Some (x, used)) e = inl (x, used, made_item text l rest x used first e)
 
@@ -537,6 +568,7 @@ read_long text l rest none e long =
     let many : most_line ≤ length text = omega (arith, ap (λ (t : Bytes). length t) whole, length-append (l ++ 13 ∷ []) (10 ∷ rest), length-append l (13 ∷ [])) in
     (many, subst HasNoEnd (sym front) (front_has_none most_line (l ++ 13 ∷ []) (cr_has_none l none)), refl)
 
+-- a text by its first end
 read_cut : (text : Bytes) → Cut text → Read text
 read_cut text (inl (l, rest, none, e)) =
     elim (cases_lt (length l + 1) most_line) [

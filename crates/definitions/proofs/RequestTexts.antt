@@ -13,7 +13,7 @@ use Rattle.definitions.specs.Lists.{Among}
 use Rattle.definitions.specs.Requests.{Verb, set, add, replace, append, prepend, Asked, Head, store, cas, get, gets, delete, incr, decr, head_of, stored_of, crlf, space, verb_name, fields, line, data_block, spelling, canonical, IsKey, most_data, HasForm, IsRequest}
 use Rattle.definitions.specs.Items.{HasNoEnd, IsLineOf}
 use Rattle.definitions.specs.Canonical.{first_line, guesses, is_request, request_of}
-use Rattle.definitions.proofs.Lines.{parts, value, key_passes, is_key-passes, line_has_no_end, first_lines_same, IsLineOf-unique, may_have, may_passes, form_passes, is_form-passes, parts-line, rest_has_none, length-line, length-verb_name}
+use Rattle.definitions.proofs.Lines.{parts, digits_value-decimal, key_passes, is_key-passes, line_has_no_end, first_lines_same, IsLineOf-unique, may_have, may_passes, form_passes, is_form-passes, parts-line, rest_has_none, length-line, length-verb_name}
 
 -- ---- a request by its line and its data
 
@@ -27,6 +27,7 @@ with_data (delete key) rest = delete key
 with_data (incr key value) rest = incr key value
 with_data (decr key value) rest = decr key value
 
+-- the data stands before its end
 data_again : (stored more : Bytes) → take (length stored) (stored ++ crlf ++ more) ≡ stored
 data_again stored more = ap (take (length stored)) (append_assoc stored crlf more) ∙ take_at stored (crlf ++ more) (length stored) refl
 
@@ -91,6 +92,7 @@ request_form (decr key value) e = (form_passes (decr key value) e, tt)
 pub request_passes : (r : Asked) (n : Bool) → is_request r ≡ true → may_have (head_of r) n ≡ true → IsRequest r n
 request_passes r n e may = let form = request_form r e in (form.0, may_passes (head_of r) n may, form.1)
 
+-- a request passes
 pub is_request-passes : (r : Asked) (n : Bool) → IsRequest r n → is_request r ≡ true
 is_request-passes (store verb key flags stored) n is = and_from _ _ (and_from _ _ (is_key-passes key is.0.0) (lt-ltb _ _ is.0.1)) (le-leb _ _ is.2)
 is_request-passes (cas key flags stored unique) n is = and_from _ _ (and_from _ _ (and_from _ _ (is_key-passes key is.0.0) (lt-ltb _ _ is.0.1)) (le-leb _ _ is.2)) (lt-ltb _ _ is.0.3)
@@ -102,6 +104,7 @@ is_request-passes (decr key value) n is = is_form-passes (decr key value) is.0
 
 -- ---- the first one that passes
 
+-- one step of the search
 find_passes_step : {A : Type 0} (p : A → Bool) (x y : A) (o : Option A) → (o ≡ Some y → p y ≡ true) → (b : Bool) → p x ≡ b → cond b (Some x) o ≡ Some y → p y ≡ true
 find_passes_step {A} p x y o rest true h e = subst (λ (z : A). p z ≡ true) (same_Some x y e) h
 find_passes_step p x y o rest false h e = rest e
@@ -111,6 +114,7 @@ find_passes : {A : Type 0} (p : A → Bool) (xs : List A) (y : A) → find p xs 
 find_passes p [] y e = absurd cc
 find_passes p (x ∷ xs) y e = find_passes_step p x y (find p xs) (find_passes p xs y) (p x) refl e
 
+-- one step of the search, by how the test goes
 find_one_step : {A : Type 0} (p : A → Bool) (x y : A) (xs : List A) → p y ≡ true → ((z : A) → p z ≡ true → z ≡ y) → (Among y xs → find p xs ≡ Some y) → (b : Bool) → p x ≡ b → Among y (x ∷ xs) → cond b (Some x) (find p xs) ≡ Some y
 find_one_step p x y xs t one rest true h m = let same = one x h in cc
 find_one_step p x y xs t one rest false h (inl e) = absurd (true≢false (sym t ∙ (ap p e ∙ h)))
@@ -123,6 +127,7 @@ find_one p (x ∷ xs) y t one m = find_one_step p x y xs t one (find_one p xs y 
 
 -- ---- the guesses have the request among them
 
+-- the first byte of a longer line is not its end
 ends_here : (x : ℕ) (l r : Bytes) → HasNoEnd (x ∷ l) → ((x == 13) && (slice_index (l ++ 13 ∷ 10 ∷ r) 0 == 10)) ≡ false
 ends_here x [] r none = and_right (x == 13) (13 == 10) refl
 ends_here x (y ∷ l) r none =
@@ -131,6 +136,7 @@ ends_here x (y ∷ l) r none =
       | inr ne ↦ and_left (x == 13) (y == 10) (ne_eqb x 13 ne)
     ]
 
+-- the same, with CR LF written out
 first_line_found : (l r : Bytes) → HasNoEnd l → first_line (l ++ 13 ∷ 10 ∷ r) ≡ l
 first_line_found [] r none = refl
 first_line_found (x ∷ l) r none = cond-false _ _ _ (ends_here x l r none) ∙ ap (λ (t : Bytes). x ∷ t) (first_line_found l r (rest_has_none x l none))
@@ -140,8 +146,8 @@ pub first_line-line : (l r : Bytes) → HasNoEnd l → first_line (l ++ crlf ++ 
 first_line-line l r none = ap first_line (append_assoc l crlf r) ∙ first_line_found l r none
 
 -- the eleven guesses by the fields and the data
-abbrev guessed : List Bytes → Bytes → List Asked
-guessed fs stored =
+abbrev guesses_from : List Bytes → Bytes → List Asked
+guesses_from fs stored =
     let field = λ (i : ℕ). slice_index_or fs i [] in
     let number = λ (i : ℕ). digits_value 10 (field i) in
     store set (field 1) (number 2) stored ∷ store add (field 1) (number 2) stored ∷ store replace (field 1) (number 2) stored
@@ -152,31 +158,31 @@ guessed fs stored =
 abbrev data_in : Bytes → Bytes → Bytes
 data_in payload front = take (length payload - length front - 4) (drop (length front + 2) payload)
 
-guesses_by : (payload : Bytes) → guesses payload ≡ guessed (parts (first_line payload)) (data_in payload (first_line payload))
-guesses_by payload = refl
-
+-- the data is found behind the line
 data_found : (l stored : Bytes) → data_in (l ++ crlf ++ (stored ++ crlf)) l ≡ stored
 data_found l stored =
     let front : drop (length l + 2) (l ++ crlf ++ (stored ++ crlf)) ≡ stored ++ crlf = drop_at (l ++ crlf) (stored ++ crlf) (length l + 2) (length-append l crlf) in
     let long : length (l ++ crlf ++ (stored ++ crlf)) - length l - 4 ≡ length stored = omega (arith, length-append (l ++ crlf) (stored ++ crlf), length-append l crlf, length-append stored crlf) in
     rw (front, long) (take_at stored crlf (length stored) refl)
 
-among_guessed : (r : Asked) (d : Bytes) → IsRequest r false → IfSome (stored_of r) (λ stored. d ≡ stored) → Among r (guessed (fields (head_of r) ++ []) d)
-among_guessed (store set key flags stored) d is e = let n = value flags (omega (arith, is.0.1)) in inl cc
-among_guessed (store add key flags stored) d is e = let n = value flags (omega (arith, is.0.1)) in inr (inl cc)
-among_guessed (store replace key flags stored) d is e = let n = value flags (omega (arith, is.0.1)) in inr (inr (inl cc))
-among_guessed (store append key flags stored) d is e = let n = value flags (omega (arith, is.0.1)) in inr (inr (inr (inl cc)))
-among_guessed (store prepend key flags stored) d is e = let n = value flags (omega (arith, is.0.1)) in inr (inr (inr (inr (inl cc))))
+-- a request is among the guesses that its fields and data make
+among_guessed : (r : Asked) (d : Bytes) → IsRequest r false → IfSome (stored_of r) (λ stored. d ≡ stored) → Among r (guesses_from (fields (head_of r) ++ []) d)
+among_guessed (store set key flags stored) d is e = let n = digits_value-decimal flags (omega (arith, is.0.1)) in inl cc
+among_guessed (store add key flags stored) d is e = let n = digits_value-decimal flags (omega (arith, is.0.1)) in inr (inl cc)
+among_guessed (store replace key flags stored) d is e = let n = digits_value-decimal flags (omega (arith, is.0.1)) in inr (inr (inl cc))
+among_guessed (store append key flags stored) d is e = let n = digits_value-decimal flags (omega (arith, is.0.1)) in inr (inr (inr (inl cc)))
+among_guessed (store prepend key flags stored) d is e = let n = digits_value-decimal flags (omega (arith, is.0.1)) in inr (inr (inr (inr (inl cc))))
 among_guessed (cas key flags stored unique) d is e =
-    let n = value flags (omega (arith, is.0.1)) in
-    let u = value unique is.0.3 in
+    let n = digits_value-decimal flags (omega (arith, is.0.1)) in
+    let u = digits_value-decimal unique is.0.3 in
     inr (inr (inr (inr (inr (inl cc)))))
 among_guessed (get keys) d is e = inr (inr (inr (inr (inr (inr (inl (ap (λ (k : List Bytes). get k) (sym (append-nil keys)))))))))
 among_guessed (gets keys) d is e = inr (inr (inr (inr (inr (inr (inr (inl (ap (λ (k : List Bytes). gets k) (sym (append-nil keys))))))))))
 among_guessed (delete key) d is e = inr (inr (inr (inr (inr (inr (inr (inr (inl refl))))))))
-among_guessed (incr key n) d is e = let v = value n is.0.1 in inr (inr (inr (inr (inr (inr (inr (inr (inr (inl cc)))))))))
-among_guessed (decr key n) d is e = let v = value n is.0.1 in inr (inr (inr (inr (inr (inr (inr (inr (inr (inr (inl cc))))))))))
+among_guessed (incr key n) d is e = let v = digits_value-decimal n is.0.1 in inr (inr (inr (inr (inr (inr (inr (inr (inr (inl cc)))))))))
+among_guessed (decr key n) d is e = let v = digits_value-decimal n is.0.1 in inr (inr (inr (inr (inr (inr (inr (inr (inr (inr (inl cc))))))))))
 
+-- the data of a request is found in its text
 stored_found : (r : Asked) → IfSome (stored_of r) (λ stored. data_in (canonical r) (line (head_of r) false) ≡ stored)
 stored_found (store verb key flags stored) = data_found (line (store verb key flags (length stored)) false) stored
 stored_found (cas key flags stored unique) = data_found (line (cas key flags (length stored) unique) false) stored
@@ -186,17 +192,19 @@ stored_found (delete key) = tt
 stored_found (incr key value) = tt
 stored_found (decr key value) = tt
 
+-- a request is among the guesses of its text
 among_guesses : (r : Asked) → IsRequest r false → Among r (guesses (canonical r))
 among_guesses r is =
     let front : first_line (canonical r) ≡ line (head_of r) false = first_line-line (line (head_of r) false) (data_block r) (line_has_no_end (head_of r) false is.0) in
     let fs : parts (first_line (canonical r)) ≡ fields (head_of r) ++ [] = ap parts front ∙ parts-line (head_of r) false is.0 in
-    let same : guesses (canonical r) ≡ guessed (fields (head_of r) ++ []) (data_in (canonical r) (line (head_of r) false)) =
-    ap (λ (t : List Bytes). guessed t (data_in (canonical r) (first_line (canonical r)))) fs
-    ∙ ap (λ (t : Bytes). guessed (fields (head_of r) ++ []) (data_in (canonical r) t)) front in
+    let same : guesses (canonical r) ≡ guesses_from (fields (head_of r) ++ []) (data_in (canonical r) (line (head_of r) false)) =
+    ap (λ (t : List Bytes). guesses_from t (data_in (canonical r) (first_line (canonical r)))) fs
+    ∙ ap (λ (t : Bytes). guesses_from (fields (head_of r) ++ []) (data_in (canonical r) t)) front in
     subst (λ (t : List Asked). Among r t) (sym same) (among_guessed r _ is (stored_found r))
 
 -- ---- request_of
 
+-- a request passes the test of its own text
 passes : (r : Asked) → IsRequest r false → (is_request r && bytes_eq (canonical r) (canonical r)) ≡ true
 passes r is = and_from _ _ (is_request-passes r false is) ((bytes_eq-Decides (canonical r) (canonical r)).1 refl)
 
@@ -218,14 +226,15 @@ request_of-canonical r is =
 -- ---- how long a canonical text is
 
 -- the bytes of fields, each with a space
-spaced : List Bytes → ℕ
-spaced [] = 0
-spaced (field ∷ more) = suc (length field + spaced more)
+spaced_length : List Bytes → ℕ
+spaced_length [] = 0
+spaced_length (field ∷ more) = suc (length field + spaced_length more)
 
-length_spaced : (field : Bytes) (more : List Bytes) → length (join_with_byte space (field ∷ more)) + 1 ≡ spaced (field ∷ more)
-unfolding spaced
-length_spaced field [] = omega arith
-length_spaced field (next ∷ more) = omega (arith, length_spaced next more, length-append field (space ∷ join_with_byte space (next ∷ more)))
+-- joined fields have one space less
+length-spaced : (field : Bytes) (more : List Bytes) → length (join_with_byte space (field ∷ more)) + 1 ≡ spaced_length (field ∷ more)
+unfolding spaced_length
+length-spaced field [] = omega arith
+length-spaced field (next ∷ more) = omega (arith, length-spaced next more, length-append field (space ∷ join_with_byte space (next ∷ more)))
 
 -- a spelling is its line, two bytes, and the data
 pub length-spelling : (r : Asked) (n : Bool) → length (spelling r n) ≡ length (line (head_of r) n) + 2 + length (data_block r)
@@ -235,19 +244,21 @@ length-spelling r n = omega (arith, length-append (line (head_of r) n ++ crlf) (
 short_line : (r : Asked) → IsRequest r false → length (data_block r) ≡ 0 → length (canonical r) ≤ 4393
 short_line r is none = let fits = length-line (head_of r) false is.0 is.1 in omega (arith, length-spelling r false, none, fits)
 
+-- the line of a store has at most 276 bytes
 length_store : (verb : Verb) (key : Bytes) (flags bytes : ℕ) → IsKey key → flags < 2 ^ 32 → bytes ≤ most_data → length (line (store verb key flags bytes) false) ≤ 276
-unfolding spaced
+unfolding spaced_length
 length_store verb key flags bytes is small few =
-    let whole = length_spaced (verb_name verb) (key ∷ decimal flags ∷ codes "0" ∷ decimal bytes ∷ []) in
+    let whole = length-spaced (verb_name verb) (key ∷ decimal flags ∷ codes "0" ∷ decimal bytes ∷ []) in
     let name = length-verb_name verb in
     let ten = length-decimal-le 10 flags (omega arith) (omega arith) (omega arith) in
     let four = length-decimal-le 4 bytes (omega arith) (omega arith) (omega arith) in
     omega (arith, whole, name, ten, four, is.1)
 
+-- the line of a cas has at most 293 bytes
 length_cas : (key : Bytes) (flags bytes unique : ℕ) → IsKey key → flags < 2 ^ 32 → bytes ≤ most_data → unique < 2 ^ 64 → length (line (cas key flags bytes unique) false) ≤ 293
-unfolding spaced
+unfolding spaced_length
 length_cas key flags bytes unique is small few low =
-    let whole = length_spaced (codes "cas") (key ∷ decimal flags ∷ codes "0" ∷ decimal bytes ∷ decimal unique ∷ []) in
+    let whole = length-spaced (codes "cas") (key ∷ decimal flags ∷ codes "0" ∷ decimal bytes ∷ decimal unique ∷ []) in
     let ten = length-decimal-le 10 flags (omega arith) (omega arith) (omega arith) in
     let four = length-decimal-le 4 bytes (omega arith) (omega arith) (omega arith) in
     let twenty = length-decimal-le 20 unique (omega arith) (omega arith) low in
