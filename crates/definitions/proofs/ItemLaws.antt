@@ -1,6 +1,6 @@
 -- A text has one first item, which stays when bytes are appended; an unfinished text has none.
 use Rattle.std.proofs.Common.{◌≡◌, ◌≢◌, ℕ, zero, suc, ◌+◌, ◌<◌, ◌≤◌, ◌⊎◌, Bool, true, false, cond, List, [], ◌∷◌, ◌++◌, length, get_or, take, drop, Option, Some, None, refl, sym, ap, subst, ◌∙◌, inl, inr, arith, length-append, length-drop, append_assoc, true≢false}
-use Rattle.std.specs.Prelude.{Contains, IsSomeAnd, IfSome, codes, bytes_eq, if◌then◌else◌, nat_lt, nat_le, slice_index, slice_index_or, ◌==◌}
+use Rattle.std.specs.Prelude.{Contains, IsSomeAnd, IfSome, MatchBool, codes, bytes_eq, if◌then◌else◌, nat_lt, nat_le, slice_index, slice_index_or, ◌==◌}
 use Rattle.std.specs.List.{list_any, list_all, position_or_len}
 use Rattle.std.proofs.lemmas.Bool.{cases_lt, cases_eq, cases_order, or_cases, or_left, or_right, le-ltb, lt-ltb, cond-true, cond-false, false_from_ne_true, leb-true, ltb-true, ltb-false}
 use Rattle.std.proofs.lemmas.List.{take_all, drop_at, get_or-append-add, get_or-take, get_or_at, get_or_append_left, get_or_past, length-take, take-append-le, take-append-drop, length-take-le, drop-append-le}
@@ -11,7 +11,7 @@ use Rattle.std.proofs.lemmas.Slice.Eq.{bytes_eq-Decides}
 use Rattle.ids.specs.declared.line_fault.LineFault.TheVariants.{UnknownName, BadFields, TooLarge, BadChunk, LineTooLong}
 use Rattle.definitions.specs.Bytes.{Bytes}
 use Rattle.definitions.specs.Requests.{set, add, replace, append, prepend, Asked, Head, store, cas, get, gets, delete, incr, decr, head_of, stored_of, crlf, space, fields, noreply_field, line, data_block, spelling, most_data, most_line, IsRequest}
-use Rattle.definitions.specs.Items.{names, name_of, StartsWith, HasNoEnd, FirstLine, IsLineOf, Item, asked, quit, bad, IsItemAt, IsUnfinished}
+use Rattle.definitions.specs.Items.{names, name_of, StartsWith, HasNoEnd, FirstLine, IsLineOf, Item, asked, quit, bad, IsItemAt, IsUnfinished, goes_on, AreItems}
 use Rattle.definitions.proofs.Lines.{parts, parts-line, no_cr, line_has_no_end, length-line, head_in, head_at, head_at-line, line_has_head, has_no_form, head_at-none, first_lines_same}
 use Rattle.definitions.proofs.RequestTexts.{with_data, with_data-again, spelling_behind, length-spelling}
 
@@ -584,3 +584,70 @@ read_cut text (inr none) =
 -- every text has an item or is unfinished
 pub item_or_unfinished : (text : Bytes) → ((x : Item) × (used : ℕ) × IsItemAt text x used) ⊎ IsUnfinished text
 item_or_unfinished text = read_cut text (cut_at text)
+
+-- ---- every text has one list of items
+
+-- by a test, from two facts of it
+match_both : (b : Bool) (A B C D P : Type 0) → (A → C → P) → (B → D → P) → MatchBool b A B → MatchBool b C D → P
+match_both true A B C D P p q f g = p f g
+match_both false A B C D P p q f g = q f g
+
+-- what goes on behind the same item
+same_behind : (text : Bytes) (x y : Item) (m n : ℕ) (ys : List Item) → (x ≡ y) × (m ≡ n) → MatchBool (goes_on y) (AreItems (drop n text) ys) (ys ≡ []) → MatchBool (goes_on x) (AreItems (drop m text) ys) (ys ≡ [])
+same_behind text x y m n ys same behind =
+    subst (λ (z : Item). MatchBool (goes_on z) (AreItems (drop m text) ys) (ys ≡ [])) (sym same.0)
+    (subst (λ (k : ℕ). MatchBool (goes_on y) (AreItems (drop k text) ys) (ys ≡ [])) (sym same.1) behind)
+
+-- the items of a text are one list
+pub AreItems-unique : (xs ys : List Item) (text : Bytes) → AreItems text xs → AreItems text ys → xs ≡ ys
+AreItems-unique [] [] text a b = refl
+AreItems-unique [] (y ∷ ys) text a (n, is, behind) = absurd (IsUnfinished-no_item text y n a is)
+AreItems-unique (x ∷ xs) [] text (m, is, behind) b = absurd (IsUnfinished-no_item text x m b is)
+AreItems-unique (x ∷ xs) (y ∷ ys) text (m, is, behind) (n, js, later) =
+    let same = IsItemAt-unique text x y m n is js in
+    let rest : xs ≡ ys = match_both (goes_on x) (AreItems (drop m text) xs) (xs ≡ []) (AreItems (drop m text) ys) (ys ≡ []) (xs ≡ ys)
+    (λ p q. AreItems-unique xs ys (drop m text) p q) (λ p q. p ∙ sym q) behind (same_behind text x y m n ys same later) in
+    let first = same.0 in
+    cc
+
+-- what a text begins with is no longer than the text
+length_front : (text front : Bytes) → StartsWith text front → length front ≤ length text
+length_front text front h = omega (arith, ap (λ (t : Bytes). length t) h.1, length-append front h.0)
+
+-- an item behind which more is read takes some of the text
+takes_some : (text : Bytes) (x : Item) (used : ℕ) → IsItemAt text x used → goes_on x ≡ true → (1 ≤ used) × (used ≤ length text)
+takes_some text (asked r n) used is e = let front = length_front text (spelling r n) is.1 in let size = length-spelling r n in (omega (arith, is.2, size), omega (arith, is.2, front))
+takes_some text quit used is e = absurd cc
+takes_some text (bad UnknownName) used is e = let front = length_front text (is.0 ++ crlf) is.1.2 in (omega (arith, is.3), omega (arith, is.3, front, length-append is.0 crlf))
+takes_some text (bad BadFields) used is e = absurd cc
+takes_some text (bad TooLarge) used is e = absurd cc
+takes_some text (bad BadChunk) used is e = absurd cc
+takes_some text (bad LineTooLong) used is e = absurd cc
+
+-- what holds by a test that is known
+match_true : (b : Bool) (A B : Type 0) → b ≡ true → A → MatchBool b A B
+match_true b A B e a = subst (λ (c : Bool). MatchBool c A B) (sym e) a
+
+-- and the other way
+match_false : (b : Bool) (A B : Type 0) → b ≡ false → B → MatchBool b A B
+match_false b A B e a = subst (λ (c : Bool). MatchBool c A B) (sym e) a
+
+-- an item, and the items behind it
+put_first : (text : Bytes) (x : Item) (used : ℕ) → IsItemAt text x used → (goes_on x ≡ true → (xs : List Item) × AreItems (drop used text) xs) → (b : Bool) → goes_on x ≡ b → (xs : List Item) × AreItems text xs
+put_first text x used is behind true e = let later = behind e in (x ∷ later.0, (used, is, match_true (goes_on x) _ _ e later.1))
+put_first text x used is behind false e = (x ∷ [], (used, is, match_false (goes_on x) _ _ e refl))
+
+-- the items of a text, from those of shorter ones
+items_by : (text : Bytes) → ((t : Bytes) → length t < length text → (xs : List Item) × AreItems t xs) → Read text → (xs : List Item) × AreItems text xs
+items_by text shorter (inr u) = ([], u)
+items_by text shorter (inl (x, used, is)) =
+    put_first text x used is (λ e. let some = takes_some text x used is e in shorter (drop used text) (omega (arith, some.0, some.1, length-drop used text))) (goes_on x) refl
+
+-- the items of a text that is no longer than so
+items_within : (n : ℕ) (text : Bytes) → length text ≤ n → (xs : List Item) × AreItems text xs
+items_within zero text short = items_by text (λ t less. absurd (omega arith)) (item_or_unfinished text)
+items_within (suc n) text short = items_by text (λ t less. items_within n t (omega arith)) (item_or_unfinished text)
+
+-- every text has items
+pub items_of : (text : Bytes) → (xs : List Item) × AreItems text xs
+items_of text = items_within (length text) text (omega arith)

@@ -32,6 +32,10 @@ NoItemYet = (text : Bytes) (x : Item) (used : ℕ) → IsUnfinished text → ¬ 
 abbrev pub ItemOrUnfinished : Type 0
 ItemOrUnfinished = (text : Bytes) → ((x : Item) × (used : ℕ) × IsItemAt text x used) ⊎ IsUnfinished text
 
+-- what is read of a text is one list of items
+abbrev pub OneListOfItems : Type 0
+OneListOfItems = (text : Bytes) → ((items : List Item) × AreItems text items) × ((xs ys : List Item) → AreItems text xs → AreItems text ys → xs ≡ ys)
+
 -- two requests with one canonical text are the same
 abbrev pub OneCanonical : Type 0
 OneCanonical = (r s : Asked) → IsRequest r false → IsRequest s false → canonical r ≡ canonical s → r ≡ s
@@ -67,6 +71,10 @@ SixteenKeys = IsItemAt (codes "get a b c d e f g h i j k l m n o p" ++ crlf) (as
 
 abbrev pub Quit : Type 0
 Quit = IsItemAt (codes "quit" ++ crlf) quit 6
+
+-- a request stands behind the line quit
+abbrev pub AfterQuit : Type 0
+AfterQuit = AreItems (codes "quit" ++ crlf ++ codes "get a" ++ crlf) (quit ∷ [])
 
 -- ---- faults
 
@@ -110,6 +118,10 @@ abbrev pub TooManyLetters : Type 0
 TooManyLetters = IsItemAt (replicate 4096 97) (bad LineTooLong) 0
 
 -- ---- unfinished texts
+
+-- no data is there yet, and 4,096 bytes may come
+abbrev pub MuchData : Type 0
+MuchData = IsUnfinished (codes "set a 0 0 4096" ++ crlf)
 
 -- the data has its first byte after it, and not the second
 abbrev pub DataCut : Type 0

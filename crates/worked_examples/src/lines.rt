@@ -1,6 +1,6 @@
 //! Request lines: what holds of all of them and of the items of all texts, and what some texts are.
 
-ghost use Rattle.worked_examples.specs.Lines.{OneHead, LinesFit, OneFirstItem, ItemsStay, NoItemYet, ItemOrUnfinished, OneCanonical, OneSpelling, FindsRequests, CanonicalFits, WholeSet, QuietSet, SixteenKeys, Quit, NoDataEnd, UnknownTouch, AfterUnknown, NoKey, SeventeenKeys, Expiry, PaddedNumber, QuitWithField, TooMuchData, TooLong, TooManyLetters, DataCut, LineCut, NotTooLong, ManyLetters, PayloadOfSet, PayloadOfQuit, PayloadOfGet, PayloadPadded, PayloadOfLetters, PayloadOfCas};
+ghost use Rattle.worked_examples.specs.Lines.{OneHead, LinesFit, OneFirstItem, ItemsStay, NoItemYet, ItemOrUnfinished, OneListOfItems, OneCanonical, OneSpelling, FindsRequests, CanonicalFits, WholeSet, QuietSet, SixteenKeys, Quit, AfterQuit, NoDataEnd, UnknownTouch, AfterUnknown, NoKey, SeventeenKeys, Expiry, PaddedNumber, QuitWithField, TooMuchData, TooLong, TooManyLetters, MuchData, DataCut, LineCut, NotTooLong, ManyLetters, PayloadOfSet, PayloadOfQuit, PayloadOfGet, PayloadPadded, PayloadOfLetters, PayloadOfCas};
 
 /// A line is of one head, with `noreply` or without.
 pub fn a_line_says_one_thing()
@@ -30,6 +30,11 @@ pub fn an_unfinished_text_has_no_item()
 /// Each text has an item or is unfinished.
 pub fn every_text_has_an_item_or_is_unfinished()
     ensures { ItemOrUnfinished }
+{}
+
+/// Each text has one list of items, that is all that is read of it.
+pub fn every_text_has_one_list_of_items()
+    ensures { OneListOfItems }
 {}
 
 /// The canonical text of a request tells which request it is.
@@ -72,6 +77,11 @@ pub fn quit_is_the_end()
     ensures { Quit }
 {}
 
+/// What stands behind `quit` is not read.
+pub fn nothing_is_read_after_quit()
+    ensures { AfterQuit }
+{}
+
 /// The two bytes after the data have to be CR LF.
 pub fn data_without_its_end_is_a_bad_chunk()
     ensures { NoDataEnd }
@@ -112,7 +122,7 @@ pub fn quit_takes_no_field()
     ensures { QuitWithField }
 {}
 
-/// A line may announce 4,096 bytes, and not 4,097.
+/// A line may not announce 4,097 bytes of data.
 pub fn more_than_4096_bytes_of_data_are_too_large()
     ensures { TooMuchData }
 {}
@@ -122,9 +132,14 @@ pub fn a_line_is_too_long_at_4096_bytes()
     ensures { TooLong }
 {}
 
-/// So are 4,096 letters.
+/// The letter a 4,096 times is too long a line.
 pub fn a_letter_4096_times_is_too_long()
     ensures { TooManyLetters }
+{}
+
+/// A line may announce 4,096 bytes of data.
+pub fn data_of_4096_bytes_is_waited_for()
+    ensures { MuchData }
 {}
 
 /// With one byte after the data the request is unfinished.
@@ -142,7 +157,7 @@ pub fn a_line_is_unfinished_at_4095_bytes()
     ensures { NotTooLong }
 {}
 
-/// So are 4,095 letters.
+/// The letter a 4,095 times is an unfinished line.
 pub fn a_letter_4095_times_is_unfinished()
     ensures { ManyLetters }
 {}
