@@ -7,3 +7,6 @@ pub mod Chronicles
 pub mod Orders
 pub mod Spellings
 pub mod Vectors
+pub mod Lines
+pub mod RequestTexts
+pub mod ItemLaws
