@@ -6,6 +6,8 @@
 
 mod keyring;
 mod mac;
+#[cfg(test)]
+mod tests;
 
 pub use keyring::Keyring;
 pub use mac::hmac;
