@@ -1,0 +1,4 @@
+mod Lists
+pub mod Turns
+pub mod Members
+pub mod Fronts

@@ -1,0 +1,85 @@
+-- What is known of judged replicas, and what follows for their fronts, their histories and an audit's verdict.
+use Rattle.std.specs.Prelude.{ℕ, ◌≡◌, ◌<◌, ◌≤◌, ◌⊎◌, false, List, map, length}
+use Rattle.std.specs.List.{AllByRecursion}
+use Rattle.ids.specs.Sizes.{Sizes, replicas, quorum}
+use Rattle.definitions.specs.Bytes.{Bytes}
+use Rattle.definitions.specs.Lists.{Among, AreDistinct}
+use Rattle.definitions.specs.Frames.{Core, genesis_core}
+use Rattle.definitions.specs.Branches.{just1}
+use Rattle.definitions.specs.Digests.{digest, StandsFor, NoCollision}
+use Rattle.definitions.specs.Chronicles.{Admitted, Step.took_block, Chronicle, IsLawful}
+use Rattle.definitions.specs.Agreement.{Family, IsLawfulFamily}
+use Rattle.definitions.specs.Audit.{Member, Judged, is_judged, chronicle_of, Cut, Turns, steps_in, AreAllowed, may_move, AreFronts, Reason, Verdict, IsUnbacked, Holds, HistoriesAgree, IsVerdict}
+
+-- ---- what judged replicas have kept
+
+-- genesis's core, and those of the blocks that were admitted, also of blocks that were known before
+abbrev pub KnownIn : Chronicle → Core → Type 0
+KnownIn c core = (core ≡ genesis_core) ⊎ ((a : Admitted) × Among (took_block a) c × (a.core ≡ core))
+
+-- genesis's core, and those that a judged replica knows
+abbrev pub KnownTo : Judged → Core → Type 0
+KnownTo ks core = (core ≡ genesis_core) ⊎ ((m : Member) × Among m ks × KnownIn m.replica.chronicle core)
+
+-- the digests that a block came with stand for its branch, and for the block that it justifies
+pub record AreNames (Known : Core → Type 0) (a : Admitted) : Type 0 where
+  pub block : StandsFor Known (digest a.core) a.branch
+  pub justified : StandsFor Known a.certificate.digest (just1 a.branch)
+
+-- a lawful chronicle whose digests stand for its branches
+pub record IsWellNamed (sizes : Sizes) (c : Chronicle) : Type 0 where
+  pub lawful : IsLawful sizes c
+  pub named : (a : Admitted) → Among (took_block a) c → AreNames (KnownIn c) a
+
+-- where no two cores that it knows collide, its chronicle is such a one
+abbrev pub IsKeptWell : Sizes → Member → Type 0
+IsKeptWell sizes m = NoCollision (KnownIn m.replica.chronicle) → IsWellNamed sizes m.replica.chronicle
+
+-- the numbers of the judged replicas
+abbrev pub numbers : Judged → List ℕ
+numbers ks = map (λ m. m.number) ks
+
+-- at least a quorum of distinct replicas, each kept well
+pub record AreJudged (sizes : Sizes) (ks : Judged) : Type 0 where
+  pub enough : quorum sizes ≤ length ks
+  pub distinct : AreDistinct (numbers ks)
+  pub below : AllByRecursion (λ i. i < replicas sizes) (numbers ks)
+  pub kept : (m : Member) → Among m ks → IsKeptWell sizes m
+
+-- the family of the judged
+abbrev pub judged_family : Sizes → Judged → Family
+judged_family sizes ks = record { sizes = sizes; is_member = is_judged ks; chronicle = chronicle_of ks }
+
+-- no vote is unbacked
+abbrev pub NoneUnbacked : Judged → Type 0
+NoneUnbacked ks = (u v : ℕ) (d : Bytes) → IsUnbacked ks u v d → ⊥
+
+-- ---- laws
+
+-- there are fronts, and one choice of them
+abbrev pub FrontsAreOne : Type 0
+FrontsAreOne = (ks : Judged) → (k : Cut) × AreFronts ks k × ((m : Cut) → AreFronts ks m → (i : ℕ) → m i ≡ k i)
+
+-- a cut to which allowed turns lead and from which none may move is the fronts
+abbrev pub MovingFindsTheFronts : Type 0
+MovingFindsTheFronts = (ks : Judged) (turns : Turns) (k : Cut) → AreAllowed (may_move ks) turns → ((i : ℕ) → steps_in turns i ≡ k i) → ((u : ℕ) → may_move ks k u ≡ false) → AreFronts ks k
+
+-- what holds of the judged where no two known cores collide and no vote is unbacked
+abbrev pub WhereBacked : (Sizes → Judged → Type 0) → Type 0
+WhereBacked P = (sizes : Sizes) (ks : Judged) → AreJudged sizes ks → NoCollision (KnownTo ks) → NoneUnbacked ks → P sizes ks
+
+-- the judged are then a lawful family
+abbrev pub BackedChroniclesAreOrderly : Type 0
+BackedChroniclesAreOrderly = WhereBacked (λ sizes ks. IsLawfulFamily (judged_family sizes ks))
+
+-- and their histories agree
+abbrev pub BackedHistoriesAgree : Type 0
+BackedHistoriesAgree = WhereBacked (λ sizes ks. HistoriesAgree ks)
+
+-- where the histories of judged replicas do not agree, a reason holds
+abbrev pub EachForkHasAReason : Type 0
+EachForkHasAReason = (sizes : Sizes) (ks : Judged) → AreJudged sizes ks → (HistoriesAgree ks → ⊥) → (r : Reason) × Holds ks r
+
+-- judged replicas have a verdict
+abbrev pub EachAuditAnswers : Type 0
+EachAuditAnswers = (sizes : Sizes) (ks : Judged) → AreJudged sizes ks → (v : Verdict) × IsVerdict ks v

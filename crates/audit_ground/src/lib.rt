@@ -1,0 +1,15 @@
+//! The audit's ground: of kept replicas whose digests name what they say, a fork always has a reason. The laws
+//! speak of the definitions alone; no code runs here. Each stands as the contract of a function with an empty body.
+#![tactic(auto)]
+
+ghost use Rattle.audit_ground.specs.Law.{FrontsAreOne, MovingFindsTheFronts};
+
+/// Judged replicas have fronts, and one choice of them.
+pub fn fronts_are_one()
+    ensures { FrontsAreOne }
+{}
+
+/// Allowed turns after which no replica may move lead to the fronts.
+pub fn moving_one_counter_finds_the_fronts()
+    ensures { MovingFindsTheFronts }
+{}
