@@ -1,4 +1,7 @@
-mod Lists
+pub mod Lists
 pub mod Turns
 pub mod Members
 pub mod Fronts
+pub mod Known
+pub mod Families
+pub mod Histories

@@ -2,7 +2,7 @@
 use Rattle.std.proofs.Common.{ℕ, suc, ◌≡◌, ◌<◌, ◌≤◌, ◌⊎◌, Bool, true, false, List, [], ◌∷◌, ◌++◌, length, refl, sym, ap, subst, ◌∙◌, arith, inl, inr, Option, Some, None, append_assoc, true≢false}
 use Rattle.std.specs.List.{list_any, list_all}
 use Rattle.std.proofs.lemmas.Bool.{cond_both, cond-true, cond-false, cases_lt, cases_eq, eq-eqb, ne_eqb, le-ltb, lt-ltb, and_parts, and_from, and_cases, or_cases, or_right}
-use lib.Dec.{ltb}
+use lib.Dec.{eqb, ltb}
 use Rattle.definitions.specs.Lists.{beginning, IsBeginning, Among}
 use Rattle.definitions.specs.Audit.{step_after}
 use Rattle.definitions.proofs.Lists.{beginning-whole}
@@ -152,3 +152,16 @@ beginning-next {A} k (x ∷ older) =
             ∙ (ap (extend (step_after k older)) (beginning-older k x older g) ∙ (beginning-next k older ∙ sym (beginning-older (suc k) x older (omega arith))))
       ]
     ]
+
+-- a step that follows a beginning is one of the list
+pub step_after-among : {A : Type 0} (k : ℕ) (xs : List A) (x : A) → step_after k xs ≡ Some x → Among x xs
+unfolding step_after
+step_after-among {A} k [] x e = absurd (none_some e)
+  where
+    none_some : None ≡ Some x → ⊥
+    none_some h = cc
+step_after-among {A} k (y ∷ older) x e =
+    cond_both (eqb (length older) k) (Some y) (step_after k older) (λ (o : Option A). o ≡ Some x → Among x (y ∷ older)) (λ t h. inl (some_one (sym h))) (λ f h. inr (step_after-among k older x h)) e
+  where
+    some_one : Some x ≡ Some y → x ≡ y
+    some_one h = cc

@@ -22,18 +22,18 @@ abbrev pub KnownTo : Judged → Core → Type 0
 KnownTo ks core = (core ≡ genesis_core) ⊎ ((m : Member) × Among m ks × KnownIn m.replica.chronicle core)
 
 -- the digests that a block came with stand for its branch, and for the block that it justifies
-pub record AreNames (Known : Core → Type 0) (a : Admitted) : Type 0 where
+pub record IsNamed (Known : Core → Type 0) (a : Admitted) : Type 0 where
   pub block : StandsFor Known (digest a.core) a.branch
   pub justified : StandsFor Known a.certificate.digest (just1 a.branch)
 
 -- a lawful chronicle whose digests stand for its branches
-pub record IsWellNamed (sizes : Sizes) (c : Chronicle) : Type 0 where
+pub record IsLawfullyKept (sizes : Sizes) (c : Chronicle) : Type 0 where
   pub lawful : IsLawful sizes c
-  pub named : (a : Admitted) → Among (took_block a) c → AreNames (KnownIn c) a
+  pub named : (a : Admitted) → Among (took_block a) c → IsNamed (KnownIn c) a
 
 -- where no two cores that it knows collide, its chronicle is such a one
 abbrev pub IsKeptWell : Sizes → Member → Type 0
-IsKeptWell sizes m = NoCollision (KnownIn m.replica.chronicle) → IsWellNamed sizes m.replica.chronicle
+IsKeptWell sizes m = NoCollision (KnownIn m.replica.chronicle) → IsLawfullyKept sizes m.replica.chronicle
 
 -- the numbers of the judged replicas
 abbrev pub numbers : Judged → List ℕ

@@ -2,7 +2,7 @@
 //! speak of the definitions alone; no code runs here. Each stands as the contract of a function with an empty body.
 #![tactic(auto)]
 
-ghost use Rattle.audit_ground.specs.Law.{FrontsAreOne, MovingFindsTheFronts};
+ghost use Rattle.audit_ground.specs.Law.{FrontsAreOne, MovingFindsTheFronts, BackedChroniclesAreOrderly, BackedHistoriesAgree};
 
 /// Judged replicas have fronts, and one choice of them.
 pub fn fronts_are_one()
@@ -12,4 +12,14 @@ pub fn fronts_are_one()
 /// Allowed turns after which no replica may move lead to the fronts.
 pub fn moving_one_counter_finds_the_fronts()
     ensures { MovingFindsTheFronts }
+{}
+
+/// Where no two known cores collide and no vote is unbacked, the judged are a lawful family.
+pub fn backed_chronicles_are_orderly()
+    ensures { BackedChroniclesAreOrderly }
+{}
+
+/// And their histories agree.
+pub fn backed_histories_agree()
+    ensures { BackedHistoriesAgree }
 {}
