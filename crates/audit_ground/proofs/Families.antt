@@ -35,11 +35,13 @@ abbrev pub order_of : (ℕ → Chronicle) → Turns → Order
 order_of chronicle [] = []
 order_of chronicle (u ∷ earlier) = order_with u (step_after (steps_in earlier u) (chronicle u)) (order_of chronicle earlier)
 
+-- a step of u is one of its own
 order_with-own : (u i : ℕ) (o : Option Step) (earlier : Order) → u ≡ i → steps_of i (order_with u o earlier) ≡ extend o (steps_of i earlier)
 unfolding steps_of
 order_with-own u i None earlier e = refl
 order_with-own u i (Some x) earlier e = cond-true _ _ _ (eq-eqb u i e)
 
+-- and of no other
 order_with-other : (u i : ℕ) (o : Option Step) (earlier : Order) → eqb u i ≡ false → steps_of i (order_with u o earlier) ≡ steps_of i earlier
 unfolding steps_of
 order_with-other u i None earlier e = refl
@@ -119,6 +121,7 @@ module _ (Known : Core → Type 0) (apart : NoCollision Known) (genesis : Known 
   backed-step k u earlier same timed_out m h = tt
   backed-step k u earlier same beat m h = tt
 
+  -- an order with one more step that is backed
   ordered-step : (k : Cut) (u : ℕ) (earlier : Order) → ((i : ℕ) → steps_of i earlier ≡ beginning (k i) (chronicle_of ks i)) → IsOrdered (is_judged ks) earlier
       → (o : Option Step) → step_after (k u) (chronicle_of ks u) ≡ o → is_backed_if ks k o ≡ true → IsOrdered (is_judged ks) (order_with u o earlier)
   unfolding is_backed_if
@@ -154,6 +157,7 @@ whole-orderly sizes ks j apart k f whole = record {
 fronts-whole : (ks : Judged) → NoneUnbacked ks → (k : Cut) → AreFronts ks k → (u : ℕ) → k u ≡ length (chronicle_of ks u)
 fronts-whole ks none k f = elim (whole-or-unbacked ks k f) [ inl whole ↦ whole | inr r ↦ absurd (none r.0 r.1 r.2 r.3) ]
 
+-- the law of this name
 pub backed-chronicles_are_orderly : BackedChroniclesAreOrderly
 backed-chronicles_are_orderly sizes ks j apart none =
     let f = fronts-exist ks in

@@ -6,8 +6,8 @@ use Rattle.definitions.specs.Lists.{Among}
 use Rattle.definitions.specs.Bytes.{Bytes}
 use Rattle.definitions.specs.Chronicles.{Step}
 use Rattle.definitions.specs.Audit.{Cut, steps_in, Judged, is_judged, chronicle_of, gives_vote, counted_by, counted_for, step_after, has_vote, is_backed, may_move, AreFronts, IsUnbacked}
-use Rattle.audit_ground.specs.Law.{FrontsAreOne, MovingFindsTheFronts}
-use Rattle.audit_ground.proofs.Lists.{any-longer, all-weaker, all-fails, step_after-some, step_after-none}
+use Rattle.audit_ground.specs.Law.{FrontsAreOne, MovingFindsTheFronts, NoneUnbacked}
+use Rattle.audit_ground.proofs.Lists.{any-longer, all-weaker, all-fails, step_after-some, step_after-none, step_after-within}
 use Rattle.audit_ground.proofs.Turns.{greatest-from_stuck, greatest-one, greatest-stuck, Under, IsGrowing, IsBounded, IsStuck, turns-short, stuck-exists, some-mover}
 use Rattle.audit_ground.proofs.Members.{bound, steps-below}
 
@@ -39,6 +39,7 @@ pub may_move-is : (ks : Judged) (k : Cut) (u : ℕ) → may_move ks k u ≡ is_b
 unfolding may_move is_backed_if
 may_move-is ks k u = refl
 
+-- the same of a step, if there is one
 backed_if-grows : (ks : Judged) (m k : Cut) (o : Option Step) → Under m k → is_backed_if ks m o ≡ true → is_backed_if ks k o ≡ true
 unfolding is_backed_if
 backed_if-grows ks m k None l h = h
@@ -68,17 +69,21 @@ may_move-bounded ks = record { few = λ m u h. steps-below ks u (let s = may_mov
 
 -- ---- the fronts
 
+-- the law of this name
 pub moving-finds_the_fronts : MovingFindsTheFronts
 moving-finds_the_fronts ks turns k allowed reached stuck = greatest-from_stuck (may_move ks) (may_move-grows ks) k turns allowed reached stuck
 
+-- there are fronts
 pub fronts-exist : (ks : Judged) → (k : Cut) × AreFronts ks k
 fronts-exist ks =
     let s : IsStuck (may_move ks) = stuck-exists (may_move ks) (bound ks) (lengths ks) (may_move-bounded ks) in
     (steps_in s.turns, moving-finds_the_fronts ks s.turns (steps_in s.turns) s.allowed (λ i. refl) s.stuck)
 
+-- two of them are the same
 pub fronts-one : (ks : Judged) (k m : Cut) → AreFronts ks k → AreFronts ks m → (i : ℕ) → k i ≡ m i
 fronts-one ks = greatest-one (may_move ks)
 
+-- the law of this name
 pub fronts-are_one : FrontsAreOne
 fronts-are_one ks = let f = fronts-exist ks in (f.0, f.1, λ m g. fronts-one ks m f.0 g f.1)
 
@@ -125,3 +130,11 @@ whole-or-unbacked ks k f =
         | inr g ↦ let s = fronts-short ks k f u in omega (arith, s)
       ])
     ]
+
+-- where some fronts are whole, no vote is unbacked
+pub whole-none_unbacked : (ks : Judged) (k : Cut) → AreFronts ks k → ((u : ℕ) → k u ≡ length (chronicle_of ks u)) → NoneUnbacked ks
+whole-none_unbacked ks k f whole u v d r =
+    let l = step_after-within (r.fronts u) (chronicle_of ks u) r.step r.behind in
+    let e = fronts-one ks r.fronts k r.are_fronts f u in
+    let w = whole u in
+    absurd (omega (arith, l, e, w))

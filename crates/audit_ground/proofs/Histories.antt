@@ -64,5 +64,6 @@ lawful-agree sizes ks j lawful a b ma mb =
       | inr e ↦ beginnings-comparable _ _ (history_of y) (held-below a.replica y e) (held-begins b.replica)
     ]
 
+-- the law of this name
 pub backed-histories_agree : BackedHistoriesAgree
 backed-histories_agree sizes ks j apart none = lawful-agree sizes ks j (backed-chronicles_are_orderly sizes ks j apart none)

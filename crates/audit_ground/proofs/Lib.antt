@@ -5,3 +5,6 @@ pub mod Fronts
 pub mod Known
 pub mod Families
 pub mod Histories
+pub mod Decisions
+pub mod Cores
+pub mod Verdicts

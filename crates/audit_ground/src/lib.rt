@@ -2,7 +2,7 @@
 //! speak of the definitions alone; no code runs here. Each stands as the contract of a function with an empty body.
 #![tactic(auto)]
 
-ghost use Rattle.audit_ground.specs.Law.{FrontsAreOne, MovingFindsTheFronts, BackedChroniclesAreOrderly, BackedHistoriesAgree};
+ghost use Rattle.audit_ground.specs.Law.{FrontsAreOne, MovingFindsTheFronts, BackedChroniclesAreOrderly, BackedHistoriesAgree, EachForkHasAReason, EachAuditAnswers};
 
 /// Judged replicas have fronts, and one choice of them.
 pub fn fronts_are_one()
@@ -22,4 +22,14 @@ pub fn backed_chronicles_are_orderly()
 /// And their histories agree.
 pub fn backed_histories_agree()
     ensures { BackedHistoriesAgree }
+{}
+
+/// Where the histories of judged replicas do not agree, a vote is unbacked or two cores collide.
+pub fn each_fork_has_a_reason()
+    ensures { EachForkHasAReason }
+{}
+
+/// Judged replicas have a verdict.
+pub fn each_audit_answers()
+    ensures { EachAuditAnswers }
 {}
