@@ -8,3 +8,6 @@ pub mod Histories
 pub mod Decisions
 pub mod Cores
 pub mod Verdicts
+pub mod Examples
+pub mod Fork
+pub mod Circle

@@ -1,5 +1,5 @@
 -- What is known of judged replicas, and what follows for their fronts, their histories and an audit's verdict.
-use Rattle.std.specs.Prelude.{ℕ, ◌≡◌, ◌<◌, ◌≤◌, ◌⊎◌, false, List, map, length}
+use Rattle.std.specs.Prelude.{ℕ, ◌≡◌, ◌<◌, ◌≤◌, ◌⊎◌, true, false, List, map, length}
 use Rattle.std.specs.List.{AllByRecursion}
 use Rattle.ids.specs.Sizes.{Sizes, replicas, quorum}
 use Rattle.definitions.specs.Bytes.{Bytes}
@@ -9,7 +9,7 @@ use Rattle.definitions.specs.Branches.{just1}
 use Rattle.definitions.specs.Digests.{digest, StandsFor, NoCollision}
 use Rattle.definitions.specs.Chronicles.{Admitted, Step.took_block, Chronicle, IsLawful}
 use Rattle.definitions.specs.Agreement.{Family, IsLawfulFamily}
-use Rattle.definitions.specs.Audit.{Member, Judged, is_judged, chronicle_of, Cut, Turns, steps_in, AreAllowed, may_move, AreFronts, Reason, Verdict, IsUnbacked, Holds, HistoriesAgree, IsVerdict}
+use Rattle.definitions.specs.Audit.{Member, Judged, is_judged, chronicle_of, Cut, Turns, steps_in, AreAllowed, has_vote, may_move, AreFronts, Reason, Verdict, IsUnbacked, Holds, HistoriesAgree, IsVerdict}
 
 -- ---- what judged replicas have kept
 
@@ -83,3 +83,32 @@ EachForkHasAReason = (sizes : Sizes) (ks : Judged) → AreJudged sizes ks → (H
 -- judged replicas have a verdict
 abbrev pub EachAuditAnswers : Type 0
 EachAuditAnswers = (sizes : Sizes) (ks : Judged) → AreJudged sizes ks → (v : Verdict) × IsVerdict ks v
+
+-- Three of four replicas, each kept well, whose histories do not agree, and the unbacked vote behind the fork.
+pub record SomeFork : Type 0 where
+  pub sizes : Sizes
+  pub judged : Judged
+  pub four : replicas sizes ≡ 4
+  pub are_judged : AreJudged sizes judged
+  pub kept : (m : Member) → Among m judged → IsLawfullyKept sizes m.replica.chronicle
+  pub differ : HistoriesAgree judged → ⊥
+  pub receiver : ℕ
+  pub voter : ℕ
+  pub digest : Bytes
+  pub reason : IsUnbacked judged receiver voter digest
+
+-- Three judged replicas with fronts of 1, 2 and 3 steps. The second step of 1 counts 2's vote for `first`, and the
+-- third step of 2 counts 1's for `second`: both votes were given, but each only after the step that counts the other.
+-- A vote of 3 for `first`, which 1 counts too, stands.
+pub record SomeCircle : Type 0 where
+  pub judged : Judged
+  pub fronts : Cut
+  pub are_fronts : AreFronts judged fronts
+  pub lengths : (fronts 1 ≡ 1) × (fronts 2 ≡ 2) × (fronts 3 ≡ 3)
+  pub first : Bytes
+  pub second : Bytes
+  pub first_given : has_vote judged (λ i. length (chronicle_of judged i)) first 2 ≡ true
+  pub second_given : has_vote judged (λ i. length (chronicle_of judged i)) second 1 ≡ true
+  pub first_reason : IsUnbacked judged 1 2 first
+  pub second_reason : IsUnbacked judged 2 1 second
+  pub no_reason : IsUnbacked judged 1 3 first → ⊥

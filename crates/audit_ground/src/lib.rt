@@ -2,7 +2,7 @@
 //! speak of the definitions alone; no code runs here. Each stands as the contract of a function with an empty body.
 #![tactic(auto)]
 
-ghost use Rattle.audit_ground.specs.Law.{FrontsAreOne, MovingFindsTheFronts, BackedChroniclesAreOrderly, BackedHistoriesAgree, EachForkHasAReason, EachAuditAnswers};
+ghost use Rattle.audit_ground.specs.Law.{FrontsAreOne, MovingFindsTheFronts, BackedChroniclesAreOrderly, BackedHistoriesAgree, EachForkHasAReason, EachAuditAnswers, SomeFork, SomeCircle};
 
 /// Judged replicas have fronts, and one choice of them.
 pub fn fronts_are_one()
@@ -32,4 +32,14 @@ pub fn each_fork_has_a_reason()
 /// Judged replicas have a verdict.
 pub fn each_audit_answers()
     ensures { EachAuditAnswers }
+{}
+
+/// The premises can be met: three of four replicas are judged, and their histories do not agree.
+pub fn some_fork()
+    ensures { SomeFork }
+{}
+
+/// Votes can stand behind one another in a circle, and then each is unbacked.
+pub fn some_circle()
+    ensures { SomeCircle }
 {}

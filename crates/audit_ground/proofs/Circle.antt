@@ -1,0 +1,136 @@
+-- Votes that stand only behind one another, in a circle: three replicas, with fronts of 1, 2 and 3 steps.
+use Rattle.std.proofs.Common.{ℕ, zero, suc, ◌≡◌, true, false, List, [], ◌∷◌, length, refl, sym, ap, ◌∙◌, arith, inl, inr, true≢false}
+use Rattle.sha2.specs.Sha256.{sha256, digest_bytes, hash_after, compress, rounds, schedule, first_words}
+use Rattle.std.specs.List.{list_any}
+use Rattle.definitions.specs.Lists.{beginning}
+use Rattle.definitions.specs.Frames.{Command}
+use Rattle.definitions.specs.Branches.{Branch, just1, justify_height}
+use Rattle.definitions.specs.Digests.{digest, digest_of, core_of, core_over}
+use Rattle.definitions.specs.Chronicles.{Step.took_block, Chronicle}
+use Rattle.definitions.specs.Replicas.{Standing.running}
+use Rattle.definitions.specs.Audit.{Turns, steps_in, Member, Judged, is_judged, chronicle_of, gives_vote, counted_by, counted_for, step_after, has_vote, is_backed, may_move, AreAllowed, AreFronts, IsUnbacked}
+use Rattle.audit_ground.specs.Law.{SomeCircle}
+use Rattle.audit_ground.proofs.Fronts.{moving-finds_the_fronts, fronts-one}
+use Rattle.audit_ground.proofs.Examples.{admitted, none-else, may_move-no_steps}
+
+abbrev command : Command
+command = record { client = 0; seq = 1; payload = []; vector = [] }
+
+-- a block on a branch
+abbrev over : Branch → ℕ → List Command → Branch
+over parent justify commands = record { commands = commands; justify = justify } ∷ parent
+
+-- two blocks on genesis, and on them others
+abbrev a1 : Branch
+a1 = over [] 0 []
+
+abbrev a2 : Branch
+a2 = over a1 1 []
+
+abbrev c1 : Branch
+c1 = over [] 0 (command ∷ [])
+
+abbrev c2 : Branch
+c2 = over c1 0 []
+
+abbrev c3 : Branch
+c3 = over c2 2 []
+
+-- 1 counts 2's vote for a1, and votes for c2 later
+abbrev first_life : Chronicle
+first_life =
+    took_block (admitted c2 [] true)
+    ∷ took_block (admitted c1 [] false)
+    ∷ took_block (admitted a2 (0 ∷ 2 ∷ 3 ∷ []) false)
+    ∷ took_block (admitted a1 [] false)
+    ∷ []
+
+-- 2 counts 1's vote for c2, and votes for a1 later
+abbrev second_life : Chronicle
+second_life =
+    took_block (admitted a1 [] true)
+    ∷ took_block (admitted c3 (0 ∷ 1 ∷ 3 ∷ []) false)
+    ∷ took_block (admitted c2 [] false)
+    ∷ took_block (admitted c1 [] false)
+    ∷ []
+
+-- 3 votes for both
+abbrev third_life : Chronicle
+third_life =
+    took_block (admitted c2 [] true)
+    ∷ took_block (admitted c1 [] false)
+    ∷ took_block (admitted a1 [] true)
+    ∷ []
+
+abbrev member : ℕ → Chronicle → Member
+member n c = record { number = n; replica = record { chronicle = c; standing = running } }
+
+abbrev judged : Judged
+judged = member 1 first_life ∷ member 2 second_life ∷ member 3 third_life ∷ []
+
+abbrev turns : Turns
+turns = 3 ∷ 3 ∷ 3 ∷ 2 ∷ 2 ∷ 1 ∷ []
+
+turns-allowed : AreAllowed (may_move judged) turns
+unfolding may_move is_backed has_vote step_after chronicle_of is_judged steps_in counted_by counted_for gives_vote beginning digest digest_of core_of core_over just1 justify_height sha256 digest_bytes hash_after compress rounds schedule first_words
+turns-allowed = (refl, (refl, (refl, (refl, (refl, (refl, tt))))))
+
+stuck : (u : ℕ) → may_move judged (steps_in turns) u ≡ false
+unfolding may_move is_backed has_vote step_after chronicle_of is_judged steps_in counted_by counted_for gives_vote beginning digest digest_of core_of core_over just1 justify_height sha256 digest_bytes hash_after compress rounds schedule first_words
+stuck zero = refl
+stuck (suc zero) = refl
+stuck (suc (suc zero)) = refl
+stuck (suc (suc (suc zero))) = refl
+stuck (suc (suc (suc (suc u)))) = may_move-no_steps judged (steps_in turns) (suc (suc (suc (suc u)))) (none-else judged 3 (omega arith, (omega arith, (omega arith, tt))) (suc (suc (suc (suc u)))) (omega arith))
+
+fronts : AreFronts judged (steps_in turns)
+fronts = moving-finds_the_fronts judged turns (steps_in turns) turns-allowed (λ i. refl) stuck
+
+front-lengths : (steps_in turns 1 ≡ 1) × (steps_in turns 2 ≡ 2) × (steps_in turns 3 ≡ 3)
+unfolding steps_in
+front-lengths = (refl, refl, refl)
+
+-- both votes were given
+first-given : has_vote judged (λ i. length (chronicle_of judged i)) (digest_of a1) 2 ≡ true
+unfolding has_vote chronicle_of gives_vote beginning digest digest_of core_of core_over just1 justify_height sha256 digest_bytes hash_after compress rounds schedule first_words
+first-given = refl
+
+second-given : has_vote judged (λ i. length (chronicle_of judged i)) (digest_of c2) 1 ≡ true
+unfolding has_vote chronicle_of gives_vote beginning digest digest_of core_of core_over just1 justify_height sha256 digest_bytes hash_after compress rounds schedule first_words
+second-given = refl
+
+-- receiver 1, voter 2
+first-reason : IsUnbacked judged 1 2 (digest_of a1)
+unfolding step_after chronicle_of is_judged has_vote steps_in counted_by counted_for gives_vote beginning digest digest_of core_of core_over just1 justify_height sha256 digest_bytes hash_after compress rounds schedule first_words
+first-reason = record { fronts = steps_in turns; are_fronts = fronts; step = took_block (admitted a2 (0 ∷ 2 ∷ 3 ∷ []) false); behind = refl; counted = inr (inl refl); digest = refl; judged = refl; missing = refl }
+
+-- receiver 2, voter 1
+second-reason : IsUnbacked judged 2 1 (digest_of c2)
+unfolding step_after chronicle_of is_judged has_vote steps_in counted_by counted_for gives_vote beginning digest digest_of core_of core_over just1 justify_height sha256 digest_bytes hash_after compress rounds schedule first_words
+second-reason = record { fronts = steps_in turns; are_fronts = fronts; step = took_block (admitted c3 (0 ∷ 1 ∷ 3 ∷ []) false); behind = refl; counted = inr (inl refl); digest = refl; judged = refl; missing = refl }
+
+-- receiver 1, voter 3: the vote stands
+third-stands : list_any (gives_vote (digest_of a1)) (beginning (steps_in turns 3) (chronicle_of judged 3)) ≡ true
+unfolding chronicle_of steps_in gives_vote beginning digest digest_of core_of core_over just1 justify_height sha256 digest_bytes hash_after compress rounds schedule first_words
+third-stands = refl
+
+no-reason : IsUnbacked judged 1 3 (digest_of a1) → ⊥
+unfolding has_vote
+no-reason r =
+    let e : r.fronts 3 ≡ steps_in turns 3 = fronts-one judged r.fronts (steps_in turns) r.are_fronts fronts 3 in
+    true≢false (sym third-stands ∙ (sym (ap (λ (k : ℕ). list_any (gives_vote (digest_of a1)) (beginning k (chronicle_of judged 3))) e) ∙ r.missing))
+
+pub some-circle : SomeCircle
+some-circle = record {
+  judged = judged;
+  fronts = steps_in turns;
+  are_fronts = fronts;
+  lengths = front-lengths;
+  first = digest_of a1;
+  second = digest_of c2;
+  first_given = first-given;
+  second_given = second-given;
+  first_reason = first-reason;
+  second_reason = second-reason;
+  no_reason = no-reason;
+}
