@@ -2,11 +2,12 @@
 use Rattle.std.proofs.Common.{ℕ, ◌≡◌, ◌<◌, ◌⊎◌, ◌||◌, not, Bool, true, false, length, refl, sym, ap, subst, ◌∙◌, arith, inl, inr, Option, Some, None, true≢false}
 use Rattle.std.proofs.lemmas.Bool.{cases_lt, ltb-true, lt-ltb, or_cases, or_parts, or_left, or_right, not-false}
 use lib.Dec.{ltb}
-use Rattle.definitions.specs.Lists.{Among}
+use Rattle.std.specs.List.{list_any}
+use Rattle.definitions.specs.Lists.{beginning, Among}
 use Rattle.definitions.specs.Bytes.{Bytes}
 use Rattle.definitions.specs.Chronicles.{Step}
 use Rattle.definitions.specs.Audit.{Cut, steps_in, Judged, is_judged, chronicle_of, gives_vote, counted_by, counted_for, step_after, has_vote, is_backed, may_move, AreFronts, IsUnbacked}
-use Rattle.audit_ground.specs.Law.{FrontsAreOne, MovingFindsTheFronts, NoneUnbacked}
+use Rattle.audit_ground.specs.Law.{FrontsAreOne, MovingFindsTheFronts, NoneUnbacked, UnbackedVotesAreSeen}
 use Rattle.audit_ground.proofs.Lists.{any-longer, all-weaker, all-fails, step_after-some, step_after-none, step_after-within}
 use Rattle.audit_ground.proofs.Turns.{greatest-from_stuck, greatest-one, greatest-stuck, Under, IsGrowing, IsBounded, IsStuck, turns-short, stuck-exists, some-mover}
 use Rattle.audit_ground.proofs.Members.{bound, steps-below}
@@ -138,3 +139,16 @@ whole-none_unbacked ks k f whole u v d r =
     let e = fronts-one ks r.fronts k r.are_fronts f u in
     let w = whole u in
     absurd (omega (arith, l, e, w))
+
+-- the law of this name
+pub unbacked-votes_are_seen : UnbackedVotesAreSeen
+unfolding has_vote
+unbacked-votes_are_seen ks k u v d f r =
+    let same = fronts-one ks r.fronts k r.are_fronts f in (
+      r.step,
+      subst (λ (j : ℕ). step_after j (chronicle_of ks u) ≡ Some r.step) (same u) r.behind,
+      r.counted,
+      r.digest,
+      r.judged,
+      subst (λ (j : ℕ). list_any (gives_vote d) (beginning j (chronicle_of ks v)) ≡ false) (same v) r.missing,
+    )

@@ -11,3 +11,4 @@ pub mod Verdicts
 pub mod Examples
 pub mod Fork
 pub mod Circle
+pub mod Ordered

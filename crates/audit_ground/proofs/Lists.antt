@@ -1,11 +1,11 @@
 -- Tests on lists, beginnings, and the step after a beginning.
 use Rattle.std.proofs.Common.{ℕ, suc, ◌≡◌, ◌<◌, ◌≤◌, ◌⊎◌, Bool, true, false, List, [], ◌∷◌, ◌++◌, length, refl, sym, ap, subst, ◌∙◌, arith, inl, inr, Option, Some, None, append_assoc, true≢false}
 use Rattle.std.specs.List.{list_any, list_all}
-use Rattle.std.proofs.lemmas.Bool.{cond_both, cond-true, cond-false, cases_lt, cases_eq, eq-eqb, ne_eqb, le-ltb, lt-ltb, and_parts, and_from, and_cases, or_cases, or_right}
+use Rattle.std.proofs.lemmas.Bool.{cond_both, cond-true, cond-false, cases_lt, cases_eq, eq-eqb, ne_eqb, le-ltb, lt-ltb, and_parts, and_from, and_cases, or_cases, or_left, or_right}
 use lib.Dec.{eqb, ltb}
 use Rattle.definitions.specs.Lists.{beginning, IsBeginning, Among}
 use Rattle.definitions.specs.Audit.{step_after}
-use Rattle.definitions.proofs.Lists.{beginning-whole}
+use Rattle.definitions.proofs.Lists.{beginning-whole, length-added}
 
 -- ---- tests
 
@@ -18,7 +18,18 @@ any-found p (x ∷ xs) h =
       | inr t ↦ let r = any-found p xs t in (r.0, inr r.1, r.2)
     ]
 
--- what passes at each element passes everywhere, also for a weaker test
+-- where an element passes, some does
+pub any-from : {A : Type 0} (p : A → Bool) (xs : List A) (x : A) → Among x xs → p x ≡ true → list_any p xs ≡ true
+any-from p [] x m h = absurd m
+any-from p (y ∷ xs) x (inl e) h = or_left (p y) (list_any p xs) (sym (ap p e) ∙ h)
+any-from p (y ∷ xs) x (inr m) h = or_right (p y) (list_any p xs) (any-from p xs x m h)
+
+-- where each element passes, all do
+pub all-from : {A : Type 0} (p : A → Bool) (xs : List A) → ((x : A) → Among x xs → p x ≡ true) → list_all p xs ≡ true
+all-from p [] h = refl
+all-from p (x ∷ xs) h = and_from (p x) (list_all p xs) (h x (inl refl)) (all-from p xs (λ y m. h y (inr m)))
+
+-- what passes everywhere does so for a weaker test too
 pub all-weaker : {A : Type 0} (p q : A → Bool) (xs : List A) → ((x : A) → p x ≡ true → q x ≡ true) → list_all p xs ≡ true → list_all q xs ≡ true
 all-weaker p q [] h a = refl
 all-weaker p q (x ∷ xs) h a = let r = and_parts (p x) (list_all p xs) a in and_from (q x) (list_all q xs) (h x r.0) (all-weaker p q xs h r.1)
@@ -165,3 +176,11 @@ step_after-among {A} k (y ∷ older) x e =
   where
     some_one : Some x ≡ Some y → x ≡ y
     some_one h = cc
+
+-- what stands on a list within a longer one is the step after it
+pub step_after-beginning : {A : Type 0} (x : A) (older newer : List A) → IsBeginning (x ∷ older) newer → step_after (length older) newer ≡ Some x
+step_after-beginning {A} x older newer b = subst (λ (l : List A). step_after (length older) l ≡ Some x) b.1 (by b.0)
+  where
+    by : (added : List A) → step_after (length older) (added ++ (x ∷ older)) ≡ Some x
+    by [] = step_after-newest x older
+    by (y ∷ added) = step_after-older (length older) y (added ++ (x ∷ older)) (λ e. (let l = length-added added (x ∷ older) in absurd (omega (arith, l, e)))) ∙ by added

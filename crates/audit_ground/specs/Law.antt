@@ -1,5 +1,5 @@
 -- What is known of judged replicas, and what follows for their fronts, their histories and an audit's verdict.
-use Rattle.std.specs.Prelude.{ℕ, ◌≡◌, ◌<◌, ◌≤◌, ◌⊎◌, true, false, List, map, length}
+use Rattle.std.specs.Prelude.{ℕ, ◌≡◌, ◌<◌, ◌≤◌, ◌⊎◌, true, false, List, map, length, Some}
 use Rattle.std.specs.List.{AllByRecursion}
 use Rattle.ids.specs.Sizes.{Sizes, replicas, quorum}
 use Rattle.definitions.specs.Bytes.{Bytes}
@@ -7,9 +7,9 @@ use Rattle.definitions.specs.Lists.{Among, AreDistinct}
 use Rattle.definitions.specs.Frames.{Core, genesis_core}
 use Rattle.definitions.specs.Branches.{just1}
 use Rattle.definitions.specs.Digests.{digest, StandsFor, NoCollision}
-use Rattle.definitions.specs.Chronicles.{Admitted, Step.took_block, Chronicle, IsLawful}
-use Rattle.definitions.specs.Agreement.{Family, IsLawfulFamily}
-use Rattle.definitions.specs.Audit.{Member, Judged, is_judged, chronicle_of, Cut, Turns, steps_in, AreAllowed, has_vote, may_move, AreFronts, Reason, Verdict, IsUnbacked, Holds, HistoriesAgree, IsVerdict}
+use Rattle.definitions.specs.Chronicles.{Admitted, Step, Step.took_block, Chronicle, IsLawful}
+use Rattle.definitions.specs.Agreement.{Family, IsOrderly, IsLawfulFamily}
+use Rattle.definitions.specs.Audit.{Member, Judged, is_judged, chronicle_of, Cut, Turns, steps_in, AreAllowed, counted_by, counted_for, step_after, has_vote, may_move, AreFronts, Reason, Verdict, IsUnbacked, Holds, HistoriesAgree, IsVerdict}
 
 -- ---- what judged replicas have kept
 
@@ -64,6 +64,11 @@ FrontsAreOne = (ks : Judged) → (k : Cut) × AreFronts ks k × ((m : Cut) → A
 abbrev pub MovingFindsTheFronts : Type 0
 MovingFindsTheFronts = (ks : Judged) (turns : Turns) (k : Cut) → AreAllowed (may_move ks) turns → ((i : ℕ) → steps_in turns i ≡ k i) → ((u : ℕ) → may_move ks k u ≡ false) → AreFronts ks k
 
+-- at any fronts, an unbacked vote is one that the first step behind counts and the voter's front lacks
+abbrev pub UnbackedVotesAreSeen : Type 0
+UnbackedVotesAreSeen = (ks : Judged) (k : Cut) (u v : ℕ) (d : Bytes) → AreFronts ks k → IsUnbacked ks u v d →
+    (s : Step) × (step_after (k u) (chronicle_of ks u) ≡ Some s) × Among v (counted_by s) × (counted_for s ≡ d) × (is_judged ks v ≡ true) × (has_vote ks k d v ≡ false)
+
 -- what holds of the judged where no two known cores collide and no vote is unbacked
 abbrev pub WhereBacked : (Sizes → Judged → Type 0) → Type 0
 WhereBacked P = (sizes : Sizes) (ks : Judged) → AreJudged sizes ks → NoCollision (KnownTo ks) → NoneUnbacked ks → P sizes ks
@@ -75,6 +80,10 @@ BackedChroniclesAreOrderly = WhereBacked (λ sizes ks. IsLawfulFamily (judged_fa
 -- and their histories agree
 abbrev pub BackedHistoriesAgree : Type 0
 BackedHistoriesAgree = WhereBacked (λ sizes ks. HistoriesAgree ks)
+
+-- where no two known cores collide and the steps of the judged stand in one order, as those of correct replicas do, no vote is unbacked
+abbrev pub OrderlyChroniclesAreBacked : Type 0
+OrderlyChroniclesAreBacked = (sizes : Sizes) (ks : Judged) → AreJudged sizes ks → NoCollision (KnownTo ks) → IsOrderly (judged_family sizes ks) → NoneUnbacked ks
 
 -- where the histories of judged replicas do not agree, a reason holds
 abbrev pub EachForkHasAReason : Type 0

@@ -2,7 +2,7 @@
 //! speak of the definitions alone; no code runs here. Each stands as the contract of a function with an empty body.
 #![tactic(auto)]
 
-ghost use Rattle.audit_ground.specs.Law.{FrontsAreOne, MovingFindsTheFronts, BackedChroniclesAreOrderly, BackedHistoriesAgree, EachForkHasAReason, EachAuditAnswers, SomeFork, SomeCircle};
+ghost use Rattle.audit_ground.specs.Law.{FrontsAreOne, MovingFindsTheFronts, UnbackedVotesAreSeen, BackedChroniclesAreOrderly, BackedHistoriesAgree, OrderlyChroniclesAreBacked, EachForkHasAReason, EachAuditAnswers, SomeFork, SomeCircle};
 
 /// Judged replicas have fronts, and one choice of them.
 pub fn fronts_are_one()
@@ -14,6 +14,11 @@ pub fn moving_one_counter_finds_the_fronts()
     ensures { MovingFindsTheFronts }
 {}
 
+/// At any fronts, an unbacked vote is one that the first step behind counts and the voter's front lacks.
+pub fn unbacked_votes_are_seen()
+    ensures { UnbackedVotesAreSeen }
+{}
+
 /// Where no two known cores collide and no vote is unbacked, the judged are a lawful family.
 pub fn backed_chronicles_are_orderly()
     ensures { BackedChroniclesAreOrderly }
@@ -22,6 +27,11 @@ pub fn backed_chronicles_are_orderly()
 /// And their histories agree.
 pub fn backed_histories_agree()
     ensures { BackedHistoriesAgree }
+{}
+
+/// No vote is unbacked where the steps of the judged stand in one order, as those of correct replicas do.
+pub fn orderly_chronicles_are_backed()
+    ensures { OrderlyChroniclesAreBacked }
 {}
 
 /// Where the histories of judged replicas do not agree, a vote is unbacked or two cores collide.
