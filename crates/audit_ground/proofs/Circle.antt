@@ -10,7 +10,7 @@ use Rattle.definitions.specs.Chronicles.{Step.took_block, Chronicle}
 use Rattle.definitions.specs.Replicas.{Standing.running}
 use Rattle.definitions.specs.Audit.{Turns, steps_in, Member, Judged, is_judged, chronicle_of, gives_vote, counted_by, counted_for, step_after, has_vote, is_backed, may_move, AreAllowed, AreFronts, IsUnbacked}
 use Rattle.audit_ground.specs.Law.{SomeCircle}
-use Rattle.audit_ground.proofs.Fronts.{moving-finds_the_fronts, fronts-one}
+use Rattle.audit_ground.proofs.Fronts.{fronts-from_turns, fronts-one}
 use Rattle.audit_ground.proofs.Examples.{admitted, none-else, may_move-no_steps}
 
 abbrev command : Command
@@ -84,7 +84,7 @@ stuck (suc (suc (suc zero))) = refl
 stuck (suc (suc (suc (suc u)))) = may_move-no_steps judged (steps_in turns) (suc (suc (suc (suc u)))) (none-else judged 3 (omega arith, (omega arith, (omega arith, tt))) (suc (suc (suc (suc u)))) (omega arith))
 
 fronts : AreFronts judged (steps_in turns)
-fronts = moving-finds_the_fronts judged turns (steps_in turns) turns-allowed (λ i. refl) stuck
+fronts = fronts-from_turns judged turns turns-allowed stuck
 
 front-lengths : (steps_in turns 1 ≡ 1) × (steps_in turns 2 ≡ 2) × (steps_in turns 3 ≡ 3)
 unfolding steps_in

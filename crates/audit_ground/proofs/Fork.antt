@@ -15,7 +15,7 @@ use Rattle.definitions.proofs.Lists.{beginning-append}
 use Rattle.definitions.proofs.Branches.{extends-cases, length-extends}
 use Rattle.definitions.proofs.Digests.{stands_for-from}
 use Rattle.audit_ground.specs.Law.{KnownIn, IsNamed, IsLawfullyKept, SomeFork}
-use Rattle.audit_ground.proofs.Fronts.{moving-finds_the_fronts}
+use Rattle.audit_ground.proofs.Fronts.{fronts-from_turns}
 use Rattle.audit_ground.proofs.Examples.{admitted, none-else, may_move-no_steps}
 
 abbrev sizes : Sizes
@@ -88,7 +88,7 @@ stuck (suc (suc (suc (suc u)))) = may_move-no_steps judged (steps_in turns) (suc
 
 -- the front of 1 has its first step, and the others' are whole
 fronts : AreFronts judged (steps_in turns)
-fronts = moving-finds_the_fronts judged turns (steps_in turns) turns-allowed (λ i. refl) stuck
+fronts = fronts-from_turns judged turns turns-allowed stuck
 
 -- receiver 1, voter 2, the first block of the first client's branch
 pub reason : IsUnbacked judged 1 2 (digest_of (branch 0 1))

@@ -6,10 +6,10 @@ use Rattle.std.specs.List.{list_any}
 use Rattle.definitions.specs.Lists.{beginning, Among}
 use Rattle.definitions.specs.Bytes.{Bytes}
 use Rattle.definitions.specs.Chronicles.{Step}
-use Rattle.definitions.specs.Audit.{Cut, steps_in, Judged, is_judged, chronicle_of, gives_vote, counted_by, counted_for, step_after, has_vote, is_backed, may_move, AreFronts, IsUnbacked}
+use Rattle.definitions.specs.Audit.{Cut, Turns, AreAllowed, steps_in, Judged, is_judged, chronicle_of, gives_vote, counted_by, counted_for, step_after, has_vote, is_backed, may_move, AreFronts, IsUnbacked}
 use Rattle.audit_ground.specs.Law.{FrontsAreOne, MovingFindsTheFronts, NoneUnbacked, UnbackedVotesAreSeen}
 use Rattle.audit_ground.proofs.Lists.{any-longer, all-weaker, all-fails, step_after-some, step_after-none, step_after-within}
-use Rattle.audit_ground.proofs.Turns.{greatest-from_stuck, greatest-one, greatest-stuck, Under, IsGrowing, IsBounded, IsStuck, turns-short, stuck-exists, some-mover}
+use Rattle.audit_ground.proofs.Turns.{greatest-from_stuck, greatest-one, greatest-stuck, Under, IsGrowing, IsBounded, IsStuck, stuck-exists, some-mover, reached-start, reached-moved, reached-short}
 use Rattle.audit_ground.proofs.Members.{bound, steps-below}
 
 -- ---- the rule
@@ -72,13 +72,23 @@ may_move-bounded ks = record { few = λ m u h. steps-below ks u (let s = may_mov
 
 -- the law of this name
 pub moving-finds_the_fronts : MovingFindsTheFronts
-moving-finds_the_fronts ks turns k allowed reached stuck = greatest-from_stuck (may_move ks) (may_move-grows ks) k turns allowed reached stuck
+moving-finds_the_fronts ks = record {
+  start = reached-start (may_move ks);
+  moved = reached-moved (may_move ks) (may_move-grows ks);
+  left = may_move-short ks;
+  within = reached-short (may_move ks) (bound ks) (lengths ks) (may_move-bounded ks);
+  finish = greatest-from_stuck (may_move ks) (may_move-grows ks);
+}
+
+-- turns after which none may move any more lead to the fronts
+pub fronts-from_turns : (ks : Judged) (turns : Turns) → AreAllowed (may_move ks) turns → ((u : ℕ) → may_move ks (steps_in turns) u ≡ false) → AreFronts ks (steps_in turns)
+fronts-from_turns ks turns allowed stuck = greatest-from_stuck (may_move ks) (may_move-grows ks) (steps_in turns) (record { turns = turns; allowed = allowed; reached = λ i. refl }) stuck
 
 -- there are fronts
 pub fronts-exist : (ks : Judged) → (k : Cut) × AreFronts ks k
 fronts-exist ks =
     let s : IsStuck (may_move ks) = stuck-exists (may_move ks) (bound ks) (lengths ks) (may_move-bounded ks) in
-    (steps_in s.turns, moving-finds_the_fronts ks s.turns (steps_in s.turns) s.allowed (λ i. refl) s.stuck)
+    (steps_in s.turns, fronts-from_turns ks s.turns s.allowed s.stuck)
 
 -- two of them are the same
 pub fronts-one : (ks : Judged) (k m : Cut) → AreFronts ks k → AreFronts ks m → (i : ℕ) → k i ≡ m i
@@ -90,10 +100,7 @@ fronts-are_one ks = let f = fronts-exist ks in (f.0, f.1, λ m g. fronts-one ks 
 
 -- a front is no longer than the chronicle
 pub fronts-short : (ks : Judged) (k : Cut) → AreFronts ks k → Under k (lengths ks)
-fronts-short ks k f i =
-    let a = turns-short (may_move ks) (bound ks) (lengths ks) (may_move-bounded ks) f.turns f.allowed i in
-    let b = f.reached i in
-    omega (arith, a, b)
+fronts-short ks k f = reached-short (may_move ks) (bound ks) (lengths ks) (may_move-bounded ks) k (record { turns = f.turns; allowed = f.allowed; reached = f.reached })
 
 -- no replica may move from the fronts
 pub fronts-stuck : (ks : Judged) (k : Cut) → AreFronts ks k → (u : ℕ) → may_move ks k u ≡ false

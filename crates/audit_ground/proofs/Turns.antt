@@ -1,8 +1,9 @@
 -- Greatest fronts, of anything that moves by a rule that more of the others' steps keep.
-use Rattle.std.proofs.Common.{ℕ, zero, suc, ◌≡◌, ◌+◌, ◌<◌, ◌≤◌, ◌⊎◌, Bool, true, false, [], ◌∷◌, refl, sym, subst, arith, inl, inr}
-use Rattle.std.proofs.lemmas.Bool.{cond_both, cases_Bool, cases_lt, eqb-true, eqb-false, both_ways}
+use Rattle.std.proofs.Common.{ℕ, zero, suc, ◌≡◌, ◌+◌, ◌<◌, ◌≤◌, ◌⊎◌, Bool, true, false, [], ◌∷◌, refl, sym, ap, subst, ◌∙◌, arith, inl, inr}
+use Rattle.std.proofs.lemmas.Bool.{cond_both, cases_Bool, cases_lt, cases_eq, eqb-true, eqb-false, both_ways}
 use lib.Dec.{eqb}
 use Rattle.definitions.specs.Audit.{Cut, Turns, steps_in, AreAllowed, IsGreatest}
+use Rattle.audit_ground.specs.Law.{IsReached, IsMoved}
 
 -- no counter of the one is above that of the other
 abbrev pub Under : Cut → Cut → Type 0
@@ -47,17 +48,17 @@ turns-under may grow k stuck (u ∷ earlier) a i =
 -- ---- the greatest cut exists
 
 -- f summed over the numbers below n
-abbrev sum_below : ℕ → Cut → ℕ
+abbrev pub sum_below : ℕ → Cut → ℕ
 sum_below zero f = 0
 sum_below (suc n) f = f n + sum_below n f
 
 -- of counters none of which is above the other's the sum is no greater
-sum_below-under : (n : ℕ) (f g : Cut) → Under f g → sum_below n f ≤ sum_below n g
+pub sum_below-under : (n : ℕ) (f g : Cut) → Under f g → sum_below n f ≤ sum_below n g
 sum_below-under zero f g h = omega arith
 sum_below-under (suc n) f g h = let a = h n in let b = sum_below-under n f g h in omega (arith, a, b)
 
 -- and where one is below, it is less
-sum_below-strict : (n : ℕ) (f g : Cut) (u : ℕ) → Under f g → u < n → f u < g u → sum_below n f < sum_below n g
+pub sum_below-strict : (n : ℕ) (f g : Cut) (u : ℕ) → Under f g → u < n → f u < g u → sum_below n f < sum_below n g
 sum_below-strict zero f g u h l s = absurd (omega arith)
 sum_below-strict (suc n) f g u h l s =
     elim (cases_lt u n) [
@@ -80,7 +81,7 @@ some-mover p (suc n) =
       ]
     ]
 
--- turns after which none may move
+-- turns after which none may move any more
 pub record IsStuck (may : Cut → ℕ → Bool) : Type 0 where
   pub turns : Turns
   pub allowed : AreAllowed may turns
@@ -144,14 +145,9 @@ stuck-exists may n most b = run may n most b (sum_below n most) [] tt (omega ari
 
 -- ---- what the greatest cut is
 
--- allowed turns after which none may move lead to it
-pub greatest-from_stuck : (may : Cut → ℕ → Bool) → IsGrowing may → (k : Cut) (turns : Turns) → AreAllowed may turns → ((i : ℕ) → steps_in turns i ≡ k i) → ((u : ℕ) → may k u ≡ false) → IsGreatest may k
-greatest-from_stuck may grow k turns a reached stuck = record {
-  turns = turns;
-  allowed = a;
-  reached = reached;
-  greatest = λ other o. turns-under may grow k stuck other o;
-}
+-- a cut that is reached, and from which none may move, is the greatest
+pub greatest-from_stuck : (may : Cut → ℕ → Bool) → IsGrowing may → (k : Cut) → IsReached may k → ((u : ℕ) → may k u ≡ false) → IsGreatest may k
+greatest-from_stuck may grow k r stuck = record { turns = r.turns; allowed = r.allowed; reached = r.reached; greatest = λ other o. turns-under may grow k stuck other o }
 
 -- there is one greatest cut
 pub greatest-one : (may : Cut → ℕ → Bool) (k m : Cut) → IsGreatest may k → IsGreatest may m → (i : ℕ) → k i ≡ m i
@@ -175,7 +171,27 @@ greatest-stuck may grow k f u =
       | inr e ↦ e
     ]
 
--- with one more turn that was allowed, turns that lead to a cut lead to the cut with it
-pub allowed-more : (may : Cut → ℕ → Bool) → IsGrowing may → (k : Cut) (turns : Turns) → AreAllowed may turns → ((i : ℕ) → steps_in turns i ≡ k i) → (u : ℕ) → may k u ≡ true → AreAllowed may (u ∷ turns)
-allowed-more may grow k turns a reached u h =
-    (grow k (steps_in turns) u (λ i. (let e = reached i in omega (arith, e))) (sym (reached u)) h, a)
+-- ---- cuts that are reached
+
+-- the cut of no steps is
+pub reached-start : (may : Cut → ℕ → Bool) (k : Cut) → ((i : ℕ) → k i ≡ 0) → IsReached may k
+unfolding steps_in
+reached-start may k none = record { turns = []; allowed = tt; reached = λ i. sym (none i) }
+
+-- so is a reached cut with one more step that was allowed
+pub reached-moved : (may : Cut → ℕ → Bool) → IsGrowing may → (k next : Cut) (u : ℕ) → IsReached may k → may k u ≡ true → IsMoved u k next → IsReached may next
+reached-moved may grow k next u r h m = record {
+  turns = u ∷ r.turns;
+  allowed = (grow k (steps_in r.turns) u (λ i. (let e = r.reached i in omega (arith, e))) (sym (r.reached u)) h, r.allowed);
+  reached = λ i. elim (cases_eq u i) [
+    | inl e ↦ subst (λ (j : ℕ). steps_in (u ∷ r.turns) j ≡ next j) e (steps_in-own u r.turns ∙ (ap suc (r.reached u) ∙ sym m.own))
+    | inr n ↦ steps_in-other u i r.turns n ∙ (r.reached i ∙ sym (m.others i n))
+  ];
+}
+
+-- it does not go past the most
+pub reached-short : (may : Cut → ℕ → Bool) (n : ℕ) (most : Cut) → IsBounded may n most → (k : Cut) → IsReached may k → Under k most
+reached-short may n most b k r i =
+    let a = turns-short may n most b r.turns r.allowed i in
+    let e = r.reached i in
+    omega (arith, a, e)

@@ -1,5 +1,5 @@
 -- What is known of judged replicas, and what follows for their fronts, their histories and an audit's verdict.
-use Rattle.std.specs.Prelude.{ℕ, ◌≡◌, ◌<◌, ◌≤◌, ◌⊎◌, true, false, List, map, length, Some}
+use Rattle.std.specs.Prelude.{ℕ, suc, ◌≡◌, ◌<◌, ◌≤◌, ◌⊎◌, Bool, true, false, List, map, length, Some}
 use Rattle.std.specs.List.{AllByRecursion}
 use Rattle.ids.specs.Sizes.{Sizes, replicas, quorum}
 use Rattle.definitions.specs.Bytes.{Bytes}
@@ -54,15 +54,37 @@ judged_family sizes ks = record { sizes = sizes; is_member = is_judged ks; chron
 abbrev pub NoneUnbacked : Judged → Type 0
 NoneUnbacked ks = (u v : ℕ) (d : Bytes) → IsUnbacked ks u v d → ⊥
 
+-- ---- moving one counter at a time
+
+-- allowed turns lead to the cut
+pub record IsReached (may : Cut → ℕ → Bool) (k : Cut) : Type 0 where
+  pub turns : Turns
+  pub allowed : AreAllowed may turns
+  pub reached : (i : ℕ) → steps_in turns i ≡ k i
+
+-- u has made one more step, and the others none
+pub record IsMoved (u : ℕ) (k next : Cut) : Type 0 where
+  pub own : next u ≡ suc (k u)
+  pub others : (i : ℕ) → (u ≡ i → ⊥) → next i ≡ k i
+
+-- From no steps, moves that are allowed lead to cuts that are reached; who may move has a step left, so they end, and
+-- where none may move any more, they have led to the fronts.
+pub record FindsFronts (ks : Judged) : Type 0 where
+  pub start : (k : Cut) → ((i : ℕ) → k i ≡ 0) → IsReached (may_move ks) k
+  pub moved : (k next : Cut) (u : ℕ) → IsReached (may_move ks) k → may_move ks k u ≡ true → IsMoved u k next → IsReached (may_move ks) next
+  pub left : (k : Cut) (u : ℕ) → may_move ks k u ≡ true → k u < length (chronicle_of ks u)
+  pub within : (k : Cut) → IsReached (may_move ks) k → (i : ℕ) → k i ≤ length (chronicle_of ks i)
+  pub finish : (k : Cut) → IsReached (may_move ks) k → ((u : ℕ) → may_move ks k u ≡ false) → AreFronts ks k
+
 -- ---- laws
 
 -- there are fronts, and one choice of them
 abbrev pub FrontsAreOne : Type 0
 FrontsAreOne = (ks : Judged) → (k : Cut) × AreFronts ks k × ((m : Cut) → AreFronts ks m → (i : ℕ) → m i ≡ k i)
 
--- a cut to which allowed turns lead and from which none may move is the fronts
+-- moving one counter at a time leads to them
 abbrev pub MovingFindsTheFronts : Type 0
-MovingFindsTheFronts = (ks : Judged) (turns : Turns) (k : Cut) → AreAllowed (may_move ks) turns → ((i : ℕ) → steps_in turns i ≡ k i) → ((u : ℕ) → may_move ks k u ≡ false) → AreFronts ks k
+MovingFindsTheFronts = (ks : Judged) → FindsFronts ks
 
 -- at any fronts, an unbacked vote is one that the first step behind counts and the voter's front lacks
 abbrev pub UnbackedVotesAreSeen : Type 0
