@@ -2,16 +2,15 @@
 use Rattle.std.proofs.Common.{ℕ, zero, suc, ◌≡◌, true, false, List, [], ◌∷◌, length, refl, sym, ap, ◌∙◌, arith, inl, inr, true≢false}
 use Rattle.sha2.specs.Sha256.{sha256, digest_bytes, hash_after, compress, rounds, schedule, first_words}
 use Rattle.std.specs.List.{list_any}
-use Rattle.definitions.specs.Lists.{beginning}
+use Rattle.definitions.specs.Lists.{beginning, greatest}
 use Rattle.definitions.specs.Frames.{Command}
-use Rattle.definitions.specs.Branches.{Branch, just1, justify_height}
+use Rattle.definitions.specs.Branches.{Branch, just1, just2, justify_height, highest, extends, branch_eq, block_eq, command_eq}
 use Rattle.definitions.specs.Digests.{digest, digest_of, core_of, core_over}
-use Rattle.definitions.specs.Chronicles.{Step.took_block, Chronicle}
-use Rattle.definitions.specs.Replicas.{Standing.running}
-use Rattle.definitions.specs.Audit.{Turns, steps_in, Member, Judged, is_judged, chronicle_of, gives_vote, counted_by, counted_for, step_after, has_vote, is_backed, may_move, AreAllowed, AreFronts, IsUnbacked}
+use Rattle.definitions.specs.Chronicles.{Step.took_block, voted, taken, tree, vheight, lock, is_clear, clear_above}
+use Rattle.definitions.specs.Audit.{Turns, steps_in, Judged, is_judged, chronicle_of, gives_vote, counted_by, counted_for, step_after, has_vote, is_backed, may_move, AreAllowed, AreFronts, IsUnbacked}
 use Rattle.audit_ground.specs.Law.{SomeCircle}
 use Rattle.audit_ground.proofs.Fronts.{fronts-from_turns, fronts-one}
-use Rattle.audit_ground.proofs.Examples.{admitted, none-else, may_move-no_steps}
+use Rattle.audit_ground.proofs.Examples.{sizes, admitted, Taking, judged_of, none-else, may_move-no_steps, IsQuorum, AreKept, may_take, votes_well, lives_well, life-kept, member-kept, can-be_judged, AreDistinct-from}
 
 abbrev command : Command
 command = record { client = 0; seq = 1; payload = []; vector = [] }
@@ -19,6 +18,12 @@ command = record { client = 0; seq = 1; payload = []; vector = [] }
 -- a block on a branch
 abbrev over : Branch → ℕ → List Command → Branch
 over parent justify commands = record { commands = commands; justify = justify } ∷ parent
+
+abbrev first_voters : List ℕ
+first_voters = 0 ∷ 2 ∷ 3 ∷ []
+
+abbrev second_voters : List ℕ
+second_voters = 0 ∷ 1 ∷ 3 ∷ []
 
 -- two blocks on genesis, and on them others
 abbrev a1 : Branch
@@ -37,36 +42,22 @@ abbrev c3 : Branch
 c3 = over c2 2 []
 
 -- 1 counts 2's vote for a1, and votes for c2 later
-abbrev first_life : Chronicle
-first_life =
-    took_block (admitted c2 [] true)
-    ∷ took_block (admitted c1 [] false)
-    ∷ took_block (admitted a2 (0 ∷ 2 ∷ 3 ∷ []) false)
-    ∷ took_block (admitted a1 [] false)
-    ∷ []
+abbrev first : List Taking
+first = (c2, [], true) ∷ (c1, [], false) ∷ (a2, first_voters, false) ∷ (a1, [], false) ∷ []
 
 -- 2 counts 1's vote for c2, and votes for a1 later
-abbrev second_life : Chronicle
-second_life =
-    took_block (admitted a1 [] true)
-    ∷ took_block (admitted c3 (0 ∷ 1 ∷ 3 ∷ []) false)
-    ∷ took_block (admitted c2 [] false)
-    ∷ took_block (admitted c1 [] false)
-    ∷ []
+abbrev second : List Taking
+second = (a1, [], true) ∷ (c3, second_voters, false) ∷ (c2, [], false) ∷ (c1, [], false) ∷ []
 
 -- 3 votes for both
-abbrev third_life : Chronicle
-third_life =
-    took_block (admitted c2 [] true)
-    ∷ took_block (admitted c1 [] false)
-    ∷ took_block (admitted a1 [] true)
-    ∷ []
+abbrev third : List Taking
+third = (c2, [], true) ∷ (c1, [], false) ∷ (a1, [], true) ∷ []
 
-abbrev member : ℕ → Chronicle → Member
-member n c = record { number = n; replica = record { chronicle = c; standing = running } }
+abbrev replicas : List (ℕ × List Taking)
+replicas = (1, first) ∷ (2, second) ∷ (3, third) ∷ []
 
 abbrev judged : Judged
-judged = member 1 first_life ∷ member 2 second_life ∷ member 3 third_life ∷ []
+judged = judged_of replicas
 
 abbrev turns : Turns
 turns = 3 ∷ 3 ∷ 3 ∷ 2 ∷ 2 ∷ 1 ∷ []
@@ -102,12 +93,12 @@ second-given = refl
 -- receiver 1, voter 2
 first-reason : IsUnbacked judged 1 2 (digest_of a1)
 unfolding step_after chronicle_of is_judged has_vote steps_in counted_by counted_for gives_vote beginning digest digest_of core_of core_over just1 justify_height sha256 digest_bytes hash_after compress rounds schedule first_words
-first-reason = record { fronts = steps_in turns; are_fronts = fronts; step = took_block (admitted a2 (0 ∷ 2 ∷ 3 ∷ []) false); behind = refl; counted = inr (inl refl); digest = refl; judged = refl; missing = refl }
+first-reason = record { fronts = steps_in turns; are_fronts = fronts; step = took_block (admitted a2 first_voters false); behind = refl; counted = inr (inl refl); digest = refl; judged = refl; missing = refl }
 
 -- receiver 2, voter 1
 second-reason : IsUnbacked judged 2 1 (digest_of c2)
 unfolding step_after chronicle_of is_judged has_vote steps_in counted_by counted_for gives_vote beginning digest digest_of core_of core_over just1 justify_height sha256 digest_bytes hash_after compress rounds schedule first_words
-second-reason = record { fronts = steps_in turns; are_fronts = fronts; step = took_block (admitted c3 (0 ∷ 1 ∷ 3 ∷ []) false); behind = refl; counted = inr (inl refl); digest = refl; judged = refl; missing = refl }
+second-reason = record { fronts = steps_in turns; are_fronts = fronts; step = took_block (admitted c3 second_voters false); behind = refl; counted = inr (inl refl); digest = refl; judged = refl; missing = refl }
 
 -- receiver 1, voter 3: the vote stands
 third-stands : list_any (gives_vote (digest_of a1)) (beginning (steps_in turns 3) (chronicle_of judged 3)) ≡ true
@@ -120,9 +111,39 @@ no-reason r =
     let e : r.fronts 3 ≡ steps_in turns 3 = fronts-one judged r.fronts (steps_in turns) r.are_fronts fronts 3 in
     true≢false (sym third-stands ∙ (sym (ap (λ (k : ℕ). list_any (gives_vote (digest_of a1)) (beginning k (chronicle_of judged 3))) e) ∙ r.missing))
 
+-- each is kept well
+first-quorum : IsQuorum first_voters
+first-quorum = (AreDistinct-from first_voters refl, (omega arith, (omega arith, (omega arith, tt))), omega arith)
+
+second-quorum : IsQuorum second_voters
+second-quorum = (AreDistinct-from second_voters refl, (omega arith, (omega arith, (omega arith, tt))), omega arith)
+
+first-well : lives_well first ≡ true
+unfolding lives_well may_take votes_well vheight voted greatest lock highest just1 just2 justify_height beginning tree taken extends branch_eq block_eq command_eq clear_above is_clear
+first-well = refl
+
+second-well : lives_well second ≡ true
+unfolding lives_well may_take votes_well vheight voted greatest lock highest just1 just2 justify_height beginning tree taken extends branch_eq block_eq command_eq clear_above is_clear
+second-well = refl
+
+third-well : lives_well third ≡ true
+unfolding lives_well may_take votes_well vheight voted greatest lock highest just1 just2 justify_height beginning tree taken extends branch_eq block_eq command_eq clear_above is_clear
+third-well = refl
+
+kept : AreKept replicas
+unfolding just1 justify_height beginning
+kept = (
+  life-kept first first-well (inr refl, (inr refl, (inl first-quorum, (inr refl, tt)))),
+  (life-kept second second-well (inr refl, (inl second-quorum, (inr refl, (inr refl, tt)))), (life-kept third third-well (inr refl, (inr refl, (inr refl, tt))), tt)),
+)
+
 pub some-circle : SomeCircle
 some-circle = record {
+  sizes = sizes;
   judged = judged;
+  four = refl;
+  are_judged = can-be_judged replicas (omega arith) refl (omega arith, (omega arith, (omega arith, tt))) kept;
+  kept = member-kept replicas kept;
   fronts = steps_in turns;
   are_fronts = fronts;
   lengths = front-lengths;

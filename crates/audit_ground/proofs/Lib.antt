@@ -3,7 +3,9 @@ pub mod Turns
 pub mod Members
 pub mod Fronts
 pub mod Known
+pub mod Stored
 pub mod Families
+pub mod Ordered
 pub mod Histories
 pub mod Decisions
 pub mod Cores
@@ -11,4 +13,3 @@ pub mod Verdicts
 pub mod Examples
 pub mod Fork
 pub mod Circle
-pub mod Ordered

@@ -6,8 +6,8 @@ use Rattle.definitions.specs.Bytes.{Bytes}
 use Rattle.definitions.specs.Lists.{Among, AreDistinct}
 use Rattle.definitions.specs.Frames.{Core, genesis_core}
 use Rattle.definitions.specs.Branches.{just1}
-use Rattle.definitions.specs.Digests.{digest, StandsFor, NoCollision}
-use Rattle.definitions.specs.Chronicles.{Admitted, Step, Step.took_block, Chronicle, IsLawful}
+use Rattle.definitions.specs.Digests.{digest, digest_of, core_of, StandsFor, NoCollision}
+use Rattle.definitions.specs.Chronicles.{Admitted, Step, Step.took_block, Chronicle, tree, IsLawful}
 use Rattle.definitions.specs.Agreement.{Family, IsOrderly, IsLawfulFamily}
 use Rattle.definitions.specs.Audit.{Member, Judged, is_judged, chronicle_of, Cut, Turns, steps_in, AreAllowed, counted_by, counted_for, step_after, has_vote, may_move, AreFronts, Reason, Verdict, IsUnbacked, Holds, HistoriesAgree, IsVerdict}
 
@@ -30,6 +30,14 @@ pub record IsNamed (Known : Core → Type 0) (a : Admitted) : Type 0 where
 pub record IsLawfullyKept (sizes : Sizes) (c : Chronicle) : Type 0 where
   pub lawful : IsLawful sizes c
   pub named : (a : Admitted) → Among (took_block a) c → IsNamed (KnownIn c) a
+
+-- what a replica stores of a block that it admits: a block of its tree under its digest, with a certificate of the block that it
+-- justifies, and of a new block its own core
+pub record IsStored (c : Chronicle) (a : Admitted) : Type 0 where
+  pub stands : Among a.branch (tree c)
+  pub named : digest a.core ≡ digest_of a.branch
+  pub justified : a.certificate.digest ≡ digest_of (just1 a.branch)
+  pub own : a.new ≡ true → a.core ≡ core_of a.branch
 
 -- where no two cores that it knows collide, its chronicle is such a one
 abbrev pub IsKeptWell : Sizes → Member → Type 0
@@ -77,6 +85,10 @@ pub record FindsFronts (ks : Judged) : Type 0 where
   pub finish : (k : Cut) → IsReached (may_move ks) k → ((u : ℕ) → may_move ks k u ≡ false) → AreFronts ks k
 
 -- ---- laws
+
+-- a lawful chronicle whose blocks are stored so is kept
+abbrev pub StoredBlocksAreNamed : Type 0
+StoredBlocksAreNamed = (sizes : Sizes) (c : Chronicle) → IsLawful sizes c → ((a : Admitted) → Among (took_block a) c → IsStored c a) → IsLawfullyKept sizes c
 
 -- there are fronts, and one choice of them
 abbrev pub FrontsAreOne : Type 0
@@ -128,11 +140,15 @@ pub record SomeFork : Type 0 where
   pub digest : Bytes
   pub reason : IsUnbacked judged receiver voter digest
 
--- Three judged replicas with fronts of 1, 2 and 3 steps. The second step of 1 counts 2's vote for `first`, and the
+-- Three of four replicas, each kept well, with fronts of 1, 2 and 3 steps. The second step of 1 counts 2's vote for `first`, and the
 -- third step of 2 counts 1's for `second`: both votes were given, but each only after the step that counts the other.
 -- A vote of 3 for `first`, which 1 counts too, stands.
 pub record SomeCircle : Type 0 where
+  pub sizes : Sizes
   pub judged : Judged
+  pub four : replicas sizes ≡ 4
+  pub are_judged : AreJudged sizes judged
+  pub kept : (m : Member) → Among m judged → IsLawfullyKept sizes m.replica.chronicle
   pub fronts : Cut
   pub are_fronts : AreFronts judged fronts
   pub lengths : (fronts 1 ≡ 1) × (fronts 2 ≡ 2) × (fronts 3 ≡ 3)

@@ -2,7 +2,12 @@
 //! speak of the definitions alone; no code runs here. Each stands as the contract of a function with an empty body.
 #![tactic(auto)]
 
-ghost use Rattle.audit_ground.specs.Law.{FrontsAreOne, MovingFindsTheFronts, UnbackedVotesAreSeen, BackedChroniclesAreOrderly, BackedHistoriesAgree, OrderlyChroniclesAreBacked, EachForkHasAReason, EachAuditAnswers, SomeFork, SomeCircle};
+ghost use Rattle.audit_ground.specs.Law.{StoredBlocksAreNamed, FrontsAreOne, MovingFindsTheFronts, UnbackedVotesAreSeen, BackedChroniclesAreOrderly, BackedHistoriesAgree, OrderlyChroniclesAreBacked, EachForkHasAReason, EachAuditAnswers, SomeFork, SomeCircle};
+
+/// A lawful chronicle is kept well where each block is stored under its own digest, with a certificate of the block that it justifies.
+pub fn stored_blocks_are_named()
+    ensures { StoredBlocksAreNamed }
+{}
 
 /// Judged replicas have fronts, and one choice of them.
 pub fn fronts_are_one()
