@@ -122,6 +122,7 @@ known-placed ks c (inr (m, n, inr (a, t, e))) =
 abbrev DoNotCollide : Placed → Placed → Type 0
 DoNotCollide a b = digest a.1 ≡ digest b.1 → a.1 ≡ b.1
 
+-- two of them collide, or not
 collide-or_not : (a b : Placed) → OrNot (DoNotCollide a b)
 collide-or_not a b =
     elim (same_core-or_not a.1 b.1) [

@@ -1,18 +1,24 @@
 -- What the examples share: lives of replicas, and tests that they are kept.
-use Rattle.std.proofs.Common.{ℕ, suc, ◌≡◌, ◌<◌, ◌≤◌, ◌⊎◌, ◌&&◌, ◌||◌, ◌==◌, not, Bool, true, false, List, [], ◌∷◌, length, nat_lt, refl, sym, ap, subst, ◌∙◌, arith, inl, inr, true≢false}
+use Rattle.std.proofs.Common.{ℕ, zero, suc, ◌≡◌, ◌<◌, ◌≤◌, ◌⊎◌, ◌&&◌, ◌||◌, ◌==◌, not, Bool, true, false, List, [], ◌∷◌, map, length, nat_lt, refl, sym, ap, subst, ◌∙◌, arith, inl, inr, true≢false}
 use Rattle.std.specs.List.{list_any, AllByRecursion}
 use Rattle.std.proofs.lemmas.Bool.{cond-true, cond-false, ne_eqb, eq-eqb, and_parts, ltb-true, lt-ltb, not-true, or_cases, not_from_true}
 use lib.Dec.{ltb}
+use lib.Pointwise.{bytes_decides}
+use Rattle.std.specs.Str.{bytes_eq}
+use Rattle.definitions.specs.Bytes.{Bytes}
+use Rattle.definitions.specs.Frames.{Command, Core, genesis_core}
+use Rattle.definitions.specs.Histories.{Entry, history_of}
+use Rattle.definitions.proofs.Lists.{Among-mapped}
 use Rattle.ids.specs.Sizes.{Sizes, replicas, quorum}
-use Rattle.definitions.specs.Lists.{Among, AreDistinct}
-use Rattle.definitions.specs.Branches.{Branch, just1, Extends, extends, branch_eq}
-use Rattle.definitions.specs.Digests.{digest, digest_of, core_of}
-use Rattle.definitions.specs.Chronicles.{Admitted, Step.took_block, Chronicle, taken, tree, vheight, lock, is_clear, clear_above, IsLawfulVote, IsLawfulTake, IsLawful}
-use Rattle.definitions.specs.Replicas.{Standing.running}
+use Rattle.definitions.specs.Lists.{beginning, Among, AreDistinct}
+use Rattle.definitions.specs.Branches.{Branch, justify_height, just1, just2, just3, highest, Extends, extends, branch_eq}
+use Rattle.definitions.specs.Digests.{digest, digest_of, core_of, NoCollision}
+use Rattle.definitions.specs.Chronicles.{Admitted, Step.took_block, Chronicle, taken, tree, vheight, lock, decides, decided_by, decided, executed, history, is_clear, clear_above, IsLawfulVote, IsLawfulTake, IsLawful}
+use Rattle.definitions.specs.Replicas.{Standing.running, held_history}
 use Rattle.definitions.specs.Audit.{Cut, Member, Judged, chronicle_of, step_after, may_move}
 use Rattle.definitions.proofs.Branches.{branch_eq-decides, extends-true, extends-cases, length-extends}
 use Rattle.definitions.proofs.Chronicles.{tree-grows}
-use Rattle.audit_ground.specs.Law.{numbers, IsStored, IsLawfullyKept, AreJudged}
+use Rattle.audit_ground.specs.Law.{KnownTo, numbers, IsStored, IsLawfullyKept, AreJudged}
 use Rattle.audit_ground.proofs.Fronts.{is_backed_if, may_move-is}
 use Rattle.audit_ground.proofs.Lists.{any-found, any-from}
 use Rattle.audit_ground.proofs.Stored.{stored-blocks_are_named}
@@ -199,3 +205,95 @@ AreDistinct-from (x ∷ xs) h =
 -- enough such replicas can be judged
 pub can-be_judged : (ps : List (ℕ × List Taking)) → quorum sizes ≤ length (judged_of ps) → are_distinct (numbers (judged_of ps)) ≡ true → AllByRecursion (λ i. i < replicas sizes) (numbers (judged_of ps)) → AreKept ps → AreJudged sizes (judged_of ps)
 can-be_judged ps enough distinct below kept = record { enough = enough; distinct = AreDistinct-from (numbers (judged_of ps)) distinct; below = below; kept = λ m n apart. member-kept ps kept m n }
+
+-- ---- no collisions
+
+-- no two of these are the same
+abbrev are_apart : List Bytes → Bool
+are_apart [] = true
+are_apart (d ∷ ds) = not (list_any (bytes_eq d) ds) && are_apart ds
+
+-- no two of these cores have one digest
+unfoldable pub digests_apart : List Core → Bool
+digests_apart cs = are_apart (map digest cs)
+
+-- a digest that is apart from others is not one of them
+not-among : (d : Bytes) (ds : List Bytes) → not (list_any (bytes_eq d) ds) ≡ true → Among d ds → ⊥
+not-among d ds h m = true≢false (sym (any-from (bytes_eq d) ds d m ((bytes_decides d d).1 refl)) ∙ not-true _ h)
+
+-- of cores whose digests are apart, equal digests are of one
+one-core : (cs : List Core) → are_apart (map digest cs) ≡ true → (a b : Core) → Among a cs → Among b cs → digest a ≡ digest b → a ≡ b
+one-core [] h a b m n e = absurd m
+one-core (c ∷ cs) h a b (inl i) (inl j) e = i ∙ sym j
+one-core (c ∷ cs) h a b (inl i) (inr n) e =
+    absurd (not-among (digest c) (map digest cs) (and_parts _ _ h).0 (subst (λ (d : Bytes). Among d (map digest cs)) (sym e ∙ ap digest i) (Among-mapped digest cs b n)))
+one-core (c ∷ cs) h a b (inr m) (inl j) e =
+    absurd (not-among (digest c) (map digest cs) (and_parts _ _ h).0 (subst (λ (d : Bytes). Among d (map digest cs)) (e ∙ ap digest j) (Among-mapped digest cs a m)))
+one-core (c ∷ cs) h a b (inr m) (inr n) e = one-core cs (and_parts _ _ h).1 a b m n e
+
+-- all cores of a life are among these
+abbrev pub AreAmong : List Core → List Taking → Type 0
+AreAmong cs ts = AllByRecursion (λ t. Among (core_of t.0) cs) ts
+
+-- so are those of the blocks that were admitted
+took-among : (cs : List Core) (ts : List Taking) → AreAmong cs ts → (a : Admitted) → Among (took_block a) (life ts) → Among a.core cs
+took-among cs [] k a m = absurd m
+took-among cs (t ∷ earlier) k a (inl e) = subst (λ (x : Core). Among x cs) (one_core e) k.0
+  where
+    one_core : took_block a ≡ took_block (admitted t.0 t.1 t.2) → core_of t.0 ≡ a.core
+    one_core h = let i : a ≡ admitted t.0 t.1 t.2 = cc in sym (ap (λ (x : Admitted). x.core) i)
+took-among cs (t ∷ earlier) k a (inr m) = took-among cs earlier k.1 a m
+
+-- and those of each member
+member-among : (cs : List Core) (ps : List (ℕ × List Taking)) → AllByRecursion (λ p. AreAmong cs p.1) ps → (m : Member) → Among m (judged_of ps) → (a : Admitted) → Among (took_block a) m.replica.chronicle → Among a.core cs
+member-among cs [] k m n = absurd n
+member-among cs (p ∷ rest) k m (inl e) = λ a t. took-among cs p.1 k.0 a (subst (λ (x : Member). Among (took_block a) x.replica.chronicle) e t)
+member-among cs (p ∷ rest) k m (inr n) = member-among cs rest k.1 m n
+
+-- where no two of these cores have one digest, and genesis's is one of them, no known cores collide
+pub apart-from : (cs : List Core) → digests_apart (genesis_core ∷ cs) ≡ true → (ps : List (ℕ × List Taking)) → AllByRecursion (λ p. AreAmong (genesis_core ∷ cs) p.1) ps → NoCollision (KnownTo (judged_of ps))
+unfolding digests_apart
+apart-from cs h ps k a b ka kb = one-core (genesis_core ∷ cs) h a b (known a ka) (known b kb)
+  where
+    known : (c : Core) → KnownTo (judged_of ps) c → Among c (genesis_core ∷ cs)
+    known c (inl e) = inl e
+    known c (inr (m, n, inl e)) = inl e
+    known c (inr (m, n, inr (x, t, e))) = subst (λ (y : Core). Among y (genesis_core ∷ cs)) e (member-among (genesis_core ∷ cs) ps k m n x t)
+
+-- ---- a life along a branch
+
+-- a client's command
+abbrev pub command : ℕ → Command
+command client = record { client = client; seq = 1; payload = []; vector = [] }
+
+-- the first block has the client's command
+abbrev pub commands : ℕ → ℕ → List Command
+commands client zero = command client ∷ []
+commands client (suc n) = []
+
+-- n blocks, each of which justifies the one below it
+abbrev pub branch : ℕ → ℕ → Branch
+branch client zero = []
+branch client (suc n) = record { commands = commands client n; justify = n } ∷ branch client n
+
+-- four blocks of the branch, and votes for them
+abbrev pub along : ℕ → List ℕ → List Taking
+along client voters = (branch client 4, voters, true) ∷ (branch client 3, voters, true) ∷ (branch client 2, voters, true) ∷ (branch client 1, [], true) ∷ []
+
+-- their cores
+abbrev pub cores : ℕ → List Core
+cores client = core_of (branch client 4) ∷ core_of (branch client 3) ∷ core_of (branch client 2) ∷ core_of (branch client 1) ∷ []
+
+-- the command that was executed
+abbrev pub entry : ℕ → Entry
+entry client = record { client = client; seq = 1; payload = [] }
+
+-- a replica that lived so executed the command
+pub along-history : (client : ℕ) (voters : List ℕ) → held_history (record { chronicle = life (along client voters); standing = running }) ≡ entry client ∷ []
+unfolding held_history history executed decided decided_by decides taken highest history_of just1 just2 just3 beginning justify_height
+along-history client voters = refl
+
+-- its blocks justify one another, from genesis on
+pub along-certified : (client : ℕ) (voters : List ℕ) → IsQuorum voters → AreCertified (along client voters)
+unfolding just1 justify_height beginning
+along-certified client voters q = (inl q, (inl q, (inl q, (inr refl, tt))))

@@ -13,3 +13,4 @@ pub mod Verdicts
 pub mod Examples
 pub mod Fork
 pub mod Circle
+pub mod Agree

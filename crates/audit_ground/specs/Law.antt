@@ -8,6 +8,7 @@ use Rattle.definitions.specs.Frames.{Core, genesis_core}
 use Rattle.definitions.specs.Branches.{just1}
 use Rattle.definitions.specs.Digests.{digest, digest_of, core_of, StandsFor, NoCollision}
 use Rattle.definitions.specs.Chronicles.{Admitted, Step, Step.took_block, Chronicle, tree, IsLawful}
+use Rattle.definitions.specs.Replicas.{held_history}
 use Rattle.definitions.specs.Agreement.{Family, IsOrderly, IsLawfulFamily}
 use Rattle.definitions.specs.Audit.{Member, Judged, is_judged, chronicle_of, Cut, Turns, steps_in, AreAllowed, counted_by, counted_for, step_after, has_vote, may_move, AreFronts, Reason, Verdict, IsUnbacked, Holds, HistoriesAgree, IsVerdict}
 
@@ -127,13 +128,25 @@ EachForkHasAReason = (sizes : Sizes) (ks : Judged) → AreJudged sizes ks → (H
 abbrev pub EachAuditAnswers : Type 0
 EachAuditAnswers = (sizes : Sizes) (ks : Judged) → AreJudged sizes ks → (v : Verdict) × IsVerdict ks v
 
--- Three of four replicas, each kept well, whose histories do not agree, and the unbacked vote behind the fork.
+-- Three of four replicas, each kept well, that executed something; no cores collide, and no vote is unbacked.
+pub record SomeAgreement : Type 0 where
+  pub sizes : Sizes
+  pub judged : Judged
+  pub four : replicas sizes ≡ 4
+  pub are_judged : AreJudged sizes judged
+  pub kept : (m : Member) → Among m judged → IsLawfullyKept sizes m.replica.chronicle
+  pub apart : NoCollision (KnownTo judged)
+  pub backed : NoneUnbacked judged
+  pub executed : (m : Member) → Among m judged → 0 < length (held_history m.replica)
+
+-- Three of four replicas, each kept well, whose histories do not agree; no cores collide, so an unbacked vote is behind the fork.
 pub record SomeFork : Type 0 where
   pub sizes : Sizes
   pub judged : Judged
   pub four : replicas sizes ≡ 4
   pub are_judged : AreJudged sizes judged
   pub kept : (m : Member) → Among m judged → IsLawfullyKept sizes m.replica.chronicle
+  pub apart : NoCollision (KnownTo judged)
   pub differ : HistoriesAgree judged → ⊥
   pub receiver : ℕ
   pub voter : ℕ

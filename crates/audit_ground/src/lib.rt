@@ -2,7 +2,7 @@
 //! speak of the definitions alone; no code runs here. Each stands as the contract of a function with an empty body.
 #![tactic(auto)]
 
-ghost use Rattle.audit_ground.specs.Law.{StoredBlocksAreNamed, FrontsAreOne, MovingFindsTheFronts, UnbackedVotesAreSeen, BackedChroniclesAreOrderly, BackedHistoriesAgree, OrderlyChroniclesAreBacked, EachForkHasAReason, EachAuditAnswers, SomeFork, SomeCircle};
+ghost use Rattle.audit_ground.specs.Law.{StoredBlocksAreNamed, FrontsAreOne, MovingFindsTheFronts, UnbackedVotesAreSeen, BackedChroniclesAreOrderly, BackedHistoriesAgree, OrderlyChroniclesAreBacked, EachForkHasAReason, EachAuditAnswers, SomeAgreement, SomeFork, SomeCircle};
 
 /// A lawful chronicle is kept well where each block is stored under its own digest, with a certificate of the block that it justifies.
 pub fn stored_blocks_are_named()
@@ -49,7 +49,12 @@ pub fn each_audit_answers()
     ensures { EachAuditAnswers }
 {}
 
-/// The premises can be met: three of four replicas are judged, and their histories do not agree.
+/// The premises can be met: three of four replicas are judged that executed something, and no vote is unbacked.
+pub fn some_agreement()
+    ensures { SomeAgreement }
+{}
+
+/// And by a fork: three of four replicas are judged, and their histories do not agree.
 pub fn some_fork()
     ensures { SomeFork }
 {}
