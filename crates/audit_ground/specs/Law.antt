@@ -32,15 +32,14 @@ pub record IsLawfullyKept (sizes : Sizes) (c : Chronicle) : Type 0 where
   pub lawful : IsLawful sizes c
   pub named : (a : Admitted) → Among (took_block a) c → IsNamed (KnownIn c) a
 
--- what a replica stores of a block that it admits: a block of its tree under its digest, with a certificate of the block that it
--- justifies, and of a new block its own core
+-- The block is in the tree and came under its own digest, with a certificate of the block that it justifies; the core of a new block is its own.
 pub record IsStored (c : Chronicle) (a : Admitted) : Type 0 where
   pub stands : Among a.branch (tree c)
   pub named : digest a.core ≡ digest_of a.branch
   pub justified : a.certificate.digest ≡ digest_of (just1 a.branch)
   pub own : a.new ≡ true → a.core ≡ core_of a.branch
 
--- where no two cores that it knows collide, its chronicle is such a one
+-- where no two cores that it knows collide, its chronicle is lawfully kept
 abbrev pub IsKeptWell : Sizes → Member → Type 0
 IsKeptWell sizes m = NoCollision (KnownIn m.replica.chronicle) → IsLawfullyKept sizes m.replica.chronicle
 
@@ -71,7 +70,7 @@ pub record IsReached (may : Cut → ℕ → Bool) (k : Cut) : Type 0 where
   pub allowed : AreAllowed may turns
   pub reached : (i : ℕ) → steps_in turns i ≡ k i
 
--- u has made one more step, and the others none
+-- u has one more step, and the others have as many as before
 pub record IsMoved (u : ℕ) (k next : Cut) : Type 0 where
   pub own : next u ≡ suc (k u)
   pub others : (i : ℕ) → (u ≡ i → ⊥) → next i ≡ k i
@@ -87,7 +86,7 @@ pub record FindsFronts (ks : Judged) : Type 0 where
 
 -- ---- laws
 
--- a lawful chronicle whose blocks are stored so is kept
+-- a lawful chronicle of which each block is stored so is lawfully kept
 abbrev pub StoredBlocksAreNamed : Type 0
 StoredBlocksAreNamed = (sizes : Sizes) (c : Chronicle) → IsLawful sizes c → ((a : Admitted) → Among (took_block a) c → IsStored c a) → IsLawfullyKept sizes c
 
@@ -153,9 +152,8 @@ pub record SomeFork : Type 0 where
   pub digest : Bytes
   pub reason : IsUnbacked judged receiver voter digest
 
--- Three of four replicas, each kept well, with fronts of 1, 2 and 3 steps. The second step of 1 counts 2's vote for `first`, and the
--- third step of 2 counts 1's for `second`: both votes were given, but each only after the step that counts the other.
--- A vote of 3 for `first`, which 1 counts too, stands.
+-- Three of four replicas, each kept well, with fronts of 1, 2 and 3 steps. Behind its front 1 counts a vote of 2, and 2
+-- one of 1: each was given, but only after the step that counts the other. A vote of 3 that 1 counts there is backed.
 pub record SomeCircle : Type 0 where
   pub sizes : Sizes
   pub judged : Judged

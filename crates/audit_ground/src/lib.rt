@@ -1,5 +1,6 @@
-//! The audit's ground: of kept replicas whose digests name what they say, a fork always has a reason. The laws
-//! speak of the definitions alone; no code runs here. Each stands as the contract of a function with an empty body.
+//! What an audit rests on: where the histories of kept replicas fork, a vote is unbacked or two cores collide. The
+//! laws speak of the definitions alone; no code runs here. Each stands as the contract of a function with an empty
+//! body.
 #![tactic(auto)]
 
 ghost use Rattle.audit_ground.specs.Law.{StoredBlocksAreNamed, FrontsAreOne, MovingFindsTheFronts, UnbackedVotesAreSeen, BackedChroniclesAreOrderly, BackedHistoriesAgree, OrderlyChroniclesAreBacked, EachForkHasAReason, EachAuditAnswers, SomeAgreement, SomeFork, SomeCircle};
@@ -14,7 +15,7 @@ pub fn fronts_are_one()
     ensures { FrontsAreOne }
 {}
 
-/// Allowed turns after which no replica may move lead to the fronts.
+/// Moving one counter at a time, while its replica may move, ends at the fronts.
 pub fn moving_one_counter_finds_the_fronts()
     ensures { MovingFindsTheFronts }
 {}
@@ -59,7 +60,7 @@ pub fn some_fork()
     ensures { SomeFork }
 {}
 
-/// Votes can stand behind one another in a circle, and then each is unbacked.
+/// Votes can stand behind one another in a circle: then each is unbacked, though both were given.
 pub fn some_circle()
     ensures { SomeCircle }
 {}
