@@ -190,8 +190,27 @@ module _ (Known : Core → Type 0) (ks : Judged) (named : (i : ℕ) (a : Admitte
         | inr n ↦ let e = ap (λ (c : Chronicle). length c) (unjudged-none ks u n) in omega (arith, low, e)
       ]
 
+-- ---- a family with more members
+
+-- a step that is backed in a family is backed in a smaller one
+backed-fewer : (fewer more : ℕ → Bool) → ((i : ℕ) → fewer i ≡ true → more i ≡ true) → (s : Step) (o : Order) → IsBacked more s o → IsBacked fewer s o
+backed-fewer fewer more up (took_block a) o h = λ new v m f. h new v m (up v f)
+backed-fewer fewer more up (got_vote v t b) o h = tt
+backed-fewer fewer more up (got_new_view w s q b) o h = tt
+backed-fewer fewer more up (got_request r) o h = tt
+backed-fewer fewer more up (got_fetch s b) o h = tt
+backed-fewer fewer more up timed_out o h = tt
+backed-fewer fewer more up beat o h = tt
+
+-- so are all steps of an order
+ordered-fewer : (fewer more : ℕ → Bool) → ((i : ℕ) → fewer i ≡ true → more i ≡ true) → (o : Order) → IsOrdered more o → IsOrdered fewer o
+ordered-fewer fewer more up [] h = tt
+ordered-fewer fewer more up (p ∷ earlier) h = (backed-fewer fewer more up p.1 earlier h.0, ordered-fewer fewer more up earlier h.1)
+
 -- the law of this name
 pub orderly-chronicles_are_backed : OrderlyChroniclesAreBacked
-orderly-chronicles_are_backed sizes ks j apart o =
+orderly-chronicles_are_backed sizes ks fam j apart members o =
     let f = fronts-exist ks in
-    whole-none_unbacked ks f.0 f.1 (order-whole (KnownTo ks) ks (judged-named sizes ks j apart) o.order o.whole o.ordered f.0 f.1)
+    let ordered = ordered-fewer (is_judged ks) fam.is_member (λ i t. (members i t).0) o.order o.ordered in
+    let whole : (i : ℕ) → is_judged ks i ≡ true → steps_of i o.order ≡ chronicle_of ks i = λ i t. o.whole i (members i t).0 ∙ (members i t).1 in
+    whole-none_unbacked ks f.0 f.1 (order-whole (KnownTo ks) ks (judged-named sizes ks j apart) o.order whole ordered f.0 f.1)

@@ -115,9 +115,13 @@ BackedChroniclesAreOrderly = WhereBacked (λ sizes ks. IsLawfulFamily (judged_fa
 abbrev pub BackedHistoriesAgree : Type 0
 BackedHistoriesAgree = WhereBacked (λ sizes ks. HistoriesAgree ks)
 
--- where no two known cores collide and the steps of the judged stand in one order, as those of correct replicas do, no vote is unbacked
+-- the judged are members of the family, with its chronicles
+abbrev pub AreMembers : Judged → Family → Type 0
+AreMembers ks fam = (i : ℕ) → is_judged ks i ≡ true → (fam.is_member i ≡ true) × (fam.chronicle i ≡ chronicle_of ks i)
+
+-- where no two known cores collide and the judged are members of an orderly family, as correct replicas are, no vote is unbacked
 abbrev pub OrderlyChroniclesAreBacked : Type 0
-OrderlyChroniclesAreBacked = (sizes : Sizes) (ks : Judged) → AreJudged sizes ks → NoCollision (KnownTo ks) → IsOrderly (judged_family sizes ks) → NoneUnbacked ks
+OrderlyChroniclesAreBacked = (sizes : Sizes) (ks : Judged) (fam : Family) → AreJudged sizes ks → NoCollision (KnownTo ks) → AreMembers ks fam → IsOrderly fam → NoneUnbacked ks
 
 -- where the histories of judged replicas do not agree, a reason holds
 abbrev pub EachForkHasAReason : Type 0

@@ -35,7 +35,7 @@ pub fn backed_histories_agree()
     ensures { BackedHistoriesAgree }
 {}
 
-/// No vote is unbacked where the steps of the judged stand in one order, as those of correct replicas do.
+/// No vote is unbacked where the judged are members of an orderly family, as correct replicas are.
 pub fn orderly_chronicles_are_backed()
     ensures { OrderlyChroniclesAreBacked }
 {}
