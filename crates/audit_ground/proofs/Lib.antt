@@ -1,0 +1,16 @@
+pub mod Lists
+pub mod Turns
+pub mod Members
+pub mod Fronts
+pub mod Known
+pub mod Stored
+pub mod Families
+pub mod Ordered
+pub mod Histories
+pub mod Decisions
+pub mod Cores
+pub mod Verdicts
+pub mod Examples
+pub mod Fork
+pub mod Circle
+pub mod Agree

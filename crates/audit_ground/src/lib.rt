@@ -1,0 +1,66 @@
+//! What an audit rests on: where the histories of kept replicas fork, a vote is unbacked or two cores collide. The
+//! laws speak of the definitions alone; no code runs here. Each stands as the contract of a function with an empty
+//! body.
+#![tactic(auto)]
+
+ghost use Rattle.audit_ground.specs.Law.{StoredBlocksAreNamed, FrontsAreOne, MovingFindsTheFronts, UnbackedVotesAreSeen, BackedChroniclesAreOrderly, BackedHistoriesAgree, OrderlyChroniclesAreBacked, EachForkHasAReason, EachAuditAnswers, SomeAgreement, SomeFork, SomeCircle};
+
+/// A lawful chronicle is kept well where each block is stored under its own digest, with a certificate of the block that it justifies.
+pub fn stored_blocks_are_named()
+    ensures { StoredBlocksAreNamed }
+{}
+
+/// Judged replicas have fronts, and one choice of them.
+pub fn fronts_are_one()
+    ensures { FrontsAreOne }
+{}
+
+/// Moving one counter at a time, while its replica may move, ends at the fronts.
+pub fn moving_one_counter_finds_the_fronts()
+    ensures { MovingFindsTheFronts }
+{}
+
+/// At any fronts, an unbacked vote is one that the first step behind counts and the voter's front lacks.
+pub fn unbacked_votes_are_seen()
+    ensures { UnbackedVotesAreSeen }
+{}
+
+/// Where no two known cores collide and no vote is unbacked, the judged are a lawful family.
+pub fn backed_chronicles_are_orderly()
+    ensures { BackedChroniclesAreOrderly }
+{}
+
+/// And their histories agree.
+pub fn backed_histories_agree()
+    ensures { BackedHistoriesAgree }
+{}
+
+/// No vote is unbacked where the judged are members of an orderly family, as correct replicas are.
+pub fn orderly_chronicles_are_backed()
+    ensures { OrderlyChroniclesAreBacked }
+{}
+
+/// Where the histories of judged replicas do not agree, a vote is unbacked or two cores collide.
+pub fn each_fork_has_a_reason()
+    ensures { EachForkHasAReason }
+{}
+
+/// Judged replicas have a verdict.
+pub fn each_audit_answers()
+    ensures { EachAuditAnswers }
+{}
+
+/// The premises can be met: three of four replicas are judged that executed something, and no vote is unbacked.
+pub fn some_agreement()
+    ensures { SomeAgreement }
+{}
+
+/// And by a fork: three of four replicas are judged, and their histories do not agree.
+pub fn some_fork()
+    ensures { SomeFork }
+{}
+
+/// Votes can stand behind one another in a circle: then each is unbacked, though both were given.
+pub fn some_circle()
+    ensures { SomeCircle }
+{}
