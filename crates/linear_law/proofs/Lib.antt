@@ -9,6 +9,7 @@ pub mod Requested
 pub mod Entries
 pub mod Replies
 pub mod Fits
+pub mod StoredFrames
 pub mod Receipts
 pub mod Accounts
 pub mod Final
