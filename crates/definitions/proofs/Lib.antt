@@ -7,3 +7,4 @@ pub mod Chronicles
 pub mod Orders
 pub mod Spellings
 pub mod Vectors
+pub mod Certificates

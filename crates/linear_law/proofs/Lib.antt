@@ -10,6 +10,7 @@ pub mod Entries
 pub mod Replies
 pub mod Fits
 pub mod StoredFrames
+pub mod MadeCertificates
 pub mod Receipts
 pub mod Accounts
 pub mod Final
