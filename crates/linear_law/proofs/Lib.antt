@@ -11,6 +11,7 @@ pub mod Replies
 pub mod Fits
 pub mod StoredFrames
 pub mod MadeCertificates
+pub mod Leaves
 pub mod Receipts
 pub mod Accounts
 pub mod Final
