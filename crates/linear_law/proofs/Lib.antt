@@ -12,6 +12,7 @@ pub mod Fits
 pub mod StoredFrames
 pub mod MadeCertificates
 pub mod Leaves
+pub mod SentFrames
 pub mod Receipts
 pub mod Accounts
 pub mod Final
