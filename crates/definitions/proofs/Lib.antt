@@ -8,3 +8,4 @@ pub mod Orders
 pub mod Spellings
 pub mod Vectors
 pub mod Certificates
+pub mod ReplyTexts
