@@ -13,6 +13,7 @@ pub mod StoredFrames
 pub mod MadeCertificates
 pub mod Leaves
 pub mod SentFrames
+pub mod FitAnswers
 pub mod Receipts
 pub mod Accounts
 pub mod Final
