@@ -14,6 +14,7 @@ pub mod MadeCertificates
 pub mod Leaves
 pub mod SentFrames
 pub mod FitAnswers
+pub mod KnownLeaves
 pub mod Receipts
 pub mod Accounts
 pub mod Final
