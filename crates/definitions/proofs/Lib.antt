@@ -7,5 +7,8 @@ pub mod Chronicles
 pub mod Orders
 pub mod Spellings
 pub mod Vectors
+pub mod Lines
+pub mod RequestTexts
+pub mod ItemLaws
 pub mod Certificates
 pub mod ReplyTexts

@@ -1,7 +1,7 @@
 -- Keyrings, and the tags that a party makes and tests.
-use Rattle.std.specs.Prelude.{ℕ, zero, suc, Bool, [], ◌++◌, bytes_eq}
+use Rattle.std.specs.Prelude.{ℕ, zero, suc, ◌+◌, ◌-◌, Bool, ◌&&◌, ◌||◌, List, [], ◌++◌, bytes_eq, nat_lt, nat_le, if◌then◌else◌, slice_index_or}
 use Rattle.ids.specs.declared.kind.Kind.{Kind}
-use Rattle.ids.specs.Sizes.{Sizes, replicas}
+use Rattle.ids.specs.Sizes.{Sizes, replicas, client_party}
 use Rattle.definitions.specs.Bytes.{Bytes}
 use Rattle.definitions.specs.Tags.{tag}
 
@@ -26,3 +26,35 @@ tags_for ring label content (suc u) = tags_for ring label content u ++ tag_for r
 -- a vector: one tag for each replica
 abbrev pub vector_for : Sizes → Keyring → Kind → Bytes → Bytes
 vector_for sizes ring label content = tags_for ring label content (replicas sizes)
+
+-- ---- the keys of a party as they are kept
+
+-- the keys of one party: with each replica in order, then, where it is a replica, with each client
+pub record Keys : Type 0 where
+  pub sizes : Sizes
+  pub party : ℕ
+  pub keys : List Bytes
+
+-- the party is a replica
+abbrev pub is_replica_of : Sizes → ℕ → Bool
+is_replica_of sizes party = nat_lt party (replicas sizes)
+
+-- the party is a client
+abbrev pub is_client_of : Sizes → ℕ → Bool
+is_client_of sizes party = nat_le (client_party 0) party && nat_lt party (client_party sizes.clients)
+
+-- how many keys a party has
+abbrev pub keys_due : Sizes → ℕ → ℕ
+keys_due sizes party = if is_replica_of sizes party then replicas sizes + sizes.clients else replicas sizes
+
+-- the party exchanges frames with this one: of the two, one is a replica
+abbrev pub is_peer : Keys → ℕ → Bool
+is_peer ring party = is_replica_of ring.sizes party || (is_replica_of ring.sizes ring.party && is_client_of ring.sizes party)
+
+-- the place of a party among them
+abbrev pub place_of : Sizes → ℕ → ℕ
+place_of sizes party = if nat_lt party (client_party 0) then party else replicas sizes + (party - client_party 0)
+
+-- the keyring that they are
+abbrev pub keyring_of : Keys → Keyring
+keyring_of ring = record { party = ring.party; key = λ party. slice_index_or ring.keys (place_of ring.sizes party) [] }

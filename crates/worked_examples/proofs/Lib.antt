@@ -1,1 +1,2 @@
 pub mod FrameSizes
+pub mod LineSteps

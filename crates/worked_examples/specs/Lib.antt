@@ -2,5 +2,6 @@ pub mod Cache
 pub mod Chains
 pub mod Frames
 pub mod Histories
+pub mod Lines
 pub mod Tags
 pub mod Views

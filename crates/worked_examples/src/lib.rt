@@ -6,5 +6,6 @@ pub mod cache;
 pub mod chains;
 pub mod frames;
 pub mod histories;
+pub mod lines;
 pub mod tags;
 pub mod views;

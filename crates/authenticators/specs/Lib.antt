@@ -1,0 +1,2 @@
+pub use Rattle.definitions.specs.Tags
+pub use Rattle.definitions.specs.Keyrings

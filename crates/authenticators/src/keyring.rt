@@ -1,0 +1,131 @@
+ghost use Rattle.std.specs.Prelude.{◌≡◌, ◌+◌, ◌*◌, ◌<◌, ◌++◌, ◌↔◌, [], length, IsTrue, OnOk, OnErr, vec_capacity, vec_len};
+ghost use Rattle.ids.specs.Sizes.{replicas};
+ghost use Rattle.definitions.specs.Tags.{tag_text};
+ghost use Rattle.definitions.specs.Keyrings.{keys_due, is_peer, place_of, keyring_of, tag_for, verify, vector_for};
+
+use crate::mac::hmac_of_parts;
+use ids::{Config, Fault, Kind, PartyId};
+use std::marker::Model;
+
+/// The keys of one party. It makes tags for its peers and verifies theirs.
+///
+/// Two replicas are peers, one replica with itself included, and so are a replica and a client; two clients are not.
+#[derive(Drop)]
+pub struct Keyring {
+    config: Config,
+    party: PartyId,
+    keys: Vec<[u8; 32]>,
+}
+
+impl Model for Keyring {
+    ghost use Rattle.std.specs.Prelude.{◌≡◌, length};
+    ghost use Rattle.definitions.specs.Keyrings.{Keys, keys_due};
+
+    ghost Value = { Keys };
+
+    ghost view = { λ k. record { sizes = k.config; party = k.party; keys = k.keys.items } };
+
+    ghost invariant = { λ k. length k.keys.items ≡ keys_due k.config k.party };
+}
+
+impl Keyring {
+    /// The keyring of a party, of its key with each replica in order, and then, where it is a replica, with each
+    /// client.
+    pub fn new(config: Config, party: PartyId, keys: Vec<[u8; 32]>) -> Keyring
+        requires { length keys.items ≡ keys_due config party }
+        ensures { result ≡ record { sizes = config; party = party; keys = keys.items } }
+    {
+        Keyring {
+            config,
+            party,
+            keys,
+        }
+    }
+
+    /// The party whose keys these are.
+    pub fn party(&self) -> PartyId
+        ensures { result ≡ self.now.party }
+    {
+        self.party
+    }
+
+    /// The sizes that it was made with.
+    pub fn config(&self) -> Config
+        ensures { result ≡ self.now.sizes }
+    {
+        self.config
+    }
+
+    /// The tag of a content for a receiver. Its label is the kind of frame that it stands in.
+    #[tactic(auto, unfolding(definitions::specs::Keyrings::tag_for))]
+    pub fn tag(&self, label: Kind, to: PartyId, content: &[u8]) -> [u8; 32]
+        requires { IsTrue (is_peer self.now to) }
+        ensures { result ≡ tag_for (keyring_of self.now) label to content.now }
+    {
+        let head = head(label, self.party, to);
+        hmac_of_parts(self.key(to), &head, content)
+    }
+
+    /// Whether this is the tag of a content from a sender. All 32 bytes are compared, in the same time whether
+    /// they agree or not.
+    #[tactic(auto, unfolding(definitions::specs::Keyrings::verify))]
+    pub fn verify(&self, label: Kind, from: PartyId, content: &[u8], tag: &[u8; 32]) -> bool
+        requires { IsTrue (is_peer self.now from) }
+        ensures { result ≡ verify (keyring_of self.now) label from content.now tag.now }
+    {
+        let head = head(label, from, self.party);
+        let right = hmac_of_parts(self.key(from), &head, content);
+        are_equal(tag, &right)
+    }
+
+    /// Appends a vector: one tag for each replica, in order. Memory is wanting only where the spare room was too
+    /// small, and `out` is as before then.
+    #[tactic(auto, unfolding(definitions::specs::Keyrings::tags_for))]
+    pub fn vector(&self, label: Kind, content: &[u8], out: &mut Vec<u8>) -> Result<(), Fault>
+        ensures appended { OnOk result (out.new.items ≡ out.old.items ++ vector_for self.now.sizes (keyring_of self.now) label content.now) }
+        ensures unchanged { OnErr result (out.new.items ≡ out.old.items) }
+        ensures memory { OnErr result (result ≡ Err Fault.Memory) }
+        ensures grown { OnErr result (vec_capacity out.old < vec_len out.old + 32 * replicas self.now.sizes) }
+    {
+        let n = self.config.n();
+        out.reserve(32 * usize::from(n))?;
+        for u in 0..n {
+            let tag = self.tag(label, PartyId(u16::from(u)), content);
+            out.extend_from_slice(&tag).unwrap();
+        }
+        Ok(())
+    }
+
+    /// The key that is shared with a peer.
+    fn key(&self, peer: PartyId) -> &[u8; 32]
+        requires { IsTrue (is_peer self.now peer) }
+        ensures { result.now ≡ (keyring_of self.now).key peer }
+    {
+        let place = if peer.0 < 256 {
+            usize::from(peer.0)
+        } else {
+            usize::from(self.config.n()) + usize::from(peer.0 - 256)
+        };
+        &self.keys[place]
+    }
+}
+
+/// What stands before the content under a tag: the label, the sender and the receiver.
+fn head(label: Kind, sender: PartyId, receiver: PartyId) -> [u8; 5]
+    ensures { result ≡ tag_text label sender receiver [] }
+{
+    let [s0, s1] = sender.0.to_be_bytes();
+    let [r0, r1] = receiver.0.to_be_bytes();
+    [label.number(), s0, s1, r0, r1]
+}
+
+/// Whether all bytes are equal. Each pair is looked at, wherever they differ.
+fn are_equal(a: &[u8; 32], b: &[u8; 32]) -> bool
+    ensures { IsTrue result ↔ (a.now ≡ b.now) }
+{
+    let mut differing: u8 = 0;
+    for i in 0..32 {
+        differing += u8::from(a[i] != b[i]);
+    }
+    differing == 0
+}
