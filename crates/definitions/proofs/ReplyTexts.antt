@@ -12,13 +12,14 @@ use Rattle.std.proofs.lemmas.Fmt.{length-decimal-le}
 use Rattle.definitions.specs.Lists.{Among}
 use Rattle.definitions.specs.Bytes.{Bytes}
 use Rattle.definitions.specs.FrameLimits.{most_text}
-use Rattle.definitions.specs.Requests.{Verb, set, add, replace, append, prepend, Asked, store, cas, get, gets, delete, incr, decr, canonical, most_data}
-use Rattle.definitions.specs.Canonical.{is_key, is_request, request_of, guesses}
+use Rattle.definitions.specs.Requests.{Verb, set, add, replace, append, prepend, Asked, store, cas, get, gets, delete, incr, decr, most_data, IsKey, IsRequest}
+use Rattle.definitions.specs.Canonical.{request_of}
 use Rattle.definitions.specs.Replies.{Value, Reply, value_text, reply_text}
 use Rattle.definitions.specs.Replies as reply
 use Rattle.definitions.specs.Cache.{Entry, Cache, key_cmp, empty_cache, most_changes, find, has, Outcome, change, number_in, if_present, store_it, count_it, values_of, apply, apply_payload}
 use Rattle.definitions.specs.Histories.{History, Answer, answers, cache_after, is_fresh, most_keys}
-use Rattle.definitions.proofs.Lists.{find_some}
+use Rattle.definitions.proofs.Certificates.{all-implied}
+use Rattle.definitions.proofs.RequestTexts.{request_of_some}
 
 -- ---- what a request may say
 
@@ -32,15 +33,11 @@ IsWithin (delete key) = ⊤
 IsWithin (incr key value) = ⊤
 IsWithin (decr key value) = ⊤
 
-keys-within : (keys : List Bytes) → list_all is_key keys ≡ true → AllByRecursion (λ key. length key ≤ 250) keys
-keys-within [] h = tt
-keys-within (key ∷ keys) h = let p = and_parts _ _ h in (leb-true (length key) 250 (and_parts _ _ (and_parts _ _ p.0).0).1, keys-within keys p.1)
-
-request-within : (r : Asked) → is_request r ≡ true → IsWithin r
-request-within (store verb key flags stored) h = let p = and_parts _ _ h in (ltb-true flags (2 ^ 32) (and_parts _ _ p.0).1, leb-true (length stored) most_data p.1)
-request-within (cas key flags stored unique) h = let p = and_parts _ _ (and_parts _ _ h).0 in (ltb-true flags (2 ^ 32) (and_parts _ _ p.0).1, leb-true (length stored) most_data p.1)
-request-within (get keys) h = let p = and_parts _ _ h in (leb-true (length keys) 16 (and_parts _ _ p.0).1, keys-within keys p.1)
-request-within (gets keys) h = let p = and_parts _ _ h in (leb-true (length keys) 16 (and_parts _ _ p.0).1, keys-within keys p.1)
+request-within : (r : Asked) → IsRequest r false → IsWithin r
+request-within (store verb key flags stored) h = (h.0.1, h.2)
+request-within (cas key flags stored unique) h = (h.0.1, h.2)
+request-within (get keys) h = (h.0.1, all-implied IsKey (λ key. length key ≤ 250) (λ key k. k.1) keys h.0.2)
+request-within (gets keys) h = (h.0.1, all-implied IsKey (λ key. length key ≤ 250) (λ key k. k.1) keys h.0.2)
 request-within (delete key) h = tt
 request-within (incr key value) h = tt
 request-within (decr key value) h = tt
@@ -230,12 +227,12 @@ apply-within most cache (gets keys) h w = get-within true cache keys h w.0 w.1
 
 -- what a payload does
 pub payload-within : (most : ℕ) (cache : Cache) (payload : Bytes) → IsCacheWithin cache → IsOutcomeWithin (apply_payload most cache payload)
-unfolding apply_payload request_of
+unfolding apply_payload
 payload-within most cache payload h = by (request_of payload) refl
   where
     by : (o : Option Asked) → request_of payload ≡ o → IsOutcomeWithin (option_map_or (apply most cache) o (cache, reply.no_request))
     by None e = stays-within cache reply.no_request h (omega arith)
-    by (Some r) e = apply-within most cache r h (request-within r (and_parts _ _ (find_some (λ r. is_request r && bytes_eq (canonical r) payload) (guesses payload) r e).1).0)
+    by (Some r) e = apply-within most cache r h (request-within r (request_of_some payload r e).0)
 
 -- ---- histories
 
