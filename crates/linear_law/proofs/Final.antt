@@ -219,7 +219,7 @@ linear Known w g a =
     ]
 
 -- the cores of a run that a frame may have, and genesis's
-pub KnownIn : (sizes : Sizes) (w : World) (hs : List Happening) → Core → Type 0
+unfoldable pub KnownIn : (sizes : Sizes) (w : World) (hs : List Happening) → Core → Type 0
 KnownIn sizes w hs c = CoreOfRun w hs c × IsCoreOrGenesis sizes c
 
 -- at most f faulty replicas leave a quorum of correct ones

@@ -16,6 +16,7 @@ use Rattle.definitions.specs.Checks.{Identity, is_good, is_genesis, vote_verifie
 use Rattle.definitions.specs.States.{votes, by_voter, Justified, raised, higher, qc_high}
 use Rattle.definitions.proofs.Chronicles.{tree-genesis, tree-grows, taken-tree, tree-just1}
 use Rattle.definitions.proofs.Certificates.{AreOfEach, IsDigest-digest, IsDigest-digest_of, IsCertificate-by_voter, is_good-by_voter, all-implied}
+use Rattle.linear_law.specs.Law.{HasCertificates}
 use Rattle.linear_law.proofs.Sound.{same_bytes}
 use Rattle.linear_law.proofs.StoredFrames.{IsStoredVote, AreStored}
 
@@ -150,3 +151,29 @@ qc_high-is self (st ∷ c) l h =
     let old = qc_high-is self c l.1 h.1 in
     higher-high self (st ∷ c) (raised self.sizes st c) (qc_high self.sizes c) (raised-all self st c l h)
     (record { certificate_is = old.certificate_is; good = old.good; justified = old.justified; among = tree-grows st c (qc_high self.sizes c).block old.among })
+
+-- ---- all of a chronicle
+
+-- the steps of a beginning are stored
+stored-beginning : (self : Identity) (added c : Chronicle) → AreStored self (added ++ c) → AreStored self c
+stored-beginning self [] c h = h
+stored-beginning self (st ∷ added) c h = stored-beginning self added c h.1
+
+-- and lawful
+lawful-beginning : (s : Sizes) (added c : Chronicle) → IsLawful s (added ++ c) → IsLawful s c
+lawful-beginning s [] c h = h
+lawful-beginning s (st ∷ added) c h = lawful-beginning s added c h.1
+
+-- the certificates of a chronicle whose steps came in frames
+pub has-certificates : (self : Identity) (c : Chronicle) → IsLawful self.sizes c → AreStored self c → HasCertificates self c
+has-certificates self c l h =
+    let high = qc_high-is self c l h in
+    record {
+      each = λ st earlier j b e.
+          let k : AreStored self (st ∷ earlier) = stored-beginning self b.0 (st ∷ earlier) (subst (AreStored self) (sym b.1) h) in
+          let m : IsLawful self.sizes (st ∷ earlier) = lawful-beginning self.sizes b.0 (st ∷ earlier) (subst (IsLawful self.sizes) (sym b.1) l) in
+          let r = raised-is self st earlier j m k e in
+          record { certificate = r.certificate_is; digest = r.justified; good = r.good };
+      highest = record { certificate = high.certificate_is; digest = high.justified; good = λ n. high.good };
+      good = high.good;
+    }
