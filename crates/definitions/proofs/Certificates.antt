@@ -1,5 +1,5 @@
 -- Votes put in order of their voters, and the certificate that a quorum of them makes.
-use Rattle.std.proofs.Common.{ℕ, suc, ◌≡◌, ◌<◌, ◌≤◌, Bool, true, false, List, [], ◌∷◌, length, cond, refl, sym, ap, subst, ◌∙◌, arith, inr, map, filter, nat_lt, nat_le}
+use Rattle.std.proofs.Common.{suc, ◌≡◌, ◌<◌, ◌≤◌, Bool, true, false, List, [], ◌∷◌, length, refl, ap, ◌∙◌, arith, inr, map, filter, nat_lt}
 use Rattle.std.proofs.lemmas.Bool.{cond_both, cond-true, cond-false, ltb-true, ltb-false, le-leb}
 use Rattle.std.proofs.lemmas.List.{length-map}
 use Rattle.std.specs.Bool.{⊤}
@@ -7,7 +7,7 @@ use Rattle.std.specs.List.{AllByRecursion}
 use Rattle.sha2.proofs.Facts256.{length-sha256}
 use Rattle.ids.specs.Sizes.{Sizes, quorum}
 use Rattle.definitions.specs.Bytes.{Bytes}
-use Rattle.definitions.specs.Frames.{Core, Vote, genesis_core}
+use Rattle.definitions.specs.Frames.{Core, Vote}
 use Rattle.definitions.specs.FrameLimits.{IsDigest, IsVote, IsCertificate, Rise}
 use Rattle.definitions.specs.Branches.{Branch}
 use Rattle.definitions.specs.Digests.{digest, digest_of}

@@ -1,8 +1,8 @@
 -- How long the text of a reply can be: what a cache holds stays within the limits of requests.
-use Rattle.std.proofs.Common.{ℕ, ◌≡◌, ◌+◌, ◌*◌, ◌^◌, ◌%◌, ◌-◌, ◌<◌, ◌≤◌, ◌&&◌, ◌||◌, ◌==◌, Bool, true, false, List, [], ◌∷◌, ◌++◌, length, cond, refl, sym, ap, subst, ◌∙◌, arith, inl, inr, Option, Some, None, nat_lt, nat_le, length-append, bytes_eq, decimal, codes}
+use Rattle.std.proofs.Common.{ℕ, ◌≡◌, ◌+◌, ◌*◌, ◌^◌, ◌%◌, ◌-◌, ◌<◌, ◌≤◌, ◌&&◌, ◌||◌, ◌==◌, Bool, true, false, List, [], ◌∷◌, ◌++◌, length, cond, refl, sym, subst, ◌∙◌, arith, inl, inr, Option, Some, None, nat_lt, nat_le, length-append, bytes_eq, decimal, codes}
 use Rattle.std.specs.Bool.{⊤}
 use Rattle.std.specs.Ordering.{eq_by_cmp}
-use Rattle.std.specs.List.{AllByRecursion, list_all, flat_map, filter_map, join_with_byte, cons_option}
+use Rattle.std.specs.List.{AllByRecursion, flat_map, cons_option}
 use Rattle.std.specs.Option.{option_map, option_map_or}
 use Rattle.std.specs.FinMap as map
 use Rattle.std.specs.Cmp.Lexicographic.{nat_list_cmp_total}
@@ -16,7 +16,7 @@ use Rattle.definitions.specs.Requests.{Verb, set, add, replace, append, prepend,
 use Rattle.definitions.specs.Canonical.{request_of}
 use Rattle.definitions.specs.Replies.{Value, Reply, value_text, reply_text}
 use Rattle.definitions.specs.Replies as reply
-use Rattle.definitions.specs.Cache.{Entry, Cache, key_cmp, empty_cache, most_changes, find, has, Outcome, change, number_in, if_present, store_it, count_it, values_of, apply, apply_payload}
+use Rattle.definitions.specs.Cache.{Entry, Cache, key_cmp, most_changes, find, has, Outcome, change, number_in, if_present, store_it, count_it, values_of, apply, apply_payload}
 use Rattle.definitions.specs.Histories.{History, Answer, answers, cache_after, is_fresh, most_keys}
 use Rattle.definitions.proofs.Certificates.{all-implied}
 use Rattle.definitions.proofs.RequestTexts.{request_of_some}
@@ -33,6 +33,7 @@ IsWithin (delete key) = ⊤
 IsWithin (incr key value) = ⊤
 IsWithin (decr key value) = ⊤
 
+-- a request is within its limits
 request-within : (r : Asked) → IsRequest r false → IsWithin r
 request-within (store verb key flags stored) h = (h.0.1, h.2)
 request-within (cas key flags stored unique) h = (h.0.1, h.2)
@@ -64,9 +65,11 @@ pub record IsOutcomeWithin (o : Outcome) : Type 0 where
   pub cache : IsCacheWithin o.0
   pub text : FitsReply o.1
 
+-- what a storage command replies
 stored-fits : FitsReply reply.stored
 stored-fits = omega arith
 
+-- what incr and decr reply
 number-fits : (n : ℕ) → n < 2 ^ 64 → FitsReply (reply.number n)
 number-fits n l = let k = length-decimal-le 20 n (omega arith) (omega (arith, l)) l in let a = length-append (decimal n) (13 ∷ 10 ∷ []) in omega (arith, k, a)
 
@@ -118,6 +121,7 @@ present-within cache key absent present h a p = by (find cache key) refl
 
 -- ---- what a request does
 
+-- a storage command keeps the limits
 store-within : (most : ℕ) (cache : Cache) (verb : Verb) (key : Bytes) (flags : ℕ) (stored : Bytes) → IsCacheWithin cache → flags < 2 ^ 32 → length stored ≤ most_data → IsOutcomeWithin (store_it most cache verb key flags stored)
 store-within most cache set key flags stored h f l =
     cond_both (has cache key || nat_lt (map.len cache.entries) most) _ _ IsOutcomeWithin
@@ -152,6 +156,7 @@ number_in-within text n =
     none : None ≡ Some n → ⊥
     none j = cc
 
+-- so does a count whose numbers stay below 2 ^ 64
 count-within : (cache : Cache) (key : Bytes) (f : ℕ → ℕ) → IsCacheWithin cache → ((n : ℕ) → n < 2 ^ 64 → f n < 2 ^ 64) → IsOutcomeWithin (count_it cache key f)
 count-within cache key f h small = present-within cache key _ _ h (stays-within cache reply.not_found h (omega arith)) (λ e k. by e k (number_in e.stored) refl)
   where
@@ -175,6 +180,7 @@ record IsValueWithin (v : Value) : Type 0 where
 abbrev most_value : ℕ
 most_value = 4393
 
+-- a value has at most so many bytes
 value-fits : (u : Bool) (v : Value) → IsValueWithin v → length (value_text u v) ≤ most_value
 value-fits true v h =
     let k = h.key in
@@ -190,6 +196,7 @@ value-fits false v h =
     let n = length-decimal-le 4 (length v.stored) (omega arith) (omega (arith, s)) (omega (arith, s)) in
     simp length-append (omega (arith, k, s, f, n))
 
+-- the values of some keys
 values-fit : (u : Bool) (cache : Cache) (keys : List Bytes) → IsCacheWithin cache → AllByRecursion (λ key. length key ≤ 250) keys → length (flat_map (value_text u) (values_of cache keys)) ≤ most_value * length keys
 values-fit u cache [] h k = omega arith
 values-fit u cache (key ∷ keys) h k = by (values-fit u cache keys h k.1) (find cache key) refl
@@ -203,6 +210,7 @@ values-fit u cache (key ∷ keys) h k = by (values-fit u cache keys h k.1) (find
         let a = length-append (value_text u v) (flat_map (value_text u) (values_of cache keys)) in
         omega (arith, rest, l, a)
 
+-- a retrieval of at most 16 keys
 get-within : (u : Bool) (cache : Cache) (keys : List Bytes) → IsCacheWithin cache → length keys ≤ 16 → AllByRecursion (λ key. length key ≤ 250) keys → IsOutcomeWithin (cache, reply.values (values_of cache keys) u)
 get-within u cache keys h n k =
     let l = values-fit u cache keys h k in

@@ -2,27 +2,26 @@
 use Rattle.ids.specs.declared.fault.Fault.{Fault}
 use Rattle.ids.specs.declared.fault.Fault.TheVariants as fault
 use Rattle.ids.specs.declared.kind.Kind.TheVariants as kind
-use Rattle.std.proofs.Common.{ℕ, suc, ◌≡◌, ◌-◌, ◌<◌, ◌≤◌, ◌^◌, ◌&&◌, ◌==◌, not, Bool, true, false, List, [], ◌∷◌, ◌++◌, length, cond, refl, sym, ap, subst, ◌∙◌, arith, inl, inr, map, Option, Some, None, Ok, true≢false, if◌then◌else◌, is_some}
+use Rattle.std.proofs.Common.{ℕ, suc, ◌≡◌, ◌-◌, ◌<◌, ◌≤◌, ◌^◌, ◌&&◌, ◌==◌, not, Bool, true, List, [], ◌∷◌, length, refl, sym, ap, subst, arith, inl, inr, Option, Some, None, Ok, true≢false, is_some}
 use Rattle.std.specs.Bool.{⊤}
-use Rattle.std.proofs.lemmas.Bool.{and_parts, cond_both, cond-true, eqb-true, eq-eqb, eqb-false, ltb-true, not-false, cases_Bool, not_from_false}
+use Rattle.std.proofs.lemmas.Bool.{and_parts, cond_both, cond-true, eqb-true, eq-eqb, eqb-false, ltb-true, not-false}
 use Rattle.ids.specs.Sizes.{Sizes, replicas}
 use Rattle.definitions.specs.Lists.{Among}
 use Rattle.definitions.specs.Bytes.{Bytes}
 use Rattle.definitions.specs.Canonical.{request_of, is_canonical}
-use Rattle.definitions.specs.Requests.{Asked, canonical}
-use Rattle.definitions.specs.Frames.{Core, Frame, genesis_core, command_content}
+use Rattle.definitions.specs.Requests.{Asked}
+use Rattle.definitions.specs.Frames.{Core, genesis_core, command_content}
 use Rattle.definitions.specs.FrameLimits.{IsDigest, IsCore, IsFrame, most_payload}
 use Rattle.definitions.specs.Branches.{Branch}
 use Rattle.definitions.specs.Digests.{AllKnown, NoCollision}
-use Rattle.definitions.specs.Histories.{Answer, answers}
-use Rattle.definitions.specs.Chronicles.{Step, Chronicle, tree, history}
+use Rattle.definitions.specs.Chronicles.{Step, Chronicle, tree}
 use Rattle.definitions.specs.Checks.{Identity}
 use Rattle.definitions.specs.States.{me, Justified, leaf, proposed}
 use Rattle.definitions.specs.Rulings.{Input, Ruling, Ruling.due, Ruling.missing, Ruling.refusing, ruling, conflicts}
-use Rattle.definitions.specs.Sendings.{To, To.to_all, To.to_party, Sending, sendings, fetch_frame}
+use Rattle.definitions.specs.Sendings.{To.to_party, Sending, fetch_frame}
 use Rattle.definitions.specs.Replicas.{Memory, Memory.ample, Memory.refused_at_once, Memory.refused_after, Replica, Standing, Standing.running, Standing.stopped, Standing.cut_short, Reaction, Reaction.sends_out, Reaction.fails, Reaction.asks_for, executes, on_step, on_ruling, step}
-use Rattle.definitions.specs.Sessions.{Client, Session, Submitted, Submitted.not_sent, is_ample, submission, request_frame}
-use Rattle.definitions.specs.Worlds.{World, Sent, Event, Event.submit, Event.relay, Event.inject, Event.timeout, Event.beat, Happening, self_of, client_of, put, new_world}
+use Rattle.definitions.specs.Sessions.{Client, Session, Submitted, is_ample, submission, request_frame}
+use Rattle.definitions.specs.Worlds.{World, Sent, Event, Event.submit, Happening, self_of, client_of, put, new_world}
 use Rattle.definitions.specs.Runs.{refusal, names_party, run, after}
 use Rattle.definitions.specs.Events.{Effect, nothing, stepped, out_of, told, submitted, submitted_out, party_of, effect, happens}
 use Rattle.definitions.specs.Premises.{CoreOf, ArePremises}
@@ -32,12 +31,12 @@ use Rattle.definitions.proofs.Vectors.{IsVector-vector_for}
 use Rattle.definitions.proofs.RequestTexts.{request_of_some, length-canonical}
 use Rattle.linear_law.proofs.Sound.{IsSound, Outcome, Outcome.unchanged, Outcome.refused, Outcome.lacks, Outcome.conflict, Outcome.stood, Outcome.cut, step-outcome}
 use Rattle.linear_law.proofs.Effects.{is_member, Arises, Effects, Effects.idle, Effects.step_by, Effects.hearing, Effects.submitting, effects, named}
-use Rattle.linear_law.proofs.Runs.{chronicles, IsRun, IsMadeWell, IsHonest, IsAfter, step-keeps, arises-checked, put-chronicle}
+use Rattle.linear_law.proofs.Runs.{chronicles, IsMadeWell, IsHonest, IsAfter, step-keeps, arises-checked}
 use Rattle.linear_law.proofs.Fits.{IsCoreOrGenesis, brought-core}
 use Rattle.linear_law.proofs.Linear.{IsGood, ground, good-happens, run-step, HonestAlong, honest-along, new-good}
 use Rattle.linear_law.specs.Law.{SentFramesAreFrames, MadeCertificatesAreCertificates}
 use Rattle.linear_law.proofs.Final.{IsAccount, account-happens, KnownIn, correct-quorum, new-account}
-use Rattle.linear_law.proofs.StoredFrames.{IsReadInput, arises-read, IsStored, AreStored, IsStoredRuling, ruling-stored}
+use Rattle.linear_law.proofs.StoredFrames.{arises-read, AreStored, IsStoredRuling, ruling-stored}
 use Rattle.linear_law.proofs.SentFrames.{fetch-fits, sendings-fit}
 use Rattle.linear_law.proofs.FitAnswers.{answers-fit}
 use Rattle.linear_law.proofs.MadeCertificates.{has-certificates}
@@ -51,12 +50,14 @@ AsksRightly (asks_for sender d) = IsDigest d
 AsksRightly (sends_out out) = ⊤
 AsksRightly (fails n) = ⊤
 
+-- a step that is to stand asks for nothing
 on_step-asks : (self : Identity) (m : Memory) (st : Step) (c : Chronicle) → AsksRightly (on_step self m st c).1
 unfolding on_step
 on_step-asks self ample st c = cond_both (conflicts st c) _ _ (λ (r : Replica × Reaction). AsksRightly r.1) (λ e. tt) (λ e. tt)
 on_step-asks self refused_at_once st c = tt
 on_step-asks self (refused_after k) st c = cond_both (conflicts st c) _ _ (λ (r : Replica × Reaction). AsksRightly r.1) (λ e. tt) (λ e. cond_both (executes st c) _ _ (λ (r : Replica × Reaction). AsksRightly r.1) (λ x. tt) (λ x. tt))
 
+-- the whole step
 step-asks : (self : Identity) (m : Memory) (i : Input) (r : Replica) → IsStoredRuling self r.chronicle (ruling self i r.chronicle) → AsksRightly (step self m i r).1
 unfolding step on_ruling
 step-asks self m i r h = by r.standing
@@ -83,6 +84,7 @@ record IsFramedAfter (Known : Core → Type 0) (self : Identity) (m : Memory) (r
   leaf : r.0.standing ≡ running → IsLeafKnown Known self r.0.chronicle
   out : (o : Sending) → Among o (out_of self m r.1) → IsFrame self.sizes o.1
 
+-- the question for a block that was lacking
 lacks-fit : (self : Identity) (m : Memory) (sender : ℕ) (d : Bytes) (o : Sending) → me self < replicas self.sizes → IsDigest d → Among o (out_of self m (asks_for sender d)) → IsFrame self.sizes o.1
 lacks-fit self m sender d o number h =
     cond_both (is_ample m && not (sender == self.ring.party)) ((to_party sender, fetch_frame self sender d) ∷ []) [] (λ (l : List Sending). Among o l → IsFrame self.sizes o.1)
@@ -90,6 +92,7 @@ lacks-fit self m sender d o number h =
     (λ e k. absurd k)
 
 module _ (Known : Core → Type 0) (apart : NoCollision Known) (genesis : Known genesis_core) where
+  -- each outcome leaves it so
   after-framed : (self : Identity) (m : Memory) (v : Ruling) (before : Replica) (r : Replica × Reaction) → ((c : Core) → Known c → IsCoreOrGenesis self.sizes c) → me self < replicas self.sizes
       → IsGrown Known self before.chronicle → (before.standing ≡ running → IsLeafKnown Known self before.chronicle) → IsSound self.sizes r.0.chronicle → ((x : Branch) → Among x (tree r.0.chronicle) → AllKnown Known x)
       → IsStoredRuling self before.chronicle v → AsksRightly r.1 → SendsKnown Known self.sizes (out_of self m r.1) → Outcome self before.chronicle v before r → IsFramedAfter Known self m r
@@ -176,6 +179,7 @@ record IsFramedEffect (Known : Core → Type 0) (w : World) (f : Effect) : Type 
 put-both : (P : Replica → Type 0) (p : ℕ) (r : Replica) (row : ℕ → Replica) (j : ℕ) → (j ≡ p → P r) → P (row j) → P (put p r row j)
 put-both P p r row j here there = cond_both (j == p) r (row j) P (λ e. here (eqb-true j p e)) (λ e. there)
 
+-- it stands in its own place
 put-own : (p : ℕ) (r : Replica) (row : ℕ → Replica) → put p r row p ≡ r
 put-own p r row = cond-true _ _ _ (eq-eqb p p refl)
 
@@ -214,6 +218,7 @@ module _ (Known : Core → Type 0) (apart : NoCollision Known) (genesis : Known 
     out = k.out;
   }
 
+  -- each effect keeps it
   effect-framed : (w : World) (e : Event) (m : Memory) (f : Effect) → IsGood Known w → IsAccount w → IsHonest Known w e → IsFramed Known w → refusal w e ≡ None → SendsKnown Known w.sizes f.out → Effects w e m f → IsFramedEffect Known w f
   unfolding nothing told submitted stepped
   effect-framed w e m f g n honest a ok sent (idle x h) = record { stored = a.stored; leaves = a.leaves; out = λ o k. absurd k }
@@ -227,14 +232,19 @@ module _ (Known : Core → Type 0) (apart : NoCollision Known) (genesis : Known 
         submission-fits (client_of w c) m payload (w.session c) o (ltb-true c w.sizes.clients (named w (submit c payload) ok')) (n.room c) (payload-short payload (requested w c payload ok')) k;
   }
 
+  -- each event keeps it
   pub happens-framed : (w : World) (e : Event) (m : Memory) → IsGood Known w → IsAccount w → IsHonest Known w e → IsFramed Known w → refusal w e ≡ None
       → ((s : Sent) → Among s (happens w (e, m)).sent → (x : Core) → CoreOf x s.frame → IsCore w.sizes x → Known x) → IsFramed Known (happens w (e, m))
   unfolding happens
   happens-framed w e m g n honest a ok known =
-      record { stored = k.stored; leaves = k.leaves; sent = λ s j. elim (Among-either s w.sent _ j) [
-        | inl x ↦ a.sent s x
-        | inr x ↦ (let r = Among-map sent (effect w (e, m)).out s x in subst (λ (y : Sent). IsFrame w.sizes y.frame) (sym r.2) (k.out r.0 r.1))
-      ] }
+      record {
+        stored = k.stored;
+        leaves = k.leaves;
+        sent = λ s j. elim (Among-either s w.sent _ j) [
+          | inl x ↦ a.sent s x
+          | inr x ↦ (let r = Among-map sent (effect w (e, m)).out s x in subst (λ (y : Sent). IsFrame w.sizes y.frame) (sym r.2) (k.out r.0 r.1))
+        ];
+      }
     where
       sent : Sending → Sent
       sent o = record { event = w.now; sender = party_of e; to = o.0; frame = o.1 }
@@ -281,6 +291,7 @@ new-framed Known sizes is_faulty ring = record {
     none j e = cc
 
 module _ (Known : Core → Type 0) (apart : NoCollision Known) (genesis : Known genesis_core) where
+  -- each run keeps it
   framed-run : (hs : List Happening) (w last : World) → IsGood Known w → IsAccount w → IsFramed Known w → HonestAlong Known w hs → SentAlong Known w hs → run w hs ≡ Ok last → IsGood Known last × IsFramed Known last
   unfolding run happens
   framed-run [] w last g n a honest sent e = let k : w ≡ last = cc in (subst (IsGood Known) k g, subst (IsFramed Known) k a)

@@ -1,5 +1,5 @@
 -- The block that a replica's next proposal stands on has known cores, and its last proposal can be a frame.
-use Rattle.std.proofs.Common.{ℕ, suc, ◌≡◌, ◌<◌, ◌≤◌, Bool, true, [], ◌∷◌, length, refl, sym, ap, subst, ◌∙◌, arith, inl, inr, Option, Some, None}
+use Rattle.std.proofs.Common.{ℕ, ◌≡◌, ◌<◌, true, [], ◌∷◌, length, refl, sym, ap, subst, arith, inl, Option, Some, None}
 use Rattle.std.proofs.lemmas.Bool.{cond-true}
 use Rattle.definitions.specs.Lists.{Among}
 use Rattle.definitions.specs.Frames.{Core, genesis_core}
@@ -8,7 +8,7 @@ use Rattle.definitions.specs.Branches.{Branch}
 use Rattle.definitions.specs.Digests.{digest_of, core_of, AllKnown, NoCollision}
 use Rattle.definitions.specs.Chronicles.{Step, Step.took_block, Step.got_vote, Step.got_new_view, Step.got_request, Step.got_fetch, Step.timed_out, Step.beat, Chronicle, tree}
 use Rattle.definitions.specs.Checks.{Identity}
-use Rattle.definitions.specs.States.{view, qc_high, Justified, leads, picks, child, leaf, made_with, proposed}
+use Rattle.definitions.specs.States.{view, qc_high, Justified, leads, child, leaf, made_with, proposed}
 use Rattle.definitions.specs.Sendings.{To.to_all, Sending, sendings, proposes, proposal_frame}
 use Rattle.definitions.specs.Premises.{CoreOf}
 use Rattle.definitions.proofs.Digests.{digest_of-one}

@@ -1,20 +1,19 @@
 -- Views, waiting requests and the block that the next proposal stands on, of a chronicle whose steps came in frames.
-use Rattle.std.proofs.Common.{ℕ, zero, suc, if◌then◌else◌, ◌≡◌, ◌<◌, ◌≤◌, ◌^◌, ◌&&◌, not, Bool, true, false, List, [], ◌∷◌, ◌++◌, length, refl, sym, ap, subst, ◌∙◌, arith, inl, inr, Option, Some, None, true≢false, ◌==◌, nat_lt, nat_le, map, filter, take, bytes_eq}
-use Rattle.std.specs.Bool.{⊤}
+use Rattle.std.proofs.Common.{ℕ, zero, suc, if◌then◌else◌, ◌≡◌, ◌<◌, ◌≤◌, ◌^◌, ◌&&◌, not, true, List, [], ◌∷◌, ◌++◌, length, refl, sym, ap, subst, arith, inl, inr, Option, Some, None, true≢false, ◌==◌, nat_lt, nat_le, map, filter, take, bytes_eq}
 use Rattle.std.specs.List.{list_any, AllByRecursion}
 use Rattle.std.proofs.lemmas.Bool.{and_parts, cond_both, ltb-true, ltb-false, or_cases}
 use Rattle.std.proofs.lemmas.List.{length-take}
-use Rattle.ids.specs.Sizes.{Sizes, replicas}
+use Rattle.ids.specs.Sizes.{replicas}
 use Rattle.definitions.specs.Lists.{Among, greatest, count_below}
 use Rattle.definitions.specs.Bytes.{Bytes}
-use Rattle.definitions.specs.Frames.{Command, Core, genesis_core}
+use Rattle.definitions.specs.Frames.{Command}
 use Rattle.definitions.specs.FrameLimits.{IsCommand, IsCore, most_commands}
 use Rattle.definitions.specs.Branches.{Branch}
 use Rattle.definitions.specs.Digests.{digest_of, core_of, core_over}
 use Rattle.definitions.specs.Histories.{history_of}
-use Rattle.definitions.specs.Chronicles.{Admitted, Step, Step.took_block, Step.got_vote, Step.got_new_view, Step.got_request, Step.got_fetch, Step.timed_out, Step.beat, Chronicle, tree, history}
+use Rattle.definitions.specs.Chronicles.{Step, Step.took_block, Step.got_vote, Step.got_new_view, Step.got_request, Step.got_fetch, Step.timed_out, Step.beat, Chronicle, tree, history}
 use Rattle.definitions.specs.Checks.{Identity}
-use Rattle.definitions.specs.States.{announcements, announced, reached, view, Justified, raised, higher, qc_high, is_same_request, is_due, with_request, pending, leads, is_known, picks, child, leaf, or_else}
+use Rattle.definitions.specs.States.{announcements, announced, reached, view, raised, qc_high, is_same_request, is_due, with_request, pending, leads, is_known, picks, child, leaf, or_else}
 use Rattle.definitions.proofs.Certificates.{IsDigest-digest_of, all-filter}
 use Rattle.linear_law.proofs.Sound.{same_bytes}
 use Rattle.linear_law.proofs.StoredFrames.{AreStored}
@@ -39,6 +38,7 @@ unfolding greatest
 greatest-below n [] l h = l
 greatest-below n (x ∷ xs) l h = let k = greatest-below n xs l h.1 in let j = h.0 in omega (arith, k, j)
 
+-- so does the view that was reached
 reached-fits : (self : Identity) (c : Chronicle) → AreStored self c → reached self.sizes c < 2 ^ 64
 unfolding reached
 reached-fits self c h =
@@ -59,10 +59,12 @@ view-fits self (beat ∷ c) h = view-fits self c h.1
 
 -- ---- requests that wait
 
+-- a list with one more element
 all-after : {A : Type 0} (P : A → Type 0) (xs : List A) (x : A) → AllByRecursion P xs → P x → AllByRecursion P (xs ++ x ∷ [])
 all-after P [] x h k = (k, tt)
 all-after P (y ∷ xs) x h k = (h.0, all-after P xs x h.1 k)
 
+-- a new request is added last
 all-with_request : (self : Identity) (st : Step) (c : Chronicle) (ps : List Command) → AreStored self (st ∷ c) → AllByRecursion (IsCommand self.sizes) ps → AllByRecursion (IsCommand self.sizes) (with_request st ps)
 all-with_request self (got_request r) c ps h all = cond_both (list_any (is_same_request r) ps) ps (ps ++ r ∷ []) (AllByRecursion (IsCommand self.sizes)) (λ e. all) (λ e. all-after (IsCommand self.sizes) ps r all h.0)
 all-with_request self (took_block a) c ps h all = all
@@ -78,6 +80,7 @@ unfolding pending
 pending-fit self [] h = tt
 pending-fit self (st ∷ c) h = all-filter (IsCommand self.sizes) (is_due (history (st ∷ c))) (with_request st (pending c)) (all-with_request self st c (pending c) h (pending-fit self c h.1))
 
+-- the first of a list of which each element has a property
 all-take : {A : Type 0} (P : A → Type 0) (n : ℕ) (xs : List A) → AllByRecursion P xs → AllByRecursion P (take n xs)
 all-take P zero xs h = tt
 all-take P (suc n) [] h = tt
@@ -87,9 +90,10 @@ all-take P (suc n) (x ∷ xs) h = (h.0, all-take P n xs h.1)
 pub picks-fit : (self : Identity) (c : Chronicle) (on : Branch) → AreStored self c → AllByRecursion (IsCommand self.sizes) (picks c on) × (length (picks c on) ≤ most_commands)
 unfolding picks
 picks-fit self c on h =
-    let kept : List Command = filter (λ r. not (list_any (λ e. (e.client == r.client) && (e.seq == r.seq)) (history_of on))) (pending c) in
-    (all-take (IsCommand self.sizes) most_commands kept (all-filter (IsCommand self.sizes) (λ r. not (list_any (λ e. (e.client == r.client) && (e.seq == r.seq)) (history_of on))) (pending c) (pending-fit self c h)),
-    (let l = length-take most_commands kept in omega (arith, l)))
+    let kept : List Command = filter (λ r. not (list_any (λ e. (e.client == r.client) && (e.seq == r.seq)) (history_of on))) (pending c) in (
+      all-take (IsCommand self.sizes) most_commands kept (all-filter (IsCommand self.sizes) (λ r. not (list_any (λ e. (e.client == r.client) && (e.seq == r.seq)) (history_of on))) (pending c) (pending-fit self c h)),
+      (let l = length-take most_commands kept in omega (arith, l)),
+    )
 
 -- ---- the block that the next proposal stands on
 
@@ -99,12 +103,15 @@ pub record IsChild (self : Identity) (c : Chronicle) (on b : Branch) : Type 0 wh
   pub leads_view : leads self c ≡ true
   pub known : is_known (digest_of on) c ≡ true
 
+-- equal options have equal contents
 some-is : {A : Type 0} (x y : A) → Some x ≡ Some y → x ≡ y
 some-is x y e = cc
 
+-- nothing is no content
 none-some : {A : Type 0} (x : A) → None ≡ Some x → ⊥
 none-some x e = cc
 
+-- a child that is made is one
 pub child-is : (self : Identity) (c : Chronicle) (on b : Branch) → child self c on ≡ Some b → IsChild self c on b
 unfolding child
 child-is self c on b =
@@ -118,6 +125,7 @@ pub data LeafStep (self : Identity) (st : Step) (c : Chronicle) : Branch → Typ
   keeps : length (qc_high self.sizes (st ∷ c)).block ≤ length (qc_high self.sizes c).block → LeafStep self st c (leaf self c)
   makes : (b : Branch) → st ≡ beat → length (qc_high self.sizes (st ∷ c)).block ≤ length (qc_high self.sizes c).block → child self c (leaf self c) ≡ Some b → LeafStep self st c b
 
+-- a step that is no beat
 leaf-either : (self : Identity) (st : Step) (c : Chronicle) → LeafStep self st c (if nat_lt (length (qc_high self.sizes c).block) (length (qc_high self.sizes (st ∷ c)).block) then (qc_high self.sizes (st ∷ c)).block else leaf self c)
 leaf-either self st c =
     cond_both (nat_lt (length (qc_high self.sizes c).block) (length (qc_high self.sizes (st ∷ c)).block)) _ _ (LeafStep self st c)
@@ -129,6 +137,7 @@ beat-same : (self : Identity) (c : Chronicle) → length (qc_high self.sizes (be
 unfolding qc_high raised
 beat-same self c = omega arith
 
+-- each step leaves it in one of these ways
 pub leaf-step : (self : Identity) (st : Step) (c : Chronicle) → LeafStep self st c (leaf self (st ∷ c))
 unfolding leaf
 leaf-step self beat c = by (child self c (leaf self c)) refl
@@ -143,6 +152,7 @@ leaf-step self (got_request r) c = leaf-either self (got_request r) c
 leaf-step self (got_fetch r b) c = leaf-either self (got_fetch r b) c
 leaf-step self timed_out c = leaf-either self timed_out c
 
+-- each step leaves it as high as the highest certified block
 above-step : (self : Identity) (st : Step) (c : Chronicle) (b : Branch) → length (qc_high self.sizes c).block ≤ length (leaf self c) → LeafStep self st c b → length (qc_high self.sizes (st ∷ c)).block ≤ length b
 above-step self st c b h (raises l) = omega arith
 above-step self st c b h (keeps l) = omega (arith, h, l)
@@ -150,6 +160,7 @@ above-step self st c b h (makes x e l k) =
     let i = ap (λ (y : Branch). length y) (child-is self c (leaf self c) x k).is in
     omega (arith, h, l, i)
 
+-- so it is at the start
 genesis-above : (self : Identity) → length (qc_high self.sizes []).block ≤ length (leaf self [])
 unfolding qc_high leaf
 genesis-above self = omega arith

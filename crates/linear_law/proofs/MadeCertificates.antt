@@ -1,15 +1,15 @@
 -- The certificates of a chronicle: those that came in frames, and those that a quorum of votes completes.
-use Rattle.std.proofs.Common.{ℕ, ◌≡◌, ◌<◌, ◌&&◌, not, Bool, true, false, List, [], ◌∷◌, ◌++◌, length, refl, sym, ap, subst, ◌∙◌, arith, inl, inr, Option, Some, None, true≢false, ◌==◌, nat_lt, bytes_eq}
+use Rattle.std.proofs.Common.{ℕ, ◌≡◌, ◌<◌, ◌&&◌, not, true, false, List, [], ◌∷◌, ◌++◌, length, refl, sym, ap, subst, ◌∙◌, arith, inl, inr, Option, Some, None, true≢false, ◌==◌, nat_lt, bytes_eq}
 use Rattle.std.specs.List.{list_any, AllByRecursion}
 use Rattle.std.specs.Bool.{⊤}
 use Rattle.std.proofs.lemmas.Bool.{and_parts, eqb-true, eq-eqb, cond_both, cond-true, cases_Bool, ltb-true, not-true, or_parts}
 use lib.Pointwise.{bytes_decides}
 use Rattle.ids.specs.Sizes.{Sizes, quorum}
-use Rattle.definitions.specs.Lists.{Among, IsBeginning}
+use Rattle.definitions.specs.Lists.{Among}
 use Rattle.definitions.specs.Bytes.{Bytes}
 use Rattle.definitions.specs.Frames.{Vote, genesis_core}
 use Rattle.definitions.specs.FrameLimits.{IsVote, IsCertificate}
-use Rattle.definitions.specs.Branches.{Branch, just1}
+use Rattle.definitions.specs.Branches.{Branch}
 use Rattle.definitions.specs.Digests.{digest, digest_of}
 use Rattle.definitions.specs.Chronicles.{Admitted, Step, Step.took_block, Step.got_vote, Step.got_new_view, Step.got_request, Step.got_fetch, Step.timed_out, Step.beat, Chronicle, taken, tree, IsLawful}
 use Rattle.definitions.specs.Checks.{Identity, is_good, is_genesis, vote_verifies}
@@ -18,7 +18,7 @@ use Rattle.definitions.proofs.Chronicles.{tree-genesis, tree-grows, taken-tree, 
 use Rattle.definitions.proofs.Certificates.{AreOfEach, IsDigest-digest, IsDigest-digest_of, IsCertificate-by_voter, is_good-by_voter, all-implied}
 use Rattle.linear_law.specs.Law.{HasCertificates}
 use Rattle.linear_law.proofs.Sound.{same_bytes}
-use Rattle.linear_law.proofs.StoredFrames.{IsStoredVote, AreStored}
+use Rattle.linear_law.proofs.StoredFrames.{AreStored}
 
 -- ---- the votes that are kept
 
@@ -93,6 +93,7 @@ abbrev AllRaised : Identity → Chronicle → Option Justified → Type 0
 AllRaised self c None = ⊤
 AllRaised self c (Some j) = IsRaised self c j
 
+-- each step of a chronicle whose steps came in frames
 raised-all : (self : Identity) (st : Step) (c : Chronicle) → IsLawful self.sizes (st ∷ c) → AreStored self (st ∷ c) → AllRaised self (st ∷ c) (raised self.sizes st c)
 unfolding raised taken
 raised-all self (took_block a) c l h =
@@ -127,6 +128,7 @@ pub record IsHigh (self : Identity) (c : Chronicle) (j : Justified) : Type 0 whe
   pub justified : j.certificate.digest ≡ digest_of j.block
   pub among : Among j.block (tree c)
 
+-- the higher one of two
 higher-high : (self : Identity) (c : Chronicle) (o : Option Justified) (q : Justified) → AllRaised self c o → IsHigh self c q → IsHigh self c (higher o q)
 higher-high self c None q r h = h
 higher-high self c (Some p) q r h =
@@ -144,6 +146,7 @@ genesis-high self = record {
   among = tree-genesis [];
 }
 
+-- of a chronicle whose steps came in frames
 pub qc_high-is : (self : Identity) (c : Chronicle) → IsLawful self.sizes c → AreStored self c → IsHigh self c (qc_high self.sizes c)
 unfolding qc_high
 qc_high-is self [] l h = genesis-high self

@@ -1,10 +1,9 @@
 -- What a replica stores comes from frames that were read and admitted.
 use Rattle.ids.specs.declared.fault.Fault.TheVariants as fault
-use Rattle.std.proofs.Common.{ℕ, suc, ◌≡◌, ◌<◌, ◌^◌, ◌&&◌, not, Bool, true, false, List, [], ◌∷◌, length, refl, sym, ap, subst, ◌∙◌, inl, inr, Option, Some, None, true≢false, ◌==◌, nat_lt, count_by}
+use Rattle.std.proofs.Common.{ℕ, suc, ◌≡◌, ◌<◌, ◌^◌, ◌&&◌, not, true, [], ◌∷◌, length, refl, sym, subst, inl, inr, Option, Some, None, true≢false, ◌==◌, nat_lt, count_by}
 use Rattle.std.specs.Bool.{⊤}
 use Rattle.std.specs.List.{list_any}
 use Rattle.std.proofs.lemmas.Bool.{and_parts, eqb-true, cond_both, not-false}
-use Rattle.ids.specs.Sizes.{Sizes}
 use Rattle.definitions.specs.Lists.{Among}
 use Rattle.definitions.specs.Bytes.{Bytes}
 use Rattle.definitions.specs.Frames.{Core, Vote, Certificate, Command, Frame}
@@ -12,7 +11,7 @@ use Rattle.definitions.specs.Frames as frame
 use Rattle.definitions.specs.FrameLimits.{IsDigest, IsCommand, IsCore, IsVote, IsCertificate, IsFrame}
 use Rattle.definitions.specs.Branches.{Branch, just1}
 use Rattle.definitions.specs.Digests.{digest, digest_of, core_of}
-use Rattle.definitions.specs.Chronicles.{Admitted, Step, Step.took_block, Step.got_vote, Step.got_new_view, Step.got_request, Step.got_fetch, Step.timed_out, Step.beat, Chronicle, tree, history}
+use Rattle.definitions.specs.Chronicles.{Admitted, Step, Step.took_block, Step.got_vote, Step.got_new_view, Step.got_request, Chronicle, tree, history}
 use Rattle.definitions.specs.Checks.{Identity, is_good, is_genesis, vote_verifies}
 use Rattle.definitions.specs.States.{is_due, pending, is_same_request}
 use Rattle.definitions.specs.Rulings.{Input, Input.proposal_in, Input.block_in, Input.vote_in, Input.new_view_in, Input.request_in, Input.fetch_in, Input.timeout_in, Input.beat_in, Ruling, Ruling.due, Ruling.missing, Ruling.refusing, find_block, justifies, admitted, on_known, on_new, on_block, on_request, with_block, ruling}
@@ -105,6 +104,7 @@ genesis-only : (c : Chronicle) (b : Branch) → IsTree (tree c) → Among b (tre
 unfolding digest_of
 genesis-only c b tr m h = tr.one b [] m tr.genesis (same_bytes _ _ h)
 
+-- a block that stood in the tree
 known-stored : (self : Identity) (w : Option ℕ) (b : Branch) (core : Core) (q : Certificate) (c : Chronicle) → IsCore self.sizes core → IsCertificate self.sizes q → is_good self q ≡ true → IsStoredRuling self c (on_known self w b core q c)
 unfolding on_known admitted
 known-stored self w b core q c hk hq g =
@@ -112,6 +112,7 @@ known-stored self w b core q c hk hq g =
     (λ e. record { core_is = hk; certificate_is = hq; good = g; justified = same_bytes _ _ e; stored = λ n. absurd (true≢false (sym n)) })
     (λ e. tt)
 
+-- a block that is put on its parent
 new-stored : (self : Identity) (w : Option ℕ) (parent : Branch) (core : Core) (q : Certificate) (c : Chronicle) → IsCore self.sizes core → IsCertificate self.sizes q → is_good self q ≡ true → core.parent ≡ digest_of parent → IsStoredRuling self c (on_new self w parent core q c)
 unfolding on_new admitted
 new-stored self w parent core q c hk hq g ep =
@@ -124,6 +125,7 @@ new-stored self w parent core q c hk hq g ep =
     P : Ruling → Type 0
     P = IsStoredRuling self c
 
+-- a block with its certificate
 block-stored : (self : Identity) (w : Option ℕ) (sender : ℕ) (core : Core) (q : Certificate) (c : Chronicle) → IsCore self.sizes core → IsCertificate self.sizes q → is_good self q ≡ true → IsStoredRuling self c (on_block self w sender core q c)
 unfolding on_block
 block-stored self w sender core q c hk hq g = known (find_block (digest core) c)
@@ -136,16 +138,19 @@ block-stored self w sender core q c hk hq g = known (find_block (digest core) c)
     known (Some b) = known-stored self w b core q c hk hq g
     known None = over (find_block core.parent c) refl
 
+-- a vote
 vote-stored : (self : Identity) (b : Vote) (d : Bytes) (c : Chronicle) → IsSound self.sizes c → IsDigest d → IsVote self.sizes b → vote_verifies self d b ≡ true → (o : Option Branch) → find_block d c ≡ o → IsStoredRuling self c (with_block o b.voter d (λ x. due (got_vote b.voter b.vector x)))
 vote-stored self b d c so hd hb v None e = hd
 vote-stored self b d c so hd hb v (Some x) e =
     let r = found d c x e in
     record { vote_is = hb; verifies = subst (λ (y : Bytes). vote_verifies self y b ≡ true) (sym r.1) v; genesis = genesis-only c x so.is_tree r.0; among = r.0 }
 
+-- a view that is announced
 view-stored : (self : Identity) (w sender : ℕ) (q : Certificate) (c : Chronicle) → w < 2 ^ 64 → IsCertificate self.sizes q → is_good self q ≡ true → (o : Option Branch) → find_block q.digest c ≡ o → IsStoredRuling self c (with_block o sender q.digest (λ x. due (got_new_view w sender q x)))
 view-stored self w sender q c l hq g None e = hq.digest
 view-stored self w sender q c l hq g (Some x) e = let r = found q.digest c x e in record { view_is = l; certificate_is = hq; good = g; justified = sym r.1; among = r.0 }
 
+-- a request
 request-stored : (self : Identity) (r : Command) (c : Chronicle) → IsCommand self.sizes r → IsStoredRuling self c (on_request r c)
 unfolding on_request
 request-stored self r c h = cond_both (is_due (history c) r && (not (list_any (is_same_request r) (pending c)) && not (nat_lt (length (pending c)) 4096))) _ _ (IsStoredRuling self c) (λ e. tt) (λ e. h)
