@@ -2,16 +2,16 @@
 use Rattle.ids.specs.declared.fault.Fault.{Fault}
 use Rattle.ids.specs.declared.fault.Fault.TheVariants as fault
 use Rattle.ids.specs.declared.kind.Kind.TheVariants as kind
-use Rattle.std.proofs.Common.{ℕ, suc, ◌≡◌, ◌-◌, ◌<◌, ◌≤◌, ◌^◌, ◌&&◌, ◌==◌, not, Bool, true, List, [], ◌∷◌, length, refl, sym, ap, subst, arith, inl, inr, Option, Some, None, Ok, true≢false, is_some}
+use Rattle.std.proofs.Common.{ℕ, zero, suc, slice_get, option_map, ◌≡◌, ◌-◌, ◌<◌, ◌≤◌, ◌^◌, ◌&&◌, ◌==◌, not, Bool, true, List, [], ◌∷◌, length, refl, sym, ap, subst, arith, inl, inr, Option, Some, None, Ok, true≢false, is_some}
 use Rattle.std.specs.Bool.{⊤}
 use Rattle.std.proofs.lemmas.Bool.{and_parts, cond_both, cond-true, eqb-true, eq-eqb, eqb-false, ltb-true, not-false}
-use Rattle.ids.specs.Sizes.{Sizes, replicas}
+use Rattle.ids.specs.Sizes.{Sizes, AreSizes, replicas}
 use Rattle.definitions.specs.Lists.{Among}
 use Rattle.definitions.specs.Bytes.{Bytes}
 use Rattle.definitions.specs.Canonical.{request_of, is_canonical}
 use Rattle.definitions.specs.Requests.{Asked}
-use Rattle.definitions.specs.Frames.{Core, genesis_core, command_content}
-use Rattle.definitions.specs.FrameLimits.{IsDigest, IsCore, IsFrame, most_payload}
+use Rattle.definitions.specs.Frames.{Core, Frame, spelling, genesis_core, command_content}
+use Rattle.definitions.specs.FrameLimits.{IsReadAs, IsDigest, IsCore, IsFrame, most_payload}
 use Rattle.definitions.specs.Branches.{Branch}
 use Rattle.definitions.specs.Digests.{AllKnown, NoCollision}
 use Rattle.definitions.specs.Chronicles.{Step, Chronicle, tree}
@@ -21,12 +21,13 @@ use Rattle.definitions.specs.Rulings.{Input, Ruling, Ruling.due, Ruling.missing,
 use Rattle.definitions.specs.Sendings.{To.to_party, Sending, fetch_frame}
 use Rattle.definitions.specs.Replicas.{Memory, Memory.ample, Memory.refused_at_once, Memory.refused_after, Replica, Standing, Standing.running, Standing.stopped, Standing.cut_short, Reaction, Reaction.sends_out, Reaction.fails, Reaction.asks_for, executes, on_step, on_ruling, step}
 use Rattle.definitions.specs.Sessions.{Client, Session, Submitted, is_ample, submission, request_frame}
-use Rattle.definitions.specs.Worlds.{World, Sent, Event, Event.submit, Happening, self_of, client_of, put, new_world}
+use Rattle.definitions.specs.Worlds.{World, Sent, Event, Event.submit, relay, Happening, self_of, client_of, put, new_world}
 use Rattle.definitions.specs.Runs.{refusal, names_party, run, after}
-use Rattle.definitions.specs.Events.{Effect, nothing, stepped, out_of, told, submitted, submitted_out, party_of, effect, happens}
-use Rattle.definitions.specs.Premises.{CoreOf, ArePremises}
+use Rattle.definitions.specs.Events.{bytes_of, brought, Effect, nothing, stepped, out_of, told, submitted, submitted_out, party_of, effect, happens}
+use Rattle.definitions.specs.Premises.{CoreOf, ArePremises, IsRead, IsReadIn, AllRead}
 use Rattle.definitions.specs.Keyrings.{Keyring}
 use Rattle.definitions.proofs.Lists.{Among-either, Among-map, Among-mapped, Among-after, Among-before}
+use Rattle.definitions.proofs.Spellings.{IsReadAs-unique}
 use Rattle.definitions.proofs.Vectors.{IsVector-vector_for}
 use Rattle.definitions.proofs.RequestTexts.{request_of_some, length-canonical}
 use Rattle.linear_law.proofs.Sound.{IsSound, Outcome, Outcome.unchanged, Outcome.refused, Outcome.lacks, Outcome.conflict, Outcome.stood, Outcome.cut, step-outcome}
@@ -34,7 +35,7 @@ use Rattle.linear_law.proofs.Effects.{is_member, Arises, Effects, Effects.idle, 
 use Rattle.linear_law.proofs.Runs.{chronicles, IsMadeWell, IsHonest, IsAfter, step-keeps, arises-checked}
 use Rattle.linear_law.proofs.Fits.{IsCoreOrGenesis, brought-core}
 use Rattle.linear_law.proofs.Linear.{IsGood, ground, good-happens, run-step, HonestAlong, honest-along, new-good}
-use Rattle.linear_law.specs.Law.{SentFramesAreFrames, MadeCertificatesAreCertificates}
+use Rattle.linear_law.specs.Law.{SentFramesAreFrames, AreReadAsSent, SentFramesAreRead, MadeCertificatesAreCertificates}
 use Rattle.linear_law.proofs.Final.{IsAccount, account-happens, KnownIn, correct-quorum, new-account}
 use Rattle.linear_law.proofs.StoredFrames.{arises-read, AreStored, IsStoredRuling, ruling-stored}
 use Rattle.linear_law.proofs.SentFrames.{fetch-fits, sendings-fit}
@@ -319,3 +320,52 @@ pub made-are-certificates : MadeCertificatesAreCertificates
 made-are-certificates sizes is_faulty ring hs last met e =
     let r = run-is-framed sizes is_faulty ring hs last met e in
     λ i c. has-certificates (self_of last i) (chronicles last i) (r.0.run.row.sound i c).lawful (r.1.stored i c)
+
+-- ---- frames of the record that come
+
+-- a run that refuses nothing ends in the world after its events
+run-after : (w : World) (hs : List Happening) (last : World) → run w hs ≡ Ok last → last ≡ after w hs
+unfolding run after
+run-after w [] last e = cc
+run-after w (h ∷ hs) last e = run-after (happens w h) hs last (run-step (refusal w h.0) (run (happens w h) hs) last e).1
+
+-- what has a place in a list stands in it
+slice_get-among : {A : Type 0} (xs : List A) (i : ℕ) (x : A) → slice_get xs i ≡ Some x → Among x xs
+slice_get-among [] i x e = absurd (none e)
+  where
+    none : None ≡ Some x → ⊥
+    none k = cc
+slice_get-among (y ∷ xs) zero x e = inl (cc)
+slice_get-among (y ∷ xs) (suc i) x e = inr (slice_get-among xs i x e)
+
+-- no event changes the sizes
+sizes-stay : (w : World) (hs : List Happening) → (after w hs).sizes ≡ w.sizes
+unfolding after happens
+sizes-stay w [] = refl
+sizes-stay w (h ∷ hs) = sizes-stay (happens w h) hs
+
+-- the bytes of a frame are read as it
+read-as-sent : (sizes : Sizes) → AreSizes sizes → (w : World) (e : Event) (k to : ℕ) (read : Option Frame) (s : Sent) → w.sizes ≡ sizes → IsReadIn w e → e ≡ relay k to read → slice_get w.sent k ≡ Some s → IsFrame sizes s.frame → read ≡ Some s.frame
+unfolding bytes_of brought
+read-as-sent sizes are w e k to read s size rd is place fits =
+    let here : IsRead w.sizes (option_map (λ s. spelling s.frame) (slice_get w.sent k)) read = subst (IsReadIn w) is rd in
+    let there : IsReadAs sizes (spelling s.frame) read = subst (λ (z : Sizes). IsReadAs z (spelling s.frame) read) size (subst (λ (o : Option Sent). IsRead w.sizes (option_map (λ s. spelling s.frame) o) read) place here) in
+    IsReadAs-unique sizes are (spelling s.frame) read (Some s.frame) there (fits, refl)
+
+-- where all that was sent are frames, it is read as it was sent
+read-along : (sizes : Sizes) → AreSizes sizes → (w : World) (hs : List Happening) → w.sizes ≡ sizes → ((s : Sent) → Among s (after w hs).sent → IsFrame sizes s.frame) → AllRead w hs → AreReadAsSent w hs
+unfolding after happens
+read-along sizes are w [] size fits rd = tt
+read-along sizes are w (h ∷ hs) size fits rd = (
+  λ k to read s is place. read-as-sent sizes are w h.0 k to read s size rd.0 is place (fits s (sent-stays w (h ∷ hs) s (slice_get-among w.sent k s place))),
+  read-along sizes are (happens w h) hs size fits rd.1,
+)
+
+-- each frame of the record that comes is read as it was sent
+pub sent-are-read : SentFramesAreRead
+unfolding new_world
+sent-are-read sizes is_faulty ring hs last are met e =
+    let w : World = new_world sizes is_faulty ring in
+    let end : last ≡ after w hs = run-after w hs last e in
+    let all : IsFramed (KnownIn sizes w hs) (after w hs) = subst (IsFramed (KnownIn sizes w hs)) end (run-is-framed sizes is_faulty ring hs last met e).1 in
+    read-along sizes are w hs refl (λ s m. subst (λ (z : Sizes). IsFrame z s.frame) (sizes-stay w hs) (all.sent s m)) met.read
