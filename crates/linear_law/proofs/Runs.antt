@@ -222,7 +222,7 @@ row-agrees Known w row made r i j a b mi mj da db k =
     agreed.no-conflict (record { sizes = w.sizes; is_member = is_member w; chronicle = row }) a b
     (record { enough = made.enough; lawful = λ p m. (r.sound p m).lawful; orderly = r.orderly }) (i, mi, da) (j, mj, db) k
 
-pub put_row-own : (p : ℕ) (c : Chronicle) (row : ℕ → Chronicle) → put_row p c row p ≡ c
+put_row-own : (p : ℕ) (c : Chronicle) (row : ℕ → Chronicle) → put_row p c row p ≡ c
 put_row-own p c row = cond-true _ _ _ (eq-eqb p p refl)
 
 no-conflict : (Known : Core → Type 0) (w : World) → IsMadeWell w → (p : ℕ) (st : Step) → is_member w p ≡ true → IsRow Known w.sizes (is_member w) (put_row p (st ∷ chronicles w p) (chronicles w)) → conflicts st (chronicles w p) ≡ true → ⊥
