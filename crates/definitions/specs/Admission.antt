@@ -26,7 +26,8 @@ unfoldable pub check : Identity → Frame → Checked
 check self (frame.request c) = when (own_tag_verifies self (frame.request c)) (request_in c)
 check self (frame.proposal view core q v) = when (own_tag_verifies self (frame.proposal view core q v) && is_good self q) (proposal_in view core q)
 check self (frame.vote d b) = when (own_tag_verifies self (frame.vote d b)) (vote_in d b)
-check self (frame.new_view view sender q v) = when (own_tag_verifies self (frame.new_view view sender q v) && is_good self q) (new_view_in view sender q)
+check self (frame.new_view view sender q v) =
+    when (own_tag_verifies self (frame.new_view view sender q v) && is_good self q) (new_view_in view sender q)
 check self (frame.fetch sender d t) = when (own_tag_verifies self (frame.fetch sender d t)) (fetch_in sender d)
 check self (frame.block sender core q t) = when (own_tag_verifies self (frame.block sender core q t) && is_good self q) (block_in sender core q)
 check self (frame.reply replica client seq place text t) = rejected fault.NotMine

@@ -87,9 +87,13 @@ abbrev pub count_it : Cache → Bytes → (ℕ → ℕ) → Outcome
 count_it cache key f = if_present cache key (cache, reply.not_found) (λ e.
     option_map_or (λ n. change cache key e.flags (decimal (f n)) (reply.number (f n))) (number_in e.stored) (cache, reply.no_number))
 
--- what the asked keys have, in the order asked
+-- what an asked key has
+abbrev pub value_of : Cache → Bytes → Option Value
+value_of cache key = option_map (λ e. record { key = key; flags = e.flags; stored = e.stored; unique = e.unique }) (find cache key)
+
+-- what the asked keys have that are present, in the order asked
 abbrev pub values_of : Cache → List Bytes → List Value
-values_of cache keys = filter_map (λ key. option_map (λ e. record { key = key; flags = e.flags; stored = e.stored; unique = e.unique }) (find cache key)) keys
+values_of cache keys = filter_map (λ key. value_of cache key) keys
 
 -- what a request does, with room for so many keys
 abbrev pub apply : ℕ → Cache → Asked → Outcome

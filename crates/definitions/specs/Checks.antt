@@ -35,7 +35,8 @@ is_good self q = if is_genesis q.digest then length q.votes == 0 else nat_le (qu
 
 -- the command's tag for this replica verifies
 abbrev pub command_verifies : Identity → Command → Bool
-command_verifies self c = verify self.ring kind.Request (client_party c.client) (command_content c.client c.seq c.payload) (tag_of c.vector self.ring.party)
+command_verifies self c =
+    verify self.ring kind.Request (client_party c.client) (command_content c.client c.seq c.payload) (tag_of c.vector self.ring.party)
 
 -- the tag of each command verifies
 unfoldable pub is_clear_core : Identity → Core → Bool

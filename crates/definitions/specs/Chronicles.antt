@@ -1,4 +1,5 @@
--- The chronicle of a replica: the steps that stand, newest first. What it says of blocks alone: votes, lock, decisions and its law.
+-- The chronicle of a replica: the steps that stand, newest first. Here is what it says of blocks: votes, lock,
+-- decisions, and its law (HotStuff, PODC 2019, the safety rules, with this project's clear blocks).
 use Rattle.std.specs.Prelude.{ℕ, suc, ◌≡◌, ◌<◌, ◌≤◌, ◌==◌, ◌⊎◌, ◌&&◌, ◌||◌, Bool, true, List, [], ◌∷◌, ◌++◌, map, length, if◌then◌else◌, nat_lt, Option, ⊤}
 use Rattle.std.specs.List.{list_any, AllByRecursion}
 use Rattle.definitions.specs.Lists.{Among, AreDistinct, greatest}
@@ -98,14 +99,16 @@ may_vote b c = nat_lt (vheight c) (length b) && (extends b (lock c) || nat_lt (l
 pub record IsLawfulVote (b : Branch) (now earlier : Chronicle) : Type 0 where
   pub higher : vheight earlier < length b
   pub safe : Extends b (lock earlier) ⊎ (length (lock earlier) < length (just1 b))
-  pub clear : (x : Branch) → Extends b x → length (just1 b) < length x → (a : Admitted) × Among a (taken now) × (a.branch ≡ x) × (a.clear ≡ true)
+  pub clear : (x : Branch) → Extends b x → length (just1 b) < length x
+      → (a : Admitted) × Among a (taken now) × (a.branch ≡ x) × (a.clear ≡ true)
   pub taken : Among b (tree now)
 
 -- a taken block is new, stands on its parent, and justifies a certified block or genesis
 pub record IsLawfulTake (sizes : Sizes) (a : Admitted) (earlier : Chronicle) : Type 0 where
   pub new : Among a.branch (tree earlier) → ⊥
   pub parent : (b : Block) × (parent : Branch) × (a.branch ≡ b ∷ parent) × (b.justify < suc (length parent)) × Among parent (tree earlier)
-  pub certified : (AreDistinct a.counted × AllByRecursion (λ v. v < replicas sizes) a.counted × (quorum sizes ≤ length a.counted)) ⊎ (just1 a.branch ≡ [])
+  pub certified : (AreDistinct a.counted × AllByRecursion (λ v. v < replicas sizes) a.counted × (quorum sizes ≤ length a.counted))
+      ⊎ (just1 a.branch ≡ [])
 
 -- what a step has to be
 abbrev pub IsLawfulStep : Sizes → Step → Chronicle → Type 0

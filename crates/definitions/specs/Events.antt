@@ -41,7 +41,13 @@ answer_of (asks_for sender d) = Some fault.UnknownParent
 
 -- a replica's step in the world
 unfoldable pub stepped : World → ℕ → Memory → Replica × Reaction → Effect
-stepped w p m r = record { replica = put p r.0 w.replica; session = w.session; out = out_of (self_of w p) m r.1; accepted = []; answer = answer_of r.1 }
+stepped w p m r = record {
+  replica = put p r.0 w.replica;
+  session = w.session;
+  out = out_of (self_of w p) m r.1;
+  accepted = [];
+  answer = answer_of r.1;
+}
 
 -- a replica takes an input
 abbrev pub steps : ℕ → Memory → Input → World → Effect

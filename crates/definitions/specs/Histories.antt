@@ -1,4 +1,5 @@
--- Histories of executed commands, newest first, and the replies of the one sequential cache.
+-- Histories of executed commands, newest first, and the replies of the one sequential cache. Freshness is this
+-- project's own rule for requests that come again.
 use Rattle.std.specs.Prelude.{ℕ, suc, ◌==◌, ◌||◌, not, Bool, List, [], ◌∷◌, ◌++◌, map, filter, reverse, length, if◌then◌else◌, nat_lt, Option, Some, None, find}
 use Rattle.std.specs.List.{list_all}
 use Rattle.definitions.specs.Lists.{greatest}
@@ -53,12 +54,21 @@ pub record Answer : Type 0 where
   pub place : ℕ
   pub text : Bytes
 
--- each fresh entry's place, counted from 1, and reply
+-- the answer to an entry that is fresh after these, whose place is counted from 1
+abbrev pub answer_in : Entry → History → Answer
+answer_in e earlier = record {
+  client = e.client;
+  seq = e.seq;
+  place = suc (length earlier);
+  text = reply_text (apply_payload most_keys (cache_after earlier) e.payload).1;
+}
+
+-- the answers to the fresh entries
 unfoldable pub answers : History → List Answer
 answers [] = []
 answers (e ∷ earlier) =
     if is_fresh e earlier
-    then record { client = e.client; seq = e.seq; place = suc (length earlier); text = reply_text (apply_payload most_keys (cache_after earlier) e.payload).1 } ∷ answers earlier
+    then answer_in e earlier ∷ answers earlier
     else answers earlier
 
 -- the answer to a client's last fresh entry

@@ -58,7 +58,8 @@ IsItemAt text (bad TooLarge) used = (l : Bytes) × FirstLine text l × (head : H
 -- 5: the data is there, and the two bytes after it aren't CR LF
 IsItemAt text (bad BadChunk) used = (l : Bytes) × (rest : Bytes) × (head : Head) × (noreply : Bool)
     × IsLineOf l head noreply × (text ≡ l ++ crlf ++ rest)
-    × IsSomeAnd (stored_of head) (λ bytes. (bytes ≤ most_data) × (bytes + 2 ≤ length rest) × (take 2 (drop bytes rest) ≢ crlf)) × (used ≡ 0)
+    × IsSomeAnd (stored_of head) (λ bytes. (bytes ≤ most_data) × (bytes + 2 ≤ length rest) × (take 2 (drop bytes rest) ≢ crlf))
+    × (used ≡ 0)
 -- 6: no line ends within the most bytes that a line may have
 IsItemAt text (bad LineTooLong) used = (most_line ≤ length text) × HasNoEnd (take most_line text) × (used ≡ 0)
 

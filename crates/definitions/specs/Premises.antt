@@ -3,7 +3,7 @@ use Rattle.ids.specs.declared.kind.Kind.{Kind}
 use Rattle.ids.specs.declared.kind.Kind.TheVariants as kind
 use Rattle.std.specs.Prelude.{ℕ, ◌≡◌, ◌-◌, ◌==◌, ◌⊎◌, ◌&&◌, not, Bool, true, false, List, [], ◌∷◌, ◌++◌, map, filter, Option, Some, None, ⊤, ◌≤◌}
 use Rattle.definitions.specs.Lists.{Among, count_below}
-use Rattle.definitions.specs.Frames.{Core, Certificate, Frame, kind_of, sender_of, content_of, own_tag, genesis_core, command_content, reply_content}
+use Rattle.definitions.specs.Frames.{Command, Vote, Core, Certificate, Frame, kind_of, sender_of, content_of, own_tag, genesis_core, command_content, reply_content}
 use Rattle.definitions.specs.FrameLimits.{IsReadAs}
 use Rattle.definitions.specs.Tags.{tag_of}
 use Rattle.definitions.specs.Bytes.{Bytes}
@@ -28,22 +28,43 @@ pub record Claim : Type 0 where
 
 -- the frame's own tag for the party that it comes to
 abbrev pub own_claim : Identity → Frame → Claim
-own_claim self f = record { label = kind_of f; sender = sender_of self.sizes f; receiver = self.ring.party; content = content_of f; tag = own_tag f self.ring.party }
+own_claim self f = record {
+  label = kind_of f;
+  sender = sender_of self.sizes f;
+  receiver = self.ring.party;
+  content = content_of f;
+  tag = own_tag f self.ring.party;
+}
+
+-- a vote's tag for the party
+abbrev pub vote_claim : Identity → Bytes → Vote → Claim
+vote_claim self d b = record { label = kind.Vote; sender = b.voter; receiver = self.ring.party; content = d; tag = tag_of b.vector self.ring.party }
 
 -- the votes of a certificate whose tags for the party verify
 abbrev pub vote_claims : Identity → Certificate → List Claim
-vote_claims self q = map (λ b. record { label = kind.Vote; sender = b.voter; receiver = self.ring.party; content = q.digest; tag = tag_of b.vector self.ring.party }) (filter (vote_verifies self q.digest) q.votes)
+vote_claims self q = map (vote_claim self q.digest) (filter (vote_verifies self q.digest) q.votes)
+
+-- a command's tag for the party
+abbrev pub command_claim : Identity → Command → Claim
+command_claim self c = record {
+  label = kind.Request;
+  sender = client_party c.client;
+  receiver = self.ring.party;
+  content = command_content c.client c.seq c.payload;
+  tag = tag_of c.vector self.ring.party;
+}
 
 -- the commands of a block whose tags for the party verify
 abbrev pub command_claims : Identity → Core → List Claim
-command_claims self core = map (λ c. record { label = kind.Request; sender = client_party c.client; receiver = self.ring.party; content = command_content c.client c.seq c.payload; tag = tag_of c.vector self.ring.party }) (filter (command_verifies self) core.commands)
+command_claims self core = map (command_claim self) (filter (command_verifies self) core.commands)
 
 -- the tags that a party relies on where it admits the frame
 unfoldable pub accepted_tags : Identity → Frame → List Claim
 accepted_tags self (frame.proposal view core q v) = own_claim self (frame.proposal view core q v) ∷ vote_claims self q ++ command_claims self core
 accepted_tags self (frame.block sender core q t) = own_claim self (frame.block sender core q t) ∷ vote_claims self q ++ command_claims self core
 accepted_tags self (frame.new_view view sender q v) = own_claim self (frame.new_view view sender q v) ∷ vote_claims self q
-accepted_tags self (frame.reply replica client seq place text t) = record (own_claim self (frame.reply replica client seq place text t)) { receiver = client_party client } ∷ []
+accepted_tags self (frame.reply replica client seq place text t) =
+    record (own_claim self (frame.reply replica client seq place text t)) { receiver = client_party client } ∷ []
 accepted_tags self f = own_claim self f ∷ []
 
 -- a frame that was sent to this destination has its own tag for this party; a vector has one for each replica
@@ -69,7 +90,8 @@ is_good_check (rejected n) = false
 
 -- whether a correct party admits the frame
 abbrev pub admits : World → ℕ → Frame → Bool
-admits w p (frame.reply replica client seq place text t) = not (is_replica w p) && ((client == (p - 256)) && verify (w.ring p) kind.Reply replica (reply_content replica client seq place text) t)
+admits w p (frame.reply replica client seq place text t) =
+    not (is_replica w p) && ((client == (p - 256)) && verify (w.ring p) kind.Reply replica (reply_content replica client seq place text) t)
 admits w p f = is_replica w p && is_good_check (check (self_of w p) f)
 
 -- bytes are read as what they spell; where nothing comes nothing is read

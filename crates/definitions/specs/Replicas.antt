@@ -40,7 +40,11 @@ pub data Reaction : Type 0 where
 
 -- what a replica executed
 unfoldable pub held_history : Replica → History
-held_history r = elim r.standing [ running ↦ history r.chronicle | stopped ↦ history r.chronicle | cut_short held ↦ beginning held (history r.chronicle) ]
+held_history r = elim r.standing [
+  | running ↦ history r.chronicle
+  | stopped ↦ history r.chronicle
+  | cut_short held ↦ beginning held (history r.chronicle)
+]
 
 -- a replica that stopped
 abbrev pub stopped_at : Chronicle → Replica
@@ -52,7 +56,9 @@ executes s c = nat_lt (length (executed c)) (length (executed (s ∷ c)))
 
 -- a step that is to stand
 unfoldable pub on_step : Identity → Memory → Step → Chronicle → Replica × Reaction
-on_step self ample s c = if conflicts s c then (stopped_at c, fails fault.Conflict) else (record { chronicle = s ∷ c; standing = running }, sends_out (sendings self s c))
+on_step self ample s c =
+    if conflicts s c then (stopped_at c, fails fault.Conflict)
+    else (record { chronicle = s ∷ c; standing = running }, sends_out (sendings self s c))
 on_step self refused_at_once s c = (stopped_at c, fails fault.Memory)
 on_step self (refused_after k) s c =
     if conflicts s c then (stopped_at c, fails fault.Conflict)
@@ -74,7 +80,11 @@ on_ruling self m (refusing n) c = (record { chronicle = c; standing = if stops n
 -- one input of a replica; a stopped one never changes
 unfoldable pub step : Identity → Memory → Input → Replica → Replica × Reaction
 step self m input r =
-    elim r.standing [ running ↦ on_ruling self m (ruling self input r.chronicle) r.chronicle | stopped ↦ (r, fails fault.Stopped) | cut_short held ↦ (r, fails fault.Stopped) ]
+    elim r.standing [
+      | running ↦ on_ruling self m (ruling self input r.chronicle) r.chronicle
+      | stopped ↦ (r, fails fault.Stopped)
+      | cut_short held ↦ (r, fails fault.Stopped)
+    ]
 
 -- ---- what a replica that was cut short holds: the blocks executed whole, and the pending list after them
 
@@ -85,7 +95,11 @@ whole_blocks held (b ∷ parent) = if nat_le (length (history_of (b ∷ parent))
 
 -- the last block that was executed whole
 unfoldable pub held_executed : Replica → Branch
-held_executed r = elim r.standing [ running ↦ executed r.chronicle | stopped ↦ executed r.chronicle | cut_short held ↦ whole_blocks held (executed r.chronicle) ]
+held_executed r = elim r.standing [
+  | running ↦ executed r.chronicle
+  | stopped ↦ executed r.chronicle
+  | cut_short held ↦ whole_blocks held (executed r.chronicle)
+]
 
 -- the chronicle before its last step
 abbrev pub before_last : Chronicle → Chronicle
@@ -94,4 +108,8 @@ before_last (s ∷ earlier) = earlier
 
 -- the requests that still wait
 unfoldable pub held_pending : Replica → List Command
-held_pending r = elim r.standing [ running ↦ pending r.chronicle | stopped ↦ pending r.chronicle | cut_short held ↦ filter (is_due (history_of (held_executed r))) (pending (before_last r.chronicle)) ]
+held_pending r = elim r.standing [
+  | running ↦ pending r.chronicle
+  | stopped ↦ pending r.chronicle
+  | cut_short held ↦ filter (is_due (history_of (held_executed r))) (pending (before_last r.chronicle))
+]

@@ -36,7 +36,7 @@ pub data Input : Type 0 where
   timeout_in : Input
   beat_in : Input
 
--- The step that is to stand, or a refusal; `Unknown` names the digest that isn't in the tree, and who sent it.
+-- The step that is to stand, or a refusal. `missing` names a digest that isn't in the tree, and who sent it.
 pub data Ruling : Type 0 where
   due : Step → Ruling
   missing : (sender : ℕ) → (block : Bytes) → Ruling
@@ -52,7 +52,15 @@ justifies q b = bytes_eq q.digest (digest_of (just1 b))
 
 -- a block and what was found of it, before the vote
 unfoldable pub admitted : Identity → Branch → Core → Certificate → Bool → Admitted
-admitted self b core q new = record { branch = b; core = core; certificate = q; counted = counted self q; clear = is_clear_core self core; new = new; voted = false }
+admitted self b core q new = record {
+  branch = b;
+  core = core;
+  certificate = q;
+  counted = counted self q;
+  clear = is_clear_core self core;
+  new = new;
+  voted = false;
+}
 
 -- the vote on a proposal of view w, if it is one
 unfoldable pub votes_for : Sizes → Option ℕ → Admitted → Chronicle → Bool
@@ -109,5 +117,6 @@ ruling self beat_in c = due beat
 
 -- the block that a step decides neither extends the last executed one nor is extended by it
 unfoldable pub conflicts : Step → Chronicle → Bool
-conflicts (took_block a) c = a.new && (decides a.branch && (not (extends (just3 a.branch) (executed c)) && not (extends (executed c) (just3 a.branch))))
+conflicts (took_block a) c =
+    a.new && (decides a.branch && (not (extends (just3 a.branch) (executed c)) && not (extends (executed c) (just3 a.branch))))
 conflicts s c = false

@@ -26,7 +26,10 @@ names_request e = true
 
 -- why the run refuses an event
 unfoldable pub refusal : World → Event → Option Fault
-refusal w e = if not (names_party w e) then Some fault.NoSuchParty else (if not (names_frame w e) then Some fault.NoSuchFrame else (if not (names_request e) then Some fault.NotARequest else None))
+refusal w e =
+    if not (names_party w e) then Some fault.NoSuchParty
+    else (if not (names_frame w e) then Some fault.NoSuchFrame
+    else (if not (names_request e) then Some fault.NotARequest else None))
 
 -- a whole schedule; the first event that is refused ends it
 unfoldable pub run : World → List Happening → Result World Fault

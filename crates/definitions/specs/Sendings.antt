@@ -28,7 +28,9 @@ vote_frame self b = frame.vote (digest_of b) (record { voter = me self; vector =
 
 -- the proposal of a block
 unfoldable pub proposal_frame : Identity → ℕ → Justified → Frame
-proposal_frame self w p = frame.proposal w (core_of p.block) p.certificate (vector_for self.sizes self.ring kind.Proposal (proposal_content w (core_of p.block) p.certificate))
+proposal_frame self w p =
+    let content = proposal_content w (core_of p.block) p.certificate in
+    frame.proposal w (core_of p.block) p.certificate (vector_for self.sizes self.ring kind.Proposal content)
 
 -- the announcement of the view
 unfoldable pub new_view_frame : Identity → Chronicle → Frame
@@ -38,11 +40,16 @@ new_view_frame self c =
 
 -- the reply to an entry
 unfoldable pub reply_to : Identity → Answer → Sending
-reply_to self a = (to_party (client_party a.client), frame.reply (me self) a.client a.seq a.place a.text (tag_for self.ring kind.Reply (client_party a.client) (reply_content (me self) a.client a.seq a.place a.text)))
+reply_to self a =
+    let content = reply_content (me self) a.client a.seq a.place a.text in
+    let client = client_party a.client in
+    (to_party client, frame.reply (me self) a.client a.seq a.place a.text (tag_for self.ring kind.Reply client content))
 
 -- a block that was asked for
 unfoldable pub block_frame : Identity → ℕ → Admitted → Frame
-block_frame self to a = frame.block (me self) (core_of a.branch) a.certificate (tag_for self.ring kind.Block to (block_content (me self) (core_of a.branch) a.certificate))
+block_frame self to a =
+    let content = block_content (me self) (core_of a.branch) a.certificate in
+    frame.block (me self) (core_of a.branch) a.certificate (tag_for self.ring kind.Block to content)
 
 -- the question for a block
 unfoldable pub fetch_frame : Identity → ℕ → Bytes → Frame
@@ -50,7 +57,9 @@ fetch_frame self to d = frame.fetch (me self) d (tag_for self.ring kind.Fetch to
 
 -- the replies to what a step executed, by place
 unfoldable pub new_replies : Identity → Step → Chronicle → List Sending
-new_replies self s c = map (reply_to self) (reverse (take (length (answers (history (s ∷ c))) - length (answers (history c))) (answers (history (s ∷ c)))))
+new_replies self s c =
+    let told = answers (history (s ∷ c)) in
+    map (reply_to self) (reverse (take (length told - length (answers (history c))) told))
 
 -- a block of the tree as it was taken; genesis never was
 abbrev pub as_taken : Option Branch → Chronicle → Option Admitted
@@ -78,7 +87,8 @@ sendings self (took_block a) c =
     (if a.voted then (to_party (leader self.sizes (view self.sizes c)), vote_frame self a.branch) ∷ [] else []) ++ new_replies self (took_block a) c
 sendings self (got_vote voter v b) c = []
 sendings self (got_new_view w sender q b) c =
-    if nat_lt (view self.sizes c) (view self.sizes (got_new_view w sender q b ∷ c)) then (to_all, new_view_frame self (got_new_view w sender q b ∷ c)) ∷ [] else []
+    if nat_lt (view self.sizes c) (view self.sizes (got_new_view w sender q b ∷ c))
+    then (to_all, new_view_frame self (got_new_view w sender q b ∷ c)) ∷ [] else []
 sendings self (got_request r) c = if r.seq == last_seq r.client (history c) then again self (answer_to r.client r.seq (history c)) else []
 sendings self (got_fetch to b) c = supplies self to (as_taken b c)
 sendings self timed_out c = (to_all, new_view_frame self (timed_out ∷ c)) ∷ []

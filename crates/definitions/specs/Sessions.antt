@@ -40,7 +40,12 @@ pub data Submitted : Type 0 where
 
 -- the frame of a request
 unfoldable pub request_frame : Client → ℕ → Bytes → Frame
-request_frame me seq payload = frame.request (record { client = me.number; seq = seq; payload = payload; vector = vector_for me.sizes me.ring kind.Request (command_content me.number seq payload) })
+request_frame me seq payload = frame.request (record {
+  client = me.number;
+  seq = seq;
+  payload = payload;
+  vector = vector_for me.sizes me.ring kind.Request (command_content me.number seq payload);
+})
 
 -- no memory is refused
 abbrev pub is_ample : Memory → Bool

@@ -1,4 +1,5 @@
--- The rest of a replica's state, read off its whole chronicle: views, votes, certificates, pending requests, and what to propose.
+-- The rest of a replica's state, read off its whole chronicle: views, votes, certificates, pending requests, and
+-- what to propose (HotStuff, PODC 2019, the event-driven form; the pacemaker is this project's own).
 use Rattle.std.specs.Prelude.{ℕ, suc, ◌-◌, ◌^◌, ◌==◌, ◌&&◌, not, Bool, List, [], ◌∷◌, ◌++◌, map, filter, take, length, min, max, if◌then◌else◌, nat_lt, nat_le, Option, Some, None}
 use Rattle.std.specs.List.{list_any}
 use Rattle.std.specs.Str.{bytes_eq}
@@ -25,7 +26,8 @@ announced replica c = greatest (map (λ p. p.1) (filter (λ p. p.0 == replica) (
 
 -- the greatest view that more than f replicas have announced or passed
 unfoldable pub reached : Sizes → Chronicle → ℕ
-reached s c = greatest (filter (λ v. nat_lt s.faults (count_below (replicas s) (λ i. nat_le v (announced i c)))) (map (λ p. p.1) (announcements c)))
+reached s c =
+    greatest (filter (λ v. nat_lt s.faults (count_below (replicas s) (λ i. nat_le v (announced i c)))) (map (λ p. p.1) (announcements c)))
 
 -- the view: a timeout adds one, and new-view messages raise it
 unfoldable pub view : Sizes → Chronicle → ℕ

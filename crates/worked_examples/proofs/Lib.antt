@@ -1,2 +1,3 @@
 pub mod FrameSizes
 pub mod LineSteps
+mod SmallRun

@@ -7,5 +7,6 @@ pub mod chains;
 pub mod frames;
 pub mod histories;
 pub mod lines;
+pub mod runs;
 pub mod tags;
 pub mod views;

@@ -1,0 +1,172 @@
+-- A small run, computed.
+use Rattle.std.proofs.Common.{refl}
+use Rattle.sha2.specs.Sha256.{sha256, digest_bytes, hash_after, compress, rounds, schedule, first_words}
+use Rattle.definitions.specs.Lists.{beginning, greatest, count_below}
+use Rattle.definitions.specs.Tags.{hmac}
+use Rattle.definitions.specs.Keyrings.{tag_for, verify, tags_for}
+use Rattle.definitions.specs.Branches.{justify_height, just1, just2, just3, command_eq, block_eq, branch_eq, extends, highest}
+use Rattle.definitions.specs.Digests.{digest, core_over, digest_of, core_of}
+use Rattle.definitions.specs.Histories.{history_of, answers, last_seq}
+use Rattle.definitions.specs.Chronicles.{voted, taken, tree, vheight, lock, decides, decided_by, decided, executed, history, is_clear, clear_above, may_vote}
+use Rattle.definitions.specs.Checks.{counted, is_good, is_clear_core}
+use Rattle.definitions.specs.States.{view, announcements, announced, reached, votes, raised, qc_high, is_due, pending, leads, is_known, picks, child, leaf, proposed}
+use Rattle.definitions.specs.Rulings.{find_block, admitted, votes_for, on_known, on_new, on_block, ruling, conflicts}
+use Rattle.definitions.specs.Sendings.{vote_frame, proposal_frame, new_replies, sendings}
+use Rattle.definitions.specs.Replicas.{on_step, on_ruling, step}
+use Rattle.definitions.specs.Admission.{check}
+use Rattle.definitions.specs.Worlds.{new_world}
+use Rattle.definitions.specs.Events.{nothing, stepped, comes, party_of, brought, acts, effect, happens}
+use Rattle.definitions.specs.Runs.{refusal, run, after}
+use Rattle.std.specs.Prelude.{◌≡◌, [], ◌∷◌}
+use Rattle.definitions.specs.Replicas.{ample}
+use Rattle.definitions.specs.Sendings.{to_all, to_party}
+use Rattle.definitions.specs.Worlds.{World, Sent, beat}
+use Rattle.std.proofs.Common.{arith, inl, inr, sym, subst, ◌∙◌, Some, None, ◌⊎◌, get_or, ap}
+use Rattle.std.specs.Prelude.{List}
+use Rattle.definitions.specs.Lists.{Among}
+use Rattle.definitions.specs.FrameLimits.{IsFrame}
+use Rattle.definitions.specs.Premises.{Claim, accepted_tags, WasSent, NoForgeryIn, IsReadIn, CoreOf, CoreBrought, CoreOfRun}
+use Rattle.definitions.specs.Worlds.{self_of, relay}
+use Rattle.definitions.specs.Frames.{Frame, Core, genesis_core}
+use Rattle.definitions.specs.Checks.{Identity}
+use Rattle.definitions.specs.Bytes.{Bytes}
+use Rattle.definitions.specs.Events.{bytes_of}
+use Rattle.worked_examples.specs.Runs.{IsTakenWhole, SendsOneVote, Lengths, Answers, PremisesHold, sizes, start}
+use Rattle.worked_examples.specs.Runs as example
+
+-- the proposal in the record
+abbrev proposal_sent : Sent
+proposal_sent = record { event = 1; sender = 0; to = to_all; frame = example.proposed }
+
+-- what the run sends
+pub sends : SendsOneVote
+unfolding sha256 digest_bytes hash_after compress rounds schedule first_words beginning greatest count_below hmac tag_for verify tags_for justify_height just1 just2 just3 command_eq block_eq branch_eq extends highest digest core_over digest_of core_of history_of answers last_seq voted taken tree vheight lock decides decided_by decided executed history is_clear clear_above may_vote counted is_good is_clear_core view announcements announced reached votes raised qc_high is_due pending leads is_known picks child leaf proposed find_block admitted votes_for on_known on_new on_block ruling conflicts vote_frame proposal_frame new_replies sendings on_step on_ruling step check new_world nothing stepped comes party_of brought acts effect happens refusal run after
+sends = refl
+
+-- no event is refused by the run
+pub taken_whole : IsTakenWhole
+unfolding sha256 digest_bytes hash_after compress rounds schedule first_words beginning greatest count_below hmac tag_for verify tags_for justify_height just1 just2 just3 command_eq block_eq branch_eq extends highest digest core_over digest_of core_of history_of answers last_seq voted taken tree vheight lock decides decided_by decided executed history is_clear clear_above may_vote counted is_good is_clear_core view announcements announced reached votes raised qc_high is_due pending leads is_known picks child leaf proposed find_block admitted votes_for on_known on_new on_block ruling conflicts vote_frame proposal_frame new_replies sendings on_step on_ruling step check new_world nothing stepped comes party_of brought acts effect happens refusal run after
+taken_whole = refl
+
+-- how long its frames are
+pub lengths : Lengths
+unfolding sha256 digest_bytes hash_after compress rounds schedule first_words beginning greatest count_below hmac tag_for verify tags_for justify_height just1 just2 just3 command_eq block_eq branch_eq extends highest digest core_over digest_of core_of history_of answers last_seq voted taken tree vheight lock decides decided_by decided executed history is_clear clear_above may_vote counted is_good is_clear_core view announcements announced reached votes raised qc_high is_due pending leads is_known picks child leaf proposed find_block admitted votes_for on_known on_new on_block ruling conflicts vote_frame proposal_frame new_replies sendings on_step on_ruling step check new_world nothing stepped comes party_of brought acts effect happens refusal run after
+lengths = refl
+
+-- nor by a party
+pub answered : Answers
+unfolding sha256 digest_bytes hash_after compress rounds schedule first_words beginning greatest count_below hmac tag_for verify tags_for justify_height just1 just2 just3 command_eq block_eq branch_eq extends highest digest core_over digest_of core_of history_of answers last_seq voted taken tree vheight lock decides decided_by decided executed history is_clear clear_above may_vote counted is_good is_clear_core view announcements announced reached votes raised qc_high is_due pending leads is_known picks child leaf proposed find_block admitted votes_for on_known on_new on_block ruling conflicts vote_frame proposal_frame new_replies sendings on_step on_ruling step check new_world nothing stepped comes party_of brought acts effect happens refusal run after
+answered = refl
+
+-- ---- the premises
+
+-- the proposal is a frame
+proposed_is_frame : IsFrame sizes example.proposed
+unfolding sha256 digest_bytes hash_after compress rounds schedule first_words beginning greatest count_below hmac tag_for verify tags_for justify_height just1 just2 just3 command_eq block_eq branch_eq extends highest digest core_over digest_of core_of history_of answers last_seq voted taken tree vheight lock decides decided_by decided executed history is_clear clear_above may_vote counted is_good is_clear_core view announcements announced reached votes raised qc_high is_due pending leads is_known picks child leaf proposed find_block admitted votes_for on_known on_new on_block ruling conflicts vote_frame proposal_frame new_replies sendings on_step on_ruling step check new_world nothing stepped comes party_of brought acts effect happens refusal run after
+proposed_is_frame = (
+  omega arith,
+  record { parent = refl; height = (omega arith, omega arith); justify_height = omega arith; count = omega arith; commands = tt },
+  record { digest = refl; count = inl refl; votes = tt; rising = tt },
+  refl,
+)
+
+-- the record after the beat and after the vote
+after_beat : (after start ((beat 0, ample) ∷ [])).sent ≡ proposal_sent ∷ []
+unfolding sha256 digest_bytes hash_after compress rounds schedule first_words beginning greatest count_below hmac tag_for verify tags_for justify_height just1 just2 just3 command_eq block_eq branch_eq extends highest digest core_over digest_of core_of history_of answers last_seq voted taken tree vheight lock decides decided_by decided executed history is_clear clear_above may_vote counted is_good is_clear_core view announcements announced reached votes raised qc_high is_due pending leads is_known picks child leaf proposed find_block admitted votes_for on_known on_new on_block ruling conflicts vote_frame proposal_frame new_replies sendings on_step on_ruling step check new_world nothing stepped comes party_of brought acts effect happens refusal run after
+after_beat = refl
+
+after_vote : (after start ((beat 0, ample) ∷ (relay 0 1 (Some example.proposed), ample) ∷ [])).sent
+    ≡ proposal_sent ∷ record { event = 2; sender = 1; to = to_party 0; frame = example.voted } ∷ []
+unfolding sha256 digest_bytes hash_after compress rounds schedule first_words beginning greatest count_below hmac tag_for verify tags_for justify_height just1 just2 just3 command_eq block_eq branch_eq extends highest digest core_over digest_of core_of history_of answers last_seq voted taken tree vheight lock decides decided_by decided executed history is_clear clear_above may_vote counted is_good is_clear_core view announcements announced reached votes raised qc_high is_due pending leads is_known picks child leaf proposed find_block admitted votes_for on_known on_new on_block ruling conflicts vote_frame proposal_frame new_replies sendings on_step on_ruling step check new_world nothing stepped comes party_of brought acts effect happens refusal run after
+after_vote = refl
+
+-- the proposal's own tag for replica 1 is all that replica 1 relies on, and it was sent
+claim_was_sent : (sent : List Sent) → Among proposal_sent sent → (x : Claim) → Among x (accepted_tags (self_of start 1) example.proposed) → WasSent sent x
+unfolding accepted_tags proposal_frame core_of core_over is_good new_world
+claim_was_sent sent m x (inl e) = subst (WasSent sent) (sym e) (proposal_sent, m, refl, (refl, refl, refl, tt))
+claim_was_sent sent m x (inr k) = absurd k
+
+-- so no tag in it is forged
+none_forged : (w : World) → self_of w 1 ≡ self_of start 1 → Among proposal_sent w.sent → NoForgeryIn w (relay 0 1 (Some example.proposed))
+unfolding brought party_of
+none_forged w same m f b ok ad x k okx =
+    let e : example.proposed ≡ f = cc in
+    claim_was_sent w.sent m x (subst (λ (g : Frame). Among x (accepted_tags (self_of start 1) g)) (sym e) (subst (λ (i : Identity). Among x (accepted_tags i f)) same k))
+
+-- the digests of the two cores begin with other bytes
+genesis_first : get_or (digest genesis_core) 0 0 ≡ 120
+unfolding sha256 digest_bytes hash_after compress rounds schedule first_words digest
+genesis_first = refl
+
+block_first : get_or (digest_of example.block1) 0 0 ≡ 91
+unfolding sha256 digest_bytes hash_after compress rounds schedule first_words digest core_over digest_of
+block_first = refl
+
+digests_apart : digest genesis_core ≡ digest_of example.block1 → ⊥
+digests_apart e = let k = ap (λ (l : Bytes). get_or l 0 0) e in omega (arith, k, genesis_first, block_first)
+
+-- a core of the run is genesis's or the block's
+IsOneOfTwo : Core → Type 0
+IsOneOfTwo c = (c ≡ genesis_core) ⊎ (c ≡ core_of example.block1)
+
+proposed_core : (c : Core) (f : Frame) → f ≡ example.proposed → CoreOf c f → IsOneOfTwo c
+unfolding proposal_frame IsOneOfTwo
+proposed_core c f e o = inr (subst (CoreOf c) e o)
+
+sent_core : (c : Core) (s : Sent) → Among s (after start example.schedule).sent → CoreOf c s.frame → IsOneOfTwo c
+unfolding vote_frame
+sent_core c s m o =
+    elim (subst (λ (l : List Sent). Among s l) sends m) [
+      | inl e ↦ proposed_core c s.frame (ap (λ (x : Sent). x.frame) e) o
+      | inr k ↦ (elim k [ inl e ↦ absurd (subst (CoreOf c) (ap (λ (x : Sent). x.frame) e) o) | inr n ↦ absurd n ])
+    ]
+
+brought_core : (c : Core) → CoreBrought c start example.schedule → IsOneOfTwo c
+unfolding brought
+brought_core c (inl x) = let e : None ≡ Some x.0 = x.1 in absurd (cc)
+brought_core c (inr (inl x)) = proposed_core c x.0 (let e : Some example.proposed ≡ Some x.0 = x.1 in cc) x.2
+brought_core c (inr (inr (inl x))) = proposed_core c x.0 (let e : Some example.proposed ≡ Some x.0 = x.1 in cc) x.2
+brought_core c (inr (inr (inr n))) = absurd n
+
+run_core : (c : Core) → CoreOfRun start example.schedule c → IsOneOfTwo c
+unfolding IsOneOfTwo
+run_core c (inl e) = inl e
+run_core c (inr (inl x)) = sent_core c x.0 x.1 x.2
+run_core c (inr (inr x)) = brought_core c x
+
+two_apart : (a b : Core) → IsOneOfTwo a → IsOneOfTwo b → digest a ≡ digest b → a ≡ b
+unfolding IsOneOfTwo digest_of core_of
+two_apart a b (inl e) (inl f) h = e ∙ sym f
+two_apart a b (inl e) (inr f) h = absurd (digests_apart (sym (ap digest e) ∙ (h ∙ ap digest f)))
+two_apart a b (inr e) (inl f) h = absurd (digests_apart (sym (ap digest f) ∙ (sym h ∙ ap digest e)))
+two_apart a b (inr e) (inr f) h = e ∙ sym f
+
+-- what is brought is read as the proposal
+first_read : IsReadIn (after start ((beat 0, ample) ∷ [])) (relay 0 1 (Some example.proposed))
+unfolding sha256 digest_bytes hash_after compress rounds schedule first_words beginning greatest count_below hmac tag_for verify tags_for justify_height just1 just2 just3 command_eq block_eq branch_eq extends highest digest core_over digest_of core_of history_of answers last_seq voted taken tree vheight lock decides decided_by decided executed history is_clear clear_above may_vote counted is_good is_clear_core view announcements announced reached votes raised qc_high is_due pending leads is_known picks child leaf proposed find_block admitted votes_for on_known on_new on_block ruling conflicts vote_frame proposal_frame new_replies sendings on_step on_ruling step check new_world nothing stepped comes party_of brought acts effect happens refusal run after bytes_of
+first_read = (proposed_is_frame, refl)
+
+second_read : IsReadIn (after start ((beat 0, ample) ∷ (relay 0 1 (Some example.proposed), ample) ∷ [])) (relay 0 1 (Some example.proposed))
+unfolding sha256 digest_bytes hash_after compress rounds schedule first_words beginning greatest count_below hmac tag_for verify tags_for justify_height just1 just2 just3 command_eq block_eq branch_eq extends highest digest core_over digest_of core_of history_of answers last_seq voted taken tree vheight lock decides decided_by decided executed history is_clear clear_above may_vote counted is_good is_clear_core view announcements announced reached votes raised qc_high is_due pending leads is_known picks child leaf proposed find_block admitted votes_for on_known on_new on_block ruling conflicts vote_frame proposal_frame new_replies sendings on_step on_ruling step check new_world nothing stepped comes party_of brought acts effect happens refusal run after bytes_of
+second_read = (proposed_is_frame, refl)
+
+nothing_read : IsReadIn start (beat 0)
+unfolding bytes_of brought
+nothing_read = refl
+
+-- the premises hold
+pub premises : PremisesHold
+unfolding happens after count_below new_world brought
+premises = record {
+  few = omega arith;
+  keys = λ p c. refl;
+  read = (nothing_read, (first_read, (second_read, tt)));
+  no_forgery = (
+    λ f b. (let e : None ≡ Some f = b in absurd (cc)),
+    (
+      none_forged (after start ((beat 0, ample) ∷ [])) refl (subst (λ (l : List Sent). Among proposal_sent l) (sym after_beat) (inl refl)),
+      (none_forged (after start ((beat 0, ample) ∷ (relay 0 1 (Some example.proposed), ample) ∷ [])) refl (subst (λ (l : List Sent). Among proposal_sent l) (sym after_vote) (inl refl)), tt),
+    ),
+  );
+  no_collision = λ a b ka kb. two_apart a b (run_core a ka) (run_core b kb);
+}
