@@ -10,3 +10,5 @@ pub mod Vectors
 pub mod Lines
 pub mod RequestTexts
 pub mod ItemLaws
+pub mod Certificates
+pub mod ReplyTexts

@@ -74,7 +74,7 @@ none-conflict : well ≡ code fault.Conflict → ⊥
 none-conflict e = cc
 
 -- what a run does not refuse names a party
-named : (w : World) (e : Event) → refusal w e ≡ None → names_party w e ≡ true
+pub named : (w : World) (e : Event) → refusal w e ≡ None → names_party w e ≡ true
 unfolding refusal
 named w e h =
     elim (cases_Bool (names_party w e)) [

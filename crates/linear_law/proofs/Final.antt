@@ -59,7 +59,7 @@ same-client a b e = omega arith
 
 module _ (Known : Core → Type 0) where
   -- each event keeps the account
-  account-happens : (w : World) (e : Event) (m : Memory) → IsGood Known w → IsHonest Known w e → refusal w e ≡ None → IsAccount w → IsAccount (happens w (e, m))
+  pub account-happens : (w : World) (e : Event) (m : Memory) → IsGood Known w → IsHonest Known w e → refusal w e ≡ None → IsAccount w → IsAccount (happens w (e, m))
   unfolding happens
   account-happens w e m g honest ok a = record {
     replies = happens-replies Known w e m g.run honest ok a.replies;
@@ -165,7 +165,7 @@ module _ (Known : Core → Type 0) (apart : NoCollision Known) (genesis : Known 
       let r = run-step (refusal w h.0) (run (happens w h) hs) last e in
       account-run hs (happens w h) last (good-happens Known apart genesis ground w h g honest.0 r.0) (account-happens Known w h.0 h.1 g honest.0 r.0 a) honest.1 r.1
 
-new-account : (sizes : Sizes) (is_faulty : ℕ → Bool) (ring : ℕ → Keyring) → IsAccount (new_world sizes is_faulty ring)
+pub new-account : (sizes : Sizes) (is_faulty : ℕ → Bool) (ring : ℕ → Keyring) → IsAccount (new_world sizes is_faulty ring)
 unfolding new_world
 new-account sizes is_faulty ring = record {
   replies = λ s k. absurd k;
@@ -219,11 +219,11 @@ linear Known w g a =
     ]
 
 -- the cores of a run that a frame may have, and genesis's
-KnownIn : (sizes : Sizes) (w : World) (hs : List Happening) → Core → Type 0
+unfoldable pub KnownIn : (sizes : Sizes) (w : World) (hs : List Happening) → Core → Type 0
 KnownIn sizes w hs c = CoreOfRun w hs c × IsCoreOrGenesis sizes c
 
 -- at most f faulty replicas leave a quorum of correct ones
-correct-quorum : (sizes : Sizes) (is_faulty : ℕ → Bool) → count_below (replicas sizes) is_faulty ≤ sizes.faults → quorum sizes ≤ count_below (replicas sizes) (λ p. nat_lt p (replicas sizes) && not (is_faulty p))
+pub correct-quorum : (sizes : Sizes) (is_faulty : ℕ → Bool) → count_below (replicas sizes) is_faulty ≤ sizes.faults → quorum sizes ≤ count_below (replicas sizes) (λ p. nat_lt p (replicas sizes) && not (is_faulty p))
 correct-quorum sizes is_faulty few =
     let n : ℕ = replicas sizes in
     let same = count-same n (λ p. nat_lt p n && not (is_faulty p)) (λ p. not (is_faulty p)) (λ i l. ap (λ (t : Bool). t && not (is_faulty i)) (lt-ltb i n l)) in

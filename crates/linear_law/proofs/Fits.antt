@@ -49,7 +49,7 @@ brought-core w (h ∷ hs) c rd (inr y) = brought-core (happens w h) hs c rd.1 y
 
 -- ---- histories of branches of such cores
 
-core-block : (s : Sizes) (b : Block) (parent : Branch) → IsCoreOrGenesis s (core_of (b ∷ parent)) → (length b.commands ≤ 16) × AllByRecursion (IsCommand s) b.commands
+pub core-block : (s : Sizes) (b : Block) (parent : Branch) → IsCoreOrGenesis s (core_of (b ∷ parent)) → (length b.commands ≤ 16) × AllByRecursion (IsCommand s) b.commands
 unfolding core_of core_over
 core-block s b parent (inl e) = absurd (apart (ap (λ (c : Core). c.height) e))
   where
@@ -61,7 +61,7 @@ length-reverse_map : (cs : List Command) → length (reverse (map entry_of cs)) 
 length-reverse_map cs = length-reverse (map entry_of cs) ∙ length-map cs entry_of
 
 module _ (Known : Core → Type 0) (s : Sizes) (cores : (c : Core) → Known c → IsCoreOrGenesis s c) where
-  history-length : (x : Branch) → AllKnown Known x → length (history_of x) ≤ 16 * length x
+  pub history-length : (x : Branch) → AllKnown Known x → length (history_of x) ≤ 16 * length x
   unfolding history_of
   history-length [] h = omega arith
   history-length (b ∷ parent) h =
@@ -105,7 +105,7 @@ answers-entry [] a m = absurd m
 answers-entry (e ∷ h) a m = answer-step e h _ a (is_fresh e h) refl refl refl (answers-entry h a) m
 
 -- the executed block stands in the tree
-executed-tree : (c : Chronicle) → IsTree (tree c) → Among (executed c) (tree c)
+pub executed-tree : (c : Chronicle) → IsTree (tree c) → Among (executed c) (tree c)
 unfolding tree
 executed-tree c tr =
     elim (executed-cases c) [

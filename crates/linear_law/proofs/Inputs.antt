@@ -45,7 +45,7 @@ AllStanding P (due st) = P st
 AllStanding P (missing sender d) = ⊤
 AllStanding P (refusing n) = ⊤
 
-core-known : (core : Core) (parent : Branch) → core.parent ≡ digest_of parent → core.height ≡ suc (length parent) → core_of (block_of core ∷ parent) ≡ core
+pub core-known : (core : Core) (parent : Branch) → core.parent ≡ digest_of parent → core.height ≡ suc (length parent) → core_of (block_of core ∷ parent) ≡ core
 unfolding core_of core_over
 core-known core parent ep eh = λ i. record { parent = sym ep i; height = sym eh i; justify_height = core.justify_height; commands = core.commands }
 
@@ -117,7 +117,7 @@ all-among P (y ∷ xs) x h (inr m) = all-among P xs x h.1 m
 
 -- ---- what a check found
 
-when-good : (ok : Bool) (i j : Input) → when ok i ≡ passes j → (ok ≡ true) × (i ≡ j)
+pub when-good : (ok : Bool) (i j : Input) → when ok i ≡ passes j → (ok ≡ true) × (i ≡ j)
 when-good true i j e = (refl, cc)
 when-good false i j e = absurd (apart e)
   where

@@ -9,6 +9,13 @@ pub mod Requested
 pub mod Entries
 pub mod Replies
 pub mod Fits
+pub mod StoredFrames
+pub mod MadeCertificates
+pub mod Leaves
+pub mod SentFrames
+pub mod FitAnswers
+pub mod KnownLeaves
 pub mod Receipts
 pub mod Accounts
 pub mod Final
+pub mod FramedRuns

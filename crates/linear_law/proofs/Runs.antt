@@ -290,7 +290,7 @@ module _ (Known : Core → Type 0) (apart : NoCollision Known) (genesis : Known 
   after-step w p m v r made row me more (cut st n u e h) = record { row = row-more Known w p _ (more st e); grows = λ x k. voted-grows st _ x k; out = λ o k. nothing-stands _ o k; mild = mild-number fault.Memory (λ k. cc) }
 
   -- a member's step keeps the row
-  step-keeps : (w : World) (e : Event) (m : Memory) (i : Input) → IsRun Known w → IsMadeWell w → IsHonest Known w e → is_member w (party_of e) ≡ true → Arises w e i → IsAfter Known w (party_of e) m (step (self_of w (party_of e)) m i (w.replica (party_of e)))
+  pub step-keeps : (w : World) (e : Event) (m : Memory) (i : Input) → IsRun Known w → IsMadeWell w → IsHonest Known w e → is_member w (party_of e) ≡ true → Arises w e i → IsAfter Known w (party_of e) m (step (self_of w (party_of e)) m i (w.replica (party_of e)))
   step-keeps w e m i run made honest me ar =
       let self : Identity = self_of w (party_of e) in
       let so : IsSound w.sizes (chronicles w (party_of e)) = run.row.sound (party_of e) me in

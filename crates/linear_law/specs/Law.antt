@@ -1,12 +1,19 @@
 -- The laws of every run, as clauses.
-use Rattle.std.specs.Prelude.{ℕ, ◌≡◌, ◌≢◌, Bool, true, List, Some, Ok}
+use Rattle.std.specs.Prelude.{ℕ, ◌≡◌, ◌≢◌, ◌<◌, Bool, true, List, [], ◌∷◌, length, Option, Some, Ok, slice_get, ⊤}
 use Rattle.std.specs.List.{AllByRecursion}
 use Rattle.ids.specs.declared.fault.Fault.TheVariants as fault
-use Rattle.ids.specs.Sizes.{Sizes}
+use Rattle.ids.specs.Sizes.{Sizes, AreSizes}
 use Rattle.definitions.specs.Keyrings.{Keyring}
-use Rattle.definitions.specs.Chronicles.{IsLawful}
+use Rattle.definitions.specs.Lists.{Among, IsBeginning}
+use Rattle.definitions.specs.FrameLimits.{IsFrame, IsCertificate}
+use Rattle.definitions.specs.Digests.{digest_of}
+use Rattle.definitions.specs.Checks.{Identity, is_good}
+use Rattle.definitions.specs.States.{Justified, raised, qc_high}
+use Rattle.definitions.specs.Chronicles.{Step, Chronicle, IsLawful}
 use Rattle.definitions.specs.Agreement.{Family, IsLawfulFamily}
-use Rattle.definitions.specs.Worlds.{World, Happening, new_world, is_correct}
+use Rattle.definitions.specs.Worlds.{World, Sent, relay, Happening, new_world, is_correct, self_of}
+use Rattle.definitions.specs.Events.{happens}
+use Rattle.definitions.specs.Frames.{Frame}
 use Rattle.definitions.specs.Runs.{run}
 use Rattle.definitions.specs.Premises.{ArePremises}
 use Rattle.definitions.specs.Linearity.{IsLinear}
@@ -39,3 +46,34 @@ ChroniclesAreAFamily = AfterEachRun (λ w. IsLawfulFamily (correct_family w))
 
 abbrev pub NoEventConflicts : Type 0
 NoEventConflicts = AfterEachRun NoneConflicts
+
+-- each frame that a correct party sent is a frame at the world's sizes
+abbrev pub SentAreFrames : World → Type 0
+SentAreFrames w = (s : Sent) → Among s w.sent → IsFrame w.sizes s.frame
+
+abbrev pub SentFramesAreFrames : Type 0
+SentFramesAreFrames = AfterEachRun SentAreFrames
+
+-- where a frame of the record comes to a party, it is read as it was sent
+abbrev pub AreReadAsSent : World → List Happening → Type 0
+AreReadAsSent w [] = ⊤
+AreReadAsSent w (h ∷ hs) = ((k to : ℕ) (read : Option Frame) (s : Sent) → h.0 ≡ relay k to read → slice_get w.sent k ≡ Some s → read ≡ Some s.frame) × AreReadAsSent (happens w h) hs
+
+abbrev pub SentFramesAreRead : Type 0
+SentFramesAreRead = (sizes : Sizes) (is_faulty : ℕ → Bool) (ring : ℕ → Keyring) (hs : List Happening) (last : World) → AreSizes sizes
+    → ArePremises (new_world sizes is_faulty ring) hs → run (new_world sizes is_faulty ring) hs ≡ Ok last → AreReadAsSent (new_world sizes is_faulty ring) hs
+
+-- a certificate at the replica's sizes, for its block; where that isn't genesis, it is good for the replica
+pub record IsCertified (self : Identity) (j : Justified) : Type 0 where
+  pub certificate : IsCertificate self.sizes j.certificate
+  pub digest : j.certificate.digest ≡ digest_of j.block
+  pub good : 0 < length j.block → is_good self j.certificate ≡ true
+
+-- each certificate that a step brought, or completed by the last vote of a quorum, is one; so is the highest, and it is good
+pub record HasCertificates (self : Identity) (c : Chronicle) : Type 0 where
+  pub each : (s : Step) (earlier : Chronicle) (j : Justified) → IsBeginning (s ∷ earlier) c → raised self.sizes s earlier ≡ Some j → IsCertified self j
+  pub highest : IsCertified self (qc_high self.sizes c)
+  pub good : is_good self (qc_high self.sizes c).certificate ≡ true
+
+abbrev pub MadeCertificatesAreCertificates : Type 0
+MadeCertificatesAreCertificates = AfterEachRun (λ w. (i : ℕ) → is_correct w i ≡ true → HasCertificates (self_of w i) (w.replica i).chronicle)

@@ -3,7 +3,7 @@
 //! invented frames; want of memory is its one free choice.
 #![tactic(auto)]
 
-ghost use Rattle.linear_law.specs.Law.{EveryRunIsLinear, ChroniclesAreLawful, ChroniclesAreAFamily, NoEventConflicts};
+ghost use Rattle.linear_law.specs.Law.{EveryRunIsLinear, ChroniclesAreLawful, ChroniclesAreAFamily, NoEventConflicts, SentFramesAreFrames, SentFramesAreRead, MadeCertificatesAreCertificates};
 
 /// Every run is linear.
 pub fn every_run_is_linear()
@@ -23,4 +23,20 @@ pub fn chronicles_are_a_family()
 /// No event is answered with a conflict.
 pub fn no_event_conflicts()
     ensures { NoEventConflicts }
+{}
+
+/// Each frame that a correct party sends is a frame at the run's sizes.
+pub fn sent_frames_are_frames()
+    ensures { SentFramesAreFrames }
+{}
+
+/// A frame that a correct party sent is read as it was sent, wherever it comes.
+pub fn sent_frames_are_read()
+    ensures { SentFramesAreRead }
+{}
+
+/// Each certificate that a correct replica keeps, or makes from votes, is a certificate at the run's sizes, for its
+/// block and good for the replica.
+pub fn made_certificates_are_certificates()
+    ensures { MadeCertificatesAreCertificates }
 {}

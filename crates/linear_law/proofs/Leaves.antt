@@ -1,0 +1,194 @@
+-- Views, waiting requests and the block that the next proposal stands on, of a chronicle whose steps came in frames.
+use Rattle.std.proofs.Common.{ℕ, zero, suc, if◌then◌else◌, ◌≡◌, ◌<◌, ◌≤◌, ◌^◌, ◌&&◌, not, true, List, [], ◌∷◌, ◌++◌, length, refl, sym, ap, subst, arith, inl, inr, Option, Some, None, true≢false, ◌==◌, nat_lt, nat_le, map, filter, take, bytes_eq}
+use Rattle.std.specs.List.{list_any, AllByRecursion}
+use Rattle.std.proofs.lemmas.Bool.{and_parts, cond_both, ltb-true, ltb-false, or_cases}
+use Rattle.std.proofs.lemmas.List.{length-take}
+use Rattle.ids.specs.Sizes.{replicas}
+use Rattle.definitions.specs.Lists.{Among, greatest, count_below}
+use Rattle.definitions.specs.Bytes.{Bytes}
+use Rattle.definitions.specs.Frames.{Command}
+use Rattle.definitions.specs.FrameLimits.{IsCommand, IsCore, most_commands}
+use Rattle.definitions.specs.Branches.{Branch}
+use Rattle.definitions.specs.Digests.{digest_of, core_of, core_over}
+use Rattle.definitions.specs.Histories.{history_of}
+use Rattle.definitions.specs.Chronicles.{Step, Step.took_block, Step.got_vote, Step.got_new_view, Step.got_request, Step.got_fetch, Step.timed_out, Step.beat, Chronicle, tree, history}
+use Rattle.definitions.specs.Checks.{Identity}
+use Rattle.definitions.specs.States.{announcements, announced, reached, view, raised, qc_high, is_same_request, is_due, with_request, pending, leads, is_known, picks, child, leaf, or_else}
+use Rattle.definitions.proofs.Certificates.{IsDigest-digest_of, all-filter}
+use Rattle.linear_law.proofs.Sound.{same_bytes}
+use Rattle.linear_law.proofs.StoredFrames.{AreStored}
+
+-- ---- views
+
+-- each view that was announced fits into eight bytes
+announced-fit : (self : Identity) (c : Chronicle) → AreStored self c → AllByRecursion (λ v. v < 2 ^ 64) (map (λ p. p.1) (announcements c))
+unfolding announcements
+announced-fit self [] h = tt
+announced-fit self (got_new_view w r q b ∷ c) h = (h.0.view_is, announced-fit self c h.1)
+announced-fit self (took_block a ∷ c) h = announced-fit self c h.1
+announced-fit self (got_vote v t b ∷ c) h = announced-fit self c h.1
+announced-fit self (got_request r ∷ c) h = announced-fit self c h.1
+announced-fit self (got_fetch r b ∷ c) h = announced-fit self c h.1
+announced-fit self (timed_out ∷ c) h = announced-fit self c h.1
+announced-fit self (beat ∷ c) h = announced-fit self c h.1
+
+-- the greatest of numbers below a bound is below it
+greatest-below : (n : ℕ) (xs : List ℕ) → 0 < n → AllByRecursion (λ v. v < n) xs → greatest xs < n
+unfolding greatest
+greatest-below n [] l h = l
+greatest-below n (x ∷ xs) l h = let k = greatest-below n xs l h.1 in let j = h.0 in omega (arith, k, j)
+
+-- so does the view that was reached
+reached-fits : (self : Identity) (c : Chronicle) → AreStored self c → reached self.sizes c < 2 ^ 64
+unfolding reached
+reached-fits self c h =
+    greatest-below (2 ^ 64) (filter (λ v. nat_lt self.sizes.faults (count_below (replicas self.sizes) (λ i. nat_le v (announced i c)))) (map (λ p. p.1) (announcements c))) (omega arith)
+    (all-filter (λ v. v < 2 ^ 64) (λ v. nat_lt self.sizes.faults (count_below (replicas self.sizes) (λ i. nat_le v (announced i c)))) (map (λ p. p.1) (announcements c)) (announced-fit self c h))
+
+-- the view fits into eight bytes
+pub view-fits : (self : Identity) (c : Chronicle) → AreStored self c → view self.sizes c < 2 ^ 64
+unfolding view
+view-fits self [] h = omega arith
+view-fits self (timed_out ∷ c) h = omega arith
+view-fits self (got_new_view w r q b ∷ c) h = let k = view-fits self c h.1 in let l = reached-fits self (got_new_view w r q b ∷ c) h in omega (arith, k, l)
+view-fits self (took_block a ∷ c) h = view-fits self c h.1
+view-fits self (got_vote v t b ∷ c) h = view-fits self c h.1
+view-fits self (got_request r ∷ c) h = view-fits self c h.1
+view-fits self (got_fetch r b ∷ c) h = view-fits self c h.1
+view-fits self (beat ∷ c) h = view-fits self c h.1
+
+-- ---- requests that wait
+
+-- a list with one more element
+all-after : {A : Type 0} (P : A → Type 0) (xs : List A) (x : A) → AllByRecursion P xs → P x → AllByRecursion P (xs ++ x ∷ [])
+all-after P [] x h k = (k, tt)
+all-after P (y ∷ xs) x h k = (h.0, all-after P xs x h.1 k)
+
+-- a new request is added last
+all-with_request : (self : Identity) (st : Step) (c : Chronicle) (ps : List Command) → AreStored self (st ∷ c) → AllByRecursion (IsCommand self.sizes) ps → AllByRecursion (IsCommand self.sizes) (with_request st ps)
+all-with_request self (got_request r) c ps h all = cond_both (list_any (is_same_request r) ps) ps (ps ++ r ∷ []) (AllByRecursion (IsCommand self.sizes)) (λ e. all) (λ e. all-after (IsCommand self.sizes) ps r all h.0)
+all-with_request self (took_block a) c ps h all = all
+all-with_request self (got_vote v t b) c ps h all = all
+all-with_request self (got_new_view w r q b) c ps h all = all
+all-with_request self (got_fetch r b) c ps h all = all
+all-with_request self timed_out c ps h all = all
+all-with_request self beat c ps h all = all
+
+-- each request that waits came in a frame
+pub pending-fit : (self : Identity) (c : Chronicle) → AreStored self c → AllByRecursion (IsCommand self.sizes) (pending c)
+unfolding pending
+pending-fit self [] h = tt
+pending-fit self (st ∷ c) h = all-filter (IsCommand self.sizes) (is_due (history (st ∷ c))) (with_request st (pending c)) (all-with_request self st c (pending c) h (pending-fit self c h.1))
+
+-- the first of a list of which each element has a property
+all-take : {A : Type 0} (P : A → Type 0) (n : ℕ) (xs : List A) → AllByRecursion P xs → AllByRecursion P (take n xs)
+all-take P zero xs h = tt
+all-take P (suc n) [] h = tt
+all-take P (suc n) (x ∷ xs) h = (h.0, all-take P n xs h.1)
+
+-- so do those of a new block, 16 at most
+pub picks-fit : (self : Identity) (c : Chronicle) (on : Branch) → AreStored self c → AllByRecursion (IsCommand self.sizes) (picks c on) × (length (picks c on) ≤ most_commands)
+unfolding picks
+picks-fit self c on h =
+    let kept : List Command = filter (λ r. not (list_any (λ e. (e.client == r.client) && (e.seq == r.seq)) (history_of on))) (pending c) in (
+      all-take (IsCommand self.sizes) most_commands kept (all-filter (IsCommand self.sizes) (λ r. not (list_any (λ e. (e.client == r.client) && (e.seq == r.seq)) (history_of on))) (pending c) (pending-fit self c h)),
+      (let l = length-take most_commands kept in omega (arith, l)),
+    )
+
+-- ---- the block that the next proposal stands on
+
+-- a block that a beat makes
+pub record IsChild (self : Identity) (c : Chronicle) (on b : Branch) : Type 0 where
+  pub is : b ≡ record { commands = picks c on; justify = length (qc_high self.sizes c).block } ∷ on
+  pub leads_view : leads self c ≡ true
+  pub known : is_known (digest_of on) c ≡ true
+
+-- equal options have equal contents
+some-is : {A : Type 0} (x y : A) → Some x ≡ Some y → x ≡ y
+some-is x y e = cc
+
+-- nothing is no content
+none-some : {A : Type 0} (x : A) → None ≡ Some x → ⊥
+none-some x e = cc
+
+-- a child that is made is one
+pub child-is : (self : Identity) (c : Chronicle) (on b : Branch) → child self c on ≡ Some b → IsChild self c on b
+unfolding child
+child-is self c on b =
+    cond_both (leads self c && is_known (digest_of on) c) _ _ (λ (o : Option Branch). o ≡ Some b → IsChild self c on b)
+    (λ t e. record { is = sym (some-is _ b e); leads_view = (and_parts _ _ t).0; known = (and_parts _ _ t).1 })
+    (λ t e. absurd (none-some b e))
+
+-- how a step leaves it
+pub data LeafStep (self : Identity) (st : Step) (c : Chronicle) : Branch → Type 0 where
+  raises : length (qc_high self.sizes c).block < length (qc_high self.sizes (st ∷ c)).block → LeafStep self st c (qc_high self.sizes (st ∷ c)).block
+  keeps : length (qc_high self.sizes (st ∷ c)).block ≤ length (qc_high self.sizes c).block → LeafStep self st c (leaf self c)
+  makes : (b : Branch) → st ≡ beat → length (qc_high self.sizes (st ∷ c)).block ≤ length (qc_high self.sizes c).block → child self c (leaf self c) ≡ Some b → LeafStep self st c b
+
+-- a step that is no beat
+leaf-either : (self : Identity) (st : Step) (c : Chronicle) → LeafStep self st c (if nat_lt (length (qc_high self.sizes c).block) (length (qc_high self.sizes (st ∷ c)).block) then (qc_high self.sizes (st ∷ c)).block else leaf self c)
+leaf-either self st c =
+    cond_both (nat_lt (length (qc_high self.sizes c).block) (length (qc_high self.sizes (st ∷ c)).block)) _ _ (LeafStep self st c)
+    (λ e. raises (ltb-true _ _ e))
+    (λ e. keeps (ltb-false _ _ e))
+
+-- a beat raises no certificate
+beat-same : (self : Identity) (c : Chronicle) → length (qc_high self.sizes (beat ∷ c)).block ≤ length (qc_high self.sizes c).block
+unfolding qc_high raised
+beat-same self c = omega arith
+
+-- each step leaves it in one of these ways
+pub leaf-step : (self : Identity) (st : Step) (c : Chronicle) → LeafStep self st c (leaf self (st ∷ c))
+unfolding leaf
+leaf-step self beat c = by (child self c (leaf self c)) refl
+  where
+    by : (o : Option Branch) → child self c (leaf self c) ≡ o → LeafStep self beat c (or_else o (leaf self c))
+    by None e = keeps (beat-same self c)
+    by (Some b) e = makes b refl (beat-same self c) e
+leaf-step self (took_block a) c = leaf-either self (took_block a) c
+leaf-step self (got_vote v t b) c = leaf-either self (got_vote v t b) c
+leaf-step self (got_new_view w r q b) c = leaf-either self (got_new_view w r q b) c
+leaf-step self (got_request r) c = leaf-either self (got_request r) c
+leaf-step self (got_fetch r b) c = leaf-either self (got_fetch r b) c
+leaf-step self timed_out c = leaf-either self timed_out c
+
+-- each step leaves it as high as the highest certified block
+above-step : (self : Identity) (st : Step) (c : Chronicle) (b : Branch) → length (qc_high self.sizes c).block ≤ length (leaf self c) → LeafStep self st c b → length (qc_high self.sizes (st ∷ c)).block ≤ length b
+above-step self st c b h (raises l) = omega arith
+above-step self st c b h (keeps l) = omega (arith, h, l)
+above-step self st c b h (makes x e l k) =
+    let i = ap (λ (y : Branch). length y) (child-is self c (leaf self c) x k).is in
+    omega (arith, h, l, i)
+
+-- so it is at the start
+genesis-above : (self : Identity) → length (qc_high self.sizes []).block ≤ length (leaf self [])
+unfolding qc_high leaf
+genesis-above self = omega arith
+
+-- it is as high as the block of the highest certificate
+pub leaf-above : (self : Identity) (c : Chronicle) → length (qc_high self.sizes c).block ≤ length (leaf self c)
+leaf-above self [] = genesis-above self
+leaf-above self (st ∷ c) = above-step self st c (leaf self (st ∷ c)) (leaf-above self c) (leaf-step self st c)
+
+-- ---- the core of a new block
+
+-- the leaf's digest is that of a block of the tree
+pub known-block : (d : Bytes) (c : Chronicle) → is_known d c ≡ true → (x : Branch) × Among x (tree c) × (digest_of x ≡ d)
+unfolding is_known
+known-block d c h = among (tree c) h
+  where
+    among : (t : List Branch) → list_any (λ b. bytes_eq (digest_of b) d) t ≡ true → (x : Branch) × Among x t × (digest_of x ≡ d)
+    among [] e = absurd (true≢false (sym e))
+    among (x ∷ t) e = elim (or_cases _ _ e) [ inl k ↦ (x, inl refl, same_bytes _ _ k) | inr k ↦ (let r = among t k in (r.0, inr r.1, r.2)) ]
+
+-- the core of a block that a beat makes on a leaf of this height is one of a frame
+pub child-core : (self : Identity) (c : Chronicle) (b : Branch) → AreStored self c → length (leaf self c) < 1048576 → IsChild self c (leaf self c) b → IsCore self.sizes (core_of b)
+unfolding core_of core_over
+child-core self c b h low ch =
+    subst (λ (x : Branch). IsCore self.sizes (core_of x)) (sym ch.is) (record {
+      parent = IsDigest-digest_of (leaf self c);
+      height = (omega arith, omega (arith, low));
+      justify_height = (let l = leaf-above self c in omega (arith, l));
+      count = (picks-fit self c (leaf self c) h).1;
+      commands = (picks-fit self c (leaf self c) h).0;
+    })
