@@ -1,5 +1,5 @@
 -- Tests on lists, beginnings, and the step after a beginning.
-use Rattle.std.proofs.Common.{ℕ, suc, ◌≡◌, ◌<◌, ◌≤◌, ◌⊎◌, Bool, true, false, List, [], ◌∷◌, ◌++◌, length, refl, sym, ap, subst, ◌∙◌, arith, inl, inr, Option, Some, None, append_assoc, true≢false}
+use Rattle.std.proofs.Common.{ℕ, suc, ◌≡◌, ◌<◌, ◌≤◌, ◌⊎◌, Bool, true, false, List, [], ◌∷◌, ◌++◌, length, refl, sym, ap, subst, ◌∙◌, arith, inl, inr, Option, Some, None, true≢false}
 use Rattle.std.specs.List.{list_any, list_all}
 use Rattle.std.proofs.lemmas.Bool.{cond_both, cond-true, cond-false, cases_lt, cases_eq, eq-eqb, ne_eqb, le-ltb, lt-ltb, and_parts, and_from, and_cases, or_cases, or_left, or_right}
 use lib.Dec.{eqb, ltb}
@@ -89,10 +89,6 @@ any-longer {A} p m k (x ∷ older) l h =
           subst (λ (b : List A). list_any p b ≡ true) (sym (beginning-older k x older a))
           (any-longer p m k older l (subst (λ (b : List A). list_any p b ≡ true) (beginning-older m x older (omega arith)) h))
     ]
-
--- a beginning of a beginning is one
-pub IsBeginning-trans : {A : Type 0} (a b c : List A) → IsBeginning a b → IsBeginning b c → IsBeginning a c
-IsBeginning-trans {A} a b c h k = (k.0 ++ h.0, append_assoc k.0 h.0 a ∙ (ap (λ (l : List A). k.0 ++ l) h.1 ∙ k.1))
 
 -- of two lists that end one list one is a beginning of the other
 ends-comparable : {A : Type 0} (a b whole p q : List A) → p ++ a ≡ whole → q ++ b ≡ whole → IsBeginning a b ⊎ IsBeginning b a

@@ -15,7 +15,8 @@ use Rattle.definitions.specs.Audit.{Cut, Turns, steps_in, Judged, is_judged, chr
 use Rattle.definitions.proofs.Lists.{IsBeginning-beginning}
 use Rattle.definitions.proofs.Digests.{stands_for-digest}
 use Rattle.audit_ground.specs.Law.{KnownTo, IsNamed, OrderlyChroniclesAreBacked}
-use Rattle.audit_ground.proofs.Lists.{any-from, all-from, Among-beginning, IsBeginning-trans, step_after-beginning, step_after-among}
+use Rattle.audit_ground.proofs.Lists.{any-from, all-from, Among-beginning, step_after-beginning, step_after-among}
+use Rattle.definitions.proofs.Lists.{IsBeginning-trans}
 use Rattle.audit_ground.proofs.Members.{unjudged-none}
 use Rattle.audit_ground.proofs.Fronts.{is_backed_if, may_move-is, fronts-exist, fronts-short, whole-none_unbacked}
 use Rattle.audit_ground.proofs.Known.{judged-named}

@@ -6,7 +6,7 @@ use Rattle.definitions.proofs.Lists.{Among-after, Among-either, Among-map, great
 use Rattle.definitions.specs.Lists.{Among, AreDistinct}
 use Rattle.definitions.specs.Branches.{Block, Branch, just1, Extends, IsBranch, just2, just3}
 use Rattle.ids.specs.Sizes.{Sizes, replicas, quorum}
-use Rattle.definitions.specs.Chronicles.{Admitted, Step, Step.took_block, Step.got_vote, Step.got_new_view, Step.got_request, Step.got_fetch, Step.timed_out, Step.beat, Chronicle, taken, tree, lock, IsLawfulVote, IsLawfulStep, IsLawful, voted, IsLawfulTake, vheight, decides, decided_by, decided}
+use Rattle.definitions.specs.Chronicles.{Admitted, Step, Step.took_block, Step.got_vote, Step.got_new_view, Step.got_request, Step.got_fetch, Step.timed_out, Step.beat, Chronicle, taken, tree, lock, IsLawfulVote, IsLawfulStep, IsLawful, voted, IsLawfulTake, vheight, decides, decided_by, decided, executed}
 
 pub tree-genesis : (c : Chronicle) → Among [] (tree c)
 unfolding tree
@@ -256,3 +256,11 @@ one-vote s (st ∷ c) l a b m n e =
       | inl v ↦ (elim (voted-cases s st c b l n) [ inl w ↦ same-vote a b (st ∷ c) c v w | inr k ↦ absurd (omega (arith, vote-higher a b (st ∷ c) c v k)) ])
       | inr h ↦ (elim (voted-cases s st c b l n) [ inl w ↦ absurd (omega (arith, vote-higher b a (st ∷ c) c w h)) | inr k ↦ one-vote s c l.1 a b h k e ])
     ]
+
+pub decided-genesis : (c : Chronicle) → Among [] (decided c)
+unfolding decided
+decided-genesis c = Among-after [] _ ([] ∷ []) (inl refl)
+
+pub executed-decided : (c : Chronicle) → Among (executed c) (decided c)
+unfolding executed
+executed-decided c = elim (highest-among (decided c)) [ inl e ↦ subst (λ (x : Branch). Among x (decided c)) (sym e) (decided-genesis c) | inr m ↦ m ]

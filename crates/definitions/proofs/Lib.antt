@@ -5,6 +5,7 @@ pub mod Branches
 pub mod Digests
 pub mod Chronicles
 pub mod Orders
+pub mod Histories
 pub mod Spellings
 pub mod Vectors
 pub mod Lines

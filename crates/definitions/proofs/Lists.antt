@@ -1,4 +1,4 @@
-use Rattle.std.proofs.Common.{ℕ, suc, ◌≡◌, ◌≤◌, ◌⊎◌, Bool, true, false, List, [], ◌∷◌, ◌++◌, length, cond, refl, sym, ap, subst, ◌∙◌, arith, inl, inr, find, Some, None, true≢false, map, filter, reverse}
+use Rattle.std.proofs.Common.{ℕ, suc, ◌≡◌, ◌≤◌, ◌⊎◌, Bool, true, false, List, [], ◌∷◌, ◌++◌, length, cond, refl, sym, ap, subst, ◌∙◌, arith, inl, inr, find, Some, None, true≢false, map, filter, reverse, zero, take, ltb, append_assoc}
 use Rattle.std.proofs.lemmas.Bool.{cond_both, ltb-true, ltb-false, cond-true, cond-false, lt-ltb, le-ltb, and_parts}
 use Rattle.std.specs.List.{list_all, AllByRecursion}
 use lib.Dec.{ltb}
@@ -116,3 +116,13 @@ unfolding greatest
 greatest-above [] x m = absurd m
 greatest-above (y ∷ ys) x (inl e) = omega (arith, e)
 greatest-above (y ∷ ys) x (inr m) = let h = greatest-above ys x m in omega (arith, h)
+
+pub Among-take : {A : Type 0} (n : ℕ) (xs : List A) (x : A) → Among x (take n xs) → Among x xs
+Among-take zero [] x m = m
+Among-take zero (y ∷ xs) x m = absurd m
+Among-take (suc n) [] x m = m
+Among-take (suc n) (y ∷ xs) x (inl e) = inl e
+Among-take (suc n) (y ∷ xs) x (inr m) = inr (Among-take n xs x m)
+
+pub IsBeginning-trans : {A : Type 0} (a b c : List A) → IsBeginning a b → IsBeginning b c → IsBeginning a c
+IsBeginning-trans {A} a b c h k = (k.0 ++ h.0, append_assoc k.0 h.0 a ∙ (ap (λ (l : List A). k.0 ++ l) h.1 ∙ k.1))

@@ -1,9 +1,10 @@
 -- Each entry of a member's history in a correct client's name was submitted.
 use Rattle.definitions.proofs.Branches.{Extends-trans, just3-below}
 use Rattle.definitions.proofs.Lists.{Among-reverse, Among-either, Among-map}
-use Rattle.std.proofs.Common.{ℕ, ◌≡◌, ◌⊎◌, Bool, true, false, List, [], ◌∷◌, length, cond, refl, sym, ap, subst, ◌∙◌, arith, inl, inr, map, reverse}
+use Rattle.std.proofs.Common.{ℕ, ◌≡◌, ◌⊎◌, true, false, List, [], ◌∷◌, length, refl, sym, ap, subst, ◌∙◌, arith, inl, inr, map, reverse}
 use Rattle.linear_law.proofs.Effects.{is_member}
-use Rattle.linear_law.proofs.Runs.{chronicles, executed-decided}
+use Rattle.linear_law.proofs.Runs.{chronicles}
+use Rattle.definitions.proofs.Chronicles.{executed-decided, decided-cases}
 use Rattle.linear_law.proofs.Clear.{IsCourse, clear-below}
 use Rattle.linear_law.proofs.Requested.{AllRequested, WasRequested}
 use Rattle.definitions.specs.Lists.{Among}
@@ -12,7 +13,7 @@ use Rattle.definitions.specs.Branches.{Block, Branch, just1, just3, Extends}
 use Rattle.ids.specs.Sizes.{client_party}
 use Rattle.definitions.specs.Digests.{core_of, core_over}
 use Rattle.definitions.specs.Histories.{Entry, entry_of, history_of}
-use Rattle.definitions.specs.Chronicles.{Admitted, Chronicle, taken, decided, decided_by, decides, executed, history}
+use Rattle.definitions.specs.Chronicles.{Admitted, Chronicle, taken, executed, history}
 use Rattle.definitions.specs.Worlds.{World}
 
 -- an entry of a branch's history stands in a block of the branch
@@ -35,28 +36,9 @@ entry-block (b ∷ parent) e m =
           record { block = r.block; parent = r.parent; command = r.command; below = (b ∷ r.below.0, ap (λ (l : Branch). b ∷ l) r.below.1); among = r.among; same = r.same })
     ]
 
--- what is decided is the third below a taken block, or genesis
-decided-step-cases : (a : Admitted) (before : List Admitted) (x : Branch) (t : Bool) → Among x (cond t (just3 a.branch ∷ decided_by before) (decided_by before)) → (x ≡ just3 a.branch) ⊎ Among x (decided_by before)
-decided-step-cases a before x true (inl e) = inl e
-decided-step-cases a before x true (inr m) = inr m
-decided-step-cases a before x false m = inr m
-
-decided_by-cases : (xs : List Admitted) (x : Branch) → Among x (decided_by xs) → (a : Admitted) × Among a xs × (x ≡ just3 a.branch)
-unfolding decided_by
-decided_by-cases [] x m = absurd m
-decided_by-cases (a ∷ before) x m =
-    elim (decided-step-cases a before x (decides a.branch) m) [
-      | inl e ↦ (a, inl refl, e)
-      | inr k ↦ (let r = decided_by-cases before x k in (r.0, inr r.1, r.2))
-    ]
-
+-- the last executed block is genesis, or the third below a taken one
 pub executed-cases : (c : Chronicle) → (executed c ≡ []) ⊎ ((a : Admitted) × Among a (taken c) × (executed c ≡ just3 a.branch))
-unfolding decided
-executed-cases c =
-    elim (Among-either (executed c) (decided_by (taken c)) ([] ∷ []) (executed-decided c)) [
-      | inl k ↦ inr (decided_by-cases (taken c) (executed c) k)
-      | inr k ↦ (elim k [ inl e ↦ inl e | inr n ↦ absurd n ])
-    ]
+executed-cases c = elim (decided-cases c (executed c) (executed-decided c)) [ inl e ↦ inl e | inr r ↦ inr (r.0, r.1, r.2) ]
 
 commands-of : (b : Block) (parent : Branch) → (core_of (b ∷ parent)).commands ≡ b.commands
 unfolding core_of core_over

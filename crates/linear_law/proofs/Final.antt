@@ -10,7 +10,9 @@ use Rattle.linear_law.proofs.Receipts.{held, RepliesStand, SessionStands, happen
 use Rattle.linear_law.proofs.Requested.{RequestsFit}
 use Rattle.linear_law.proofs.Fits.{IsCoreOrGenesis, brought-core, answers-entry, answers-fit}
 use Rattle.linear_law.proofs.Accounts.{KeepsSessions, effect-sessions}
-use Rattle.linear_law.proofs.Linear.{HonestAlong, honest-along, IsGood, run-step, good-happens, new-good, ground, NoneBelow, longest-below, longest-extends, at-beginning, history-submitted, held-begins, history_of-grows, IsBeginning-trans}
+use Rattle.linear_law.proofs.Linear.{HonestAlong, honest-along, IsGood, run-step, good-happens, new-good, ground, NoneBelow, longest-below, longest-extends, at-beginning, history-submitted}
+use Rattle.definitions.proofs.Histories.{held-begins, history_of-grows}
+use Rattle.definitions.proofs.Lists.{IsBeginning-trans}
 use Rattle.definitions.specs.Lists.{IsBeginning, Among, count_below}
 use Rattle.definitions.proofs.Counts.{count-same, count-not}
 use Rattle.linear_law.specs.Law.{EveryRunIsLinear, ChroniclesAreLawful, ChroniclesAreAFamily, NoEventConflicts}

@@ -22,7 +22,7 @@ use Rattle.definitions.proofs.Branches.{just1-extends, Extends-trans, just3-belo
 use Rattle.linear_law.proofs.Inputs.{all-among}
 use Rattle.linear_law.proofs.Effects.{is_member, brought-frame}
 use Rattle.linear_law.proofs.Runs.{chronicles, IsRun}
-use Rattle.linear_law.proofs.Linear.{held-begins}
+use Rattle.definitions.proofs.Histories.{held-begins}
 use Rattle.linear_law.proofs.Entries.{executed-cases}
 use Rattle.linear_law.proofs.Replies.{answers-grow}
 

@@ -1,18 +1,19 @@
 -- A whole schedule: no event is answered with a conflict, and the replicas' histories are beginnings of one.
 use Rattle.ids.specs.declared.fault.Fault.{Fault}
 use Rattle.ids.specs.declared.fault.Fault.TheVariants as fault
-use Rattle.std.proofs.Common.{ℕ, zero, suc, ◌≡◌, ◌<◌, ◌≤◌, ◌⊎◌, ◌&&◌, not, Bool, true, false, List, [], ◌∷◌, ◌++◌, length, refl, sym, ap, subst, ◌∙◌, arith, inl, inr, map, Option, Some, None, true≢false, ltb, reverse, append_assoc, Result, Ok, Err}
+use Rattle.std.proofs.Common.{ℕ, zero, suc, ◌≡◌, ◌<◌, ◌≤◌, ◌⊎◌, ◌&&◌, not, Bool, true, false, List, [], ◌∷◌, length, refl, sym, ap, subst, ◌∙◌, arith, inl, inr, Option, Some, None, true≢false, ltb, Result, Ok, Err}
 use Rattle.std.specs.Bool.{⊤}
 use Rattle.std.proofs.lemmas.Bool.{cases_Bool, cases_lt}
-use Rattle.definitions.proofs.Lists.{beginning-begins, length-added, Among-after}
+use Rattle.definitions.proofs.Lists.{length-added, Among-after}
 use Rattle.definitions.proofs.Branches.{extends-true, extends-from}
 use Rattle.linear_law.proofs.Rows.{IsRow}
 use Rattle.linear_law.proofs.Effects.{is_member}
 use Rattle.linear_law.proofs.Requested.{RequestsFit, StoresCores, happens-stored, AllRequested, happens-requested}
 use Rattle.linear_law.proofs.Entries.{entry-requested}
-use Rattle.linear_law.proofs.Runs.{chronicles, IsRun, IsMadeWell, IsHonest, happens-keeps, executed-decided, row-agrees}
+use Rattle.linear_law.proofs.Runs.{chronicles, IsRun, IsMadeWell, IsHonest, happens-keeps, row-agrees}
+use Rattle.definitions.proofs.Chronicles.{executed-decided}
 use Rattle.std.specs.List.{AllByRecursion}
-use Rattle.definitions.specs.Lists.{beginning, IsBeginning, Among, count_below}
+use Rattle.definitions.specs.Lists.{IsBeginning, Among, count_below}
 use Rattle.definitions.specs.Frames.{Core, genesis_core}
 use Rattle.definitions.specs.FrameLimits.{IsCore}
 use Rattle.definitions.specs.Branches.{Block, Branch, IsBranch, Extends, extends}
@@ -20,9 +21,8 @@ use Rattle.ids.specs.Sizes.{Sizes, replicas, quorum, client_party}
 use Rattle.definitions.specs.Keyrings.{Keyring}
 use Rattle.definitions.proofs.Spellings.{command_content_injective}
 use Rattle.definitions.specs.Digests.{AllKnown, NoCollision}
-use Rattle.definitions.specs.Histories.{Entry, entry_of, History, history_of}
+use Rattle.definitions.specs.Histories.{Entry}
 use Rattle.definitions.specs.Chronicles.{tree, taken, executed, history}
-use Rattle.definitions.specs.Replicas.{Replica, Standing, Standing.running, Standing.stopped, Standing.cut_short, held_history}
 use Rattle.definitions.specs.Worlds.{World, Happening, new_world}
 use Rattle.definitions.specs.Runs.{refusal}
 use Rattle.definitions.specs.Events.{happens}
@@ -116,31 +116,6 @@ new-good Known sizes is_faulty ring m cores = record {
 -- genesis's core has height 0
 pub ground : genesis_core.height ≡ 0
 ground = refl
-
--- ---- one history
-
-pub history_of-grows : (a b : Branch) → Extends a b → IsBeginning (history_of b) (history_of a)
-unfolding history_of
-history_of-grows a b ([], e) = ([], ap history_of e)
-history_of-grows [] b (x ∷ added, e) = absurd (nil (sym e))
-  where
-    nil : [] ≡ x ∷ (added ++ b) → ⊥
-    nil k = cc
-history_of-grows (y ∷ a) b (x ∷ added, e) =
-    let h = history_of-grows a b (added, (cc)) in
-    (reverse (map entry_of y.commands) ++ h.0, append_assoc (reverse (map entry_of y.commands)) h.0 (history_of b) ∙ ap (λ (l : History). reverse (map entry_of y.commands) ++ l) h.1)
-
-pub IsBeginning-trans : {A : Type 0} (a b c : List A) → IsBeginning a b → IsBeginning b c → IsBeginning a c
-IsBeginning-trans {A} a b c h k = (k.0 ++ h.0, append_assoc k.0 h.0 a ∙ (ap (λ (l : List A). k.0 ++ l) h.1 ∙ k.1))
-
-pub held-begins : (r : Replica) → IsBeginning (held_history r) (history r.chronicle)
-unfolding held_history
-held-begins r = by r.standing
-  where
-    by : (s : Standing) → IsBeginning (elim s as (λ x. History) [ running ↦ history r.chronicle | stopped ↦ history r.chronicle | cut_short held ↦ beginning held (history r.chronicle) ]) (history r.chronicle)
-    by running = ([], refl)
-    by stopped = ([], refl)
-    by (cut_short held) = beginning-begins held (history r.chronicle)
 
 -- the member below n that executed most
 pub record IsLongest (w : World) (n : ℕ) (j : ℕ) : Type 0 where

@@ -1,16 +1,16 @@
 -- Histories only grow, and a member's replies are those of its history.
-use Rattle.std.proofs.Common.{ℕ, zero, suc, ◌≡◌, ◌+◌, ◌-◌, ◌<◌, ◌≤◌, ◌&&◌, not, ◌==◌, Bool, true, false, List, [], ◌∷◌, ◌++◌, length, cond, refl, sym, ap, subst, ◌∙◌, arith, inl, inr, take, true≢false, ltb, nat_lt, min, Option, Some, None, ◌%◌}
+use Rattle.definitions.proofs.Histories.{numbered-is, history_of-grows}
+use Rattle.definitions.proofs.Lists.{Among-take, Among-either, Among-map, length-added, find_some, Among-reverse}
+use Rattle.std.proofs.Common.{ℕ, ◌≡◌, ◌+◌, ◌-◌, ◌<◌, ◌≤◌, ◌&&◌, not, ◌==◌, Bool, true, false, List, [], ◌∷◌, ◌++◌, length, cond, refl, sym, ap, subst, ◌∙◌, arith, inl, inr, take, true≢false, ltb, nat_lt, min, Option, Some, None, ◌%◌}
 use Rattle.std.proofs.lemmas.Bool.{cond_both, and_cases, not-false, ltb-true, ltb-false}
-use Rattle.definitions.proofs.Lists.{Among-either, Among-map, length-added, find_some, Among-reverse}
 use Rattle.definitions.proofs.Branches.{extends-true, length-extends}
 use Rattle.linear_law.proofs.Sound.{Outcome, Outcome.unchanged, Outcome.refused, Outcome.lacks, Outcome.conflict, Outcome.stood, Outcome.cut}
-use Rattle.linear_law.proofs.Linear.{history_of-grows}
 use Rattle.definitions.specs.Lists.{beginning, IsBeginning, Among}
 use Rattle.definitions.specs.Frames.{Frame}
 use Rattle.definitions.specs.Branches.{Branch, just3, Extends, extends, highest}
 use Rattle.definitions.specs.Bytes.{Bytes}
 use Rattle.ids.specs.Sizes.{replicas}
-use Rattle.definitions.specs.Histories.{Entry, History, Answer, answers, is_fresh, answer_to, last_answer, if_numbered, last_seq}
+use Rattle.definitions.specs.Histories.{Entry, History, Answer, answers, is_fresh, answer_to, last_answer, last_seq}
 use Rattle.definitions.specs.Chronicles.{Admitted, Step, Step.took_block, Step.got_vote, Step.got_new_view, Step.got_request, Step.got_fetch, Step.timed_out, Step.beat, Chronicle, taken, decided, decided_by, decides, executed, history}
 use Rattle.definitions.specs.Checks.{Identity}
 use Rattle.definitions.specs.States.{Justified, view, leads, proposed}
@@ -105,13 +105,6 @@ own-reply self a h m o e replica client seq place text t k = subst (λ (x : Answ
     same : (reply_to self a).1 ≡ frame.reply replica client seq place text t → a ≡ record { client = client; seq = seq; place = place; text = text }
     same q = let c : a.client ≡ client = cc in let s : a.seq ≡ seq = cc in let p : a.place ≡ place = cc in let x : a.text ≡ text = cc in λ i. record { client = c i; seq = s i; place = p i; text = x i }
 
-Among-take : {A : Type 0} (n : ℕ) (xs : List A) (x : A) → Among x (take n xs) → Among x xs
-Among-take zero [] x m = m
-Among-take zero (y ∷ xs) x m = absurd m
-Among-take (suc n) [] x m = m
-Among-take (suc n) (y ∷ xs) x (inl e) = inl e
-Among-take (suc n) (y ∷ xs) x (inr m) = inr (Among-take n xs x m)
-
 new-replies-stand : (self : Identity) (st : Step) (c : Chronicle) (o : Sending) → Among o (new_replies self st c) → ReplyStands (history (st ∷ c)) o
 unfolding new_replies
 new-replies-stand self st c o m =
@@ -133,21 +126,6 @@ own-vote-reply self a h false to o m = absurd m
 block-replies : (self : Identity) (a : Admitted) (c : Chronicle) (to : To) (o : Sending) → Among o (cond a.voted ((to, vote_frame self a.branch) ∷ []) [] ++ new_replies self (took_block a) c) → ReplyStands (history (took_block a ∷ c)) o
 block-replies self a c to o m =
     elim (Among-either o (cond a.voted ((to, vote_frame self a.branch) ∷ []) []) (new_replies self (took_block a) c) m) [ inl k ↦ own-vote-reply self a _ a.voted to o k | inr k ↦ new-replies-stand self (took_block a) c o k ]
-
--- what has a number is what it was
-numbered-is : (seq : ℕ) (o : Option Answer) (a : Answer) → if_numbered seq o ≡ Some a → o ≡ Some a
-numbered-is seq None a e = absurd (none e)
-  where
-    none : None ≡ Some a → ⊥
-    none k = cc
-numbered-is seq (Some b) a e = by (b.seq == seq) e
-  where
-    by : (t : Bool) → cond t (Some b) None ≡ Some a → Some b ≡ Some a
-    by true k = k
-    by false k = absurd (none k)
-      where
-        none : None ≡ Some a → ⊥
-        none j = cc
 
 again-reply : (self : Identity) (client seq : ℕ) (h : History) (a : Option Answer) → answer_to client seq h ≡ a → (o : Sending) → Among o (again self a) → ReplyStands h o
 unfolding answer_to last_answer

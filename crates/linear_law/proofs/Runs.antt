@@ -1,16 +1,16 @@
 -- What each event of a run keeps, and that no event is answered with a conflict.
+use Rattle.definitions.proofs.Chronicles.{executed-decided, voted-grows}
 use Rattle.ids.specs.declared.kind.Kind.TheVariants as kind
 use Rattle.ids.specs.declared.fault.Fault.{Fault}
 use Rattle.ids.specs.declared.fault.Fault.TheVariants as fault
 use Rattle.std.proofs.Common.{ℕ, suc, ◌≡◌, ◌-◌, ◌≤◌, ◌&&◌, not, Bool, true, false, List, [], ◌∷◌, ◌++◌, length, cond, refl, sym, ap, subst, ◌∙◌, inl, inr, map, Option, Some, None, true≢false, ◌==◌, nat_lt, ◌%◌, filter, ◌^◌}
 use Rattle.std.proofs.lemmas.Bool.{and_parts, eq-eqb, cond_both, cond-true, not-true}
 use Rattle.std.specs.List.{list_any}
-use Rattle.definitions.proofs.Lists.{Among-after, Among-either, Among-map}
-use Rattle.definitions.proofs.Branches.{extends-from, highest-among}
+use Rattle.definitions.proofs.Lists.{Among-either, Among-map}
+use Rattle.definitions.proofs.Branches.{extends-from}
 use Rattle.linear_law.proofs.Sound.{IsSound, Outcome, Outcome.unchanged, Outcome.refused, Outcome.lacks, Outcome.conflict, Outcome.stood, Outcome.cut, step-outcome, Keeps, ruling-sound, IsCheckedInput}
 use Rattle.linear_law.proofs.Inputs.{Carries, FromInput, AllStanding, ruling-from, IsCarried, check-carried, carried-checked}
 use Rattle.linear_law.proofs.Rows.{IsRow, same-row, put_row, put_row-both, StepMayFollow, row-grows}
-use Rattle.definitions.proofs.Chronicles.{voted-grows}
 use Rattle.linear_law.proofs.Effects.{is_member, Arises, Brings, Effects, Effects.idle, Effects.step_by, Effects.hearing, Effects.submitting, admits-good, effects}
 use Rattle.definitions.specs.Lists.{Among, count_below}
 use Rattle.definitions.specs.Frames.{Core, Vote, Certificate, Frame, genesis_core, reply_content}
@@ -188,14 +188,6 @@ decided-now : (a : Admitted) (before : List Admitted) (t : Bool) → t ≡ true 
 unfolding decided_by
 decided-now a before true e d = subst (λ (l : List Branch). Among (just3 a.branch) (l ++ [] ∷ [])) (sym (cond-true _ _ _ d)) (inl refl)
 decided-now a before false e d = absurd (true≢false (sym e))
-
-decided-genesis : (c : Chronicle) → Among [] (decided c)
-unfolding decided
-decided-genesis c = Among-after [] _ ([] ∷ []) (inl refl)
-
-pub executed-decided : (c : Chronicle) → Among (executed c) (decided c)
-unfolding executed
-executed-decided c = elim (highest-among (decided c)) [ inl e ↦ subst (λ (x : Branch). Among x (decided c)) (sym e) (decided-genesis c) | inr m ↦ m ]
 
 -- a step that conflicts decides a block that conflicts with the last executed one
 conflict-decides : (st : Step) (c : Chronicle) → conflicts st c ≡ true → (b : Branch) × Among b (decided (st ∷ c)) × Among (executed c) (decided (st ∷ c)) × Conflict b (executed c)

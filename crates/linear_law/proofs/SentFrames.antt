@@ -1,5 +1,7 @@
 -- Each frame that a step sends is a frame at these sizes.
-use Rattle.std.proofs.Common.{ℕ, zero, suc, ◌≡◌, ◌-◌, ◌<◌, ◌≤◌, ◌^◌, ◌==◌, Bool, true, false, List, [], ◌∷◌, length, cond, refl, sym, subst, inl, inr, Option, Some, None, nat_lt, reverse, take}
+use Rattle.definitions.proofs.Histories.{numbered-is}
+use Rattle.definitions.proofs.Lists.{Among-take, Among-either, Among-map, Among-reverse, find_some}
+use Rattle.std.proofs.Common.{ℕ, ◌≡◌, ◌-◌, ◌<◌, ◌≤◌, ◌^◌, ◌==◌, List, [], ◌∷◌, length, cond, refl, sym, subst, inl, inr, Option, Some, None, nat_lt, reverse, take}
 use Rattle.std.proofs.lemmas.Bool.{cond_both}
 use Rattle.ids.specs.declared.kind.Kind.TheVariants as kind
 use Rattle.ids.specs.Sizes.{Sizes, replicas, leader, client_party}
@@ -9,12 +11,11 @@ use Rattle.definitions.specs.Frames.{reply_content, fetch_content, block_content
 use Rattle.definitions.specs.FrameLimits.{IsDigest, IsFrame, IsCore, IsCertificate, most_text}
 use Rattle.definitions.specs.Branches.{Branch, branch_eq}
 use Rattle.definitions.specs.Digests.{digest_of, core_of}
-use Rattle.definitions.specs.Histories.{Answer, answers, History, last_seq, last_answer, answer_to, if_numbered}
+use Rattle.definitions.specs.Histories.{Answer, answers, History, last_seq, last_answer, answer_to}
 use Rattle.definitions.specs.Chronicles.{Admitted, Step, Step.took_block, Step.got_vote, Step.got_new_view, Step.got_request, Step.got_fetch, Step.timed_out, Step.beat, Chronicle, taken, history, IsLawful}
 use Rattle.definitions.specs.Checks.{Identity}
 use Rattle.definitions.specs.States.{Justified, view, qc_high, me, leads, proposed}
 use Rattle.definitions.specs.Sendings.{To.to_all, To.to_party, Sending, sendings, vote_frame, proposal_frame, new_view_frame, reply_to, block_frame, fetch_frame, new_replies, as_taken, supplies, again, proposes}
-use Rattle.definitions.proofs.Lists.{Among-either, Among-map, Among-reverse, find_some}
 use Rattle.definitions.proofs.Vectors.{IsVector-vector_for, length-tag_for}
 use Rattle.definitions.proofs.Certificates.{IsDigest-digest_of}
 use Rattle.definitions.proofs.Chronicles.{taken-now}
@@ -98,29 +99,10 @@ as_taken-among None c a e = absurd (none e)
     none k = cc
 as_taken-among (Some b) c a e = (find_some (λ a. branch_eq a.branch b) (taken c) a e).0
 
--- an answer that has the number is the answer
-numbered-is : (seq : ℕ) (o : Option Answer) (a : Answer) → if_numbered seq o ≡ Some a → o ≡ Some a
-numbered-is seq None a e = e
-numbered-is seq (Some x) a e = by (x.seq == seq) e
-  where
-    by : (t : Bool) → cond t (Some x) None ≡ Some a → Some x ≡ Some a
-    by true k = k
-    by false k = absurd (none k)
-      where
-        none : None ≡ Some a → ⊥
-        none j = cc
-
 -- a reply that is given again is one of the answers
 answer_to-among : (client seq : ℕ) (h : History) (a : Answer) → answer_to client seq h ≡ Some a → Among a (answers h)
 unfolding answer_to last_answer
 answer_to-among client seq h a e = (find_some (λ a. a.client == client) (answers h) a (numbered-is seq (last_answer client h) a e)).0
-
--- what stands among the first stands in the list
-Among-take : {A : Type 0} (n : ℕ) (xs : List A) (x : A) → Among x (take n xs) → Among x xs
-Among-take zero xs x m = absurd m
-Among-take (suc n) [] x m = absurd m
-Among-take (suc n) (y ∷ xs) x (inl e) = inl e
-Among-take (suc n) (y ∷ xs) x (inr m) = inr (Among-take n xs x m)
 
 -- ---- what a step sends
 
