@@ -1,3 +1,4 @@
 pub mod FrameSizes
 pub mod LineSteps
 mod SmallRun
+mod OneReplica

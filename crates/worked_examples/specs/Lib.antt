@@ -3,6 +3,7 @@ pub mod Chains
 pub mod Frames
 pub mod Histories
 pub mod Lines
+pub mod Replicas
 pub mod Runs
 pub mod Tags
 pub mod Views
