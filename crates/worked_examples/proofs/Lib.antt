@@ -2,3 +2,4 @@ pub mod FrameSizes
 pub mod LineSteps
 mod SmallRun
 mod OneReplica
+mod Rounds

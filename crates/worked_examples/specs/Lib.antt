@@ -4,6 +4,7 @@ pub mod Frames
 pub mod Histories
 pub mod Lines
 pub mod Replicas
+pub mod Rounds
 pub mod Runs
 pub mod Tags
 pub mod Views

@@ -1,5 +1,6 @@
 //! A small run of a world, with real digests and tags, computed.
 
+ghost use Rattle.worked_examples.specs.Rounds.{SentSizes, SentIn};
 ghost use Rattle.worked_examples.specs.Runs.{IsTakenWhole, SendsOneVote, Lengths, Answers, PremisesHold};
 
 /// A proposal that is brought twice is voted for once.
@@ -8,6 +9,12 @@ pub fn a_proposal_brought_twice_gets_one_vote()
     ensures sends { SendsOneVote }
     ensures lengths { Lengths }
     ensures answers { Answers }
+{}
+
+/// A request is submitted and proposed; four votes come in; the next proposal has a certificate of three.
+pub fn a_round_of_votes_makes_a_certificate()
+    ensures sizes { SentSizes }
+    ensures events { SentIn }
 {}
 
 /// The premises of the laws of runs can be met: they hold of this run.
