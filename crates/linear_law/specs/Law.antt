@@ -35,15 +35,19 @@ AreLawful w = (i : ℕ) → is_correct w i ≡ true → IsLawful w.sizes (w.repl
 abbrev pub NoneConflicts : World → Type 0
 NoneConflicts w = AllByRecursion (λ answer. answer ≢ Some fault.Conflict) w.answers
 
+-- each such run is linear
 abbrev pub EveryRunIsLinear : Type 0
 EveryRunIsLinear = AfterEachRun IsLinear
 
+-- each correct replica's chronicle is lawful at its end
 abbrev pub ChroniclesAreLawful : Type 0
 ChroniclesAreLawful = AfterEachRun AreLawful
 
+-- the correct replicas' chronicles are an orderly family at its end
 abbrev pub ChroniclesAreAFamily : Type 0
 ChroniclesAreAFamily = AfterEachRun (λ w. IsLawfulFamily (correct_family w))
 
+-- no event of it was answered with a conflict
 abbrev pub NoEventConflicts : Type 0
 NoEventConflicts = AfterEachRun NoneConflicts
 
@@ -51,6 +55,7 @@ NoEventConflicts = AfterEachRun NoneConflicts
 abbrev pub SentAreFrames : World → Type 0
 SentAreFrames w = (s : Sent) → Among s w.sent → IsFrame w.sizes s.frame
 
+-- so is each frame of each such run
 abbrev pub SentFramesAreFrames : Type 0
 SentFramesAreFrames = AfterEachRun SentAreFrames
 
@@ -59,6 +64,7 @@ abbrev pub AreReadAsSent : World → List Happening → Type 0
 AreReadAsSent w [] = ⊤
 AreReadAsSent w (h ∷ hs) = ((k to : ℕ) (read : Option Frame) (s : Sent) → h.0 ≡ relay k to read → slice_get w.sent k ≡ Some s → read ≡ Some s.frame) × AreReadAsSent (happens w h) hs
 
+-- so is each frame that comes in such a run
 abbrev pub SentFramesAreRead : Type 0
 SentFramesAreRead = (sizes : Sizes) (is_faulty : ℕ → Bool) (ring : ℕ → Keyring) (hs : List Happening) (last : World) → AreSizes sizes
     → ArePremises (new_world sizes is_faulty ring) hs → run (new_world sizes is_faulty ring) hs ≡ Ok last → AreReadAsSent (new_world sizes is_faulty ring) hs
@@ -75,5 +81,6 @@ pub record HasCertificates (self : Identity) (c : Chronicle) : Type 0 where
   pub highest : IsCertified self (qc_high self.sizes c)
   pub good : is_good self (qc_high self.sizes c).certificate ≡ true
 
+-- each correct replica has such certificates at the end of each such run
 abbrev pub MadeCertificatesAreCertificates : Type 0
 MadeCertificatesAreCertificates = AfterEachRun (λ w. (i : ℕ) → is_correct w i ≡ true → HasCertificates (self_of w i) (w.replica i).chronicle)

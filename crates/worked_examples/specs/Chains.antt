@@ -21,6 +21,7 @@ after_each (s ∷ earlier) = (s ∷ earlier) ∷ after_each earlier
 abbrev pub lock_heights : Chronicle → List ℕ
 lock_heights c = map (λ d. length (lock d)) (after_each c)
 
+-- the same of the last executed block
 abbrev pub executed_heights : Chronicle → List ℕ
 executed_heights c = map (λ d. length (executed d)) (after_each c)
 
@@ -30,9 +31,11 @@ executed_heights c = map (λ d. length (executed d)) (after_each c)
 abbrev pub first : Branch
 first = on 0 []
 
+-- its child
 abbrev pub second : Branch
 second = on 1 first
 
+-- and its grandchild
 abbrev pub third : Branch
 third = on 2 second
 

@@ -54,9 +54,11 @@ CanonicalFits = (r : Asked) → IsRequest r false → length (canonical r) ≤ 4
 
 -- ---- whole requests
 
+-- a set with one byte of data takes 16 bytes
 abbrev pub WholeSet : Type 0
 WholeSet = IsItemAt (codes "set a 0 0 1" ++ crlf ++ codes "x" ++ crlf) (asked (store set (codes "a") 0 (codes "x")) false) 16
 
+-- the same with the word noreply takes 24
 abbrev pub QuietSet : Type 0
 QuietSet = IsItemAt (codes "set a 0 0 1 noreply" ++ crlf ++ codes "x" ++ crlf) (asked (store set (codes "a") 0 (codes "x")) true) 24
 
@@ -66,9 +68,11 @@ sixteen =
     codes "a" ∷ codes "b" ∷ codes "c" ∷ codes "d" ∷ codes "e" ∷ codes "f" ∷ codes "g" ∷ codes "h" ∷ codes "i" ∷ codes "j" ∷ codes "k"
     ∷ codes "l" ∷ codes "m" ∷ codes "n" ∷ codes "o" ∷ codes "p" ∷ []
 
+-- a get of all of them
 abbrev pub SixteenKeys : Type 0
 SixteenKeys = IsItemAt (codes "get a b c d e f g h i j k l m n o p" ++ crlf) (asked (get sixteen) false) 37
 
+-- the line quit
 abbrev pub Quit : Type 0
 Quit = IsItemAt (codes "quit" ++ crlf) quit 6
 
@@ -82,6 +86,7 @@ AfterQuit = AreItems (codes "quit" ++ crlf ++ codes "get a" ++ crlf) (quit ∷ [
 abbrev pub NoDataEnd : Type 0
 NoDataEnd = IsItemAt (codes "set a 0 0 1" ++ crlf ++ codes "xyz") (bad BadChunk) 0
 
+-- memcached's touch is none of the twelve names, and takes its line
 abbrev pub UnknownTouch : Type 0
 UnknownTouch = IsItemAt (codes "touch a 0" ++ crlf) (bad UnknownName) 11
 
@@ -89,9 +94,11 @@ UnknownTouch = IsItemAt (codes "touch a 0" ++ crlf) (bad UnknownName) 11
 abbrev pub AfterUnknown : Type 0
 AfterUnknown = AreItems (codes "touch a 0" ++ crlf ++ codes "get a" ++ crlf) (bad UnknownName ∷ asked (get (codes "a" ∷ [])) false ∷ [])
 
+-- a get without a key
 abbrev pub NoKey : Type 0
 NoKey = IsItemAt (codes "get" ++ crlf) (bad BadFields) 0
 
+-- a get of one key too many
 abbrev pub SeventeenKeys : Type 0
 SeventeenKeys = IsItemAt (codes "get a b c d e f g h i j k l m n o p q" ++ crlf) (bad BadFields) 0
 
@@ -103,9 +110,11 @@ Expiry = IsItemAt (codes "set a 0 5 1" ++ crlf ++ codes "x" ++ crlf) (bad BadFie
 abbrev pub PaddedNumber : Type 0
 PaddedNumber = IsItemAt (codes "set a 0 0 01" ++ crlf ++ codes "x" ++ crlf) (bad BadFields) 0
 
+-- a field behind quit
 abbrev pub QuitWithField : Type 0
 QuitWithField = IsItemAt (codes "quit x" ++ crlf) (bad BadFields) 0
 
+-- one byte of data too many is refused at the end of the line
 abbrev pub TooMuchData : Type 0
 TooMuchData = IsItemAt (codes "set a 0 0 4097" ++ crlf) (bad TooLarge) 0
 
@@ -141,18 +150,23 @@ ManyLetters = IsUnfinished (replicate 4095 97)
 
 -- ---- payloads
 
+-- the text of a set, whole, with nothing before or behind it
 abbrev pub PayloadOfSet : Type 0
 PayloadOfSet = request_of (codes "set a 0 0 1" ++ crlf ++ codes "x" ++ crlf) ≡ Some (store set (codes "a") 0 (codes "x"))
 
+-- quit is no request
 abbrev pub PayloadOfQuit : Type 0
 PayloadOfQuit = request_of (codes "quit" ++ crlf) ≡ None
 
+-- the text of a get
 abbrev pub PayloadOfGet : Type 0
 PayloadOfGet = request_of (codes "get a b" ++ crlf) ≡ Some (get (codes "a" ∷ codes "b" ∷ []))
 
+-- a number with a zero in front is no request's
 abbrev pub PayloadPadded : Type 0
 PayloadPadded = request_of (codes "set a 0 0 01" ++ crlf ++ codes "x" ++ crlf) ≡ None
 
+-- letters without a line are none
 abbrev pub PayloadOfLetters : Type 0
 PayloadOfLetters = request_of (codes "abc") ≡ None
 

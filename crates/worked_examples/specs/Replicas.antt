@@ -35,6 +35,7 @@ after_inputs (input ∷ inputs) r = after_inputs inputs (step self ample input r
 abbrev pub payload : Bytes
 payload = codes "set a 0 0 1" ++ crlf ++ codes "x" ++ crlf
 
+-- the command that carries it, with a tag for each replica
 abbrev pub command : Command
 command = record {
   client = 0;
@@ -47,12 +48,15 @@ command = record {
 abbrev pub first : Branch
 first = record { commands = command ∷ []; justify = 0 } ∷ []
 
+-- the block above it
 abbrev pub second : Branch
 second = record { commands = []; justify = 1 } ∷ first
 
+-- the block above that one
 abbrev pub third : Branch
 third = record { commands = []; justify = 2 } ∷ second
 
+-- the highest one
 abbrev pub fourth : Branch
 fourth = record { commands = []; justify = 3 } ∷ third
 
@@ -68,6 +72,7 @@ proposes b = proposal_in 0 (core_of b) (certificate_for b)
 abbrev pub before : Chronicle
 before = (after_inputs (request_in command ∷ proposes first ∷ proposes second ∷ proposes third ∷ []) (stands_at [])).chronicle
 
+-- the same after the fourth proposal
 abbrev pub last : Chronicle
 last = (step self ample (proposes fourth) (stands_at before)).0.chronicle
 
@@ -92,6 +97,7 @@ refusal_of (sends_out out) = None
 refusal_of (fails n) = Some n
 refusal_of (asks_for sender block) = Some fault.UnknownParent
 
+-- the refusal of a replica with this chronicle
 abbrev pub answer_to : Input → Chronicle → Option Fault
 answer_to input c = refusal_of (step self ample input (stands_at c)).1
 

@@ -38,6 +38,7 @@ votes_to_0 a b c d rest = relays a 0 ∷ relays b 0 ∷ relays c 0 ∷ relays d 
 abbrev pub first_round : List Plan
 first_round = submits 0 payload ∷ to_each 0 (beats 0 ∷ to_each 1 (votes_to_0 2 3 4 5 (beats 0 ∷ [])))
 
+-- the world after the first round
 abbrev pub last : World
 last = play start first_round
 

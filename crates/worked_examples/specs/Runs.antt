@@ -20,6 +20,7 @@ sizes = record { faults = 1; clients = 1 }
 abbrev pub ring : ℕ → Keyring
 ring p = record { party = p; key = λ q. to_be_bytes w16 (min p q) ++ to_be_bytes w16 (max p q) }
 
+-- the world of these before any event
 abbrev pub start : World
 start = new_world sizes (λ p. false) ring
 
@@ -27,6 +28,7 @@ start = new_world sizes (λ p. false) ring
 abbrev pub block1 : Branch
 block1 = record { commands = []; justify = 0 } ∷ []
 
+-- the certificate of genesis has no votes
 abbrev pub genesis_certificate : Certificate
 genesis_certificate = record { digest = digest genesis_core; votes = [] }
 
