@@ -1,0 +1,48 @@
+ghost use Rattle.std.specs.Prelude.{◌≡◌, ◌+◌, ◌-◌, ◌%◌, ◌^◌, IfOk, OnOk, OnErr};
+ghost use Rattle.definitions.specs.Cache as definitions;
+ghost use Rattle.cache.specs.Meaning.{reply_of};
+ghost use Rattle.cache.specs.Steps.{counted};
+
+use crate::cache::Cache;
+use crate::number::{number, numeral};
+use crate::reply::Reply;
+use std::alloc::AllocError;
+
+/// How far a number is moved.
+#[derive(Clone, Copy)]
+pub(crate) enum Step {
+    Up(u64),
+    Down(u64),
+}
+
+impl Step {
+    /// The number after the step: up it goes on with 0 behind the greatest one, and down no further than to 0.
+    fn from(self, n: u64) -> u64
+        ensures { result ≡ counted self n }
+    {
+        match self {
+            Step::Up(value) => n.wrapping_add(value),
+            Step::Down(value) => n.saturating_sub(value),
+        }
+    }
+}
+
+impl Cache {
+    /// Moves the number under a key.
+    pub(crate) fn count(&mut self, key: &[u8], step: Step) -> Result<Reply, AllocError>
+        ensures left { OnOk result (self.new ≡ record self.old { cache = (definitions.count_it self.old.cache key.now (counted step)).0 }) }
+        ensures told { IfOk result (λ reply. reply_of reply ≡ (definitions.count_it self.old.cache key.now (counted step)).1) }
+        ensures unchanged { OnErr result (self.new ≡ self.old) }
+    {
+        let Some(entry) = self.table.get(key) else {
+            return Ok(Reply::NotFound);
+        };
+        let Some(n) = number(&entry.stored) else {
+            return Ok(Reply::NoNumber);
+        };
+        let flags = entry.flags;
+        let n = step.from(n);
+        let stored = numeral(self.alloc, n)?;
+        self.change(key, flags, stored, Reply::Number(n))
+    }
+}
