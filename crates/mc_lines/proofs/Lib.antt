@@ -4,3 +4,4 @@ pub mod Places
 pub mod Ends
 pub mod LineLaws
 pub mod ReadLaws
+pub mod WriteLaws

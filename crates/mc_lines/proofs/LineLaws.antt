@@ -333,14 +333,21 @@ delete_says fs y e =
     let q = after_noreply k.1 (λ noreply. Some (delete k.0, noreply)) y k.4 in
     said (codes "delete" ∷ fs) (delete k.0, q.0) y q.2 (k.2, λ _. refl {a = true}, delete_joined (codes "delete") k.0 fs k.1 (noreply_field q.0) k.3 q.1)
 
+-- the fields spell a key and a number
+abbrev Counts : List Bytes → Bytes × ℕ × Bool → Type 0
+Counts fs x = IsKey x.0 × (x.1 < 2 ^ 64) × (fs ≡ x.0 ∷ decimal x.1 ∷ noreply_field x.2)
+
+-- what is read of the same fields
+counted : (fs : List Bytes) (x y : Bytes × ℕ × Bool) → ◌≡◌ {A = Option (Bytes × ℕ × Bool)} (Some x) (Some y) → Counts fs x → Counts fs y
+counted fs x y e h = subst (Counts fs) (same_Some x y e) h
+
 -- a key and a number
-counted_says : (fs : List Bytes) (x : Bytes × ℕ × Bool) → counted_in fs ≡ Some x → IsKey x.0 × (x.1 < 2 ^ 64) × (fs ≡ x.0 ∷ decimal x.1 ∷ noreply_field x.2)
+counted_says : (fs : List Bytes) (x : Bytes × ℕ × Bool) → counted_in fs ≡ Some x → Counts fs x
 counted_says fs x e =
     let k = after_key fs (λ key. number_first key.1 >>= λ value. noreply_in value.1 >>= λ noreply. Some (key.0, value.0, noreply)) x e in
     let n = after_number k.1 (λ value. noreply_in value.1 >>= λ noreply. Some (k.0, value.0, noreply)) x k.4 in
     let q = after_noreply n.1 (λ noreply. Some (k.0, n.0, noreply)) x n.4 in
-    subst (λ (z : Bytes × ℕ × Bool). IsKey z.0 × (z.1 < 2 ^ 64) × (fs ≡ z.0 ∷ decimal z.1 ∷ noreply_field z.2)) (same_Some (k.0, n.0, q.0) x q.2)
-    (k.2, n.2, counted_joined k.0 (decimal n.0) fs k.1 n.1 (noreply_field q.0) k.3 n.3 q.1)
+    counted fs (k.0, n.0, q.0) x q.2 (k.2, n.2, counted_joined k.0 (decimal n.0) fs k.1 n.1 (noreply_field q.0) k.3 n.3 q.1)
 
 -- the keys of a retrieval
 keys_says : (fs keys : List Bytes) → keys_in fs ≡ Some keys → AreKeys keys × (fs ≡ keys)

@@ -6,3 +6,4 @@ pub use Rattle.definitions.specs.Slices
 pub mod Fields
 pub mod Heads
 pub mod Meaning
+pub mod Writing

@@ -1,17 +1,21 @@
--- What requests and answers of reading say in the definitions' terms, and where their parts lie.
-use Rattle.std.specs.Prelude.{ℕ, ◌+◌, ◌-◌, ◌==◌, List, length, codes}
+-- What requests, answers of reading and replies say in the definitions' terms, and where their parts lie.
+use Rattle.std.specs.Prelude.{ℕ, ◌+◌, ◌-◌, ◌==◌, List, length, map, codes}
 use Rattle.std.specs.List.{slice_split}
 use Rattle.std.specs.Borrow.{Bor}
 use Rattle.definitions.specs.Bytes.{Bytes}
 use Rattle.definitions.specs.Requests as requests
 use Rattle.definitions.specs.Requests.{Asked, space, verb_name}
 use Rattle.definitions.specs.Items.{Item, asked, quit, bad, IsItemAt, IsUnfinished}
+use Rattle.definitions.specs.Replies as replies
 use Rattle.definitions.specs.Slices.{LentAt}
 use Rattle.mc_lines.specs.declared.keys.Keys.{Keys}
 use Rattle.mc_lines.specs.declared.request.Verb.{Verb}
 use Rattle.mc_lines.specs.declared.request.Verb.TheVariants.{Set, Add, Replace, Append, Prepend}
 use Rattle.mc_lines.specs.declared.request.Request.{Request}
 use Rattle.mc_lines.specs.declared.request.Request.TheVariants.{Store, Cas, Get, Gets, Delete, Incr, Decr}
+use Rattle.mc_lines.specs.declared.reply.Value.{Value}
+use Rattle.mc_lines.specs.declared.reply.Reply.{Reply}
+use Rattle.mc_lines.specs.declared.reply.Reply.TheVariants.{Stored, NotStored, Exists, NotFound, Deleted, Number, Values, NoRoom, TooLong, NoNumber, NoRequest}
 use Rattle.mc_lines.specs.declared.read.Read.{Read}
 use Rattle.mc_lines.specs.declared.read.Read.TheVariants.{Whole, Quit, More, Bad}
 
@@ -43,6 +47,26 @@ IsReadOf text (Whole request used noreply) = IsItemAt text (asked (asked_of requ
 IsReadOf text (Quit used) = IsItemAt text quit used
 IsReadOf text More = IsUnfinished text
 IsReadOf text (Bad fault used) = IsItemAt text (bad fault) used
+
+-- ---- replies
+
+-- what is told of one key
+abbrev pub value_of : Value → replies.Value
+value_of v = record { key = v.key.items; flags = v.flags; stored = v.stored.items; unique = v.unique }
+
+-- a reply
+abbrev pub reply_of : Reply → replies.Reply
+reply_of Stored = replies.stored
+reply_of NotStored = replies.not_stored
+reply_of Exists = replies.exists
+reply_of NotFound = replies.not_found
+reply_of Deleted = replies.deleted
+reply_of (Number n) = replies.number n
+reply_of (Values values with_unique) = replies.values (map value_of values.items) with_unique
+reply_of NoRoom = replies.no_room
+reply_of TooLong = replies.too_long
+reply_of NoNumber = replies.no_number
+reply_of NoRequest = replies.no_request
 
 -- ---- where the parts lie
 
