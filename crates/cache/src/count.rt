@@ -1,11 +1,11 @@
-ghost use Rattle.std.specs.Prelude.{◌≡◌, ◌+◌, ◌-◌, ◌%◌, ◌^◌, IfOk, OnOk, OnErr};
-ghost use Rattle.definitions.specs.Cache as definitions;
-ghost use Rattle.cache.specs.Meaning.{reply_of};
+ghost use Rattle.std.specs.Prelude.{◌≡◌, IfOk, OnOk, OnErr};
+ghost use Rattle.definitions.specs.Cache.{count_it};
+ghost use Rattle.mc_lines.specs.Meaning.{reply_of};
 ghost use Rattle.cache.specs.Steps.{counted};
 
 use crate::cache::Cache;
 use crate::number::{number, numeral};
-use crate::reply::Reply;
+use mc_lines::Reply;
 use std::alloc::AllocError;
 
 /// How far a number is moved.
@@ -16,7 +16,7 @@ pub(crate) enum Step {
 }
 
 impl Step {
-    /// The number after the step: up it goes on with 0 behind the greatest one, and down no further than to 0.
+    /// The number after the step. Behind the greatest one comes 0, and below 0 none.
     fn from(self, n: u64) -> u64
         ensures { result ≡ counted self n }
     {
@@ -30,8 +30,10 @@ impl Step {
 impl Cache {
     /// Moves the number under a key.
     pub(crate) fn count(&mut self, key: &[u8], step: Step) -> Result<Reply, AllocError>
-        ensures left { OnOk result (self.new ≡ record self.old { cache = (definitions.count_it self.old.cache key.now (counted step)).0 }) }
-        ensures told { IfOk result (λ reply. reply_of reply ≡ (definitions.count_it self.old.cache key.now (counted step)).1) }
+        ensures left { OnOk result (
+            self.new ≡ record self.old { cache = (count_it self.old.cache key.now (counted step)).0 }) }
+        ensures told { IfOk result (λ reply.
+            reply_of reply ≡ (count_it self.old.cache key.now (counted step)).1) }
         ensures unchanged { OnErr result (self.new ≡ self.old) }
     {
         let Some(entry) = self.table.get(key) else {

@@ -1,11 +1,11 @@
 ghost use Rattle.std.specs.Prelude.{◌≡◌, ◌++◌, IfOk, OnOk, OnErr};
 ghost use Rattle.definitions.specs.Requests as requests;
 ghost use Rattle.definitions.specs.Replies as replies;
-ghost use Rattle.definitions.specs.Cache as definitions;
-ghost use Rattle.cache.specs.Meaning.{reply_of, verb_of};
+ghost use Rattle.definitions.specs.Cache.{change, store_it};
+ghost use Rattle.mc_lines.specs.Meaning.{reply_of, verb_of};
 
 use crate::cache::Cache;
-use crate::reply::{Reply, Verb};
+use mc_lines::{Reply, Verb};
 use std::alloc::{AllocError, Global};
 
 /// The most bytes of data under a key.
@@ -29,8 +29,12 @@ impl Cache {
         flags: u32,
         stored: &[u8],
     ) -> Result<Reply, AllocError>
-        ensures left { OnOk result (self.new ≡ record self.old { cache = (definitions.store_it self.old.most self.old.cache (verb_of verb) key.now flags stored.now).0 }) }
-        ensures told { IfOk result (λ reply. reply_of reply ≡ (definitions.store_it self.old.most self.old.cache (verb_of verb) key.now flags stored.now).1) }
+        ensures left { OnOk result (
+            let outcome = store_it self.old.most self.old.cache (verb_of verb) key.now flags stored.now in
+            self.new ≡ record self.old { cache = outcome.0 }) }
+        ensures told { IfOk result (λ reply.
+            let outcome = store_it self.old.most self.old.cache (verb_of verb) key.now flags stored.now in
+            reply_of reply ≡ outcome.1) }
         ensures unchanged { OnErr result (self.new ≡ self.old) }
     {
         let present = self.table.has(key);
@@ -53,9 +57,13 @@ impl Cache {
     }
 
     /// Puts data under a key.
-    fn put(&mut self, key: &[u8], flags: u32, stored: &[u8]) -> Result<Reply, AllocError>
-        ensures left { OnOk result (self.new ≡ record self.old { cache = (definitions.change self.old.cache key.now flags stored.now replies.stored).0 }) }
-        ensures told { IfOk result (λ reply. reply_of reply ≡ (definitions.change self.old.cache key.now flags stored.now replies.stored).1) }
+    pub(crate) fn put(&mut self, key: &[u8], flags: u32, stored: &[u8]) -> Result<Reply, AllocError>
+        ensures left { OnOk result (
+            let outcome = change self.old.cache key.now flags stored.now replies.stored in
+            self.new ≡ record self.old { cache = outcome.0 }) }
+        ensures told { IfOk result (λ reply.
+            let outcome = change self.old.cache key.now flags stored.now replies.stored in
+            reply_of reply ≡ outcome.1) }
         ensures unchanged { OnErr result (self.new ≡ self.old) }
     {
         let stored = Vec::from_slice(self.alloc, stored)?;
@@ -64,8 +72,12 @@ impl Cache {
 
     /// Puts data behind what a key has. The flags stay.
     fn append(&mut self, key: &[u8], stored: &[u8]) -> Result<Reply, AllocError>
-        ensures left { OnOk result (self.new ≡ record self.old { cache = (definitions.store_it self.old.most self.old.cache requests.append key.now 0 stored.now).0 }) }
-        ensures told { IfOk result (λ reply. reply_of reply ≡ (definitions.store_it self.old.most self.old.cache requests.append key.now 0 stored.now).1) }
+        ensures left { OnOk result (
+            let outcome = store_it self.old.most self.old.cache requests.append key.now 0 stored.now in
+            self.new ≡ record self.old { cache = outcome.0 }) }
+        ensures told { IfOk result (λ reply.
+            let outcome = store_it self.old.most self.old.cache requests.append key.now 0 stored.now in
+            reply_of reply ≡ outcome.1) }
         ensures unchanged { OnErr result (self.new ≡ self.old) }
     {
         let Some(entry) = self.table.get(key) else {
@@ -81,8 +93,12 @@ impl Cache {
 
     /// Puts data before what a key has. The flags stay.
     fn prepend(&mut self, key: &[u8], stored: &[u8]) -> Result<Reply, AllocError>
-        ensures left { OnOk result (self.new ≡ record self.old { cache = (definitions.store_it self.old.most self.old.cache requests.prepend key.now 0 stored.now).0 }) }
-        ensures told { IfOk result (λ reply. reply_of reply ≡ (definitions.store_it self.old.most self.old.cache requests.prepend key.now 0 stored.now).1) }
+        ensures left { OnOk result (
+            let outcome = store_it self.old.most self.old.cache requests.prepend key.now 0 stored.now in
+            self.new ≡ record self.old { cache = outcome.0 }) }
+        ensures told { IfOk result (λ reply.
+            let outcome = store_it self.old.most self.old.cache requests.prepend key.now 0 stored.now in
+            reply_of reply ≡ outcome.1) }
         ensures unchanged { OnErr result (self.new ≡ self.old) }
     {
         let Some(entry) = self.table.get(key) else {

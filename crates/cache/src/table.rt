@@ -1,4 +1,5 @@
 ghost use Rattle.std.specs.Prelude.{◌≡◌, option_map, OnOk, OnErr};
+ghost use Rattle.std.specs.Bool.{OnFalse};
 ghost use Rattle.std.specs.FinMap as map;
 ghost use Rattle.cache.specs.Tables.{entry_of};
 
@@ -7,7 +8,7 @@ use std::alloc::{AllocError, Global};
 use std::collections::BTreeMap;
 use std::marker::Model;
 
-/// The entries by their keys. The order of a tree doesn't depend on a secret, so that no choice of keys makes it slow.
+/// The entries by their keys, in the order of the keys' bytes: a tree, so that no choice of keys makes it slow.
 #[derive(Drop)]
 pub(crate) struct Table {
     entries: BTreeMap<Vec<u8>, Entry>,
@@ -73,6 +74,7 @@ impl Table {
     pub(crate) fn remove(&mut self, key: &[u8]) -> bool
         ensures present { result ≡ map.contains_key self.old key.now }
         ensures removed { self.new ≡ map.remove self.old key.now }
+        ensures absent { OnFalse result (self.new ≡ self.old) }
     {
         self.entries.remove(key).is_some()
     }
