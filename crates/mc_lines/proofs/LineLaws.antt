@@ -230,26 +230,25 @@ named_at (name ∷ ns) word (suc k) all lt e = named_at ns word k all.1 (omega a
 
 -- each of the twelve is read as a name
 all_named : AllByRecursion IsNamed names
-all_named =
+all_named = (
+  (named.Get, refl),
+  (
+    (named.Gets, refl),
     (
-      (named.Get, refl),
+      (named.Store verbs.Set, refl),
       (
-        (named.Gets, refl),
+        (named.Store verbs.Add, refl),
         (
-          (named.Store verbs.Set, refl),
+          (named.Store verbs.Replace, refl),
           (
-            (named.Store verbs.Add, refl),
-            (
-              (named.Store verbs.Replace, refl),
-              (
-                (named.Store verbs.Append, refl),
-                ((named.Store verbs.Prepend, refl), ((named.Cas, refl), ((named.Incr, refl), ((named.Decr, refl), ((named.Delete, refl), ((named.Quit, refl), tt)))))),
-              ),
-            ),
+            (named.Store verbs.Append, refl),
+            ((named.Store verbs.Prepend, refl), ((named.Cas, refl), ((named.Incr, refl), ((named.Decr, refl), ((named.Delete, refl), ((named.Quit, refl), tt)))))),
           ),
         ),
       ),
-    )
+    ),
+  ),
+)
 
 -- the first field is the name
 first_is : (l word : Bytes) (args : List Bytes) → parts l ≡ word ∷ args → word ≡ name_of l
@@ -303,8 +302,7 @@ store_says verb fs y e =
     let z = after_expiry f.1 (λ rest. number_first rest >>= λ bytes. noreply_in bytes.1 >>= λ noreply. Some (store verb k.0 f.0 bytes.0, noreply)) y f.4 in
     let b = after_number z.0 (λ bytes. noreply_in bytes.1 >>= λ noreply. Some (store verb k.0 f.0 bytes.0, noreply)) y z.2 in
     let q = after_noreply b.1 (λ noreply. Some (store verb k.0 f.0 b.0, noreply)) y b.4 in
-    said (verb_name verb ∷ fs) (store verb k.0 f.0 b.0, q.0) y q.2
-    (
+    said (verb_name verb ∷ fs) (store verb k.0 f.0 b.0, q.0) y q.2 (
       (k.2, f.2, b.2),
       λ _. refl {a = true},
       store_joined (verb_name verb) k.0 (decimal f.0) (codes "0") (decimal b.0) fs k.1 f.1 z.0 b.1 (noreply_field q.0) k.3 f.3 z.1 b.3 q.1,
@@ -319,8 +317,7 @@ cas_says fs y e =
     let b = after_number z.0 (λ bytes. number_first bytes.1 >>= λ unique. noreply_in unique.1 >>= λ noreply. Some (cas k.0 f.0 bytes.0 unique.0, noreply)) y z.2 in
     let u = after_number b.1 (λ unique. noreply_in unique.1 >>= λ noreply. Some (cas k.0 f.0 b.0 unique.0, noreply)) y b.4 in
     let q = after_noreply u.1 (λ noreply. Some (cas k.0 f.0 b.0 u.0, noreply)) y u.4 in
-    said (codes "cas" ∷ fs) (cas k.0 f.0 b.0 u.0, q.0) y q.2
-    (
+    said (codes "cas" ∷ fs) (cas k.0 f.0 b.0 u.0, q.0) y q.2 (
       (k.2, f.2, b.2, u.2),
       λ _. refl {a = true},
       cas_joined (codes "cas") k.0 (decimal f.0) (codes "0") (decimal b.0) (decimal u.0) fs k.1 f.1 z.0 b.1 u.1 (noreply_field q.0) k.3 f.3 z.1 b.3 u.3 q.1,

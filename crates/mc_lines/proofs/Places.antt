@@ -16,10 +16,10 @@ LiesAt-within s m p i j outer inner =
     elim (cases_lt (length m) j) [
       | inl past ↦ inner ∙ ap (λ (k : ℕ). take k (drop j m)) (let none : length p ≡ 0 = omega arith in none) ∙ ap (λ (k : ℕ). take k (drop (i + j) s)) (let none : 0 ≡ length p = omega arith in none)
       | inr there ↦
-        let whole : j + (length m - j) ≡ length m = omega arith in
-        let part : drop j m ≡ take (length m - j) (drop j (drop i s)) =
-        ap (drop j) (outer ∙ ap (λ (k : ℕ). take k (drop i s)) (sym whole)) ∙ drop-take j (length m - j) (drop i s) in
-        inner ∙ ap (take (length p)) part ∙ take-take (length p) (length m - j) (drop j (drop i s)) few ∙ ap (take (length p)) far
+          let whole : j + (length m - j) ≡ length m = omega arith in
+          let part : drop j m ≡ take (length m - j) (drop j (drop i s)) =
+          ap (drop j) (outer ∙ ap (λ (k : ℕ). take k (drop i s)) (sym whole)) ∙ drop-take j (length m - j) (drop i s) in
+          inner ∙ ap (take (length p)) part ∙ take-take (length p) (length m - j) (drop j (drop i s)) few ∙ ap (take (length p)) far
     ]
 
 -- the same of what is lent

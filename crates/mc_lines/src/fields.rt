@@ -58,7 +58,11 @@ pub(crate) fn expiry(rest: Option<&[u8]>) -> Option<Option<&[u8]>>
     ensures { option_map (λ x. parts_after x) result ≡ expiry_first (parts_after rest.entry) }
 {
     let (field, rest) = cut(rest?);
-    if field == b"0".as_slice() { Some(rest) } else { None }
+    if field == b"0".as_slice() {
+        Some(rest)
+    } else {
+        None
+    }
 }
 
 /// Whether the word noreply is left. Nothing else may be.
@@ -67,6 +71,10 @@ pub(crate) fn noreply(rest: Option<&[u8]>) -> Option<bool>
 {
     match rest {
         None => Some(false),
-        Some(word) => if word == b"noreply".as_slice() { Some(true) } else { None },
+        Some(word) => if word == b"noreply".as_slice() {
+            Some(true)
+        } else {
+            None
+        },
     }
 }

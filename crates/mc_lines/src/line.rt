@@ -87,7 +87,10 @@ impl<'a> Head<'a> {
     {
         match self {
             Head::Store {
-                verb, key, flags, ..
+                verb,
+                key,
+                flags,
+                ..
             } => Request::Store {
                 verb,
                 key,
@@ -95,7 +98,10 @@ impl<'a> Head<'a> {
                 stored,
             },
             Head::Cas {
-                key, flags, unique, ..
+                key,
+                flags,
+                unique,
+                ..
             } => Request::Cas {
                 key,
                 flags,
@@ -251,6 +257,10 @@ pub(crate) fn read_line(line: &[u8]) -> Line<'_>
     };
     match head_by_name(name, rest) {
         Some((head, noreply)) => Line::Request(head, noreply),
-        None => if line == b"quit".as_slice() { Line::Quit } else { Line::BadFields },
+        None => if line == b"quit".as_slice() {
+            Line::Quit
+        } else {
+            Line::BadFields
+        },
     }
 }
