@@ -1,8 +1,8 @@
 -- The end of the first line.
-use Rattle.std.proofs.Common.{◌≡◌, ◌≢◌, ℕ, suc, ◌+◌, ◌-◌, ◌<◌, ◌≤◌, List, [], ◌∷◌, ◌++◌, length, get_or, take, drop, sym, ap, ◌∙◌, inl, inr, arith, length-append, append_assoc}
+use Rattle.std.proofs.Common.{◌≡◌, ◌≢◌, ℕ, ◌+◌, ◌-◌, ◌<◌, ◌≤◌, ◌∷◌, ◌++◌, length, get_or, take, drop, sym, ap, ◌∙◌, inl, inr, arith, append_assoc}
 use Rattle.std.specs.Prelude.{slice_index}
 use Rattle.std.proofs.lemmas.Bool.{cases_lt}
-use Rattle.std.proofs.lemmas.List.{get_or-take, get_or_past, length-take, length-take-le, take-append-drop, drop_more}
+use Rattle.std.proofs.lemmas.List.{get_or-take, get_or_past, length-take, take-append-drop, drop_more}
 use Rattle.definitions.specs.Bytes.{Bytes}
 use Rattle.definitions.specs.Requests.{crlf}
 use Rattle.definitions.specs.Items.{HasNoEnd}

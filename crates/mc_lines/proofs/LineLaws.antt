@@ -1,5 +1,5 @@
 -- What a line says is what its text spells, and the other way round.
-use Rattle.std.proofs.Common.{◌≡◌, ◌≢◌, ℕ, zero, suc, ◌+◌, ◌^◌, ◌<◌, ◌≤◌, Bool, true, false, cond, not, List, [], ◌∷◌, ◌++◌, length, get_or, Option, Some, None, refl, sym, ap, subst, ◌∙◌, inl, inr, arith, rules}
+use Rattle.std.proofs.Common.{◌≡◌, ℕ, zero, suc, ◌+◌, ◌^◌, ◌<◌, ◌≤◌, Bool, true, false, cond, not, List, [], ◌∷◌, ◌++◌, length, get_or, Option, Some, None, refl, sym, ap, subst, ◌∙◌, inl, inr, arith, rules}
 use Rattle.std.specs.Prelude.{◌==◌, ◌||◌, nat_le, nat_lt, codes, decimal, bytes_eq, option_map, slice_index_or, Contains}
 use Rattle.std.specs.List.{list_all, AllByRecursion, join_with_byte}
 use Rattle.std.specs.Str.Parse.{digits_value}
@@ -9,11 +9,10 @@ use Rattle.std.proofs.lemmas.List.{append-nil}
 use Rattle.std.proofs.lemmas.Str.Parse.{IsNumeralModel, numerals_by_value}
 use Rattle.std.proofs.lemmas.Fmt.{decimal-digits_value, digits_decimal, digits_value-decimal, decimal_nonempty, first_decimal, decimal_digit}
 use Rattle.definitions.specs.Bytes.{Bytes}
-use Rattle.definitions.specs.Requests.{Verb, set, add, replace, append, prepend, Head, store, cas, get, gets, delete, incr, decr, space, verb_name, fields, noreply_field, line, IsKey, AreKeys, HasForm, MayHave}
+use Rattle.definitions.specs.Requests.{Verb, set, add, replace, append, prepend, Head, store, cas, get, gets, delete, incr, decr, space, verb_name, fields, noreply_field, IsKey, AreKeys, HasForm, MayHave}
 use Rattle.definitions.specs.Items.{names, name_of, IsLineOf}
-use Rattle.definitions.specs.Canonical.{is_key}
 use Rattle.definitions.proofs.Lines.{parts-line, key_passes, is_key-passes}
-use Rattle.definitions.proofs.ItemLaws.{name_first, line_has_name}
+use Rattle.definitions.proofs.ItemLaws.{name_first}
 use Rattle.mc_lines.specs.declared.request.Verb.TheVariants as verbs
 use Rattle.mc_lines.specs.declared.line.Head as heads
 use Rattle.mc_lines.specs.declared.line.Head.TheVariants as lines

@@ -1,12 +1,12 @@
 -- Parts of parts, by their places.
-use Rattle.std.proofs.Common.{◌≡◌, ℕ, ◌+◌, ◌-◌, ◌≤◌, [], length, take, drop, sym, ap, subst, ◌∙◌, inl, inr, arith, length-drop, Some, None}
+use Rattle.std.proofs.Common.{◌≡◌, ℕ, ◌+◌, ◌-◌, ◌≤◌, length, take, drop, sym, ap, subst, ◌∙◌, inl, inr, arith, length-drop, Some, None}
 use Rattle.std.specs.Prelude.{Option, IfSome, IsSome}
 use Rattle.std.specs.Borrow.{Bor}
 use Rattle.std.proofs.lemmas.Bool.{cases_lt}
-use Rattle.std.proofs.lemmas.List.{drop-drop, drop-take, drop_all, take-take, length-take, take_min}
+use Rattle.std.proofs.lemmas.List.{drop-drop, drop-take, take-take, length-take, take_min}
 use Rattle.definitions.specs.Bytes.{Bytes}
 use Rattle.definitions.specs.Slices.{LiesAt, LentAt}
-use Rattle.mc_lines.specs.Fields.{LentIn}
+use Rattle.mc_lines.specs.Meaning.{LentIn}
 
 -- a part of a part lies that much further
 LiesAt-within : (s m p : Bytes) (i j : ℕ) → LiesAt s i m → LiesAt m j p → LiesAt s (i + j) p
