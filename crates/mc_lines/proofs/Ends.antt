@@ -1,8 +1,8 @@
 -- The end of the first line.
-use Rattle.std.proofs.Common.{◌≡◌, ◌≢◌, ℕ, suc, ◌+◌, ◌-◌, ◌<◌, ◌≤◌, List, [], ◌∷◌, ◌++◌, length, get_or, take, drop, sym, ap, ◌∙◌, inl, inr, arith, length-append, append_assoc}
+use Rattle.std.proofs.Common.{◌≡◌, ◌≢◌, ℕ, ◌+◌, ◌-◌, ◌<◌, ◌≤◌, ◌∷◌, ◌++◌, length, get_or, take, drop, sym, ap, ◌∙◌, inl, inr, arith, append_assoc}
 use Rattle.std.specs.Prelude.{slice_index}
 use Rattle.std.proofs.lemmas.Bool.{cases_lt}
-use Rattle.std.proofs.lemmas.List.{get_or-take, get_or_past, length-take, length-take-le, take-append-drop, drop_more}
+use Rattle.std.proofs.lemmas.List.{get_or-take, get_or_past, length-take, take-append-drop, drop_more}
 use Rattle.definitions.specs.Bytes.{Bytes}
 use Rattle.definitions.specs.Requests.{crlf}
 use Rattle.definitions.specs.Items.{HasNoEnd}
@@ -16,9 +16,9 @@ pub HasNoEnd-take : (text : Bytes) (n m : ℕ) → ((k : ℕ) → k + 1 < n → 
 HasNoEnd-take text n m within below i e f =
     elim (cases_lt (i + 1) (length (take n text))) [
       | inl lt ↦
-        let short : i + 1 < n = omega (arith, length-take n text) in
-        below i (within i short (omega (arith, length-take n text)))
-            (sym (get_or-take n text i 0 (omega arith)) ∙ e) (sym (get_or-take n text (i + 1) 0 short) ∙ f)
+          let short : i + 1 < n = omega (arith, length-take n text) in
+          below i (within i short (omega (arith, length-take n text)))
+          (sym (get_or-take n text i 0 (omega arith)) ∙ e) (sym (get_or-take n text (i + 1) 0 short) ∙ f)
       | inr past ↦ omega (arith, f, get_or_past (take n text) (i + 1) 0 past)
     ]
 
@@ -28,9 +28,9 @@ NoEndBelow-more text i pos below here k lt e f =
     elim (cases_lt (k + 1) i) [
       | inl less ↦ below k less e f
       | inr at ↦
-        let before : k ≡ i - 1 = omega arith in
-        let same : k + 1 ≡ i = omega arith in
-        here (ap (λ (j : ℕ). slice_index text j) (sym before) ∙ e) (ap (λ (j : ℕ). slice_index text j) (sym same) ∙ f)
+          let before : k ≡ i - 1 = omega arith in
+          let same : k + 1 ≡ i = omega arith in
+          here (ap (λ (j : ℕ). slice_index text j) (sym before) ∙ e) (ap (λ (j : ℕ). slice_index text j) (sym same) ∙ f)
     ]
 
 -- a text by its first line and the rest

@@ -1,5 +1,5 @@
 -- What a line says is what its text spells, and the other way round.
-use Rattle.std.proofs.Common.{◌≡◌, ◌≢◌, ℕ, zero, suc, ◌+◌, ◌^◌, ◌<◌, ◌≤◌, Bool, true, false, cond, not, List, [], ◌∷◌, ◌++◌, length, get_or, Option, Some, None, refl, sym, ap, subst, ◌∙◌, inl, inr, arith, rules}
+use Rattle.std.proofs.Common.{◌≡◌, ℕ, zero, suc, ◌+◌, ◌^◌, ◌<◌, ◌≤◌, Bool, true, false, cond, not, List, [], ◌∷◌, ◌++◌, length, get_or, Option, Some, None, refl, sym, ap, subst, ◌∙◌, inl, inr, arith, rules}
 use Rattle.std.specs.Prelude.{◌==◌, ◌||◌, nat_le, nat_lt, codes, decimal, bytes_eq, option_map, slice_index_or, Contains}
 use Rattle.std.specs.List.{list_all, AllByRecursion, join_with_byte}
 use Rattle.std.specs.Str.Parse.{digits_value}
@@ -9,11 +9,10 @@ use Rattle.std.proofs.lemmas.List.{append-nil}
 use Rattle.std.proofs.lemmas.Str.Parse.{IsNumeralModel, numerals_by_value}
 use Rattle.std.proofs.lemmas.Fmt.{decimal-digits_value, digits_decimal, digits_value-decimal, decimal_nonempty, first_decimal, decimal_digit}
 use Rattle.definitions.specs.Bytes.{Bytes}
-use Rattle.definitions.specs.Requests.{Verb, set, add, replace, append, prepend, Head, store, cas, get, gets, delete, incr, decr, space, verb_name, fields, noreply_field, line, IsKey, AreKeys, HasForm, MayHave}
+use Rattle.definitions.specs.Requests.{Verb, set, add, replace, append, prepend, Head, store, cas, get, gets, delete, incr, decr, space, verb_name, fields, noreply_field, IsKey, AreKeys, HasForm, MayHave}
 use Rattle.definitions.specs.Items.{names, name_of, IsLineOf}
-use Rattle.definitions.specs.Canonical.{is_key}
 use Rattle.definitions.proofs.Lines.{parts-line, key_passes, is_key-passes}
-use Rattle.definitions.proofs.ItemLaws.{name_first, line_has_name}
+use Rattle.definitions.proofs.ItemLaws.{name_first}
 use Rattle.mc_lines.specs.declared.request.Verb.TheVariants as verbs
 use Rattle.mc_lines.specs.declared.line.Head as heads
 use Rattle.mc_lines.specs.declared.line.Head.TheVariants as lines
@@ -230,26 +229,25 @@ named_at (name ∷ ns) word (suc k) all lt e = named_at ns word k all.1 (omega a
 
 -- each of the twelve is read as a name
 all_named : AllByRecursion IsNamed names
-all_named =
+all_named = (
+  (named.Get, refl),
+  (
+    (named.Gets, refl),
     (
-      (named.Get, refl),
+      (named.Store verbs.Set, refl),
       (
-        (named.Gets, refl),
+        (named.Store verbs.Add, refl),
         (
-          (named.Store verbs.Set, refl),
+          (named.Store verbs.Replace, refl),
           (
-            (named.Store verbs.Add, refl),
-            (
-              (named.Store verbs.Replace, refl),
-              (
-                (named.Store verbs.Append, refl),
-                ((named.Store verbs.Prepend, refl), ((named.Cas, refl), ((named.Incr, refl), ((named.Decr, refl), ((named.Delete, refl), ((named.Quit, refl), tt)))))),
-              ),
-            ),
+            (named.Store verbs.Append, refl),
+            ((named.Store verbs.Prepend, refl), ((named.Cas, refl), ((named.Incr, refl), ((named.Decr, refl), ((named.Delete, refl), ((named.Quit, refl), tt)))))),
           ),
         ),
       ),
-    )
+    ),
+  ),
+)
 
 -- the first field is the name
 first_is : (l word : Bytes) (args : List Bytes) → parts l ≡ word ∷ args → word ≡ name_of l
@@ -303,8 +301,7 @@ store_says verb fs y e =
     let z = after_expiry f.1 (λ rest. number_first rest >>= λ bytes. noreply_in bytes.1 >>= λ noreply. Some (store verb k.0 f.0 bytes.0, noreply)) y f.4 in
     let b = after_number z.0 (λ bytes. noreply_in bytes.1 >>= λ noreply. Some (store verb k.0 f.0 bytes.0, noreply)) y z.2 in
     let q = after_noreply b.1 (λ noreply. Some (store verb k.0 f.0 b.0, noreply)) y b.4 in
-    said (verb_name verb ∷ fs) (store verb k.0 f.0 b.0, q.0) y q.2
-    (
+    said (verb_name verb ∷ fs) (store verb k.0 f.0 b.0, q.0) y q.2 (
       (k.2, f.2, b.2),
       λ _. refl {a = true},
       store_joined (verb_name verb) k.0 (decimal f.0) (codes "0") (decimal b.0) fs k.1 f.1 z.0 b.1 (noreply_field q.0) k.3 f.3 z.1 b.3 q.1,
@@ -319,8 +316,7 @@ cas_says fs y e =
     let b = after_number z.0 (λ bytes. number_first bytes.1 >>= λ unique. noreply_in unique.1 >>= λ noreply. Some (cas k.0 f.0 bytes.0 unique.0, noreply)) y z.2 in
     let u = after_number b.1 (λ unique. noreply_in unique.1 >>= λ noreply. Some (cas k.0 f.0 b.0 unique.0, noreply)) y b.4 in
     let q = after_noreply u.1 (λ noreply. Some (cas k.0 f.0 b.0 u.0, noreply)) y u.4 in
-    said (codes "cas" ∷ fs) (cas k.0 f.0 b.0 u.0, q.0) y q.2
-    (
+    said (codes "cas" ∷ fs) (cas k.0 f.0 b.0 u.0, q.0) y q.2 (
       (k.2, f.2, b.2, u.2),
       λ _. refl {a = true},
       cas_joined (codes "cas") k.0 (decimal f.0) (codes "0") (decimal b.0) (decimal u.0) fs k.1 f.1 z.0 b.1 u.1 (noreply_field q.0) k.3 f.3 z.1 b.3 u.3 q.1,

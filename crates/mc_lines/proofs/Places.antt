@@ -1,12 +1,12 @@
 -- Parts of parts, by their places.
-use Rattle.std.proofs.Common.{◌≡◌, ℕ, ◌+◌, ◌-◌, ◌≤◌, [], length, take, drop, sym, ap, subst, ◌∙◌, inl, inr, arith, length-drop, Some, None}
+use Rattle.std.proofs.Common.{◌≡◌, ℕ, ◌+◌, ◌-◌, ◌≤◌, length, take, drop, sym, ap, subst, ◌∙◌, inl, inr, arith, length-drop, Some, None}
 use Rattle.std.specs.Prelude.{Option, IfSome, IsSome}
 use Rattle.std.specs.Borrow.{Bor}
 use Rattle.std.proofs.lemmas.Bool.{cases_lt}
-use Rattle.std.proofs.lemmas.List.{drop-drop, drop-take, drop_all, take-take, length-take, take_min}
+use Rattle.std.proofs.lemmas.List.{drop-drop, drop-take, take-take, length-take, take_min}
 use Rattle.definitions.specs.Bytes.{Bytes}
 use Rattle.definitions.specs.Slices.{LiesAt, LentAt}
-use Rattle.mc_lines.specs.Fields.{LentIn}
+use Rattle.mc_lines.specs.Meaning.{LentIn}
 
 -- a part of a part lies that much further
 LiesAt-within : (s m p : Bytes) (i j : ℕ) → LiesAt s i m → LiesAt m j p → LiesAt s (i + j) p
@@ -16,10 +16,10 @@ LiesAt-within s m p i j outer inner =
     elim (cases_lt (length m) j) [
       | inl past ↦ inner ∙ ap (λ (k : ℕ). take k (drop j m)) (let none : length p ≡ 0 = omega arith in none) ∙ ap (λ (k : ℕ). take k (drop (i + j) s)) (let none : 0 ≡ length p = omega arith in none)
       | inr there ↦
-        let whole : j + (length m - j) ≡ length m = omega arith in
-        let part : drop j m ≡ take (length m - j) (drop j (drop i s)) =
-        ap (drop j) (outer ∙ ap (λ (k : ℕ). take k (drop i s)) (sym whole)) ∙ drop-take j (length m - j) (drop i s) in
-        inner ∙ ap (take (length p)) part ∙ take-take (length p) (length m - j) (drop j (drop i s)) few ∙ ap (take (length p)) far
+          let whole : j + (length m - j) ≡ length m = omega arith in
+          let part : drop j m ≡ take (length m - j) (drop j (drop i s)) =
+          ap (drop j) (outer ∙ ap (λ (k : ℕ). take k (drop i s)) (sym whole)) ∙ drop-take j (length m - j) (drop i s) in
+          inner ∙ ap (take (length p)) part ∙ take-take (length p) (length m - j) (drop j (drop i s)) few ∙ ap (take (length p)) far
     ]
 
 -- the same of what is lent

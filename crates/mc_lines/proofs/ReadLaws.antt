@@ -1,9 +1,9 @@
 -- What the reader makes of a line and what follows it is the first item of the text.
-use Rattle.std.proofs.Common.{◌≡◌, ◌≢◌, ℕ, ◌+◌, ◌-◌, ◌<◌, ◌≤◌, Bool, true, false, cond, List, [], ◌∷◌, ◌++◌, length, take, drop, Option, Some, None, refl, sym, ap, subst, ◌∙◌, inl, inr, arith, length-append}
-use Rattle.std.specs.Prelude.{codes, bytes_eq, Contains, Result, Ok, Err, nat_lt, slice_index}
+use Rattle.std.proofs.Common.{◌≡◌, ◌≢◌, ℕ, ◌+◌, ◌-◌, ◌<◌, ◌≤◌, Bool, true, false, cond, [], ◌∷◌, ◌++◌, length, take, drop, Option, Some, None, refl, sym, ap, subst, ◌∙◌, inl, arith, length-append}
+use Rattle.std.specs.Prelude.{codes, bytes_eq, Contains, Ok, Err, nat_lt, slice_index}
 use Rattle.std.proofs.lemmas.List.{take_all, append-nil, length-take-le, take_rest}
 use Rattle.std.proofs.lemmas.Option.{some_pair_parts}
-use Rattle.ids.specs.declared.line_fault.LineFault.TheVariants.{UnknownName, BadFields, TooLarge, BadChunk, LineTooLong}
+use Rattle.ids.specs.declared.line_fault.LineFault.TheVariants.{UnknownName, BadFields, TooLarge, BadChunk}
 use Rattle.definitions.specs.Bytes.{Bytes}
 use Rattle.definitions.specs.Requests.{Asked, Head, store, cas, get, gets, delete, incr, decr, stored_of, crlf, most_data, most_line, canonical}
 use Rattle.definitions.specs.Items.{names, name_of, HasNoEnd, IsLineOf, Item, asked, quit, bad, IsItemAt, IsUnfinished}

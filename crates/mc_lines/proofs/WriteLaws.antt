@@ -1,7 +1,7 @@
 -- The texts of a retrieval and of its reply.
 use Rattle.std.proofs.Common.{◌≡◌, ◌+◌, ◌<◌, ◌≤◌, Bool, List, [], ◌∷◌, ◌++◌, length, get_or, take, map, refl, sym, ap, ◌∙◌, arith, ℕ}
 use Rattle.std.specs.Prelude.{codes, ◌==◌}
-use Rattle.std.specs.List.{join_with_byte, flat_map}
+use Rattle.std.specs.List.{join_with_byte}
 use Rattle.std.proofs.lemmas.List.{append-nil}
 use Rattle.std.proofs.lemmas.List.Folds.{flat_map-map, length-flat_map-take}
 use Rattle.std.proofs.lemmas.List.Splits.{length-slice_split}

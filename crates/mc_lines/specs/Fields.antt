@@ -6,7 +6,6 @@ use Rattle.std.specs.Str.Parse.{digits_value}
 use Rattle.definitions.specs.Bytes.{Bytes}
 use Rattle.definitions.specs.Requests.{space}
 use Rattle.definitions.specs.Canonical.{is_key}
-use Rattle.definitions.specs.Slices.{LentAt}
 
 -- the fields that a text has between its spaces
 abbrev pub parts : Bytes → List Bytes
@@ -16,11 +15,6 @@ parts l = slice_split (λ b. b == space) l
 abbrev pub parts_after : Option (Bor Bytes) → List Bytes
 parts_after None = []
 parts_after (Some rest) = parts rest.now
-
--- the part lies there in what is left
-abbrev pub LentIn : Option (Bor Bytes) → ℕ → Bor Bytes → Type 0
-LentIn None place part = ⊥
-LentIn (Some rest) place part = LentAt rest place part
 
 -- the test of a byte of a key
 abbrev pub is_key_byte : ℕ → Bool

@@ -1,11 +1,11 @@
 -- Lines and what they say: what the steps of the reader give.
-use Rattle.std.specs.Prelude.{◌≡◌, ◌≢◌, ℕ, ◌+◌, ◌^◌, Bool, true, false, List, [], ◌∷◌, length, take, drop, nat_lt, Contains, codes, bytes_eq, Option, Some, None, Result, Ok, Err, if◌then◌else◌, option_map}
+use Rattle.std.specs.Prelude.{◌≡◌, ◌≢◌, ℕ, ◌+◌, Bool, false, List, [], length, take, drop, nat_lt, Contains, codes, bytes_eq, Option, Some, None, Result, Ok, Err, if◌then◌else◌, option_map}
 use Rattle.std.specs.Borrow.{Bor}
 use Rattle.ids.specs.declared.line_fault.LineFault.{LineFault}
 use Rattle.ids.specs.declared.line_fault.LineFault.TheVariants.{TooLarge, BadChunk}
 use Rattle.definitions.specs.Bytes.{Bytes}
 use Rattle.definitions.specs.Requests as requests
-use Rattle.definitions.specs.Requests.{Asked, stored_of, crlf, most_data, verb_name}
+use Rattle.definitions.specs.Requests.{Asked, crlf, most_data, verb_name}
 use Rattle.definitions.specs.Items.{names, name_of, IsLineOf, Item, asked, quit, bad}
 use Rattle.definitions.specs.Slices.{LentAt}
 use Rattle.mc_lines.specs.declared.request.Verb.TheVariants.{Set, Add, Replace, Append, Prepend}
@@ -17,7 +17,7 @@ use Rattle.mc_lines.specs.declared.line.Line.{Line}
 use Rattle.mc_lines.specs.declared.line.Line.TheVariants as lines
 use Rattle.mc_lines.specs.declared.read.Read.{Read}
 use Rattle.mc_lines.specs.declared.read.Read.TheVariants as reads
-use Rattle.mc_lines.specs.Fields.{parts, keys_pass, ◌>>=◌, key_first, number_first, flags_first, expiry_first, noreply_in}
+use Rattle.mc_lines.specs.Fields.{keys_pass, ◌>>=◌, key_first, number_first, flags_first, expiry_first, noreply_in}
 use Rattle.mc_lines.specs.Meaning.{verb_of, keys_of, asked_of}
 
 -- what a line says

@@ -1,11 +1,11 @@
 -- What requests, answers of reading and replies say in the definitions' terms, and where their parts lie.
-use Rattle.std.specs.Prelude.{ℕ, ◌+◌, ◌-◌, ◌==◌, List, length, map, codes}
+use Rattle.std.specs.Prelude.{ℕ, ◌+◌, ◌-◌, ◌==◌, List, [], length, map, codes, Option, Some, None, IfSome}
 use Rattle.std.specs.List.{slice_split}
 use Rattle.std.specs.Borrow.{Bor}
 use Rattle.definitions.specs.Bytes.{Bytes}
 use Rattle.definitions.specs.Requests as requests
 use Rattle.definitions.specs.Requests.{Asked, space, verb_name}
-use Rattle.definitions.specs.Items.{Item, asked, quit, bad, IsItemAt, IsUnfinished}
+use Rattle.definitions.specs.Items.{asked, quit, bad, IsItemAt, IsUnfinished}
 use Rattle.definitions.specs.Replies as replies
 use Rattle.definitions.specs.Slices.{LentAt}
 use Rattle.mc_lines.specs.declared.keys.Keys.{Keys}
@@ -30,6 +30,11 @@ verb_of Prepend = requests.prepend
 -- the keys that a text has between its spaces
 abbrev pub keys_of : Keys → List Bytes
 keys_of keys = slice_split (λ b. b == space) keys.text.now
+
+-- the keys that are left of such a text, if something is
+abbrev pub keys_left : Option (Bor Bytes) → List Bytes
+keys_left None = []
+keys_left (Some rest) = slice_split (λ b. b == space) rest.now
 
 -- a request
 abbrev pub asked_of : Request → Asked
@@ -69,6 +74,15 @@ reply_of NoNumber = replies.no_number
 reply_of NoRequest = replies.no_request
 
 -- ---- where the parts lie
+
+-- the part lies there in what is left
+abbrev pub LentIn : Option (Bor Bytes) → ℕ → Bor Bytes → Type 0
+LentIn None place part = ⊥
+LentIn (Some rest) place part = LentAt rest place part
+
+-- if something is left behind a part, it lies there in what was left before
+abbrev pub LeavesBehind : Option (Bor Bytes) → ℕ → Option (Bor Bytes) → Type 0
+LeavesBehind before place rest = IfSome rest (λ part. LentIn before place part)
 
 -- the key, or the text of the keys
 abbrev pub key_of : Request → Bor Bytes

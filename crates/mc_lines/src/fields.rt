@@ -1,6 +1,7 @@
-ghost use Rattle.std.specs.Prelude.{◌≡◌, ◌+◌, ◌∷◌, ◌==◌, length, position, bytes_eq, codes, option_map, IfSome};
+ghost use Rattle.std.specs.Prelude.{◌≡◌, ◌+◌, ◌∷◌, ◌==◌, length, position, option_map, IfSome};
 ghost use Rattle.definitions.specs.Slices.{LentAt};
-ghost use Rattle.mc_lines.specs.Fields.{parts, parts_after, LentIn, key_first, number_first, flags_first, expiry_first, noreply_in};
+ghost use Rattle.mc_lines.specs.Fields.{parts, parts_after, key_first, number_first, flags_first, expiry_first, noreply_in};
+ghost use Rattle.mc_lines.specs.Meaning.{LentIn};
 
 use crate::keys::is_key;
 use crate::number::number;
@@ -58,7 +59,11 @@ pub(crate) fn expiry(rest: Option<&[u8]>) -> Option<Option<&[u8]>>
     ensures { option_map (λ x. parts_after x) result ≡ expiry_first (parts_after rest.entry) }
 {
     let (field, rest) = cut(rest?);
-    if field == b"0".as_slice() { Some(rest) } else { None }
+    if field == b"0".as_slice() {
+        Some(rest)
+    } else {
+        None
+    }
 }
 
 /// Whether the word noreply is left. Nothing else may be.
@@ -67,6 +72,10 @@ pub(crate) fn noreply(rest: Option<&[u8]>) -> Option<bool>
 {
     match rest {
         None => Some(false),
-        Some(word) => if word == b"noreply".as_slice() { Some(true) } else { None },
+        Some(word) => if word == b"noreply".as_slice() {
+            Some(true)
+        } else {
+            None
+        },
     }
 }

@@ -1,7 +1,9 @@
-ghost use Rattle.std.specs.Prelude.{◌≡◌};
-ghost use Rattle.definitions.specs.Canonical.{is_key};
+ghost use Rattle.std.specs.Prelude.{◌≡◌, ◌+◌, length, IfSome, ⊤};
+ghost use Rattle.std.specs.Iterator.{YieldsFirstRef, MakesProgress, item_count};
 ghost use Rattle.std.specs.List.{list_all};
+ghost use Rattle.definitions.specs.Canonical.{is_key};
 ghost use Rattle.mc_lines.specs.Fields.{parts, is_key_byte, keys_pass};
+ghost use Rattle.mc_lines.specs.Meaning.{keys_of, keys_left, LentIn, LeavesBehind};
 
 use crate::fields::cut;
 use std::marker::Model;
@@ -16,7 +18,8 @@ pub struct Keys<'a> {
 impl<'a> Keys<'a> {
     /// The keys, one after the other, each a part of the text.
     pub fn iter(&self) -> KeyIter<'a>
-        ensures { result ≡ parts self.now.text.now }
+        ensures keys { keys_left result ≡ keys_of self.now }
+        ensures lent { result ≡ Some self.now.text }
     {
         KeyIter {
             rest: Some(self.text),
@@ -31,25 +34,31 @@ pub struct KeyIter<'a> {
 }
 
 impl<'a> Model for KeyIter<'a> {
-    ghost use Rattle.std.specs.Prelude.{List};
+    ghost use Rattle.std.specs.Prelude.{Option};
+    ghost use Rattle.std.specs.Borrow.{Bor};
     ghost use Rattle.definitions.specs.Bytes.{Bytes};
-    ghost use Rattle.mc_lines.specs.Fields.{parts_after};
 
-    ghost Value = { List Bytes };
+    ghost Value = { Option (Bor Bytes) };
 
-    ghost view = { λ it. parts_after it.rest };
+    ghost view = { λ it. it.rest };
 }
 
 impl<'a> Iterator for KeyIter<'a> {
     type Item = &'a [u8];
 
-    ghost use Rattle.std.specs.Iterator.{YieldsFirstRef, item_count};
+    ghost next_gives = { YieldsFirstRef keys_left };
 
-    ghost next_gives = { YieldsFirstRef (λ it. it) };
+    ghost remaining = { item_count keys_left };
 
-    ghost remaining = { item_count (λ it. it) };
+    fn next(&mut self) -> Option<&'a [u8]>
+        // What is ensured of every iterator.
+        ensures steps { YieldsFirstRef keys_left self.old result self.new }
+        ensures goes { MakesProgress (λ _. ⊤) (item_count keys_left) self.old result self.new }
 
-    fn next(&mut self) -> Option<&'a [u8]> {
+        // A key begins where what is left does, and the next one behind it and a space.
+        ensures lent { IfSome result (λ key. LentIn self.old 0 key
+            × LeavesBehind self.old (length key.now + 1) self.new) }
+    {
         let (key, rest) = cut(self.rest?);
         self.rest = rest;
         Some(key)

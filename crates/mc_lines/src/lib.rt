@@ -13,6 +13,8 @@ mod number;
 mod read;
 mod reply;
 mod request;
+#[cfg(test)]
+mod tests;
 mod write;
 
 pub use ids::LineFault;

@@ -3,9 +3,9 @@ ghost use Rattle.std.specs.Borrow.{Bor};
 ghost use Rattle.definitions.specs.Bytes.{Bytes};
 ghost use Rattle.definitions.specs.Requests.{stored_of};
 ghost use Rattle.definitions.specs.Slices.{LentAt};
-ghost use Rattle.mc_lines.specs.Fields.{parts, parts_after, LentIn};
+ghost use Rattle.mc_lines.specs.Fields.{parts_after};
 ghost use Rattle.mc_lines.specs.Heads.{head_of, head_key, head_place, filled, seen, name_in, head_for, store_in, cas_in, delete_in, counted_in, keys_in, IsLineRead, IsLineLent};
-ghost use Rattle.mc_lines.specs.Meaning.{verb_of, asked_of, keys_of, AreLent};
+ghost use Rattle.mc_lines.specs.Meaning.{verb_of, asked_of, keys_of, LentIn, AreLent};
 
 use crate::fields::{cut, expiry, flags, key, noreply, value};
 use crate::keys::{Keys, are_keys};
@@ -87,7 +87,10 @@ impl<'a> Head<'a> {
     {
         match self {
             Head::Store {
-                verb, key, flags, ..
+                verb,
+                key,
+                flags,
+                ..
             } => Request::Store {
                 verb,
                 key,
@@ -95,7 +98,10 @@ impl<'a> Head<'a> {
                 stored,
             },
             Head::Cas {
-                key, flags, unique, ..
+                key,
+                flags,
+                unique,
+                ..
             } => Request::Cas {
                 key,
                 flags,
@@ -251,6 +257,10 @@ pub(crate) fn read_line(line: &[u8]) -> Line<'_>
     };
     match head_by_name(name, rest) {
         Some((head, noreply)) => Line::Request(head, noreply),
-        None => if line == b"quit".as_slice() { Line::Quit } else { Line::BadFields },
+        None => if line == b"quit".as_slice() {
+            Line::Quit
+        } else {
+            Line::BadFields
+        },
     }
 }

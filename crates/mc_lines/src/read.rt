@@ -1,4 +1,4 @@
-ghost use Rattle.std.specs.Prelude.{◌≡◌, ◌≢◌, ℕ, ◌+◌, ◌≤◌, length, take, slice_index, option_map, IfSome, IfNone, IfOk};
+ghost use Rattle.std.specs.Prelude.{◌≡◌, ◌+◌, ◌≤◌, length, take, slice_index, option_map, IfSome, IfNone, IfOk};
 ghost use Rattle.std.specs.Borrow.{Bor};
 ghost use Rattle.definitions.specs.Bytes.{Bytes};
 ghost use Rattle.definitions.specs.Requests.{stored_of, most_line};
@@ -28,12 +28,17 @@ pub enum Read<'a> {
         noreply: bool,
     },
     /// The line `quit`. What follows it is not for reading.
-    Quit { used: usize },
+    Quit {
+        used: usize,
+    },
     /// The line has no end yet, or its data hasn't: read again when more bytes are there.
     More,
     /// No request. After `UnknownName`, which takes its line, the next line may be read; after another fault
     /// nothing is taken, and what follows is not for reading.
-    Bad { fault: LineFault, used: usize },
+    Bad {
+        fault: LineFault,
+        used: usize,
+    },
 }
 
 /// Where the first CR LF begins, if it ends within the limit of a line.
@@ -148,5 +153,9 @@ pub fn read_canonical(bytes: &[u8]) -> Option<Request<'_>>
     if noreply {
         return None;
     }
-    if used == bytes.len() { Some(request) } else { None }
+    if used == bytes.len() {
+        Some(request)
+    } else {
+        None
+    }
 }

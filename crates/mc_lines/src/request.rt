@@ -37,9 +37,17 @@ pub enum Request<'a> {
     /// The same, with numbers of changes.
     Gets(Keys<'a>),
     /// Take the key away.
-    Delete { key: &'a [u8] },
+    Delete {
+        key: &'a [u8],
+    },
     /// Add to a number.
-    Incr { key: &'a [u8], value: u64 },
+    Incr {
+        key: &'a [u8],
+        value: u64,
+    },
     /// Take from a number.
-    Decr { key: &'a [u8], value: u64 },
+    Decr {
+        key: &'a [u8],
+        value: u64,
+    },
 }

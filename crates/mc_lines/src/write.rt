@@ -94,7 +94,9 @@ fn write_store<'a>(
     let size = size.as_slice();
     append(
         out,
-        &[name, b" ", key, b" ", flags, b" 0 ", size, b"\r\n", stored, b"\r\n"],
+        &[
+            name, b" ", key, b" ", flags, b" 0 ", size, b"\r\n", stored, b"\r\n",
+        ],
     )
 }
 
@@ -188,8 +190,16 @@ fn value_parts<'a>(value: &'a Value, numbers: &'a Numbers, with_unique: bool) ->
     requires unique { numbers.now.unique ≡ decimal value.now.unique }
     ensures { joined result ≡ value_text with_unique (value_of value.now) }
 {
-    let gap = if with_unique { b" ".as_slice() } else { b"".as_slice() };
-    let unique = if with_unique { numbers.unique.as_slice() } else { b"".as_slice() };
+    let gap = if with_unique {
+        b" ".as_slice()
+    } else {
+        b"".as_slice()
+    };
+    let unique = if with_unique {
+        numbers.unique.as_slice()
+    } else {
+        b"".as_slice()
+    };
     [
         b"VALUE ",
         value.key.as_slice(),

@@ -22,9 +22,8 @@ returns-in-Some-head_by_name-clause-lent c =
     c.cut.ensures.behind c.in-Some-head_by_name.ensures.lent
 
 pub returns-else-eq-clause-value : goal.returns-else-eq-clause-value
-returns-else-eq-clause-value c =
-    (
-      known_name c.args.line.now c.cut.result.0.now (parts_after c.cut.result.1) c.in-Some.name c.cut.ensures.fields (cc),
-      bytes_differ c.args.line.now (codes "quit") c.as_slice.result.now c.if-eq.ensures c.as_slice.ensures,
-      no_form c.args.line.now c.cut.result.0.now (parts_after c.cut.result.1) c.in-Some.name c.cut.ensures.fields (cc) c.in-None.ensures.value,
-    )
+returns-else-eq-clause-value c = (
+  known_name c.args.line.now c.cut.result.0.now (parts_after c.cut.result.1) c.in-Some.name c.cut.ensures.fields (cc),
+  bytes_differ c.args.line.now (codes "quit") c.as_slice.result.now c.if-eq.ensures c.as_slice.ensures,
+  no_form c.args.line.now c.cut.result.0.now (parts_after c.cut.result.1) c.in-Some.name c.cut.ensures.fields (cc) c.in-None.ensures.value,
+)
