@@ -11,6 +11,7 @@ ghost use Rattle.mc_lines.specs.Meaning.{asked_of, AreLent, IsReadOf, IsLent};
 use crate::line::{Head, Line, read_line};
 use crate::request::Request;
 use ids::LineFault;
+use memchr::memmem;
 
 /// The most bytes of a line with its end.
 const MOST_LINE: usize = 4096;
@@ -47,13 +48,7 @@ fn line_end(bytes: &[u8]) -> Option<usize>
         × (slice_index bytes.now i ≡ 13) × (slice_index bytes.now (i + 1) ≡ 10) × HasNoEnd (take i bytes.now)) }
     ensures none { IfNone result (HasNoEnd (take most_line bytes.now)) }
 {
-    let limit = bytes.len().min(MOST_LINE);
-    for i in 1..limit {
-        if bytes[i - 1] == b'\r' && bytes[i] == b'\n' {
-            return Some(i - 1);
-        }
-    }
-    None
+    memmem::find(&bytes[..bytes.len().min(MOST_LINE)], b"\r\n")
 }
 
 /// So much data, if it is all there with its CR LF.
