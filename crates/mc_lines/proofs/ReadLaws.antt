@@ -3,10 +3,10 @@ use Rattle.std.proofs.Common.{◌≡◌, ◌≢◌, ℕ, ◌+◌, ◌-◌, ◌<�
 use Rattle.std.specs.Prelude.{codes, bytes_eq, Contains, Ok, Err, nat_lt, slice_index}
 use Rattle.std.proofs.lemmas.List.{take_all, append-nil, length-take-le, take_rest}
 use Rattle.std.proofs.lemmas.Option.{some_pair_parts}
-use Rattle.ids.specs.declared.line_fault.LineFault.TheVariants.{UnknownName, BadFields, TooLarge, BadChunk}
+use Rattle.ids.specs.declared.line_fault.LineFault.TheVariants.{UnknownName, BadFields, TooLarge, BadChunk, LineTooLong}
 use Rattle.definitions.specs.Bytes.{Bytes}
-use Rattle.definitions.specs.Requests.{Asked, Head, store, cas, get, gets, delete, incr, decr, stored_of, crlf, most_data, most_line, canonical}
-use Rattle.definitions.specs.Items.{names, name_of, HasNoEnd, IsLineOf, Item, asked, quit, bad, IsItemAt, IsUnfinished}
+use Rattle.definitions.specs.Requests.{spelling, Asked, Head, store, cas, get, gets, delete, incr, decr, stored_of, crlf, most_data, most_line, canonical}
+use Rattle.definitions.specs.Items.{StartsWith, names, name_of, HasNoEnd, IsLineOf, Item, asked, quit, bad, IsItemAt, IsUnfinished}
 use Rattle.definitions.specs.Canonical.{request_of}
 use Rattle.definitions.proofs.Lines.{head_at, head_at-line}
 use Rattle.definitions.proofs.RequestTexts.{request_of_some, request_of-canonical}
@@ -14,7 +14,7 @@ use Rattle.definitions.proofs.ItemLaws.{HasFirst, item_by_line, made_item, made_
 use Rattle.mc_lines.specs.declared.request.Request.{Request}
 use Rattle.mc_lines.specs.declared.read.Read.{Read}
 use Rattle.mc_lines.specs.declared.read.Read.TheVariants as reads
-use Rattle.mc_lines.specs.Meaning.{asked_of, IsReadOf}
+use Rattle.mc_lines.specs.Meaning.{asked_of, IsReadOf, used_of}
 use Rattle.mc_lines.proofs.Ends.{split_at_end}
 use Rattle.mc_lines.specs.Heads.{filled, data_in, item_from, item_with, item_of}
 
@@ -136,3 +136,20 @@ first_in text i h = subst (HasFirst text (take i text)) (sym (take_rest text (i 
 -- and its length
 pub length_at : (text : Bytes) (i : ℕ) → EndsAt text i → i + 2 ≡ length (take i text) + 2
 length_at text i h = omega (arith, h.0, length-take-le i text (omega (arith, h.0)))
+
+-- ---- how much is taken
+
+-- what a text begins with is no longer than the text
+length_front : (text front : Bytes) → StartsWith text front → length front ≤ length text
+length_front text front h = omega (arith, ap (λ (t : Bytes). length t) h.1, length-append front h.0)
+
+-- what is taken is there
+pub used_of-within : (text : Bytes) (r : Read) → IsReadOf text r → used_of r ≤ length text
+used_of-within text (reads.Whole request used noreply) is = omega (arith, is.2, length_front text (spelling (asked_of request) noreply) is.1)
+used_of-within text (reads.Quit used) is = omega (arith, is.1, length_front text (codes "quit" ++ crlf) is.0)
+used_of-within text reads.More is = omega arith
+used_of-within text (reads.Bad UnknownName used) is = omega (arith, is.3, length_front text (is.0 ++ crlf) is.1.2, length-append is.0 crlf)
+used_of-within text (reads.Bad BadFields used) is = omega (arith, is.5)
+used_of-within text (reads.Bad TooLarge used) is = omega (arith, is.6)
+used_of-within text (reads.Bad BadChunk used) is = omega (arith, is.7)
+used_of-within text (reads.Bad LineTooLong used) is = omega (arith, is.2)

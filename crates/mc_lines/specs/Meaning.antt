@@ -53,6 +53,13 @@ IsReadOf text (Quit used) = IsItemAt text quit used
 IsReadOf text More = IsUnfinished text
 IsReadOf text (Bad fault used) = IsItemAt text (bad fault) used
 
+-- how many bytes an answer takes
+abbrev pub used_of : Read → ℕ
+used_of (Whole request used noreply) = used
+used_of (Quit used) = used
+used_of More = 0
+used_of (Bad fault used) = used
+
 -- ---- replies
 
 -- what is told of one key

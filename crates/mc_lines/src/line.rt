@@ -81,8 +81,11 @@ impl<'a> Head<'a> {
     /// The request with this data.
     pub(crate) fn with(self, stored: &'a [u8]) -> Request<'a>
         ensures value { asked_of result ≡ filled (head_of self.entry) stored.now }
-        ensures lent { (source : Bor Bytes) (used : ℕ) → LentAt source (head_place self.entry) (head_key self.entry)
-            → (IsSome (stored_of (head_of self.entry)) → LentAt source (used - 2 - length stored.now) stored.entry)
+        // Where the key and the data lie in a source at their places, so do those of the request.
+        ensures lent { (source : Bor Bytes) (used : ℕ)
+            → LentAt source (head_place self.entry) (head_key self.entry)
+            → (IsSome (stored_of (head_of self.entry))
+            → LentAt source (used - 2 - length stored.now) stored.entry)
             → AreLent source result used }
     {
         match self {

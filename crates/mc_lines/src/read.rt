@@ -6,7 +6,7 @@ ghost use Rattle.definitions.specs.Items.{HasNoEnd};
 ghost use Rattle.definitions.specs.Canonical.{request_of};
 ghost use Rattle.definitions.specs.Slices.{LentAt};
 ghost use Rattle.mc_lines.specs.Heads.{head_of, head_key, head_place, data_in, data_seen, item_with, item_of};
-ghost use Rattle.mc_lines.specs.Meaning.{asked_of, AreLent, IsReadOf, IsLent};
+ghost use Rattle.mc_lines.specs.Meaning.{asked_of, AreLent, IsReadOf, IsLent, used_of};
 
 use crate::line::{Head, Line, read_line};
 use crate::request::Request;
@@ -45,7 +45,8 @@ pub enum Read<'a> {
 /// Where the first CR LF begins, if it ends within the limit of a line.
 fn line_end(bytes: &[u8]) -> Option<usize>
     ensures found { IfSome result (λ i. (i + 2 ≤ length bytes.now) × (i + 2 ≤ most_line)
-        × (slice_index bytes.now i ≡ 13) × (slice_index bytes.now (i + 1) ≡ 10) × HasNoEnd (take i bytes.now)) }
+        × (slice_index bytes.now i ≡ 13) × (slice_index bytes.now (i + 1) ≡ 10)
+        × HasNoEnd (take i bytes.now)) }
     ensures none { IfNone result (HasNoEnd (take most_line bytes.now)) }
 {
     memmem::find(&bytes[..bytes.len().min(MOST_LINE)], b"\r\n")
@@ -54,7 +55,8 @@ fn line_end(bytes: &[u8]) -> Option<usize>
 /// So much data, if it is all there with its CR LF.
 fn data(rest: &[u8], bytes: u64) -> Result<Option<&[u8]>, LineFault>
     ensures value { data_seen result ≡ data_in bytes rest.now }
-    ensures lent { IfOk result (λ o. IfSome o (λ stored. (length stored.now ≡ bytes) × LentAt rest.entry 0 stored)) }
+    ensures lent { IfOk result (λ o. IfSome o (λ stored.
+        (length stored.now ≡ bytes) × LentAt rest.entry 0 stored)) }
 {
     if bytes > MOST_DATA {
         return Err(LineFault::TooLarge);
@@ -72,7 +74,8 @@ fn data(rest: &[u8], bytes: u64) -> Result<Option<&[u8]>, LineFault>
 /// The request of a line with its data, which stands behind the line at `start`.
 fn with_data<'a>(head: Head<'a>, noreply: bool, rest: &'a [u8], start: usize) -> Read<'a>
     requires { start ≤ most_line }
-    ensures value { item_of result ≡ item_with (head_of head.entry) noreply start rest.now (stored_of (head_of head.entry)) }
+    ensures value { item_of result
+        ≡ item_with (head_of head.entry) noreply start rest.now (stored_of (head_of head.entry)) }
     ensures lent { (source : Bor Bytes) → LentAt source (head_place head.entry) (head_key head.entry)
         → LentAt source start rest.entry → IsLent source result }
 {
@@ -96,15 +99,18 @@ fn with_data<'a>(head: Head<'a>, noreply: bool, rest: &'a [u8], start: usize) ->
 
 /// Reads the first item of a text: a request, quit, or a fault.
 ///
-/// A line is what stands before the first CR LF, and has at most 4,096 bytes with it. Faults come in this order:
-/// `LineTooLong` where no line ends within that limit, `UnknownName` where its name is none of the twelve,
-/// `BadFields` where its fields aren't what the command takes, `TooLarge` where more than 4,096 bytes of data are
-/// announced, and `BadChunk` where CR LF doesn't follow the data. Everything before the fault must be there.
+/// A line is what stands before the first CR LF, and has at most 4,096 bytes with it. Faults come in this
+/// order: `LineTooLong` where no line ends within that limit, `UnknownName` where its name is none of the
+/// twelve, `BadFields` where its fields aren't what the command takes, `TooLarge` where more than 4,096 bytes
+/// of data are announced, and `BadChunk` where CR LF doesn't follow the data. `UnknownName` takes its line,
+/// and the other faults take nothing.
 ///
-/// A call looks at each byte of the line a fixed number of times, and at no byte of the data. So a connection that
-/// brings its bytes one by one makes the reader pass over 4,096 bytes at most for each.
+/// A call passes once over the line for its end and a fixed number of times more for its fields, and of the
+/// data it looks at the two bytes behind it alone. Nothing is kept between calls: where a text grows byte by
+/// byte and is read again each time, each call begins anew, and so passes over 4,096 bytes of line at most.
 pub fn read_request(bytes: &[u8]) -> Read<'_>
     ensures value { IsReadOf bytes.now result }
+    ensures within { used_of result ≤ length bytes.now }
     ensures lent { IsLent bytes.entry result }
 {
     let Some(end) = line_end(bytes) else {

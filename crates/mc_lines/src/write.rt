@@ -133,7 +133,8 @@ fn write_line(name: &[u8], text: &[u8], out: &mut Vec<u8>) -> Result<(), Fault>
 
 /// Appends a line of a name, a key and a number.
 fn write_counted(name: &[u8], key: &[u8], value: u64, out: &mut Vec<u8>) -> Result<(), Fault>
-    ensures { IsAppended out.old out.new (name.now ++ space ∷ key.now ++ space ∷ decimal value ++ crlf) result }
+    ensures { IsAppended out.old out.new
+        (name.now ++ space ∷ key.now ++ space ∷ decimal value ++ crlf) result }
 {
     let value = Decimal::new(value);
     let value = value.as_slice();
@@ -142,8 +143,8 @@ fn write_counted(name: &[u8], key: &[u8], value: u64, out: &mut Vec<u8>) -> Resu
 
 /// Appends the canonical text of a request: without the word noreply.
 ///
-/// Memory is wanting only where the spare room was too small, and `out` is as before then. Where a key or the data
-/// isn't what a request may have, the text is no request either.
+/// Memory is wanting only where the spare room was too small, and `out` is as before then. Where a key or the
+/// data isn't what a request may have, the text is no request either.
 pub fn write_request(request: &Request<'_>, out: &mut Vec<u8>) -> Result<(), Fault>
     ensures { IsAppended out.old out.new (canonical (asked_of request.now)) result }
 {

@@ -1,7 +1,7 @@
 use Rattle.std.proofs.Common.{◌+◌, ◌-◌, length, take, drop, refl, arith}
 use Rattle.mc_lines.specs.Heads.{head_of, head_key, head_place}
 use Rattle.mc_lines.proofs.Places.{LiesAt-front, LiesAt-back}
-use Rattle.mc_lines.proofs.ReadLaws.{read_line_of, unknown_is, fields_are, unfinished_is, first_at, first_in, length_at}
+use Rattle.mc_lines.proofs.ReadLaws.{read_line_of, unknown_is, fields_are, unfinished_is, first_at, first_in, length_at, used_of-within}
 use Rattle.mc_lines.proofs.read.read_request.Goals as goal
 
 pub returns-then-bytes-lt-MOST_LINE-clause-value :
@@ -13,6 +13,9 @@ returns-in-Request-clause-value c =
     read_line_of c.args.bytes.now (take c.in-Some.end c.args.bytes.now) (take (length c.args.bytes.now - (c.in-Some.end + 2)) (drop (c.in-Some.end + 2) c.args.bytes.now)) (c.in-Some.end + 2)
     (head_of c.in-Request.head) c.in-Request.noreply c.with_data.result
     (first_in c.args.bytes.now c.in-Some.end c.in-Some.ensures.found) c.in-Request.ensures.value (length_at c.args.bytes.now c.in-Some.end c.in-Some.ensures.found) c.with_data.ensures.value
+
+pub returns-in-Request-clause-within : goal.returns-in-Request-clause-within
+returns-in-Request-clause-within c = used_of-within c.args.bytes.now c.with_data.result (returns-in-Request-clause-value c)
 
 pub returns-in-Request-clause-lent : goal.returns-in-Request-clause-lent
 returns-in-Request-clause-lent c =
