@@ -66,11 +66,9 @@ impl Cache {
 
     /// Takes a key out.
     pub(crate) fn delete(&mut self, key: &[u8]) -> Reply
-        ensures left {
-            let outcome = apply self.old.most self.old.cache (requests.delete key.now) in
+        ensures left { let outcome = apply self.old.most self.old.cache (requests.delete key.now) in
             self.new ≡ record self.old { cache = outcome.0 } }
-        ensures told {
-            let outcome = apply self.old.most self.old.cache (requests.delete key.now) in
+        ensures told { let outcome = apply self.old.most self.old.cache (requests.delete key.now) in
             reply_of result ≡ outcome.1 }
     {
         if self.table.remove(key) {
