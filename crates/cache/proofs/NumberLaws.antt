@@ -1,5 +1,5 @@
 -- The texts that are numbers.
-use Rattle.std.proofs.Common.{◌≡◌, ℕ, ◌^◌, ◌<◌, ◌&&◌, true, cond, List, refl, sym, ap, subst, ◌∙◌, Option, Some, None, nat_lt, bytes_eq, decimal, lt-ltb}
+use Rattle.std.proofs.Common.{◌≡◌, ℕ, ◌^◌, ◌<◌, ◌&&◌, true, refl, ap, ◌∙◌, Option, Some, None, nat_lt, bytes_eq, decimal, lt-ltb}
 use Rattle.std.specs.Str.Parse.{digits_value}
 use Rattle.std.proofs.lemmas.Bool.{and_parts, ltb-true, cond_both}
 use Rattle.std.proofs.lemmas.Fmt.{decimal_is_IsNumeral}

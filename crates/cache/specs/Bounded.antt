@@ -18,6 +18,6 @@ bounded most entries changes = record { most = most; cache = record { entries = 
 abbrev pub bounded_code : Coded Bounded
 bounded_code =
     code_by (ℕ × (FinMap key_cmp definitions.Entry × ℕ)) (coded× coded_ℕ (coded× table_code coded_ℕ))
-        (λ b. (b.most, (b.cache.entries, b.cache.changes)))
-        (λ p. bounded p.0 p.1.0 p.1.1)
-        (λ _. refl)
+    (λ b. (b.most, (b.cache.entries, b.cache.changes)))
+    (λ p. bounded p.0 p.1.0 p.1.1)
+    (λ _. refl)

@@ -9,12 +9,13 @@ use mc_lines::{Reply, Request};
 use std::alloc::Global;
 use std::marker::Model;
 
-/// What stands under each key, at most so many keys, and how often data was given (protocol.txt). An item that is
-/// stored stays until a command takes it out or puts another one in its place: none expires, and none is evicted.
+/// What stands under each key, with room for so many keys (protocol.txt). An item stays until a command takes it out
+/// or puts another one in its place: none expires, and none makes way for another key.
 #[derive(Drop)]
 pub struct Cache {
     pub(crate) alloc: Global,
     pub(crate) table: Table,
+    /// How often data was given.
     pub(crate) changes: u64,
     pub(crate) most_keys: usize,
 }

@@ -9,7 +9,8 @@ use mc_lines::Reply;
 use std::alloc::AllocError;
 
 impl Cache {
-    /// The key has this data from now on, and a unique of its own.
+    /// The key has this data from now on, and a unique of its own. After the last change that can be counted there
+    /// is none, and the cache is full.
     pub(crate) fn change(
         &mut self,
         key: &[u8],
@@ -66,11 +67,9 @@ impl Cache {
 
     /// Takes a key out.
     pub(crate) fn delete(&mut self, key: &[u8]) -> Reply
-        ensures left {
-            let outcome = apply self.old.most self.old.cache (requests.delete key.now) in
+        ensures left { let outcome = apply self.old.most self.old.cache (requests.delete key.now) in
             self.new ≡ record self.old { cache = outcome.0 } }
-        ensures told {
-            let outcome = apply self.old.most self.old.cache (requests.delete key.now) in
+        ensures told { let outcome = apply self.old.most self.old.cache (requests.delete key.now) in
             reply_of result ≡ outcome.1 }
     {
         if self.table.remove(key) {

@@ -16,8 +16,8 @@ pub(crate) enum Step {
 }
 
 impl Step {
-    /// The number after the step. Behind the greatest one comes 0, and below 0 none.
-    fn from(self, n: u64) -> u64
+    /// The number after the step from another one. Behind the greatest one comes 0, and below 0 none.
+    fn after(self, n: u64) -> u64
         ensures { result ≡ counted self n }
     {
         match self {
@@ -43,7 +43,7 @@ impl Cache {
             return Ok(Reply::NoNumber);
         };
         let flags = entry.flags;
-        let n = step.from(n);
+        let n = step.after(n);
         let stored = numeral(self.alloc, n)?;
         self.change(key, flags, stored, Reply::Number(n))
     }

@@ -15,7 +15,11 @@ pub(crate) fn number(text: &[u8]) -> Option<u64>
         return None;
     };
     let mut buffer = Buffer::new();
-    if buffer.format(n) == digits { Some(n) } else { None }
+    if buffer.format(n) == digits {
+        Some(n)
+    } else {
+        None
+    }
 }
 
 /// The text of a number.

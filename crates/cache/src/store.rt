@@ -40,7 +40,11 @@ impl Cache {
         let present = self.table.has(key);
         let has_room = self.table.len() < self.most_keys;
         match verb {
-            Verb::Set => if present || has_room { self.put(key, flags, stored) } else { Ok(Reply::NoRoom) },
+            Verb::Set => if present || has_room {
+                self.put(key, flags, stored)
+            } else {
+                Ok(Reply::NoRoom)
+            },
             Verb::Add => {
                 if present {
                     Ok(Reply::NotStored)
@@ -50,7 +54,11 @@ impl Cache {
                     Ok(Reply::NoRoom)
                 }
             }
-            Verb::Replace => if present { self.put(key, flags, stored) } else { Ok(Reply::NotStored) },
+            Verb::Replace => if present {
+                self.put(key, flags, stored)
+            } else {
+                Ok(Reply::NotStored)
+            },
             Verb::Append => self.append(key, stored),
             Verb::Prepend => self.prepend(key, stored),
         }

@@ -61,7 +61,12 @@ impl Table {
     }
 
     /// Puts an entry under a key, in the place of another one.
-    pub(crate) fn insert(&mut self, alloc: Global, key: &[u8], entry: Entry) -> Result<(), AllocError>
+    pub(crate) fn insert(
+        &mut self,
+        alloc: Global,
+        key: &[u8],
+        entry: Entry,
+    ) -> Result<(), AllocError>
         ensures inserted { OnOk result (self.new ≡ map.insert self.old key.now (entry_of entry)) }
         ensures unchanged { OnErr result (self.new ≡ self.old) }
     {

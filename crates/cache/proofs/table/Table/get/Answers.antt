@@ -1,7 +1,7 @@
-use Rattle.std.proofs.Common.{ap, sym, ◌∙◌, is_some, option_map}
+use Rattle.std.proofs.Common.{ap, sym, ◌∙◌, option_map}
 use Rattle.std.specs.FinMap as map
-use Rattle.cache.specs.Tables.{entry_of, table_of}
-use Rattle.cache.proofs.TableLaws.{get-table, insert-table, remove-table, len-table, seen, is_some-seen}
+use Rattle.cache.specs.Tables.{entry_of}
+use Rattle.cache.proofs.TableLaws.{get-table, seen}
 use Rattle.cache.proofs.table.Table.get.Goals as goal
 
 pub returns : goal.returns

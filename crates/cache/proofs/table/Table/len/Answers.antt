@@ -1,7 +1,6 @@
 use Rattle.std.proofs.Common.{ap, sym, ◌∙◌}
 use Rattle.std.specs.FinMap as map
-use Rattle.cache.specs.Tables.{entry_of}
-use Rattle.cache.proofs.TableLaws.{get-table, insert-table, remove-table, len-table}
+use Rattle.cache.proofs.TableLaws.{len-table}
 use Rattle.cache.proofs.table.Table.len.Goals as goal
 
 pub returns : goal.returns

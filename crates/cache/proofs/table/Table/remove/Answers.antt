@@ -1,7 +1,7 @@
-use Rattle.std.proofs.Common.{ap, sym, ◌∙◌, is_some, option_map}
+use Rattle.std.proofs.Common.{ap, sym, ◌∙◌, is_some}
 use Rattle.std.specs.FinMap as map
 use Rattle.cache.specs.Tables.{entry_of, table_of}
-use Rattle.cache.proofs.TableLaws.{get-table, insert-table, remove-table, len-table, seen, is_some-seen}
+use Rattle.cache.proofs.TableLaws.{get-table, remove-table, is_some-seen}
 use Rattle.cache.proofs.table.Table.remove.Goals as goal
 
 pub returns-clause-present : goal.returns-clause-present
