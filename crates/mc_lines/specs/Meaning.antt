@@ -1,5 +1,5 @@
 -- What requests, answers of reading and replies say in the definitions' terms, and where their parts lie.
-use Rattle.std.specs.Prelude.{ℕ, ◌+◌, ◌-◌, ◌==◌, List, [], length, map, codes, Option, Some, None, IfSome}
+use Rattle.std.specs.Prelude.{ℕ, ◌+◌, ◌-◌, ◌==◌, List, [], length, map, codes, Option, Some, None}
 use Rattle.std.specs.List.{slice_split}
 use Rattle.std.specs.Borrow.{Bor}
 use Rattle.definitions.specs.Bytes.{Bytes}
@@ -86,10 +86,6 @@ reply_of NoRequest = replies.no_request
 abbrev pub LentIn : Option (Bor Bytes) → ℕ → Bor Bytes → Type 0
 LentIn None place part = ⊥
 LentIn (Some rest) place part = LentAt rest place part
-
--- if something is left behind a part, it lies there in what was left before
-abbrev pub LeavesBehind : Option (Bor Bytes) → ℕ → Option (Bor Bytes) → Type 0
-LeavesBehind before place rest = IfSome rest (λ part. LentIn before place part)
 
 -- the key, or the text of the keys
 abbrev pub key_of : Request → Bor Bytes

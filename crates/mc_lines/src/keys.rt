@@ -1,9 +1,8 @@
-ghost use Rattle.std.specs.Prelude.{◌≡◌, ◌+◌, length, IfSome, ⊤};
-ghost use Rattle.std.specs.Iterator.{YieldsFirstRef, MakesProgress, item_count};
+ghost use Rattle.std.specs.Prelude.{◌≡◌};
 ghost use Rattle.std.specs.List.{list_all};
 ghost use Rattle.definitions.specs.Canonical.{is_key};
 ghost use Rattle.mc_lines.specs.Fields.{parts, is_key_byte, keys_pass};
-ghost use Rattle.mc_lines.specs.Meaning.{keys_of, keys_left, LentIn, LeavesBehind};
+ghost use Rattle.mc_lines.specs.Meaning.{keys_of, keys_left};
 
 use crate::fields::cut;
 use std::marker::Model;
@@ -46,19 +45,13 @@ impl<'a> Model for KeyIter<'a> {
 impl<'a> Iterator for KeyIter<'a> {
     type Item = &'a [u8];
 
+    ghost use Rattle.std.specs.Iterator.{YieldsFirstRef, item_count};
+
     ghost next_gives = { YieldsFirstRef keys_left };
 
     ghost remaining = { item_count keys_left };
 
-    fn next(&mut self) -> Option<&'a [u8]>
-        // What is ensured of every iterator.
-        ensures steps { YieldsFirstRef keys_left self.old result self.new }
-        ensures goes { MakesProgress (λ _. ⊤) (item_count keys_left) self.old result self.new }
-
-        // A key begins where what is left does, and the next one behind it and a space.
-        ensures lent { IfSome result (λ key. LentIn self.old 0 key
-            × LeavesBehind self.old (length key.now + 1) self.new) }
-    {
+    fn next(&mut self) -> Option<&'a [u8]> {
         let (key, rest) = cut(self.rest?);
         self.rest = rest;
         Some(key)
