@@ -1,6 +1,7 @@
 pub use Rattle.ids.specs.Sizes
 pub use Rattle.ids.specs.Numbers
 pub mod Bytes
+pub mod Slices
 pub mod Requests
 pub mod Items
 pub mod Replies

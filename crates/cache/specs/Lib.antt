@@ -1,0 +1,5 @@
+pub use Rattle.definitions.specs.Cache
+pub use Rattle.mc_lines.specs.Meaning
+pub mod Bounded
+pub mod Tables
+pub mod Steps

@@ -1,0 +1,9 @@
+/// What stands under a key.
+#[derive(Drop)]
+pub(crate) struct Entry {
+    /// What the client gave with the data. It means nothing here.
+    pub(crate) flags: u32,
+    pub(crate) stored: Vec<u8>,
+    /// The count of changes at which the data was given.
+    pub(crate) unique: u64,
+}

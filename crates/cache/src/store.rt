@@ -1,0 +1,122 @@
+ghost use Rattle.std.specs.Prelude.{◌≡◌, ◌++◌, IfOk, OnOk, OnErr};
+ghost use Rattle.definitions.specs.Requests as requests;
+ghost use Rattle.definitions.specs.Replies as replies;
+ghost use Rattle.definitions.specs.Cache.{change, store_it};
+ghost use Rattle.mc_lines.specs.Meaning.{reply_of, verb_of};
+
+use crate::cache::Cache;
+use mc_lines::{Reply, Verb};
+use std::alloc::{AllocError, Global};
+
+/// The most bytes of data under a key.
+const MOST_DATA: usize = 4096;
+
+/// One text behind another.
+fn joined(alloc: Global, front: &[u8], back: &[u8]) -> Result<Vec<u8>, AllocError>
+    ensures { IfOk result (λ text. text.items ≡ front.now ++ back.now) }
+{
+    let mut text = Vec::from_slice(alloc, front)?;
+    text.extend_from_slice(back)?;
+    Ok(text)
+}
+
+impl Cache {
+    /// A storage command.
+    pub(crate) fn store(
+        &mut self,
+        verb: Verb,
+        key: &[u8],
+        flags: u32,
+        stored: &[u8],
+    ) -> Result<Reply, AllocError>
+        ensures left { OnOk result (
+            let outcome = store_it self.old.most self.old.cache (verb_of verb) key.now flags stored.now in
+            self.new ≡ record self.old { cache = outcome.0 }) }
+        ensures told { IfOk result (λ reply.
+            let outcome = store_it self.old.most self.old.cache (verb_of verb) key.now flags stored.now in
+            reply_of reply ≡ outcome.1) }
+        ensures unchanged { OnErr result (self.new ≡ self.old) }
+    {
+        let present = self.table.has(key);
+        let has_room = self.table.len() < self.most_keys;
+        match verb {
+            Verb::Set => if present || has_room {
+                self.put(key, flags, stored)
+            } else {
+                Ok(Reply::NoRoom)
+            },
+            Verb::Add => {
+                if present {
+                    Ok(Reply::NotStored)
+                } else if has_room {
+                    self.put(key, flags, stored)
+                } else {
+                    Ok(Reply::NoRoom)
+                }
+            }
+            Verb::Replace => if present {
+                self.put(key, flags, stored)
+            } else {
+                Ok(Reply::NotStored)
+            },
+            Verb::Append => self.append(key, stored),
+            Verb::Prepend => self.prepend(key, stored),
+        }
+    }
+
+    /// Puts data under a key.
+    pub(crate) fn put(&mut self, key: &[u8], flags: u32, stored: &[u8]) -> Result<Reply, AllocError>
+        ensures left { OnOk result (
+            let outcome = change self.old.cache key.now flags stored.now replies.stored in
+            self.new ≡ record self.old { cache = outcome.0 }) }
+        ensures told { IfOk result (λ reply.
+            let outcome = change self.old.cache key.now flags stored.now replies.stored in
+            reply_of reply ≡ outcome.1) }
+        ensures unchanged { OnErr result (self.new ≡ self.old) }
+    {
+        let stored = Vec::from_slice(self.alloc, stored)?;
+        self.change(key, flags, stored, Reply::Stored)
+    }
+
+    /// Puts data behind what a key has. The flags stay.
+    fn append(&mut self, key: &[u8], stored: &[u8]) -> Result<Reply, AllocError>
+        ensures left { OnOk result (
+            let outcome = store_it self.old.most self.old.cache requests.append key.now 0 stored.now in
+            self.new ≡ record self.old { cache = outcome.0 }) }
+        ensures told { IfOk result (λ reply.
+            let outcome = store_it self.old.most self.old.cache requests.append key.now 0 stored.now in
+            reply_of reply ≡ outcome.1) }
+        ensures unchanged { OnErr result (self.new ≡ self.old) }
+    {
+        let Some(entry) = self.table.get(key) else {
+            return Ok(Reply::NotStored);
+        };
+        if entry.stored.len() + stored.len() > MOST_DATA {
+            return Ok(Reply::TooLong);
+        }
+        let flags = entry.flags;
+        let text = joined(self.alloc, &entry.stored, stored)?;
+        self.change(key, flags, text, Reply::Stored)
+    }
+
+    /// Puts data before what a key has. The flags stay.
+    fn prepend(&mut self, key: &[u8], stored: &[u8]) -> Result<Reply, AllocError>
+        ensures left { OnOk result (
+            let outcome = store_it self.old.most self.old.cache requests.prepend key.now 0 stored.now in
+            self.new ≡ record self.old { cache = outcome.0 }) }
+        ensures told { IfOk result (λ reply.
+            let outcome = store_it self.old.most self.old.cache requests.prepend key.now 0 stored.now in
+            reply_of reply ≡ outcome.1) }
+        ensures unchanged { OnErr result (self.new ≡ self.old) }
+    {
+        let Some(entry) = self.table.get(key) else {
+            return Ok(Reply::NotStored);
+        };
+        if stored.len() + entry.stored.len() > MOST_DATA {
+            return Ok(Reply::TooLong);
+        }
+        let flags = entry.flags;
+        let text = joined(self.alloc, stored, &entry.stored)?;
+        self.change(key, flags, text, Reply::Stored)
+    }
+}

@@ -1,0 +1,7 @@
+pub mod Parts
+pub mod Numbers
+pub mod Places
+pub mod Ends
+pub mod LineLaws
+pub mod ReadLaws
+pub mod WriteLaws
