@@ -9,6 +9,7 @@ pub mod Canonical
 pub mod Tags
 pub mod Frames
 pub mod FrameLimits
+pub mod Slices
 pub mod Keyrings
 pub mod Tally
 pub mod ServerText
