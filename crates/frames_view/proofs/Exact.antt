@@ -1,5 +1,5 @@
 -- Readers that are exact: what one reads is spelled so at the front of the bytes, and what is spelled there is read.
-use Rattle.std.proofs.Common.{◌≡◌, ℕ, zero, suc, ◌+◌, ◌^◌, ◌<◌, ◌≤◌, Bool, true, false, cond, List, [], ◌∷◌, ◌++◌, length, get_or, take, drop, Option, Some, None, refl, sym, ap, subst, ◌∙◌, append_assoc, arith, inl, inr, length-append}
+use Rattle.std.proofs.Common.{◌≡◌, ℕ, zero, suc, ◌+◌, ◌-◌, ◌^◌, ◌<◌, ◌≤◌, Bool, true, false, cond, List, [], ◌∷◌, ◌++◌, length, get_or, take, drop, Option, Some, None, refl, sym, ap, subst, ◌∙◌, append_assoc, arith, inl, inr, length-append}
 use Rattle.std.specs.Prelude.{nat_lt, nat_le, option_map, ⊤}
 use Rattle.std.specs.Option.{option_and_then}
 use Rattle.std.specs.List.{flat_map, AllByRecursion}
@@ -143,6 +143,17 @@ module _ {X : Type 0} (P : X → Type 0) (spell : X → Bytes) (read : Reader X)
   -- what is left are bytes too
   pub rest_fits : (bytes : Bytes) (x : X) (rest : Bytes) → IsBytes bytes → read bytes ≡ Some (x, rest) → IsBytes rest
   rest_fits bytes x rest fits e = IsBytes-right (spell x) rest (subst IsBytes (exact.found bytes x rest fits e).1 fits)
+
+  -- they are fewer
+  pub rest_shorter : (bytes : Bytes) (x : X) (rest : Bytes) → IsBytes bytes → read bytes ≡ Some (x, rest) → length rest ≤ length bytes
+  rest_shorter bytes x rest fits e = omega (arith, ap length (exact.found bytes x rest fits e).1, length-append (spell x) rest)
+
+  -- and before them stands what is spelled
+  pub front_spelled : (bytes : Bytes) (x : X) (rest : Bytes) → IsBytes bytes → read bytes ≡ Some (x, rest) → take (length bytes - length rest) bytes ≡ spell x
+  front_spelled bytes x rest fits e =
+      let parts = (exact.found bytes x rest fits e).1 in
+      let len : length bytes - length rest ≡ length (spell x) = omega (arith, ap length parts, length-append (spell x) rest) in
+      ap (λ (n : ℕ). take n bytes) len ∙ (ap (take (length (spell x))) parts ∙ take_at (spell x) rest (length (spell x)) refl)
 
   -- spelled in other words
   pub IsExact-same : (Q : X → Type 0) (other : X → Bytes) → ((x : X) → P x → Q x) → ((x : X) → Q x → P x) → ((x : X) → spell x ≡ other x) → IsExact Q other read

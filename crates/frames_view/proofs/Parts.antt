@@ -6,10 +6,10 @@ use Rattle.std.specs.Int.{w16, w32, w64, to_be_bytes}
 use Rattle.std.proofs.lemmas.Bool.{ltb-true, lt-ltb, leb-true, le-leb, eqb-true, or_cases, or_right, and_parts, and_from}
 use Rattle.ids.specs.Sizes.{Sizes, replicas, quorum}
 use Rattle.definitions.specs.Bytes.{Bytes}
-use Rattle.definitions.specs.Frames.{Command, Core, Vote, Certificate, command_bytes, core_bytes, vote_bytes, certificate_bytes}
+use Rattle.definitions.specs.Frames.{Command, Core, Vote, Certificate, command_content, command_bytes, core_bytes, vote_bytes, certificate_bytes}
 use Rattle.definitions.specs.FrameLimits.{IsCommand, IsCore, IsVote, IsCertificate, Rise, most_payload, most_commands, most_text}
 use Rattle.frames_view.specs.Readings.{number, tested, both, many, many_rising}
-use Rattle.frames_view.specs.Parts.{digest_in, party_in, vector_in, positive_in, payload_in, text_in, heights_in, vote_in, command_in, is_count, votes_in, certificate_in, commands_in, core_in}
+use Rattle.frames_view.specs.Parts.{digest_in, party_in, vector_in, positive_in, payload_in, text_in, heights_in, vote_in, content_in, command_in, is_count, votes_in, certificate_in, commands_in, core_in}
 use Rattle.frames_view.proofs.Exact.{IsExact, IsExact-same, IsExact-number, IsExact-chunk, IsExact-tested, IsExact-made, IsExact-both, IsExact-sized, IsExact-counted, IsExact-many, IsExact-many_rising, RisesFrom, wide16, wide32, wide64}
 
 -- ---- fields
@@ -114,6 +114,25 @@ count_passes sizes k (inr some) =
     let high : nat_le k (replicas sizes) ≡ true = le-leb _ _ some.1 in
     or_right _ _ (and_from _ _ low high)
 
+-- what a client's tags speak of, of so many clients
+abbrev pub IsContent : ℕ → ℕ × (ℕ × Bytes) → Type 0
+IsContent clients x = (x.0 < clients) × (((1 ≤ x.1.0) × (x.1.0 < 2 ^ 64)) × (length x.1.1 ≤ most_payload))
+
+abbrev pub content_bytes : ℕ × (ℕ × Bytes) → Bytes
+content_bytes x = command_content x.0 x.1.0 x.1.1
+
+pub IsExact-content : (clients : ℕ) → clients < 2 ^ 16 → IsExact (IsContent clients) content_bytes (content_in clients)
+unfolding content_in
+IsExact-content clients few =
+    let T : Bytes → Type 0 = λ t. length t ≤ most_payload in
+    let text : Bytes → Bytes = λ t. to_be_bytes w16 (length t) ++ t in
+    let S : ℕ → Type 0 = λ v. (1 ≤ v) × (v < 2 ^ 64) in
+    let last = IsExact-both S (to_be_bytes w64) positive_in IsExact-positive T text payload_in IsExact-payload in
+    let L : ℕ × Bytes → Type 0 = λ p. S p.0 × T p.1 in
+    let spell_last : ℕ × Bytes → Bytes = λ p. to_be_bytes w64 p.0 ++ text p.1 in
+    let all = IsExact-both (λ v. v < clients) (to_be_bytes w16) (party_in clients) (IsExact-party clients few) L spell_last (both positive_in payload_in) last in
+    IsExact-same (IsContent clients) (λ p. to_be_bytes w16 p.0 ++ spell_last p.1) (content_in clients) all (IsContent clients) content_bytes (λ c h. h) (λ c h. h) (λ c. simp append_assoc)
+
 -- so few votes and commands fit a byte
 few_votes : (sizes : Sizes) (are : AreFew sizes) (k : ℕ) → IsCount sizes k → k < 256
 few_votes sizes are k (inl none) = omega arith
@@ -152,25 +171,16 @@ module _ (sizes : Sizes) (are : AreFew sizes) where
       let n = replicas sizes in
       let clients = sizes.clients in
       let V : Bytes → Type 0 = λ b. length b ≡ 32 * n in
-      let T : Bytes → Type 0 = λ t. length t ≤ most_payload in
-      let text : Bytes → Bytes = λ t. to_be_bytes w16 (length t) ++ t in
-      let S : ℕ → Type 0 = λ v. (1 ≤ v) × (v < 2 ^ 64) in
-      let last = IsExact-both T text payload_in IsExact-payload V (λ b. b) (vector_in n) (IsExact-vector n) in
-      let L : Bytes × Bytes → Type 0 = λ p. T p.0 × V p.1 in
-      let spell_last : Bytes × Bytes → Bytes = λ p. text p.0 ++ p.1 in
-      let mid = IsExact-both S (to_be_bytes w64) positive_in IsExact-positive L spell_last (both payload_in (vector_in n)) last in
-      let M : ℕ × (Bytes × Bytes) → Type 0 = λ p. S p.0 × L p.1 in
-      let spell_mid : ℕ × (Bytes × Bytes) → Bytes = λ p. to_be_bytes w64 p.0 ++ spell_last p.1 in
-      let all = IsExact-both (λ v. v < clients) (to_be_bytes w16) (party_in clients) (IsExact-party clients (omega (arith, are.1))) M spell_mid (both positive_in (both payload_in (vector_in n))) mid in
-      let P : ℕ × (ℕ × (Bytes × Bytes)) → Type 0 = λ p. (p.0 < clients) × M p.1 in
-      let spell : ℕ × (ℕ × (Bytes × Bytes)) → Bytes = λ p. to_be_bytes w16 p.0 ++ spell_mid p.1 in
-      let make : ℕ × (ℕ × (Bytes × Bytes)) → Command = λ p. record { client = p.0; seq = p.1.0; payload = p.1.1.0; vector = p.1.1.1 } in
-      let back : Command → ℕ × (ℕ × (Bytes × Bytes)) = λ c. (c.client, (c.seq, (c.payload, c.vector))) in
-      let exact = IsExact-made P spell (both (party_in clients) (both positive_in (both payload_in (vector_in n)))) all make back (λ p. refl) (λ c. refl) in
+      let all = IsExact-both (IsContent clients) content_bytes (content_in clients) (IsExact-content clients (omega (arith, are.1))) V (λ b. b) (vector_in n) (IsExact-vector n) in
+      let P : (ℕ × (ℕ × Bytes)) × Bytes → Type 0 = λ p. IsContent clients p.0 × V p.1 in
+      let spell : (ℕ × (ℕ × Bytes)) × Bytes → Bytes = λ p. content_bytes p.0 ++ p.1 in
+      let make : (ℕ × (ℕ × Bytes)) × Bytes → Command = λ p. record { client = p.0.0; seq = p.0.1.0; payload = p.0.1.1; vector = p.1 } in
+      let back : Command → (ℕ × (ℕ × Bytes)) × Bytes = λ c. ((c.client, (c.seq, c.payload)), c.vector) in
+      let exact = IsExact-made P spell (both (content_in clients) (vector_in n)) all make back (λ p. refl) (λ c. refl) in
       IsExact-same (λ c. P (back c)) (λ c. spell (back c)) (command_in n clients) exact (IsCommand sizes) command_bytes
-      (λ c h. record { client = h.0; seq = h.1.0; payload = h.1.1.0; vector = h.1.1.1 })
-      (λ c h. (h.client, (h.seq, (h.payload, h.vector))))
-      (λ c. simp append_assoc)
+      (λ c h. record { client = h.0.0; seq = h.0.1.0; payload = h.0.1.1; vector = h.1 })
+      (λ c h. ((h.client, (h.seq, h.payload)), h.vector))
+      (λ c. refl)
 
   pub IsExact-core : IsExact (IsCore sizes) core_bytes (core_in sizes)
   unfolding core_in commands_in

@@ -44,10 +44,13 @@ heights_in = tested (λ h. nat_lt h.1 h.0) (both (number w64) (number w64))
 unfoldable pub vote_in : ℕ → Reader Vote
 vote_in n = made (λ p. record { voter = p.0; vector = p.1 }) (both (party_in n) (vector_in n))
 
+-- what a client's tags for a command speak of: the client, the number and the payload
+unfoldable pub content_in : ℕ → Reader (ℕ × (ℕ × Bytes))
+content_in clients = both (party_in clients) (both positive_in payload_in)
+
 -- a command
 unfoldable pub command_in : ℕ → ℕ → Reader Command
-command_in n clients = made (λ p. record { client = p.0; seq = p.1.0; payload = p.1.1.0; vector = p.1.1.1 })
-    (both (party_in clients) (both positive_in (both payload_in (vector_in n))))
+command_in n clients = made (λ p. record { client = p.0.0; seq = p.0.1.0; payload = p.0.1.1; vector = p.1 }) (both (content_in clients) (vector_in n))
 
 -- how many votes a certificate may have: none, or a quorum to all
 abbrev pub is_count : Sizes → ℕ → Bool

@@ -1,11 +1,13 @@
 -- What the views say.
-use Rattle.std.specs.Prelude.{◌≡◌, Option, option_map}
+use Rattle.std.specs.Prelude.{◌≡◌, List, Option, option_map}
 use Rattle.definitions.specs.Frames as frames
 use Rattle.definitions.specs.Frames.{Command, Core, Vote, Certificate}
-use Rattle.frames_view.specs.declared.vote.VoteView.{VoteView}
-use Rattle.frames_view.specs.declared.certificate.CertificateView.{CertificateView}
-use Rattle.frames_view.specs.declared.command.CommandView.{CommandView}
-use Rattle.frames_view.specs.declared.core_view.CoreView.{CoreView}
+use Rattle.frames_view.specs.declared.views.VoteView.{VoteView}
+use Rattle.frames_view.specs.declared.views.CertificateView.{CertificateView}
+use Rattle.frames_view.specs.declared.views.CommandView.{CommandView}
+use Rattle.frames_view.specs.declared.views.CoreView.{CoreView}
+use Rattle.frames_view.specs.declared.views.Votes.{Votes}
+use Rattle.frames_view.specs.declared.views.Commands.{Commands}
 use Rattle.frames_view.specs.declared.frame.ProposalView.{ProposalView}
 use Rattle.frames_view.specs.declared.frame.VoteFrameView.{VoteFrameView}
 use Rattle.frames_view.specs.declared.frame.NewViewView.{NewViewView}
@@ -16,6 +18,7 @@ use Rattle.frames_view.specs.declared.frame.Frame.{Frame}
 use Rattle.frames_view.specs.declared.frame.Frame.TheVariants.{Request, Proposal, Vote as AVote, NewView, Reply, Fetch, Block}
 use Rattle.frames_view.specs.Readings.{elements}
 use Rattle.frames_view.specs.Parts.{vote_in, command_in}
+use Rattle.frames_view.specs.Cores.{core_of_fields}
 
 -- what was read, seen so, is what reading gives
 abbrev pub Gives : {X Y : Type 0} → (X → Y) → Option X → Option Y → Type 0
@@ -35,12 +38,7 @@ command_of c = record { client = c.client; seq = c.seq; payload = c.payload.now;
 
 -- the core that a view shows
 abbrev pub core_of : CoreView → Core
-core_of k = record {
-  parent = k.parent.now;
-  height = k.height;
-  justify_height = k.justify_height;
-  commands = elements (command_in k.replicas k.clients) k.count k.commands.now;
-}
+core_of k = core_of_fields k.fields
 
 -- the frame that a view shows
 abbrev pub proposal_of : ProposalView → frames.Frame
@@ -69,3 +67,11 @@ frame_of (NewView f) = new_view_of f
 frame_of (Reply f) = reply_of f
 frame_of (Fetch f) = fetch_of f
 frame_of (Block f) = block_of f
+
+-- the votes that an iterator has still to give
+abbrev pub votes_left : Votes → List Vote
+votes_left v = elements (vote_in v.replicas) v.count v.rest.now
+
+-- the commands that an iterator has still to give
+abbrev pub commands_left : Commands → List Command
+commands_left c = elements (command_in c.replicas c.clients) c.count c.rest.now

@@ -4,19 +4,31 @@ ghost use Rattle.std.specs.Prelude.{◌≡◌};
 ghost use Rattle.ids.specs.Sizes.{replicas};
 ghost use Rattle.frames_view.specs.Readings.{behind_rising};
 ghost use Rattle.frames_view.specs.Parts.{vote_in, certificate_in};
-ghost use Rattle.frames_view.specs.Views.{Gives, certificate_of};
+ghost use Rattle.frames_view.specs.Views.{Gives, certificate_of, votes_left};
 
 use crate::cursor::{take_32, take_u8};
+use crate::views::{CertificateView, Votes};
 use crate::vote::take_vote;
 use ids::Config;
 
-/// Votes for the block of a digest, of voters that rise: none, or a quorum to all.
-#[derive(Clone, Copy)]
-pub struct CertificateView<'a> {
-    pub(crate) digest: &'a [u8; 32],
-    pub(crate) replicas: u8,
-    pub(crate) count: u8,
-    pub(crate) votes: &'a [u8],
+impl<'a> CertificateView<'a> {
+    /// The digest of the block that is voted for.
+    pub fn digest(&self) -> &'a [u8; 32]
+        ensures { result.now ≡ (certificate_of self.now).digest }
+    {
+        self.digest
+    }
+
+    /// The votes, in order of their voters.
+    pub fn votes(&self) -> Votes<'a>
+        ensures { votes_left result ≡ (certificate_of self.now).votes }
+    {
+        Votes {
+            replicas: self.replicas,
+            count: self.count,
+            rest: self.votes,
+        }
+    }
 }
 
 /// What is left behind `count` votes whose voters rise.

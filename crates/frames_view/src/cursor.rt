@@ -1,6 +1,6 @@
 //! One field at a time: what stands at the front of bytes, and what is left behind it.
 
-ghost use Rattle.std.specs.Prelude.{◌≡◌};
+ghost use Rattle.std.specs.Prelude.{◌≡◌, ◌+◌, ◌-◌, ◌≤◌, length, take, drop};
 ghost use Rattle.std.specs.Int.{w8, w16, w32, w64};
 ghost use Rattle.frames_view.specs.Readings.{number, chunk};
 ghost use Rattle.frames_view.specs.Parts.{digest_in, party_in, vector_in, positive_in, payload_in, text_in, heights_in};
@@ -136,4 +136,28 @@ pub(crate) fn take_heights(bytes: &[u8]) -> Option<((u64, u64), &[u8])>
         return None;
     }
     Some(((height, below), rest))
+}
+
+/// What stands from a place on.
+fn from(bytes: &[u8], place: usize) -> &[u8]
+    requires { place ≤ length bytes.now }
+    ensures { result.now ≡ drop place bytes.now }
+{
+    &bytes[place..]
+}
+
+/// The 32 bytes that stand from a place on.
+pub(crate) fn block_at(bytes: &[u8], place: usize) -> &[u8; 32]
+    requires { place + 32 ≤ length bytes.now }
+    ensures { result.now ≡ take 32 (drop place bytes.now) }
+{
+    from(bytes, place).first_chunk::<32>().unwrap()
+}
+
+/// What stands in bytes before their rest.
+pub(crate) fn before<'a>(bytes: &'a [u8], rest: &[u8]) -> &'a [u8]
+    requires { length rest.now ≤ length bytes.now }
+    ensures { result.now ≡ take (length bytes.now - length rest.now) bytes.now }
+{
+    &bytes[..bytes.len() - rest.len()]
 }

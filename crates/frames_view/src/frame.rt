@@ -7,13 +7,14 @@ ghost use Rattle.definitions.specs.FrameLimits.{IsReadAs};
 ghost use Rattle.frames_view.specs.Parts.{proposal_in, vote_frame_in, new_view_in, reply_in, fetch_in, block_in, kind_in, frame_in};
 ghost use Rattle.frames_view.specs.Views.{Gives, proposal_of, vote_frame_of, new_view_of, reply_of, fetch_of, block_of, frame_of};
 
-use crate::certificate::{CertificateView, take_certificate};
-use crate::command::{CommandView, take_command};
-use crate::core_view::{CoreView, take_core};
+use crate::certificate::take_certificate;
+use crate::command::take_command;
+use crate::core_view::take_core;
 use crate::cursor::{
     take_32, take_party, take_positive, take_text, take_u8, take_u64, take_vector,
 };
-use crate::vote::{VoteView, take_vote};
+use crate::views::{CertificateView, CommandView, CoreView, VoteView};
+use crate::vote::take_vote;
 use ids::{Config, NotAFrame};
 
 /// A leader's block for a view, with the certificate that it rests on and a tag for each replica.

@@ -5,15 +5,17 @@
 
 mod certificate;
 mod command;
+mod core_fields;
 mod core_view;
 mod cursor;
 mod frame;
+mod lists;
+mod views;
 mod vote;
+mod write;
 
-pub use certificate::CertificateView;
-pub use command::CommandView;
-pub use core_view::CoreView;
 pub use frame::{
     BlockView, FetchView, Frame, NewViewView, ProposalView, ReplyView, VoteFrameView, read,
 };
-pub use vote::VoteView;
+pub use views::{CertificateView, CommandView, Commands, CoreView, VoteView, Votes};
+pub use write::{write_block, write_certificate, write_certified_vote, write_command, write_core, write_fetch, write_new_view, write_proposal, write_reply_frame, write_request_frame, write_vote};
