@@ -68,7 +68,11 @@ fn take_content(bytes: &[u8], clients: u8) -> Option<((u8, u64, &[u8]), &[u8])>
 
 /// A command of one of so many clients, to so many replicas.
 #[tactic(auto, unfolding(crate::specs::Parts::command_in))]
-pub(crate) fn take_command(bytes: &[u8], replicas: u8, clients: u8) -> Option<(CommandView<'_>, &[u8])>
+pub(crate) fn take_command(
+    bytes: &[u8],
+    replicas: u8,
+    clients: u8,
+) -> Option<(CommandView<'_>, &[u8])>
     ensures { Gives (λ p. (command_of p.0, p.1.now)) result (command_in replicas clients bytes.now) }
 {
     let ((client, seq, payload), rest) = take_content(bytes, clients)?;

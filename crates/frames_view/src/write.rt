@@ -82,11 +82,7 @@ pub fn write_core(
 }
 
 /// Appends a vote, as it stands in a certificate.
-pub fn write_certified_vote(
-    voter: ReplicaId,
-    vector: &[u8],
-    out: &mut Vec<u8>,
-) -> Result<(), Fault>
+pub fn write_certified_vote(voter: ReplicaId, vector: &[u8], out: &mut Vec<u8>) -> Result<(), Fault>
     ensures appended { OnOk result (out.new.items ≡ out.old.items ++ vote_bytes (record { voter = voter; vector = vector.now })) }
     ensures unchanged { OnErr result (out.new.items ≡ out.old.items) }
     ensures memory { OnErr result (result ≡ Err Fault.Memory) }
@@ -112,10 +108,7 @@ pub fn write_certificate(
 }
 
 /// Appends a Request frame, of the bytes of a command.
-pub fn write_request_frame(
-    command: &[u8],
-    out: &mut Vec<u8>,
-) -> Result<(), Fault>
+pub fn write_request_frame(command: &[u8], out: &mut Vec<u8>) -> Result<(), Fault>
     ensures appended { (c : Command) → command.now ≡ command_bytes c → OnOk result (out.new.items ≡ out.old.items ++ spelling (request c)) }
     ensures unchanged { OnErr result (out.new.items ≡ out.old.items) }
     ensures memory { OnErr result (result ≡ Err Fault.Memory) }
@@ -175,7 +168,19 @@ pub fn write_new_view(
 {
     let [v0, v1, v2, v3, v4, v5, v6, v7] = view.0.to_be_bytes();
     let [s0, s1] = u16::from(sender.0).to_be_bytes();
-    let head = [Kind::NewView.number(), v0, v1, v2, v3, v4, v5, v6, v7, s0, s1];
+    let head = [
+        Kind::NewView.number(),
+        v0,
+        v1,
+        v2,
+        v3,
+        v4,
+        v5,
+        v6,
+        v7,
+        s0,
+        s1,
+    ];
     append(out, &head, certificate, vector, &[])
 }
 
@@ -198,7 +203,21 @@ pub fn write_reply_frame(
     let [r0, r1] = u16::from(replica.0).to_be_bytes();
     let [c0, c1] = u16::from(client.0).to_be_bytes();
     let [s0, s1, s2, s3, s4, s5, s6, s7] = seq.0.to_be_bytes();
-    let head = [Kind::Reply.number(), r0, r1, c0, c1, s0, s1, s2, s3, s4, s5, s6, s7];
+    let head = [
+        Kind::Reply.number(),
+        r0,
+        r1,
+        c0,
+        c1,
+        s0,
+        s1,
+        s2,
+        s3,
+        s4,
+        s5,
+        s6,
+        s7,
+    ];
     let [p0, p1, p2, p3, p4, p5, p6, p7] = place.0.to_be_bytes();
     let [n0, n1, n2, n3] = (text.len() as u32).to_be_bytes();
     let behind = [p0, p1, p2, p3, p4, p5, p6, p7, n0, n1, n2, n3];

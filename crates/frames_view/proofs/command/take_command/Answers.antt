@@ -15,5 +15,5 @@ invariant_of-command c =
     let one = c.in_ok-client in
     record {
       spelled = c.before-content.ensures ∙ front_spelled (IsContent c.args.clients) content_bytes (content_in c.args.clients) (IsExact-content c.args.clients (omega arith)) c.args.bytes.now (one.client, (one.seq, one.payload.now)) one.rest.now
-      (λ i. omega (arith, c.type_inv.bytes i)) (sym c.in_ok-client.ensures);
+          (λ i. omega (arith, c.type_inv.bytes i)) (sym c.in_ok-client.ensures);
     }

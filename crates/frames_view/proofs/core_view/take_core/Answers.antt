@@ -23,5 +23,5 @@ invariant_of-result c =
     let few_clients : sizes.clients < 256 = omega (arith, c.clients-clients.ensures, c.clients-clients.type_inv) in
     record {
       spelled = c.before-raw.ensures ∙ front_spelled (IsCore sizes) core_bytes (core_in sizes) (IsExact-core sizes (few, few_clients)) c.args.bytes.now (core_of_fields c.in_ok-fields.fields) c.in_ok-fields.rest.now
-      (λ i. omega (arith, c.type_inv.bytes i)) (sym c.in_ok-fields.ensures);
+          (λ i. omega (arith, c.type_inv.bytes i)) (sym c.in_ok-fields.ensures);
     }
