@@ -1,5 +1,5 @@
--- Where a part of a text lies in it.
-use Rattle.std.specs.Prelude.{◌≡◌, ℕ, ◌+◌, length, take, drop}
+-- Where what is borrowed lies: slices of one source, by content and by address.
+use Rattle.std.specs.Prelude.{◌≡◌, ℕ, ◌+◌, take, drop, length}
 use Rattle.std.specs.Borrow.{Bor}
 use Rattle.definitions.specs.Bytes.{Bytes}
 

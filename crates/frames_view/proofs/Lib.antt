@@ -1,0 +1,4 @@
+pub mod Walks
+pub mod Exact
+pub mod Parts
+pub mod Whole

@@ -1,0 +1,5 @@
+pub mod Readings
+pub mod Parts
+pub mod Cores
+pub mod Views
+pub mod Fields

@@ -1,0 +1,107 @@
+//! Cores: what the digests of blocks are made of.
+
+ghost use Rattle.std.specs.Prelude.{◌≡◌};
+ghost use Rattle.definitions.specs.Frames.{core_bytes};
+ghost use Rattle.ids.specs.Sizes.{replicas};
+ghost use Rattle.frames_view.specs.Readings.{behind};
+ghost use Rattle.frames_view.specs.Parts.{command_in, core_in};
+ghost use Rattle.frames_view.specs.Cores.{core_of_fields};
+ghost use Rattle.frames_view.specs.Views.{Gives, core_of, commands_left};
+
+use crate::command::take_command;
+use crate::core_fields::CoreFields;
+use crate::cursor::{before, take_32, take_heights, take_u8};
+use crate::views::{Commands, CoreView};
+use ids::{Config, Height};
+
+/// The most commands of a block.
+const MOST_COMMANDS: u8 = 16;
+
+impl<'a> CoreView<'a> {
+    /// All its bytes: the digest of the block is theirs.
+    pub fn raw(&self) -> &'a [u8]
+        ensures { result.now ≡ core_bytes (core_of self.now) }
+    {
+        self.raw
+    }
+
+    /// The digest of the block below.
+    pub fn parent(&self) -> &'a [u8; 32]
+        ensures { result.now ≡ (core_of self.now).parent }
+    {
+        self.fields.parent
+    }
+
+    /// The block's height.
+    pub fn height(&self) -> Height
+        ensures { result ≡ (core_of self.now).height }
+    {
+        Height(self.fields.height)
+    }
+
+    /// The height of the block that is justified.
+    pub fn justify_height(&self) -> Height
+        ensures { result ≡ (core_of self.now).justify_height }
+    {
+        Height(self.fields.justify_height)
+    }
+
+    /// The commands, in order.
+    pub fn commands(&self) -> Commands<'a>
+        ensures { commands_left result ≡ (core_of self.now).commands }
+    {
+        Commands {
+            replicas: self.fields.replicas,
+            clients: self.fields.clients,
+            count: self.fields.count,
+            rest: self.fields.commands,
+        }
+    }
+}
+
+/// What is left behind `count` commands.
+fn skip_commands(bytes: &[u8], replicas: u8, clients: u8, count: u8) -> Option<&[u8]>
+    ensures { Gives (λ rest. rest.now) result (behind (command_in replicas clients) count bytes.now) }
+{
+    let mut rest = bytes;
+    for _ in 0..count {
+        let (_command, after) = take_command(rest, replicas, clients)?;
+        rest = after;
+    }
+    Some(rest)
+}
+
+/// The fields of a core.
+#[tactic(auto, unfolding(crate::specs::Parts::core_in, crate::specs::Parts::commands_in))]
+fn take_fields<'a>(config: &Config, bytes: &'a [u8]) -> Option<(CoreFields<'a>, &'a [u8])>
+    ensures { Gives (λ p. (core_of_fields p.0, p.1.now)) result (core_in config.now bytes.now) }
+{
+    let (replicas, clients) = (config.n(), config.clients());
+    let (parent, rest) = take_32(bytes)?;
+    let ((height, justify_height), rest) = take_heights(rest)?;
+    let (count, commands) = take_u8(rest)?;
+    if count > MOST_COMMANDS {
+        return None;
+    }
+    let rest = skip_commands(commands, replicas, clients, count)?;
+    let fields = CoreFields {
+        parent,
+        height,
+        justify_height,
+        replicas,
+        clients,
+        count,
+        commands,
+    };
+    Some((fields, rest))
+}
+
+pub(crate) fn take_core<'a>(config: &Config, bytes: &'a [u8]) -> Option<(CoreView<'a>, &'a [u8])>
+    ensures { Gives (λ p. (core_of p.0, p.1.now)) result (core_in config.now bytes.now) }
+{
+    // Both are bytes, so numbers of parties fit their fields.
+    let (_replicas, _clients) = (config.n(), config.clients());
+    let (fields, rest) = take_fields(config, bytes)?;
+    let raw = before(bytes, rest);
+    Some((CoreView { raw, fields }, rest))
+}

@@ -1,0 +1,163 @@
+//! One field at a time: what stands at the front of bytes, and what is left behind it.
+
+ghost use Rattle.std.specs.Prelude.{◌≡◌, ◌+◌, ◌-◌, ◌≤◌, length, take, drop};
+ghost use Rattle.std.specs.Int.{w8, w16, w32, w64};
+ghost use Rattle.frames_view.specs.Readings.{number, chunk};
+ghost use Rattle.frames_view.specs.Parts.{digest_in, party_in, vector_in, positive_in, payload_in, text_in, heights_in};
+ghost use Rattle.frames_view.specs.Views.{Gives};
+
+/// The most bytes of a command's payload.
+const MOST_PAYLOAD: u16 = 4608;
+
+/// The most bytes of a reply's text.
+const MOST_TEXT: u32 = 70_293;
+
+/// So many bytes.
+pub(crate) fn take_chunk(bytes: &[u8], n: usize) -> Option<(&[u8], &[u8])>
+    ensures { Gives (λ p. (p.0.now, p.1.now)) result (chunk n bytes.now) }
+{
+    if bytes.len() < n {
+        return None;
+    }
+    Some((&bytes[..n], &bytes[n..]))
+}
+
+/// A digest or a tag.
+pub(crate) fn take_32(bytes: &[u8]) -> Option<(&[u8; 32], &[u8])>
+    ensures { Gives (λ p. (p.0.now, p.1.now)) result (digest_in bytes.now) }
+{
+    bytes.split_first_chunk::<32>()
+}
+
+pub(crate) fn take_u8(bytes: &[u8]) -> Option<(u8, &[u8])>
+    ensures { Gives (λ p. (p.0, p.1.now)) result (number w8 bytes.now) }
+{
+    if bytes.is_empty() {
+        return None;
+    }
+    Some((bytes[0], &bytes[1..]))
+}
+
+pub(crate) fn take_u16(bytes: &[u8]) -> Option<(u16, &[u8])>
+    ensures { Gives (λ p. (p.0, p.1.now)) result (number w16 bytes.now) }
+{
+    if bytes.len() < 2 {
+        return None;
+    }
+    Some((u16::from_be_bytes([bytes[0], bytes[1]]), &bytes[2..]))
+}
+
+fn take_u32(bytes: &[u8]) -> Option<(u32, &[u8])>
+    ensures { Gives (λ p. (p.0, p.1.now)) result (number w32 bytes.now) }
+{
+    if bytes.len() < 4 {
+        return None;
+    }
+    let number = u32::from_be_bytes([bytes[0], bytes[1], bytes[2], bytes[3]]);
+    Some((number, &bytes[4..]))
+}
+
+pub(crate) fn take_u64(bytes: &[u8]) -> Option<(u64, &[u8])>
+    ensures { Gives (λ p. (p.0, p.1.now)) result (number w64 bytes.now) }
+{
+    if bytes.len() < 8 {
+        return None;
+    }
+    let number = u64::from_be_bytes([
+        bytes[0], bytes[1], bytes[2], bytes[3], bytes[4], bytes[5], bytes[6], bytes[7],
+    ]);
+    Some((number, &bytes[8..]))
+}
+
+/// The number of a replica or of a client, of which there are `count`.
+#[tactic(auto, unfolding(crate::specs::Parts::party_in))]
+pub(crate) fn take_party(bytes: &[u8], count: u8) -> Option<(u8, &[u8])>
+    ensures { Gives (λ p. (p.0, p.1.now)) result (party_in count bytes.now) }
+{
+    let (number, rest) = take_u16(bytes)?;
+    if number >= u16::from(count) {
+        return None;
+    }
+    Some((number as u8, rest))
+}
+
+/// A tag for each of `replicas`.
+#[tactic(auto, unfolding(crate::specs::Parts::vector_in))]
+pub(crate) fn take_vector(bytes: &[u8], replicas: u8) -> Option<(&[u8], &[u8])>
+    ensures { Gives (λ p. (p.0.now, p.1.now)) result (vector_in replicas bytes.now) }
+{
+    take_chunk(bytes, 32 * usize::from(replicas))
+}
+
+/// A number that counts from 1.
+#[tactic(auto, unfolding(crate::specs::Parts::positive_in))]
+pub(crate) fn take_positive(bytes: &[u8]) -> Option<(u64, &[u8])>
+    ensures { Gives (λ p. (p.0, p.1.now)) result (positive_in bytes.now) }
+{
+    let (number, rest) = take_u64(bytes)?;
+    if number < 1 {
+        return None;
+    }
+    Some((number, rest))
+}
+
+/// A payload behind its length.
+#[tactic(auto, unfolding(crate::specs::Parts::payload_in))]
+pub(crate) fn take_payload(bytes: &[u8]) -> Option<(&[u8], &[u8])>
+    ensures { Gives (λ p. (p.0.now, p.1.now)) result (payload_in bytes.now) }
+{
+    let (len, rest) = take_u16(bytes)?;
+    if len > MOST_PAYLOAD {
+        return None;
+    }
+    take_chunk(rest, usize::from(len))
+}
+
+/// A reply's text behind its length.
+#[tactic(auto, unfolding(crate::specs::Parts::text_in))]
+pub(crate) fn take_text(bytes: &[u8]) -> Option<(&[u8], &[u8])>
+    ensures { Gives (λ p. (p.0.now, p.1.now)) result (text_in bytes.now) }
+{
+    let (len, rest) = take_u32(bytes)?;
+    if len > MOST_TEXT {
+        return None;
+    }
+    take_chunk(rest, len as usize)
+}
+
+/// A height, and one below it.
+#[tactic(auto, unfolding(crate::specs::Parts::heights_in))]
+pub(crate) fn take_heights(bytes: &[u8]) -> Option<((u64, u64), &[u8])>
+    ensures { Gives (λ p. ((p.0.0, p.0.1), p.1.now)) result (heights_in bytes.now) }
+{
+    let (height, rest) = take_u64(bytes)?;
+    let (below, rest) = take_u64(rest)?;
+    if below >= height {
+        return None;
+    }
+    Some(((height, below), rest))
+}
+
+/// What stands from a place on.
+fn from(bytes: &[u8], place: usize) -> &[u8]
+    requires { place ≤ length bytes.now }
+    ensures { result.now ≡ drop place bytes.now }
+{
+    &bytes[place..]
+}
+
+/// The 32 bytes that stand from a place on.
+pub(crate) fn block_at(bytes: &[u8], place: usize) -> &[u8; 32]
+    requires { place + 32 ≤ length bytes.now }
+    ensures { result.now ≡ take 32 (drop place bytes.now) }
+{
+    from(bytes, place).first_chunk::<32>().unwrap()
+}
+
+/// What stands in bytes before their rest.
+pub(crate) fn before<'a>(bytes: &'a [u8], rest: &[u8]) -> &'a [u8]
+    requires { length rest.now ≤ length bytes.now }
+    ensures { result.now ≡ take (length bytes.now - length rest.now) bytes.now }
+{
+    &bytes[..bytes.len() - rest.len()]
+}

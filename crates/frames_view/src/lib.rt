@@ -1,0 +1,27 @@
+//! Frames, read where they lie and written: a reader of bytes that anyone may have sent, and the writers.
+//!
+//! Reading takes no memory: what it gives are views that borrow from the bytes.
+#![tactic(auto)]
+
+mod certificate;
+mod command;
+mod core_fields;
+mod core_view;
+mod cursor;
+mod fields;
+mod frame;
+mod lists;
+#[cfg(test)]
+mod tests;
+mod views;
+mod vote;
+mod write;
+
+pub use frame::{
+    BlockView, FetchView, Frame, NewViewView, ProposalView, ReplyView, VoteFrameView, read,
+};
+pub use views::{CertificateView, CommandView, Commands, CoreView, VoteView, Votes};
+pub use write::{
+    write_block, write_certificate, write_certified_vote, write_command, write_core, write_fetch,
+    write_new_view, write_proposal, write_reply_frame, write_request_frame, write_vote,
+};
