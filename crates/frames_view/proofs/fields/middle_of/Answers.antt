@@ -1,6 +1,6 @@
-use Rattle.std.proofs.Common.{◌≡◌, ℕ, ◌+◌, ◌-◌, ◌≤◌, List, ◌∷◌, ◌++◌, length, take, drop, sym, ap, ◌∙◌, refl, arith, length-append}
+use Rattle.std.proofs.Common.{◌≡◌, ℕ, ◌-◌, List, ◌∷◌, ◌++◌, length, take, drop, sym, ap, ◌∙◌, refl, arith, length-append}
 use Rattle.std.proofs.lemmas.List.{take_at, length-take, length-drop}
-use Rattle.definitions.specs.Frames.{Frame, kind_of, middle, tags, spelling}
+use Rattle.definitions.specs.Frames.{middle, tags}
 use Rattle.frames_view.proofs.fields.middle_of.Goals as goal
 
 -- between the first and the last so many
