@@ -1,13 +1,25 @@
 //! The fields of each kind of frame.
 
-ghost use Rattle.std.specs.Prelude.{◌≡◌};
-ghost use Rattle.definitions.specs.Frames.{tags};
+ghost use Rattle.std.specs.Prelude.{◌≡◌, ◌+◌, ◌≤◌, length};
+ghost use Rattle.definitions.specs.Frames.{Frame, middle, spelling, tags};
+ghost use Rattle.definitions.specs.Slices.{LentAt};
 ghost use Rattle.frames_view.specs.Fields.{frame_view, frame_replica, frame_core, frame_certificate, frame_digest, frame_vote, frame_client, frame_seq, frame_place, frame_text};
 ghost use Rattle.frames_view.specs.Views.{vote_of, certificate_of, core_of, proposal_of, vote_frame_of, new_view_of, reply_of, fetch_of, block_of};
 
 use crate::frame::{BlockView, FetchView, NewViewView, ProposalView, ReplyView, VoteFrameView};
 use crate::views::{CertificateView, CoreView, VoteView};
 use ids::{ClientId, Place, ReplicaId, Seq, View};
+
+/// What stands between the kind and the tags in the bytes of a frame, of which the last `tag_bytes` are the tags.
+/// The tags speak of it, but those of a vote of the digest alone.
+pub fn middle_of(bytes: &[u8], tag_bytes: usize) -> &[u8]
+    requires { 1 + tag_bytes ≤ length bytes.now }
+    ensures value { (frame : Frame) → bytes.now ≡ spelling frame → length (tags frame) ≡ tag_bytes → result.now ≡ middle frame }
+    ensures lent { LentAt bytes.entry 1 result }
+{
+    let end = bytes.len() - tag_bytes;
+    &bytes[1..end]
+}
 
 impl<'a> ProposalView<'a> {
     /// The view that it is for.

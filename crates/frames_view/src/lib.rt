@@ -17,6 +17,7 @@ mod views;
 mod vote;
 mod write;
 
+pub use fields::middle_of;
 pub use frame::{
     BlockView, FetchView, Frame, NewViewView, ProposalView, ReplyView, VoteFrameView, read,
 };

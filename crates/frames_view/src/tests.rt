@@ -39,14 +39,11 @@ fn bytes_that_are_no_frame(rt: HostRuntime) -> Result<(), Fail> {
     longer.push(9)?;
     let mut of_replica_4 = bytes;
     of_replica_4[34] = 4;
-    for wrong in [
-        &[],
-        &bytes[..162],
-        longer.as_slice(),
-        of_replica_4.as_slice(),
-    ] {
-        assert!(rt; read(&config, wrong).is_err());
-    }
+    assert!(rt; read(&config, &[]).is_err());
+    let shorter = bytes.as_slice().get(..162).ok_or("162 bytes")?;
+    assert!(rt; read(&config, shorter).is_err());
+    assert!(rt; read(&config, longer.as_slice()).is_err());
+    assert!(rt; read(&config, &of_replica_4).is_err());
     for kind in [0, 1, 2, 4, 5, 6, 7, 8, 255] {
         let mut other = bytes;
         other[0] = kind;

@@ -1,5 +1,5 @@
 use Rattle.std.proofs.Common.{arith, sym, ◌∙◌, ◌<◌}
-use Rattle.ids.specs.Sizes.{Sizes, replicas}
+use Rattle.ids.specs.Sizes.{replicas}
 use Rattle.definitions.specs.Frames.{core_bytes}
 use Rattle.definitions.specs.FrameLimits.{IsCore}
 use Rattle.frames_view.specs.Cores.{core_of_fields}
