@@ -18,40 +18,66 @@ struct Told {
     text: Vec<u8>,
 }
 
+impl Told {
+    /// Answers the first item of a text, if there is one, and gives what is to be read behind it.
+    fn item<'a>(&mut self, cache: &mut Cache, text: &'a [u8]) -> Result<Option<&'a [u8]>, Fault> {
+        let left = match read_request(text) {
+            Read::Whole {
+                request,
+                used,
+                noreply,
+            } => {
+                let reply = cache.apply(&request)?;
+                if !noreply {
+                    write_reply(&reply, &mut self.text)?;
+                }
+                Some(&text[used..])
+            }
+            Read::Bad { fault, used } => {
+                self.text.extend_from_slice(fault_text(fault).as_bytes())?;
+                match fault {
+                    LineFault::UnknownName => Some(&text[used..]),
+                    _ => None,
+                }
+            }
+            Read::Quit { .. } => None,
+            Read::More => return Ok(None),
+        };
+        self.items = self.items.wrapping_add(1);
+        Ok(left)
+    }
+}
+
 /// The items of a text up to the one that ends the connection, each answered by a cache with room for two keys.
 fn tell(alloc: Global, bytes: &[u8]) -> Result<Told, Fault> {
     let mut cache = Cache::new(alloc, 2);
-    let mut text = Vec::new(alloc);
+    let mut told = Told {
+        items: 0,
+        text: Vec::new(alloc),
+    };
     let mut rest = bytes;
-    for items in 0..bytes.len() {
-        match read_request(rest) {
-            Read::Whole { request, used, noreply } => {
-                let reply = cache.apply(&request)?;
-                if !noreply {
-                    write_reply(&reply, &mut text)?;
-                }
-                rest = &rest[used..];
-            }
-            Read::Bad { fault: LineFault::UnknownName, used } => {
-                text.extend_from_slice(fault_text(LineFault::UnknownName).as_bytes())?;
-                rest = &rest[used..];
-            }
-            Read::Bad { fault, .. } => {
-                text.extend_from_slice(fault_text(fault).as_bytes())?;
-                return Ok(Told { items: items + 1, text });
-            }
-            Read::Quit { .. } => return Ok(Told { items: items + 1, text }),
-            Read::More => return Ok(Told { items, text }),
-        }
+    for _ in 0..bytes.len() {
+        let Some(left) = told.item(&mut cache, rest)? else {
+            break;
+        };
+        rest = left;
     }
-    Ok(Told { items: bytes.len(), text })
+    Ok(told)
 }
 
 /// What is read at the beginning of a text.
 fn first(alloc: Global, bytes: &[u8]) -> Result<String, std::alloc::AllocError> {
     match read_request(bytes) {
-        Read::Whole { used, noreply: true, .. } => format!(in alloc; "whole {used} noreply"),
-        Read::Whole { used, noreply: false, .. } => format!(in alloc; "whole {used} reply"),
+        Read::Whole {
+            used,
+            noreply: true,
+            ..
+        } => format!(in alloc; "whole {used} noreply"),
+        Read::Whole {
+            used,
+            noreply: false,
+            ..
+        } => format!(in alloc; "whole {used} reply"),
         Read::Quit { used } => format!(in alloc; "quit {used}"),
         Read::More => format!(in alloc; "more"),
         Read::Bad { fault, used } => {
@@ -65,11 +91,21 @@ fn main(rt: HostRuntime) -> Result<()> {
     let alloc = rt.alloc();
     for line in rt.lines(alloc) {
         let bytes = hex::decode(alloc, line?.as_str())?;
-        let canonical = if read_canonical(&bytes).is_some() { "canonical" } else { "not canonical" };
+        let canonical = if read_canonical(&bytes).is_some() {
+            "canonical"
+        } else {
+            "not canonical"
+        };
         let told = tell(alloc, &bytes)?;
         let digest = Sha256::digest(&told.text);
         let start = hex::encode(alloc, &digest[..8])?;
-        println!(rt; "{}, {canonical}, {} items, {} bytes of text {}", first(alloc, &bytes)?, told.items, told.text.len(), start)?;
+        println!(rt;
+            "{}, {canonical}, {} items, {} bytes of text {}",
+            first(alloc, &bytes)?,
+            told.items,
+            told.text.len(),
+            start
+        )?;
     }
     Ok(())
 }
