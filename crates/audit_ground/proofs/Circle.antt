@@ -6,7 +6,8 @@ use Rattle.definitions.specs.Lists.{beginning, greatest}
 use Rattle.definitions.specs.Frames.{Command}
 use Rattle.definitions.specs.Branches.{Branch, just1, just2, justify_height, highest, extends, branch_eq, block_eq, command_eq}
 use Rattle.definitions.specs.Digests.{digest, digest_of, core_of, core_over}
-use Rattle.definitions.specs.Chronicles.{Step.took_block, voted, taken, tree, vheight, lock, is_clear, clear_above}
+use Rattle.definitions.specs.Chronicles.{Step.took_block, voted, taken, tree, vheight, lock, stored}
+use Rattle.definitions.specs.Trees.{is_clear, clear_above}
 use Rattle.definitions.specs.Audit.{Turns, steps_in, Judged, is_judged, chronicle_of, gives_vote, counted_by, counted_for, step_after, has_vote, is_backed, may_move, AreAllowed, AreFronts, IsUnbacked}
 use Rattle.audit_ground.specs.Law.{SomeCircle}
 use Rattle.audit_ground.proofs.Fronts.{fronts-from_turns, fronts-one}
@@ -133,17 +134,17 @@ second-quorum = (AreDistinct-from second_voters refl, (omega arith, (omega arith
 
 -- the first life is lawful
 first-well : lives_well first ≡ true
-unfolding lives_well may_take votes_well vheight voted greatest lock highest just1 just2 justify_height beginning tree taken extends branch_eq block_eq command_eq clear_above is_clear
+unfolding lives_well may_take votes_well vheight voted greatest lock highest just1 just2 justify_height beginning tree taken extends branch_eq block_eq command_eq clear_above stored is_clear
 first-well = refl
 
 -- and the second
 second-well : lives_well second ≡ true
-unfolding lives_well may_take votes_well vheight voted greatest lock highest just1 just2 justify_height beginning tree taken extends branch_eq block_eq command_eq clear_above is_clear
+unfolding lives_well may_take votes_well vheight voted greatest lock highest just1 just2 justify_height beginning tree taken extends branch_eq block_eq command_eq clear_above stored is_clear
 second-well = refl
 
 -- and the third
 third-well : lives_well third ≡ true
-unfolding lives_well may_take votes_well vheight voted greatest lock highest just1 just2 justify_height beginning tree taken extends branch_eq block_eq command_eq clear_above is_clear
+unfolding lives_well may_take votes_well vheight voted greatest lock highest just1 just2 justify_height beginning tree taken extends branch_eq block_eq command_eq clear_above stored is_clear
 third-well = refl
 
 -- each is kept well

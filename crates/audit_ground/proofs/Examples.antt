@@ -1,7 +1,7 @@
 -- What the examples share: lives of replicas, and tests that they are kept.
 use Rattle.std.proofs.Common.{ℕ, zero, suc, ◌≡◌, ◌<◌, ◌≤◌, ◌⊎◌, ◌&&◌, ◌||◌, ◌==◌, not, Bool, true, false, List, [], ◌∷◌, map, length, nat_lt, refl, sym, ap, subst, ◌∙◌, arith, inl, inr, true≢false}
 use Rattle.std.specs.List.{list_any, AllByRecursion}
-use Rattle.std.proofs.lemmas.Bool.{cond-true, cond-false, ne_eqb, eq-eqb, and_parts, ltb-true, lt-ltb, not-true, or_cases, not_from_true}
+use Rattle.std.proofs.lemmas.Bool.{cond-false, ne_eqb, eq-eqb, and_parts, ltb-true, not-true, or_cases, not_from_true}
 use lib.Dec.{ltb}
 use lib.Pointwise.{bytes_decides}
 use Rattle.std.specs.Str.{bytes_eq}
@@ -11,12 +11,14 @@ use Rattle.definitions.specs.Histories.{Entry, history_of}
 use Rattle.definitions.proofs.Lists.{Among-mapped}
 use Rattle.ids.specs.Sizes.{Sizes, replicas, quorum}
 use Rattle.definitions.specs.Lists.{beginning, Among, AreDistinct}
-use Rattle.definitions.specs.Branches.{Branch, justify_height, just1, just2, just3, highest, Extends, extends, branch_eq}
+use Rattle.definitions.specs.Branches.{Branch, justify_height, just1, just2, just3, highest, extends, branch_eq}
 use Rattle.definitions.specs.Digests.{digest, digest_of, core_of, NoCollision}
-use Rattle.definitions.specs.Chronicles.{Admitted, Step.took_block, Chronicle, taken, tree, vheight, lock, decides, decided_by, decided, executed, history, is_clear, clear_above, IsLawfulVote, IsLawfulTake, IsLawful}
+use Rattle.definitions.specs.Chronicles.{Admitted, Step.took_block, Chronicle, taken, tree, vheight, lock, decides, decided_by, decided, executed, history, stored, IsLawfulVote, IsLawfulTake, IsLawful}
+use Rattle.definitions.specs.Trees.{clear_above}
+use Rattle.definitions.proofs.Sound.{clear_above-each}
 use Rattle.definitions.specs.Replicas.{Standing.running, held_history}
 use Rattle.definitions.specs.Audit.{Cut, Member, Judged, chronicle_of, step_after, may_move}
-use Rattle.definitions.proofs.Branches.{branch_eq-decides, extends-true, extends-cases, length-extends}
+use Rattle.definitions.proofs.Branches.{branch_eq-decides, extends-true}
 use Rattle.definitions.proofs.Chronicles.{tree-grows}
 use Rattle.audit_ground.specs.Law.{KnownTo, numbers, IsStored, IsLawfullyKept, AreJudged}
 use Rattle.audit_ground.proofs.Fronts.{is_backed_if, may_move-is}
@@ -75,7 +77,7 @@ may_take (b ∷ parent) c = not (list_any (branch_eq (b ∷ parent)) (tree c)) &
 
 -- a vote for it is lawful
 unfoldable pub votes_well : Branch → Chronicle → Chronicle → Bool
-votes_well b now c = nat_lt (vheight c) (length b) && (extends b (lock c) && clear_above (length (just1 b)) b now)
+votes_well b now c = nat_lt (vheight c) (length b) && (extends b (lock c) && clear_above (length (just1 b)) b (stored now))
 
 -- each block of a life is taken lawfully, and voted for lawfully
 unfoldable pub lives_well : List Taking → Bool
@@ -89,27 +91,6 @@ any-branch x xs h = let r = any-found (branch_eq x) xs h in subst (λ (y : Branc
 -- and what stands there passes
 branch-any : (x : Branch) (xs : List Branch) → Among x xs → list_any (branch_eq x) xs ≡ true
 branch-any x xs m = any-from (branch_eq x) xs x m ((branch_eq-decides x x).1 refl)
-
--- a clear block was taken as one
-clear-taken : (x : Branch) (c : Chronicle) → is_clear x c ≡ true → (a : Admitted) × Among a (taken c) × (a.branch ≡ x) × (a.clear ≡ true)
-unfolding is_clear
-clear-taken x c h =
-    let r = any-found (λ (a : Admitted). a.clear && branch_eq a.branch x) (taken c) h in
-    let p = and_parts r.0.clear (branch_eq r.0.branch x) r.2 in
-    (r.0, r.1, (branch_eq-decides r.0.branch x).0 p.1, p.0)
-
--- so was each block of a branch that is clear above a height
-clear_above-taken : (height : ℕ) (b : Branch) (c : Chronicle) → clear_above height b c ≡ true → (x : Branch) → Extends b x → height < length x → (a : Admitted) × Among a (taken c) × (a.branch ≡ x) × (a.clear ≡ true)
-unfolding clear_above
-clear_above-taken height [] c h x e l = absurd (let k = length-extends [] x e in omega (arith, k, l))
-clear_above-taken height (b ∷ parent) c h x e l =
-    let k = length-extends (b ∷ parent) x e in
-    let high : height < suc (length parent) = omega (arith, k, l) in
-    let p = and_parts (is_clear (b ∷ parent) c) (clear_above height parent c) (sym (cond-true (ltb height (suc (length parent))) (is_clear (b ∷ parent) c && clear_above height parent c) true (lt-ltb height (suc (length parent)) high)) ∙ h) in
-    elim (extends-cases b parent x e) [
-      | inl i ↦ subst (λ (y : Branch). (a : Admitted) × Among a (taken c) × (a.branch ≡ y) × (a.clear ≡ true)) (sym i) (clear-taken (b ∷ parent) c p.0)
-      | inr f ↦ clear_above-taken height parent c p.1 x f l
-    ]
 
 -- a block that may be taken is taken lawfully
 take-lawful : (b : Branch) (counted : List ℕ) (voted : Bool) (c : Chronicle) → may_take b c ≡ true → IsQuorum counted ⊎ (just1 b ≡ []) → IsLawfulTake sizes (admitted b counted voted) c
@@ -133,7 +114,7 @@ vote-lawful b counted voted c h =
     record {
       higher = ltb-true (vheight c) (length b) p.0;
       safe = inl (extends-true b (lock c) r.0);
-      clear = clear_above-taken (length (just1 b)) b (took_block (admitted b counted voted) ∷ c) r.1;
+      clear = clear_above-each (length (just1 b)) b (took_block (admitted b counted voted) ∷ c) r.1;
       taken = inl refl;
     }
 

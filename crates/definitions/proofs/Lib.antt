@@ -3,6 +3,7 @@ pub mod Counts
 pub mod Quorums
 pub mod Branches
 pub mod Digests
+pub mod Trees
 pub mod Chronicles
 pub mod Orders
 pub mod Histories
@@ -13,3 +14,6 @@ pub mod RequestTexts
 pub mod ItemLaws
 pub mod Certificates
 pub mod ReplyTexts
+pub mod Sound
+pub mod Held
+pub mod Checks

@@ -8,12 +8,16 @@ use Rattle.definitions.specs.Tags.{tag_of}
 use Rattle.definitions.specs.Bytes.{Bytes}
 use Rattle.ids.specs.Sizes.{Sizes, quorum, client_party}
 use Rattle.definitions.specs.Digests.{digest}
-use Rattle.definitions.specs.Keyrings.{Keyring, verify}
+use Rattle.definitions.specs.Keyrings.{Keyring, Keys, keyring_of, verify}
 
 -- What a replica is from its making on. Its number is its keyring's party.
 pub record Identity : Type 0 where
   pub sizes : Sizes
   pub ring : Keyring
+
+-- the replica that these are the keys of
+abbrev pub identity_of : Keys → Identity
+identity_of keys = record { sizes = keys.sizes; ring = keyring_of keys }
 
 -- ---- checks on what comes in
 

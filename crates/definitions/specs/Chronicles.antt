@@ -1,11 +1,12 @@
 -- The chronicle of a replica: the steps that stand, newest first. Here is what it says of blocks: votes, lock,
 -- decisions, and its law (HotStuff, PODC 2019, the safety rules, with this project's clear blocks).
 use Rattle.std.specs.Prelude.{ℕ, suc, ◌≡◌, ◌<◌, ◌≤◌, ◌==◌, ◌⊎◌, ◌&&◌, ◌||◌, Bool, true, List, [], ◌∷◌, ◌++◌, map, length, if◌then◌else◌, nat_lt, Option, ⊤}
-use Rattle.std.specs.List.{list_any, AllByRecursion}
+use Rattle.std.specs.List.{AllByRecursion}
 use Rattle.definitions.specs.Lists.{Among, AreDistinct, greatest}
 use Rattle.definitions.specs.Frames.{Command, Core, Certificate}
-use Rattle.definitions.specs.Branches.{Block, Branch, justify_height, just1, just2, just3, Extends, extends, branch_eq, highest}
+use Rattle.definitions.specs.Branches.{Block, Branch, justify_height, just1, just2, just3, Extends, extends, highest}
 use Rattle.definitions.specs.Bytes.{Bytes}
+use Rattle.definitions.specs.Trees.{Stored}
 use Rattle.ids.specs.Sizes.{Sizes, replicas, quorum}
 use Rattle.definitions.specs.Histories.{History, history_of}
 
@@ -47,6 +48,14 @@ taken [] = []
 taken (took_block a ∷ earlier) = if a.new then a ∷ taken earlier else taken earlier
 taken (s ∷ earlier) = taken earlier
 
+-- a taken block as it stands in the tree
+abbrev pub stored_of : Admitted → Stored
+stored_of a = record { branch = a.branch; certificate = a.certificate; clear = a.clear }
+
+-- what stands in the tree
+unfoldable pub stored : Chronicle → List Stored
+stored c = map stored_of (taken c)
+
 -- the blocks that it knows, with genesis
 unfoldable pub tree : Chronicle → List Branch
 tree c = map (λ a. a.branch) (taken c) ++ [] ∷ []
@@ -79,15 +88,6 @@ executed c = highest (decided c)
 -- the commands that it executed
 unfoldable pub history : Chronicle → History
 history c = history_of (executed c)
-
--- the block was taken as a clear one
-unfoldable pub is_clear : Branch → Chronicle → Bool
-is_clear x c = list_any (λ a. a.clear && branch_eq a.branch x) (taken c)
-
--- so was each block of x's branch above this height
-unfoldable pub clear_above : ℕ → Branch → Chronicle → Bool
-clear_above height [] c = true
-clear_above height (b ∷ parent) c = if nat_lt height (suc (length parent)) then is_clear (b ∷ parent) c && clear_above height parent c else true
 
 -- a block may be voted for by height and lock
 unfoldable pub may_vote : Branch → Chronicle → Bool

@@ -16,6 +16,7 @@ pub mod ServerText
 pub mod Lists
 pub mod Branches
 pub mod Digests
+pub mod Trees
 pub mod Histories
 pub mod Chronicles
 pub mod Checks

@@ -1,25 +1,16 @@
 -- What an input comes to: the step that is to stand, or a refusal.
 use Rattle.ids.specs.declared.fault.Fault.{Fault}
 use Rattle.ids.specs.declared.fault.Fault.TheVariants as fault
-use Rattle.std.specs.Prelude.{ℕ, ◌==◌, ◌&&◌, not, Bool, true, false, ◌∷◌, length, if◌then◌else◌, nat_lt, Option, Some, None, find, count_by}
+use Rattle.std.specs.Prelude.{ℕ, ◌==◌, ◌&&◌, not, Bool, true, false, ◌∷◌, length, if◌then◌else◌, nat_lt, Option, Some, None}
 use Rattle.std.specs.List.{list_any}
-use Rattle.std.specs.Str.{bytes_eq}
 use Rattle.definitions.specs.Frames.{Command, Core, Vote, Certificate}
-use Rattle.definitions.specs.Branches.{Branch, justify_height, just1, just3, extends}
+use Rattle.definitions.specs.Branches.{Branch, justify_height, just3, extends}
 use Rattle.definitions.specs.Bytes.{Bytes}
 use Rattle.ids.specs.Sizes.{Sizes, leader}
-use Rattle.definitions.specs.Digests.{digest, digest_of}
-use Rattle.definitions.specs.Chronicles.{Admitted, Step, Step.took_block, Step.got_vote, Step.got_new_view, Step.got_request, Step.got_fetch, Step.timed_out, Step.beat, Chronicle, tree, decides, executed, history, may_vote, clear_above}
+use Rattle.definitions.specs.Trees.{find_in, Placing, Placing.stands, Placing.grows, Placing.lacks_parent, Placing.unfit, placing, most_blocks, clear_above}
+use Rattle.definitions.specs.Chronicles.{Admitted, Step, Step.took_block, Step.got_vote, Step.got_new_view, Step.got_request, Step.got_fetch, Step.timed_out, Step.beat, Chronicle, stored, tree, decides, executed, history, may_vote}
 use Rattle.definitions.specs.Checks.{Identity, counted, is_clear_core}
 use Rattle.definitions.specs.States.{view, is_same_request, is_due, pending}
-
--- the most blocks of a tree, genesis counted
-abbrev pub most_blocks : ℕ
-most_blocks = 1048576
-
--- the most blocks of one height
-abbrev pub most_of_height : ℕ
-most_of_height = 64
 
 -- the most requests that wait
 abbrev pub most_pending : ℕ
@@ -44,11 +35,7 @@ pub data Ruling : Type 0 where
 
 -- the block of this digest, as its branch
 unfoldable pub find_block : Bytes → Chronicle → Option Branch
-find_block d c = find (λ b. bytes_eq (digest_of b) d) (tree c)
-
--- the certificate is for the block that b justifies
-abbrev pub justifies : Certificate → Branch → Bool
-justifies q b = bytes_eq q.digest (digest_of (just1 b))
+find_block d c = find_in d (tree c)
 
 -- a block and what was found of it, before the vote
 unfoldable pub admitted : Identity → Branch → Core → Certificate → Bool → Admitted
@@ -65,33 +52,22 @@ admitted self b core q new = record {
 -- the vote on a proposal of view w, if it is one
 unfoldable pub votes_for : Sizes → Option ℕ → Admitted → Chronicle → Bool
 votes_for s None a c = false
-votes_for s (Some w) a c = (w == view s c) && (may_vote a.branch c && clear_above (justify_height a.branch) a.branch (took_block a ∷ c))
+votes_for s (Some w) a c = (w == view s c) && (may_vote a.branch c && clear_above (justify_height a.branch) a.branch (stored (took_block a ∷ c)))
 
 -- the block is admitted, with or without a vote
 abbrev pub take_block : Identity → Option ℕ → Admitted → Chronicle → Ruling
 take_block self w a c = due (took_block (record a { voted = votes_for self.sizes w a c }))
 
--- a block that stands in the tree
-unfoldable pub on_known : Identity → Option ℕ → Branch → Core → Certificate → Chronicle → Ruling
-on_known self w b core q c = if justifies q b then take_block self w (admitted self b core q false) c else refusing fault.WrongJustify
-
--- a block whose parent stands in the tree
-unfoldable pub on_new : Identity → Option ℕ → Branch → Core → Certificate → Chronicle → Ruling
-on_new self w parent core q c =
-    let b : Branch = record { commands = core.commands; justify = core.justify_height } ∷ parent in
-    if not (core.height == length b) then refusing fault.BadHeight
-    else (if not (justifies q b) then refusing fault.WrongJustify
-    else (if not (nat_lt (count_by (λ x. length x == length b) (tree c)) most_of_height) then refusing fault.Crowded
-    else (if not (nat_lt (length (tree c)) most_blocks) then refusing fault.Full
-    else take_block self w (admitted self b core q true) c)))
+-- what follows from the place of a block in the tree
+unfoldable pub on_placing : Identity → Option ℕ → ℕ → Core → Certificate → Chronicle → Placing → Ruling
+on_placing self w sender core q c (stands b) = take_block self w (admitted self b core q false) c
+on_placing self w sender core q c (grows b) = take_block self w (admitted self b core q true) c
+on_placing self w sender core q c lacks_parent = missing sender core.parent
+on_placing self w sender core q c (unfit n) = refusing n
 
 -- a block with its certificate, as a proposal of this view or on its own
-unfoldable pub on_block : Identity → Option ℕ → ℕ → Core → Certificate → Chronicle → Ruling
-on_block self w sender core q c =
-    elim (find_block (digest core) c) [
-      | Some b ↦ on_known self w b core q c
-      | None ↦ elim (find_block core.parent c) [ Some parent ↦ on_new self w parent core q c | None ↦ missing sender core.parent ]
-    ]
+abbrev pub on_block : Identity → Option ℕ → ℕ → Core → Certificate → Chronicle → Ruling
+on_block self w sender core q c = on_placing self w sender core q c (placing most_blocks core q (tree c))
 
 -- a request, where there is room for it
 unfoldable pub on_request : Command → Chronicle → Ruling
@@ -101,8 +77,8 @@ on_request r c =
 
 -- what follows where the block stands in the tree
 abbrev pub with_block : Option Branch → ℕ → Bytes → (Branch → Ruling) → Ruling
-with_block None sender d stands = missing sender d
-with_block (Some b) sender d stands = stands b
+with_block None sender d follows = missing sender d
+with_block (Some b) sender d follows = follows b
 
 -- what an input comes to
 unfoldable pub ruling : Identity → Input → Chronicle → Ruling

@@ -6,7 +6,7 @@ use Rattle.std.proofs.Common.{ℕ, suc, ◌≡◌, ◌-◌, ◌^◌, ◌%◌, �
 use Rattle.std.specs.List.{list_any}
 use Rattle.std.proofs.lemmas.Bool.{cond_both, eqb-true, eq-eqb, cases_lt}
 use Rattle.definitions.proofs.Lists.{Among-either, Among-map}
-use Rattle.linear_law.proofs.Sound.{Outcome, Outcome.unchanged, Outcome.refused, Outcome.lacks, Outcome.conflict, Outcome.stood, Outcome.cut, step-outcome}
+use Rattle.definitions.proofs.Sound.{Outcome, Outcome.unchanged, Outcome.refused, Outcome.lacks, Outcome.conflict, Outcome.stood, Outcome.cut, step-outcome}
 use Rattle.linear_law.proofs.Effects.{Effects, Effects.idle, Effects.step_by, Effects.hearing, Effects.submitting}
 use Rattle.linear_law.proofs.Runs.{chronicles, IsRun, IsMadeWell, IsHonest, arises-checked}
 use Rattle.linear_law.proofs.Fits.{AnswersFit}

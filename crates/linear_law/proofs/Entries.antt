@@ -1,10 +1,10 @@
 -- Each entry of a member's history in a correct client's name was submitted.
+use Rattle.definitions.proofs.Held.{executed-cases}
 use Rattle.definitions.proofs.Branches.{Extends-trans, just3-below}
 use Rattle.definitions.proofs.Lists.{Among-reverse, Among-either, Among-map}
-use Rattle.std.proofs.Common.{ℕ, ◌≡◌, ◌⊎◌, true, false, List, [], ◌∷◌, length, refl, sym, ap, subst, ◌∙◌, arith, inl, inr, map, reverse}
+use Rattle.std.proofs.Common.{ℕ, ◌≡◌, true, false, List, [], ◌∷◌, length, refl, sym, ap, subst, ◌∙◌, arith, inl, inr, map, reverse}
 use Rattle.linear_law.proofs.Effects.{is_member}
 use Rattle.linear_law.proofs.Runs.{chronicles}
-use Rattle.definitions.proofs.Chronicles.{executed-decided, decided-cases}
 use Rattle.linear_law.proofs.Clear.{IsCourse, clear-below}
 use Rattle.linear_law.proofs.Requested.{AllRequested, WasRequested}
 use Rattle.definitions.specs.Lists.{Among}
@@ -13,7 +13,7 @@ use Rattle.definitions.specs.Branches.{Block, Branch, just1, just3, Extends}
 use Rattle.ids.specs.Sizes.{client_party}
 use Rattle.definitions.specs.Digests.{core_of, core_over}
 use Rattle.definitions.specs.Histories.{Entry, entry_of, history_of}
-use Rattle.definitions.specs.Chronicles.{Admitted, Chronicle, taken, executed, history}
+use Rattle.definitions.specs.Chronicles.{executed, history}
 use Rattle.definitions.specs.Worlds.{World}
 
 -- an entry of a branch's history stands in a block of the branch
@@ -37,9 +37,6 @@ entry-block (b ∷ parent) e m =
     ]
 
 -- the last executed block is genesis, or the third below a taken one
-pub executed-cases : (c : Chronicle) → (executed c ≡ []) ⊎ ((a : Admitted) × Among a (taken c) × (executed c ≡ just3 a.branch))
-executed-cases c = elim (decided-cases c (executed c) (executed-decided c)) [ inl e ↦ inl e | inr r ↦ inr (r.0, r.1, r.2) ]
-
 commands-of : (b : Block) (parent : Branch) → (core_of (b ∷ parent)).commands ≡ b.commands
 unfolding core_of core_over
 commands-of b parent = refl

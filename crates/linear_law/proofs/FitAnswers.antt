@@ -10,9 +10,10 @@ use Rattle.definitions.specs.Histories.{Entry, entry_of, History, history_of, An
 use Rattle.definitions.specs.Chronicles.{Chronicle, tree, executed, history}
 use Rattle.definitions.proofs.Lists.{Among-either, Among-map, Among-reverse}
 use Rattle.definitions.proofs.ReplyTexts.{answer-text}
-use Rattle.linear_law.proofs.Sound.{IsSound}
+use Rattle.definitions.proofs.Sound.{IsSound}
 use Rattle.linear_law.proofs.Inputs.{all-among}
-use Rattle.linear_law.proofs.Fits.{IsCoreOrGenesis, core-block, history-length, answers-entry, executed-tree}
+use Rattle.linear_law.proofs.Fits.{IsCoreOrGenesis, core-block, history-length, answers-entry}
+use Rattle.definitions.proofs.Held.{executed-tree}
 use Rattle.linear_law.proofs.SentFrames.{IsFitAnswer}
 
 -- places are counted from 1

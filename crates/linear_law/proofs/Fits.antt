@@ -7,23 +7,21 @@ use Rattle.definitions.specs.Lists.{Among}
 use Rattle.definitions.specs.Frames.{Command, Core, Frame, genesis_core}
 use Rattle.definitions.specs.FrameLimits.{IsCommand, IsCore, IsFrame}
 use Rattle.definitions.specs.Frames as frame
-use Rattle.definitions.specs.Branches.{Block, Branch, just1, just3}
+use Rattle.definitions.specs.Branches.{Block, Branch}
 use Rattle.definitions.specs.Digests.{core_of, core_over, AllKnown}
 use Rattle.definitions.specs.Histories.{Entry, entry_of, History, history_of, Answer, answers, is_fresh}
-use Rattle.definitions.specs.Chronicles.{Chronicle, taken, tree, executed, history}
+use Rattle.definitions.specs.Chronicles.{Chronicle, tree, executed, history}
 use Rattle.definitions.specs.Replicas.{held_history}
 use Rattle.definitions.specs.Worlds.{World, Happening}
 use Rattle.definitions.specs.Events.{happens}
 use Rattle.definitions.specs.Premises.{AllRead, CoreOf, CoreBrought}
-use Rattle.definitions.proofs.Lists.{Among-either, Among-map, Among-mapped, Among-before, Among-reverse}
-use Rattle.linear_law.proofs.Sound.{IsSound, IsTree, tree-below}
-use Rattle.definitions.proofs.Chronicles.{tree-genesis}
-use Rattle.definitions.proofs.Branches.{just1-extends, Extends-trans, just3-below}
+use Rattle.definitions.proofs.Lists.{Among-either, Among-map, Among-reverse}
+use Rattle.definitions.proofs.Sound.{IsSound}
 use Rattle.linear_law.proofs.Inputs.{all-among}
 use Rattle.linear_law.proofs.Effects.{is_member, brought-frame}
 use Rattle.linear_law.proofs.Runs.{chronicles, IsRun}
 use Rattle.definitions.proofs.Histories.{held-begins}
-use Rattle.linear_law.proofs.Entries.{executed-cases}
+use Rattle.definitions.proofs.Held.{executed-tree}
 use Rattle.linear_law.proofs.Replies.{answers-grow}
 
 -- the core of genesis, or one that a frame may have
@@ -103,17 +101,6 @@ pub answers-entry : (h : History) (a : Answer) → Among a (answers h) → IsAns
 unfolding answers
 answers-entry [] a m = absurd m
 answers-entry (e ∷ h) a m = answer-step e h _ a (is_fresh e h) refl refl refl (answers-entry h a) m
-
--- the executed block stands in the tree
-pub executed-tree : (c : Chronicle) → IsTree (tree c) → Among (executed c) (tree c)
-unfolding tree
-executed-tree c tr =
-    elim (executed-cases c) [
-      | inl e ↦ subst (λ (x : Branch). Among x (tree c)) (sym e) (tree-genesis c)
-      | inr r ↦ subst (λ (x : Branch). Among x (tree c)) (sym r.2)
-          (tree-below (tree c) tr r.0.branch (just3 r.0.branch) (Among-before r.0.branch (map (λ a. a.branch) (taken c)) ([] ∷ []) (Among-mapped (λ a. a.branch) (taken c) r.0 r.1))
-          (Extends-trans r.0.branch (just1 r.0.branch) (just3 r.0.branch) (just1-extends r.0.branch) (just3-below r.0.branch)))
-    ]
 
 -- the seq and the place of each answer of a member
 abbrev pub AnswersFit : World → Type 0

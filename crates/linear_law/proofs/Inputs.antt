@@ -1,26 +1,29 @@
 -- What a step that stands has from the frame that came.
 use Rattle.ids.specs.declared.kind.Kind.TheVariants as kind
 use Rattle.ids.specs.declared.fault.Fault.TheVariants as fault
-use Rattle.std.proofs.Common.{ℕ, suc, ◌≡◌, ◌<◌, ◌&&◌, not, Bool, true, false, List, [], ◌∷◌, length, cond, refl, sym, subst, subst₂, arith, inl, inr, map, filter, Option, Some, None, true≢false, ◌==◌, nat_lt, count_by}
+use Rattle.std.proofs.Common.{ℕ, ◌≡◌, ◌&&◌, not, true, List, [], ◌∷◌, length, refl, sym, subst, subst₂, inl, inr, map, filter, Option, Some, None, true≢false, nat_lt, ◌∙◌, ap}
 use Rattle.std.specs.Bool.{⊤}
 use Rattle.std.specs.List.{list_any, AllByRecursion}
-use Rattle.std.proofs.lemmas.Bool.{and_parts, eqb-true, cond_both, not-false}
+use Rattle.std.proofs.lemmas.Bool.{and_parts, cond_both}
 use lib.Dec.{ltb}
 use Rattle.definitions.proofs.Lists.{Among-after, Among-before, Among-mapped, Among-kept, all-passes}
-use Rattle.linear_law.proofs.Sound.{IsChecked, IsCheckedInput, found, same_bytes, block_of}
-use Rattle.definitions.specs.Lists.{Among, AreDistinct}
+use Rattle.definitions.proofs.Checks.{when-good, block-checked}
+use Rattle.definitions.proofs.Sound.{IsChecked, IsCheckedInput}
+use Rattle.definitions.specs.Trees.{most_blocks, Placing, Placing.stands, Placing.grows, Placing.lacks_parent, Placing.unfit, placing}
+use Rattle.definitions.proofs.Trees.{found-in, core-known, IsPlaced, placed}
+use Rattle.definitions.specs.Lists.{Among}
 use Rattle.definitions.specs.Frames.{Command, Core, Vote, Certificate, Frame, command_content}
-use Rattle.definitions.specs.FrameLimits.{IsFrame, IsCore, IsVote, Rise}
+use Rattle.definitions.specs.FrameLimits.{IsFrame, IsCore}
 use Rattle.definitions.specs.Tags.{tag_of}
 use Rattle.definitions.specs.Branches.{Branch, just1}
 use Rattle.definitions.specs.Bytes.{Bytes}
-use Rattle.ids.specs.Sizes.{Sizes, replicas, client_party}
-use Rattle.definitions.specs.Digests.{digest, core_over, digest_of, core_of}
+use Rattle.ids.specs.Sizes.{client_party}
+use Rattle.definitions.specs.Digests.{digest_of, core_of}
 use Rattle.definitions.specs.Chronicles.{Admitted, Step, Step.took_block, Step.got_vote, Step.got_new_view, Chronicle, tree, history}
 use Rattle.definitions.specs.Checks.{Identity, counted, is_good, vote_verifies, command_verifies, is_clear_core}
 use Rattle.definitions.specs.States.{is_due, pending, is_same_request}
-use Rattle.definitions.specs.Rulings.{Input, Input.proposal_in, Input.block_in, Input.vote_in, Input.new_view_in, Input.request_in, Input.fetch_in, Input.timeout_in, Input.beat_in, Ruling, Ruling.due, Ruling.missing, Ruling.refusing, find_block, justifies, admitted, on_known, on_new, on_block, on_request, with_block, ruling}
-use Rattle.definitions.specs.Admission.{check, Checked.passes, Checked.rejected, when}
+use Rattle.definitions.specs.Rulings.{Input, Input.proposal_in, Input.block_in, Input.vote_in, Input.new_view_in, Input.request_in, Input.fetch_in, Input.timeout_in, Input.beat_in, Ruling, Ruling.due, Ruling.missing, Ruling.refusing, admitted, on_placing, on_block, on_request, with_block, ruling}
+use Rattle.definitions.specs.Admission.{check, Checked.passes, Checked.rejected}
 use Rattle.definitions.specs.Premises.{Claim, accepted_tags, vote_claims, command_claims, CoreOf}
 use Rattle.definitions.specs.Frames as frame
 
@@ -45,43 +48,27 @@ AllStanding P (due st) = P st
 AllStanding P (missing sender d) = ⊤
 AllStanding P (refusing n) = ⊤
 
-pub core-known : (core : Core) (parent : Branch) → core.parent ≡ digest_of parent → core.height ≡ suc (length parent) → core_of (block_of core ∷ parent) ≡ core
-unfolding core_of core_over
-core-known core parent ep eh = λ i. record { parent = sym ep i; height = sym eh i; justify_height = core.justify_height; commands = core.commands }
-
-known-from : (self : Identity) (i : Input) (w : Option ℕ) (b : Branch) (core : Core) (q : Certificate) (c : Chronicle) → Carries i core q → AllStanding (FromInput self i) (on_known self w b core q c)
-unfolding on_known admitted
-known-from self i w b core q c ca =
-    cond_both (justifies q b) _ _ P
-    (λ e. (core, q, ca, record { stored = refl; counted_is = refl; core_is = λ n. absurd (true≢false (sym n)); justified = same_bytes _ _ e; clear_is = refl }))
-    (λ e. tt)
-  where
-    P : Ruling → Type 0
-    P = AllStanding (FromInput self i)
-
-new-from : (self : Identity) (i : Input) (w : Option ℕ) (parent : Branch) (core : Core) (q : Certificate) (c : Chronicle) → Carries i core q → core.parent ≡ digest_of parent → AllStanding (FromInput self i) (on_new self w parent core q c)
-unfolding on_new admitted
-new-from self i w parent core q c ca ep =
-    cond_both (not (core.height == suc (length parent))) _ _ P (λ e. tt) (λ h.
-    cond_both (not (justifies q (block_of core ∷ parent))) _ _ P (λ e. tt) (λ j.
-    cond_both (not (nat_lt (count_by (λ x. length x == suc (length parent)) (tree c)) 64)) _ _ P (λ e. tt) (λ r.
-    cond_both (not (nat_lt (length (tree c)) 1048576)) _ _ P (λ e. tt) (λ f.
-    (core, q, ca, record { stored = refl; counted_is = refl; core_is = λ n. core-known core parent ep (eqb-true core.height (suc (length parent)) (not-false _ h)); justified = same_bytes _ _ (not-false _ j); clear_is = refl })))))
-  where
-    P : Ruling → Type 0
-    P = AllStanding (FromInput self i)
+placed-from : (self : Identity) (i : Input) (w : Option ℕ) (sender : ℕ) (core : Core) (q : Certificate) (c : Chronicle) → Carries i core q → (p : Placing) → IsPlaced most_blocks core q (tree c) p → AllStanding (FromInput self i) (on_placing self w sender core q c p)
+unfolding on_placing admitted
+placed-from self i w sender core q c ca (stands b) h = (core, q, ca, record { stored = refl; counted_is = refl; core_is = λ n. absurd (true≢false (sym n)); justified = h.1; clear_is = refl })
+placed-from self i w sender core q c ca (grows b) (parent, g) =
+    let ep = sym (found-in core.parent (tree c) parent g.parent_found).1 in (
+      core,
+      q,
+      ca,
+      record {
+        stored = refl;
+        counted_is = refl;
+        core_is = λ n. ap core_of g.is ∙ core-known core parent ep g.height;
+        justified = g.justified ∙ ap (λ (x : Branch). digest_of (just1 x)) (sym g.is);
+        clear_is = refl;
+      },
+    )
+placed-from self i w sender core q c ca lacks_parent h = tt
+placed-from self i w sender core q c ca (unfit n) h = tt
 
 block-from : (self : Identity) (i : Input) (w : Option ℕ) (sender : ℕ) (core : Core) (q : Certificate) (c : Chronicle) → Carries i core q → AllStanding (FromInput self i) (on_block self w sender core q c)
-unfolding on_block
-block-from self i w sender core q c ca = known (find_block (digest core) c)
-  where
-    over : (o : Option Branch) → find_block core.parent c ≡ o → AllStanding (FromInput self i) (elim o [ Some parent ↦ on_new self w parent core q c | None ↦ missing sender core.parent ])
-    over None e = tt
-    over (Some parent) e = new-from self i w parent core q c ca (sym (found core.parent c parent e).1)
-
-    known : (o : Option Branch) → AllStanding (FromInput self i) (elim o [ Some b ↦ on_known self w b core q c | None ↦ elim (find_block core.parent c) [ Some parent ↦ on_new self w parent core q c | None ↦ missing sender core.parent ] ])
-    known (Some b) = known-from self i w b core q c ca
-    known None = over (find_block core.parent c) refl
+block-from self i w sender core q c ca = placed-from self i w sender core q c ca (placing most_blocks core q (tree c)) (placed most_blocks core q (tree c))
 
 vote-from : (self : Identity) (i : Input) (o : Option Branch) (b : Vote) (d : Bytes) → AllStanding (FromInput self i) (with_block o b.voter d (λ x. due (got_vote b.voter b.vector x)))
 vote-from self i None b d = tt
@@ -116,57 +103,6 @@ all-among P (y ∷ xs) x h (inl e) = subst P (sym e) h.0
 all-among P (y ∷ xs) x h (inr m) = all-among P xs x h.1 m
 
 -- ---- what a check found
-
-pub when-good : (ok : Bool) (i j : Input) → when ok i ≡ passes j → (ok ≡ true) × (i ≡ j)
-when-good true i j e = (refl, cc)
-when-good false i j e = absurd (apart e)
-  where
-    apart : rejected fault.BadTag ≡ passes j → ⊥
-    apart h = cc
-
--- votes by number of voter
-abbrev EachAbove : ℕ → List Vote → Type 0
-EachAbove v [] = ⊤
-EachAbove v (b ∷ bs) = (v < b.voter) × EachAbove v bs
-
-abbrev AreVotes : ℕ → List Vote → Type 0
-AreVotes n [] = ⊤
-AreVotes n (b ∷ bs) = (b.voter < n) × EachAbove b.voter bs × AreVotes n bs
-
-rise-above : (v : ℕ) (b : Vote) (bs : List Vote) → v < b.voter → Rise (b ∷ bs) → EachAbove v (b ∷ bs)
-rise-above v b [] l r = (l, tt)
-rise-above v b (c ∷ bs) l r = (l, rise-above v c bs (let k = r.0 in omega (arith, l, k)) r.1)
-
-are-votes : (s : Sizes) (bs : List Vote) → AllByRecursion (IsVote s) bs → Rise bs → AreVotes (replicas s) bs
-are-votes s [] h r = tt
-are-votes s (b ∷ []) h r = (h.0.voter, tt, tt)
-are-votes s (b ∷ c ∷ bs) h r = (h.0.voter, rise-above b.voter c bs r.0 r.1, are-votes s (c ∷ bs) h.1 r.1)
-
--- the voters of votes in rising order are distinct, whichever are kept
-kept-above-step : (p : Vote → Bool) (v : ℕ) (b : Vote) (bs : List Vote) → v < b.voter → ((x : ℕ) → Among x (map (λ b. b.voter) (filter p bs)) → v < x) → (t : Bool) → (x : ℕ) → Among x (map (λ b. b.voter) (cond t (b ∷ filter p bs) (filter p bs))) → v < x
-kept-above-step p v b bs h rest true x (inl e) = subst (λ (y : ℕ). v < y) (sym e) h
-kept-above-step p v b bs h rest true x (inr k) = rest x k
-kept-above-step p v b bs h rest false x k = rest x k
-
-kept-above : (p : Vote → Bool) (v : ℕ) (bs : List Vote) → EachAbove v bs → (x : ℕ) → Among x (map (λ b. b.voter) (filter p bs)) → v < x
-kept-above p v [] h x m = absurd m
-kept-above p v (b ∷ bs) h x m = kept-above-step p v b bs h.0 (λ y k. kept-above p v bs h.1 y k) (p b) x m
-
-kept-distinct-step : (p : Vote → Bool) (b : Vote) (bs : List Vote) → (Among b.voter (map (λ b. b.voter) (filter p bs)) → ⊥) → AreDistinct (map (λ b. b.voter) (filter p bs)) → (t : Bool) → AreDistinct (map (λ b. b.voter) (cond t (b ∷ filter p bs) (filter p bs)))
-kept-distinct-step p b bs h d true = (h, d)
-kept-distinct-step p b bs h d false = d
-
-kept-distinct : (p : Vote → Bool) (n : ℕ) (bs : List Vote) → AreVotes n bs → AreDistinct (map (λ b. b.voter) (filter p bs))
-kept-distinct p n [] h = tt
-kept-distinct p n (b ∷ bs) h = kept-distinct-step p b bs (λ k. let l = kept-above p b.voter bs h.1 b.voter k in omega (arith, l)) (kept-distinct p n bs h.2) (p b)
-
-kept-within-step : (p : Vote → Bool) (n : ℕ) (b : Vote) (bs : List Vote) → b.voter < n → AllByRecursion (λ v. v < n) (map (λ b. b.voter) (filter p bs)) → (t : Bool) → AllByRecursion (λ v. v < n) (map (λ b. b.voter) (cond t (b ∷ filter p bs) (filter p bs)))
-kept-within-step p n b bs h d true = (h, d)
-kept-within-step p n b bs h d false = d
-
-kept-within : (p : Vote → Bool) (n : ℕ) (bs : List Vote) → AreVotes n bs → AllByRecursion (λ v. v < n) (map (λ b. b.voter) (filter p bs))
-kept-within p n [] h = tt
-kept-within p n (b ∷ bs) h = kept-within-step p n b bs h.0 (kept-within p n bs h.2) (p b)
 
 -- each counted vote is a tag that was found right
 IsVoteTag : Identity → Certificate → ℕ → Claim → Type 0
@@ -205,7 +141,7 @@ pub record IsCarried (self : Identity) (f : Frame) (core : Core) (q : Certificat
 proposal-carried : (self : Identity) (view : ℕ) (core : Core) (q : Certificate) (v : Bytes) → IsFrame self.sizes (frame.proposal view core q v) → is_good self q ≡ true → IsCarried self (frame.proposal view core q v) core q
 unfolding accepted_tags IsVoteTag IsCommandTag counted
 proposal-carried self view core q v fr g = record {
-  checked = record { below = fr.1.justify_height; distinct = kept-distinct (vote_verifies self q.digest) (replicas self.sizes) q.votes (are-votes self.sizes q.votes fr.2.votes fr.2.rising); voters = kept-within (vote_verifies self q.digest) (replicas self.sizes) q.votes (are-votes self.sizes q.votes fr.2.votes fr.2.rising); good = g };
+  checked = block-checked self core q fr.1 fr.2 g;
   core_is = fr.1;
   from = refl;
   votes = λ u m. let r = counted-claimed self q u m in (r.0, inr (Among-before r.0 _ _ r.1), r.2.0, r.2.1, r.2.2, r.2.3);
@@ -215,7 +151,7 @@ proposal-carried self view core q v fr g = record {
 block-carried : (self : Identity) (sender : ℕ) (core : Core) (q : Certificate) (t : Bytes) → IsFrame self.sizes (frame.block sender core q t) → is_good self q ≡ true → IsCarried self (frame.block sender core q t) core q
 unfolding accepted_tags IsVoteTag IsCommandTag counted
 block-carried self sender core q t fr g = record {
-  checked = record { below = fr.1.justify_height; distinct = kept-distinct (vote_verifies self q.digest) (replicas self.sizes) q.votes (are-votes self.sizes q.votes fr.2.votes fr.2.rising); voters = kept-within (vote_verifies self q.digest) (replicas self.sizes) q.votes (are-votes self.sizes q.votes fr.2.votes fr.2.rising); good = g };
+  checked = block-checked self core q fr.1 fr.2 g;
   core_is = fr.1;
   from = refl;
   votes = λ u m. let r = counted-claimed self q u m in (r.0, inr (Among-before r.0 _ _ r.1), r.2.0, r.2.1, r.2.2, r.2.3);

@@ -12,7 +12,7 @@ use Rattle.definitions.specs.States.{view, qc_high, Justified, leads, child, lea
 use Rattle.definitions.specs.Sendings.{To.to_all, Sending, sendings, proposes, proposal_frame}
 use Rattle.definitions.specs.Premises.{CoreOf}
 use Rattle.definitions.proofs.Digests.{digest_of-one}
-use Rattle.linear_law.proofs.Sound.{IsSound}
+use Rattle.definitions.proofs.Sound.{IsSound}
 use Rattle.linear_law.proofs.Linear.{ground}
 use Rattle.linear_law.proofs.StoredFrames.{AreStored}
 use Rattle.linear_law.proofs.MadeCertificates.{qc_high-is}

@@ -15,7 +15,7 @@ use Rattle.definitions.specs.Chronicles.{Step, Step.took_block, Step.got_vote, S
 use Rattle.definitions.specs.Checks.{Identity}
 use Rattle.definitions.specs.States.{announcements, announced, reached, view, raised, qc_high, is_same_request, is_due, with_request, pending, leads, is_known, picks, child, leaf, or_else}
 use Rattle.definitions.proofs.Certificates.{IsDigest-digest_of, all-filter}
-use Rattle.linear_law.proofs.Sound.{same_bytes}
+use Rattle.definitions.proofs.Trees.{same_bytes}
 use Rattle.linear_law.proofs.StoredFrames.{AreStored}
 
 -- ---- views

@@ -1,4 +1,3 @@
-pub mod Sound
 pub mod Inputs
 pub mod Rows
 pub mod Effects

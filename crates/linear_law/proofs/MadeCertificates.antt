@@ -17,7 +17,7 @@ use Rattle.definitions.specs.States.{votes, by_voter, Justified, raised, higher,
 use Rattle.definitions.proofs.Chronicles.{tree-genesis, tree-grows, taken-tree, tree-just1}
 use Rattle.definitions.proofs.Certificates.{AreOfEach, IsDigest-digest, IsDigest-digest_of, IsCertificate-by_voter, is_good-by_voter, all-implied}
 use Rattle.linear_law.specs.Law.{HasCertificates}
-use Rattle.linear_law.proofs.Sound.{same_bytes}
+use Rattle.definitions.proofs.Trees.{same_bytes}
 use Rattle.linear_law.proofs.StoredFrames.{AreStored}
 
 -- ---- the votes that are kept

@@ -8,7 +8,7 @@ use Rattle.std.specs.Str.{bytes_eq}
 use Rattle.std.proofs.lemmas.Bool.{cond_both, and_parts, and_from, not-false, not_from_false, ltb-true, eqb-true, eq-eqb, or_parts}
 use lib.Pointwise.{bytes_decides}
 use Rattle.definitions.proofs.Lists.{Among-either, Among-map}
-use Rattle.linear_law.proofs.Sound.{Outcome, Outcome.unchanged, Outcome.refused, Outcome.lacks, Outcome.conflict, Outcome.stood, Outcome.cut, step-outcome}
+use Rattle.definitions.proofs.Sound.{Outcome, Outcome.unchanged, Outcome.refused, Outcome.lacks, Outcome.conflict, Outcome.stood, Outcome.cut, step-outcome}
 use Rattle.linear_law.proofs.Effects.{is_member, Effects, Effects.idle, Effects.step_by, Effects.hearing, Effects.submitting, effects}
 use Rattle.linear_law.proofs.Runs.{chronicles, IsRun, IsMadeWell, IsHonest, member-faulty, arises-checked}
 use Rattle.linear_law.proofs.Fits.{AnswersFit}

@@ -4,7 +4,7 @@ use Rattle.definitions.proofs.Lists.{Among-take, Among-either, Among-map, length
 use Rattle.std.proofs.Common.{ℕ, ◌≡◌, ◌+◌, ◌-◌, ◌<◌, ◌≤◌, ◌&&◌, not, ◌==◌, Bool, true, false, List, [], ◌∷◌, ◌++◌, length, cond, refl, sym, ap, subst, ◌∙◌, arith, inl, inr, take, true≢false, ltb, nat_lt, min, Option, Some, None, ◌%◌}
 use Rattle.std.proofs.lemmas.Bool.{cond_both, and_cases, not-false, ltb-true, ltb-false}
 use Rattle.definitions.proofs.Branches.{extends-true, length-extends}
-use Rattle.linear_law.proofs.Sound.{Outcome, Outcome.unchanged, Outcome.refused, Outcome.lacks, Outcome.conflict, Outcome.stood, Outcome.cut}
+use Rattle.definitions.proofs.Sound.{Outcome, Outcome.unchanged, Outcome.refused, Outcome.lacks, Outcome.conflict, Outcome.stood, Outcome.cut}
 use Rattle.definitions.specs.Lists.{beginning, IsBeginning, Among}
 use Rattle.definitions.specs.Frames.{Frame}
 use Rattle.definitions.specs.Branches.{Branch, just3, Extends, extends, highest}

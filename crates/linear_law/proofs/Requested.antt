@@ -3,7 +3,7 @@ use Rattle.ids.specs.declared.kind.Kind.TheVariants as kind
 use Rattle.std.proofs.Common.{ℕ, ◌≡◌, ◌^◌, ◌<◌, true, false, List, ◌∷◌, refl, sym, ap, subst, ◌∙◌, inl, inr, None}
 use Rattle.std.proofs.lemmas.Bool.{and_parts}
 use Rattle.definitions.proofs.Lists.{Among-before}
-use Rattle.linear_law.proofs.Sound.{Outcome, Outcome.unchanged, Outcome.refused, Outcome.lacks, Outcome.conflict, Outcome.stood, Outcome.cut, step-outcome}
+use Rattle.definitions.proofs.Sound.{Outcome, Outcome.unchanged, Outcome.refused, Outcome.lacks, Outcome.conflict, Outcome.stood, Outcome.cut, step-outcome}
 use Rattle.linear_law.proofs.Inputs.{all-among, FromInput, AllStanding, ruling-from}
 use Rattle.linear_law.proofs.Rows.{put_row-both}
 use Rattle.linear_law.proofs.Effects.{is_member, Arises, Effects, Effects.idle, Effects.step_by, Effects.hearing, Effects.submitting, admits-good, effects}

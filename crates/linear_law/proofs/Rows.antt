@@ -4,7 +4,7 @@ use Rattle.std.proofs.Common.{ℕ, ◌≡◌, Bool, true, false, [], ◌∷◌, 
 use Rattle.std.specs.Bool.{⊤}
 use Rattle.std.proofs.lemmas.Bool.{eqb-true, eq-eqb, cond_both, cond-true, cond-false, cases_Bool, ne_eqb}
 use Rattle.definitions.proofs.Digests.{digest_of-one}
-use Rattle.linear_law.proofs.Sound.{IsSound}
+use Rattle.definitions.proofs.Sound.{IsSound}
 use Rattle.definitions.proofs.Branches.{just1-extends}
 use Rattle.definitions.specs.Lists.{Among}
 use Rattle.definitions.specs.Frames.{Core, genesis_core}

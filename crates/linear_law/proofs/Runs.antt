@@ -8,7 +8,7 @@ use Rattle.std.proofs.lemmas.Bool.{and_parts, eq-eqb, cond_both, cond-true, not-
 use Rattle.std.specs.List.{list_any}
 use Rattle.definitions.proofs.Lists.{Among-either, Among-map}
 use Rattle.definitions.proofs.Branches.{extends-from}
-use Rattle.linear_law.proofs.Sound.{IsSound, Outcome, Outcome.unchanged, Outcome.refused, Outcome.lacks, Outcome.conflict, Outcome.stood, Outcome.cut, step-outcome, Keeps, ruling-sound, IsCheckedInput}
+use Rattle.definitions.proofs.Sound.{IsSound, Outcome, Outcome.unchanged, Outcome.refused, Outcome.lacks, Outcome.conflict, Outcome.stood, Outcome.cut, step-outcome, Keeps, ruling-sound, IsCheckedInput}
 use Rattle.linear_law.proofs.Inputs.{Carries, FromInput, AllStanding, ruling-from, IsCarried, check-carried, carried-checked}
 use Rattle.linear_law.proofs.Rows.{IsRow, same-row, put_row, put_row-both, StepMayFollow, row-grows}
 use Rattle.linear_law.proofs.Effects.{is_member, Arises, Brings, Effects, Effects.idle, Effects.step_by, Effects.hearing, Effects.submitting, admits-good, effects}

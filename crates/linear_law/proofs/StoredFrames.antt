@@ -1,25 +1,27 @@
 -- What a replica stores comes from frames that were read and admitted.
 use Rattle.ids.specs.declared.fault.Fault.TheVariants as fault
-use Rattle.std.proofs.Common.{ℕ, suc, ◌≡◌, ◌<◌, ◌^◌, ◌&&◌, not, true, [], ◌∷◌, length, refl, sym, subst, inl, inr, Option, Some, None, true≢false, ◌==◌, nat_lt, count_by}
+use Rattle.std.proofs.Common.{ℕ, ◌≡◌, ◌<◌, ◌^◌, ◌&&◌, not, true, [], ◌∷◌, length, refl, sym, subst, inl, inr, Option, Some, None, true≢false, nat_lt, ◌∙◌, ap}
 use Rattle.std.specs.Bool.{⊤}
 use Rattle.std.specs.List.{list_any}
-use Rattle.std.proofs.lemmas.Bool.{and_parts, eqb-true, cond_both, not-false}
+use Rattle.std.proofs.lemmas.Bool.{and_parts, cond_both}
 use Rattle.definitions.specs.Lists.{Among}
 use Rattle.definitions.specs.Bytes.{Bytes}
 use Rattle.definitions.specs.Frames.{Core, Vote, Certificate, Command, Frame}
 use Rattle.definitions.specs.Frames as frame
 use Rattle.definitions.specs.FrameLimits.{IsDigest, IsCommand, IsCore, IsVote, IsCertificate, IsFrame}
 use Rattle.definitions.specs.Branches.{Branch, just1}
-use Rattle.definitions.specs.Digests.{digest, digest_of, core_of}
+use Rattle.definitions.specs.Digests.{digest_of, core_of}
 use Rattle.definitions.specs.Chronicles.{Admitted, Step, Step.took_block, Step.got_vote, Step.got_new_view, Step.got_request, Chronicle, tree, history}
 use Rattle.definitions.specs.Checks.{Identity, is_good, is_genesis, vote_verifies}
 use Rattle.definitions.specs.States.{is_due, pending, is_same_request}
-use Rattle.definitions.specs.Rulings.{Input, Input.proposal_in, Input.block_in, Input.vote_in, Input.new_view_in, Input.request_in, Input.fetch_in, Input.timeout_in, Input.beat_in, Ruling, Ruling.due, Ruling.missing, Ruling.refusing, find_block, justifies, admitted, on_known, on_new, on_block, on_request, with_block, ruling}
+use Rattle.definitions.specs.Rulings.{Input, Input.proposal_in, Input.block_in, Input.vote_in, Input.new_view_in, Input.request_in, Input.fetch_in, Input.timeout_in, Input.beat_in, Ruling, Ruling.due, Ruling.missing, Ruling.refusing, find_block, admitted, on_placing, on_block, on_request, with_block, ruling}
 use Rattle.definitions.specs.Admission.{check, Checked.passes, Checked.rejected}
 use Rattle.definitions.specs.Worlds.{World, Event, self_of}
 use Rattle.definitions.specs.Events.{party_of}
-use Rattle.linear_law.proofs.Sound.{IsSound, IsTree, found, same_bytes, block_of}
-use Rattle.linear_law.proofs.Inputs.{core-known, when-good}
+use Rattle.definitions.proofs.Sound.{IsSound, found}
+use Rattle.definitions.specs.Trees.{most_blocks, Placing, Placing.stands, Placing.grows, Placing.lacks_parent, Placing.unfit, placing, IsTree}
+use Rattle.definitions.proofs.Trees.{same_bytes, found-in, core-known, IsPlaced, placed}
+use Rattle.definitions.proofs.Checks.{when-good}
 use Rattle.linear_law.proofs.Effects.{Arises}
 
 -- ---- what is known of each step that is stored
@@ -104,39 +106,24 @@ genesis-only : (c : Chronicle) (b : Branch) → IsTree (tree c) → Among b (tre
 unfolding digest_of
 genesis-only c b tr m h = tr.one b [] m tr.genesis (same_bytes _ _ h)
 
--- a block that stood in the tree
-known-stored : (self : Identity) (w : Option ℕ) (b : Branch) (core : Core) (q : Certificate) (c : Chronicle) → IsCore self.sizes core → IsCertificate self.sizes q → is_good self q ≡ true → IsStoredRuling self c (on_known self w b core q c)
-unfolding on_known admitted
-known-stored self w b core q c hk hq g =
-    cond_both (justifies q b) _ _ (IsStoredRuling self c)
-    (λ e. record { core_is = hk; certificate_is = hq; good = g; justified = same_bytes _ _ e; stored = λ n. absurd (true≢false (sym n)) })
-    (λ e. tt)
-
--- a block that is put on its parent
-new-stored : (self : Identity) (w : Option ℕ) (parent : Branch) (core : Core) (q : Certificate) (c : Chronicle) → IsCore self.sizes core → IsCertificate self.sizes q → is_good self q ≡ true → core.parent ≡ digest_of parent → IsStoredRuling self c (on_new self w parent core q c)
-unfolding on_new admitted
-new-stored self w parent core q c hk hq g ep =
-    cond_both (not (core.height == suc (length parent))) _ _ P (λ e. tt) (λ h.
-    cond_both (not (justifies q (block_of core ∷ parent))) _ _ P (λ e. tt) (λ j.
-    cond_both (not (nat_lt (count_by (λ x. length x == suc (length parent)) (tree c)) 64)) _ _ P (λ e. tt) (λ r.
-    cond_both (not (nat_lt (length (tree c)) 1048576)) _ _ P (λ e. tt) (λ f.
-    record { core_is = hk; certificate_is = hq; good = g; justified = same_bytes _ _ (not-false _ j); stored = λ n. core-known core parent ep (eqb-true core.height (suc (length parent)) (not-false _ h)) }))))
-  where
-    P : Ruling → Type 0
-    P = IsStoredRuling self c
-
 -- a block with its certificate
-block-stored : (self : Identity) (w : Option ℕ) (sender : ℕ) (core : Core) (q : Certificate) (c : Chronicle) → IsCore self.sizes core → IsCertificate self.sizes q → is_good self q ≡ true → IsStoredRuling self c (on_block self w sender core q c)
-unfolding on_block
-block-stored self w sender core q c hk hq g = known (find_block (digest core) c)
-  where
-    over : (o : Option Branch) → find_block core.parent c ≡ o → IsStoredRuling self c (elim o [ Some parent ↦ on_new self w parent core q c | None ↦ missing sender core.parent ])
-    over None e = hk.parent
-    over (Some parent) e = new-stored self w parent core q c hk hq g (sym (found core.parent c parent e).1)
+placed-stored : (self : Identity) (w : Option ℕ) (sender : ℕ) (core : Core) (q : Certificate) (c : Chronicle) → IsCore self.sizes core → IsCertificate self.sizes q → is_good self q ≡ true → (p : Placing) → IsPlaced most_blocks core q (tree c) p → IsStoredRuling self c (on_placing self w sender core q c p)
+unfolding on_placing admitted
+placed-stored self w sender core q c hk hq g (stands b) h = record { core_is = hk; certificate_is = hq; good = g; justified = h.1; stored = λ n. absurd (true≢false (sym n)) }
+placed-stored self w sender core q c hk hq g (grows b) (parent, t) =
+    let ep = sym (found-in core.parent (tree c) parent t.parent_found).1 in
+    record {
+      core_is = hk;
+      certificate_is = hq;
+      good = g;
+      justified = t.justified ∙ ap (λ (x : Branch). digest_of (just1 x)) (sym t.is);
+      stored = λ n. ap core_of t.is ∙ core-known core parent ep t.height;
+    }
+placed-stored self w sender core q c hk hq g lacks_parent h = hk.parent
+placed-stored self w sender core q c hk hq g (unfit n) h = tt
 
-    known : (o : Option Branch) → IsStoredRuling self c (elim o [ Some b ↦ on_known self w b core q c | None ↦ elim (find_block core.parent c) [ Some parent ↦ on_new self w parent core q c | None ↦ missing sender core.parent ] ])
-    known (Some b) = known-stored self w b core q c hk hq g
-    known None = over (find_block core.parent c) refl
+block-stored : (self : Identity) (w : Option ℕ) (sender : ℕ) (core : Core) (q : Certificate) (c : Chronicle) → IsCore self.sizes core → IsCertificate self.sizes q → is_good self q ≡ true → IsStoredRuling self c (on_block self w sender core q c)
+block-stored self w sender core q c hk hq g = placed-stored self w sender core q c hk hq g (placing most_blocks core q (tree c)) (placed most_blocks core q (tree c))
 
 -- a vote
 vote-stored : (self : Identity) (b : Vote) (d : Bytes) (c : Chronicle) → IsSound self.sizes c → IsDigest d → IsVote self.sizes b → vote_verifies self d b ≡ true → (o : Option Branch) → find_block d c ≡ o → IsStoredRuling self c (with_block o b.voter d (λ x. due (got_vote b.voter b.vector x)))

@@ -7,10 +7,11 @@ use Rattle.definitions.specs.Keyrings.{tag_for, verify, tags_for}
 use Rattle.definitions.specs.Branches.{justify_height, just1, just2, just3, command_eq, block_eq, branch_eq, extends, highest}
 use Rattle.definitions.specs.Digests.{digest, core_over, digest_of, core_of}
 use Rattle.definitions.specs.Histories.{history_of, answers, last_seq}
-use Rattle.definitions.specs.Chronicles.{voted, taken, tree, vheight, lock, decides, decided_by, decided, executed, history, is_clear, clear_above, may_vote}
+use Rattle.definitions.specs.Chronicles.{voted, taken, tree, vheight, lock, decides, decided_by, decided, executed, history, stored, may_vote}
 use Rattle.definitions.specs.Checks.{counted, is_good, is_clear_core}
 use Rattle.definitions.specs.States.{view, announcements, announced, reached, votes, raised, qc_high, is_due, pending, leads, is_known, picks, child, leaf, proposed}
-use Rattle.definitions.specs.Rulings.{find_block, admitted, votes_for, on_known, on_new, on_block, ruling, conflicts}
+use Rattle.definitions.specs.Trees.{is_clear, clear_above, placing_known, placing_new, placing}
+use Rattle.definitions.specs.Rulings.{find_block, admitted, votes_for, on_placing, ruling, conflicts}
 use Rattle.definitions.specs.Sendings.{vote_frame, proposal_frame, new_replies, sendings}
 use Rattle.definitions.specs.Replicas.{on_step, on_ruling, step}
 use Rattle.definitions.specs.Admission.{check}
@@ -40,29 +41,29 @@ proposal_sent = record { event = 1; sender = 0; to = to_all; frame = example.pro
 
 -- what the run sends
 pub sends : SendsOneVote
-unfolding sha256 digest_bytes hash_after compress rounds schedule first_words beginning greatest count_below hmac tag_for verify tags_for justify_height just1 just2 just3 command_eq block_eq branch_eq extends highest digest core_over digest_of core_of history_of answers last_seq voted taken tree vheight lock decides decided_by decided executed history is_clear clear_above may_vote counted is_good is_clear_core view announcements announced reached votes raised qc_high is_due pending leads is_known picks child leaf proposed find_block admitted votes_for on_known on_new on_block ruling conflicts vote_frame proposal_frame new_replies sendings on_step on_ruling step check new_world nothing stepped comes party_of brought acts effect happens refusal run after
+unfolding sha256 digest_bytes hash_after compress rounds schedule first_words beginning greatest count_below hmac tag_for verify tags_for justify_height just1 just2 just3 command_eq block_eq branch_eq extends highest digest core_over digest_of core_of history_of answers last_seq voted taken tree vheight lock decides decided_by decided executed history stored is_clear clear_above may_vote counted is_good is_clear_core view announcements announced reached votes raised qc_high is_due pending leads is_known picks child leaf proposed find_block admitted votes_for placing_known placing_new placing on_placing ruling conflicts vote_frame proposal_frame new_replies sendings on_step on_ruling step check new_world nothing stepped comes party_of brought acts effect happens refusal run after
 sends = refl
 
 -- no event is refused by the run
 pub taken_whole : IsTakenWhole
-unfolding sha256 digest_bytes hash_after compress rounds schedule first_words beginning greatest count_below hmac tag_for verify tags_for justify_height just1 just2 just3 command_eq block_eq branch_eq extends highest digest core_over digest_of core_of history_of answers last_seq voted taken tree vheight lock decides decided_by decided executed history is_clear clear_above may_vote counted is_good is_clear_core view announcements announced reached votes raised qc_high is_due pending leads is_known picks child leaf proposed find_block admitted votes_for on_known on_new on_block ruling conflicts vote_frame proposal_frame new_replies sendings on_step on_ruling step check new_world nothing stepped comes party_of brought acts effect happens refusal run after
+unfolding sha256 digest_bytes hash_after compress rounds schedule first_words beginning greatest count_below hmac tag_for verify tags_for justify_height just1 just2 just3 command_eq block_eq branch_eq extends highest digest core_over digest_of core_of history_of answers last_seq voted taken tree vheight lock decides decided_by decided executed history stored is_clear clear_above may_vote counted is_good is_clear_core view announcements announced reached votes raised qc_high is_due pending leads is_known picks child leaf proposed find_block admitted votes_for placing_known placing_new placing on_placing ruling conflicts vote_frame proposal_frame new_replies sendings on_step on_ruling step check new_world nothing stepped comes party_of brought acts effect happens refusal run after
 taken_whole = refl
 
 -- how long its frames are
 pub lengths : Lengths
-unfolding sha256 digest_bytes hash_after compress rounds schedule first_words beginning greatest count_below hmac tag_for verify tags_for justify_height just1 just2 just3 command_eq block_eq branch_eq extends highest digest core_over digest_of core_of history_of answers last_seq voted taken tree vheight lock decides decided_by decided executed history is_clear clear_above may_vote counted is_good is_clear_core view announcements announced reached votes raised qc_high is_due pending leads is_known picks child leaf proposed find_block admitted votes_for on_known on_new on_block ruling conflicts vote_frame proposal_frame new_replies sendings on_step on_ruling step check new_world nothing stepped comes party_of brought acts effect happens refusal run after
+unfolding sha256 digest_bytes hash_after compress rounds schedule first_words beginning greatest count_below hmac tag_for verify tags_for justify_height just1 just2 just3 command_eq block_eq branch_eq extends highest digest core_over digest_of core_of history_of answers last_seq voted taken tree vheight lock decides decided_by decided executed history stored is_clear clear_above may_vote counted is_good is_clear_core view announcements announced reached votes raised qc_high is_due pending leads is_known picks child leaf proposed find_block admitted votes_for placing_known placing_new placing on_placing ruling conflicts vote_frame proposal_frame new_replies sendings on_step on_ruling step check new_world nothing stepped comes party_of brought acts effect happens refusal run after
 lengths = refl
 
 -- nor by a party
 pub answered : Answers
-unfolding sha256 digest_bytes hash_after compress rounds schedule first_words beginning greatest count_below hmac tag_for verify tags_for justify_height just1 just2 just3 command_eq block_eq branch_eq extends highest digest core_over digest_of core_of history_of answers last_seq voted taken tree vheight lock decides decided_by decided executed history is_clear clear_above may_vote counted is_good is_clear_core view announcements announced reached votes raised qc_high is_due pending leads is_known picks child leaf proposed find_block admitted votes_for on_known on_new on_block ruling conflicts vote_frame proposal_frame new_replies sendings on_step on_ruling step check new_world nothing stepped comes party_of brought acts effect happens refusal run after
+unfolding sha256 digest_bytes hash_after compress rounds schedule first_words beginning greatest count_below hmac tag_for verify tags_for justify_height just1 just2 just3 command_eq block_eq branch_eq extends highest digest core_over digest_of core_of history_of answers last_seq voted taken tree vheight lock decides decided_by decided executed history stored is_clear clear_above may_vote counted is_good is_clear_core view announcements announced reached votes raised qc_high is_due pending leads is_known picks child leaf proposed find_block admitted votes_for placing_known placing_new placing on_placing ruling conflicts vote_frame proposal_frame new_replies sendings on_step on_ruling step check new_world nothing stepped comes party_of brought acts effect happens refusal run after
 answered = refl
 
 -- ---- the premises
 
 -- the proposal is a frame
 proposed_is_frame : IsFrame sizes example.proposed
-unfolding sha256 digest_bytes hash_after compress rounds schedule first_words beginning greatest count_below hmac tag_for verify tags_for justify_height just1 just2 just3 command_eq block_eq branch_eq extends highest digest core_over digest_of core_of history_of answers last_seq voted taken tree vheight lock decides decided_by decided executed history is_clear clear_above may_vote counted is_good is_clear_core view announcements announced reached votes raised qc_high is_due pending leads is_known picks child leaf proposed find_block admitted votes_for on_known on_new on_block ruling conflicts vote_frame proposal_frame new_replies sendings on_step on_ruling step check new_world nothing stepped comes party_of brought acts effect happens refusal run after
+unfolding sha256 digest_bytes hash_after compress rounds schedule first_words beginning greatest count_below hmac tag_for verify tags_for justify_height just1 just2 just3 command_eq block_eq branch_eq extends highest digest core_over digest_of core_of history_of answers last_seq voted taken tree vheight lock decides decided_by decided executed history stored is_clear clear_above may_vote counted is_good is_clear_core view announcements announced reached votes raised qc_high is_due pending leads is_known picks child leaf proposed find_block admitted votes_for placing_known placing_new placing on_placing ruling conflicts vote_frame proposal_frame new_replies sendings on_step on_ruling step check new_world nothing stepped comes party_of brought acts effect happens refusal run after
 proposed_is_frame = (
   omega arith,
   record { parent = refl; height = (omega arith, omega arith); justify_height = omega arith; count = omega arith; commands = tt },
@@ -72,12 +73,12 @@ proposed_is_frame = (
 
 -- the record after the beat and after the vote
 after_beat : (after start ((beat 0, ample) ∷ [])).sent ≡ proposal_sent ∷ []
-unfolding sha256 digest_bytes hash_after compress rounds schedule first_words beginning greatest count_below hmac tag_for verify tags_for justify_height just1 just2 just3 command_eq block_eq branch_eq extends highest digest core_over digest_of core_of history_of answers last_seq voted taken tree vheight lock decides decided_by decided executed history is_clear clear_above may_vote counted is_good is_clear_core view announcements announced reached votes raised qc_high is_due pending leads is_known picks child leaf proposed find_block admitted votes_for on_known on_new on_block ruling conflicts vote_frame proposal_frame new_replies sendings on_step on_ruling step check new_world nothing stepped comes party_of brought acts effect happens refusal run after
+unfolding sha256 digest_bytes hash_after compress rounds schedule first_words beginning greatest count_below hmac tag_for verify tags_for justify_height just1 just2 just3 command_eq block_eq branch_eq extends highest digest core_over digest_of core_of history_of answers last_seq voted taken tree vheight lock decides decided_by decided executed history stored is_clear clear_above may_vote counted is_good is_clear_core view announcements announced reached votes raised qc_high is_due pending leads is_known picks child leaf proposed find_block admitted votes_for placing_known placing_new placing on_placing ruling conflicts vote_frame proposal_frame new_replies sendings on_step on_ruling step check new_world nothing stepped comes party_of brought acts effect happens refusal run after
 after_beat = refl
 
 after_vote : (after start ((beat 0, ample) ∷ (relay 0 1 (Some example.proposed), ample) ∷ [])).sent
     ≡ proposal_sent ∷ record { event = 2; sender = 1; to = to_party 0; frame = example.voted } ∷ []
-unfolding sha256 digest_bytes hash_after compress rounds schedule first_words beginning greatest count_below hmac tag_for verify tags_for justify_height just1 just2 just3 command_eq block_eq branch_eq extends highest digest core_over digest_of core_of history_of answers last_seq voted taken tree vheight lock decides decided_by decided executed history is_clear clear_above may_vote counted is_good is_clear_core view announcements announced reached votes raised qc_high is_due pending leads is_known picks child leaf proposed find_block admitted votes_for on_known on_new on_block ruling conflicts vote_frame proposal_frame new_replies sendings on_step on_ruling step check new_world nothing stepped comes party_of brought acts effect happens refusal run after
+unfolding sha256 digest_bytes hash_after compress rounds schedule first_words beginning greatest count_below hmac tag_for verify tags_for justify_height just1 just2 just3 command_eq block_eq branch_eq extends highest digest core_over digest_of core_of history_of answers last_seq voted taken tree vheight lock decides decided_by decided executed history stored is_clear clear_above may_vote counted is_good is_clear_core view announcements announced reached votes raised qc_high is_due pending leads is_known picks child leaf proposed find_block admitted votes_for placing_known placing_new placing on_placing ruling conflicts vote_frame proposal_frame new_replies sendings on_step on_ruling step check new_world nothing stepped comes party_of brought acts effect happens refusal run after
 after_vote = refl
 
 -- the proposal's own tag for replica 1 is all that replica 1 relies on, and it was sent
@@ -143,11 +144,11 @@ two_apart a b (inr e) (inr f) h = e ∙ sym f
 
 -- what is brought is read as the proposal
 first_read : IsReadIn (after start ((beat 0, ample) ∷ [])) (relay 0 1 (Some example.proposed))
-unfolding sha256 digest_bytes hash_after compress rounds schedule first_words beginning greatest count_below hmac tag_for verify tags_for justify_height just1 just2 just3 command_eq block_eq branch_eq extends highest digest core_over digest_of core_of history_of answers last_seq voted taken tree vheight lock decides decided_by decided executed history is_clear clear_above may_vote counted is_good is_clear_core view announcements announced reached votes raised qc_high is_due pending leads is_known picks child leaf proposed find_block admitted votes_for on_known on_new on_block ruling conflicts vote_frame proposal_frame new_replies sendings on_step on_ruling step check new_world nothing stepped comes party_of brought acts effect happens refusal run after bytes_of
+unfolding sha256 digest_bytes hash_after compress rounds schedule first_words beginning greatest count_below hmac tag_for verify tags_for justify_height just1 just2 just3 command_eq block_eq branch_eq extends highest digest core_over digest_of core_of history_of answers last_seq voted taken tree vheight lock decides decided_by decided executed history stored is_clear clear_above may_vote counted is_good is_clear_core view announcements announced reached votes raised qc_high is_due pending leads is_known picks child leaf proposed find_block admitted votes_for placing_known placing_new placing on_placing ruling conflicts vote_frame proposal_frame new_replies sendings on_step on_ruling step check new_world nothing stepped comes party_of brought acts effect happens refusal run after bytes_of
 first_read = (proposed_is_frame, refl)
 
 second_read : IsReadIn (after start ((beat 0, ample) ∷ (relay 0 1 (Some example.proposed), ample) ∷ [])) (relay 0 1 (Some example.proposed))
-unfolding sha256 digest_bytes hash_after compress rounds schedule first_words beginning greatest count_below hmac tag_for verify tags_for justify_height just1 just2 just3 command_eq block_eq branch_eq extends highest digest core_over digest_of core_of history_of answers last_seq voted taken tree vheight lock decides decided_by decided executed history is_clear clear_above may_vote counted is_good is_clear_core view announcements announced reached votes raised qc_high is_due pending leads is_known picks child leaf proposed find_block admitted votes_for on_known on_new on_block ruling conflicts vote_frame proposal_frame new_replies sendings on_step on_ruling step check new_world nothing stepped comes party_of brought acts effect happens refusal run after bytes_of
+unfolding sha256 digest_bytes hash_after compress rounds schedule first_words beginning greatest count_below hmac tag_for verify tags_for justify_height just1 just2 just3 command_eq block_eq branch_eq extends highest digest core_over digest_of core_of history_of answers last_seq voted taken tree vheight lock decides decided_by decided executed history stored is_clear clear_above may_vote counted is_good is_clear_core view announcements announced reached votes raised qc_high is_due pending leads is_known picks child leaf proposed find_block admitted votes_for placing_known placing_new placing on_placing ruling conflicts vote_frame proposal_frame new_replies sendings on_step on_ruling step check new_world nothing stepped comes party_of brought acts effect happens refusal run after bytes_of
 second_read = (proposed_is_frame, refl)
 
 nothing_read : IsReadIn start (beat 0)

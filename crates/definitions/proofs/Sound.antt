@@ -2,23 +2,23 @@
 use Rattle.definitions.proofs.Branches.{just1-extends, branch_eq-decides, extends-true, extends-cases, length-extends, justify_height-just1}
 use Rattle.ids.specs.declared.fault.Fault.{Fault}
 use Rattle.ids.specs.declared.fault.Fault.TheVariants as fault
-use Rattle.std.proofs.Common.{ℕ, suc, ◌≡◌, ◌<◌, ◌≤◌, ◌⊎◌, ◌&&◌, not, Bool, true, false, List, [], ◌∷◌, ◌++◌, length, cond, refl, sym, ap, subst, ◌∙◌, arith, inl, inr, Option, Some, None, true≢false, ◌==◌, nat_lt, count_by, bytes_eq, ◌+◌, min, if◌then◌else◌}
+use Rattle.std.proofs.Common.{ℕ, suc, ◌≡◌, ◌<◌, ◌≤◌, ◌⊎◌, ◌&&◌, not, Bool, true, false, List, [], ◌∷◌, length, cond, refl, sym, ap, subst, ◌∙◌, arith, inl, inr, map, Option, Some, None, true≢false, nat_lt, ◌+◌, min, if◌then◌else◌}
 use Rattle.std.specs.Bool.{⊤}
 use Rattle.std.specs.List.{list_any, AllByRecursion}
-use Rattle.std.proofs.lemmas.Bool.{and_parts, or_cases, eqb-true, cond_both, ltb-true, ltb-false, not-false, cases_Bool, leb-true, cond-true, cond-false}
+use Rattle.std.proofs.lemmas.Bool.{and_parts, or_cases, cond_both, ltb-true, ltb-false, cases_Bool, leb-true, cond-true, cond-false}
 use lib.Dec.{ltb}
-use lib.Pointwise.{bytes_decides}
-use Rattle.definitions.proofs.Lists.{find_some, find_none}
 use Rattle.definitions.specs.Lists.{Among, AreDistinct}
 use Rattle.definitions.specs.Frames.{Command, Core, Vote, Certificate}
-use Rattle.definitions.specs.Branches.{Block, Branch, justify_height, just1, Extends, branch_eq, IsBranch}
+use Rattle.definitions.specs.Branches.{Branch, justify_height, just1, Extends, IsBranch}
 use Rattle.definitions.specs.Bytes.{Bytes}
 use Rattle.ids.specs.Sizes.{Sizes, replicas, quorum}
-use Rattle.definitions.specs.Digests.{digest, core_over, digest_of}
-use Rattle.definitions.specs.Chronicles.{Admitted, Step, Step.took_block, Step.got_vote, Step.got_new_view, Step.got_request, Step.timed_out, Step.beat, Chronicle, taken, tree, lock, history, is_clear, clear_above, may_vote, IsLawfulVote, IsLawfulStep, IsLawful}
+use Rattle.definitions.specs.Digests.{digest, digest_of}
+use Rattle.definitions.specs.Trees.{block_of, is_clear, clear_above, most_blocks, Placing, Placing.stands, Placing.grows, Placing.lacks_parent, Placing.unfit, placing, IsTree}
+use Rattle.definitions.proofs.Trees.{same_bytes, found-in, unfit-calm, IsPlaced, placed, tree-below, growth-tree, growth-new, grown-heights}
+use Rattle.definitions.specs.Chronicles.{Admitted, Step, Step.took_block, Step.got_vote, Step.got_new_view, Step.got_request, Step.timed_out, Step.beat, Chronicle, taken, stored, stored_of, tree, lock, history, may_vote, IsLawfulVote, IsLawfulStep, IsLawful}
 use Rattle.definitions.specs.Checks.{Identity, counted, is_good, is_genesis}
 use Rattle.definitions.specs.States.{is_due, pending, is_same_request}
-use Rattle.definitions.specs.Rulings.{Input, Input.proposal_in, Input.block_in, Input.vote_in, Input.new_view_in, Input.request_in, Input.fetch_in, Input.timeout_in, Input.beat_in, Ruling, Ruling.due, Ruling.missing, Ruling.refusing, find_block, justifies, admitted, votes_for, take_block, on_known, on_new, on_block, on_request, conflicts, with_block, ruling}
+use Rattle.definitions.specs.Rulings.{Input, Input.proposal_in, Input.block_in, Input.vote_in, Input.new_view_in, Input.request_in, Input.fetch_in, Input.timeout_in, Input.beat_in, Ruling, Ruling.due, Ruling.missing, Ruling.refusing, find_block, admitted, votes_for, take_block, on_placing, on_block, on_request, conflicts, with_block, ruling}
 use Rattle.definitions.specs.Sendings.{sendings}
 use Rattle.definitions.specs.Replicas.{on_ruling, on_step, step, Memory, Memory.ample, Memory.refused_at_once, Memory.refused_after, Replica, Standing, Standing.running, Standing.stopped, Standing.cut_short, Reaction, Reaction.fails, Reaction.sends_out, Reaction.asks_for, stopped_at, stops, executes}
 
@@ -34,13 +34,6 @@ IsCheckedInput self (proposal_in w core q) = IsChecked self core q
 IsCheckedInput self (block_in sender core q) = IsChecked self core q
 IsCheckedInput self i = ⊤
 
--- the tree is one by digests, and closed
-pub record IsTree (t : List Branch) : Type 0 where
-  pub branches : (x : Branch) → Among x t → IsBranch x
-  pub one : (x y : Branch) → Among x t → Among y t → digest_of x ≡ digest_of y → x ≡ y
-  pub parents : (b : Block) (parent : Branch) → Among (b ∷ parent) t → Among parent t
-  pub genesis : Among [] t
-
 pub record IsSound (need : Sizes) (c : Chronicle) : Type 0 where
   pub is_tree : IsTree (tree c)
   pub lawful : IsLawful need c
@@ -48,7 +41,8 @@ pub record IsSound (need : Sizes) (c : Chronicle) : Type 0 where
   pub heights : (x : Branch) → Among x (tree c) → length x < length (tree c)
 
 -- a clear block was taken as one
-pub clear-taken : (x : Branch) (ys : List Admitted) → list_any (λ a. a.clear && branch_eq a.branch x) ys ≡ true → (a : Admitted) × Among a ys × (a.branch ≡ x) × (a.clear ≡ true)
+pub clear-taken : (x : Branch) (ys : List Admitted) → is_clear x (map stored_of ys) ≡ true → (a : Admitted) × Among a ys × (a.branch ≡ x) × (a.clear ≡ true)
+unfolding is_clear
 clear-taken x [] h = absurd (true≢false (sym h))
 clear-taken x (y ∷ ys) h =
     elim (or_cases _ _ h) [
@@ -56,8 +50,9 @@ clear-taken x (y ∷ ys) h =
       | inr k ↦ (let r = clear-taken x ys k in (r.0, inr r.1, r.2, r.3))
     ]
 
-pub clear_above-each : (height : ℕ) (b : Branch) (c : Chronicle) → clear_above height b c ≡ true → (x : Branch) → Extends b x → height < length x → (a : Admitted) × Among a (taken c) × (a.branch ≡ x) × (a.clear ≡ true)
-unfolding clear_above is_clear
+-- so was each block of a branch that is clear above a height
+pub clear_above-each : (height : ℕ) (b : Branch) (c : Chronicle) → clear_above height b (stored c) ≡ true → (x : Branch) → Extends b x → height < length x → (a : Admitted) × Among a (taken c) × (a.branch ≡ x) × (a.clear ≡ true)
+unfolding clear_above stored
 clear_above-each height [] c h x e l = absurd (let k = length-extends [] x e in omega (arith, k))
 clear_above-each height (b ∷ parent) c h x e l =
     elim (cases_Bool (ltb height (suc (length parent)))) [
@@ -102,9 +97,6 @@ OnStands P (due st) = P st
 OnStands P (missing sender d) = ⊤
 OnStands P (refusing n) = n ≡ fault.Conflict → ⊥
 
-pub same_bytes : (a b : Bytes) → bytes_eq a b ≡ true → a ≡ b
-same_bytes a b h = (bytes_decides a b).0 h
-
 -- what a good certificate of the justified block gives
 certified : (self : Identity) (q : Certificate) (j : Branch) (t : List Branch) → IsTree t → Among j t → is_good self q ≡ true → AreDistinct (counted self q) → AllByRecursion (λ v. v < replicas self.sizes) (counted self q) → q.digest ≡ digest_of j → (AreDistinct (counted self q) × AllByRecursion (λ v. v < replicas self.sizes) (counted self q) × (quorum self.sizes ≤ length (counted self q))) ⊎ (j ≡ [])
 unfolding is_good digest_of
@@ -113,74 +105,6 @@ certified self q j t tr m g d vs e =
       | inl k ↦ inr (tr.one j [] m tr.genesis (sym e ∙ same_bytes _ _ k))
       | inr k ↦ inl (d, vs, leb-true _ _ (sym (cond-false _ _ _ k) ∙ g))
     ]
-
--- all below a block of the tree stands in it
-pub tree-below : (t : List Branch) → IsTree t → (b x : Branch) → Among b t → Extends b x → Among x t
-tree-below t tr b x m ([], e) = subst (λ (y : Branch). Among y t) (sym e) m
-tree-below t tr [] x m (c ∷ added, e) = absurd (nil (sym e))
-  where
-    nil : [] ≡ c ∷ (added ++ x) → ⊥
-    nil h = cc
-tree-below t tr (b ∷ parent) x m (c ∷ added, e) = tree-below t tr parent x (tr.parents b parent m) (added, (cc))
-
--- a block that stood in the tree
-known-sound : (self : Identity) (w : Option ℕ) (b : Branch) (core : Core) (q : Certificate) (c : Chronicle) → IsSound self.sizes c → Among b (tree c) → OnStands (λ st. IsSound self.sizes (st ∷ c)) (on_known self w b core q c)
-unfolding on_known admitted tree taken
-known-sound self w b core q c so m =
-    cond_both (justifies q b) _ _ (OnStands (λ st. IsSound self.sizes (st ∷ c)))
-    (λ e. record {
-      is_tree = so.is_tree;
-      lawful = ((λ v. vote-lawful self.sizes w (admitted self b core q false) c (so.is_tree.branches b m) m v, λ n. absurd (true≢false (sym n))), so.lawful);
-      full = so.full;
-      heights = so.heights;
-    })
-    (λ e k. cc)
-
--- a block that is put on its parent keeps the tree one by digests
-grown : (t : List Branch) (b : Block) (parent : Branch) → IsTree t → Among parent t → b.justify < suc (length parent) → ((x : Branch) → Among x t → digest_of x ≡ digest_of (b ∷ parent) → ⊥) → IsTree ((b ∷ parent) ∷ t)
-grown t b parent tr m below fresh = record {
-  branches = branches;
-  one = one;
-  parents = parents;
-  genesis = inr tr.genesis;
-}
-  where
-    branches : (x : Branch) → Among x ((b ∷ parent) ∷ t) → IsBranch x
-    branches x (inl e) = subst IsBranch (sym e) (below, tr.branches parent m)
-    branches x (inr k) = tr.branches x k
-
-    one : (x y : Branch) → Among x ((b ∷ parent) ∷ t) → Among y ((b ∷ parent) ∷ t) → digest_of x ≡ digest_of y → x ≡ y
-    one x y (inl e) (inl k) d = e ∙ sym k
-    one x y (inl e) (inr k) d = absurd (fresh y k (sym d ∙ ap digest_of e))
-    one x y (inr e) (inl k) d = absurd (fresh x e (d ∙ ap digest_of k))
-    one x y (inr e) (inr k) d = tr.one x y e k d
-
-    parents : (a : Block) (p : Branch) → Among (a ∷ p) ((b ∷ parent) ∷ t) → Among p ((b ∷ parent) ∷ t)
-    parents a p (inl e) = let k : p ≡ parent = cc in inr (subst (λ (y : Branch). Among y t) (sym k) m)
-    parents a p (inr k) = inr (tr.parents a p k)
-
-abbrev pub block_of : Core → Block
-block_of core = record { commands = core.commands; justify = core.justify_height }
-
-digest-core : (core : Core) (parent : Branch) → core.parent ≡ digest_of parent → core.height ≡ suc (length parent) → digest_of (block_of core ∷ parent) ≡ digest core
-unfolding digest_of core_over
-digest-core core parent ep eh = λ i. digest (record { parent = sym ep i; height = sym eh i; justify_height = core.justify_height; commands = core.commands })
-
-new-tree : (core : Core) (parent : Branch) (c : Chronicle) → IsTree (tree c) → Among parent (tree c) → core.parent ≡ digest_of parent → find_block (digest core) c ≡ None → core.justify_height < core.height → core.height ≡ suc (length parent) → IsTree ((block_of core ∷ parent) ∷ tree c)
-unfolding find_block
-new-tree core parent c tr m ep none below eh =
-    grown (tree c) (block_of core) parent tr m (subst (λ (h : ℕ). core.justify_height < h) eh below)
-    (λ x k d. find_none (λ (b : Branch). bytes_eq (digest_of b) (digest core)) (tree c) x none k ((bytes_decides (digest_of x) (digest core)).1 (d ∙ digest-core core parent ep eh)))
-
-not-there : (core : Core) (parent : Branch) (c : Chronicle) → core.parent ≡ digest_of parent → find_block (digest core) c ≡ None → core.height ≡ suc (length parent) → Among (block_of core ∷ parent) (tree c) → ⊥
-unfolding find_block
-not-there core parent c ep none eh k =
-    find_none (λ (b : Branch). bytes_eq (digest_of b) (digest core)) (tree c) (block_of core ∷ parent) none k ((bytes_decides (digest_of (block_of core ∷ parent)) (digest core)).1 (digest-core core parent ep eh))
-
--- each height is below the number of blocks
-grown-heights : (t : List Branch) (b : Block) (parent : Branch) → Among parent t → ((x : Branch) → Among x t → length x < length t) → (x : Branch) → Among x ((b ∷ parent) ∷ t) → length x < length ((b ∷ parent) ∷ t)
-grown-heights t b parent m h x (inl e) = let k = h parent m in let l = ap (λ (y : Branch). length y) e in omega (arith, k, l)
-grown-heights t b parent m h x (inr n) = let k = h x n in omega (arith, k)
 
 -- a new block that passes the tests
 new-step : (self : Identity) (w : Option ℕ) (parent : Branch) (core : Core) (q : Certificate) (c : Chronicle) → IsSound self.sizes c → IsTree ((block_of core ∷ parent) ∷ tree c) → (Among (block_of core ∷ parent) (tree c) → ⊥) → Among parent (tree c) → is_good self q ≡ true → AreDistinct (counted self q) → AllByRecursion (λ v. v < replicas self.sizes) (counted self q) → q.digest ≡ digest_of (just1 (block_of core ∷ parent)) → length (tree c) < 1048576 →
@@ -203,38 +127,34 @@ new-step self w parent core q c so tr fresh m g d vs e room = record {
   heights = grown-heights (tree c) (block_of core) parent m so.heights;
 }
 
-new-sound : (self : Identity) (w : Option ℕ) (parent : Branch) (core : Core) (q : Certificate) (c : Chronicle) → IsChecked self core q → IsSound self.sizes c → Among parent (tree c) → core.parent ≡ digest_of parent → find_block (digest core) c ≡ None → OnStands (λ st. IsSound self.sizes (st ∷ c)) (on_new self w parent core q c)
-unfolding on_new
-new-sound self w parent core q c ch so m ep none =
-    cond_both (not (core.height == suc (length parent))) _ _ P (λ e k. cc) (λ h.
-    cond_both (not (justifies q (block_of core ∷ parent))) _ _ P (λ e k. cc) (λ j.
-    cond_both (not (nat_lt (count_by (λ x. length x == suc (length parent)) (tree c)) 64)) _ _ P (λ e k. cc) (λ r.
-    cond_both (not (nat_lt (length (tree c)) 1048576)) _ _ P (λ e k. cc) (λ f.
-    let eh = eqb-true core.height (suc (length parent)) (not-false _ h) in
-    let tr = new-tree core parent c so.is_tree m ep none ch.below eh in
-    new-step self w parent core q c so tr (not-there core parent c ep none eh) m ch.good ch.distinct ch.voters (same_bytes _ _ (not-false _ j)) (ltb-true _ _ (not-false _ f))))))
-  where
-    P : Ruling → Type 0
-    P = OnStands (λ st. IsSound self.sizes (st ∷ c))
-
 abbrev pub Keeps : Identity → Chronicle → Ruling → Type 0
 Keeps self c v = OnStands (λ st. IsSound self.sizes (st ∷ c)) v
 
 pub found : (d : Bytes) (c : Chronicle) (b : Branch) → find_block d c ≡ Some b → Among b (tree c) × (digest_of b ≡ d)
 unfolding find_block
-found d c b e = let r = find_some (λ (x : Branch). bytes_eq (digest_of x) d) (tree c) b e in (r.0, same_bytes _ _ r.1)
+found d c b e = found-in d (tree c) b e
+
+placed-sound : (self : Identity) (w : Option ℕ) (sender : ℕ) (core : Core) (q : Certificate) (c : Chronicle) → IsChecked self core q → IsSound self.sizes c → (p : Placing) → IsPlaced most_blocks core q (tree c) p → Keeps self c (on_placing self w sender core q c p)
+unfolding on_placing admitted tree taken
+placed-sound self w sender core q c ch so (stands b) h =
+    let m = (found-in (digest core) (tree c) b h.0).0 in
+    record {
+      is_tree = so.is_tree;
+      lawful = ((λ v. vote-lawful self.sizes w (admitted self b core q false) c (so.is_tree.branches b m) m v, λ n. absurd (true≢false (sym n))), so.lawful);
+      full = so.full;
+      heights = so.heights;
+    }
+placed-sound self w sender core q c ch so (grows b) (parent, g) =
+    subst (λ (x : Branch). OnStands (λ st. IsSound self.sizes (st ∷ c)) (take_block self w (admitted self x core q true) c)) (sym g.is)
+    (new-step self w parent core q c so
+    (subst (λ (x : Branch). IsTree (x ∷ tree c)) g.is (growth-tree most_blocks core q (tree c) b parent so.is_tree ch.below g))
+    (subst (λ (x : Branch). Among x (tree c) → ⊥) g.is (growth-new most_blocks core q (tree c) b parent g))
+    (found-in core.parent (tree c) parent g.parent_found).0 ch.good ch.distinct ch.voters g.justified g.room)
+placed-sound self w sender core q c ch so lacks_parent h = tt
+placed-sound self w sender core q c ch so (unfit n) h = unfit-calm n h
 
 block-sound : (self : Identity) (w : Option ℕ) (sender : ℕ) (core : Core) (q : Certificate) (c : Chronicle) → IsChecked self core q → IsSound self.sizes c → Keeps self c (on_block self w sender core q c)
-unfolding on_block
-block-sound self w sender core q c ch so = known (find_block (digest core) c) refl
-  where
-    over : find_block (digest core) c ≡ None → (o : Option Branch) → find_block core.parent c ≡ o → Keeps self c (elim o [ Some parent ↦ on_new self w parent core q c | None ↦ missing sender core.parent ])
-    over n None e = tt
-    over n (Some parent) e = let r = found core.parent c parent e in new-sound self w parent core q c ch so r.0 (sym r.1) n
-
-    known : (o : Option Branch) → find_block (digest core) c ≡ o → Keeps self c (elim o [ Some b ↦ on_known self w b core q c | None ↦ elim (find_block core.parent c) [ Some parent ↦ on_new self w parent core q c | None ↦ missing sender core.parent ] ])
-    known (Some b) e = known-sound self w b core q c so (found (digest core) c b e).0
-    known None e = over e (find_block core.parent c) refl
+block-sound self w sender core q c ch so = placed-sound self w sender core q c ch so (placing most_blocks core q (tree c)) (placed most_blocks core q (tree c))
 
 -- a step that takes no block
 other-sound : (need : Sizes) (c : Chronicle) (st : Step) → tree (st ∷ c) ≡ tree c → IsLawfulStep need st c → IsSound need c → IsSound need (st ∷ c)

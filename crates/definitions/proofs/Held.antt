@@ -1,0 +1,44 @@
+-- What a chronicle's tree holds: the blocks that are stored, the lock and the last executed block.
+use Rattle.std.proofs.Common.{◌≡◌, ◌⊎◌, List, [], ◌∷◌, ◌++◌, refl, sym, ap, subst, inl, inr, map}
+use Rattle.definitions.proofs.Branches.{just1-extends, just3-below, Extends-trans}
+use Rattle.definitions.proofs.Chronicles.{tree-genesis, taken-tree, lock-cases, decided-cases, executed-decided}
+use Rattle.definitions.proofs.Trees.{tree-below}
+use Rattle.definitions.specs.Lists.{Among}
+use Rattle.definitions.specs.Branches.{Branch, just1, just2, just3, Extends}
+use Rattle.definitions.specs.Trees.{blocks, IsTree}
+use Rattle.definitions.specs.Chronicles.{Admitted, Chronicle, taken, stored, stored_of, tree, lock, executed}
+
+blocks-taken : (xs : List Admitted) → blocks (map stored_of xs) ≡ map (λ a. a.branch) xs ++ [] ∷ []
+blocks-taken [] = refl
+blocks-taken (a ∷ xs) = ap (λ (t : List Branch). a.branch ∷ t) (blocks-taken xs)
+
+-- the branches of what is stored are the tree
+pub blocks-stored : (c : Chronicle) → blocks (stored c) ≡ tree c
+unfolding stored tree
+blocks-stored c = blocks-taken (taken c)
+
+just2-extends : (b : Branch) → Extends b (just2 b)
+unfolding just2
+just2-extends b = Extends-trans b (just1 b) (just1 (just1 b)) (just1-extends b) (just1-extends (just1 b))
+
+-- the lock stands in the tree
+pub lock-tree : (c : Chronicle) → IsTree (tree c) → Among (lock c) (tree c)
+lock-tree c tr =
+    elim (lock-cases c) [
+      | inl e ↦ subst (λ (x : Branch). Among x (tree c)) (sym e) (tree-genesis c)
+      | inr r ↦ subst (λ (x : Branch). Among x (tree c)) (sym r.2) (tree-below (tree c) tr r.0.branch (just2 r.0.branch) (taken-tree c r.0 r.1) (just2-extends r.0.branch))
+    ]
+
+-- what was executed was decided by a taken block, unless it is genesis
+pub executed-cases : (c : Chronicle) → (executed c ≡ []) ⊎ ((a : Admitted) × Among a (taken c) × (executed c ≡ just3 a.branch))
+executed-cases c = elim (decided-cases c (executed c) (executed-decided c)) [ inl e ↦ inl e | inr r ↦ inr (r.0, r.1, r.2) ]
+
+-- the last executed block stands in the tree
+pub executed-tree : (c : Chronicle) → IsTree (tree c) → Among (executed c) (tree c)
+executed-tree c tr =
+    elim (executed-cases c) [
+      | inl e ↦ subst (λ (x : Branch). Among x (tree c)) (sym e) (tree-genesis c)
+      | inr r ↦ subst (λ (x : Branch). Among x (tree c)) (sym r.2)
+          (tree-below (tree c) tr r.0.branch (just3 r.0.branch) (taken-tree c r.0 r.1)
+          (Extends-trans r.0.branch (just1 r.0.branch) (just3 r.0.branch) (just1-extends r.0.branch) (just3-below r.0.branch)))
+    ]
