@@ -5,10 +5,10 @@ use Rattle.std.specs.Option.{option_and_then}
 use Rattle.std.specs.List.{flat_map, AllByRecursion}
 use Rattle.std.specs.Int.{Width, w8, w16, w32, w64, byte_len, from_be_bytes, to_be_bytes}
 use Rattle.std.proofs.lemmas.Bool.{cases_lt, ltb-false, le-ltb, leb-true, le-leb}
-use Rattle.std.proofs.lemmas.List.{take_at, drop_at, take-append-drop, length-take, get_or-append-add, get_or-take, get_or_past}
+use Rattle.std.proofs.lemmas.List.{append-nil, take_at, drop_at, take-append-drop, length-take, get_or-append-add, get_or-take, get_or_past}
 use Rattle.std.proofs.lemmas.Nat.{be_bytes_2, be_bytes_4, be_bytes_8, from_be_bytes-to_be_bytes_2, from_be_bytes-to_be_bytes_4, from_be_bytes-to_be_bytes_8}
 use Rattle.definitions.specs.Bytes.{Bytes}
-use Rattle.frames_view.specs.Readings.{Reader, number, chunk, tested, both, made, sized, elements, behind, behind_rising, many, many_rising}
+use Rattle.frames_view.specs.Readings.{Reader, number, chunk, tested, both, made, sized, elements, behind, behind_rising, many, many_rising, IsRead}
 
 -- each number of the list is a byte
 abbrev pub IsBytes : Bytes → Type 0
@@ -277,7 +277,7 @@ module _ {X : Type 0} (P : X → Type 0) (spell : X → Bytes) (read : Reader X)
       subst (λ (ys : List X). ((length ys ≡ suc k) × AllByRecursion P ys) × (bytes ≡ flat_map spell ys ++ rest)) (sym here) ((ap suc r.0.0, (f.0, r.0.1)), parts)
 
   -- what is spelled is there, and the rest is left
-  elements_again : (xs : List X) (rest : Bytes) → AllByRecursion P xs → elements read (length xs) (flat_map spell xs ++ rest) ≡ xs
+  pub elements_again : (xs : List X) (rest : Bytes) → AllByRecursion P xs → elements read (length xs) (flat_map spell xs ++ rest) ≡ xs
   elements_again [] rest h = refl
   elements_again (x ∷ xs) rest h =
       ap (elements read (suc (length xs))) (append_assoc (spell x) (flat_map spell xs) rest)
@@ -290,6 +290,28 @@ module _ {X : Type 0} (P : X → Type 0) (spell : X → Bytes) (read : Reader X)
       ap (behind read (suc (length xs))) (append_assoc (spell x) (flat_map spell xs) rest)
       ∙ behind_step read (length xs) (spell x ++ (flat_map spell xs ++ rest)) x (flat_map spell xs ++ rest) (exact.again x (flat_map spell xs ++ rest) h.0)
       ∙ behind_again xs rest h.1
+
+  -- so many and their rest are all the bytes
+  pub behind_shorter : (k : ℕ) (bytes rest : Bytes) → IsBytes bytes → behind read k bytes ≡ Some rest → length rest ≤ length bytes
+  behind_shorter k bytes rest fits e =
+      let f = behind_found k bytes rest fits e in
+      omega (arith, ap length f.1, length-append (flat_map spell (elements read k bytes)) rest)
+
+  -- and before their rest they stand
+  pub behind_read : (k : ℕ) (bytes rest : Bytes) → IsBytes bytes → behind read k bytes ≡ Some rest → IsRead spell read k bytes (take (length bytes - length rest) bytes)
+  behind_read k bytes rest fits e =
+      let f = behind_found k bytes rest fits e in
+      let xs = elements read k bytes in
+      let text = flat_map spell xs in
+      let len : length bytes - length rest ≡ length text = omega (arith, ap length f.1, length-append text rest) in
+      let part : take (length bytes - length rest) bytes ≡ text = ap (λ (n : ℕ). take n bytes) len ∙ (ap (take (length text)) f.1 ∙ take_at text rest (length text) refl) in
+      let again : elements read k text ≡ xs = ap (λ (n : ℕ). elements read n text) (sym f.0.0) ∙ (ap (elements read (length xs)) (sym (append-nil text)) ∙ elements_again xs [] f.0.1) in
+      let here : elements read k (take (length bytes - length rest) bytes) ≡ xs = ap (elements read k) part ∙ again in
+      record {
+        same = here;
+        counted = ap length here ∙ f.0.0;
+        trimmed = part ∙ ap (flat_map spell) (sym here);
+      }
 
   -- so many
   pub IsExact-many : (k : ℕ) → IsExact (λ xs. (length xs ≡ k) × AllByRecursion P xs) (flat_map spell) (many read k)
@@ -317,6 +339,14 @@ module _ {X : Type 0} (P : X → Type 0) (spell : X → Bytes) (read : Reader X)
         let here = elements_step read k bytes x.0 x.1 a.1 in
         let left = behind_step read k bytes x.0 x.1 a.1 ∙ r.0 in
         (left, subst (RisesFrom rank least) (sym here) (leb-true _ _ g.0, r.1))
+
+    -- so many of rising ranks and their rest are all the bytes
+    pub rising_shorter : (k : ℕ) (bytes rest : Bytes) → IsBytes bytes → behind_rising rank read 0 k bytes ≡ Some rest → length rest ≤ length bytes
+    rising_shorter k bytes rest fits e = behind_shorter k bytes rest fits (rising_there 0 k bytes rest e).0
+
+    -- and before their rest they stand
+    pub rising_read : (k : ℕ) (bytes rest : Bytes) → IsBytes bytes → behind_rising rank read 0 k bytes ≡ Some rest → IsRead spell read k bytes (take (length bytes - length rest) bytes)
+    rising_read k bytes rest fits e = behind_read k bytes rest fits (rising_there 0 k bytes rest e).0
 
     rising_again : (least : ℕ) (xs : List X) (rest : Bytes) → AllByRecursion P xs → RisesFrom rank least xs → behind_rising rank read least (length xs) (flat_map spell xs ++ rest) ≡ Some rest
     rising_again least [] rest h up = refl

@@ -2,3 +2,5 @@ pub mod Walks
 pub mod Exact
 pub mod Parts
 pub mod Whole
+pub mod Cores
+pub mod Spelled

@@ -3,3 +3,4 @@ pub mod Parts
 pub mod Cores
 pub mod Views
 pub mod Fields
+pub mod Spelled

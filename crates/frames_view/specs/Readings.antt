@@ -1,6 +1,7 @@
 -- Reading from left to right, as functions of bytes: what stands at their front, and what is left behind it.
-use Rattle.std.specs.Prelude.{ℕ, zero, suc, Bool, List, [], ◌∷◌, length, take, drop, Option, Some, None, nat_lt, nat_le, if◌then◌else◌, option_map}
+use Rattle.std.specs.Prelude.{◌≡◌, ℕ, zero, suc, Bool, List, [], ◌∷◌, length, take, drop, Option, Some, None, nat_lt, nat_le, if◌then◌else◌, option_map}
 use Rattle.std.specs.Option.{option_and_then}
+use Rattle.std.specs.List.{flat_map}
 use Rattle.std.specs.Int.{Width, byte_len, from_be_bytes}
 use Rattle.definitions.specs.Bytes.{Bytes}
 
@@ -57,3 +58,11 @@ many read count bytes = option_map (λ rest. (elements read count bytes, rest)) 
 -- so many of rising ranks
 abbrev pub many_rising : {X : Type 0} → (X → ℕ) → Reader X → ℕ → Reader (List X)
 many_rising rank read count bytes = option_map (λ rest. (elements read count bytes, rest)) (behind_rising rank read 0 count bytes)
+
+-- ---- what was taken of bytes
+
+-- the part is the spelling of all of so many, and reads as they do
+pub record IsRead {X : Type 0} (spell : X → Bytes) (read : Reader X) (count : ℕ) (bytes : Bytes) (part : Bytes) : Type 0 where
+  pub same : elements read count part ≡ elements read count bytes
+  pub counted : length (elements read count part) ≡ count
+  pub trimmed : part ≡ flat_map spell (elements read count part)

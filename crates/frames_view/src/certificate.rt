@@ -1,15 +1,17 @@
 //! Certificates.
 
-ghost use Rattle.std.specs.Prelude.{◌≡◌};
+ghost use Rattle.std.specs.Prelude.{◌≡◌, ◌+◌, ◌<◌, ◌++◌, length, IfSome, OnOk, OnErr, vec_capacity, vec_len};
 ghost use Rattle.ids.specs.Sizes.{replicas};
-ghost use Rattle.frames_view.specs.Readings.{behind_rising};
+ghost use Rattle.definitions.specs.Frames.{vote_bytes, certificate_bytes};
+ghost use Rattle.frames_view.specs.Readings.{IsRead, behind_rising};
 ghost use Rattle.frames_view.specs.Parts.{vote_in, certificate_in};
 ghost use Rattle.frames_view.specs.Views.{Gives, certificate_of, votes_left};
 
-use crate::cursor::{take_32, take_u8};
+use crate::cursor::{before, take_32, take_u8};
 use crate::views::{CertificateView, Votes};
 use crate::vote::take_vote;
-use ids::Config;
+use crate::write::write_certificate;
+use ids::{Config, Digest, Fault};
 
 impl<'a> CertificateView<'a> {
     /// The digest of the block that is voted for.
@@ -28,6 +30,16 @@ impl<'a> CertificateView<'a> {
             count: self.count,
             rest: self.votes,
         }
+    }
+
+    /// Appends the certificate's bytes, as a frame has them.
+    pub fn write(&self, out: &mut Vec<u8>) -> Result<(), Fault>
+        ensures appended { OnOk result (out.new.items ≡ out.old.items ++ certificate_bytes (certificate_of self.now)) }
+        ensures unchanged { OnErr result (out.new.items ≡ out.old.items) }
+        ensures memory { OnErr result (result ≡ Err Fault.Memory) }
+        ensures grown { OnErr result (vec_capacity out.old < vec_len out.old + length (certificate_bytes (certificate_of self.now))) }
+    {
+        write_certificate(&Digest(*self.digest), self.count, self.votes, out)
     }
 }
 
@@ -49,6 +61,15 @@ fn skip_votes(bytes: &[u8], replicas: u8, count: u8) -> Option<&[u8]>
     Some(rest)
 }
 
+/// `count` votes whose voters rise, and what is left behind them.
+fn take_votes<'a>(config: &Config, bytes: &'a [u8], count: u8) -> Option<(&'a [u8], &'a [u8])>
+    ensures left { Gives (λ p. p.1.now) result (behind_rising (λ v. v.voter) (vote_in (replicas config.now)) 0 count bytes.now) }
+    ensures taken { IfSome result (λ p. IsRead vote_bytes (vote_in (replicas config.now)) count bytes.now p.0.now) }
+{
+    let rest = skip_votes(bytes, config.n(), count)?;
+    Some((before(bytes, rest), rest))
+}
+
 #[tactic(auto, unfolding(crate::specs::Parts::certificate_in, crate::specs::Parts::votes_in))]
 pub(crate) fn take_certificate<'a>(
     config: &Config,
@@ -58,11 +79,11 @@ pub(crate) fn take_certificate<'a>(
 {
     let replicas = config.n();
     let (digest, rest) = take_32(bytes)?;
-    let (count, votes) = take_u8(rest)?;
+    let (count, rest) = take_u8(rest)?;
     if count != 0 && (count < config.quorum() || count > replicas) {
         return None;
     }
-    let rest = skip_votes(votes, replicas, count)?;
+    let (votes, rest) = take_votes(config, rest, count)?;
     let certificate = CertificateView {
         digest,
         replicas,

@@ -1,5 +1,11 @@
 //! The fields of a core, as they lie in the bytes that it was read from.
 
+ghost use Rattle.std.specs.Prelude.{◌≡◌, length};
+ghost use Rattle.std.specs.List.{flat_map};
+ghost use Rattle.definitions.specs.Frames.{command_bytes};
+ghost use Rattle.frames_view.specs.Readings.{elements};
+ghost use Rattle.frames_view.specs.Parts.{command_in};
+
 #[derive(Clone, Copy)]
 pub(crate) struct CoreFields<'a> {
     pub(crate) parent: &'a [u8; 32],
@@ -9,4 +15,7 @@ pub(crate) struct CoreFields<'a> {
     pub(crate) clients: u8,
     pub(crate) count: u8,
     pub(crate) commands: &'a [u8],
+    ghost whole: { length parent.now ≡ 32 },
+    ghost counted: { length (elements (command_in replicas clients) count commands.now) ≡ count },
+    ghost trimmed: { commands.now ≡ flat_map command_bytes (elements (command_in replicas clients) count commands.now) },
 }

@@ -1,9 +1,9 @@
 //! Cores: what the digests of blocks are made of.
 
-ghost use Rattle.std.specs.Prelude.{◌≡◌};
-ghost use Rattle.definitions.specs.Frames.{core_bytes};
+ghost use Rattle.std.specs.Prelude.{◌≡◌, IfSome};
+ghost use Rattle.definitions.specs.Frames.{command_bytes, core_bytes};
 ghost use Rattle.ids.specs.Sizes.{replicas};
-ghost use Rattle.frames_view.specs.Readings.{behind};
+ghost use Rattle.frames_view.specs.Readings.{IsRead, behind};
 ghost use Rattle.frames_view.specs.Parts.{command_in, core_in};
 ghost use Rattle.frames_view.specs.Cores.{core_of_fields};
 ghost use Rattle.frames_view.specs.Views.{Gives, core_of, commands_left};
@@ -71,6 +71,16 @@ fn skip_commands(bytes: &[u8], replicas: u8, clients: u8, count: u8) -> Option<&
     Some(rest)
 }
 
+/// `count` commands, and what is left behind them.
+fn take_commands<'a>(config: &Config, bytes: &'a [u8], count: u8) -> Option<(&'a [u8], &'a [u8])>
+    ensures left { Gives (λ p. p.1.now) result (behind (command_in (replicas config.now) config.now.clients) count bytes.now) }
+    ensures taken { IfSome result (λ p. IsRead command_bytes (command_in (replicas config.now) config.now.clients) count bytes.now p.0.now) }
+{
+    let (replicas, clients) = (config.n(), config.clients());
+    let rest = skip_commands(bytes, replicas, clients, count)?;
+    Some((before(bytes, rest), rest))
+}
+
 /// The fields of a core.
 #[tactic(auto, unfolding(crate::specs::Parts::core_in, crate::specs::Parts::commands_in))]
 fn take_fields<'a>(config: &Config, bytes: &'a [u8]) -> Option<(CoreFields<'a>, &'a [u8])>
@@ -79,11 +89,11 @@ fn take_fields<'a>(config: &Config, bytes: &'a [u8]) -> Option<(CoreFields<'a>, 
     let (replicas, clients) = (config.n(), config.clients());
     let (parent, rest) = take_32(bytes)?;
     let ((height, justify_height), rest) = take_heights(rest)?;
-    let (count, commands) = take_u8(rest)?;
+    let (count, rest) = take_u8(rest)?;
     if count > MOST_COMMANDS {
         return None;
     }
-    let rest = skip_commands(commands, replicas, clients, count)?;
+    let (commands, rest) = take_commands(config, rest, count)?;
     let fields = CoreFields {
         parent,
         height,

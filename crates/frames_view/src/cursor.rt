@@ -1,6 +1,6 @@
 //! One field at a time: what stands at the front of bytes, and what is left behind it.
 
-ghost use Rattle.std.specs.Prelude.{◌≡◌, ◌+◌, ◌-◌, ◌≤◌, length, take, drop};
+ghost use Rattle.std.specs.Prelude.{◌≡◌, ◌+◌, ◌-◌, ◌≤◌, length, take, drop, IfSome};
 ghost use Rattle.std.specs.Int.{w8, w16, w32, w64};
 ghost use Rattle.frames_view.specs.Readings.{number, chunk};
 ghost use Rattle.frames_view.specs.Parts.{digest_in, party_in, vector_in, positive_in, payload_in, text_in, heights_in};
@@ -24,9 +24,11 @@ pub(crate) fn take_chunk(bytes: &[u8], n: usize) -> Option<(&[u8], &[u8])>
 
 /// A digest or a tag.
 pub(crate) fn take_32(bytes: &[u8]) -> Option<(&[u8; 32], &[u8])>
-    ensures { Gives (λ p. (p.0.now, p.1.now)) result (digest_in bytes.now) }
+    ensures taken { Gives (λ p. (p.0.now, p.1.now)) result (digest_in bytes.now) }
+    ensures whole { IfSome result (λ p. length p.0.now ≡ 32) }
 {
-    bytes.split_first_chunk::<32>()
+    let (front, rest) = bytes.split_first_chunk::<32>()?;
+    Some((front, rest))
 }
 
 pub(crate) fn take_u8(bytes: &[u8]) -> Option<(u8, &[u8])>
@@ -139,7 +141,7 @@ pub(crate) fn take_heights(bytes: &[u8]) -> Option<((u64, u64), &[u8])>
 }
 
 /// What stands from a place on.
-fn from(bytes: &[u8], place: usize) -> &[u8]
+pub(crate) fn from(bytes: &[u8], place: usize) -> &[u8]
     requires { place ≤ length bytes.now }
     ensures { result.now ≡ drop place bytes.now }
 {

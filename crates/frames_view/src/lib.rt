@@ -4,10 +4,13 @@
 #![tactic(auto)]
 
 mod certificate;
+mod certificate_buf;
 mod command;
+mod core_buf;
 mod core_fields;
 mod core_view;
 mod cursor;
+mod digest;
 mod fields;
 mod frame;
 mod lists;
@@ -17,6 +20,9 @@ mod views;
 mod vote;
 mod write;
 
+pub use certificate_buf::CertificateBuf;
+pub use core_buf::CoreBuf;
+pub use digest::genesis_digest;
 pub use fields::middle_of;
 pub use frame::{
     BlockView, FetchView, Frame, NewViewView, ProposalView, ReplyView, VoteFrameView, read,

@@ -128,6 +128,15 @@ fn a_proposal(rt: HostRuntime) -> Result<(), Fail> {
     assert_eq!(rt; frame.core().height(), Height(1));
     assert_eq!(rt; frame.core().raw(), core.as_slice());
     assert_eq!(rt; *frame.certificate().digest(), [7; 32]);
+    let expected = [
+        12, 106, 120, 213, 193, 88, 153, 131, 225, 40, 9, 159, 170, 98, 227, 36, 72, 21, 67, 66,
+        13, 171, 179, 154, 105, 84, 185, 80, 41, 76, 25, 127,
+    ];
+    assert_eq!(rt;
+        frame.core().digest(),
+        Digest(expected),
+        "as another program computed it"
+    );
     Ok(())
 }
 
@@ -215,5 +224,61 @@ fn replies_and_fetches(rt: HostRuntime) -> Result<(), Fail> {
     let mut vote = Vec::new(rt.alloc());
     write_vote(&Digest([7; 32]), ReplicaId(2), &[9; 128], &mut vote)?;
     assert_eq!(rt; vote.as_slice(), vote_bytes().as_slice());
+    Ok(())
+}
+
+/// What is kept is what was read, and goes out again as it came.
+#[test]
+fn kept_parts(rt: HostRuntime) -> Result<(), Fail> {
+    let config = Config::new(1, 2)?;
+    let mut command = Vec::new(rt.alloc());
+    write_command(ClientId(1), Seq(259), b"get a", &[9; 128], &mut command)?;
+    let mut core = Vec::new(rt.alloc());
+    write_core(
+        &Digest([5; 32]),
+        Height(2),
+        Height(1),
+        1,
+        command.as_slice(),
+        &mut core,
+    )?;
+    let certificate = certificate_of(rt.alloc(), &[0, 1, 2])?;
+    let mut block = Vec::new(rt.alloc());
+    write_block(
+        ReplicaId(3),
+        core.as_slice(),
+        certificate.as_slice(),
+        &[6; 32],
+        &mut block,
+    )?;
+    let Ok(Frame::Block(frame)) = read(&config, block.as_slice()) else {
+        return Err("the bytes are a Block frame".into());
+    };
+    let kept = CoreBuf::copy(rt.alloc(), &frame.core())?;
+    assert_eq!(rt; kept.view().raw(), core.as_slice());
+    assert_eq!(rt; kept.view().height(), Height(2));
+    assert_eq!(rt; kept.view().commands().count(), 1);
+    let kept = CertificateBuf::copy(rt.alloc(), &frame.certificate())?;
+    let mut written = Vec::new(rt.alloc());
+    kept.view().write(&mut written)?;
+    assert_eq!(rt; written.as_slice(), certificate.as_slice());
+    let none = CertificateBuf::without_votes(rt.alloc(), config, Digest([7; 32]));
+    let mut written = Vec::new(rt.alloc());
+    none.view().write(&mut written)?;
+    assert_eq!(rt;
+        written.as_slice(),
+        certificate_of(rt.alloc(), &[])?.as_slice()
+    );
+    Ok(())
+}
+
+/// SHA-256 of 49 zero bytes, as another program computed it.
+#[test]
+fn the_digest_of_genesis(rt: HostRuntime) -> Result<(), Fail> {
+    let expected = [
+        120, 135, 127, 168, 152, 240, 180, 196, 92, 156, 51, 174, 148, 30, 64, 97, 122, 215, 200,
+        101, 122, 48, 125, 182, 43, 197, 105, 31, 146, 244, 246, 14,
+    ];
+    assert_eq!(rt; genesis_digest(), Digest(expected));
     Ok(())
 }

@@ -1,7 +1,10 @@
 //! The parts of frames, as they lie in the bytes that they were read from.
 
-ghost use Rattle.std.specs.Prelude.{◌≡◌};
-ghost use Rattle.definitions.specs.Frames.{command_content, core_bytes};
+ghost use Rattle.std.specs.Prelude.{◌≡◌, length};
+ghost use Rattle.std.specs.List.{flat_map};
+ghost use Rattle.definitions.specs.Frames.{command_content, core_bytes, vote_bytes};
+ghost use Rattle.frames_view.specs.Readings.{elements};
+ghost use Rattle.frames_view.specs.Parts.{vote_in};
 ghost use Rattle.frames_view.specs.Cores.{core_of_fields};
 
 use crate::core_fields::CoreFields;
@@ -20,6 +23,9 @@ pub struct CertificateView<'a> {
     pub(crate) replicas: u8,
     pub(crate) count: u8,
     pub(crate) votes: &'a [u8],
+    ghost whole: { length digest.now ≡ 32 },
+    ghost counted: { length (elements (vote_in replicas) count votes.now) ≡ count },
+    ghost trimmed: { votes.now ≡ flat_map vote_bytes (elements (vote_in replicas) count votes.now) },
 }
 
 /// A client's numbered request, with its tag for each replica.
