@@ -1,0 +1,3 @@
+pub mod Nodes
+pub mod Finding
+pub mod Insertions

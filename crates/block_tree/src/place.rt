@@ -1,0 +1,101 @@
+//! What a block comes to in the tree.
+
+ghost use Rattle.std.specs.Prelude.{◌≡◌, ◌<◌, ◌==◌, ◌∷◌, not, nat_lt, length, Some, count_by};
+ghost use Rattle.definitions.specs.Branches.{Branch};
+ghost use Rattle.definitions.specs.Digests.{digest as digest_of_core};
+ghost use Rattle.definitions.specs.Trees.{blocks, find_in, block_of, justifies, most_of_height, placing};
+ghost use Rattle.frames_view.specs.Views.{core_of, certificate_of};
+ghost use Rattle.block_tree.specs.Insertions.{place_of, placing_over};
+
+use crate::node::{count_at, is_same};
+use crate::tree::Tree;
+use frames_view::{CertificateView, CoreView};
+use ids::{Digest, Fault, Height};
+
+/// The most blocks of one height.
+const MOST_OF_HEIGHT: usize = 64;
+
+/// Where a block stands that isn't refused.
+#[derive(Clone, Copy, Drop)]
+pub(crate) enum Place {
+    /// It stands in the tree.
+    Stands,
+    /// It may stand on its parent.
+    Grows,
+}
+
+impl Tree {
+    /// What a block comes to, with the certificate that came along.
+    #[tactic(auto, unfolding(definitions::specs::Trees::placing, definitions::specs::Trees::placing_known, crate::specs::Insertions::placing_over))]
+    pub(crate) fn placing(
+        &self,
+        digest: &Digest,
+        core: &CoreView,
+        certificate: &CertificateView,
+    ) -> Result<Place, Fault>
+        requires named { digest.now ≡ digest_of_core (core_of core.now) }
+        requires below { (core_of core.now).justify_height < (core_of core.now).height }
+        ensures { result ≡ place_of (placing self.now.most (core_of core.now) (certificate_of certificate.now) (blocks self.now.stored)) }
+    {
+        match self.justified(digest) {
+            Some(justified) if is_same(&Digest(*certificate.digest()), &justified) => {
+                Ok(Place::Stands)
+            }
+            Some(_) => Err(Fault::WrongJustify),
+            None => self.placing_over(core, certificate),
+        }
+    }
+
+    /// What a block comes to that doesn't stand in the tree.
+    fn placing_over(&self, core: &CoreView, certificate: &CertificateView) -> Result<Place, Fault>
+        requires { (core_of core.now).justify_height < (core_of core.now).height }
+        ensures { result ≡ place_of (placing_over self.now.most (core_of core.now) (certificate_of certificate.now) (blocks self.now.stored)) }
+    {
+        let Some(parent) = self.height(&Digest(*core.parent())) else {
+            return Err(Fault::UnknownParent);
+        };
+        let height = core.height();
+        if height.0 - 1 != parent.0 {
+            return Err(Fault::BadHeight);
+        }
+        if !self.is_justified(core, certificate) {
+            return Err(Fault::WrongJustify);
+        }
+        if self.is_crowded(height) {
+            return Err(Fault::Crowded);
+        }
+        if self.is_full() {
+            return Err(Fault::Full);
+        }
+        Ok(Place::Grows)
+    }
+
+    /// Whether the certificate is for the block that a core justifies, over its parent.
+    fn is_justified(&self, core: &CoreView, certificate: &CertificateView) -> bool
+        requires { (core_of core.now).justify_height < (core_of core.now).height }
+        ensures { (parent : Branch) → find_in (core_of core.now).parent (blocks self.now.stored) ≡ Some parent
+            → (core_of core.now).height ≡ length (block_of (core_of core.now) ∷ parent)
+            → result ≡ justifies (certificate_of certificate.now) (block_of (core_of core.now) ∷ parent) }
+    {
+        let parent = Digest(*core.parent());
+        match self.ancestor_at(&parent, core.justify_height()) {
+            Some(justified) => is_same(&Digest(*certificate.digest()), &justified),
+            None => false,
+        }
+    }
+
+    /// Whether as many blocks have a height as may have it.
+    fn is_crowded(&self, height: Height) -> bool
+        requires { 0 < height }
+        ensures { result ≡ not (nat_lt (count_by (λ x. length x == height) (blocks self.now.stored)) most_of_height) }
+    {
+        count_at(self.nodes.as_slice(), height) >= MOST_OF_HEIGHT
+    }
+
+    /// Whether as many blocks stand in the tree as may.
+    fn is_full(&self) -> bool
+        ensures { result ≡ not (nat_lt (length (blocks self.now.stored)) self.now.most) }
+    {
+        self.len() >= self.most
+    }
+}

@@ -1,0 +1,54 @@
+//! The tree.
+
+ghost use Rattle.std.specs.Prelude.{◌≡◌, ◌≤◌, ◌<◌, [], ◌∷◌, length};
+ghost use Rattle.definitions.specs.Trees.{Stored, blocks, most_blocks};
+
+use crate::node::Node;
+use frames_view::genesis_digest;
+use ids::Digest;
+use std::alloc::Global;
+use std::marker::Model;
+
+/// Blocks, each with its certificate and its clear mark, on branches that begin at genesis.
+#[derive(Drop)]
+pub struct Tree {
+    pub(crate) alloc: Global,
+    pub(crate) most: usize,
+    pub(crate) genesis: Digest,
+    pub(crate) nodes: Vec<Node>,
+}
+
+impl Model for Tree {
+    ghost use Rattle.std.specs.Prelude.{reverse};
+    ghost use Rattle.definitions.specs.Trees.{TreeState};
+    ghost use Rattle.block_tree.specs.Nodes.{stored_of, IsKept};
+
+    ghost Value = { TreeState };
+
+    ghost view = { λ t. record { most = t.most; stored = stored_of (reverse t.nodes.items) } };
+
+    ghost invariant = { λ t. IsKept t.most t.genesis (reverse t.nodes.items) };
+}
+
+impl Tree {
+    /// Genesis alone, with room for so many blocks. It takes no memory.
+    #[tactic(auto, unfolding(crate::specs::Nodes::stored_of))]
+    pub fn new(alloc: Global, most: usize) -> Tree
+        requires { (1 ≤ most) × (most ≤ most_blocks) }
+        ensures { result ≡ record { most = most; stored = [] } }
+    {
+        Tree {
+            alloc,
+            most,
+            genesis: genesis_digest(),
+            nodes: Vec::new(alloc),
+        }
+    }
+
+    /// How many blocks stand in the tree, genesis among them.
+    pub fn len(&self) -> usize
+        ensures { result ≡ length (blocks self.now.stored) }
+    {
+        self.nodes.len() + 1
+    }
+}
