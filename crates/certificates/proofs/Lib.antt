@@ -1,0 +1,4 @@
+pub mod Clearing
+pub mod Counting
+pub mod Kept
+pub mod Votes

@@ -1,0 +1,10 @@
+use Rattle.std.proofs.Common.{◌≡◌}
+use Rattle.definitions.specs.Frames.{middle}
+use Rattle.frames_view.specs.Views.{fetch_of}
+use Rattle.certificates.proofs.fetch.own_tag_verifies.Goals as goal
+
+pub returns : goal.returns
+returns c =
+    let f = fetch_of c.args.view.now in
+    let content : c.middle_of-content.result.now ≡ middle f = c.middle_of-content.ensures.value f c.requires.spelled.1 c.requires.spelled.0.2 in
+    cc content

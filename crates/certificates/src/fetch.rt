@@ -1,0 +1,60 @@
+//! Questions for blocks.
+
+ghost use Rattle.std.specs.Prelude.{◌≡◌, ◌<◌};
+ghost use Rattle.ids.specs.Sizes.{replicas};
+ghost use Rattle.definitions.specs.FrameLimits.{Spells};
+ghost use Rattle.definitions.specs.Checks.{identity_of};
+ghost use Rattle.definitions.specs.Admission.{own_tag_verifies, check};
+ghost use Rattle.frames_view.specs.Views.{fetch_of};
+ghost use Rattle.certificates.specs.Outcomes.{is_passed, IsGivenIf};
+
+use crate::checked::{Authenticated, Checked};
+use crate::voters::Voters;
+use authenticators::Keyring;
+use frames_view::{FetchView, middle_of};
+use ids::{Config, Fault, Kind, PartyId};
+
+impl<'a> Authenticated for FetchView<'a> {
+    ghost use Rattle.definitions.specs.FrameLimits.{IsFrame};
+    ghost use Rattle.definitions.specs.Admission.{check};
+    ghost use Rattle.frames_view.specs.Fields.{frame_certificate, frame_core};
+    ghost use Rattle.frames_view.specs.Views.{fetch_of};
+    ghost use Rattle.certificates.specs.Outcomes.{is_passed};
+
+    ghost fits = { λ sizes f. IsFrame sizes (fetch_of f) };
+
+    ghost passes = { λ self f. is_passed (check self (fetch_of f)) };
+
+    ghost certificate = { λ f. frame_certificate (fetch_of f) };
+
+    ghost core = { λ f. frame_core (fetch_of f) };
+}
+
+/// Whether the sender's tag verifies.
+fn own_tag_verifies(keyring: &Keyring, bytes: &[u8], view: &FetchView) -> bool
+    requires spelled { Spells keyring.now.sizes bytes.now (fetch_of view.now) }
+    ensures { result ≡ own_tag_verifies (identity_of keyring.now) (fetch_of view.now) }
+{
+    let tag = view.tag();
+    let content = middle_of(bytes, tag.len());
+    keyring.verify(Kind::Fetch, PartyId::from(view.sender()), content, tag)
+}
+
+/// The question that was read from these bytes, if it passes the check of the keyring's replica.
+#[tactic(auto, unfolding(definitions::specs::Admission::check, definitions::specs::Checks::is_clear_core, definitions::specs::Checks::counted))]
+pub fn check_fetch<'a>(
+    keyring: &'a Keyring,
+    config: &Config,
+    bytes: &[u8],
+    view: &FetchView<'a>,
+) -> Result<Checked<'a, FetchView<'a>>, Fault>
+    requires sizes { config.now ≡ keyring.now.sizes }
+    requires replica { keyring.now.party < replicas config.now }
+    requires spelled { Spells config.now bytes.now (fetch_of view.now) }
+    ensures { IsGivenIf (is_passed (check (identity_of keyring.now) (fetch_of view.now))) keyring.now view.now result }
+{
+    if !own_tag_verifies(keyring, bytes, view) {
+        return Err(Fault::BadTag);
+    }
+    Ok(Checked::new(keyring, *config, *view, Voters::new(), true))
+}

@@ -1,0 +1,76 @@
+//! Proposals.
+
+ghost use Rattle.std.specs.Prelude.{◌≡◌, ◌<◌};
+ghost use Rattle.ids.specs.Sizes.{replicas};
+ghost use Rattle.definitions.specs.FrameLimits.{Spells};
+ghost use Rattle.definitions.specs.Checks.{identity_of};
+ghost use Rattle.definitions.specs.Admission.{own_tag_verifies, check};
+ghost use Rattle.frames_view.specs.Views.{proposal_of};
+ghost use Rattle.certificates.specs.Outcomes.{is_passed, IsGivenIf};
+
+use crate::certificate::good_voters;
+use crate::checked::{Authenticated, CarriesBlock, Certified, Checked};
+use crate::commands::is_clear;
+use crate::tags::{leader, own_number, tag_in};
+use authenticators::Keyring;
+use frames_view::{ProposalView, middle_of};
+use ids::{Config, Fault, Kind, PartyId};
+
+impl<'a> Authenticated for ProposalView<'a> {
+    ghost use Rattle.definitions.specs.FrameLimits.{IsFrame};
+    ghost use Rattle.definitions.specs.Admission.{check};
+    ghost use Rattle.frames_view.specs.Fields.{frame_certificate, frame_core};
+    ghost use Rattle.frames_view.specs.Views.{proposal_of};
+    ghost use Rattle.certificates.specs.Outcomes.{is_passed};
+
+    ghost fits = { λ sizes f. IsFrame sizes (proposal_of f) };
+
+    ghost passes = { λ self f. is_passed (check self (proposal_of f)) };
+
+    ghost certificate = { λ f. frame_certificate (proposal_of f) };
+
+    ghost core = { λ f. frame_core (proposal_of f) };
+}
+
+impl<'a> Certified for ProposalView<'a> {}
+
+impl<'a> CarriesBlock for ProposalView<'a> {}
+
+/// Whether the leader's tag for the keyring's own replica verifies.
+fn own_tag_verifies(keyring: &Keyring, config: &Config, bytes: &[u8], view: &ProposalView) -> bool
+    requires sizes { config.now ≡ keyring.now.sizes }
+    requires replica { keyring.now.party < replicas config.now }
+    requires spelled { Spells config.now bytes.now (proposal_of view.now) }
+    ensures { result ≡ own_tag_verifies (identity_of keyring.now) (proposal_of view.now) }
+{
+    let vector = view.vector();
+    let content = middle_of(bytes, vector.len());
+    let tag = tag_in(vector, own_number(keyring));
+    keyring.verify(
+        Kind::Proposal,
+        PartyId::from(leader(config, view.view())),
+        content,
+        tag,
+    )
+}
+
+/// The proposal that was read from these bytes, if it passes the check of the keyring's replica.
+#[tactic(auto, unfolding(definitions::specs::Admission::check))]
+pub fn check_proposal<'a>(
+    keyring: &'a Keyring,
+    config: &Config,
+    bytes: &[u8],
+    view: &ProposalView<'a>,
+) -> Result<Checked<'a, ProposalView<'a>>, Fault>
+    requires sizes { config.now ≡ keyring.now.sizes }
+    requires replica { keyring.now.party < replicas config.now }
+    requires spelled { Spells config.now bytes.now (proposal_of view.now) }
+    ensures { IsGivenIf (is_passed (check (identity_of keyring.now) (proposal_of view.now))) keyring.now view.now result }
+{
+    if !own_tag_verifies(keyring, config, bytes, view) {
+        return Err(Fault::BadTag);
+    }
+    let voters = good_voters(keyring, &view.certificate())?;
+    let clear = is_clear(keyring, &view.core());
+    Ok(Checked::new(keyring, *config, *view, voters, clear))
+}
