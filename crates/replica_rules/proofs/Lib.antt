@@ -1,0 +1,3 @@
+pub mod Safe
+pub mod Marks
+pub mod Takes
