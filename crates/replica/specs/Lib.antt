@@ -1,0 +1,9 @@
+pub mod Steps
+pub mod Outs
+pub mod Replay
+pub mod State
+pub mod Raises
+pub mod Takes
+pub mod StepsTo
+pub mod Beats
+pub mod Inputs

@@ -1,0 +1,18 @@
+//! One replica as a state machine: what it takes in, and what it sends.
+#![tactic(auto)]
+
+mod beat;
+mod frames;
+mod input;
+mod leaders;
+mod out;
+mod replica;
+mod state;
+mod stored;
+mod take;
+#[cfg(test)]
+mod tests;
+
+pub use input::Input;
+pub use out::{Out, Sending, To};
+pub use replica::Replica;
