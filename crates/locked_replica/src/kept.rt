@@ -1,0 +1,178 @@
+//! A replica that is kept for several threads.
+
+ghost use Rattle.std.specs.Prelude.{◌≡◌, ◌+◌, ◌↔◌, ◌++◌, [], ◌∷◌, length, sum, sum_by, IsTrue, IsOk, IfOk, IfErr, OnOk, OnErr, IsErrOf, slice_set, All};
+ghost use Rattle.std.specs.Bool.{OnTrue, OnFalse};
+ghost use Rattle.definitions.specs.Checks.{identity_of};
+ghost use Rattle.definitions.specs.Chronicles.{IsLawful};
+ghost use Rattle.replica.specs.Steps.{Stepped};
+ghost use Rattle.replica.specs.Inputs.{IsFor, input_of};
+ghost use Rattle.locked_replica.specs.Kept.{is_own, AreAll, counted, gained};
+ghost use Rattle.locked_replica.specs.Addressed.{is_addressed, may_step};
+
+use crate::closed::{Closed, NotAll};
+use crate::once::each_once;
+use crate::share::Share;
+use ids::{Fault, PartyId, ReplicaId};
+use replica::{Input, Out, Replica};
+use std::alloc::Global;
+use std::marker::Model;
+
+/// A replica, and the count of each share made of it.
+///
+/// The counts add up to the steps that stand.
+#[derive(Drop)]
+pub struct Kept {
+    replica: Replica,
+    shares: Vec<usize>,
+}
+
+impl Model for Kept {
+    ghost use Rattle.std.specs.Prelude.{◌≡◌, sum, length};
+    ghost use Rattle.locked_replica.specs.Kept.{KeptState};
+
+    ghost Value = { KeptState };
+
+    ghost view = { λ k. record { keys = k.replica.keys; replica = k.replica.replica; shares = k.shares.items } };
+
+    ghost invariant = { λ k. sum k.shares.items ≡ length k.replica.replica.chronicle };
+}
+
+impl Kept {
+    /// Keeps a replica that has made no step. No share is made of it yet.
+    pub fn new(alloc: Global, replica: Replica) -> Kept
+        requires { replica.replica.chronicle ≡ [] }
+        ensures { result ≡ record { keys = replica.keys; replica = replica.replica; shares = [] } }
+    {
+        Kept {
+            replica,
+            shares: Vec::new(alloc),
+        }
+    }
+
+    /// The replica.
+    pub fn replica(&self) -> &Replica
+        ensures { result.now ≡ record { keys = self.now.keys; replica = self.now.replica } }
+    {
+        &self.replica
+    }
+
+    /// Which replica it is.
+    pub fn number(&self) -> ReplicaId
+        ensures { result ≡ self.now.keys.party }
+    {
+        self.replica.number()
+    }
+
+    /// How many steps stand, which the shares made count together.
+    pub fn steps(&self) -> usize
+        ensures count { result ≡ length self.now.replica.chronicle }
+        ensures counted { sum self.now.shares ≡ length self.now.replica.chronicle }
+        ensures lawful { IsLawful self.now.keys.sizes self.now.replica.chronicle }
+    {
+        self.replica.steps()
+    }
+
+    /// The next share, which counts no step yet.
+    pub fn share(&mut self) -> Result<Share, Fault>
+        ensures made { IfOk result (λ s. s ≡ record { replica = self.old.keys.party; number = length self.old.shares; count = 0 }) }
+        ensures kept { OnOk result (self.new ≡ record self.old { shares = self.old.shares ++ 0 ∷ [] }) }
+        ensures unchanged { OnErr result (self.new ≡ self.old) }
+        ensures memory { OnErr result (result ≡ Err Fault.Memory) }
+    {
+        let number = self.shares.len();
+        self.shares.push(0)?;
+        Ok(Share {
+            replica: self.number(),
+            number,
+            count: 0,
+        })
+    }
+
+    /// Whether this is one of the shares made, with the count that is kept for it.
+    pub fn owns(&self, share: &Share) -> bool
+        ensures { result ≡ is_own self.now share.now }
+    {
+        share.replica == self.number()
+            && share.number < self.shares.len()
+            && self.shares[share.number] == share.count
+    }
+
+    /// Whether the input was checked for this replica, at its sizes. A beat is for anyone.
+    pub fn is_addressed(&self, input: &Input) -> bool
+        ensures { result ≡ is_addressed self.now.keys input.now }
+    {
+        match input {
+            Input::Proposal(checked) => {
+                checked.keyring().party() == PartyId::from(self.number())
+                    && checked.config() == self.replica.config()
+            }
+            Input::Beat => true,
+        }
+    }
+
+    /// One step of the replica, counted by a share.
+    ///
+    /// It is refused with `NotMine` where the input is for another replica, and else with `NotAll` where the share
+    /// isn't one of this replica's own.
+    pub fn step(&mut self, share: &mut Share, input: Input<'_>) -> Result<Out, Fault>
+        requires { IsTrue (is_addressed self.old.keys input) → IsFor self.old.keys input }
+        ensures not_mine { OnFalse (is_addressed self.old.keys input.entry) (IsErrOf result Fault.NotMine) }
+        ensures not_all { OnTrue (is_addressed self.old.keys input.entry) (OnFalse (is_own self.old share.old) (IsErrOf result Fault.NotAll)) }
+        ensures unchanged { OnFalse (may_step self.old share.old input.entry) (self.new ≡ self.old) }
+        ensures same_share { OnFalse (may_step self.old share.old input.entry) (share.new ≡ share.old) }
+        ensures stepped { OnTrue (may_step self.old share.old input.entry) (Stepped (identity_of self.old.keys) (input_of input.entry) self.old.replica result self.new.replica) }
+        ensures share { OnTrue (may_step self.old share.old input.entry) (share.new ≡ counted share.old (gained self.old.replica self.new.replica)) }
+        ensures shares { OnTrue (may_step self.old share.old input.entry) (self.new.shares ≡ slice_set self.old.shares share.old.number share.new.count) }
+        ensures keys { self.new.keys ≡ self.old.keys }
+    {
+        if !self.is_addressed(&input) {
+            return Err(Fault::NotMine);
+        }
+        if !self.owns(share) {
+            return Err(Fault::NotAll);
+        }
+        let replica = &mut self.replica;
+        let before = replica.steps();
+        let outcome = replica.step(input);
+        share.count += replica.steps() - before;
+        self.shares[share.number] = share.count;
+        outcome
+    }
+
+    /// Whether each of these is one of the shares made.
+    fn owns_all(&self, shares: &[Share]) -> bool
+        ensures { IsTrue result ↔ All (λ s. IsTrue (is_own self.now s)) shares.now }
+    {
+        shares.iter().all(|share| self.owns(share))
+    }
+
+    /// How many shares were made.
+    fn made(&self) -> usize
+        ensures { result ≡ length self.now.shares }
+    {
+        self.shares.len()
+    }
+
+    /// Whether these are all the shares made, each once.
+    fn are_all(&self, shares: &[Share]) -> bool
+        ensures { IsTrue result ↔ AreAll self.now shares.now }
+    {
+        self.owns_all(shares) && each_once(self.made(), shares)
+    }
+
+    /// Gives the replica back for all the shares made of it, each once. Without them all it hands back what it got.
+    pub fn close(self, shares: Vec<Share>) -> Result<Closed, NotAll>
+        ensures exactly { IsOk result ↔ AreAll self shares.items }
+        ensures closed { IfOk result (λ c. c.replica ≡ record { keys = self.keys; replica = self.replica }) }
+        ensures counted { IfOk result (λ c. sum_by (λ s. s.count) shares.items ≡ length c.replica.replica.chronicle) }
+        ensures kept_back { IfErr result (λ e. e.kept ≡ self) }
+        ensures shares_back { IfErr result (λ e. e.shares ≡ shares) }
+    {
+        if self.are_all(&shares) {
+            let Kept { replica, shares: _ } = self;
+            Ok(Closed { replica })
+        } else {
+            Err(NotAll { kept: self, shares })
+        }
+    }
+}
