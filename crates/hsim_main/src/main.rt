@@ -1,0 +1,70 @@
+//! `hsim [FILE]` runs the schedule of a file, or of standard input, and prints what happened.
+//!
+//! Its exit status is 0; or 1 with one line on standard error, where the schedule has no outcome; or 2 for bad words
+//! on the command line.
+#![tactic(auto)]
+
+use clap::error::ErrorKind;
+use clap::{Arg, ArgMatches, Command, Error};
+use ids::Fault;
+use server::{SimFault, read_fault, simulate};
+use std::alloc::Global;
+use std::process::ExitCode;
+use std::rt::Files;
+use std::{env, fs, io};
+
+/// What the words of a command line say.
+fn matches_of(alloc: Global, words: &[String]) -> Result<ArgMatches<'_>, Error> {
+    let file = Arg::new(alloc, "FILE").help("The schedule; standard input where it is left out");
+    let command = Command::new(alloc, "hsim")
+        .bin_name("hsim")?
+        .about("Runs a schedule of frames, and prints what happened")
+        .arg(file)?;
+    command.try_get_matches_from(words)
+}
+
+/// Runs the schedule of a file, or of standard input.
+fn run<R: Files + Input + Print + AllocGlobal>(rt: &R, file: Option<&str>) -> Result<(), SimFault> {
+    let mut writer = io::writer(rt);
+    match file {
+        Some(path) => {
+            let opened = fs::open(rt, path);
+            let mut reader = opened.map_err(|error| read_fault(&error))?;
+            simulate(rt.alloc(), &mut reader, &mut writer)
+        }
+        None => simulate(rt.alloc(), &mut rt.reader(), &mut writer),
+    }
+}
+
+/// Tells why there is no outcome.
+fn tell(rt: &impl Eprint, file: Option<&str>, fault: SimFault) -> io::Result<()> {
+    match fault {
+        SimFault::Fault(Fault::ReadFailed) => {
+            eprintln!(rt; "hsim: cannot read {}", file.unwrap_or("-"))
+        }
+        _ => eprintln!(rt; "hsim: {fault}"),
+    }
+}
+
+fn main(rt: HostRuntime) -> io::Result<ExitCode> {
+    let words: Vec<String> = env::args(&rt)?.collect(rt.alloc())?;
+    let matches = match matches_of(rt.alloc(), &words) {
+        Ok(matches) => matches,
+        Err(error) if error.kind() == ErrorKind::OutOfMemory => {
+            tell(&rt, None, SimFault::Fault(Fault::Memory))?;
+            return Ok(ExitCode::FAILURE);
+        }
+        Err(error) => {
+            error.print(&rt)?;
+            return Ok(ExitCode::from(error.exit_code() as u8));
+        }
+    };
+    let file = matches.get_str("FILE");
+    match run(&rt, file) {
+        Ok(()) => Ok(ExitCode::SUCCESS),
+        Err(fault) => {
+            tell(&rt, file, fault)?;
+            Ok(ExitCode::FAILURE)
+        }
+    }
+}

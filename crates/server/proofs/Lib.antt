@@ -1,0 +1,5 @@
+pub mod Cuts
+pub mod KeyCounts
+pub mod MoreLines
+pub mod Numbers
+pub mod Words

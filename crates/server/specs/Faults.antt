@@ -1,0 +1,30 @@
+-- Why a text has no schedule, or a schedule no outcome.
+use Rattle.std.specs.Prelude.{◌≡◌, ⊤}
+use Rattle.std.specs.declared.io.ErrorKind.{ErrorKind}
+use Rattle.std.specs.declared.io.ErrorKind.TheVariants.{OutOfMemory}
+use Rattle.ids.specs.declared.fault.Fault as refusal
+use Rattle.ids.specs.declared.fault.Fault.TheVariants.{Memory, ReadFailed}
+use Rattle.definitions.specs.Bytes.{Bytes}
+use Rattle.server.specs.Schedules.{IsTextOf, IsFirstBadLine}
+use Rattle.server.specs.declared.schedule.Schedule.{Schedule}
+use Rattle.server.specs.declared.sim_fault.SimFault.{SimFault}
+use Rattle.server.specs.declared.sim_fault.SimFault.TheVariants.{Line, Fault}
+
+-- the fault is the text's first bad line, or want of memory
+abbrev pub IsWhyNot : Bytes → SimFault → Type 0
+IsWhyNot text (Line number) = IsFirstBadLine text number
+IsWhyNot text (Fault fault) = fault ≡ Memory
+
+-- the text is that of some schedule
+abbrev pub IsOfASchedule : Bytes → Type 0
+IsOfASchedule text = (s : Schedule) × IsTextOf s text
+
+-- a line that is named is the text's first bad one, and else the text is that of some schedule, or wasn't read
+abbrev pub IsRightIn : Bytes → SimFault → Type 0
+IsRightIn text (Line number) = IsFirstBadLine text number
+IsRightIn text (Fault fault) = ⊤
+
+-- a reader's error, as a refusal: want of memory is told apart
+abbrev pub read_fault_of : ErrorKind → refusal.Fault
+read_fault_of OutOfMemory = Memory
+read_fault_of _ = ReadFailed

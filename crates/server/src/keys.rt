@@ -1,0 +1,50 @@
+//! The keys of a simulated world, which anyone can compute.
+
+ghost use Rattle.std.specs.Prelude.{◌≡◌, ◌+◌, ◌≤◌, ◌^◌, ◌++◌, IfOk, OnOk, OnErr};
+ghost use Rattle.server.specs.Keys.{simulated_key, keys_with, simulated_keys};
+
+use authenticators::Keyring;
+use ids::{ClientId, Config, Fault, PartyId, ReplicaId};
+use sha2::{Digest, Sha256};
+use std::alloc::Global;
+
+/// The keyring of a party of a world of these sizes.
+#[tactic(auto, using(crate::proofs::KeyCounts::length_keys))]
+pub(crate) fn keyring_of(alloc: Global, config: Config, party: PartyId) -> Result<Keyring, Fault>
+    ensures made { IfOk result (λ keyring. keyring ≡ simulated_keys config party) }
+    ensures memory { OnErr result (result ≡ Err Fault.Memory) }
+{
+    let mut keys = Vec::new(alloc);
+    push_keys(&mut keys, party, ReplicaId(0).into(), config.n())?;
+    if party.0 < u16::from(config.n()) {
+        push_keys(&mut keys, party, ClientId(0).into(), config.clients())?;
+    }
+    Ok(Keyring::new(config, party, keys))
+}
+
+/// Appends a party's keys with so many parties from one on.
+fn push_keys(
+    keys: &mut Vec<[u8; 32]>,
+    party: PartyId,
+    first: PartyId,
+    count: u8,
+) -> Result<(), Fault>
+    requires { first ≤ 256 }
+    ensures made { OnOk result (keys.new.items ≡ keys.old.items ++ keys_with party first count) }
+    ensures memory { OnErr result (result ≡ Err Fault.Memory) }
+{
+    for i in 0..u16::from(count) {
+        keys.push(key_of(party, PartyId(first.0 + i)))?;
+    }
+    Ok(())
+}
+
+/// The key of two parties.
+#[tactic(auto, unfolding(crate::specs::Keys::simulated_key))]
+fn key_of(one: PartyId, other: PartyId) -> [u8; 32]
+    ensures { result ≡ simulated_key one other }
+{
+    let [l0, l1] = one.0.min(other.0).to_be_bytes();
+    let [h0, h1] = one.0.max(other.0).to_be_bytes();
+    Sha256::digest(&[b'h', b's', b'i', b'm', l0, l1, h0, h1])
+}

@@ -1,0 +1,15 @@
+//! The simulator: it reads a schedule, brings frames about as the schedule says, and tells what happened.
+#![tactic(auto)]
+
+mod keys;
+mod node;
+mod report;
+mod schedule;
+mod sim_fault;
+mod simulation;
+#[cfg(test)]
+mod tests;
+mod world;
+
+pub use sim_fault::SimFault;
+pub use simulation::{read_fault, simulate};
