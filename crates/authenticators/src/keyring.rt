@@ -4,7 +4,7 @@ ghost use Rattle.definitions.specs.Tags.{tag_text};
 ghost use Rattle.definitions.specs.Keyrings.{keys_due, is_peer, place_of, keyring_of, tag_for, verify, vector_for};
 
 use crate::mac::hmac_of_parts;
-use ids::{Config, Fault, Kind, PartyId};
+use ids::{Config, Fault, Kind, PartyId, ReplicaId};
 use std::marker::Model;
 
 /// The keys of one party. It makes tags for its peers and verifies theirs.
@@ -47,6 +47,15 @@ impl Keyring {
         ensures { result ≡ self.now.party }
     {
         self.party
+    }
+
+    /// The replica whose keys these are.
+    pub fn replica(&self) -> ReplicaId
+        requires { self.now.party < replicas self.now.sizes }
+        ensures { result ≡ self.now.party }
+    {
+        let _most = self.config.n();
+        ReplicaId(self.party.0 as u8)
     }
 
     /// The sizes that it was made with.

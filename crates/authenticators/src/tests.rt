@@ -73,6 +73,7 @@ fn keyring(alloc: Global, party: PartyId) -> Result<Keyring, Fail>
 fn a_tag_is_of_its_label_parties_and_content(rt: HostRuntime) -> Result<(), Fail> {
     let one = keyring(rt.alloc(), PartyId(1))?;
     assert_eq!(rt; one.party(), PartyId::from(ReplicaId(1)));
+    assert_eq!(rt; one.replica(), ReplicaId(1));
     assert_eq!(rt; one.config(), Config::new(1, 2)?);
     assert_eq!(rt;
         one.tag(Kind::Vote, PartyId(2), b"content"),

@@ -1,7 +1,9 @@
 ghost use Rattle.std.specs.Prelude.{◌≡◌, ◌↔◌, ◌≤◌, IsOk, IfOk, OnErr};
-ghost use Rattle.ids.specs.Sizes.{AreSizes, replicas, quorum};
+ghost use Rattle.ids.specs.Sizes.{AreSizes, replicas, quorum, leader};
 
 use crate::fault::Fault;
+use crate::numbers::View;
+use crate::party::ReplicaId;
 use std::marker::Model;
 
 /// The most replicas that there are: the length of each fixed row over replicas.
@@ -67,5 +69,12 @@ impl Config {
         ensures { result ≡ quorum self.now }
     {
         2 * self.faults + 1
+    }
+
+    /// The replica that leads a view: they take turns.
+    pub fn leader(&self, view: View) -> ReplicaId
+        ensures { result ≡ leader self.now view }
+    {
+        ReplicaId((view.0 % u64::from(self.n())) as u8)
     }
 }

@@ -15,6 +15,15 @@ fn sizes_within_the_limits(rt: HostRuntime) -> Result<(), Fail> {
 }
 
 #[test]
+fn replicas_lead_in_turn(rt: HostRuntime) -> Result<(), Fail> {
+    let config = Config::new(1, 1)?;
+    for (view, leader) in [(0, 0), (3, 3), (4, 0), (7, 3), (u64::MAX, 3)] {
+        assert_eq!(rt; config.leader(View(view)), ReplicaId(leader));
+    }
+    Ok(())
+}
+
+#[test]
 fn sizes_out_of_the_limits(rt: HostRuntime) {
     for (faults, clients) in [(0, 1), (5, 1), (1, 0), (1, 65), (255, 255)] {
         assert_eq!(rt; Config::new(faults, clients), Err(Fault::BadSize));

@@ -15,8 +15,7 @@ ghost use Rattle.replica.specs.State.{AreRecordsOf, IsOwn, IsStateOf};
 ghost use Rattle.replica.specs.StepsTo.{StepsTo};
 ghost use Rattle.replica.specs.Beats.{IsChild};
 
-use crate::frames::{own_number, proposal_frame};
-use crate::leaders::leader_of;
+use crate::frames::proposal_frame;
 use crate::out::{Out, To};
 use crate::state::{OwnProposal, Records, State};
 use crate::stored::StoredStep;
@@ -137,7 +136,8 @@ pub(crate) fn beat(state: &mut State, keyring: &Keyring) -> Result<Out, Fault>
     requires { keyring.now.party < replicas keyring.now.sizes }
     ensures { (c : Chronicle) → IsStateOf keyring.now c state.old → StepsTo keyring.now beat_in c result state.new }
 {
-    if leader_of(keyring, state.view) != own_number(keyring) {
+    let leader = keyring.config().leader(state.view);
+    if leader != keyring.replica() {
         return pass(state);
     }
     if state.tree.contains(&state.records.leaf.digest) {

@@ -9,17 +9,8 @@ ghost use Rattle.definitions.specs.Keyrings.{keyring_of, vector_for};
 
 use authenticators::Keyring;
 use frames_view::{write_proposal, write_vote};
-use ids::{Digest, Fault, Kind, ReplicaId, View};
+use ids::{Digest, Fault, Kind, View};
 use std::alloc::Global;
-
-/// The number of the replica whose keys these are.
-pub(crate) fn own_number(keyring: &Keyring) -> ReplicaId
-    requires { keyring.now.party < replicas keyring.now.sizes }
-    ensures { result ≡ keyring.now.party }
-{
-    let _most = keyring.config().n();
-    ReplicaId(keyring.party().0 as u8)
-}
 
 /// The vote for a block.
 pub(crate) fn vote_frame(alloc: Global, keyring: &Keyring, block: &Digest) -> Result<Vec<u8>, Fault>
@@ -30,7 +21,7 @@ pub(crate) fn vote_frame(alloc: Global, keyring: &Keyring, block: &Digest) -> Re
     let mut vector = Vec::new(alloc);
     keyring.vector(Kind::Vote, &block.0, &mut vector)?;
     let mut frame = Vec::new(alloc);
-    write_vote(block, own_number(keyring), &vector, &mut frame)?;
+    write_vote(block, keyring.replica(), &vector, &mut frame)?;
     Ok(frame)
 }
 

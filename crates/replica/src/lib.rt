@@ -4,7 +4,6 @@
 mod beat;
 mod frames;
 mod input;
-mod leaders;
 mod out;
 mod replica;
 mod state;

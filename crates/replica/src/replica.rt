@@ -12,7 +12,6 @@ ghost use Rattle.replica.specs.StepsTo.{StepsTo, halts};
 ghost use Rattle.replica.specs.Inputs.{input_of, IsFor};
 
 use crate::beat::beat;
-use crate::frames::own_number;
 use crate::input::Input;
 use crate::out::Out;
 use crate::state::{High, Records, State};
@@ -117,7 +116,7 @@ impl Replica {
     pub fn number(&self) -> ReplicaId
         ensures { result ≡ self.now.keys.party }
     {
-        own_number(&self.keyring)
+        self.keyring.replica()
     }
 
     /// The sizes that it was made with.

@@ -16,7 +16,6 @@ ghost use Rattle.replica.specs.StepsTo.{StepsTo};
 ghost use Rattle.replica.specs.Inputs.{proposal_input};
 
 use crate::frames::vote_frame;
-use crate::leaders::leader_of;
 use crate::out::{Out, To};
 use crate::state::{High, Records, State};
 use crate::stored::{StoredStep, TookBlock};
@@ -24,7 +23,7 @@ use authenticators::Keyring;
 use block_tree::Tree;
 use certificates::Checked;
 use frames_view::{CertificateBuf, CoreBuf, ProposalView};
-use ids::{Digest, Fault, ReplicaId, View};
+use ids::{Digest, Fault, View};
 use replica_rules::{Mark, Rules};
 use std::alloc::Global;
 
@@ -135,7 +134,8 @@ fn vote_out(
         return Ok(Out::none(alloc));
     }
     let frame = vote_frame(alloc, keyring, &admission.digest)?;
-    Out::one(alloc, To::Replica(leader_of(keyring, view)), frame)
+    let leader = keyring.config().leader(view);
+    Out::one(alloc, To::Replica(leader), frame)
 }
 
 /// Admits a block that stands in the tree.

@@ -1,5 +1,4 @@
 pub mod Cuts
-pub mod KeyCounts
 pub mod MoreLines
 pub mod Numbers
 pub mod Words

@@ -1,5 +1,4 @@
 pub mod Faults
-pub mod Keys
 pub mod Lines
 pub mod Schedules
 pub mod Texts

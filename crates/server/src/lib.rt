@@ -1,7 +1,6 @@
 //! The simulator: it reads a schedule, brings frames about as the schedule says, and tells what happened.
 #![tactic(auto)]
 
-mod keys;
 mod node;
 mod report;
 mod schedule;

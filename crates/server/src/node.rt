@@ -1,16 +1,16 @@
 //! One replica of a simulated world.
 
 ghost use Rattle.std.specs.Prelude.{◌≡◌, IsTrue, IfOk};
-ghost use Rattle.server.specs.Keys.{simulated_keys};
+ghost use Rattle.simulated_keys.specs.Keys.{simulated_keys};
 ghost use Rattle.definitions.specs.Keyrings.{is_replica_of};
 
-use crate::keys::keyring_of;
 use authenticators::Keyring;
 use certificates::check_proposal;
 use frames_view::{Frame, read};
 use ids::{Config, Fault, ReplicaId};
 use locked_replica::{Kept, Share};
 use replica::{Input, Out, Replica};
+use simulated_keys::keyring_of;
 use std::alloc::Global;
 
 /// A kept replica with the one share that steps it.

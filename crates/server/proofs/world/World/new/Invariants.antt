@@ -1,5 +1,5 @@
 use Rattle.std.proofs.Common.{◌≡◌, ℕ, ◌<◌, vec_len, slice_index_or}
-use Rattle.server.specs.Keys.{simulated_keys}
+use Rattle.simulated_keys.specs.Keys.{simulated_keys}
 use Rattle.server.specs.declared.node.Node.{Node}
 use Rattle.server.proofs.world.World.new.Given as goal
 

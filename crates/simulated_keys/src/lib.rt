@@ -1,16 +1,18 @@
-//! The keys of a simulated world, which anyone can compute.
+//! The keys of a simulated world, which anyone can compute: the key of two parties is SHA-256 (FIPS 180-4) of the word
+//! `hsim` and of their numbers, two bytes each, the lower one first.
+#![tactic(auto)]
 
 ghost use Rattle.std.specs.Prelude.{◌≡◌, ◌+◌, ◌≤◌, ◌^◌, ◌++◌, IfOk, OnOk, OnErr};
-ghost use Rattle.server.specs.Keys.{simulated_key, keys_with, simulated_keys};
+ghost use Rattle.simulated_keys.specs.Keys.{simulated_key, keys_with, simulated_keys};
 
 use authenticators::Keyring;
 use ids::{ClientId, Config, Fault, PartyId, ReplicaId};
 use sha2::{Digest, Sha256};
 use std::alloc::Global;
 
-/// The keyring of a party of a world of these sizes.
+/// The keyring of a party of a world of these sizes, correct or not.
 #[tactic(auto, using(crate::proofs::KeyCounts::length_keys))]
-pub(crate) fn keyring_of(alloc: Global, config: Config, party: PartyId) -> Result<Keyring, Fault>
+pub fn keyring_of(alloc: Global, config: Config, party: PartyId) -> Result<Keyring, Fault>
     ensures made { IfOk result (λ keyring. keyring ≡ simulated_keys config party) }
     ensures memory { OnErr result (result ≡ Err Fault.Memory) }
 {

@@ -2,7 +2,7 @@
 use Rattle.std.proofs.Common.{◌≡◌, ℕ, ◌+◌, List, [], ◌∷◌, ◌++◌, length, append_assoc, ap, ◌∙◌, sym, refl}
 use Rattle.std.proofs.lemmas.List.FromFn.{length-map-range_with_len, map-range_with_len_more}
 use Rattle.definitions.specs.Bytes.{Bytes}
-use Rattle.server.specs.Keys.{simulated_key, keys_with}
+use Rattle.simulated_keys.specs.Keys.{simulated_key, keys_with}
 
 pub length_keys : (party first count : ℕ) → length (keys_with party first count) ≡ count
 length_keys party first count = length-map-range_with_len (simulated_key party) first count
