@@ -2,7 +2,7 @@
 
 ghost use Rattle.std.specs.Prelude.{◌≡◌, ◌<◌};
 ghost use Rattle.ids.specs.Sizes.{replicas};
-ghost use Rattle.definitions.specs.FrameLimits.{Spells};
+ghost use Rattle.definitions.specs.FrameLimits.{IsFrame};
 ghost use Rattle.definitions.specs.Checks.{identity_of};
 ghost use Rattle.definitions.specs.Admission.{own_tag_verifies, check};
 ghost use Rattle.frames_view.specs.Views.{block_of};
@@ -12,7 +12,7 @@ use crate::certificate::good_voters;
 use crate::checked::{Authenticated, CarriesBlock, Certified, Checked};
 use crate::commands::is_clear;
 use authenticators::Keyring;
-use frames_view::{BlockView, middle_of};
+use frames_view::BlockView;
 use ids::{Config, Fault, Kind, PartyId};
 
 impl<'a> Authenticated for BlockView<'a> {
@@ -36,29 +36,27 @@ impl<'a> Certified for BlockView<'a> {}
 impl<'a> CarriesBlock for BlockView<'a> {}
 
 /// Whether the sender's tag verifies.
-fn own_tag_verifies(keyring: &Keyring, bytes: &[u8], view: &BlockView) -> bool
-    requires spelled { Spells keyring.now.sizes bytes.now (block_of view.now) }
+fn own_tag_verifies(keyring: &Keyring, view: &BlockView) -> bool
+    requires fits { IsFrame keyring.now.sizes (block_of view.now) }
     ensures { result ≡ own_tag_verifies (identity_of keyring.now) (block_of view.now) }
 {
-    let tag = view.tag();
-    let content = middle_of(bytes, tag.len());
-    keyring.verify(Kind::Block, PartyId::from(view.sender()), content, tag)
+    let sender = PartyId::from(view.sender());
+    keyring.verify(Kind::Block, sender, view.content(), view.tag())
 }
 
-/// The block that was read from these bytes, if it passes the check of the keyring's replica.
+/// The block, if it passes the check of the keyring's replica.
 #[tactic(auto, unfolding(definitions::specs::Admission::check))]
 pub fn check_block<'a>(
     keyring: &'a Keyring,
     config: &Config,
-    bytes: &[u8],
     view: &BlockView<'a>,
 ) -> Result<Checked<'a, BlockView<'a>>, Fault>
     requires sizes { config.now ≡ keyring.now.sizes }
     requires replica { keyring.now.party < replicas config.now }
-    requires spelled { Spells config.now bytes.now (block_of view.now) }
+    requires fits { IsFrame config.now (block_of view.now) }
     ensures { IsGivenIf (is_passed (check (identity_of keyring.now) (block_of view.now))) keyring.now view.now result }
 {
-    if !own_tag_verifies(keyring, bytes, view) {
+    if !own_tag_verifies(keyring, view) {
         return Err(Fault::BadTag);
     }
     let voters = good_voters(keyring, &view.certificate())?;

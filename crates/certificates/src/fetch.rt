@@ -2,7 +2,7 @@
 
 ghost use Rattle.std.specs.Prelude.{◌≡◌, ◌<◌};
 ghost use Rattle.ids.specs.Sizes.{replicas};
-ghost use Rattle.definitions.specs.FrameLimits.{Spells};
+ghost use Rattle.definitions.specs.FrameLimits.{IsFrame};
 ghost use Rattle.definitions.specs.Checks.{identity_of};
 ghost use Rattle.definitions.specs.Admission.{own_tag_verifies, check};
 ghost use Rattle.frames_view.specs.Views.{fetch_of};
@@ -11,7 +11,7 @@ ghost use Rattle.certificates.specs.Outcomes.{is_passed, IsGivenIf};
 use crate::checked::{Authenticated, Checked};
 use crate::voters::Voters;
 use authenticators::Keyring;
-use frames_view::{FetchView, middle_of};
+use frames_view::FetchView;
 use ids::{Config, Fault, Kind, PartyId};
 
 impl<'a> Authenticated for FetchView<'a> {
@@ -31,29 +31,27 @@ impl<'a> Authenticated for FetchView<'a> {
 }
 
 /// Whether the sender's tag verifies.
-fn own_tag_verifies(keyring: &Keyring, bytes: &[u8], view: &FetchView) -> bool
-    requires spelled { Spells keyring.now.sizes bytes.now (fetch_of view.now) }
+fn own_tag_verifies(keyring: &Keyring, view: &FetchView) -> bool
+    requires fits { IsFrame keyring.now.sizes (fetch_of view.now) }
     ensures { result ≡ own_tag_verifies (identity_of keyring.now) (fetch_of view.now) }
 {
-    let tag = view.tag();
-    let content = middle_of(bytes, tag.len());
-    keyring.verify(Kind::Fetch, PartyId::from(view.sender()), content, tag)
+    let sender = PartyId::from(view.sender());
+    keyring.verify(Kind::Fetch, sender, view.content(), view.tag())
 }
 
-/// The question that was read from these bytes, if it passes the check of the keyring's replica.
+/// The question, if it passes the check of the keyring's replica.
 #[tactic(auto, unfolding(definitions::specs::Admission::check, definitions::specs::Checks::is_clear_core, definitions::specs::Checks::counted))]
 pub fn check_fetch<'a>(
     keyring: &'a Keyring,
     config: &Config,
-    bytes: &[u8],
     view: &FetchView<'a>,
 ) -> Result<Checked<'a, FetchView<'a>>, Fault>
     requires sizes { config.now ≡ keyring.now.sizes }
     requires replica { keyring.now.party < replicas config.now }
-    requires spelled { Spells config.now bytes.now (fetch_of view.now) }
+    requires fits { IsFrame config.now (fetch_of view.now) }
     ensures { IsGivenIf (is_passed (check (identity_of keyring.now) (fetch_of view.now))) keyring.now view.now result }
 {
-    if !own_tag_verifies(keyring, bytes, view) {
+    if !own_tag_verifies(keyring, view) {
         return Err(Fault::BadTag);
     }
     Ok(Checked::new(keyring, *config, *view, Voters::new(), true))

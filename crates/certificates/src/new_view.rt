@@ -2,7 +2,7 @@
 
 ghost use Rattle.std.specs.Prelude.{◌≡◌, ◌<◌};
 ghost use Rattle.ids.specs.Sizes.{replicas};
-ghost use Rattle.definitions.specs.FrameLimits.{Spells};
+ghost use Rattle.definitions.specs.FrameLimits.{IsFrame};
 ghost use Rattle.definitions.specs.Checks.{identity_of};
 ghost use Rattle.definitions.specs.Admission.{own_tag_verifies, check};
 ghost use Rattle.frames_view.specs.Views.{new_view_of};
@@ -12,7 +12,7 @@ use crate::certificate::good_voters;
 use crate::checked::{Authenticated, Certified, Checked};
 use crate::tags::{own_number, tag_in};
 use authenticators::Keyring;
-use frames_view::{NewViewView, middle_of};
+use frames_view::NewViewView;
 use ids::{Config, Fault, Kind, PartyId};
 
 impl<'a> Authenticated for NewViewView<'a> {
@@ -34,31 +34,29 @@ impl<'a> Authenticated for NewViewView<'a> {
 impl<'a> Certified for NewViewView<'a> {}
 
 /// Whether the sender's tag for the keyring's own replica verifies.
-fn own_tag_verifies(keyring: &Keyring, bytes: &[u8], view: &NewViewView) -> bool
+fn own_tag_verifies(keyring: &Keyring, view: &NewViewView) -> bool
     requires replica { keyring.now.party < replicas keyring.now.sizes }
-    requires spelled { Spells keyring.now.sizes bytes.now (new_view_of view.now) }
+    requires fits { IsFrame keyring.now.sizes (new_view_of view.now) }
     ensures { result ≡ own_tag_verifies (identity_of keyring.now) (new_view_of view.now) }
 {
-    let vector = view.vector();
-    let content = middle_of(bytes, vector.len());
-    let tag = tag_in(vector, own_number(keyring));
-    keyring.verify(Kind::NewView, PartyId::from(view.sender()), content, tag)
+    let sender = PartyId::from(view.sender());
+    let tag = tag_in(view.vector(), own_number(keyring));
+    keyring.verify(Kind::NewView, sender, view.content(), tag)
 }
 
-/// The announcement that was read from these bytes, if it passes the check of the keyring's replica.
+/// The announcement, if it passes the check of the keyring's replica.
 #[tactic(auto, unfolding(definitions::specs::Admission::check, definitions::specs::Checks::is_clear_core))]
 pub fn check_new_view<'a>(
     keyring: &'a Keyring,
     config: &Config,
-    bytes: &[u8],
     view: &NewViewView<'a>,
 ) -> Result<Checked<'a, NewViewView<'a>>, Fault>
     requires sizes { config.now ≡ keyring.now.sizes }
     requires replica { keyring.now.party < replicas config.now }
-    requires spelled { Spells config.now bytes.now (new_view_of view.now) }
+    requires fits { IsFrame config.now (new_view_of view.now) }
     ensures { IsGivenIf (is_passed (check (identity_of keyring.now) (new_view_of view.now))) keyring.now view.now result }
 {
-    if !own_tag_verifies(keyring, bytes, view) {
+    if !own_tag_verifies(keyring, view) {
         return Err(Fault::BadTag);
     }
     let voters = good_voters(keyring, &view.certificate())?;

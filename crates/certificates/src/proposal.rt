@@ -2,7 +2,7 @@
 
 ghost use Rattle.std.specs.Prelude.{◌≡◌, ◌<◌};
 ghost use Rattle.ids.specs.Sizes.{replicas};
-ghost use Rattle.definitions.specs.FrameLimits.{Spells};
+ghost use Rattle.definitions.specs.FrameLimits.{IsFrame};
 ghost use Rattle.definitions.specs.Checks.{identity_of};
 ghost use Rattle.definitions.specs.Admission.{own_tag_verifies, check};
 ghost use Rattle.frames_view.specs.Views.{proposal_of};
@@ -13,7 +13,7 @@ use crate::checked::{Authenticated, CarriesBlock, Certified, Checked};
 use crate::commands::is_clear;
 use crate::tags::{leader, own_number, tag_in};
 use authenticators::Keyring;
-use frames_view::{ProposalView, middle_of};
+use frames_view::ProposalView;
 use ids::{Config, Fault, Kind, PartyId};
 
 impl<'a> Authenticated for ProposalView<'a> {
@@ -37,37 +37,30 @@ impl<'a> Certified for ProposalView<'a> {}
 impl<'a> CarriesBlock for ProposalView<'a> {}
 
 /// Whether the leader's tag for the keyring's own replica verifies.
-fn own_tag_verifies(keyring: &Keyring, config: &Config, bytes: &[u8], view: &ProposalView) -> bool
+fn own_tag_verifies(keyring: &Keyring, config: &Config, view: &ProposalView) -> bool
     requires sizes { config.now ≡ keyring.now.sizes }
     requires replica { keyring.now.party < replicas config.now }
-    requires spelled { Spells config.now bytes.now (proposal_of view.now) }
+    requires fits { IsFrame config.now (proposal_of view.now) }
     ensures { result ≡ own_tag_verifies (identity_of keyring.now) (proposal_of view.now) }
 {
-    let vector = view.vector();
-    let content = middle_of(bytes, vector.len());
-    let tag = tag_in(vector, own_number(keyring));
-    keyring.verify(
-        Kind::Proposal,
-        PartyId::from(leader(config, view.view())),
-        content,
-        tag,
-    )
+    let sender = PartyId::from(leader(config, view.view()));
+    let tag = tag_in(view.vector(), own_number(keyring));
+    keyring.verify(Kind::Proposal, sender, view.content(), tag)
 }
 
-/// The proposal that was read from these bytes, if it passes the check of the keyring's replica.
+/// The proposal, if it passes the check of the keyring's replica.
 #[tactic(auto, unfolding(definitions::specs::Admission::check))]
 pub fn check_proposal<'a>(
     keyring: &'a Keyring,
     config: &Config,
-    bytes: &[u8],
     view: &ProposalView<'a>,
 ) -> Result<Checked<'a, ProposalView<'a>>, Fault>
     requires sizes { config.now ≡ keyring.now.sizes }
     requires replica { keyring.now.party < replicas config.now }
-    requires spelled { Spells config.now bytes.now (proposal_of view.now) }
+    requires fits { IsFrame config.now (proposal_of view.now) }
     ensures { IsGivenIf (is_passed (check (identity_of keyring.now) (proposal_of view.now))) keyring.now view.now result }
 {
-    if !own_tag_verifies(keyring, config, bytes, view) {
+    if !own_tag_verifies(keyring, config, view) {
         return Err(Fault::BadTag);
     }
     let voters = good_voters(keyring, &view.certificate())?;

@@ -154,7 +154,7 @@ fn found(alloc: Global, bytes: &[u8]) -> Result<Option<(usize, bool)>, Fail> {
     let Ok(Frame::Proposal(view)) = read(&config, bytes) else {
         return Err("the bytes are a proposal".into());
     };
-    match check_proposal(&ring, &config, bytes, &view) {
+    match check_proposal(&ring, &config, &view) {
         Ok(checked) => Ok(Some((checked.counted().len(), checked.is_clear()))),
         Err(_) => Ok(None),
     }
@@ -167,12 +167,12 @@ fn answer(alloc: Global, bytes: &[u8]) -> Result<Result<(), Fault>, Fail> {
     let frame = read(&config, bytes).ok().ok_or("the bytes are a frame")?;
     Ok(match frame {
         Frame::Request(view) => check_request(&ring, &config, &view).map(|_| ()),
-        Frame::Proposal(view) => check_proposal(&ring, &config, bytes, &view).map(|_| ()),
+        Frame::Proposal(view) => check_proposal(&ring, &config, &view).map(|_| ()),
         Frame::Vote(view) => check_vote(&ring, &config, &view).map(|_| ()),
-        Frame::NewView(view) => check_new_view(&ring, &config, bytes, &view).map(|_| ()),
+        Frame::NewView(view) => check_new_view(&ring, &config, &view).map(|_| ()),
         Frame::Reply(_) => Err(Fault::NotMine),
-        Frame::Fetch(view) => check_fetch(&ring, &config, bytes, &view).map(|_| ()),
-        Frame::Block(view) => check_block(&ring, &config, bytes, &view).map(|_| ()),
+        Frame::Fetch(view) => check_fetch(&ring, &config, &view).map(|_| ()),
+        Frame::Block(view) => check_block(&ring, &config, &view).map(|_| ()),
     })
 }
 

@@ -4,3 +4,4 @@ pub mod Parts
 pub mod Whole
 pub mod Cores
 pub mod Spelled
+pub mod Contents

@@ -1,6 +1,7 @@
 pub mod Readings
 pub mod Parts
 pub mod Cores
+pub mod PartViews
 pub mod Views
 pub mod Fields
 pub mod Spelled

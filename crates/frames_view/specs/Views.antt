@@ -1,24 +1,22 @@
 -- What the views say.
 use Rattle.std.specs.Prelude.{◌≡◌, List, Option, option_map}
 use Rattle.definitions.specs.Frames as frames
-use Rattle.definitions.specs.Frames.{Command, Core, Vote, Certificate}
+use Rattle.definitions.specs.Frames.{Command, Vote}
 use Rattle.frames_view.specs.declared.views.VoteView.{VoteView}
-use Rattle.frames_view.specs.declared.views.CertificateView.{CertificateView}
 use Rattle.frames_view.specs.declared.views.CommandView.{CommandView}
-use Rattle.frames_view.specs.declared.views.CoreView.{CoreView}
 use Rattle.frames_view.specs.declared.views.Votes.{Votes}
 use Rattle.frames_view.specs.declared.views.Commands.{Commands}
-use Rattle.frames_view.specs.declared.frame.ProposalView.{ProposalView}
-use Rattle.frames_view.specs.declared.frame.VoteFrameView.{VoteFrameView}
-use Rattle.frames_view.specs.declared.frame.NewViewView.{NewViewView}
-use Rattle.frames_view.specs.declared.frame.ReplyView.{ReplyView}
-use Rattle.frames_view.specs.declared.frame.FetchView.{FetchView}
-use Rattle.frames_view.specs.declared.frame.BlockView.{BlockView}
-use Rattle.frames_view.specs.declared.frame.Frame.{Frame}
-use Rattle.frames_view.specs.declared.frame.Frame.TheVariants.{Request, Proposal, Vote as AVote, NewView, Reply, Fetch, Block}
+use Rattle.frames_view.specs.declared.frame_views.ProposalView.{ProposalView}
+use Rattle.frames_view.specs.declared.frame_views.VoteFrameView.{VoteFrameView}
+use Rattle.frames_view.specs.declared.frame_views.NewViewView.{NewViewView}
+use Rattle.frames_view.specs.declared.frame_views.ReplyView.{ReplyView}
+use Rattle.frames_view.specs.declared.frame_views.FetchView.{FetchView}
+use Rattle.frames_view.specs.declared.frame_views.BlockView.{BlockView}
+use Rattle.frames_view.specs.declared.frame_views.Frame.{Frame}
+use Rattle.frames_view.specs.declared.frame_views.Frame.TheVariants.{Request, Proposal, Vote as AVote, NewView, Reply, Fetch, Block}
 use Rattle.frames_view.specs.Readings.{elements}
 use Rattle.frames_view.specs.Parts.{vote_in, command_in}
-use Rattle.frames_view.specs.Cores.{core_of_fields}
+pub use Rattle.frames_view.specs.PartViews.{core_of, certificate_of}
 
 -- what was read, seen so, is what reading gives
 abbrev pub Gives : {X Y : Type 0} → (X → Y) → Option X → Option Y → Type 0
@@ -28,17 +26,9 @@ Gives view result read = option_map view result ≡ read
 abbrev pub vote_of : VoteView → Vote
 vote_of v = record { voter = v.voter; vector = v.vector.now }
 
--- the certificate that a view shows
-abbrev pub certificate_of : CertificateView → Certificate
-certificate_of q = record { digest = q.digest.now; votes = elements (vote_in q.replicas) q.count q.votes.now }
-
 -- the command that a view shows
 abbrev pub command_of : CommandView → Command
 command_of c = record { client = c.client; seq = c.seq; payload = c.payload.now; vector = c.vector.now }
-
--- the core that a view shows
-abbrev pub core_of : CoreView → Core
-core_of k = core_of_fields k.fields
 
 -- the frame that a view shows
 abbrev pub proposal_of : ProposalView → frames.Frame

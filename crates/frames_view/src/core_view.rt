@@ -1,6 +1,6 @@
 //! Cores: what the digests of blocks are made of.
 
-ghost use Rattle.std.specs.Prelude.{◌≡◌, IfSome};
+ghost use Rattle.std.specs.Prelude.{◌≡◌, ◌++◌, IfSome};
 ghost use Rattle.definitions.specs.Frames.{command_bytes, core_bytes};
 ghost use Rattle.ids.specs.Sizes.{replicas};
 ghost use Rattle.frames_view.specs.Readings.{IsRead, behind};
@@ -107,7 +107,8 @@ fn take_fields<'a>(config: &Config, bytes: &'a [u8]) -> Option<(CoreFields<'a>, 
 }
 
 pub(crate) fn take_core<'a>(config: &Config, bytes: &'a [u8]) -> Option<(CoreView<'a>, &'a [u8])>
-    ensures { Gives (λ p. (core_of p.0, p.1.now)) result (core_in config.now bytes.now) }
+    ensures taken { Gives (λ p. (core_of p.0, p.1.now)) result (core_in config.now bytes.now) }
+    ensures spelled { IfSome result (λ p. bytes.now ≡ core_bytes (core_of p.0) ++ p.1.now) }
 {
     // Both are bytes, so numbers of parties fit their fields.
     let (_replicas, _clients) = (config.n(), config.clients());

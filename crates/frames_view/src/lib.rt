@@ -3,6 +3,7 @@
 //! Reading takes no memory: what it gives are views that borrow from the bytes.
 #![tactic(auto)]
 
+mod block;
 mod certificate;
 mod certificate_buf;
 mod command;
@@ -11,21 +12,26 @@ mod core_fields;
 mod core_view;
 mod cursor;
 mod digest;
-mod fields;
+mod fetch;
 mod frame;
+mod frame_views;
 mod lists;
+mod new_view;
+mod proposal;
+mod reply;
 #[cfg(test)]
 mod tests;
 mod views;
 mod vote;
+mod vote_frame;
 mod write;
 
 pub use certificate_buf::CertificateBuf;
 pub use core_buf::CoreBuf;
 pub use digest::genesis_digest;
-pub use fields::middle_of;
-pub use frame::{
-    BlockView, FetchView, Frame, NewViewView, ProposalView, ReplyView, VoteFrameView, read,
+pub use frame::read;
+pub use frame_views::{
+    BlockView, FetchView, Frame, NewViewView, ProposalView, ReplyView, VoteFrameView,
 };
 pub use views::{CertificateView, CommandView, Commands, CoreView, VoteView, Votes};
 pub use write::{

@@ -99,7 +99,7 @@ fn step_on(
     let Ok(Frame::Proposal(view)) = read(&config, bytes) else {
         return Err("the bytes are a proposal".into());
     };
-    let checked = check_proposal(ring, &config, bytes, &view)?;
+    let checked = check_proposal(ring, &config, &view)?;
     Ok(kept.step(share, Input::Proposal(checked)))
 }
 

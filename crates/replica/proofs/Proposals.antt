@@ -37,7 +37,7 @@ use Rattle.definitions.specs.FrameLimits.{IsFrame}
 use Rattle.definitions.specs.Admission.{when, check}
 use Rattle.definitions.proofs.Checks.{proposal-checked}
 use Rattle.certificates.specs.Outcomes.{is_passed}
-use Rattle.frames_view.specs.declared.frame.ProposalView.{ProposalView}
+use Rattle.frames_view.specs.declared.frame_views.ProposalView.{ProposalView}
 use Rattle.frames_view.specs.Fields.{frame_core, frame_certificate}
 use Rattle.frames_view.specs.Views.{proposal_of}
 use Rattle.replica.proofs.Admits.{has-marks, found-there}

@@ -2,7 +2,7 @@
 use Rattle.std.specs.Prelude.{◌≡◌, ⊤}
 use Rattle.definitions.specs.Keyrings.{Keys}
 use Rattle.definitions.specs.Rulings as rulings
-use Rattle.frames_view.specs.declared.frame.ProposalView.{ProposalView}
+use Rattle.frames_view.specs.declared.frame_views.ProposalView.{ProposalView}
 use Rattle.frames_view.specs.Fields.{frame_view, frame_core, frame_certificate}
 use Rattle.frames_view.specs.Views.{proposal_of}
 use Rattle.replica.specs.declared.input.Input.{Input}

@@ -50,7 +50,7 @@ impl Node {
         let Frame::Proposal(proposal) = read(&config, bytes)? else {
             return Err(Fault::NotMine);
         };
-        let checked = check_proposal(&self.keyring, &config, bytes, &proposal)?;
+        let checked = check_proposal(&self.keyring, &config, &proposal)?;
         self.kept.step(&mut self.share, Input::Proposal(checked))
     }
 

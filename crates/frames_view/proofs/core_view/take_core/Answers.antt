@@ -25,3 +25,10 @@ invariant_of-result c =
       spelled = c.before-raw.ensures ∙ front_spelled (IsCore sizes) core_bytes (core_in sizes) (IsExact-core sizes (few, few_clients)) c.args.bytes.now (core_of_fields c.in_ok-fields.fields) c.in_ok-fields.rest.now
           (λ i. omega (arith, c.type_inv.bytes i)) (sym c.in_ok-fields.ensures);
     }
+
+pub returns-clause-spelled : goal.returns-clause-spelled
+returns-clause-spelled c =
+    let sizes = c.args.config.now in
+    let few : replicas sizes < 256 = omega (arith, c.n-replicas.ensures.count, c.n-replicas.type_inv) in
+    let few_clients : sizes.clients < 256 = omega (arith, c.clients-clients.ensures, c.clients-clients.type_inv) in
+    ((IsExact-core sizes (few, few_clients)).found c.args.bytes.now (core_of_fields c.in_ok-fields.fields) c.in_ok-fields.rest.now (λ i. omega (arith, c.type_inv.bytes i)) (sym c.in_ok-fields.ensures)).1

@@ -6,7 +6,7 @@ use Rattle.definitions.specs.Keyrings.{Keys}
 use Rattle.definitions.specs.Checks.{identity_of, is_clear_core}
 use Rattle.frames_view.specs.Fields.{frame_view, frame_core, frame_certificate}
 use Rattle.frames_view.specs.Views.{proposal_of}
-use Rattle.frames_view.specs.declared.frame.ProposalView.{ProposalView}
+use Rattle.frames_view.specs.declared.frame_views.ProposalView.{ProposalView}
 use Rattle.definitions.specs.Rulings.{admitted}
 use Rattle.replica.specs.Steps.{Sent}
 use Rattle.replica.specs.declared.state.State.{State}
