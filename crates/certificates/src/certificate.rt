@@ -9,7 +9,6 @@ ghost use Rattle.frames_view.specs.Views.{vote_of, certificate_of};
 ghost use Rattle.certificates.specs.Outcomes.{IsGivenIf};
 
 use crate::checked::{Authenticated, Certified, Checked};
-use crate::tags::own_number;
 use crate::voters::Voters;
 use authenticators::Keyring;
 use frames_view::{CertificateView, VoteView, genesis_digest};
@@ -21,7 +20,7 @@ pub(crate) fn vote_verifies(keyring: &Keyring, digest: &[u8; 32], vote: &VoteVie
     requires vote { IsVote keyring.now.sizes (vote_of vote.now) }
     ensures { result ≡ vote_verifies (identity_of keyring.now) digest.now (vote_of vote.now) }
 {
-    let tag = vote.tag(own_number(keyring));
+    let tag = vote.tag(keyring.replica());
     keyring.verify(Kind::Vote, PartyId::from(vote.voter()), digest, tag)
 }
 

@@ -6,7 +6,6 @@ ghost use Rattle.definitions.specs.FrameLimits.{IsCommand, IsCore};
 ghost use Rattle.definitions.specs.Checks.{identity_of, command_verifies, is_clear_core};
 ghost use Rattle.frames_view.specs.Views.{command_of, core_of};
 
-use crate::tags::own_number;
 use authenticators::Keyring;
 use frames_view::{CommandView, CoreView};
 use ids::{Kind, PartyId};
@@ -17,7 +16,7 @@ pub(crate) fn command_verifies(keyring: &Keyring, command: &CommandView) -> bool
     requires command { IsCommand keyring.now.sizes (command_of command.now) }
     ensures { result ≡ command_verifies (identity_of keyring.now) (command_of command.now) }
 {
-    let tag = command.tag(own_number(keyring));
+    let tag = command.tag(keyring.replica());
     keyring.verify(
         Kind::Request,
         PartyId::from(command.client()),

@@ -16,8 +16,6 @@ mod new_view;
 mod proposal;
 mod request;
 mod tags;
-#[cfg(test)]
-mod tests;
 mod vote;
 mod voters;
 

@@ -11,7 +11,7 @@ ghost use Rattle.certificates.specs.Outcomes.{is_passed, IsGivenIf};
 use crate::certificate::good_voters;
 use crate::checked::{Authenticated, CarriesBlock, Certified, Checked};
 use crate::commands::is_clear;
-use crate::tags::{leader, own_number, tag_in};
+use crate::tags::tag_in;
 use authenticators::Keyring;
 use frames_view::ProposalView;
 use ids::{Config, Fault, Kind, PartyId};
@@ -43,8 +43,8 @@ fn own_tag_verifies(keyring: &Keyring, config: &Config, view: &ProposalView) -> 
     requires fits { IsFrame config.now (proposal_of view.now) }
     ensures { result ≡ own_tag_verifies (identity_of keyring.now) (proposal_of view.now) }
 {
-    let sender = PartyId::from(leader(config, view.view()));
-    let tag = tag_in(view.vector(), own_number(keyring));
+    let sender = PartyId::from(config.leader(view.view()));
+    let tag = tag_in(view.vector(), keyring.replica());
     keyring.verify(Kind::Proposal, sender, view.content(), tag)
 }
 

@@ -1,27 +1,9 @@
 //! Tags for the keyring's own replica.
 
-ghost use Rattle.std.specs.Prelude.{◌≡◌, ◌+◌, ◌*◌, ◌<◌, ◌≤◌, length, take, drop};
-ghost use Rattle.ids.specs.Sizes.{replicas, leader};
+ghost use Rattle.std.specs.Prelude.{◌≡◌, ◌+◌, ◌*◌, ◌≤◌, length, take, drop};
 ghost use Rattle.definitions.specs.Tags.{tag_of};
 
-use authenticators::Keyring;
-use ids::{Config, ReplicaId, View};
-
-/// The replica whose keyring it is.
-pub(crate) fn own_number(keyring: &Keyring) -> ReplicaId
-    requires { keyring.now.party < replicas keyring.now.sizes }
-    ensures { result ≡ keyring.now.party }
-{
-    let _n = keyring.config().n();
-    ReplicaId(keyring.party().0 as u8)
-}
-
-/// The replica that leads a view.
-pub(crate) fn leader(config: &Config, view: View) -> ReplicaId
-    ensures { result ≡ leader config.now view }
-{
-    ReplicaId((view.0 % u64::from(config.n())) as u8)
-}
+use ids::ReplicaId;
 
 /// The tag for a replica in a vector.
 pub(crate) fn tag_in(vector: &[u8], replica: ReplicaId) -> &[u8; 32]

@@ -8,8 +8,6 @@ mod closed;
 mod kept;
 mod once;
 mod share;
-#[cfg(test)]
-mod tests;
 
 pub use closed::{Closed, NotAll};
 pub use kept::Kept;

@@ -9,8 +9,6 @@ mod replica;
 mod state;
 mod stored;
 mod take;
-#[cfg(test)]
-mod tests;
 
 pub use input::Input;
 pub use out::{Out, Sending, To};

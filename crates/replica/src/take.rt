@@ -5,7 +5,7 @@ ghost use Rattle.ids.specs.Sizes.{leader, replicas};
 ghost use Rattle.definitions.specs.Branches.{Branch, justify_height};
 ghost use Rattle.definitions.specs.Trees.{blocks, find_in, clear_above};
 ghost use Rattle.definitions.specs.Chronicles.{Chronicle, Admitted, took_block, tree, may_vote};
-ghost use Rattle.frames_view.specs.Fields.{frame_view, frame_core, frame_certificate};
+ghost use Rattle.frames_view.specs.Fields.{frame_view};
 ghost use Rattle.frames_view.specs.Views.{proposal_of};
 ghost use Rattle.replica_rules.specs.Ruled.{HasMarks, ruled_by};
 ghost use Rattle.replica.specs.Replay.{step_of};
@@ -13,7 +13,7 @@ ghost use Rattle.replica.specs.Takes.{admitted_as, vote_sent, MayAdmit, Admits};
 ghost use Rattle.replica.specs.Raises.{IsRaise, TookIn};
 ghost use Rattle.replica.specs.State.{IsStateOf};
 ghost use Rattle.replica.specs.StepsTo.{StepsTo};
-ghost use Rattle.replica.specs.Inputs.{proposal_input};
+ghost use Rattle.replica.specs.Inputs.{proposed_core, proposed_certificate, proposal_input};
 
 use crate::frames::vote_frame;
 use crate::out::{Out, To};
@@ -43,7 +43,11 @@ fn stored_step(
     proposal: &Checked<ProposalView>,
     admission: &Admission,
 ) -> Result<StoredStep, Fault>
-    ensures made { (blocks : List Branch) → IfOk result (λ s. step_of s blocks ≡ took_block (admitted_as proposal.now.keys (frame_core (proposal_of proposal.now.view)) (frame_certificate (proposal_of proposal.now.view)) admission.now.new admission.now.voted blocks)) }
+    ensures made { (blocks : List Branch) →
+        let core = proposed_core proposal.now.view in
+        let certificate = proposed_certificate proposal.now.view in
+        let a = admitted_as proposal.now.keys core certificate admission.now.new admission.now.voted blocks in
+        IfOk result (λ s. step_of s blocks ≡ took_block a) }
     ensures memory { OnErr result (result ≡ Err Fault.Memory) }
 {
     let core = proposal.view().core();
@@ -64,7 +68,7 @@ fn raised(
     proposal: &Checked<ProposalView>,
     high: &High,
 ) -> Result<Option<High>, Fault>
-    ensures raised { IfOk result (λ r. IsRaise (frame_core (proposal_of proposal.now.view)) (frame_certificate (proposal_of proposal.now.view)) high.now r) }
+    ensures raised { IfOk result (λ r. IsRaise (proposed_core proposal.now.view) (proposed_certificate proposal.now.view) high.now r) }
     ensures memory { OnErr result (result ≡ Err Fault.Memory) }
 {
     let certificate = proposal.view().certificate();
@@ -89,8 +93,9 @@ fn take_new(
     digest: &Digest,
 ) -> Result<(), Fault>
     ensures steps { records.new.steps ≡ records.old.steps }
-    ensures taken { (c : Chronicle) (a : Admitted) → records.old.rules ≡ ruled_by c → HasMarks tree.now c → find_in digest.now (blocks tree.now.stored) ≡ Some a.branch
-        → a.new ≡ true → TookIn c a (frame_core (proposal_of proposal.now.view)) (frame_certificate (proposal_of proposal.now.view)) records.old result records.new }
+    ensures taken { (c : Chronicle) (a : Admitted) → records.old.rules ≡ ruled_by c → HasMarks tree.now c
+        → find_in digest.now (blocks tree.now.stored) ≡ Some a.branch → a.new ≡ true
+        → TookIn c a (proposed_core proposal.now.view) (proposed_certificate proposal.now.view) records.old result records.new }
 {
     let raised = raised(alloc, proposal, &records.high)?;
     records.rules.took(tree, digest)?;
@@ -110,8 +115,9 @@ fn take_block(
     admission: &Admission,
 ) -> Result<(), Fault>
     ensures steps { records.new.steps ≡ records.old.steps }
-    ensures taken { (c : Chronicle) (a : Admitted) → records.old.rules ≡ ruled_by c → HasMarks tree.now c → find_in admission.now.digest (blocks tree.now.stored) ≡ Some a.branch
-        → a.new ≡ admission.now.new → TookIn c a (frame_core (proposal_of proposal.now.view)) (frame_certificate (proposal_of proposal.now.view)) records.old result records.new }
+    ensures taken { (c : Chronicle) (a : Admitted) → records.old.rules ≡ ruled_by c → HasMarks tree.now c
+        → find_in admission.now.digest (blocks tree.now.stored) ≡ Some a.branch → a.new ≡ admission.now.new
+        → TookIn c a (proposed_core proposal.now.view) (proposed_certificate proposal.now.view) records.old result records.new }
 {
     if !admission.new {
         return Ok(());
@@ -148,8 +154,12 @@ fn admit(
     requires keys { proposal.now.keys ≡ keyring.now }
     requires replica { keyring.now.party < replicas keyring.now.sizes }
     ensures rest { state.new ≡ record state.old { records = state.new.records } }
-    ensures admitted { (c : Chronicle) → let a = admitted_as keyring.now (frame_core (proposal_of proposal.now.view)) (frame_certificate (proposal_of proposal.now.view)) admission.now.new admission.now.voted (tree c) in
-        MayAdmit keyring.now c a state.old → find_in admission.now.digest (tree (took_block a ∷ c)) ≡ Some a.branch → Admits keyring.now c a result state.new.records }
+    ensures admitted { (c : Chronicle) →
+        let core = proposed_core proposal.now.view in
+        let certificate = proposed_certificate proposal.now.view in
+        let a = admitted_as keyring.now core certificate admission.now.new admission.now.voted (tree c) in
+        MayAdmit keyring.now c a state.old
+        → find_in admission.now.digest (tree (took_block a ∷ c)) ≡ Some a.branch → Admits keyring.now c a result state.new.records }
 {
     let out = vote_out(state.alloc, keyring, state.view, admission)?;
     let step = stored_step(state.alloc, proposal, admission)?;
@@ -204,8 +214,10 @@ pub(crate) fn take_proposal(
 
 /// Whether the proposed block, which stands in the tree, is voted for.
 fn votes_for(state: &State, proposal: &Checked<ProposalView>, digest: &Digest) -> bool
-    ensures { (c : Chronicle) (b : Branch) → state.now.records.rules ≡ ruled_by c → HasMarks state.now.tree c → find_in digest.now (blocks state.now.tree.stored) ≡ Some b
-        → result ≡ ((frame_view (proposal_of proposal.now.view) == state.now.view) && (may_vote b c && clear_above (justify_height b) b state.now.tree.stored)) }
+    ensures { (c : Chronicle) (b : Branch) → state.now.records.rules ≡ ruled_by c → HasMarks state.now.tree c
+        → find_in digest.now (blocks state.now.tree.stored) ≡ Some b
+        → let votable = may_vote b c && clear_above (justify_height b) b state.now.tree.stored in
+        result ≡ ((frame_view (proposal_of proposal.now.view) == state.now.view) && votable) }
 {
     if proposal.view().view() != state.view {
         return false;

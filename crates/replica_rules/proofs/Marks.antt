@@ -1,5 +1,6 @@
 -- Marks of blocks that stand in a tree.
 use Rattle.std.proofs.Common.{ℕ, ◌≡◌, List, length, refl, sym, ap, ◌∙◌, Option, Some, None, option_map}
+use Rattle.std.proofs.lemmas.Option.{same_Some}
 use Rattle.definitions.specs.Bytes.{Bytes}
 use Rattle.definitions.specs.Branches.{Branch, just1}
 use Rattle.definitions.specs.Digests.{digest_of}
@@ -8,7 +9,6 @@ use Rattle.definitions.proofs.Trees.{found-in, found-itself, tree-below}
 use Rattle.definitions.proofs.Branches.{just1-extends}
 use Rattle.replica_rules.specs.declared.mark.Mark.{Mark}
 use Rattle.replica_rules.specs.Ruled.{mark_of}
-use Rattle.replica_rules.proofs.Safe.{some_is}
 
 none-some : {A : Type 0} (x : A) → Some x ≡ None → ⊥
 none-some x e = cc
@@ -37,7 +37,7 @@ marked-just1 t tr d below e = go (find_in d t) refl e
 
 -- what a chain's next mark is, and that it is found
 pub next-mark : (t : List Branch) (d : Bytes) (b : Branch) (m : Mark) → find_in d t ≡ Some b → Some m ≡ option_map (λ b. mark_of (just1 b)) (find_in d t) → m ≡ mark_of (just1 b)
-next-mark t d b m f e = let k = e ∙ ap (option_map (λ b. mark_of (just1 b))) f in some_is m (mark_of (just1 b)) k
+next-mark t d b m f e = let k = e ∙ ap (option_map (λ b. mark_of (just1 b))) f in same_Some m (mark_of (just1 b)) k
 
 pub next-found : (t : List Branch) → IsTree t → (d : Bytes) (b : Branch) (m : Mark) → find_in d t ≡ Some b → m ≡ mark_of (just1 b) → find_in m.digest t ≡ Some (just1 b)
 next-found t tr d b m f e = ap (λ (x : Mark). find_in x.digest t) e ∙ just1-found t tr d b f

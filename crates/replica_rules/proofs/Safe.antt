@@ -11,9 +11,6 @@ use Rattle.definitions.specs.Trees.{TreeState, blocks, find_in}
 use Rattle.definitions.proofs.Trees.{found-itself}
 use Rattle.replica_rules.specs.Ruled.{HasMarks}
 
-pub some_is : {A : Type 0} (x y : A) → Some x ≡ Some y → x ≡ y
-some_is x y e = cc
-
 -- where both stand in the tree, their branches decide
 pub extends-found : (a b : Bytes) (t : List Branch) (x y : Branch) → find_in a t ≡ Some x → find_in b t ≡ Some y → extends_in a b t ≡ extends x y
 extends-found a b t x y f g =

@@ -1,4 +1,5 @@
 use Rattle.std.proofs.Common.{true≢false, ℕ, ◌≡◌, true, cond, length, nat_lt, sym, ap, ◌∙◌, Some, None, Ok, Err}
+use Rattle.std.proofs.lemmas.Option.{same_Some}
 use Rattle.std.specs.Result.{IsErr}
 use Rattle.std.specs.Prelude.{Result}
 use Rattle.ids.specs.declared.fault.Fault.{Fault}
@@ -12,7 +13,6 @@ use Rattle.definitions.proofs.Branches.{just1-extends, just3-below, Extends-tran
 use Rattle.replica_rules.specs.declared.chain.Chain.{Chain}
 use Rattle.replica_rules.specs.Ruled.{Ruled, mark_of, Took}
 use Rattle.replica_rules.specs.Chains.{chain_of}
-use Rattle.replica_rules.proofs.Safe.{some_is}
 use Rattle.replica_rules.proofs.Takes.{higher-mark, not-against, is-against, conflicts-took, lock-took, executed-took}
 use Rattle.replica_rules.proofs.rules.Rules.took.Goals as goal
 
@@ -33,7 +33,7 @@ returns-in_default-clause-taken c c' a r m f n = absurd (no-chain (chain_of a.br
 
 pub returns-in_err-self-inside-clause-taken : goal.returns-in_err-self-inside-clause-taken
 returns-in_err-self-inside-clause-taken c c' a r m f n =
-    let k : c.in-Some.chain ≡ chain_of a.branch = some_is _ _ (c.in-Some.ensures a.branch m.is_tree f) in
+    let k : c.in-Some.chain ≡ chain_of a.branch = same_Some _ _ (c.in-Some.ensures a.branch m.is_tree f) in
     let v : c.self.inside.executed ≡ mark_of (executed c') = ap (λ (x : Ruled). x.executed) (c.self.view_is ∙ r) in
     let third = third-among c.args.tree.now a.branch m.is_tree (found-in c.args.block.now (blocks c.args.tree.now.stored) a.branch f).0 in
     let e = is-against (executed c') a.branch c.in_err-self-inside.field-0.0 (c.in_err-self-inside.ensures.executed (executed c') a.branch v k m.is_tree m.executed third) in
@@ -41,7 +41,7 @@ returns-in_err-self-inside-clause-taken c c' a r m f n =
 
 pub returns-clause-taken : goal.returns-clause-taken
 returns-clause-taken c c' a r m f n =
-    let k : c.in-Some.chain ≡ chain_of a.branch = some_is _ _ (c.in-Some.ensures a.branch m.is_tree f) in
+    let k : c.in-Some.chain ≡ chain_of a.branch = same_Some _ _ (c.in-Some.ensures a.branch m.is_tree f) in
     let v : c.self.inside.executed ≡ mark_of (executed c') = ap (λ (x : Ruled). x.executed) (c.self.view_is ∙ r) in
     let l : c.self.inside.lock ≡ mark_of (lock c') = ap (λ (x : Ruled). x.lock) (c.self.view_is ∙ r) in
     let third = third-among c.args.tree.now a.branch m.is_tree (found-in c.args.block.now (blocks c.args.tree.now.stored) a.branch f).0 in

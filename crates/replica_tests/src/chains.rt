@@ -1,7 +1,9 @@
-use super::*;
+//! Votes, locks and decisions of chains of blocks.
+
 use block_tree::Tree;
 use frames_view::{Frame, genesis_digest, read, write_certificate, write_core, write_proposal};
 use ids::{Config, Digest, Height, View};
+use replica_rules::{Mark, Rules};
 use std::alloc::Global;
 use std::test::Fail;
 

@@ -4,83 +4,23 @@ ghost use Rattle.std.specs.Prelude.{◌≡◌, ◌<◌, ◌==◌, ◌&&◌, IfOk
 ghost use Rattle.ids.specs.Sizes.{replicas};
 ghost use Rattle.locked_replica.specs.Addressed.{same_sizes};
 
-use super::*;
+use crate::signed::{first_proposal, keyring};
 use authenticators::Keyring;
 use certificates::check_proposal;
-use frames_view::{Frame, read, write_certificate, write_core, write_proposal};
-use ids::{Config, Digest, Fault, Height, Kind, PartyId, ReplicaId, View};
+use frames_view::{Frame, read};
+use ids::{Fault, PartyId, ReplicaId};
+use locked_replica::{Closed, Kept, NotAll, Share};
 use replica::{Input, Out, Replica};
-use sha2::Sha256;
 use std::alloc::Global;
 use std::test::Fail;
-
-/// The digest of genesis.
-const GENESIS: Digest = Digest([
-    0x78, 0x87, 0x7f, 0xa8, 0x98, 0xf0, 0xb4, 0xc4, 0x5c, 0x9c, 0x33, 0xae, 0x94, 0x1e, 0x40, 0x61,
-    0x7a, 0xd7, 0xc8, 0x65, 0x7a, 0x30, 0x7d, 0xb6, 0x2b, 0xc5, 0x69, 0x1f, 0x92, 0xf4, 0xf6, 0x0e,
-]);
-
-/// The keys of a replica among four and two clients. The key of a pair is SHA-256 of the word `hsim` and the two
-/// numbers, the lower one first.
-fn keys(alloc: Global, replica: u8) -> Result<Vec<[u8; 32]>, Fail> {
-    let party = u16::from(replica);
-    let mut keys = Vec::new(alloc);
-    for peer in [0, 1, 2, 3, 256, 257] {
-        let [l0, l1] = party.min(peer).to_be_bytes();
-        let [h0, h1] = party.max(peer).to_be_bytes();
-        let text = [b'h', b's', b'i', b'm', l0, l1, h0, h1];
-        keys.push(<Sha256 as sha2::Digest>::digest(&text))?;
-    }
-    Ok(keys)
-}
-
-/// The keyring of a replica, twice: a kept replica has its own.
-fn keyrings(alloc: Global, replica: u8) -> Result<(Keyring, Keyring), Fail>
-    ensures { IfOk result (λ rings. (rings.0 ≡ rings.1) × (rings.0.party ≡ replica) × (rings.0.sizes ≡ record { faults = 1; clients = 2 })) }
-{
-    let config = Config::new(1, 2)?;
-    let keys = keys(alloc, replica)?;
-    if replica >= 4 || keys.len() != 6 {
-        return Err("one of four replicas has six keys".into());
-    }
-    let party = PartyId(u16::from(replica));
-    let same = keys.as_slice().to_vec(alloc)?;
-    Ok((
-        Keyring::new(config, party, keys),
-        Keyring::new(config, party, same),
-    ))
-}
-
-/// The first proposal of all, by replica 0: the block of height 1 without commands, over genesis.
-fn first_proposal(alloc: Global) -> Result<Vec<u8>, Fail> {
-    let mut core = Vec::new(alloc);
-    write_core(&GENESIS, Height(1), Height(0), 0, &[], &mut core)?;
-    let mut certificate = Vec::new(alloc);
-    write_certificate(&GENESIS, 0, &[], &mut certificate)?;
-    let mut content = [0; 8].to_vec(alloc)?;
-    content.extend_from_slice(core.as_slice())?;
-    content.extend_from_slice(certificate.as_slice())?;
-    let (ring, _) = keyrings(alloc, 0)?;
-    let mut tags = Vec::new(alloc);
-    ring.vector(Kind::Proposal, content.as_slice(), &mut tags)?;
-    let mut bytes = Vec::new(alloc);
-    write_proposal(
-        View(0),
-        core.as_slice(),
-        certificate.as_slice(),
-        tags.as_slice(),
-        &mut bytes,
-    )?;
-    Ok(bytes)
-}
 
 /// The kept replica 1, with a keyring of its own.
 fn kept(alloc: Global) -> Result<(Kept, Keyring), Fail>
     ensures { IfOk result (λ k. (k.0.keys ≡ k.1) × (k.1.party ≡ 1) × (k.1.sizes ≡ record { faults = 1; clients = 2 })) }
 {
-    let (ring, own) = keyrings(alloc, 1)?;
-    let config = ring.config();
-    let replica = Replica::new(alloc, config, ReplicaId(1), own)?;
+    let own = keyring(alloc, PartyId(1))?;
+    let replica = Replica::new(alloc, own.config(), ReplicaId(1), own)?;
+    let ring = keyring(alloc, PartyId(1))?;
     Ok((Kept::new(alloc, replica), ring))
 }
 
@@ -143,7 +83,7 @@ fn what_is_for_others_changes_nothing(rt: HostRuntime) -> Result<(), Fail> {
     let (mut kept, _) = kept(rt.alloc())?;
     assert_eq!(rt; kept.number(), ReplicaId(1));
     assert_eq!(rt; kept.replica().number(), ReplicaId(1));
-    let (ring, _) = keyrings(rt.alloc(), 2)?;
+    let ring = keyring(rt.alloc(), PartyId(2))?;
     let bytes = first_proposal(rt.alloc())?;
     let mut share = kept.share()?;
     let refused = step_on(&mut kept, &mut share, &ring, bytes.as_slice())?;
