@@ -1,0 +1,24 @@
+#!/usr/bin/env python3
+"""Passes on the lines that the two programs print, and prints the plain time by the proved one, of the medians.
+
+A line is: proved|plain COUNT proposals, read TIME us, checked TIME us, sums SUM SUM. It fails where the counts or the
+sums are not all equal.
+"""
+import re
+import statistics
+import sys
+
+LINE = re.compile(r"(proved|plain) (\d+ proposals), read (\d+) us, checked (\d+) us, (sums \d+ \d+)")
+times = {"proved": ([], []), "plain": ([], [])}
+found = set()
+for line in sys.stdin:
+    print(line, end="", flush=True)
+    name, count, read, checked, sums = LINE.fullmatch(line.strip()).groups()
+    times[name][0].append(int(read))
+    times[name][1].append(int(checked))
+    found.add((count, sums))
+if len(found) != 1:
+    sys.exit("the programs found different things")
+for part, work in enumerate(("reading", "reading and checking")):
+    plain, proved = (statistics.median(times[name][part]) for name in ("plain", "proved"))
+    print(f"{work}: {plain / proved:.2f}")
