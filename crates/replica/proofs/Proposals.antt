@@ -28,7 +28,7 @@ use Rattle.replica.specs.declared.state.State.{State}
 use Rattle.replica.specs.Replay.{or_genesis, branch_in}
 use Rattle.replica.specs.Steps.{Sent}
 use Rattle.replica.specs.State.{AreRecordsOf, IsOwn, IsStateOf, tree_of}
-use Rattle.replica.specs.StepsTo.{Leaves, StepsTo}
+use Rattle.replica.specs.StepsTo.{Leaves, StepsTo, halts}
 use Rattle.replica.specs.Takes.{admitted_as, MayAdmit, Admits}
 use Rattle.replica.proofs.Steps.{memory-step, standing-step, conflict-step, state-resized}
 use Rattle.std.proofs.lemmas.Bool.{lt-ltb, le-ltb}
@@ -57,11 +57,16 @@ ruling-is self w core q c = refl
 
 -- ---- what the tree refuses
 
-unfit-leaves : (keys : Keys) (c : Chronicle) (n : Fault) (new : State) → IsUnfit n → IsStateOf keys c new → Leaves keys (record { chronicle = c; standing = cond (stops n) stopped running }, fails n) (Err n) new
-unfit-leaves keys c n new (inl e) s = subst (λ (f : Fault). Leaves keys (record { chronicle = c; standing = cond (stops f) stopped running }, fails f) (Err f) new) (sym e) (record { state = s; standing = refl; answer = refl })
-unfit-leaves keys c n new (inr (inl e)) s = subst (λ (f : Fault). Leaves keys (record { chronicle = c; standing = cond (stops f) stopped running }, fails f) (Err f) new) (sym e) (record { state = s; standing = refl; answer = refl })
-unfit-leaves keys c n new (inr (inr (inl e))) s = subst (λ (f : Fault). Leaves keys (record { chronicle = c; standing = cond (stops f) stopped running }, fails f) (Err f) new) (sym e) (record { state = s; standing = refl; answer = refl })
-unfit-leaves keys c n new (inr (inr (inr e))) s = subst (λ (f : Fault). Leaves keys (record { chronicle = c; standing = cond (stops f) stopped running }, fails f) (Err f) new) (sym e) (record { state = s; standing = refl; answer = refl })
+-- of a block's place, a full tree alone stops the replica
+unfit-stops : (n : Fault) → IsUnfit n → stops n ≡ halts (Err n)
+unfit-stops n (inl e) = rw e refl
+unfit-stops n (inr (inl e)) = rw e refl
+unfit-stops n (inr (inr (inl e))) = rw e refl
+unfit-stops n (inr (inr (inr e))) = rw e refl
+
+unfit-leaves : (keys : Keys) (c : Chronicle) (n : Fault) (new : State) → IsUnfit n → IsStateOf keys c new
+    → Leaves keys (record { chronicle = c; standing = cond (stops n) stopped running }, fails n) (Err n) new
+unfit-leaves keys c n new h s = record { state = s; standing = ap (λ b. cond b stopped running) (unfit-stops n h); answer = refl }
 
 -- a refusal of an insertion, passed on
 refuses : (n m : Fault) (r : Result Bytes Fault) (s : Result (List Sent) Fault) → r ≡ Err m → r ≡ Err n → s ≡ Err n → s ≡ Err m

@@ -4,7 +4,7 @@ ghost use Rattle.std.specs.Prelude.{◌≡◌, ◌<◌, ◌==◌, ◌&&◌, IfOk
 ghost use Rattle.ids.specs.Sizes.{replicas};
 ghost use Rattle.locked_replica.specs.Addressed.{same_sizes};
 
-use crate::signed::{first_proposal, keyring};
+use crate::signed::{first_proposal, keyring, two_keyrings};
 use authenticators::Keyring;
 use certificates::check_proposal;
 use frames_view::{Frame, read};
@@ -18,9 +18,8 @@ use std::test::Fail;
 fn kept(alloc: Global) -> Result<(Kept, Keyring), Fail>
     ensures { IfOk result (λ k. (k.0.keys ≡ k.1) × (k.1.party ≡ 1) × (k.1.sizes ≡ record { faults = 1; clients = 2 })) }
 {
-    let own = keyring(alloc, PartyId(1))?;
-    let replica = Replica::new(alloc, own.config(), ReplicaId(1), own)?;
-    let ring = keyring(alloc, PartyId(1))?;
+    let (ring, own) = two_keyrings(alloc, PartyId(1))?;
+    let replica = Replica::new(alloc, ring.config(), ReplicaId(1), own)?;
     Ok((Kept::new(alloc, replica), ring))
 }
 
@@ -52,18 +51,48 @@ fn bytes_out(out: &Out) -> usize {
     bytes
 }
 
-#[test]
-fn two_shares_bring_the_same_proposal(rt: HostRuntime) -> Result<(), Fail> {
-    let (mut kept, ring) = kept(rt.alloc())?;
-    let bytes = first_proposal(rt.alloc())?;
+/// The kept replica 1 after two shares brought the same proposal, and how many bytes went out at each step.
+#[derive(Drop)]
+struct Brought {
+    kept: Kept,
+    first: Share,
+    second: Share,
+    bytes_out: (usize, usize),
+}
+
+fn bring_twice(alloc: Global) -> Result<Brought, Fail> {
+    let (mut kept, ring) = kept(alloc)?;
+    let bytes = first_proposal(alloc)?;
     let mut first = kept.share()?;
     let mut second = kept.share()?;
-    let voted = step_on(&mut kept, &mut first, &ring, bytes.as_slice())??;
-    let silent = step_on(&mut kept, &mut second, &ring, bytes.as_slice())??;
-    assert_eq!(rt; voted.sendings().len(), 1);
-    assert_eq!(rt; bytes_out(&voted), 163);
-    assert_eq!(rt; silent.sendings().len(), 0);
-    assert_eq!(rt; (first.count(), second.count()), (1, 1));
+    let voted = step_on(&mut kept, &mut first, &ring, &bytes)??;
+    let silent = step_on(&mut kept, &mut second, &ring, &bytes)??;
+    let bytes_out = (bytes_out(&voted), bytes_out(&silent));
+    Ok(Brought {
+        kept,
+        first,
+        second,
+        bytes_out,
+    })
+}
+
+#[test]
+fn two_shares_bring_the_same_proposal(rt: HostRuntime) -> Result<(), Fail> {
+    let brought = bring_twice(rt.alloc())?;
+    assert_eq!(rt; brought.bytes_out, (163, 0));
+    assert_eq!(rt; (brought.first.count(), brought.second.count()), (1, 1));
+    assert_eq!(rt; brought.kept.steps(), 2);
+    Ok(())
+}
+
+#[test]
+fn a_replica_is_given_back_for_all_its_shares(rt: HostRuntime) -> Result<(), Fail> {
+    let Brought {
+        kept,
+        first,
+        second,
+        ..
+    } = bring_twice(rt.alloc())?;
     let mut shares = Vec::new(rt.alloc());
     shares.push(first)?;
     let Err(NotAll { kept, mut shares }) = kept.close(shares) else {

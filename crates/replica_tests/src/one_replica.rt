@@ -3,7 +3,7 @@
 ghost use Rattle.std.specs.Prelude.{◌≡◌, ◌<◌, IfOk};
 ghost use Rattle.ids.specs.Sizes.{replicas};
 
-use crate::signed::keyring;
+use crate::signed::two_keyrings;
 use authenticators::Keyring;
 use certificates::check_proposal;
 use frames_view::{Frame, read};
@@ -25,10 +25,8 @@ impl OneReplica {
     pub(crate) fn new(alloc: Global, number: ReplicaId) -> Result<OneReplica, Fail>
         requires { number < 4 }
     {
-        let party = PartyId::from(number);
-        let own = keyring(alloc, party)?;
-        let replica = Replica::new(alloc, own.config(), number, own)?;
-        let ring = keyring(alloc, party)?;
+        let (ring, own) = two_keyrings(alloc, PartyId::from(number))?;
+        let replica = Replica::new(alloc, ring.config(), number, own)?;
         Ok(OneReplica { replica, ring })
     }
 

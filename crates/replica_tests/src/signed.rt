@@ -1,7 +1,6 @@
 //! Frames as the parties of a simulated world sign them: four replicas and two clients.
 
 ghost use Rattle.std.specs.Prelude.{◌≡◌, IfOk};
-ghost use Rattle.simulated_keys.specs.Keys.{simulated_keys};
 
 use authenticators::Keyring;
 use frames_view::{
@@ -15,9 +14,18 @@ use std::test::Fail;
 
 /// The keyring of a party.
 pub(crate) fn keyring(alloc: Global, party: PartyId) -> Result<Keyring, Fail>
-    ensures { IfOk result (λ ring. ring ≡ simulated_keys (record { faults = 1; clients = 2 }) party) }
+    ensures { IfOk result (λ ring. (ring.party ≡ party) × (ring.sizes ≡ record { faults = 1; clients = 2 })) }
 {
     Ok(keyring_of(alloc, Config::new(1, 2)?, party)?)
+}
+
+/// The keyring of a party, twice: a replica has its own.
+pub(crate) fn two_keyrings(alloc: Global, party: PartyId) -> Result<(Keyring, Keyring), Fail>
+    ensures { IfOk result (λ rings. (rings.0 ≡ rings.1) × (rings.0.party ≡ party) × (rings.0.sizes ≡ record { faults = 1; clients = 2 })) }
+{
+    let config = Config::new(1, 2)?;
+    let ring = keyring_of(alloc, config, party)?;
+    Ok((ring, keyring_of(alloc, config, party)?))
 }
 
 /// A party's tags for all replicas.
