@@ -17,3 +17,4 @@ pub mod ReplyTexts
 pub mod Sound
 pub mod Held
 pub mod Checks
+pub mod Slices

@@ -313,6 +313,14 @@ module _ {X : Type 0} (P : X → Type 0) (spell : X → Bytes) (read : Reader X)
         trimmed = part ∙ ap (flat_map spell) (sym here);
       }
 
+  -- and behind what stands before their rest it stands
+  pub behind_left : (k : ℕ) (bytes rest : Bytes) → IsBytes bytes → behind read k bytes ≡ Some rest → drop (length bytes - length rest) bytes ≡ rest
+  behind_left k bytes rest fits e =
+      let f = behind_found k bytes rest fits e in
+      let text = flat_map spell (elements read k bytes) in
+      let len : length bytes - length rest ≡ length text = omega (arith, ap length f.1, length-append text rest) in
+      ap (λ (n : ℕ). drop n bytes) len ∙ (ap (drop (length text)) f.1 ∙ drop_at text rest (length text) refl)
+
   -- so many
   pub IsExact-many : (k : ℕ) → IsExact (λ xs. (length xs ≡ k) × AllByRecursion P xs) (flat_map spell) (many read k)
   IsExact-many k = record {
@@ -347,6 +355,9 @@ module _ {X : Type 0} (P : X → Type 0) (spell : X → Bytes) (read : Reader X)
     -- and before their rest they stand
     pub rising_read : (k : ℕ) (bytes rest : Bytes) → IsBytes bytes → behind_rising rank read 0 k bytes ≡ Some rest → IsRead spell read k bytes (take (length bytes - length rest) bytes)
     rising_read k bytes rest fits e = behind_read k bytes rest fits (rising_there 0 k bytes rest e).0
+
+    pub rising_left : (k : ℕ) (bytes rest : Bytes) → IsBytes bytes → behind_rising rank read 0 k bytes ≡ Some rest → drop (length bytes - length rest) bytes ≡ rest
+    rising_left k bytes rest fits e = behind_left k bytes rest fits (rising_there 0 k bytes rest e).0
 
     rising_again : (least : ℕ) (xs : List X) (rest : Bytes) → AllByRecursion P xs → RisesFrom rank least xs → behind_rising rank read least (length xs) (flat_map spell xs ++ rest) ≡ Some rest
     rising_again least [] rest h up = refl

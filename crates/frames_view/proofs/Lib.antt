@@ -5,3 +5,4 @@ pub mod Whole
 pub mod Cores
 pub mod Spelled
 pub mod Contents
+pub mod Places

@@ -3,5 +3,6 @@ pub mod Parts
 pub mod Cores
 pub mod PartViews
 pub mod Views
+pub mod Places
 pub mod Fields
 pub mod Spelled

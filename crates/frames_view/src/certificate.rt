@@ -2,12 +2,14 @@
 
 ghost use Rattle.std.specs.Prelude.{◌≡◌, ◌+◌, ◌<◌, ◌++◌, length, IfSome, OnOk, OnErr, vec_capacity, vec_len};
 ghost use Rattle.ids.specs.Sizes.{replicas};
+ghost use Rattle.definitions.specs.Slices.{LeftAt};
 ghost use Rattle.definitions.specs.Frames.{vote_bytes, certificate_bytes};
 ghost use Rattle.frames_view.specs.Readings.{IsRead, behind_rising};
 ghost use Rattle.frames_view.specs.Parts.{vote_in, certificate_in};
 ghost use Rattle.frames_view.specs.Views.{Gives, certificate_of, votes_left};
+ghost use Rattle.frames_view.specs.Places.{IsSplit, IsCertificateAt, certificate_len};
 
-use crate::cursor::{before, take_32, take_u8};
+use crate::cursor::{split, take_32, take_u8};
 use crate::views::{CertificateView, Votes};
 use crate::vote::take_vote;
 use crate::write::write_certificate;
@@ -16,14 +18,16 @@ use ids::{Config, Digest, Fault};
 impl<'a> CertificateView<'a> {
     /// The digest of the block that is voted for.
     pub fn digest(&self) -> &'a [u8; 32]
-        ensures { result.now ≡ (certificate_of self.now).digest }
+        ensures value { result.now ≡ (certificate_of self.now).digest }
+        ensures lent { result ≡ self.now.digest }
     {
         self.digest
     }
 
     /// The votes, in order of their voters.
     pub fn votes(&self) -> Votes<'a>
-        ensures { votes_left result ≡ (certificate_of self.now).votes }
+        ensures value { votes_left result ≡ (certificate_of self.now).votes }
+        ensures lent { result.rest ≡ self.now.votes }
     {
         Votes {
             replicas: self.replicas,
@@ -65,9 +69,10 @@ fn skip_votes(bytes: &[u8], replicas: u8, count: u8) -> Option<&[u8]>
 fn take_votes<'a>(config: &Config, bytes: &'a [u8], count: u8) -> Option<(&'a [u8], &'a [u8])>
     ensures left { Gives (λ p. p.1.now) result (behind_rising (λ v. v.voter) (vote_in (replicas config.now)) 0 count bytes.now) }
     ensures taken { IfSome result (λ p. IsRead vote_bytes (vote_in (replicas config.now)) count bytes.now p.0.now) }
+    ensures lent { IfSome result (λ p. IsSplit bytes.entry p.0 p.1) }
 {
     let rest = skip_votes(bytes, config.n(), count)?;
-    Some((before(bytes, rest), rest))
+    Some(split(bytes, bytes.len() - rest.len()))
 }
 
 #[tactic(auto, unfolding(crate::specs::Parts::certificate_in, crate::specs::Parts::votes_in))]
@@ -75,7 +80,8 @@ pub(crate) fn take_certificate<'a>(
     config: &Config,
     bytes: &'a [u8],
 ) -> Option<(CertificateView<'a>, &'a [u8])>
-    ensures { Gives (λ p. (certificate_of p.0, p.1.now)) result (certificate_in config.now bytes.now) }
+    ensures taken { Gives (λ p. (certificate_of p.0, p.1.now)) result (certificate_in config.now bytes.now) }
+    ensures lent { IfSome result (λ p. IsCertificateAt bytes.entry 0 p.0 × LeftAt bytes.entry (certificate_len p.0) p.1) }
 {
     let replicas = config.n();
     let (digest, rest) = take_32(bytes)?;

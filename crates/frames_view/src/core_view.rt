@@ -1,16 +1,18 @@
 //! Cores: what the digests of blocks are made of.
 
-ghost use Rattle.std.specs.Prelude.{◌≡◌, ◌++◌, IfSome};
+ghost use Rattle.std.specs.Prelude.{◌≡◌, ◌+◌, ◌++◌, length, IfSome};
 ghost use Rattle.definitions.specs.Frames.{command_bytes, core_bytes};
 ghost use Rattle.ids.specs.Sizes.{replicas};
+ghost use Rattle.definitions.specs.Slices.{LeftAt};
 ghost use Rattle.frames_view.specs.Readings.{IsRead, behind};
 ghost use Rattle.frames_view.specs.Parts.{command_in, core_in};
 ghost use Rattle.frames_view.specs.Cores.{core_of_fields};
 ghost use Rattle.frames_view.specs.Views.{Gives, core_of, commands_left};
+ghost use Rattle.frames_view.specs.Places.{IsSplit, AreFieldsAt, IsCoreAt};
 
 use crate::command::take_command;
 use crate::core_fields::CoreFields;
-use crate::cursor::{before, take_32, take_heights, take_u8};
+use crate::cursor::{before, split, take_32, take_heights, take_u8};
 use crate::views::{Commands, CoreView};
 use ids::{Config, Height};
 
@@ -20,14 +22,16 @@ const MOST_COMMANDS: u8 = 16;
 impl<'a> CoreView<'a> {
     /// All its bytes: the digest of the block is theirs.
     pub fn raw(&self) -> &'a [u8]
-        ensures { result.now ≡ core_bytes (core_of self.now) }
+        ensures value { result.now ≡ core_bytes (core_of self.now) }
+        ensures lent { result ≡ self.now.raw }
     {
         self.raw
     }
 
     /// The digest of the block below.
     pub fn parent(&self) -> &'a [u8; 32]
-        ensures { result.now ≡ (core_of self.now).parent }
+        ensures value { result.now ≡ (core_of self.now).parent }
+        ensures lent { result ≡ self.now.fields.parent }
     {
         self.fields.parent
     }
@@ -48,7 +52,8 @@ impl<'a> CoreView<'a> {
 
     /// The commands, in order.
     pub fn commands(&self) -> Commands<'a>
-        ensures { commands_left result ≡ (core_of self.now).commands }
+        ensures value { commands_left result ≡ (core_of self.now).commands }
+        ensures lent { result.rest ≡ self.now.fields.commands }
     {
         Commands {
             replicas: self.fields.replicas,
@@ -75,16 +80,18 @@ fn skip_commands(bytes: &[u8], replicas: u8, clients: u8, count: u8) -> Option<&
 fn take_commands<'a>(config: &Config, bytes: &'a [u8], count: u8) -> Option<(&'a [u8], &'a [u8])>
     ensures left { Gives (λ p. p.1.now) result (behind (command_in (replicas config.now) config.now.clients) count bytes.now) }
     ensures taken { IfSome result (λ p. IsRead command_bytes (command_in (replicas config.now) config.now.clients) count bytes.now p.0.now) }
+    ensures lent { IfSome result (λ p. IsSplit bytes.entry p.0 p.1) }
 {
     let (replicas, clients) = (config.n(), config.clients());
     let rest = skip_commands(bytes, replicas, clients, count)?;
-    Some((before(bytes, rest), rest))
+    Some(split(bytes, bytes.len() - rest.len()))
 }
 
 /// The fields of a core.
 #[tactic(auto, unfolding(crate::specs::Parts::core_in, crate::specs::Parts::commands_in))]
 fn take_fields<'a>(config: &Config, bytes: &'a [u8]) -> Option<(CoreFields<'a>, &'a [u8])>
-    ensures { Gives (λ p. (core_of_fields p.0, p.1.now)) result (core_in config.now bytes.now) }
+    ensures taken { Gives (λ p. (core_of_fields p.0, p.1.now)) result (core_in config.now bytes.now) }
+    ensures lent { IfSome result (λ p. AreFieldsAt bytes.entry 0 p.0 × LeftAt bytes.entry (49 + length p.0.commands.now) p.1) }
 {
     let (replicas, clients) = (config.n(), config.clients());
     let (parent, rest) = take_32(bytes)?;
@@ -108,6 +115,7 @@ fn take_fields<'a>(config: &Config, bytes: &'a [u8]) -> Option<(CoreFields<'a>, 
 
 pub(crate) fn take_core<'a>(config: &Config, bytes: &'a [u8]) -> Option<(CoreView<'a>, &'a [u8])>
     ensures taken { Gives (λ p. (core_of p.0, p.1.now)) result (core_in config.now bytes.now) }
+    ensures lent { IfSome result (λ p. IsCoreAt bytes.entry 0 p.0 × LeftAt bytes.entry (length p.0.raw.now) p.1) }
     ensures spelled { IfSome result (λ p. bytes.now ≡ core_bytes (core_of p.0) ++ p.1.now) }
 {
     // Both are bytes, so numbers of parties fit their fields.

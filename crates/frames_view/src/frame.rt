@@ -1,10 +1,11 @@
 //! Frames, read whole.
 
-ghost use Rattle.std.specs.Prelude.{◌≡◌, option_map};
+ghost use Rattle.std.specs.Prelude.{◌≡◌, option_map, IfSome, IfOk};
 ghost use Rattle.std.specs.Result.{result_ok};
 ghost use Rattle.definitions.specs.FrameLimits.{IsReadAs};
 ghost use Rattle.frames_view.specs.Parts.{kind_in, frame_in};
 ghost use Rattle.frames_view.specs.Views.{Gives, frame_of};
+ghost use Rattle.frames_view.specs.Places.{IsFrameAt};
 
 use crate::block::take_block;
 use crate::command::take_command;
@@ -20,7 +21,8 @@ use ids::{Config, NotAFrame};
 /// A frame of the kind of this number, with what is left behind it.
 #[tactic(auto, unfolding(crate::specs::Parts::kind_in))]
 fn take_kind<'a>(config: &Config, kind: u8, bytes: &'a [u8]) -> Option<(Frame<'a>, &'a [u8])>
-    ensures { Gives (λ p. (frame_of p.0, p.1.now)) result (kind_in config.now kind bytes.now) }
+    ensures taken { Gives (λ p. (frame_of p.0, p.1.now)) result (kind_in config.now kind bytes.now) }
+    ensures lent { IfSome result (λ p. IsFrameAt bytes.entry 0 p.0) }
 {
     match kind {
         1 => {
@@ -58,7 +60,8 @@ fn take_kind<'a>(config: &Config, kind: u8, bytes: &'a [u8]) -> Option<(Frame<'a
 /// The frame that the bytes are, all of them.
 #[tactic(auto, unfolding(crate::specs::Parts::frame_in))]
 fn whole_frame<'a>(config: &Config, bytes: &'a [u8]) -> Option<Frame<'a>>
-    ensures { option_map frame_of result ≡ frame_in config.now bytes.now }
+    ensures taken { option_map frame_of result ≡ frame_in config.now bytes.now }
+    ensures lent { IfSome result (λ f. IsFrameAt bytes.entry 1 f) }
 {
     let (kind, rest) = take_u8(bytes)?;
     let (frame, rest) = take_kind(config, kind, rest)?;
@@ -71,7 +74,9 @@ fn whole_frame<'a>(config: &Config, bytes: &'a [u8]) -> Option<Frame<'a>>
 /// The frame that the bytes are, where they are one.
 pub fn read<'a>(config: &Config, bytes: &'a [u8]) -> Result<Frame<'a>, NotAFrame>
     // It is the frame that the bytes spell, and where there is none they spell none.
-    ensures { IsReadAs config.now bytes.now (option_map frame_of (result_ok result)) }
+    ensures value { IsReadAs config.now bytes.now (option_map frame_of (result_ok result)) }
+    // Its parts lie in the bytes, where they stand.
+    ensures lent { IfOk result (λ f. IsFrameAt bytes.entry 1 f) }
 {
     // Both are bytes, so numbers of parties fit their fields.
     let (_replicas, _clients) = (config.n(), config.clients());

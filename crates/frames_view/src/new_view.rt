@@ -1,10 +1,11 @@
 //! Announcements of views.
 
-ghost use Rattle.std.specs.Prelude.{◌≡◌};
+ghost use Rattle.std.specs.Prelude.{◌≡◌, IfSome};
 ghost use Rattle.definitions.specs.Frames.{content_of, tags};
 ghost use Rattle.frames_view.specs.Fields.{frame_view, frame_replica, frame_certificate};
 ghost use Rattle.frames_view.specs.Parts.{new_view_in};
 ghost use Rattle.frames_view.specs.Views.{Gives, certificate_of, new_view_of};
+ghost use Rattle.frames_view.specs.Places.{IsNewViewAt};
 
 use crate::certificate::take_certificate;
 use crate::cursor::{before, take_party, take_u64, take_vector};
@@ -29,21 +30,24 @@ impl<'a> NewViewView<'a> {
 
     /// The certificate.
     pub fn certificate(&self) -> CertificateView<'a>
-        ensures { certificate_of result ≡ frame_certificate (new_view_of self.now) }
+        ensures value { certificate_of result ≡ frame_certificate (new_view_of self.now) }
+        ensures lent { result ≡ self.now.certificate }
     {
         self.certificate
     }
 
     /// What its tags speak of.
     pub fn content(&self) -> &'a [u8]
-        ensures { result.now ≡ content_of (new_view_of self.now) }
+        ensures value { result.now ≡ content_of (new_view_of self.now) }
+        ensures lent { result ≡ self.now.content }
     {
         self.content
     }
 
     /// Its tags, one for each replica.
     pub fn vector(&self) -> &'a [u8]
-        ensures { result.now ≡ tags (new_view_of self.now) }
+        ensures value { result.now ≡ tags (new_view_of self.now) }
+        ensures lent { result ≡ self.now.vector }
     {
         self.vector
     }
@@ -54,7 +58,8 @@ pub(crate) fn take_new_view<'a>(
     config: &Config,
     bytes: &'a [u8],
 ) -> Option<(NewViewView<'a>, &'a [u8])>
-    ensures { Gives (λ p. (new_view_of p.0, p.1.now)) result (new_view_in config.now bytes.now) }
+    ensures taken { Gives (λ p. (new_view_of p.0, p.1.now)) result (new_view_in config.now bytes.now) }
+    ensures lent { IfSome result (λ p. IsNewViewAt bytes.entry 0 p.0) }
 {
     let replicas = config.n();
     let (view, rest) = take_u64(bytes)?;

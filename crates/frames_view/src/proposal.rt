@@ -1,10 +1,11 @@
 //! Proposals.
 
-ghost use Rattle.std.specs.Prelude.{◌≡◌};
+ghost use Rattle.std.specs.Prelude.{◌≡◌, IfSome};
 ghost use Rattle.definitions.specs.Frames.{content_of, tags};
 ghost use Rattle.frames_view.specs.Fields.{frame_view, frame_core, frame_certificate};
 ghost use Rattle.frames_view.specs.Parts.{proposal_in};
 ghost use Rattle.frames_view.specs.Views.{Gives, certificate_of, core_of, proposal_of};
+ghost use Rattle.frames_view.specs.Places.{IsProposalAt};
 
 use crate::certificate::take_certificate;
 use crate::core_view::take_core;
@@ -23,28 +24,32 @@ impl<'a> ProposalView<'a> {
 
     /// The block's core.
     pub fn core(&self) -> CoreView<'a>
-        ensures { core_of result ≡ frame_core (proposal_of self.now) }
+        ensures value { core_of result ≡ frame_core (proposal_of self.now) }
+        ensures lent { result ≡ self.now.core }
     {
         self.core
     }
 
     /// The certificate.
     pub fn certificate(&self) -> CertificateView<'a>
-        ensures { certificate_of result ≡ frame_certificate (proposal_of self.now) }
+        ensures value { certificate_of result ≡ frame_certificate (proposal_of self.now) }
+        ensures lent { result ≡ self.now.certificate }
     {
         self.certificate
     }
 
     /// What its tags speak of.
     pub fn content(&self) -> &'a [u8]
-        ensures { result.now ≡ content_of (proposal_of self.now) }
+        ensures value { result.now ≡ content_of (proposal_of self.now) }
+        ensures lent { result ≡ self.now.content }
     {
         self.content
     }
 
     /// Its tags, one for each replica.
     pub fn vector(&self) -> &'a [u8]
-        ensures { result.now ≡ tags (proposal_of self.now) }
+        ensures value { result.now ≡ tags (proposal_of self.now) }
+        ensures lent { result ≡ self.now.vector }
     {
         self.vector
     }
@@ -55,7 +60,8 @@ pub(crate) fn take_proposal<'a>(
     config: &Config,
     bytes: &'a [u8],
 ) -> Option<(ProposalView<'a>, &'a [u8])>
-    ensures { Gives (λ p. (proposal_of p.0, p.1.now)) result (proposal_in config.now bytes.now) }
+    ensures taken { Gives (λ p. (proposal_of p.0, p.1.now)) result (proposal_in config.now bytes.now) }
+    ensures lent { IfSome result (λ p. IsProposalAt bytes.entry 0 p.0) }
 {
     let replicas = config.n();
     let (view, rest) = take_u64(bytes)?;

@@ -1,10 +1,11 @@
 //! Replies.
 
-ghost use Rattle.std.specs.Prelude.{◌≡◌};
+ghost use Rattle.std.specs.Prelude.{◌≡◌, IfSome};
 ghost use Rattle.definitions.specs.Frames.{content_of, tags};
 ghost use Rattle.frames_view.specs.Fields.{frame_replica, frame_client, frame_seq, frame_place, frame_text};
 ghost use Rattle.frames_view.specs.Parts.{reply_in};
 ghost use Rattle.frames_view.specs.Views.{Gives, reply_of};
+ghost use Rattle.frames_view.specs.Places.{IsReplyAt};
 
 use crate::cursor::{before, take_32, take_party, take_positive, take_text};
 use crate::frame_views::ReplyView;
@@ -41,21 +42,24 @@ impl<'a> ReplyView<'a> {
 
     /// The reply's text.
     pub fn text(&self) -> &'a [u8]
-        ensures { result.now ≡ frame_text (reply_of self.now) }
+        ensures value { result.now ≡ frame_text (reply_of self.now) }
+        ensures lent { result ≡ self.now.text }
     {
         self.text
     }
 
     /// What its tag speaks of.
     pub fn content(&self) -> &'a [u8]
-        ensures { result.now ≡ content_of (reply_of self.now) }
+        ensures value { result.now ≡ content_of (reply_of self.now) }
+        ensures lent { result ≡ self.now.content }
     {
         self.content
     }
 
     /// Its tag.
     pub fn tag(&self) -> &'a [u8; 32]
-        ensures { result.now ≡ tags (reply_of self.now) }
+        ensures value { result.now ≡ tags (reply_of self.now) }
+        ensures lent { result ≡ self.now.tag }
     {
         self.tag
     }
@@ -63,7 +67,8 @@ impl<'a> ReplyView<'a> {
 
 #[tactic(auto, unfolding(crate::specs::Parts::reply_in))]
 pub(crate) fn take_reply<'a>(config: &Config, bytes: &'a [u8]) -> Option<(ReplyView<'a>, &'a [u8])>
-    ensures { Gives (λ p. (reply_of p.0, p.1.now)) result (reply_in config.now bytes.now) }
+    ensures taken { Gives (λ p. (reply_of p.0, p.1.now)) result (reply_in config.now bytes.now) }
+    ensures lent { IfSome result (λ p. IsReplyAt bytes.entry 0 p.0) }
 {
     let (replica, rest) = take_party(bytes, config.n())?;
     let (client, rest) = take_party(rest, config.clients())?;

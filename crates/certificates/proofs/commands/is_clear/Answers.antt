@@ -8,7 +8,7 @@ use Rattle.certificates.proofs.commands.is_clear.Goals as goal
 pub loop-command-init : goal.loop-command-init
 loop-command-init c =
     let core = core_of c.args.core.now in
-    let all : commands_left c.into_iter-command-iterator.result ≡ core.commands = ap commands_left c.into_iter-command-iterator.ensures.into_iter_gives ∙ c.commands-command-items.ensures in
+    let all : commands_left c.into_iter-command-iterator.result ≡ core.commands = ap commands_left c.into_iter-command-iterator.ensures.into_iter_gives ∙ c.commands-command-items.ensures.value in
     record {
       so_far = clear_first (identity_of c.args.keyring.now) core (commands_left c.into_iter-command-iterator.result) all;
       commands = rw all c.requires.core.commands;

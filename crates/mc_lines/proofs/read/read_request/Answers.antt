@@ -1,6 +1,6 @@
 use Rattle.std.proofs.Common.{◌+◌, ◌-◌, length, take, drop, refl, arith}
 use Rattle.mc_lines.specs.Heads.{head_of, head_key, head_place}
-use Rattle.mc_lines.proofs.Places.{LiesAt-front, LiesAt-back}
+use Rattle.definitions.proofs.Slices.{LiesAt-front, LiesAt-back}
 use Rattle.mc_lines.proofs.ReadLaws.{read_line_of, unknown_is, fields_are, unfinished_is, first_at, first_in, length_at, used_of-within}
 use Rattle.mc_lines.proofs.read.read_request.Goals as goal
 

@@ -1,7 +1,8 @@
 use Rattle.std.proofs.Common.{◌+◌, ◌-◌, length, arith}
 use Rattle.mc_lines.specs.Heads.{head_of}
 use Rattle.definitions.specs.Requests.{stored_of}
-use Rattle.mc_lines.proofs.Places.{LentAt-within, LentAt-same, not_some}
+use Rattle.definitions.proofs.Slices.{LentAt-within, LentAt-same}
+use Rattle.mc_lines.proofs.Places.{not_some}
 use Rattle.mc_lines.proofs.read.with_data.Goals as goal
 
 pub returns-in_default-clause-lent : goal.returns-in_default-clause-lent

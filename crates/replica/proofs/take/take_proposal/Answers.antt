@@ -19,8 +19,8 @@ use Rattle.replica.proofs.take.take_proposal.Goals as goal
 pub returns-in_err-digest : goal.returns-in_err-digest
 returns-in_err-digest c c' o =
     let v : ProposalView = c.args.proposal.now.view in
-    let core = c.core-core.ensures ∙ ap (λ (x : ProposalView). frame_core (proposal_of x)) c.view.ensures.view in
-    let certificate = c.certificate-certificate.ensures ∙ ap (λ (x : ProposalView). frame_certificate (proposal_of x)) c.view-2.ensures.view in
+    let core = c.core-core.ensures.value ∙ ap (λ (x : ProposalView). frame_core (proposal_of x)) c.view.ensures.view in
+    let certificate = c.certificate-certificate.ensures.value ∙ ap (λ (x : ProposalView). frame_certificate (proposal_of x)) c.view-2.ensures.view in
     let i = inserted-as c.args.keyring.now c' c.args.state.now.tree c.insert.new.self (frame_core (proposal_of v)) _ (frame_certificate (proposal_of v)) _ c.is_clear.result (Err c.in_err-digest.field-0.0) core certificate o.its_tree c.in_err-digest.ensures in
     let r = err-is c.from_residual.result c.in_err-digest.field-0.0 c.from_residual.ensures.0 c.from_residual.ensures.1 in
     let last : State = record { alloc = c.args.state.now.alloc; tree = c.insert.new.self; records = c.args.state.now.records; view = c.args.state.now.view; own = c.args.state.now.own } in
@@ -32,8 +32,8 @@ pub returns-then-new : goal.returns-then-new
 unfolding admitted
 returns-then-new c c' o =
     let v : ProposalView = c.args.proposal.now.view in
-    let core = c.core-core.ensures ∙ ap (λ (x : ProposalView). frame_core (proposal_of x)) c.view.ensures.view in
-    let certificate = c.certificate-certificate.ensures ∙ ap (λ (x : ProposalView). frame_certificate (proposal_of x)) c.view-2.ensures.view in
+    let core = c.core-core.ensures.value ∙ ap (λ (x : ProposalView). frame_core (proposal_of x)) c.view.ensures.view in
+    let certificate = c.certificate-certificate.ensures.value ∙ ap (λ (x : ProposalView). frame_certificate (proposal_of x)) c.view-2.ensures.view in
     let i = inserted-as c.args.keyring.now c' c.args.state.now.tree c.insert.new.self (frame_core (proposal_of v)) _ (frame_certificate (proposal_of v)) _ c.is_clear.result (Ok c.in_ok-digest.digest) core certificate o.its_tree c.in_ok-digest.ensures in
     let s : State = record { alloc = c.args.state.now.alloc; tree = c.insert.new.self; records = c.args.state.now.records; view = c.args.state.now.view; own = c.args.state.now.own } in
     let left : State = c.admit-result.new.state in
@@ -63,8 +63,8 @@ pub returns-else-is_err : goal.returns-else-is_err
 unfolding admitted
 returns-else-is_err c c' o =
     let v : ProposalView = c.args.proposal.now.view in
-    let core = c.core-core.ensures ∙ ap (λ (x : ProposalView). frame_core (proposal_of x)) c.view.ensures.view in
-    let certificate = c.certificate-certificate.ensures ∙ ap (λ (x : ProposalView). frame_certificate (proposal_of x)) c.view-2.ensures.view in
+    let core = c.core-core.ensures.value ∙ ap (λ (x : ProposalView). frame_core (proposal_of x)) c.view.ensures.view in
+    let certificate = c.certificate-certificate.ensures.value ∙ ap (λ (x : ProposalView). frame_certificate (proposal_of x)) c.view-2.ensures.view in
     let i = inserted-as c.args.keyring.now c' c.args.state.now.tree c.insert.new.self (frame_core (proposal_of v)) _ (frame_certificate (proposal_of v)) _ c.is_clear.result (Ok c.in_ok-digest.digest) core certificate o.its_tree c.in_ok-digest.ensures in
     let s : State = record { alloc = c.args.state.now.alloc; tree = c.insert.new.self; records = c.args.state.now.records; view = c.args.state.now.view; own = c.args.state.now.own } in
     let left : State = c.admit-result.new.state in

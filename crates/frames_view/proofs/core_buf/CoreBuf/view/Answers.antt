@@ -16,7 +16,7 @@ pub invariant_of-fields : goal.invariant_of-fields
 invariant_of-fields c =
     let k = c.self.inside in
     let kept : Core = record { parent = k.parent; height = k.height; justify_height = k.justify_height; commands = elements (command_in k.replicas k.clients) k.count (drop 49 k.raw.items) } in
-    let raw = c.from.ensures ∙ ap (drop 49) c.as_slice-raw.ensures.value in
+    let raw = c.from.ensures.value ∙ ap (drop 49) c.as_slice-raw.ensures.value in
     let list = ap (elements (command_in k.replicas k.clients) k.count) raw in
     record {
       whole = c.self.invariant.0;
