@@ -20,6 +20,8 @@ mod new_view;
 mod proposal;
 mod reply;
 #[cfg(test)]
+mod size_tests;
+#[cfg(test)]
 mod tests;
 mod views;
 mod vote;
