@@ -1,5 +1,6 @@
 -- Readers that are exact: what one reads is spelled so at the front of the bytes, and what is spelled there is read.
 use Rattle.std.proofs.Common.{◌≡◌, ℕ, zero, suc, ◌+◌, ◌-◌, ◌^◌, ◌<◌, ◌≤◌, Bool, true, false, cond, List, [], ◌∷◌, ◌++◌, length, get_or, take, drop, Option, Some, None, refl, sym, ap, subst, ◌∙◌, append_assoc, arith, inl, inr, length-append}
+use Rattle.std.proofs.lemmas.Option.{same_Some}
 use Rattle.std.specs.Prelude.{nat_lt, nat_le, option_map, ⊤}
 use Rattle.std.specs.Option.{option_and_then}
 use Rattle.std.specs.List.{flat_map, AllByRecursion}
@@ -37,14 +38,8 @@ pub and_then_parts : {A B : Type 0} (f : A → Option B) (o : Option A) (y : B) 
 and_then_parts f (Some x) y e = (x, refl, e)
 and_then_parts f None y e = absurd cc
 
-abbrev some : {A : Type 0} → A → Option A
-some x = Some x
-
-pub some_is : {A : Type 0} (x y : A) → some x ≡ some y → x ≡ y
-some_is x y e = cc
-
 pub map_parts : {A B : Type 0} (f : A → B) (o : Option A) (y : B) → option_map f o ≡ Some y → (x : A) × (o ≡ Some x) × (f x ≡ y)
-map_parts f (Some x) y e = (x, refl, some_is (f x) y e)
+map_parts f (Some x) y e = (x, refl, same_Some (f x) y e)
 map_parts f None y e = absurd cc
 
 pub guard_true : {A : Type 0} (b : Bool) (o : Option A) (y : A) → cond b o None ≡ Some y → (b ≡ true) × (o ≡ Some y)
@@ -94,7 +89,7 @@ IsExact-chunk n = record {
   found = λ bytes x rest fits e.
       let g = guard_false (nat_lt (length bytes) n) (Some (take n bytes, drop n bytes)) (x, rest) e in
       let long : n ≤ length bytes = ltb-false _ _ g.0 in
-      let whole = some_is (take n bytes, drop n bytes) (x, rest) g.1 in
+      let whole = same_Some (take n bytes, drop n bytes) (x, rest) g.1 in
       let len : length (take n bytes) ≡ n = omega (arith, length-take n bytes) in
       let parts : bytes ≡ take n bytes ++ drop n bytes = sym (take-append-drop n bytes) in
       subst (λ (p : Bytes × Bytes). (length p.0 ≡ n) × (bytes ≡ p.0 ++ p.1)) whole (len, parts);
@@ -109,7 +104,7 @@ IsExact-number w limit wide = record {
   found = λ bytes n rest fits e.
       let g = guard_false (nat_lt (length bytes) (byte_len w)) (Some (from_be_bytes w (take (byte_len w) bytes), drop (byte_len w) bytes)) (n, rest) e in
       let long : byte_len w ≤ length bytes = ltb-false _ _ g.0 in
-      let whole = some_is (from_be_bytes w (take (byte_len w) bytes), drop (byte_len w) bytes) (n, rest) g.1 in
+      let whole = same_Some (from_be_bytes w (take (byte_len w) bytes), drop (byte_len w) bytes) (n, rest) g.1 in
       let front = take (byte_len w) bytes in
       let few : IsBytes front = IsBytes-take (byte_len w) bytes fits in
       let back : to_be_bytes w (from_be_bytes w front) ≡ front = wide.back front (omega (arith, length-take (byte_len w) bytes)) few in
@@ -126,7 +121,7 @@ byte_found : (bytes : Bytes) (n : ℕ) (rest : Bytes) → IsBytes bytes → numb
 byte_found [] n rest fits e = absurd cc
 byte_found (b ∷ bytes) n rest fits e =
     let g = guard_false (nat_lt (length (b ∷ bytes)) (byte_len w8)) (Some (from_be_bytes w8 (take (byte_len w8) (b ∷ bytes)), drop (byte_len w8) (b ∷ bytes))) (n, rest) e in
-    let whole = some_is (from_be_bytes w8 (take (byte_len w8) (b ∷ bytes)), drop (byte_len w8) (b ∷ bytes)) (n, rest) g.1 in
+    let whole = same_Some (from_be_bytes w8 (take (byte_len w8) (b ∷ bytes)), drop (byte_len w8) (b ∷ bytes)) (n, rest) g.1 in
     let first : from_be_bytes w8 (take 1 (b ∷ bytes)) ≡ b = omega arith in
     let fits0 : b < 256 = fits 0 in
     subst (λ (p : ℕ × Bytes). (p.0 < 256) × (b ∷ bytes ≡ p.0 ∷ p.1)) whole (omega arith, ap (λ (k : ℕ). k ∷ bytes) (sym first))
@@ -169,7 +164,7 @@ module _ {X : Type 0} (P : X → Type 0) (spell : X → Bytes) (read : Reader X)
     found = λ bytes x rest fits e.
         let a = and_then_parts (λ y. cond (test y.0) (Some y) None) (read bytes) (x, rest) e in
         let g = guard_true (test a.0.0) (Some a.0) (x, rest) a.2 in
-        let same : a.0 ≡ (x, rest) = some_is a.0 (x, rest) g.1 in
+        let same : a.0 ≡ (x, rest) = same_Some a.0 (x, rest) g.1 in
         let f = exact.found bytes a.0.0 a.0.1 fits a.1 in
         subst (λ (p : X × Bytes). (P p.0 × (test p.0 ≡ true)) × (bytes ≡ spell p.0 ++ p.1)) same ((f.0, g.0), f.1);
     again = λ x rest h. rw (exact.again x rest h.0, h.1) refl;
@@ -265,7 +260,7 @@ module _ {X : Type 0} (read : Reader X) where
 module _ {X : Type 0} (P : X → Type 0) (spell : X → Bytes) (read : Reader X) (exact : IsExact P spell read) where
   behind_found : (k : ℕ) (bytes rest : Bytes) → IsBytes bytes → behind read k bytes ≡ Some rest
       → ((length (elements read k bytes) ≡ k) × AllByRecursion P (elements read k bytes)) × (bytes ≡ flat_map spell (elements read k bytes) ++ rest)
-  behind_found zero bytes rest fits e = ((refl, tt), some_is bytes rest e)
+  behind_found zero bytes rest fits e = ((refl, tt), same_Some bytes rest e)
   behind_found (suc k) bytes rest fits e =
       let a = and_then_parts (λ x. behind read k x.1) (read bytes) rest e in
       let x = a.0 in

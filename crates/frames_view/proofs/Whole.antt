@@ -1,5 +1,6 @@
 -- What bytes are read as is the frame that they spell, and where nothing is read they spell none.
 use Rattle.std.proofs.Common.{◌≡◌, ℕ, ◌^◌, ◌<◌, Bool, true, false, cond, [], ◌∷◌, ◌++◌, length, Option, Some, None, refl, sym, ap, subst, ◌∙◌, append_assoc, arith, inl, inr, drop}
+use Rattle.std.proofs.lemmas.Option.{same_Some}
 use Rattle.std.specs.Prelude.{◌==◌, ◌⊎◌}
 use Rattle.std.specs.Option.{option_and_then}
 use Rattle.std.specs.Int.{w8}
@@ -11,7 +12,7 @@ use Rattle.definitions.specs.Frames.{Command, Core, Vote, Certificate, Frame, re
 use Rattle.definitions.specs.FrameLimits.{IsFrame, Spells, IsReadAs}
 use Rattle.frames_view.specs.Readings.{Reader, number, made}
 use Rattle.frames_view.specs.Parts.{proposal_in, vote_frame_in, new_view_in, reply_in, fetch_in, block_in, command_in, kind_in, frame_in}
-use Rattle.frames_view.proofs.Exact.{IsBytes, IsBytes-right, IsExact, IsExact-byte, IsExact-both, and_then_parts, map_parts, guard_true, some_is}
+use Rattle.frames_view.proofs.Exact.{IsBytes, IsBytes-right, IsExact, IsExact-byte, IsExact-both, and_then_parts, map_parts, guard_true}
 use Rattle.frames_view.proofs.Parts.{AreFew, IsExact-digest, IsExact-party, IsExact-vector, IsExact-long, IsExact-positive, IsExact-text, IsExact-vote, IsExact-certificate, IsExact-command, IsExact-core}
 
 -- ---- a frame is made of its fields
@@ -153,7 +154,7 @@ module _ (sizes : Sizes) (are : AreFew sizes) where
       let g = b.0 in
       let t = guard_true (length g.1 == 0) (Some g.0) f b.2 in
       let none : g.1 ≡ [] = nil_from_length g.1 (eqb-true _ _ t.0) in
-      let same : g.0 ≡ f = some_is g.0 f t.1 in
+      let same : g.0 ≡ f = same_Some g.0 f t.1 in
       let left = IsBytes-right (kind.0 ∷ []) kind.1 (subst IsBytes first.1 fits) in
       let h = kind_found kind.0 kind.1 g.0 g.1 left b.1 in
       let whole : bytes ≡ spelling g.0 = first.1 ∙ (h.1 ∙ (ap (λ (l : Bytes). spelling g.0 ++ l) none ∙ append-nil (spelling g.0))) in
