@@ -15,7 +15,6 @@ mod kept_votes;
 mod new_view;
 mod proposal;
 mod request;
-mod tags;
 mod vote;
 mod voters;
 

@@ -10,7 +10,6 @@ ghost use Rattle.certificates.specs.Outcomes.{is_passed, IsGivenIf};
 
 use crate::certificate::good_voters;
 use crate::checked::{Authenticated, Certified, Checked};
-use crate::tags::tag_in;
 use authenticators::Keyring;
 use frames_view::NewViewView;
 use ids::{Config, Fault, Kind, PartyId};
@@ -40,7 +39,7 @@ fn own_tag_verifies(keyring: &Keyring, view: &NewViewView) -> bool
     ensures { result ≡ own_tag_verifies (identity_of keyring.now) (new_view_of view.now) }
 {
     let sender = PartyId::from(view.sender());
-    let tag = tag_in(view.vector(), keyring.replica());
+    let tag = view.tag(keyring.replica());
     keyring.verify(Kind::NewView, sender, view.content(), tag)
 }
 

@@ -11,7 +11,6 @@ ghost use Rattle.certificates.specs.Outcomes.{is_passed, IsGivenIf};
 use crate::certificate::good_voters;
 use crate::checked::{Authenticated, CarriesBlock, Certified, Checked};
 use crate::commands::is_clear;
-use crate::tags::tag_in;
 use authenticators::Keyring;
 use frames_view::ProposalView;
 use ids::{Config, Fault, Kind, PartyId};
@@ -44,7 +43,7 @@ fn own_tag_verifies(keyring: &Keyring, config: &Config, view: &ProposalView) -> 
     ensures { result ≡ own_tag_verifies (identity_of keyring.now) (proposal_of view.now) }
 {
     let sender = PartyId::from(config.leader(view.view()));
-    let tag = tag_in(view.vector(), keyring.replica());
+    let tag = view.tag(keyring.replica());
     keyring.verify(Kind::Proposal, sender, view.content(), tag)
 }
 

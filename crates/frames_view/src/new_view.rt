@@ -1,14 +1,15 @@
 //! Announcements of views.
 
-ghost use Rattle.std.specs.Prelude.{◌≡◌, IfSome};
+ghost use Rattle.std.specs.Prelude.{◌≡◌, ◌+◌, ◌*◌, ◌≤◌, length, IfSome};
 ghost use Rattle.definitions.specs.Frames.{content_of, tags};
+ghost use Rattle.definitions.specs.Tags.{tag_of};
 ghost use Rattle.frames_view.specs.Fields.{frame_view, frame_replica, frame_certificate};
 ghost use Rattle.frames_view.specs.Parts.{new_view_in};
 ghost use Rattle.frames_view.specs.Views.{Gives, certificate_of, new_view_of};
 ghost use Rattle.frames_view.specs.Places.{IsNewViewAt};
 
 use crate::certificate::take_certificate;
-use crate::cursor::{before, take_party, take_u64, take_vector};
+use crate::cursor::{before, block_at, take_party, take_u64, take_vector};
 use crate::frame_views::NewViewView;
 use crate::views::CertificateView;
 use ids::{Config, ReplicaId, View};
@@ -50,6 +51,14 @@ impl<'a> NewViewView<'a> {
         ensures lent { result ≡ self.now.vector }
     {
         self.vector
+    }
+
+    /// Its tag for a replica.
+    pub fn tag(&self, replica: ReplicaId) -> &'a [u8; 32]
+        requires { 32 * replica + 32 ≤ length (tags (new_view_of self.now)) }
+        ensures { result.now ≡ tag_of (tags (new_view_of self.now)) replica }
+    {
+        block_at(self.vector, 32 * usize::from(replica.0))
     }
 }
 

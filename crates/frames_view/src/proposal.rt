@@ -1,7 +1,8 @@
 //! Proposals.
 
-ghost use Rattle.std.specs.Prelude.{◌≡◌, IfSome};
+ghost use Rattle.std.specs.Prelude.{◌≡◌, ◌+◌, ◌*◌, ◌≤◌, length, IfSome};
 ghost use Rattle.definitions.specs.Frames.{content_of, tags};
+ghost use Rattle.definitions.specs.Tags.{tag_of};
 ghost use Rattle.frames_view.specs.Fields.{frame_view, frame_core, frame_certificate};
 ghost use Rattle.frames_view.specs.Parts.{proposal_in};
 ghost use Rattle.frames_view.specs.Views.{Gives, certificate_of, core_of, proposal_of};
@@ -9,10 +10,10 @@ ghost use Rattle.frames_view.specs.Places.{IsProposalAt};
 
 use crate::certificate::take_certificate;
 use crate::core_view::take_core;
-use crate::cursor::{before, take_u64, take_vector};
+use crate::cursor::{before, block_at, take_u64, take_vector};
 use crate::frame_views::ProposalView;
 use crate::views::{CertificateView, CoreView};
-use ids::{Config, View};
+use ids::{Config, ReplicaId, View};
 
 impl<'a> ProposalView<'a> {
     /// The view that it is for.
@@ -52,6 +53,14 @@ impl<'a> ProposalView<'a> {
         ensures lent { result ≡ self.now.vector }
     {
         self.vector
+    }
+
+    /// Its tag for a replica.
+    pub fn tag(&self, replica: ReplicaId) -> &'a [u8; 32]
+        requires { 32 * replica + 32 ≤ length (tags (proposal_of self.now)) }
+        ensures { result.now ≡ tag_of (tags (proposal_of self.now)) replica }
+    {
+        block_at(self.vector, 32 * usize::from(replica.0))
     }
 }
 

@@ -1,5 +1,5 @@
 -- The sizes of a deployment, and the numbers of its parties.
-use Rattle.std.specs.Prelude.{ℕ, ◌+◌, ◌-◌, ◌*◌, ◌%◌, ◌≤◌, if◌then◌else◌, nat_lt}
+use Rattle.std.specs.Prelude.{ℕ, ◌+◌, ◌*◌, ◌%◌, ◌≤◌}
 
 -- how many faulty replicas are borne, and how many clients there are
 pub record Sizes : Type 0 where
