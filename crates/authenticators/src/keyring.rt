@@ -1,4 +1,5 @@
-ghost use Rattle.std.specs.Prelude.{◌≡◌, ◌+◌, ◌*◌, ◌<◌, ◌++◌, ◌↔◌, [], length, IsTrue, OnOk, OnErr, vec_capacity, vec_len};
+ghost use Rattle.std.specs.Prelude.{◌≡◌, ◌+◌, ◌*◌, ◌<◌, ◌↔◌, [], length, IsTrue};
+ghost use Rattle.definitions.specs.Writing.{IsAppended};
 ghost use Rattle.ids.specs.Sizes.{replicas};
 ghost use Rattle.definitions.specs.Tags.{tag_text};
 ghost use Rattle.definitions.specs.Keyrings.{keys_due, is_peer, place_of, keyring_of, tag_for, verify, vector_for};
@@ -91,10 +92,7 @@ impl Keyring {
     /// small, and `out` is as before then.
     #[tactic(auto, unfolding(definitions::specs::Keyrings::tags_for))]
     pub fn vector(&self, label: Kind, content: &[u8], out: &mut Vec<u8>) -> Result<(), Fault>
-        ensures appended { OnOk result (out.new.items ≡ out.old.items ++ vector_for self.now.sizes (keyring_of self.now) label content.now) }
-        ensures unchanged { OnErr result (out.new.items ≡ out.old.items) }
-        ensures memory { OnErr result (result ≡ Err Fault.Memory) }
-        ensures grown { OnErr result (vec_capacity out.old < vec_len out.old + 32 * replicas self.now.sizes) }
+        ensures { IsAppended out.old out.new (vector_for self.now.sizes (keyring_of self.now) label content.now) result }
     {
         let n = self.config.n();
         out.reserve(32 * usize::from(n))?;

@@ -56,25 +56,39 @@ command_content client seq payload = to_be_bytes w16 client ++ to_be_bytes w64 s
 abbrev pub command_bytes : Command → Bytes
 command_bytes c = command_content c.client c.seq c.payload ++ c.vector
 
+-- a core that has so many commands, of their bytes
+abbrev pub core_text : (parent : Bytes) (height justify_height count : ℕ) (commands : Bytes) → Bytes
+core_text parent height justify_height count commands = parent ++ to_be_bytes w64 height ++ to_be_bytes w64 justify_height ++ count ∷ commands
+
 -- the bytes of a core
 abbrev pub core_bytes : Core → Bytes
-core_bytes k = k.parent ++ to_be_bytes w64 k.height ++ to_be_bytes w64 k.justify_height ++ length k.commands ∷ flat_map command_bytes k.commands
+core_bytes k = core_text k.parent k.height k.justify_height (length k.commands) (flat_map command_bytes k.commands)
 
 -- the bytes of a vote
 abbrev pub vote_bytes : Vote → Bytes
 vote_bytes v = to_be_bytes w16 v.voter ++ v.vector
 
+-- a certificate that has so many votes, of their bytes
+abbrev pub certificate_text : (digest : Bytes) (count : ℕ) (votes : Bytes) → Bytes
+certificate_text digest count votes = digest ++ count ∷ votes
+
 -- the bytes of a certificate
 abbrev pub certificate_bytes : Certificate → Bytes
-certificate_bytes q = q.digest ++ length q.votes ∷ flat_map vote_bytes q.votes
+certificate_bytes q = certificate_text q.digest (length q.votes) (flat_map vote_bytes q.votes)
 
--- what a proposal's tags speak of; a vote's speak of the digest alone
+-- what a proposal's tags speak of, of the bytes of its parts; a vote's speak of the digest alone
+abbrev pub proposal_text : (view : ℕ) (core certificate : Bytes) → Bytes
+proposal_text view core certificate = to_be_bytes w64 view ++ core ++ certificate
+
 abbrev pub proposal_content : ℕ → Core → Certificate → Bytes
-proposal_content view k q = to_be_bytes w64 view ++ core_bytes k ++ certificate_bytes q
+proposal_content view k q = proposal_text view (core_bytes k) (certificate_bytes q)
 
--- what a new view's tags speak of
+-- what a new view's tags speak of, of the bytes of its certificate
+abbrev pub new_view_text : (view sender : ℕ) (certificate : Bytes) → Bytes
+new_view_text view sender certificate = to_be_bytes w64 view ++ to_be_bytes w16 sender ++ certificate
+
 abbrev pub new_view_content : ℕ → ℕ → Certificate → Bytes
-new_view_content view sender q = to_be_bytes w64 view ++ to_be_bytes w16 sender ++ certificate_bytes q
+new_view_content view sender q = new_view_text view sender (certificate_bytes q)
 
 -- what a reply's tag speaks of
 abbrev pub reply_content : ℕ → ℕ → ℕ → ℕ → Bytes → Bytes
@@ -85,9 +99,12 @@ reply_content replica client seq place text = to_be_bytes w16 replica ++ to_be_b
 abbrev pub fetch_content : ℕ → Bytes → Bytes
 fetch_content sender digest = to_be_bytes w16 sender ++ digest
 
--- what a block's tag speaks of
+-- what a block's tag speaks of, of the bytes of its parts
+abbrev pub block_text : (sender : ℕ) (core certificate : Bytes) → Bytes
+block_text sender core certificate = to_be_bytes w16 sender ++ core ++ certificate
+
 abbrev pub block_content : ℕ → Core → Certificate → Bytes
-block_content sender k q = to_be_bytes w16 sender ++ core_bytes k ++ certificate_bytes q
+block_content sender k q = block_text sender (core_bytes k) (certificate_bytes q)
 
 -- ---- its one spelling
 
@@ -121,9 +138,13 @@ tags (reply replica client seq place text tag) = tag
 tags (fetch sender digest tag) = tag
 tags (block sender k q tag) = tag
 
+-- a frame's first byte, its middle and its tags
+abbrev pub frame_text : (kind : ℕ) (middle tags : Bytes) → Bytes
+frame_text kind middle tags = kind ∷ middle ++ tags
+
 -- the bytes of a frame
 abbrev pub spelling : Frame → Bytes
-spelling frame = kind_number (kind_of frame) ∷ middle frame ++ tags frame
+spelling frame = frame_text (kind_number (kind_of frame)) (middle frame) (tags frame)
 
 -- ---- its own tags
 

@@ -2,6 +2,7 @@ pub use Rattle.ids.specs.Sizes
 pub use Rattle.ids.specs.Numbers
 pub mod Bytes
 pub mod Slices
+pub mod Writing
 pub mod Requests
 pub mod Items
 pub mod Replies

@@ -3,6 +3,7 @@
 ghost use Rattle.std.specs.Prelude.{◌≡◌, ◌+◌, ◌<◌, ◌++◌, length, IfSome, OnOk, OnErr, vec_capacity, vec_len};
 ghost use Rattle.ids.specs.Sizes.{replicas};
 ghost use Rattle.definitions.specs.Slices.{LeftAt};
+ghost use Rattle.definitions.specs.Writing.{IsAppended};
 ghost use Rattle.definitions.specs.Frames.{vote_bytes, certificate_bytes};
 ghost use Rattle.frames_view.specs.Readings.{IsRead, behind_rising};
 ghost use Rattle.frames_view.specs.Parts.{vote_in, certificate_in};
@@ -12,7 +13,7 @@ ghost use Rattle.frames_view.specs.Places.{IsSplit, IsCertificateAt, certificate
 use crate::cursor::{split, take_32, take_u8};
 use crate::views::{CertificateView, Votes};
 use crate::vote::take_vote;
-use crate::write::write_certificate;
+use frame_writers::write_certificate;
 use ids::{Config, Digest, Fault};
 
 impl<'a> CertificateView<'a> {
@@ -38,10 +39,7 @@ impl<'a> CertificateView<'a> {
 
     /// Appends the certificate's bytes, as a frame has them.
     pub fn write(&self, out: &mut Vec<u8>) -> Result<(), Fault>
-        ensures appended { OnOk result (out.new.items ≡ out.old.items ++ certificate_bytes (certificate_of self.now)) }
-        ensures unchanged { OnErr result (out.new.items ≡ out.old.items) }
-        ensures memory { OnErr result (result ≡ Err Fault.Memory) }
-        ensures grown { OnErr result (vec_capacity out.old < vec_len out.old + length (certificate_bytes (certificate_of self.now))) }
+        ensures { IsAppended out.old out.new (certificate_bytes (certificate_of self.now)) result }
     {
         write_certificate(&Digest(*self.digest), self.count, self.votes, out)
     }

@@ -1,6 +1,7 @@
-//! Frames, read where they lie and written: a reader of bytes that anyone may have sent, and the writers.
+//! Frames, read where they lie: a reader of bytes that anyone may have sent.
 //!
-//! Reading takes no memory: what it gives are views that borrow from the bytes.
+//! Reading takes no memory: what it gives are views that borrow from the bytes. The writers of frames stand in the
+//! crate `frame_writers`, and are passed on from here.
 #![tactic(auto)]
 
 mod block;
@@ -26,7 +27,6 @@ mod tests;
 mod views;
 mod vote;
 mod vote_frame;
-mod write;
 
 pub use certificate_buf::CertificateBuf;
 pub use core_buf::CoreBuf;
@@ -35,8 +35,9 @@ pub use frame::read;
 pub use frame_views::{
     BlockView, FetchView, Frame, NewViewView, ProposalView, ReplyView, VoteFrameView,
 };
-pub use views::{CertificateView, CommandView, Commands, CoreView, VoteView, Votes};
-pub use write::{
-    write_block, write_certificate, write_certified_vote, write_command, write_core, write_fetch,
-    write_new_view, write_proposal, write_reply_frame, write_request_frame, write_vote,
+pub use frame_writers::{
+    Payload, ReplyText, write_block, write_certificate, write_certified_vote, write_command,
+    write_core, write_fetch, write_new_view, write_proposal, write_reply_frame,
+    write_request_frame, write_vote,
 };
+pub use views::{CertificateView, CommandView, Commands, CoreView, VoteView, Votes};

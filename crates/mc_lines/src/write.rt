@@ -2,11 +2,14 @@ ghost use Rattle.std.specs.Prelude.{◌≡◌, ◌+◌, ◌≤◌, ◌++◌, ◌
 ghost use Rattle.definitions.specs.Requests.{canonical, cas, verb_name, space, crlf};
 ghost use Rattle.definitions.specs.Replies.{ended, value_text, reply_text};
 ghost use Rattle.mc_lines.specs.Meaning.{verb_of, asked_of, value_of, reply_of};
-ghost use Rattle.mc_lines.specs.Writing.{joined, values_text, store_text, IsLength, IsAppended};
+ghost use Rattle.definitions.specs.Writing.{IsAppended};
+ghost use Rattle.appending.specs.Joined.{joined, IsLength};
+ghost use Rattle.mc_lines.specs.Writing.{values_text, store_text};
 
 use crate::decimal::Decimal;
 use crate::reply::{Reply, Value};
 use crate::request::{Request, Verb};
+use appending::{add_parts_len, append, put, put_parts};
 use ids::Fault;
 
 /// The decimals in the text of a value.
@@ -15,54 +18,6 @@ struct Numbers {
     flags: Decimal,
     size: Decimal,
     unique: Decimal,
-}
-
-/// So many bytes, and so many more. Where that is no `usize`, no room is enough.
-fn add_len(len: usize, more: usize) -> Result<usize, Fault>
-    ensures { IsLength result (len + more) }
-{
-    len.checked_add(more).ok_or(Fault::Memory)
-}
-
-/// So many bytes, and those of these parts.
-fn add_parts_len(mut len: usize, parts: &[&[u8]]) -> Result<usize, Fault>
-    ensures { IsLength result (len + length (joined parts.now)) }
-{
-    for part in parts {
-        len = add_len(len, part.len())?;
-    }
-    Ok(len)
-}
-
-/// Appends these bytes, for which there is room.
-fn put(out: &mut Vec<u8>, bytes: &[u8])
-    requires { vec_len out.old + length bytes.now ≤ vec_capacity out.old }
-    ensures items { out.new.items ≡ out.old.items ++ bytes.now }
-    ensures len { vec_len out.new ≡ vec_len out.old + length bytes.now }
-    ensures capacity { vec_capacity out.old ≤ vec_capacity out.new }
-{
-    out.extend_from_slice(bytes).unwrap();
-}
-
-/// Appends these parts, for which there is room.
-fn put_parts(out: &mut Vec<u8>, parts: &[&[u8]])
-    requires { vec_len out.old + length (joined parts.now) ≤ vec_capacity out.old }
-    ensures items { out.new.items ≡ out.old.items ++ joined parts.now }
-    ensures len { vec_len out.new ≡ vec_len out.old + length (joined parts.now) }
-    ensures capacity { vec_capacity out.old ≤ vec_capacity out.new }
-{
-    for part in parts {
-        put(out, part);
-    }
-}
-
-/// Appends these parts, or nothing.
-fn append(out: &mut Vec<u8>, parts: &[&[u8]]) -> Result<(), Fault>
-    ensures { IsAppended out.old out.new (joined parts.now) result }
-{
-    out.reserve(add_parts_len(0, parts)?)?;
-    put_parts(out, parts);
-    Ok(())
 }
 
 /// The name of a storage command.

@@ -5,7 +5,8 @@ use Rattle.definitions.specs.Replies.{ended, reply_text}
 use Rattle.mc_lines.specs.declared.reply.Reply.{Reply}
 use Rattle.mc_lines.specs.declared.reply.Value.{Value}
 use Rattle.mc_lines.specs.Meaning.{reply_of}
-use Rattle.mc_lines.specs.Writing.{IsAppended, values_text}
+use Rattle.definitions.specs.Writing.{IsAppended}
+use Rattle.mc_lines.specs.Writing.{values_text}
 use Rattle.mc_lines.proofs.WriteLaws.{reply_of_values}
 use Rattle.mc_lines.proofs.write.write_reply.Goals as goal
 

@@ -4,7 +4,7 @@ use Rattle.definitions.specs.Bytes.{Bytes}
 use Rattle.definitions.specs.Requests.{canonical}
 use Rattle.mc_lines.specs.declared.request.Request.{Request}
 use Rattle.mc_lines.specs.Meaning.{asked_of}
-use Rattle.mc_lines.specs.Writing.{IsAppended}
+use Rattle.definitions.specs.Writing.{IsAppended}
 use Rattle.mc_lines.proofs.WriteLaws.{retrieval_text}
 use Rattle.mc_lines.proofs.write.write_request.Goals as goal
 

@@ -12,7 +12,7 @@ returns-clause-made c keys c' o =
     let d = ap (λ (m : Mark). m.digest) mark in
     let h = ap (λ (m : Mark). m.height) mark in
     let above : c.in-Some.height ≡ suc (length (leaf (identity_of keys) c')) = omega (arith, c.in-Some.ensures.1, h) in
-    let core = behind-nothing _ _ _ c.new-core.ensures.items (c.in_ok-write_core.ensures.appended [] refl refl)
+    let core = behind-nothing _ _ _ c.new-core.ensures.items c.in_ok-write_core.ensures.appended
     ∙ ap core_bytes (core-child keys c' _ _ _ d above (ap (λ (m : Mark). m.height) o.high)) in
     record {
       block = λ i. record { digest = (c.digest.ensures ∙ digest-child keys c' _ (c.as_slice.ensures.value ∙ core)) i; height = (c.height.view_is ∙ above) i };

@@ -1,6 +1,6 @@
 use Rattle.std.proofs.Common.{ℕ, List, Bor, [], arith}
 use Rattle.std.proofs.lemmas.List.Folds.{length-flat_map-take}
-use Rattle.mc_lines.proofs.write.put_parts.Goals as goal
+use Rattle.appending.proofs.put_parts.Goals as goal
 
 pub put-requires : goal.put-requires
 put-requires c =

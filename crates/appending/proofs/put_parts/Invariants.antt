@@ -1,7 +1,7 @@
 use Rattle.std.proofs.Common.{◌≡◌, ◌+◌, ◌≤◌, ◌++◌, length, take}
 use Rattle.std.specs.Prelude.{vec_len, vec_capacity}
-use Rattle.mc_lines.specs.Writing.{joined}
-use Rattle.mc_lines.proofs.write.put_parts.Given as goal
+use Rattle.appending.specs.Joined.{joined}
+use Rattle.appending.proofs.put_parts.Given as goal
 
 abbrev pub invariant-loop-part : goal.invariant-loop-part
 invariant-loop-part l =

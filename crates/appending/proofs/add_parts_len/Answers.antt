@@ -1,6 +1,6 @@
 use Rattle.std.proofs.Common.{ℕ, List, Bor, [], rules}
 use Rattle.std.proofs.lemmas.List.Folds.{length-flat_map-take}
-use Rattle.mc_lines.proofs.write.add_parts_len.Goals as goal
+use Rattle.appending.proofs.add_parts_len.Goals as goal
 
 pub returns-in_err-len : goal.returns-in_err-len
 returns-in_err-len c =

@@ -1,0 +1,90 @@
+//! The parts of frames: commands, cores, votes and certificates.
+
+ghost use Rattle.std.specs.Prelude.{◌≤◌, length};
+ghost use Rattle.definitions.specs.FrameLimits.{most_payload};
+ghost use Rattle.definitions.specs.Writing.{IsAppended};
+ghost use Rattle.definitions.specs.Frames.{command_bytes, core_text, vote_bytes, certificate_text};
+
+use crate::bounded::Payload;
+use appending::append;
+use ids::{ClientId, Digest, Fault, Height, ReplicaId, Seq};
+
+/// Appends a command: its content and its client's tags.
+pub fn write_command(
+    client: ClientId,
+    seq: Seq,
+    payload: &Payload<'_>,
+    vector: &[u8],
+    out: &mut Vec<u8>,
+) -> Result<(), Fault>
+    ensures { IsAppended out.old out.new
+        (command_bytes (record { client = client; seq = seq; payload = payload.now; vector = vector.now })) result }
+{
+    append_command(client, seq, payload.as_slice(), vector, out)
+}
+
+/// Appends a command whose payload is short enough.
+fn append_command<'a>(
+    client: ClientId,
+    seq: Seq,
+    payload: &'a [u8],
+    vector: &'a [u8],
+    out: &mut Vec<u8>,
+) -> Result<(), Fault>
+    requires { length payload.now ≤ most_payload }
+    ensures { IsAppended out.old out.new
+        (command_bytes (record { client = client; seq = seq; payload = payload.now; vector = vector.now })) result }
+{
+    append(
+        out,
+        &[
+            &u16::from(client.0).to_be_bytes(),
+            &seq.0.to_be_bytes(),
+            &(payload.len() as u16).to_be_bytes(),
+            payload,
+            vector,
+        ],
+    )
+}
+
+/// Appends a core, of the bytes of `count` commands.
+pub fn write_core(
+    parent: &Digest,
+    height: Height,
+    justify_height: Height,
+    count: u8,
+    commands: &[u8],
+    out: &mut Vec<u8>,
+) -> Result<(), Fault>
+    ensures { IsAppended out.old out.new (core_text parent.now height justify_height count commands.now) result }
+{
+    append(
+        out,
+        &[
+            &parent.0,
+            &height.0.to_be_bytes(),
+            &justify_height.0.to_be_bytes(),
+            &[count],
+            commands,
+        ],
+    )
+}
+
+/// Appends a vote, as it stands in a certificate.
+pub fn write_certified_vote(voter: ReplicaId, vector: &[u8], out: &mut Vec<u8>) -> Result<(), Fault>
+    ensures { IsAppended out.old out.new (vote_bytes (record { voter = voter; vector = vector.now })) result }
+{
+    append(out, &[&u16::from(voter.0).to_be_bytes(), vector])
+}
+
+/// Appends a certificate, of the bytes of `count` votes.
+pub fn write_certificate(
+    digest: &Digest,
+    count: u8,
+    votes: &[u8],
+    out: &mut Vec<u8>,
+) -> Result<(), Fault>
+    ensures { IsAppended out.old out.new (certificate_text digest.now count votes.now) result }
+{
+    append(out, &[&digest.0, &[count], votes])
+}
