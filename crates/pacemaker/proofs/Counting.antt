@@ -1,0 +1,102 @@
+-- How many numbers are at least a bound, and which of these is the least.
+use Rattle.std.proofs.Common.{ℕ, zero, suc, ◌≡◌, ◌+◌, ◌<◌, ◌≤◌, ◌⊎◌, Bool, true, false, cond, leb, refl, subst, arith, inl, inr}
+use Rattle.std.proofs.lemmas.Bool.{cases_lt, cond_both, leb-true, le-leb}
+use Rattle.definitions.specs.Lists.{count_below}
+
+-- how many of the numbers below n have a value of at least v
+abbrev pub at_least : ℕ → (ℕ → ℕ) → ℕ → ℕ
+at_least n a v = count_below n (λ i. leb v (a i))
+
+pub count-zero : (p : ℕ → Bool) → count_below 0 p ≡ 0
+unfolding count_below
+count-zero p = refl
+
+pub count-next : (n : ℕ) (p : ℕ → Bool) → count_below (n + 1) p ≡ cond (p n) (count_below n p + 1) (count_below n p)
+unfolding count_below
+count-next n p = grind arith
+
+mono-step : (a b : Bool) (x y : ℕ) → (a ≡ true → b ≡ true) → x ≤ y → cond a (suc x) x ≤ cond b (suc y) y
+mono-step true true x y h l = omega arith
+mono-step true false x y h l = cc (h refl)
+mono-step false true x y h l = omega arith
+mono-step false false x y h l = l
+
+-- where each that passes one test passes the other, the other counts no fewer
+pub count-mono : (n : ℕ) (p q : ℕ → Bool) → ((i : ℕ) → i < n → p i ≡ true → q i ≡ true) → count_below n p ≤ count_below n q
+unfolding count_below
+count-mono zero p q h = omega arith
+count-mono (suc n) p q h = mono-step (p n) (q n) _ _ (h n (omega arith)) (count-mono n p q (λ i l. h i (omega (arith, l))))
+
+-- where none passes, none is counted
+pub count-none : (n : ℕ) (p : ℕ → Bool) → ((i : ℕ) → i < n → p i ≡ true → ⊥) → count_below n p ≡ 0
+unfolding count_below
+count-none zero p h = refl
+count-none (suc n) p h =
+    cond_both (p n) (suc (count_below n p)) (count_below n p) (λ (x : ℕ). x ≡ 0)
+    (λ e. absurd (h n (omega arith) e))
+    (λ e. count-none n p (λ i l. h i (omega (arith, l))))
+
+-- the least value that is at least v, with its number
+pub record IsLeast (n : ℕ) (a : ℕ → ℕ) (v i : ℕ) : Type 0 where
+  pub below : i < n
+  pub enough : v ≤ a i
+  pub least : (j : ℕ) → j < n → v ≤ a j → a i ≤ a j
+
+-- every number below the successor is the last one, or below it
+each_below : (n : ℕ) (P : ℕ → Type 0) → P n → ((j : ℕ) → j < n → P j) → (j : ℕ) → j < suc n → P j
+each_below n P last before j l = elim (cases_lt j n) [ inl below ↦ before j below | inr above ↦ subst P (omega arith) last ]
+
+pub find_least : (n : ℕ) (a : ℕ → ℕ) (v : ℕ) → ((i : ℕ) × IsLeast n a v i) ⊎ ((j : ℕ) → j < n → a j < v)
+find_least zero a v = inr (λ j l. absurd (omega (arith, l)))
+find_least (suc n) a v = elim (find_least n a v) [
+  | inl r ↦ elim (cases_lt (a n) v) [
+    | inl low ↦ inl (
+      r.0,
+      record {
+        below = omega (arith, r.1.below);
+        enough = r.1.enough;
+        least = each_below n (λ j. v ≤ a j → a r.0 ≤ a j) (λ h. absurd (omega (arith, h, low))) r.1.least;
+      },
+    )
+    | inr high ↦ elim (cases_lt (a n) (a r.0)) [
+      | inl less ↦ inl (
+        n,
+        record {
+          below = omega arith;
+          enough = high;
+          least = each_below n (λ j. v ≤ a j → a n ≤ a j) (λ h. omega arith) (λ j l h. let k = r.1.least j l h in omega (arith, k, less));
+        },
+      )
+      | inr more ↦ inl (
+        r.0,
+        record {
+          below = omega (arith, r.1.below);
+          enough = r.1.enough;
+          least = each_below n (λ j. v ≤ a j → a r.0 ≤ a j) (λ h. more) r.1.least;
+        },
+      )
+    ]
+  ]
+  | inr none ↦ elim (cases_lt (a n) v) [
+    | inl low ↦ inr (each_below n (λ j. a j < v) low none)
+    | inr high ↦ inl (
+      n,
+      record {
+        below = omega arith;
+        enough = high;
+        least = each_below n (λ j. v ≤ a j → a n ≤ a j) (λ h. omega arith) (λ j l h. let k = none j l in absurd (omega (arith, k, h)));
+      },
+    )
+  ]
+]
+
+-- what more than f have passed, one of them has passed that more than f have announced or passed
+pub passed_least : (n f : ℕ) (a : ℕ → ℕ) (v : ℕ) → f < at_least n a v → (i : ℕ) × (i < n) × (v ≤ a i) × (f < at_least n a (a i))
+passed_least n f a v h = elim (find_least n a v) [
+  | inl r ↦
+      let more = count-mono n (λ i. leb v (a i)) (λ i. leb (a r.0) (a i)) (λ i l e. le-leb (a r.0) (a i) (r.1.least i l (leb-true v (a i) e))) in
+      (r.0, r.1.below, r.1.enough, omega (arith, more, h))
+  | inr none ↦
+      let zero : at_least n a v ≡ 0 = count-none n (λ i. leb v (a i)) (λ i l e. let k = none i l in let m = leb-true v (a i) e in omega (arith, k, m)) in
+      absurd (omega (arith, zero, h))
+]
