@@ -6,8 +6,6 @@
 
 mod keyring;
 mod mac;
-#[cfg(test)]
-mod tests;
 
 pub use keyring::Keyring;
 pub use mac::hmac;

@@ -8,8 +8,6 @@ mod insert;
 mod node;
 mod place;
 mod queries;
-#[cfg(test)]
-mod tests;
 mod tree;
 mod walks;
 

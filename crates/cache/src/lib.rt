@@ -11,8 +11,6 @@ mod entry;
 mod number;
 mod store;
 mod table;
-#[cfg(test)]
-mod tests;
 mod values;
 
 pub use cache::Cache;

@@ -20,10 +20,6 @@ mod lists;
 mod new_view;
 mod proposal;
 mod reply;
-#[cfg(test)]
-mod size_tests;
-#[cfg(test)]
-mod tests;
 mod views;
 mod vote;
 mod vote_frame;

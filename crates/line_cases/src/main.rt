@@ -1,13 +1,16 @@
 //! Runs the reader of request lines and the cache over cases: each line of standard input is a text in hexadecimal.
-//! Printed are what is read at its beginning, whether the whole text is a canonical request, how many items stand in
-//! it, and the length and the first half of the SHA-256 digest of what a connection would be written, where a cache
-//! with room for two keys answers. What is wanted of each case was computed by an independent program.
+//! Printed are what is read at its beginning, whether the whole text is a canonical request (`DIFFERENT` where it is one
+//! and is written otherwise), how many items stand in it, and the length and the first 8 bytes of the SHA-256 digest of
+//! what a connection would be written, where a cache with room for two keys answers. Of a line `cuts TEXT` what is read
+//! at each proper beginning of the text is a case: printed are how many there are, how many are unfinished, and the
+//! first 8 bytes of the digest of what would be printed of all of them, line by line. What is wanted of each case was
+//! computed by an independent program.
 #![tactic(auto)]
 
 use anyhow::Result;
 use cache::Cache;
 use ids::{Fault, LineFault};
-use mc_lines::{Read, fault_text, read_canonical, read_request, write_reply};
+use mc_lines::{Read, fault_text, read_canonical, read_request, write_reply, write_request};
 use sha2::{Digest, Sha256};
 use std::alloc::Global;
 
@@ -87,25 +90,59 @@ fn first(alloc: Global, bytes: &[u8]) -> Result<String, std::alloc::AllocError> 
     }
 }
 
+/// Whether a whole text is a canonical request, which is written as it was read.
+fn canonical(alloc: Global, bytes: &[u8]) -> Result<&'static str> {
+    let Some(request) = read_canonical(bytes) else {
+        return Ok("not canonical");
+    };
+    let mut again = Vec::new(alloc);
+    write_request(&request, &mut again)?;
+    Ok(if again.as_slice() == bytes {
+        "canonical"
+    } else {
+        "DIFFERENT"
+    })
+}
+
+/// What is told of a text.
+fn tell_text(alloc: Global, bytes: &[u8]) -> Result<String> {
+    let told = tell(alloc, bytes)?;
+    let digest = Sha256::digest(&told.text);
+    let start = hex::encode(alloc, &digest[..8])?;
+    Ok(format!(in alloc;
+        "{}, {}, {} items, {} bytes of text {start}",
+        first(alloc, bytes)?,
+        canonical(alloc, bytes)?,
+        told.items,
+        told.text.len(),
+    )?)
+}
+
+/// What is told of the proper beginnings of a text.
+fn tell_cuts(alloc: Global, bytes: &[u8]) -> Result<String> {
+    let mut told = Sha256::new();
+    let mut unfinished: usize = 0;
+    for len in 0..bytes.len() {
+        let beginning = first(alloc, &bytes[..len])?;
+        if beginning.as_str() == "more" {
+            unfinished = unfinished.wrapping_add(1);
+        }
+        told.update(&beginning);
+        told.update("\n");
+    }
+    let start = hex::encode(alloc, &told.finalize()[..8])?;
+    Ok(format!(in alloc; "{} beginnings, {unfinished} more, {start}", bytes.len())?)
+}
+
 fn main(rt: HostRuntime) -> Result<()> {
     let alloc = rt.alloc();
     for line in rt.lines(alloc) {
-        let bytes = hex::decode(alloc, line?.as_str())?;
-        let canonical = if read_canonical(&bytes).is_some() {
-            "canonical"
-        } else {
-            "not canonical"
+        let line = line?;
+        let told = match line.strip_prefix("cuts ") {
+            Some(digits) => tell_cuts(alloc, &hex::decode(alloc, digits)?)?,
+            None => tell_text(alloc, &hex::decode(alloc, line.as_str())?)?,
         };
-        let told = tell(alloc, &bytes)?;
-        let digest = Sha256::digest(&told.text);
-        let start = hex::encode(alloc, &digest[..8])?;
-        println!(rt;
-            "{}, {canonical}, {} items, {} bytes of text {}",
-            first(alloc, &bytes)?,
-            told.items,
-            told.text.len(),
-            start
-        )?;
+        println!(rt; "{told}")?;
     }
     Ok(())
 }

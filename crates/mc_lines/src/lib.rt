@@ -13,8 +13,6 @@ mod number;
 mod read;
 mod reply;
 mod request;
-#[cfg(test)]
-mod tests;
 mod write;
 
 pub use ids::LineFault;

@@ -1,8 +1,8 @@
-//! Votes, locks and decisions of chains of blocks.
+//! A tree with room for two blocks, and what the rules say of them.
 
 use block_tree::Tree;
 use frames_view::{Frame, genesis_digest, read, write_certificate, write_core, write_proposal};
-use ids::{Config, Digest, Height, View};
+use ids::{Config, Digest, Fault, Height, View};
 use replica_rules::{Mark, Rules};
 use std::alloc::Global;
 use std::test::Fail;
@@ -14,20 +14,14 @@ fn grow(
     tree: &mut Tree,
     branch: &[Digest],
     justify_height: usize,
-) -> Result<Digest, Fail> {
+) -> Result<Result<Digest, Fault>, Fail> {
     let (Some(parent), Some(justified)) = (branch.last(), branch.get(justify_height)) else {
         return Err("a branch that has the justified block".into());
     };
     let height = Height(branch.len() as u64);
     let mut core = Vec::new(alloc);
-    write_core(
-        parent,
-        height,
-        Height(justify_height as u64),
-        0,
-        &[],
-        &mut core,
-    )?;
+    let justify_height = Height(justify_height as u64);
+    write_core(parent, height, justify_height, 0, &[], &mut core)?;
     let mut certificate = Vec::new(alloc);
     write_certificate(justified, 0, &[], &mut certificate)?;
     let mut frame = Vec::new(alloc);
@@ -40,53 +34,64 @@ fn grow(
     if core.justify_height().0 >= core.height().0 {
         return Err("a block above the one that it justifies".into());
     }
-    Ok(tree.insert(&core, &proposal.certificate(), true)?)
+    Ok(tree.insert(&core, &proposal.certificate(), true))
 }
 
-/// The heights of the lock and of the last executed block after each block of a chain whose blocks justify these
-/// heights.
-fn heights(alloc: Global, justify_heights: &[usize]) -> Result<Vec<(u64, u64)>, Fail> {
-    let mut tree = Tree::new(alloc, 10);
-    let mut rules = Rules::new();
-    let mut branch = vec![in alloc; genesis_digest()]?;
-    let mut heights = Vec::new(alloc);
-    for justify_height in justify_heights {
-        let block = grow(alloc, &mut tree, &branch, *justify_height)?;
-        rules.took(&tree, &block)?;
-        branch.push(block)?;
-        heights.push((rules.lock().height.0, rules.executed().height.0))?;
-    }
-    Ok(heights)
-}
-
+/// The third block is refused, until the second one is taken back.
 #[test]
-fn locks_and_decisions_of_two_chains(rt: HostRuntime) -> Result<(), Fail> {
-    let one_by_one = heights(rt.alloc(), &[0, 1, 2, 3])?;
-    assert_eq!(rt;
-        one_by_one.as_slice(),
-        [(0, 0), (0, 0), (1, 0), (2, 1)].as_slice()
-    );
-    let with_a_gap = heights(rt.alloc(), &[0, 1, 1, 3, 4])?;
-    assert_eq!(rt;
-        with_a_gap.as_slice(),
-        [(0, 0), (0, 0), (0, 0), (1, 0), (3, 0)].as_slice()
-    );
+fn a_full_tree_takes_no_block(rt: HostRuntime) -> Result<(), Fail> {
+    let alloc = rt.alloc();
+    let genesis = genesis_digest();
+    let mut tree = Tree::new(alloc, 3);
+    let first = grow(alloc, &mut tree, &[genesis], 0)??;
+    let second = grow(alloc, &mut tree, &[genesis, first], 1)??;
+    let third = grow(alloc, &mut tree, &[genesis, first, second], 2)?;
+    assert_eq!(rt; third, Err(Fault::Full));
+    assert_eq!(rt; tree.len(), 3);
+    if tree.len() > 1 {
+        tree.remove_newest();
+    }
+    assert!(rt; !tree.contains(&second));
+    let other = grow(alloc, &mut tree, &[genesis, first], 0)??;
+    assert!(rt; tree.contains(&other));
+    Ok(())
+}
+
+/// What the tree tells of a block.
+#[test]
+fn a_block_is_told(rt: HostRuntime) -> Result<(), Fail> {
+    let alloc = rt.alloc();
+    let genesis = genesis_digest();
+    let mut tree = Tree::new(alloc, 3);
+    let first = grow(alloc, &mut tree, &[genesis], 0)??;
+    assert_eq!(rt; tree.height(&first), Some(Height(1)));
+    assert_eq!(rt; tree.justify_height(&first), Some(Height(0)));
+    assert_eq!(rt; tree.justified(&first), Some(genesis));
+    assert_eq!(rt; tree.ancestor_at(&first, Height(0)), Some(genesis));
+    assert!(rt; tree.extends(&first, &genesis));
+    assert!(rt; tree.is_clear_above(&first, Height(0)));
+    let core = tree.core(&first).ok_or("it stands there")?;
+    assert_eq!(rt; *core.parent(), genesis.0);
+    let certificate = tree.certificate(&first).ok_or("it stands there")?;
+    assert_eq!(rt; *certificate.digest(), genesis.0);
     Ok(())
 }
 
 #[test]
 fn one_vote_a_height(rt: HostRuntime) -> Result<(), Fail> {
     let alloc = rt.alloc();
-    let mut tree = Tree::new(alloc, 10);
+    let mut tree = Tree::new(alloc, 3);
     let mut rules = Rules::new();
-    let first = grow(alloc, &mut tree, &[genesis_digest()], 0)?;
-    let second = grow(alloc, &mut tree, &[genesis_digest(), first], 0)?;
+    let first = grow(alloc, &mut tree, &[genesis_digest()], 0)??;
+    rules.took(&tree, &first)?;
     assert!(rt; rules.may_vote(&tree, &first));
     rules.voted(Height(1));
     assert_eq!(rt; rules.vheight(), Height(1));
     assert!(rt; !rules.may_vote(&tree, &first));
-    assert!(rt; rules.may_vote(&tree, &second));
-    assert_eq!(rt; Rules::decided(&tree, &second), None);
-    assert_eq!(rt; rules.lock(), Mark::genesis());
+    assert_eq!(rt; Rules::decided(&tree, &first), None);
+    assert_eq!(rt;
+        (rules.lock(), rules.executed()),
+        (Mark::genesis(), Mark::genesis())
+    );
     Ok(())
 }

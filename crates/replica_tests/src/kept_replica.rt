@@ -1,123 +1,143 @@
-//! Replica 1 of four, kept for two threads that bring the same proposal.
+//! Replica 0 of four, which leads the first view, kept for four threads.
 
-ghost use Rattle.std.specs.Prelude.{◌≡◌, ◌<◌, ◌==◌, ◌&&◌, IfOk, IsTrue};
+ghost use Rattle.std.specs.Prelude.{◌≡◌, ◌<◌};
 ghost use Rattle.ids.specs.Sizes.{replicas};
-ghost use Rattle.locked_replica.specs.Addressed.{same_sizes};
 
-use crate::signed::{first_proposal, keyring, two_keyrings};
 use authenticators::Keyring;
 use certificates::check_proposal;
 use frames_view::{Frame, read};
-use ids::{Fault, PartyId, ReplicaId};
+use ids::{Config, Fault, PartyId, ReplicaId};
 use locked_replica::{Closed, Kept, NotAll, Share};
 use replica::{Input, Out, Replica};
+use simulated_keys::keyring_of;
 use std::alloc::Global;
 use std::test::Fail;
 
-/// The kept replica 1, with a keyring of its own.
-fn kept(alloc: Global) -> Result<(Kept, Keyring), Fail>
-    ensures { IfOk result (λ k. (k.0.keys ≡ k.1) × (k.1.party ≡ 1) × (k.1.sizes ≡ record { faults = 1; clients = 2 })) }
-{
-    let (ring, own) = two_keyrings(alloc, PartyId(1))?;
-    let replica = Replica::new(alloc, ring.config(), ReplicaId(1), own)?;
-    Ok((Kept::new(alloc, replica), ring))
+/// The kept replica, a keyring of its keys, and shares of it.
+#[derive(Drop)]
+struct Leader {
+    kept: Kept,
+    ring: Keyring,
+    shares: Vec<Share>,
+    ghost same_keys: { kept.keys ≡ ring },
+    ghost is_a_replica: { ring.party < replicas ring.sizes },
+    ghost leads: { ring.party ≡ 0 },
 }
 
-/// One step of a kept replica on a proposal that was checked under this keyring.
-fn step_on(
-    kept: &mut Kept,
-    share: &mut Share,
-    ring: &Keyring,
-    bytes: &[u8],
-) -> Result<Result<Out, Fault>, Fail>
+impl Leader {
+    fn new(alloc: Global) -> Result<Leader, Fail> {
+        let config = Config::new(1, 2)?;
+        let own = keyring_of(alloc, config, PartyId(0))?;
+        let ring = keyring_of(alloc, config, PartyId(0))?;
+        let replica = Replica::new(alloc, config, ReplicaId(0), own)?;
+        let mut kept = Kept::new(alloc, replica);
+        let mut shares = Vec::new(alloc);
+        shares.push(kept.share()?)?;
+        shares.push(kept.share()?)?;
+        shares.push(kept.share()?)?;
+        shares.push(kept.share()?)?;
+        Ok(Leader { kept, ring, shares })
+    }
+
+    /// What goes out where a share brings a beat.
+    fn beat(&mut self, share: usize) -> Result<Vec<u8>, Fail> {
+        let share = self.shares.get_mut(share).ok_or("a share")?;
+        only_frame(self.kept.step(share, Input::Beat)?)
+    }
+
+    /// What goes out where a share brings a proposal.
+    fn receive(&mut self, share: usize, bytes: &[u8]) -> Result<Out, Fail> {
+        let config = self.ring.config();
+        let Ok(Frame::Proposal(proposal)) = read(&config, bytes) else {
+            return Err("the bytes are a proposal".into());
+        };
+        let checked = check_proposal(&self.ring, &config, &proposal)?;
+        let share = self.shares.get_mut(share).ok_or("a share")?;
+        Ok(self.kept.step(share, Input::Proposal(checked))?)
+    }
+}
+
+/// What a share of the leader is answered where it brings a proposal that another replica checked.
+fn bring_anothers(leader: &mut Leader, ring: &Keyring, bytes: &[u8]) -> Result<Option<Fault>, Fail>
     requires replica { ring.now.party < replicas ring.now.sizes }
-    requires same { IsTrue ((ring.now.party == kept.old.keys.party) && same_sizes ring.now.sizes kept.old.keys.sizes) → ring.now ≡ kept.old.keys }
-    ensures { kept.new.keys ≡ kept.old.keys }
+    requires another { 0 < ring.now.party }
 {
     let config = ring.config();
-    let Ok(Frame::Proposal(view)) = read(&config, bytes) else {
+    let Ok(Frame::Proposal(proposal)) = read(&config, bytes) else {
         return Err("the bytes are a proposal".into());
     };
-    let checked = check_proposal(ring, &config, &view)?;
-    Ok(kept.step(share, Input::Proposal(checked)))
+    let checked = check_proposal(ring, &config, &proposal)?;
+    let share = leader.shares.first_mut().ok_or("a share")?;
+    Ok(leader.kept.step(share, Input::Proposal(checked)).err())
 }
 
-/// How many bytes go out.
-fn bytes_out(out: &Out) -> usize {
-    let mut bytes: usize = 0;
-    for sending in out.sendings() {
-        bytes = bytes.saturating_add(sending.frame.len());
+/// The one frame that goes out.
+fn only_frame(out: Out) -> Result<Vec<u8>, Fail> {
+    let mut sendings = out.into_sendings();
+    let sending = sendings.pop().ok_or("a frame")?;
+    if !sendings.is_empty() {
+        return Err("one frame".into());
     }
-    bytes
-}
-
-/// The kept replica 1 after two shares brought the same proposal, and how many bytes went out at each step.
-#[derive(Drop)]
-struct Brought {
-    kept: Kept,
-    first: Share,
-    second: Share,
-    bytes_out: (usize, usize),
-}
-
-fn bring_twice(alloc: Global) -> Result<Brought, Fail> {
-    let (mut kept, ring) = kept(alloc)?;
-    let bytes = first_proposal(alloc)?;
-    let mut first = kept.share()?;
-    let mut second = kept.share()?;
-    let voted = step_on(&mut kept, &mut first, &ring, &bytes)??;
-    let silent = step_on(&mut kept, &mut second, &ring, &bytes)??;
-    let bytes_out = (bytes_out(&voted), bytes_out(&silent));
-    Ok(Brought {
-        kept,
-        first,
-        second,
-        bytes_out,
-    })
+    Ok(sending.frame)
 }
 
 #[test]
-fn two_shares_bring_the_same_proposal(rt: HostRuntime) -> Result<(), Fail> {
-    let brought = bring_twice(rt.alloc())?;
-    assert_eq!(rt; brought.bytes_out, (163, 0));
-    assert_eq!(rt; (brought.first.count(), brought.second.count()), (1, 1));
-    assert_eq!(rt; brought.kept.steps(), 2);
+fn four_shares_bring_one_proposal(rt: HostRuntime) -> Result<(), Fail> {
+    let mut leader = Leader::new(rt.alloc())?;
+    let proposal = leader.beat(0)?;
+    assert_eq!(rt; proposal.len(), 219);
+    let vote = only_frame(leader.receive(1, &proposal)?)?;
+    assert_eq!(rt; vote.len(), 163);
+    for share in [2, 3] {
+        assert!(rt; leader.receive(share, &proposal)?.sendings().is_empty());
+    }
+    for share in &leader.shares {
+        assert_eq!(rt; share.count(), 1);
+    }
+    assert_eq!(rt; leader.kept.steps(), 4);
     Ok(())
 }
 
 #[test]
 fn a_replica_is_given_back_for_all_its_shares(rt: HostRuntime) -> Result<(), Fail> {
-    let Brought {
+    let Leader {
         kept,
-        first,
-        second,
+        mut shares,
         ..
-    } = bring_twice(rt.alloc())?;
-    let mut shares = Vec::new(rt.alloc());
-    shares.push(first)?;
+    } = Leader::new(rt.alloc())?;
+    let last = shares.pop().ok_or("four shares")?;
     let Err(NotAll { kept, mut shares }) = kept.close(shares) else {
         return Err("a share is wanting".into());
     };
-    assert_eq!(rt; (kept.steps(), shares.len()), (2, 1));
-    shares.push(second)?;
+    shares.push(last)?;
     let Ok(Closed { replica }) = kept.close(shares) else {
-        return Err("both shares are there".into());
+        return Err("all shares are there".into());
     };
-    assert_eq!(rt; replica.steps(), 2);
+    assert_eq!(rt; replica.steps(), 0);
+    assert_eq!(rt; replica.config(), Config::new(1, 2)?);
     Ok(())
 }
 
 #[test]
-fn what_is_for_others_changes_nothing(rt: HostRuntime) -> Result<(), Fail> {
-    let (mut kept, _) = kept(rt.alloc())?;
-    assert_eq!(rt; kept.number(), ReplicaId(1));
-    assert_eq!(rt; kept.replica().number(), ReplicaId(1));
-    let ring = keyring(rt.alloc(), PartyId(2))?;
-    let bytes = first_proposal(rt.alloc())?;
-    let mut share = kept.share()?;
-    let refused = step_on(&mut kept, &mut share, &ring, bytes.as_slice())?;
-    assert!(rt; matches!(refused, Err(Fault::NotMine)));
-    assert!(rt; kept.step(&mut share, Input::Beat)?.sendings().is_empty());
-    assert_eq!(rt; (kept.steps(), share.count()), (1, 1));
+fn what_another_replica_checked_changes_nothing(rt: HostRuntime) -> Result<(), Fail> {
+    let mut leader = Leader::new(rt.alloc())?;
+    assert_eq!(rt; leader.kept.number(), ReplicaId(0));
+    assert_eq!(rt; leader.kept.replica().number(), ReplicaId(0));
+    let proposal = leader.beat(1)?;
+    let ring = keyring_of(rt.alloc(), Config::new(1, 2)?, PartyId(2))?;
+    let refused = bring_anothers(&mut leader, &ring, &proposal)?;
+    assert_eq!(rt; refused, Some(Fault::NotMine));
+    assert_eq!(rt; leader.kept.steps(), 1);
+    Ok(())
+}
+
+#[test]
+fn a_strange_share_changes_nothing(rt: HostRuntime) -> Result<(), Fail> {
+    let mut leader = Leader::new(rt.alloc())?;
+    let mut other = Leader::new(rt.alloc())?;
+    let mut fifth = other.kept.share()?;
+    let refused = leader.kept.step(&mut fifth, Input::Beat).err();
+    assert_eq!(rt; refused, Some(Fault::NotAll));
+    assert_eq!(rt; (leader.kept.steps(), fifth.count()), (0, 0));
     Ok(())
 }

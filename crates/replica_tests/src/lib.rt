@@ -1,18 +1,10 @@
-//! Tests of the crates that make up a replica, on frames that the parties of a simulated world sign.
+//! Tests of the crates that make up a replica.
 //!
 //! They stand together, above all that they use, so that each of these crates is proved once: a crate with tests is
-//! proved twice.
+//! proved twice. What can be told as data is a case of `check_cases` or `schedule_cases`.
 #![tactic(auto)]
 
 #[cfg(test)]
 mod chains;
 #[cfg(test)]
-mod checked_frames;
-#[cfg(test)]
 mod kept_replica;
-#[cfg(test)]
-mod one_replica;
-#[cfg(test)]
-mod signed;
-#[cfg(test)]
-mod taken_blocks;

@@ -6,8 +6,6 @@ mod report;
 mod schedule;
 mod sim_fault;
 mod simulation;
-#[cfg(test)]
-mod tests;
 mod world;
 
 pub use sim_fault::SimFault;

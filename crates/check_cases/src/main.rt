@@ -1,0 +1,111 @@
+//! Checks frames, collects votes and steps a replica, with the keys of a simulated world: each line of standard input is
+//! a case, or a whole row of them. What is wanted of each was computed by an independent program.
+//!
+//! A line begins with the sizes, the number of the replica that receives, and what is asked; bytes are hexadecimal. A line
+//! `hmac KEY TEXT` alone asks for HMAC-SHA-256 of a text: these are the test cases of RFC 4231.
+//!
+//! - `FAULTS CLIENTS RECEIVER check FRAME`: what the check of a frame says, as `answers` tells it.
+//! - `FAULTS CLIENTS RECEIVER changes MASK FRAME`: the same of the frame with each byte in turn changed by exclusive or
+//!   with the mask: how often each first word was said, and the first half of the SHA-256 digest of all that would be
+//!   printed, line by line.
+//! - `FAULTS CLIENTS RECEIVER votes FRAME ..`: votes, checked and collected one after the other, as `votes` tells it.
+//! - `FAULTS CLIENTS PARTY vector LABEL CONTENT`: the tags of any party for all replicas.
+//! - `FAULTS CLIENTS RECEIVER steps INPUT ..`: what a replica does with one input after the other, each a frame or
+//!   `beat`, as `steps` tells it.
+#![tactic(auto)]
+
+mod answers;
+mod row;
+mod steps;
+mod votes;
+
+use crate::answers::check;
+use crate::row::changes;
+use crate::steps::steps;
+use crate::votes::votes;
+use anyhow::{Result, bail};
+use authenticators::hmac;
+use ids::{Config, Kind, PartyId, ReplicaId};
+use simulated_keys::keyring_of;
+use std::alloc::Global;
+use std::io::{BufRead as _, BufReader, BufWriter, Write as _};
+
+/// The kind of frame whose number this is.
+fn kind_of(number: &str) -> Result<Kind> {
+    Ok(match number {
+        "1" => Kind::Request,
+        "2" => Kind::Proposal,
+        "3" => Kind::Vote,
+        "4" => Kind::NewView,
+        "5" => Kind::Reply,
+        "6" => Kind::Fetch,
+        "7" => Kind::Block,
+        _ => bail!("no such kind: {number}"),
+    })
+}
+
+/// A party's tags for all replicas.
+fn vector(alloc: Global, config: Config, party: PartyId, rest: &str) -> Result<String> {
+    let Some((label, digits)) = rest.split_once(' ') else {
+        bail!("no content");
+    };
+    let ring = keyring_of(alloc, config, party)?;
+    let mut tags = Vec::new(alloc);
+    ring.vector(kind_of(label)?, &hex::decode(alloc, digits)?, &mut tags)?;
+    Ok(hex::encode(alloc, &tags)?)
+}
+
+/// What is asked of a party.
+fn answer(alloc: Global, config: Config, party: u16, ask: &str, rest: &str) -> Result<String> {
+    if ask == "vector" {
+        return vector(alloc, config, PartyId(party), rest);
+    }
+    let receiver = u8::try_from(party)?;
+    if receiver >= config.n() {
+        bail!("no such replica: {receiver}");
+    }
+    let receiver = ReplicaId(receiver);
+    match ask {
+        "check" => check(alloc, config, receiver, &hex::decode(alloc, rest)?),
+        "changes" => changes(alloc, config, receiver, rest),
+        "votes" => votes(alloc, config, receiver, rest),
+        "steps" => steps(alloc, config, receiver, rest),
+        _ => bail!("no such case: {ask}"),
+    }
+}
+
+/// HMAC of a text under the key that stands before it.
+fn hmac_of(alloc: Global, fields: &str) -> Result<String> {
+    let Some((key, text)) = fields.split_once(' ') else {
+        bail!("no text");
+    };
+    let digest = hmac(&hex::decode(alloc, key)?, &hex::decode(alloc, text)?);
+    Ok(hex::encode(alloc, &digest)?)
+}
+
+/// The line for a line of the input.
+fn tell(alloc: Global, input: &str) -> Result<String> {
+    if let Some(fields) = input.strip_prefix("hmac ") {
+        return hmac_of(alloc, fields);
+    }
+    let mut fields = input.splitn(5, ' ');
+    let faults: u8 = fields.next().unwrap_or("").parse()?;
+    let clients: u8 = fields.next().unwrap_or("").parse()?;
+    let party: u16 = fields.next().unwrap_or("").parse()?;
+    let ask = fields.next().unwrap_or("");
+    let rest = fields.next().unwrap_or("");
+    match Config::new(faults, clients) {
+        Ok(config) => answer(alloc, config, party, ask, rest),
+        Err(fault) => Ok(format!(in alloc; "{}", fault.number())?),
+    }
+}
+
+fn main(rt: HostRuntime) -> Result<()> {
+    let alloc = rt.alloc();
+    let mut out = BufWriter::new(alloc, std::io::writer(&rt))?;
+    for line in BufReader::new(alloc, rt.reader())?.lines(alloc) {
+        writeln!(out, "{}", tell(alloc, line?.as_str())?)?;
+    }
+    out.flush()?;
+    Ok(())
+}

@@ -1,0 +1,21 @@
+//! The bytes of a line.
+
+use anyhow::Result;
+use std::alloc::Global;
+
+/// The bytes that a field spells: hexadecimal, or parts with `+` between them, of which a part `HH*COUNT` is one byte
+/// so many times.
+pub(crate) fn parse_bytes(alloc: Global, field: &str) -> Result<Vec<u8>> {
+    let mut bytes = Vec::new(alloc);
+    for part in field.split('+') {
+        match part.split_once('*') {
+            Some((digits, count)) => {
+                let byte = u8::from_str_radix(digits, 16)?;
+                let many = vec![in alloc; byte; count.parse::<usize>()?]?;
+                bytes.extend_from_slice(&many)?;
+            }
+            None => bytes.extend_from_slice(&hex::decode(alloc, part)?)?,
+        }
+    }
+    Ok(bytes)
+}

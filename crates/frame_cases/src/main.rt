@@ -1,0 +1,132 @@
+//! Reads frames and prints what they are: each line of standard input is a case, or a whole row of them. What is wanted
+//! of each was computed by an independent program.
+//!
+//! A line is `FAULTS CLIENTS whole BYTES`: the sizes, and bytes. Printed is the number of the refusal, where there are
+//! no such sizes or the bytes are no frame at them, and else what `show` says of the frame, and `again` where the same
+//! bytes are written of what was read, or `DIFFERENT`. Of `FAULTS CLIENTS cuts BYTES` each proper beginning of the
+//! bytes is such a case, and of `FAULTS CLIENTS changes BYTES MASK` the bytes with each byte in turn changed by
+//! exclusive or with the mask: printed are how many were refused, were frames and were written again, and the first
+//! half of the SHA-256 digest of what would be printed of all of them, line by line.
+//!
+//! Bytes are hexadecimal, or parts with `+` between them, of which a part `HH*COUNT` is one byte so many times.
+#![tactic(auto)]
+
+mod again;
+mod bytes;
+mod row;
+mod show;
+
+use crate::again::is_written_again;
+use crate::bytes::parse_bytes;
+use crate::row::Row;
+use crate::show::Line;
+use anyhow::{Result, bail};
+use frames_view::read;
+use ids::{Config, Fault};
+use std::alloc::Global;
+use std::io::{BufRead as _, BufReader, BufWriter, Write as _};
+
+/// What bytes are to a reader of frames, and to the writers.
+#[derive(Clone, Copy)]
+enum Outcome {
+    Refused,
+    Again,
+    Different,
+}
+
+/// Tells what the bytes are at these sizes.
+fn tell_bytes(config: &Config, bytes: &[u8], line: &mut Line) -> Result<Outcome> {
+    let frame = match read(config, bytes) {
+        Ok(frame) => frame,
+        Err(refusal) => {
+            let fault: Fault = refusal.into();
+            line.refusal(fault)?;
+            return Ok(Outcome::Refused);
+        }
+    };
+    line.frame(&frame)?;
+    if is_written_again(line.alloc(), &frame, bytes)? {
+        line.word(" again")?;
+        return Ok(Outcome::Again);
+    }
+    line.word(" DIFFERENT")?;
+    Ok(Outcome::Different)
+}
+
+/// A case of a row.
+fn add_case(alloc: Global, config: &Config, bytes: &[u8], row: &mut Row) -> Result<()> {
+    let mut line = Line::new(alloc);
+    let outcome = tell_bytes(config, bytes, &mut line)?;
+    row.add(outcome, &line.into_text());
+    Ok(())
+}
+
+/// Each proper beginning of the bytes.
+fn cuts(alloc: Global, config: &Config, bytes: &[u8]) -> Result<Row> {
+    let mut row = Row::new();
+    for len in 0..bytes.len() {
+        add_case(alloc, config, &bytes[..len], &mut row)?;
+    }
+    Ok(row)
+}
+
+/// The bytes with each byte in turn changed.
+fn changes(alloc: Global, config: &Config, bytes: &mut Vec<u8>, mask: u8) -> Result<Row> {
+    let mut row = Row::new();
+    for place in 0..bytes.len() {
+        if let Some(byte) = bytes.get_mut(place) {
+            *byte ^= mask;
+        }
+        add_case(alloc, config, bytes, &mut row)?;
+        if let Some(byte) = bytes.get_mut(place) {
+            *byte ^= mask;
+        }
+    }
+    Ok(row)
+}
+
+/// What is asked of a line's bytes.
+fn answer(alloc: Global, config: &Config, ask: &str, fields: [&str; 2]) -> Result<String> {
+    let [digits, mask] = fields;
+    let mut bytes = parse_bytes(alloc, digits)?;
+    match ask {
+        "whole" => {
+            let mut line = Line::new(alloc);
+            tell_bytes(config, &bytes, &mut line)?;
+            Ok(line.into_text())
+        }
+        "cuts" => cuts(alloc, config, &bytes)?.told(alloc),
+        "changes" => {
+            let mask = u8::from_str_radix(mask, 16)?;
+            changes(alloc, config, &mut bytes, mask)?.told(alloc)
+        }
+        _ => bail!("no such case: {ask}"),
+    }
+}
+
+/// The line for a line of the input.
+fn tell(alloc: Global, input: &str) -> Result<String> {
+    let mut fields = input.split(' ');
+    let faults: u8 = fields.next().unwrap_or("").parse()?;
+    let clients: u8 = fields.next().unwrap_or("").parse()?;
+    let ask = fields.next().unwrap_or("");
+    let rest = [fields.next().unwrap_or(""), fields.next().unwrap_or("")];
+    match Config::new(faults, clients) {
+        Ok(config) => answer(alloc, &config, ask, rest),
+        Err(fault) => {
+            let mut line = Line::new(alloc);
+            line.refusal(fault)?;
+            Ok(line.into_text())
+        }
+    }
+}
+
+fn main(rt: HostRuntime) -> Result<()> {
+    let alloc = rt.alloc();
+    let mut out = BufWriter::new(alloc, std::io::writer(&rt))?;
+    for line in BufReader::new(alloc, rt.reader())?.lines(alloc) {
+        writeln!(out, "{}", tell(alloc, line?.as_str())?)?;
+    }
+    out.flush()?;
+    Ok(())
+}
