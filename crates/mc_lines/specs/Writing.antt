@@ -29,8 +29,10 @@ abbrev pub IsLength : Result ℕ Fault → ℕ → Type 0
 IsLength r len = MatchResult r (λ n. n ≡ len) (λ e. (e ≡ Memory) × (2 ^ 64 ≤ len))
 
 -- The text was appended, or memory was wanting: then nothing was appended, and the spare room was too small for it.
+-- The room never shrinks.
 pub record IsAppended {T : Type 0} (old new : Vec ℕ Global) (text : Bytes) (result : Result T Fault) : Type 0 where
   pub appended : OnOk result (new.items ≡ old.items ++ text)
   pub unchanged : OnErr result (new.items ≡ old.items)
   pub memory : OnErr result (result ≡ Err Memory)
   pub grown : OnErr result (vec_capacity old < vec_len old + length text)
+  pub room : vec_capacity old ≤ vec_capacity new
