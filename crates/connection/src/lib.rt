@@ -1,0 +1,11 @@
+//! Serves one connection: what it brings is handed to a service, request by request, and the answers are written.
+#![tactic(auto)]
+
+mod counted;
+mod end;
+mod payload;
+mod service;
+
+pub use counted::Counted;
+pub use end::End;
+pub use service::Service;
