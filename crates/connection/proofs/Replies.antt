@@ -1,0 +1,47 @@
+-- What an item is answered.
+use Rattle.std.proofs.Common.{◌≡◌, Bool, true, false, [], Option, Some, None, refl, sym, ap, subst}
+use Rattle.std.specs.Prelude.{codes}
+use Rattle.ids.specs.declared.line_fault.LineFault.{LineFault}
+use Rattle.definitions.specs.Bytes.{Bytes}
+use Rattle.definitions.specs.Requests.{Asked, canonical, IsRequest}
+use Rattle.definitions.specs.Items.{Item, asked, quit, bad}
+use Rattle.definitions.specs.Replies.{ended}
+use Rattle.definitions.specs.ServerText.{answered, finished, told, exchange_text}
+use Rattle.connection.specs.declared.end.End.{End}
+use Rattle.connection.specs.declared.end.End.TheVariants.{Quit, NoReply}
+use Rattle.connection.specs.Serving.{Replies, end_of}
+
+module _ {S : Type 0} (answers : S → Bytes → Option Bytes → S → Type 0) (old new : S) (r : Asked) (n : Bool) (payload : Bytes) (same : payload ≡ canonical r) where
+  -- the service refused
+  pub replies_refused : answers old payload None new → Replies answers old new (asked r n) (ended (codes "SERVER_ERROR no reply")) (Some NoReply)
+  replies_refused h = record { exchange = answered r n None; is = refl; call = subst (λ (p : Bytes). answers old p None new) same h; says = refl; ends = refl }
+
+  -- it answered, with noreply
+  pub replies_silent : (text said : Bytes) → answers old payload (Some text) new → n ≡ true → said ≡ [] → Replies answers old new (asked r n) said None
+  replies_silent text said h quiet none = record {
+    exchange = answered r true (Some text);
+    is = ap (λ (b : Bool). asked r b) (sym quiet);
+    call = subst (λ (p : Bytes). answers old p (Some text) new) same h;
+    says = none;
+    ends = refl;
+  }
+
+  -- without
+  pub replies_aloud : (text said : Bytes) → answers old payload (Some text) new → n ≡ false → said ≡ text → Replies answers old new (asked r n) said None
+  replies_aloud text said h loud all = record {
+    exchange = answered r false (Some text);
+    is = ap (λ (b : Bool). asked r b) (sym loud);
+    call = subst (λ (p : Bytes). answers old p (Some text) new) same h;
+    says = all;
+    ends = refl;
+  }
+
+-- no service is called
+module _ {S : Type 0} (answers : S → Bytes → Option Bytes → S → Type 0) (s : S) where
+  -- for the end
+  pub replies_quit : Replies answers s s quit [] (Some Quit)
+  replies_quit = record { exchange = finished; is = refl; call = refl; says = refl; ends = refl }
+
+  -- and for a line's fault
+  pub replies_fault : (fault : LineFault) (text : Bytes) (end : Option End) → text ≡ exchange_text (told fault) → end ≡ end_of (told fault) → Replies answers s s (bad fault) text end
+  replies_fault fault text end says ends = record { exchange = told fault; is = refl; call = refl; says = says; ends = ends }
