@@ -1,5 +1,5 @@
 -- Items that were served, and then more.
-use Rattle.std.proofs.Common.{◌≡◌, ℕ, ◌+◌, ◌-◌, ◌<◌, ◌≤◌, Bool, true, false, List, [], ◌∷◌, ◌++◌, length, drop, Option, Some, None, refl, sym, ap, subst, ◌∙◌, arith, append-nil, length-drop}
+use Rattle.std.proofs.Common.{◌≡◌, ℕ, ◌<◌, Bool, true, false, List, [], ◌∷◌, ◌++◌, length, drop, Option, Some, None, refl, sym, ap, subst, ◌∙◌, arith, append-nil, length-drop}
 use Rattle.std.proofs.KnownBytes.{Appends-nil, Appends-trans}
 use Rattle.std.proofs.lemmas.List.{drop-append-le}
 use Rattle.std.proofs.lemmas.Grind.{flat_map-append}
@@ -8,7 +8,7 @@ use Rattle.std.specs.Io.KnownBytes.{Appends}
 use Rattle.ids.specs.declared.line_fault.LineFault.TheVariants.{UnknownName, BadFields, TooLarge, BadChunk, LineTooLong}
 use Rattle.definitions.specs.Bytes.{Bytes}
 use Rattle.definitions.specs.Items.{Item, goes_on, IsItemAt, IsUnfinished}
-use Rattle.definitions.specs.ServerText.{Exchange, answered, finished, told, item_in, exchange_text, server_text, is_followed, AreExchanges}
+use Rattle.definitions.specs.ServerText.{Exchange, answered, finished, told, item_in, exchange_text, is_followed, AreExchanges}
 use Rattle.definitions.proofs.ItemLaws.{IsItemAt-append}
 use Rattle.line_feed.specs.Feeding.{Gives}
 use Rattle.line_feed.proofs.Streams.{takes_some}
@@ -52,7 +52,7 @@ ends_last (told BadChunk) end e = refl
 ends_last (told LineTooLong) end e = refl
 
 -- and isn't the end of the input
-never_input : (x : Exchange) → Some Input ≡ end_of x → ⊥
+pub never_input : (x : Exchange) → Some Input ≡ end_of x → ⊥
 never_input (answered r n (Some t)) e = cc
 never_input (answered r n None) e = cc
 never_input finished e = cc
@@ -165,13 +165,13 @@ module _ {S : Type 0} (answers : S → Bytes → Option Bytes → S → Type 0) 
     -- ---- texts that were served whole
 
     -- up to what is unfinished
-    text_open : (text left : Bytes) → ServesFront answers a b text left → IsUnfinished left → ServesText answers a b text None
+    pub text_open : (text left : Bytes) → ServesFront answers a b text left → IsUnfinished left → ServesText answers a b text None
     text_open text left h open_yet =
         let all = are_all h.exchanges a.service b.service text left h.serving open_yet in
         record { exchanges = h.exchanges; are = all.0; calls = serving_calls h.exchanges a.service b.service text left h.serving; wrote = h.wrote; ended = all.1; unfailed = h.unfailed }
 
     -- up to the item that ends the connection
-    text_ended : (m : State S) (text rest : Bytes) (end : End) → ServesFront answers a m text rest → ServesLast answers m b rest end → ServesText answers a b text (Some end)
+    pub text_ended : (m : State S) (text rest : Bytes) (end : End) → ServesFront answers a m text rest → ServesLast answers m b rest end → ServesText answers a b text (Some end)
     text_ended m text rest end g h =
         let x = h.replies.exchange in
         record {

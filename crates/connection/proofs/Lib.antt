@@ -1,3 +1,4 @@
+pub mod Answering
 pub mod Devices
-pub mod Replies
 pub mod Fronts
+pub mod Outcomes

@@ -11,8 +11,8 @@ use Rattle.definitions.specs.ServerText.{Exchange, answered, finished, told, ite
 use Rattle.connection.specs.Devices.{Device, HasRisen, WritesPart}
 use Rattle.connection.specs.declared.end.End.{End}
 use Rattle.connection.specs.declared.end.End.TheVariants.{Quit, Input, Closed, NoReply}
-use Rattle.connection.specs.declared.item.Next.{Next}
-use Rattle.connection.specs.declared.item.Next.TheVariants.{Unfinished, Served, Ended}
+use Rattle.connection.specs.declared.replies.Next.{Next}
+use Rattle.connection.specs.declared.replies.Next.TheVariants.{Unfinished, Served, Ended}
 
 -- ---- exchanges with a service
 

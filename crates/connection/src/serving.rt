@@ -6,7 +6,7 @@ ghost use Rattle.connection.specs.Serving.{IsHeld, IsRound, IsPulled, IsServed, 
 
 use crate::counted::Counted;
 use crate::end::End;
-use crate::item::{Next, Room, serve_next};
+use crate::replies::{Next, Room, serve_next};
 use crate::service::Service;
 use ids::Fault;
 use line_feed::Feed;

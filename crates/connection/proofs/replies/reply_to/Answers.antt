@@ -1,5 +1,5 @@
-use Rattle.connection.proofs.Replies.{replies_fault}
-use Rattle.connection.proofs.item.reply_to.Goals as goal
+use Rattle.connection.proofs.Answering.{replies_fault}
+use Rattle.connection.proofs.replies.reply_to.Goals as goal
 
 pub returns-in-Bad : goal.returns-in-Bad
 returns-in-Bad g c =

@@ -3,8 +3,8 @@ use Rattle.std.proofs.Common.{◌≡◌, Bool, true, false, [], Option, Some, No
 use Rattle.std.specs.Prelude.{codes}
 use Rattle.ids.specs.declared.line_fault.LineFault.{LineFault}
 use Rattle.definitions.specs.Bytes.{Bytes}
-use Rattle.definitions.specs.Requests.{Asked, canonical, IsRequest}
-use Rattle.definitions.specs.Items.{Item, asked, quit, bad}
+use Rattle.definitions.specs.Requests.{Asked, canonical}
+use Rattle.definitions.specs.Items.{asked, quit, bad}
 use Rattle.definitions.specs.Replies.{ended}
 use Rattle.definitions.specs.ServerText.{answered, finished, told, exchange_text}
 use Rattle.connection.specs.declared.end.End.{End}

@@ -1,8 +1,7 @@
-use Rattle.std.proofs.Common.{rules}
 use Rattle.line_feed.specs.Feeding.{item_of}
 use Rattle.connection.specs.Serving.{state}
 use Rattle.connection.proofs.Fronts.{front_one}
-use Rattle.connection.proofs.item.serve_next.Goals as goal
+use Rattle.connection.proofs.replies.serve_next.Goals as goal
 
 pub returns-in-None-end : goal.returns-in-None-end
 returns-in-None-end g c =

@@ -1,6 +1,6 @@
 use Rattle.std.proofs.Common.{length}
 use Rattle.connection.specs.Serving.{ServesFront, state}
-use Rattle.connection.proofs.connection.serve_held.Given as goal
+use Rattle.connection.proofs.serving.serve_held.Given as goal
 
 abbrev pub invariant-loop-end : goal.invariant-loop-end
 invariant-loop-end g l =

@@ -1,9 +1,9 @@
 use Rattle.std.proofs.Common.{◌≡◌, ap, ◌∙◌, Bor, List, ℕ}
 use Rattle.definitions.specs.Requests.{canonical}
 use Rattle.mc_lines.specs.Meaning.{asked_of}
-use Rattle.connection.proofs.Replies.{replies_refused, replies_silent, replies_aloud}
-use Rattle.connection.proofs.item.reply_to_request.Goals as goal
-use Rattle.connection.proofs.item.reply_to_request.Goals.{then-noreply, else-noreply}
+use Rattle.connection.proofs.Answering.{replies_refused, replies_silent, replies_aloud}
+use Rattle.connection.proofs.replies.reply_to_request.Goals as goal
+use Rattle.connection.proofs.replies.reply_to_request.Goals.{then-noreply, else-noreply}
 
 pub returns-after-noreply : goal.returns-after-noreply
 returns-after-noreply g c =
