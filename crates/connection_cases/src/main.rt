@@ -8,16 +8,19 @@
 //!   that fails, whether each read is interrupted once before it gives, how much each write takes, the write that
 //!   fails, and the call that the service refuses, where 0 is none. Printed are the end or the refusal, what was
 //!   written, the payloads of the calls, and how often reader and writer failed.
+//! - `waits` and a text of requests, each of which is sent only when the answers to all before it were seen.
 //!
 //! The service answers `STORED`. What is wanted of each case was computed by an independent program.
 #![tactic(auto)]
 
 mod devices;
 mod feeding;
+mod patience;
 mod serving;
 
 use anyhow::Result;
 use feeding::{cut_in_two, in_pieces};
+use patience::holds_texts_back;
 use serving::{Plan, served};
 use std::alloc::Global;
 
@@ -33,6 +36,9 @@ fn case(alloc: Global, line: &str) -> Result<String> {
     let text = hex::decode(alloc, text)?;
     if how == "cuts" {
         return Ok(cut_in_two(alloc, &text)?);
+    }
+    if how == "waits" {
+        return Ok(holds_texts_back(alloc, &text)?);
     }
     let plan = Plan::parse(how)?;
     Ok(served(alloc, &plan, &text)?)
