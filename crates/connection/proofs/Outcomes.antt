@@ -7,7 +7,7 @@ use Rattle.ids.specs.declared.fault.Fault.{Fault}
 use Rattle.ids.specs.declared.fault.Fault.TheVariants as faults
 use Rattle.definitions.specs.Bytes.{Bytes}
 use Rattle.definitions.proofs.ItemLaws.{IsItemAt-append}
-use Rattle.connection.specs.Devices.{HasRisen}
+use Rattle.connection.specs.Devices.{CountsOne}
 use Rattle.connection.specs.declared.end.End.{End}
 use Rattle.connection.specs.declared.end.End.TheVariants.{Input}
 use Rattle.connection.specs.Serving.{end_of, ending, State, ServesFront, ServesLast, ServesText, ServesHeld, IsNext, IsHeld, IsRound, IsServed}
@@ -71,7 +71,7 @@ module _ {S : Type 0} (answers : S → Bytes → Option Bytes → S → Type 0) 
             (text_ended answers a b h.0 (read ++ more) (h.1 ++ more) end front (last_more more)))
 
     -- the reader failed
-    pub ends_by_reader : HasRisen reads reads_now → ServesHeld answers m b held left None → IsServed answers a b source rest reads reads_now (Err faults.ReadFailed)
+    pub ends_by_reader : CountsOne reads reads_now → ServesHeld answers m b held left None → IsServed answers a b source rest reads reads_now (Err faults.ReadFailed)
     ends_by_reader risen h = (read, taken, text_held answers a b read left None (held_then answers a m b read held left None before h), risen)
 
     -- the end of the input

@@ -1,5 +1,5 @@
 -- Readers and writers that fail, and their counts.
-use Rattle.std.specs.Prelude.{◌≡◌, ℕ, ◌-◌, ◌^◌, ◌<◌, ◌≤◌, ◌⊎◌, ◌++◌, length, Option}
+use Rattle.std.specs.Prelude.{◌≡◌, ℕ, ◌+◌, ◌-◌, ◌^◌, ◌≤◌, ◌++◌, min, length, Option}
 use Rattle.std.specs.Io.KnownBytes.{Appends}
 use Rattle.definitions.specs.Bytes.{Bytes}
 
@@ -8,9 +8,9 @@ pub record Device (D : Type 0) : Type 0 where
   pub device : D
   pub failures : ℕ
 
--- the count rose, or stands where it stays
-abbrev pub HasRisen : ℕ → ℕ → Type 0
-HasRisen old new = (old < new) ⊎ (new ≡ 2 ^ 64 - 1)
+-- one failure was counted; at 2^64 - 1 the count stays
+abbrev pub CountsOne : ℕ → ℕ → Type 0
+CountsOne old new = new ≡ min (old + 1) (2 ^ 64 - 1)
 
 -- a beginning of the bytes was written, and not all
 pub record WritesPart (old new : Option Bytes) (bytes : Bytes) : Type 0 where

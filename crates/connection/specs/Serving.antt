@@ -8,7 +8,7 @@ use Rattle.definitions.specs.Bytes.{Bytes}
 use Rattle.definitions.specs.Requests.{canonical, IsRequest}
 use Rattle.definitions.specs.Items.{Item, asked, quit, bad, IsItemAt, IsUnfinished}
 use Rattle.definitions.specs.ServerText.{Exchange, answered, finished, told, item_in, exchange_text, server_text, is_followed, AreExchanges}
-use Rattle.connection.specs.Devices.{Device, HasRisen, WritesPart}
+use Rattle.connection.specs.Devices.{Device, CountsOne, WritesPart}
 use Rattle.connection.specs.declared.end.End.{End}
 use Rattle.connection.specs.declared.end.End.TheVariants.{Quit, Input, Closed, NoReply}
 use Rattle.connection.specs.declared.replies.Next.{Next}
@@ -102,7 +102,7 @@ module _ {S : Type 0} (answers : S → Bytes → Option Bytes → S → Type 0) 
       pub end : Option End
       pub replies : Replies old.service new.service item reply end
       pub wrote : WritesPart old.written new.written reply
-      pub failed : HasRisen old.failures new.failures
+      pub failed : CountsOne old.failures new.failures
 
     -- A text was served, up to the item that ends the connection, or to what is unfinished: by these exchanges, one
     -- for each item. All was written.
@@ -118,7 +118,7 @@ module _ {S : Type 0} (answers : S → Bytes → Option Bytes → S → Type 0) 
     pub record FailsFlush : Type 0 where
       pub same : new.service ≡ old.service
       pub kept : Keeps old.written new.written
-      pub failed : HasRisen old.failures new.failures
+      pub failed : CountsOne old.failures new.failures
 
 -- ---- what the functions answer
 
@@ -170,7 +170,7 @@ module _ {S : Type 0} (answers : S → Bytes → Option Bytes → S → Type 0) 
   -- 2^64 - 1 reads each gave something, and the front of that was served.
   abbrev pub IsServed : (source rest : Option Bytes) (reads reads_now : ℕ) → Result End Fault → Type 0
   IsServed source rest reads reads_now (Ok end) = IfSome source (λ input. ServesText answers old new input (ending end)) × (end ≡ Input → IsAtEnd rest) × (reads_now ≡ reads)
-  IsServed source rest reads reads_now (Err faults.ReadFailed) = (read : Bytes) × Consumes source rest read × ServesText answers old new read None × HasRisen reads reads_now
+  IsServed source rest reads reads_now (Err faults.ReadFailed) = (read : Bytes) × Consumes source rest read × ServesText answers old new read None × CountsOne reads reads_now
   IsServed source rest reads reads_now (Err faults.WriteFailed) = (read : Bytes) × Consumes source rest read × CutsText read × (reads_now ≡ reads)
   IsServed source rest reads reads_now (Err faults.Memory) = (((new ≡ old) × (rest ≡ source))
       ⊎ ((read : Bytes) × (left : Bytes) × Consumes source rest read × (2 ^ 64 - 1 ≤ length read) × ServesFront answers old new read left)) × (reads_now ≡ reads)

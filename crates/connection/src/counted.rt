@@ -2,7 +2,7 @@ ghost use Rattle.std.specs.Prelude.{◌≡◌, ◌+◌, ◌≤◌, ◌<◌, OnOk
 ghost use Rattle.std.specs.Io.{ReadsAtMost, WritesAtMost};
 ghost use Rattle.std.specs.Io.KnownBytes.{ReadConsumes, WriteAppends, Appends, Keeps};
 ghost use Rattle.ids.specs.declared.fault.Fault.TheVariants.{ReadFailed, WriteFailed};
-ghost use Rattle.connection.specs.Devices.{HasRisen, WritesPart};
+ghost use Rattle.connection.specs.Devices.{CountsOne, WritesPart};
 
 use ids::Fault;
 use std::io::{ErrorKind, Read, Write};
@@ -54,7 +54,7 @@ impl<D> Counted<D> {
     /// Counts a failure.
     fn fail(&mut self)
         ensures device { self.new.device ≡ self.old.device }
-        ensures failures { HasRisen self.old.failures self.new.failures }
+        ensures failures { CountsOne self.old.failures self.new.failures }
     {
         self.failures = self.failures.saturating_add(1);
     }
@@ -66,7 +66,7 @@ impl<R: Read> Counted<R> {
         ensures bound { ReadsAtMost result piece.new }
         ensures bytes { ReadConsumes (R.remaining self.old.device) (R.remaining self.new.device) result piece.new }
         ensures kept { OnOk result (self.new.failures ≡ self.old.failures) }
-        ensures failed { OnErr result ((result ≡ Err ReadFailed) × HasRisen self.old.failures self.new.failures) }
+        ensures failed { OnErr result ((result ≡ Err ReadFailed) × CountsOne self.old.failures self.new.failures) }
     {
         for _ in 0..u64::MAX {
             match self.device.read(piece) {
@@ -90,7 +90,7 @@ impl<W: Write> Counted<W> {
         ensures bound { IfOk result (λ n. (1 ≤ n) × (n ≤ length bytes.now)) }
         ensures bytes { WriteAppends (W.contents self.old.device) (W.contents self.new.device) result bytes.now }
         ensures kept { OnOk result (self.new.failures ≡ self.old.failures) }
-        ensures failed { OnErr result ((result ≡ Err WriteFailed) × HasRisen self.old.failures self.new.failures) }
+        ensures failed { OnErr result ((result ≡ Err WriteFailed) × CountsOne self.old.failures self.new.failures) }
     {
         for _ in 0..u64::MAX {
             match self.device.write(bytes) {
@@ -112,7 +112,7 @@ impl<W: Write> Counted<W> {
         ensures written { OnOk result (Appends (W.contents self.old.device) (W.contents self.new.device) bytes.now) }
         ensures part { OnErr result (WritesPart (W.contents self.old.device) (W.contents self.new.device) bytes.now) }
         ensures kept { OnOk result (self.new.failures ≡ self.old.failures) }
-        ensures failed { OnErr result ((result ≡ Err WriteFailed) × HasRisen self.old.failures self.new.failures) }
+        ensures failed { OnErr result ((result ≡ Err WriteFailed) × CountsOne self.old.failures self.new.failures) }
     {
         let mut at = 0;
         while at < bytes.len() {
@@ -125,7 +125,7 @@ impl<W: Write> Counted<W> {
     pub(crate) fn flush(&mut self) -> Result<(), Fault>
         ensures bytes { Keeps (W.contents self.old.device) (W.contents self.new.device) }
         ensures kept { OnOk result (self.new.failures ≡ self.old.failures) }
-        ensures failed { OnErr result ((result ≡ Err WriteFailed) × HasRisen self.old.failures self.new.failures) }
+        ensures failed { OnErr result ((result ≡ Err WriteFailed) × CountsOne self.old.failures self.new.failures) }
     {
         match self.device.flush() {
             Ok(()) => Ok(()),

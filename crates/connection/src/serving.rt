@@ -1,7 +1,7 @@
 ghost use Rattle.std.specs.Prelude.{◌≡◌, ◌≤◌, [], IfOk, OnOk, OnErr, Err, length};
 ghost use Rattle.std.specs.Io.KnownBytes.{Consumes};
 ghost use Rattle.ids.specs.declared.fault.Fault.TheVariants.{ReadFailed};
-ghost use Rattle.connection.specs.Devices.{HasRisen};
+ghost use Rattle.connection.specs.Devices.{CountsOne};
 ghost use Rattle.connection.specs.Serving.{IsHeld, IsRound, IsPulled, IsServed, state};
 
 use crate::counted::Counted;
@@ -53,7 +53,7 @@ fn pull<R: Read>(reader: &mut Counted<R>, feed: &mut Feed) -> Result<bool, Fault
     requires { length feed.old ≤ 8193 }
     ensures read { IfOk result (IsPulled (R.remaining reader.old.device) (R.remaining reader.new.device) feed.old feed.new) }
     ensures kept { OnOk result (reader.new.failures ≡ reader.old.failures) }
-    ensures failed { OnErr result ((result ≡ Err ReadFailed) × HasRisen reader.old.failures reader.new.failures) }
+    ensures failed { OnErr result ((result ≡ Err ReadFailed) × CountsOne reader.old.failures reader.new.failures) }
     ensures nothing { OnErr result (Consumes (R.remaining reader.old.device) (R.remaining reader.new.device) []) }
 {
     let mut piece = [0; PIECE];
