@@ -52,10 +52,20 @@ module _ {S : Type 0} (answers : S → Bytes → Option Bytes → S → Type 0) 
 
     -- an item ended the connection
     pub ends_by_item : reads_now ≡ reads → (end : End) → ServesHeld answers m b held left (Some end) → IsServed answers a b source rest reads reads_now (Ok end)
-    ends_by_item same end h = (whole source rest taken, λ e. absurd (never_input last.replies.exchange (subst (λ (n : End). Some n ≡ end_of last.replies.exchange) e last.replies.ends)), same)
+    ends_by_item same end h = (
+      read,
+      taken,
+      subst (ServesText answers a b read) (sym so) (text_held answers a b read left (Some end) (held_then answers a m b read held left (Some end) before h)),
+      whole source rest taken,
+      λ e. absurd (never_input last.replies.exchange (subst (λ (n : End). Some n ≡ end_of last.replies.exchange) e last.replies.ends)),
+      same,
+    )
       where
         last : ServesLast answers h.0 b h.1 end
         last = h.3
+
+        so : ending end ≡ Some end
+        so = ends_so last.replies.exchange end last.replies.ends
 
         last_more : (more : Bytes) → ServesLast answers h.0 b (h.1 ++ more) end
         last_more more = record { item = last.item; used = last.used; at = IsItemAt-append h.1 more last.item last.used last.at; reply = last.reply; replies = last.replies; wrote = last.wrote; unfailed = last.unfailed }
@@ -67,7 +77,7 @@ module _ {S : Type 0} (answers : S → Bytes → Option Bytes → S → Type 0) 
         whole (Some input) (Some more) c =
             let front = front_more answers a h.0 read h.1 more (front_then answers a h.0 m read held h.1 before h.2) in
             subst (λ (t : Bytes). ServesText answers a b t (ending end)) (sym c)
-            (subst (ServesText answers a b (read ++ more)) (sym (ends_so last.replies.exchange end last.replies.ends))
+            (subst (ServesText answers a b (read ++ more)) (sym so)
             (text_ended answers a b h.0 (read ++ more) (h.1 ++ more) end front (last_more more)))
 
     -- the reader failed
@@ -77,7 +87,8 @@ module _ {S : Type 0} (answers : S → Bytes → Option Bytes → S → Type 0) 
     -- the end of the input
     pub ends_by_input : reads_now ≡ reads → IsAtEnd rest → ServesHeld answers m b held left None → IsServed answers a b source rest reads reads_now (Ok Input)
     ends_by_input same at_end h =
-        (Consumes-whole source rest read (λ input. ServesText answers a b input None) taken at_end (text_held answers a b read left None (held_then answers a m b read held left None before h)), λ e. at_end, same)
+        let served = text_held answers a b read left None (held_then answers a m b read held left None before h) in
+        (read, taken, served, Consumes-whole source rest read (λ input. ServesText answers a b input None) taken at_end served, λ e. at_end, same)
 
 -- where then nothing was read
 pub Consumes-and_none : (a b c : Option Bytes) (x : Bytes) → Consumes a b x → Consumes b c [] → Consumes a c x

@@ -165,11 +165,12 @@ module _ {S : Type 0} (answers : S → Bytes → Option Bytes → S → Type 0) 
   CutsText text = CutsHeld answers old new text ⊎ ((mid : State S) × (end : Option End) × ServesText answers old mid text end × FailsFlush answers mid new)
 
   -- What serving a connection comes to. The reader had the bytes `source` and now has `rest`; `reads` and `reads_now`
-  -- are its counts of failures. Where an item or a read told the end, the whole input was served, in whatever pieces
-  -- it came. Where the reader failed, all that was read was. Where memory was wanting nothing was done; or else
-  -- 2^64 - 1 reads each gave something, and the front of that was served.
+  -- are its counts of failures. Where an item or a read told the end, all that was read was served, and so was the whole
+  -- input, in whatever pieces it came. Where the reader failed, all that was read was. Where memory was wanting
+  -- nothing was done; or else 2^64 - 1 reads each gave something, and the front of that was served.
   abbrev pub IsServed : (source rest : Option Bytes) (reads reads_now : ℕ) → Result End Fault → Type 0
-  IsServed source rest reads reads_now (Ok end) = IfSome source (λ input. ServesText answers old new input (ending end)) × (end ≡ Input → IsAtEnd rest) × (reads_now ≡ reads)
+  IsServed source rest reads reads_now (Ok end) = (read : Bytes) × Consumes source rest read × ServesText answers old new read (ending end)
+      × IfSome source (λ input. ServesText answers old new input (ending end)) × (end ≡ Input → IsAtEnd rest) × (reads_now ≡ reads)
   IsServed source rest reads reads_now (Err faults.ReadFailed) = (read : Bytes) × Consumes source rest read × ServesText answers old new read None × CountsOne reads reads_now
   IsServed source rest reads reads_now (Err faults.WriteFailed) = (read : Bytes) × Consumes source rest read × CutsText read × (reads_now ≡ reads)
   IsServed source rest reads reads_now (Err faults.Memory) = (((new ≡ old) × (rest ≡ source))

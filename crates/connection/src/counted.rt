@@ -10,7 +10,7 @@ use std::marker::Model;
 
 /// A reader or a writer, and how often it failed.
 ///
-/// A call that was interrupted is no failure: it is made again. A write that takes none of some bytes is one, and so
+/// A read or a write that was interrupted is no failure: it is made again. A write that takes none of some bytes is one, and so
 /// are 2^64 - 1 interruptions in one call.
 #[derive(Drop)]
 pub struct Counted<D> {
