@@ -1,12 +1,12 @@
 -- How a connection is served: by which exchanges, by which calls of the service, and with what written.
-use Rattle.std.specs.Prelude.{length, ◌≡◌, ℕ, ◌-◌, ◌^◌, ◌<◌, ◌≤◌, Bool, true, false, ◌⊎◌, List, [], ◌∷◌, ◌++◌, drop, Option, Some, None, IfSome, Result, Ok, Err}
+use Rattle.std.specs.Prelude.{length, map, ◌≡◌, ◌≢◌, ℕ, ◌-◌, ◌^◌, ◌<◌, ◌≤◌, Bool, true, false, ◌⊎◌, List, [], ◌∷◌, ◌++◌, drop, Option, Some, None, IfSome, Result, Ok, Err}
 use Rattle.std.specs.Io.KnownBytes.{Appends, Consumes, Keeps, IsAtEnd}
 use Rattle.ids.specs.declared.fault.Fault.{Fault}
 use Rattle.ids.specs.declared.fault.Fault.TheVariants as faults
 use Rattle.ids.specs.declared.line_fault.LineFault.TheVariants.{UnknownName}
 use Rattle.definitions.specs.Bytes.{Bytes}
 use Rattle.definitions.specs.Requests.{canonical, IsRequest}
-use Rattle.definitions.specs.Items.{Item, asked, quit, bad, IsItemAt, IsUnfinished}
+use Rattle.definitions.specs.Items.{Item, asked, quit, bad, IsItemAt, IsUnfinished, AreItems}
 use Rattle.definitions.specs.ServerText.{Exchange, answered, finished, told, item_in, exchange_text, server_text, is_followed, AreExchanges}
 use Rattle.connection.specs.Devices.{Device, CountsOne, WritesPart}
 use Rattle.connection.specs.declared.end.End.{End}
@@ -47,6 +47,11 @@ ending Input = None
 ending Quit = Some Quit
 ending Closed = Some Closed
 ending NoReply = Some NoReply
+
+-- the exchanges of a text are of its first items, and nothing stands behind them unless the service refused
+abbrev pub ServesFirstItems : Type 0
+ServesFirstItems = (text : Bytes) (exchanges : List Exchange) (items : List Item) → AreExchanges text exchanges → AreItems text items
+    → (behind : List Item) × (items ≡ map item_in exchanges ++ behind) × ((ended_by exchanges ≢ Some NoReply) → behind ≡ [])
 
 -- ---- what serving changes
 

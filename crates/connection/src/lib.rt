@@ -6,6 +6,7 @@
 
 mod counted;
 mod end;
+mod laws;
 mod payload;
 mod replies;
 mod service;
@@ -13,5 +14,6 @@ mod serving;
 
 pub use counted::Counted;
 pub use end::End;
+pub use laws::exchanges_serve_the_first_items;
 pub use service::Service;
 pub use serving::serve;
