@@ -1,5 +1,5 @@
 -- What an item is answered.
-use Rattle.std.proofs.Common.{◌≡◌, Bool, true, false, [], Option, Some, None, refl, sym, ap, subst}
+use Rattle.std.proofs.Common.{◌≡◌, Bool, [], Option, Some, None, refl, sym, ap, subst}
 use Rattle.std.specs.Prelude.{codes}
 use Rattle.ids.specs.declared.line_fault.LineFault.{LineFault}
 use Rattle.definitions.specs.Bytes.{Bytes}
@@ -16,23 +16,13 @@ module _ {S : Type 0} (answers : S → Bytes → Option Bytes → S → Type 0) 
   pub replies_refused : answers old payload None new → Replies answers old new (asked r n) (ended (codes "SERVER_ERROR no reply")) (Some NoReply)
   replies_refused h = record { exchange = answered r n None; is = refl; call = subst (λ (p : Bytes). answers old p None new) same h; says = refl; ends = refl }
 
-  -- it answered, with noreply
-  pub replies_silent : (text said : Bytes) → answers old payload (Some text) new → n ≡ true → said ≡ [] → Replies answers old new (asked r n) said None
-  replies_silent text said h quiet none = record {
-    exchange = answered r true (Some text);
-    is = ap (λ (b : Bool). asked r b) (sym quiet);
+  -- it answered
+  pub replies_answered : (quiet : Bool) (text said : Bytes) → answers old payload (Some text) new → n ≡ quiet → said ≡ exchange_text (answered r quiet (Some text)) → Replies answers old new (asked r n) said None
+  replies_answered quiet text said h is says = record {
+    exchange = answered r quiet (Some text);
+    is = ap (λ (b : Bool). asked r b) (sym is);
     call = subst (λ (p : Bytes). answers old p (Some text) new) same h;
-    says = none;
-    ends = refl;
-  }
-
-  -- without
-  pub replies_aloud : (text said : Bytes) → answers old payload (Some text) new → n ≡ false → said ≡ text → Replies answers old new (asked r n) said None
-  replies_aloud text said h loud all = record {
-    exchange = answered r false (Some text);
-    is = ap (λ (b : Bool). asked r b) (sym loud);
-    call = subst (λ (p : Bytes). answers old p (Some text) new) same h;
-    says = all;
+    says = says;
     ends = refl;
   }
 

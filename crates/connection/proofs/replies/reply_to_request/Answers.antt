@@ -1,7 +1,7 @@
-use Rattle.std.proofs.Common.{◌≡◌, ap, ◌∙◌, Bor, List, ℕ}
+use Rattle.std.proofs.Common.{true, false, ◌≡◌, ap, ◌∙◌, Bor, List, ℕ}
 use Rattle.definitions.specs.Requests.{canonical}
 use Rattle.mc_lines.specs.Meaning.{asked_of}
-use Rattle.connection.proofs.Answering.{replies_refused, replies_silent, replies_aloud}
+use Rattle.connection.proofs.Answering.{replies_refused, replies_answered}
 use Rattle.connection.proofs.replies.reply_to_request.Goals as goal
 use Rattle.connection.proofs.replies.reply_to_request.Goals.{then-noreply, else-noreply}
 
@@ -9,8 +9,8 @@ pub returns-after-noreply : goal.returns-after-noreply
 returns-after-noreply g c =
     let payload : c.as_slice.result.now ≡ canonical (asked_of c.args.request.now) = rw (c.as_slice.ensures, c.fill.ensures) in
     elim c.if-noreply.branch [
-      | then-noreply w ↦ replies_silent g.S.Service.answers c.args.service.now c.call.new.self (asked_of c.args.request.now) c.args.noreply c.as_slice.result.now payload c.call.new.text.items c.if-noreply.result.now c.in-Ok.ensures.answered w.if-noreply.true (ap (λ (b : Bor (List ℕ)). b.now) w.result-is)
-      | else-noreply w ↦ replies_aloud g.S.Service.answers c.args.service.now c.call.new.self (asked_of c.args.request.now) c.args.noreply c.as_slice.result.now payload c.call.new.text.items c.if-noreply.result.now c.in-Ok.ensures.answered w.if-noreply.false (ap (λ (b : Bor (List ℕ)). b.now) w.result-is ∙ w.as_slice-else-noreply.ensures.value)
+      | then-noreply w ↦ replies_answered g.S.Service.answers c.args.service.now c.call.new.self (asked_of c.args.request.now) c.args.noreply c.as_slice.result.now payload true c.call.new.text.items c.if-noreply.result.now c.in-Ok.ensures.answered w.if-noreply.true (ap (λ (b : Bor (List ℕ)). b.now) w.result-is)
+      | else-noreply w ↦ replies_answered g.S.Service.answers c.args.service.now c.call.new.self (asked_of c.args.request.now) c.args.noreply c.as_slice.result.now payload false c.call.new.text.items c.if-noreply.result.now c.in-Ok.ensures.answered w.if-noreply.false (ap (λ (b : Bor (List ℕ)). b.now) w.result-is ∙ w.as_slice-else-noreply.ensures.value)
     ]
 
 pub returns-in-Err : goal.returns-in-Err
