@@ -1,14 +1,14 @@
 -- What an item is answered.
-use Rattle.std.proofs.Common.{◌≡◌, Bool, [], Option, Some, None, refl, sym, ap, subst}
+use Rattle.std.proofs.Common.{◌≡◌, Bool, Option, Some, None, refl, sym, ap, subst}
 use Rattle.std.specs.Prelude.{codes}
 use Rattle.ids.specs.declared.line_fault.LineFault.{LineFault}
 use Rattle.definitions.specs.Bytes.{Bytes}
 use Rattle.definitions.specs.Requests.{Asked, canonical}
-use Rattle.definitions.specs.Items.{asked, quit, bad}
+use Rattle.definitions.specs.Items.{asked, bad}
 use Rattle.definitions.specs.Replies.{ended}
-use Rattle.definitions.specs.ServerText.{answered, finished, told, exchange_text}
+use Rattle.definitions.specs.ServerText.{answered, told, exchange_text}
 use Rattle.connection.specs.declared.end.End.{End}
-use Rattle.connection.specs.declared.end.End.TheVariants.{Quit, NoReply}
+use Rattle.connection.specs.declared.end.End.TheVariants.{NoReply}
 use Rattle.connection.specs.Serving.{Replies, end_of}
 
 module _ {S : Type 0} (answers : S → Bytes → Option Bytes → S → Type 0) (old new : S) (r : Asked) (n : Bool) (payload : Bytes) (same : payload ≡ canonical r) where
@@ -26,12 +26,6 @@ module _ {S : Type 0} (answers : S → Bytes → Option Bytes → S → Type 0) 
     ends = refl;
   }
 
--- no service is called
-module _ {S : Type 0} (answers : S → Bytes → Option Bytes → S → Type 0) (s : S) where
-  -- for the end
-  pub replies_quit : Replies answers s s quit [] (Some Quit)
-  replies_quit = record { exchange = finished; is = refl; call = refl; says = refl; ends = refl }
-
-  -- and for a line's fault
-  pub replies_fault : (fault : LineFault) (text : Bytes) (end : Option End) → text ≡ exchange_text (told fault) → end ≡ end_of (told fault) → Replies answers s s (bad fault) text end
-  replies_fault fault text end says ends = record { exchange = told fault; is = refl; call = refl; says = says; ends = ends }
+-- a line's fault calls no service
+pub replies_fault : {S : Type 0} (answers : S → Bytes → Option Bytes → S → Type 0) (s : S) (fault : LineFault) (text : Bytes) (end : Option End) → text ≡ exchange_text (told fault) → end ≡ end_of (told fault) → Replies answers s s (bad fault) text end
+replies_fault answers s fault text end says ends = record { exchange = told fault; is = refl; call = refl; says = says; ends = ends }

@@ -1,15 +1,13 @@
 -- What is appended, read and written.
-use Rattle.std.proofs.Common.{ℕ, ◌+◌, ◌<◌, ◌≤◌, length, take, drop, Option, Result, Ok, Err, refl, sym, subst, arith, length-drop}
+use Rattle.std.proofs.Common.{ℕ, ◌+◌, ◌<◌, ◌≤◌, length, take, drop, Option, Result, Ok, Err, refl, sym, subst, arith}
 use Rattle.std.proofs.Math.Seq.{take-add}
-use Rattle.std.proofs.KnownBytes.{Appends-trans, Appends-kept}
-use Rattle.std.proofs.lemmas.List.{take-append-drop}
+use Rattle.std.proofs.KnownBytes.{Appends-trans}
 use Rattle.std.specs.Prelude.{IsOk, Vec, vec_len, vec_capacity}
-use Rattle.std.specs.Io.KnownBytes.{Appends, Keeps}
+use Rattle.std.specs.Io.KnownBytes.{Appends}
 use Rattle.std.specs.declared.alloc.Global.{Global}
 use Rattle.ids.specs.declared.fault.Fault.{Fault}
 use Rattle.definitions.specs.Bytes.{Bytes}
 use Rattle.mc_lines.specs.Writing.{IsAppended}
-use Rattle.connection.specs.Devices.{WritesPart}
 
 -- where there is room, what appends succeeds
 pub appends_with_room : {T : Type 0} (old new : Vec ℕ Global) (text : Bytes) (result : Result T Fault) → IsAppended old new text result → vec_len old + length text ≤ vec_capacity old → IsOk result
@@ -22,13 +20,3 @@ appends_with_room old new text (Err e) h room = absurd (less h.grown room)
 -- the front, and what follows it
 pub Appends-more : (a b c : Option Bytes) (bytes : Bytes) (at n : ℕ) → Appends a b (take at bytes) → Appends b c (take n (drop at bytes)) → Appends a c (take (at + n) bytes)
 Appends-more a b c bytes at n p q = subst (λ (t : Bytes). Appends a c t) (sym (take-add at n bytes)) (Appends-trans a b c (take at bytes) (take n (drop at bytes)) p q)
-
--- what stands so far is a part
-pub part_so_far : (a b c : Option Bytes) (bytes : Bytes) (at : ℕ) → at < length bytes → Appends a b (take at bytes) → Keeps b c → WritesPart a c bytes
-part_so_far a b c bytes at more p q = record {
-  written = take at bytes;
-  unwritten = drop at bytes;
-  all = sym (take-append-drop at bytes);
-  some = omega (arith, more, length-drop at bytes);
-  wrote = Appends-kept a b c (take at bytes) p q;
-}

@@ -1,6 +1,6 @@
 -- Items that were served, and then more.
 use Rattle.std.proofs.Common.{◌≡◌, ℕ, ◌<◌, Bool, true, false, List, [], ◌∷◌, ◌++◌, length, drop, Option, Some, None, refl, sym, ap, subst, ◌∙◌, arith, append-nil, length-drop}
-use Rattle.std.proofs.KnownBytes.{Appends-nil, Appends-trans}
+use Rattle.std.proofs.KnownBytes.{Appends-trans}
 use Rattle.std.proofs.lemmas.List.{drop-append-le}
 use Rattle.std.proofs.lemmas.Grind.{flat_map-append}
 use Rattle.std.specs.Prelude.{if◌then◌else◌, MatchBool}
@@ -125,10 +125,6 @@ module _ {S : Type 0} (answers : S → Bytes → Option Bytes → S → Type 0) 
       (h.0, h.1, subst (λ (f : Bool). MatchBool f (AreExchanges (drop h.0 text) (xs ++ x ∷ [])) (xs ++ x ∷ [] ≡ [])) (sym h.2) rest)
 
   -- ---- with what was written
-
-  -- nothing was served
-  pub front_none : (a : State S) (text : Bytes) → ServesFront answers a a text text
-  front_none a text = record { exchanges = []; serving = (refl, refl); wrote = Appends-nil a.written; unfailed = refl }
 
   module _ (a b : State S) where
     -- the first item was served, behind which more is, so that less is left
