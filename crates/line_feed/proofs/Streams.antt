@@ -1,6 +1,7 @@
 -- Items that stand one behind the other in a text that grows.
-use Rattle.std.proofs.Common.{◌≡◌, ℕ, ◌+◌, ◌<◌, ◌≤◌, Bool, true, false, List, [], ◌∷◌, ◌++◌, length, drop, Option, Some, None, refl, sym, ap, subst, inl, inr, arith, append_assoc, append-nil, length-append}
+use Rattle.std.proofs.Common.{◌≡◌, ◌∙◌, ℕ, ◌+◌, ◌<◌, ◌≤◌, Bool, true, false, List, [], ◌∷◌, ◌++◌, length, drop, Option, Some, None, refl, sym, ap, subst, inl, inr, arith, append_assoc, append-nil, length-append}
 use Rattle.std.proofs.lemmas.List.{drop-append-le}
+use Rattle.std.specs.List.{AllByRecursion}
 use Rattle.std.specs.Prelude.{if◌then◌else◌, IsSomeAnd}
 use Rattle.ids.specs.declared.line_fault.LineFault.TheVariants.{UnknownName, BadFields, TooLarge, BadChunk, LineTooLong}
 use Rattle.definitions.specs.Bytes.{Bytes}
@@ -8,7 +9,7 @@ use Rattle.definitions.specs.Requests.{spelling, crlf, most_line, most_data, Hea
 use Rattle.definitions.specs.Items.{Item, asked, quit, bad, goes_on, StartsWith, IsLineOf, IsItemAt, IsUnfinished}
 use Rattle.definitions.proofs.Lines.{length-line}
 use Rattle.definitions.proofs.RequestTexts.{length-spelling}
-use Rattle.definitions.proofs.ItemLaws.{IsItemAt-append}
+use Rattle.definitions.proofs.ItemLaws.{IsItemAt-append, IsItemAt-unique}
 use Rattle.line_feed.specs.Feeding.{left_behind, Call, pushed, asked_next, Lead, all_pushed, all_given, StandFirst}
 
 -- ---- what an item takes
@@ -78,3 +79,18 @@ given_then (asked_next (Some x) ∷ calls) text held left items before h =
 -- from the first call on
 pub given_from_first : (calls : List Call) (held : Bytes) → Lead [] calls held → StandFirst (all_pushed calls) (all_given calls) held
 given_from_first calls held h = given_then calls [] [] held [] refl h
+
+-- ---- the end
+
+-- where an item stands that ends all, no other does, now or later
+same_again : (items : List Item) (text left : Bytes) (end : Item) (used : ℕ) → goes_on end ≡ false → IsItemAt text end used → StandFirst text items left → AllByRecursion (λ item. item ≡ end) items × (left ≡ text)
+same_again [] text left end used ends at h = (tt, h)
+same_again (x ∷ items) text left end used ends at h =
+    let same : x ≡ end = (IsItemAt-unique text x end h.0 used h.1 at).0 in
+    let stays : left_behind x h.0 text ≡ text = ap (λ (b : Bool). if b then drop h.0 text else text) (ap goes_on same ∙ ends) in
+    let rest = same_again items text left end used ends at (subst (λ (t : Bytes). StandFirst t items left) stays h.2) in
+    ((same, rest.0), rest.1)
+
+pub end_again : (text : Bytes) (end : Item) (items : List Item) (left : Bytes) → goes_on end ≡ false → StandFirst text (end ∷ items) left → AllByRecursion (λ item. item ≡ end) items × (left ≡ text)
+end_again text end items left ends h =
+    same_again items text left end h.0 ends h.1 (subst (λ (t : Bytes). StandFirst t items left) (ap (λ (b : Bool). if b then drop h.0 text else text) ends) h.2)

@@ -1,6 +1,7 @@
 -- What a feed gives of the bytes that it holds, what it holds then, and what it gives over a whole history of calls.
-use Rattle.std.specs.Prelude.{◌≡◌, ℕ, if◌then◌else◌, List, [], ◌∷◌, ◌++◌, drop, Option, Some, None}
+use Rattle.std.specs.Prelude.{◌≡◌, ℕ, false, if◌then◌else◌, List, [], ◌∷◌, ◌++◌, drop, Option, Some, None}
 use Rattle.std.specs.Borrow.{Bor}
+use Rattle.std.specs.List.{AllByRecursion}
 use Rattle.definitions.specs.Bytes.{Bytes}
 use Rattle.definitions.specs.Items as definitions
 use Rattle.definitions.specs.Items.{asked, quit, bad, goes_on, IsItemAt, IsUnfinished}
@@ -71,8 +72,7 @@ all_given (pushed bytes ∷ calls) = all_given calls
 all_given (asked_next None ∷ calls) = all_given calls
 all_given (asked_next (Some item) ∷ calls) = item ∷ all_given calls
 
--- These items stand first in a text, one behind the other, and this is left of it. Behind one that ends all only the
--- same stands again.
+-- These items stand first in a text, one behind the other, and this is left of it. One that ends all is behind itself.
 abbrev pub StandFirst : Bytes → List definitions.Item → Bytes → Type 0
 StandFirst text [] left = left ≡ text
 StandFirst text (item ∷ items) left = (used : ℕ) × IsItemAt text item used × StandFirst (left_behind item used text) items left
@@ -81,3 +81,8 @@ StandFirst text (item ∷ items) left = (used : ℕ) × IsItemAt text item used 
 -- pieces, and it holds what they leave.
 abbrev pub GivesWhatWasPushed : Type 0
 GivesWhatWasPushed = (calls : List Call) (held : Bytes) → Lead [] calls held → StandFirst (all_pushed calls) (all_given calls) held
+
+-- An item that ends all is given again and again, and what is held stays.
+abbrev pub GivesTheEndAgain : Type 0
+GivesTheEndAgain = (text : Bytes) (end : definitions.Item) (items : List definitions.Item) (left : Bytes) → goes_on end ≡ false → StandFirst text (end ∷ items) left
+    → AllByRecursion (λ item. item ≡ end) items × (left ≡ text)

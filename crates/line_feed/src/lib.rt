@@ -10,4 +10,4 @@ mod laws;
 
 pub use feed::Feed;
 pub use item::Item;
-pub use laws::a_feed_gives_what_was_pushed;
+pub use laws::{a_feed_gives_the_end_again, a_feed_gives_what_was_pushed};
