@@ -1,0 +1,54 @@
+//! Runs the feed and the service of a connection over cases, one a line of standard input:
+//!
+//! - A text in hexadecimal, pushed into a feed in pieces of 1, 2, 3, 5, 8 and 13 bytes. Printed is how many items were
+//!   given and the first half of the SHA-256 digest of what they are, if all pieces agree on that; then what serving the
+//!   text comes to.
+//! - `cuts` and a text, pushed in two pieces, cut at every place. Printed are the places and the same of the items.
+//! - Seven numbers and a text that is served: how much the first read gives and how much each other one, the read
+//!   that fails, whether each read is interrupted once before it gives, how much each write takes, the write that
+//!   fails, and the call that the service refuses, where 0 is none. Printed are the end or the refusal, what was
+//!   written, the payloads of the calls, and how often reader and writer failed.
+//! - `waits` and a text of requests, each of which is sent only when the answers to all before it were seen.
+//!
+//! The service answers `STORED`. What is wanted of each case was computed by an independent program.
+#![tactic(auto)]
+
+mod devices;
+mod feeding;
+mod patience;
+mod serving;
+
+use anyhow::Result;
+use feeding::{cut_in_two, in_pieces};
+use patience::holds_texts_back;
+use serving::{Plan, served};
+use std::alloc::Global;
+
+/// What is printed of a case.
+fn case(alloc: Global, line: &str) -> Result<String> {
+    let Some((how, text)) = line.split_once(' ') else {
+        let text = hex::decode(alloc, line)?;
+        let items = in_pieces(alloc, &text)?;
+        let plan = Plan::in_pieces(7);
+        let served = served(alloc, &plan, &text)?;
+        return Ok(format!(in alloc; "{items}; {served}")?);
+    };
+    let text = hex::decode(alloc, text)?;
+    if how == "cuts" {
+        return Ok(cut_in_two(alloc, &text)?);
+    }
+    if how == "waits" {
+        return Ok(holds_texts_back(alloc, &text)?);
+    }
+    let plan = Plan::parse(how)?;
+    Ok(served(alloc, &plan, &text)?)
+}
+
+fn main(rt: HostRuntime) -> Result<()> {
+    let alloc = rt.alloc();
+    for line in rt.lines(alloc) {
+        let line = line?;
+        println!(rt; "{}", case(alloc, line.as_str())?)?;
+    }
+    Ok(())
+}
