@@ -1,0 +1,58 @@
+//! Frames of any kind, of the parts of what their tags speak of.
+
+ghost use Rattle.std.specs.Prelude.{◌≡◌, ◌≤◌, ◌∷◌, ◌++◌, IfOk, OnErr, IsTrue, vec_len, vec_capacity};
+ghost use Rattle.ids.specs.Numbers.{kind_number};
+ghost use Rattle.definitions.specs.Frames.{frame_text};
+ghost use Rattle.definitions.specs.Keyrings.{keyring_of, is_peer, tag_for, vector_for};
+ghost use Rattle.appending.specs.Joined.{joined};
+
+use appending::append;
+use authenticators::Keyring;
+use ids::{Fault, Kind, PartyId};
+use std::alloc::Global;
+
+/// The kind and the parts, as a frame begins.
+fn begun(alloc: Global, kind: Kind, parts: &[&[u8]]) -> Result<Vec<u8>, Fault>
+    ensures made { IfOk result (λ frame. frame.items ≡ kind_number kind ∷ joined parts.now) }
+    ensures memory { OnErr result (result ≡ Err Fault.Memory) }
+{
+    let mut frame = Vec::new(alloc);
+    append(&mut frame, &[&[kind.number()]])?;
+    append(&mut frame, parts)?;
+    Ok(frame)
+}
+
+/// A frame to all replicas: its tags, one for each, speak of all between the kind and them.
+pub(crate) fn signed_for_all(
+    alloc: Global,
+    keyring: &Keyring,
+    kind: Kind,
+    parts: &[&[u8]],
+) -> Result<Vec<u8>, Fault>
+    ensures made { IfOk result (λ frame. frame.items ≡ frame_text (kind_number kind) (joined parts.now) (vector_for keyring.now.sizes (keyring_of keyring.now) kind (joined parts.now))) }
+    ensures memory { OnErr result (result ≡ Err Fault.Memory) }
+{
+    let mut frame = begun(alloc, kind, parts)?;
+    let mut tags = Vec::new(alloc);
+    keyring.vector(kind, &frame[1..], &mut tags)?;
+    append(&mut frame, &[&tags])?;
+    Ok(frame)
+}
+
+/// A frame to one party: its tag speaks of all between the kind and it.
+pub(crate) fn signed_for(
+    alloc: Global,
+    keyring: &Keyring,
+    kind: Kind,
+    to: PartyId,
+    parts: &[&[u8]],
+) -> Result<Vec<u8>, Fault>
+    requires { IsTrue (is_peer keyring.now to) }
+    ensures made { IfOk result (λ frame. frame.items ≡ frame_text (kind_number kind) (joined parts.now) (tag_for (keyring_of keyring.now) kind to (joined parts.now))) }
+    ensures memory { OnErr result (result ≡ Err Fault.Memory) }
+{
+    let mut frame = begun(alloc, kind, parts)?;
+    let tag = keyring.tag(kind, to, &frame[1..]);
+    append(&mut frame, &[&tag])?;
+    Ok(frame)
+}

@@ -1,0 +1,65 @@
+//! Frames to all replicas, and votes, whose tags are for all.
+
+ghost use Rattle.std.specs.Prelude.{◌≡◌, ◌<◌, IfOk, OnErr};
+ghost use Rattle.ids.specs.Sizes.{replicas};
+ghost use Rattle.ids.specs.Numbers.{kind_number};
+ghost use Rattle.ids.specs.declared.kind.Kind.TheVariants as kind;
+ghost use Rattle.definitions.specs.Frames.{vote, frame_text, proposal_text, new_view_text, spelling};
+ghost use Rattle.definitions.specs.Keyrings.{keyring_of, vector_for};
+
+use crate::signed::signed_for_all;
+use authenticators::Keyring;
+use frame_writers::write_vote;
+use ids::{Digest, Fault, Kind, View};
+use std::alloc::Global;
+
+/// The vote for a block. Its tags speak of the block's digest alone, so that they stand in a certificate as they are.
+pub fn vote_frame(alloc: Global, keyring: &Keyring, block: &Digest) -> Result<Vec<u8>, Fault>
+    requires { keyring.now.party < replicas keyring.now.sizes }
+    ensures made { IfOk result (λ frame. frame.items ≡ spelling (vote block.now (record { voter = keyring.now.party; vector = vector_for keyring.now.sizes (keyring_of keyring.now) kind.Vote block.now }))) }
+    ensures memory { OnErr result (result ≡ Err Fault.Memory) }
+{
+    let mut vector = Vec::new(alloc);
+    keyring.vector(Kind::Vote, &block.0, &mut vector)?;
+    let mut frame = Vec::new(alloc);
+    write_vote(block, keyring.replica(), &vector, &mut frame)?;
+    Ok(frame)
+}
+
+/// The proposal of a block for a view, of the bytes of its core and of the certificate that goes along.
+pub fn proposal_frame<'a>(
+    alloc: Global,
+    keyring: &Keyring,
+    view: View,
+    core: &'a [u8],
+    certificate: &'a [u8],
+) -> Result<Vec<u8>, Fault>
+    ensures made { IfOk result (λ frame. let content = proposal_text view core.now certificate.now in
+        frame.items ≡ frame_text (kind_number kind.Proposal) content (vector_for keyring.now.sizes (keyring_of keyring.now) kind.Proposal content)) }
+    ensures memory { OnErr result (result ≡ Err Fault.Memory) }
+{
+    let view = view.0.to_be_bytes();
+    signed_for_all(alloc, keyring, Kind::Proposal, &[&view, core, certificate])
+}
+
+/// The announcement of a view, of the bytes of the highest certificate.
+pub fn new_view_frame(
+    alloc: Global,
+    keyring: &Keyring,
+    view: View,
+    certificate: &[u8],
+) -> Result<Vec<u8>, Fault>
+    requires { keyring.now.party < replicas keyring.now.sizes }
+    ensures made { IfOk result (λ frame. let content = new_view_text view keyring.now.party certificate.now in
+        frame.items ≡ frame_text (kind_number kind.NewView) content (vector_for keyring.now.sizes (keyring_of keyring.now) kind.NewView content)) }
+    ensures memory { OnErr result (result ≡ Err Fault.Memory) }
+{
+    let view = view.0.to_be_bytes();
+    let sender = u16::from(keyring.replica().0).to_be_bytes();
+    signed_for_all(
+        alloc,
+        keyring,
+        Kind::NewView,
+        &[&view, &sender, certificate],
+    )
+}
