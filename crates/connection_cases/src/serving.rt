@@ -73,7 +73,7 @@ pub fn served(alloc: Global, plan: &Plan, text: &[u8]) -> anyhow::Result<String>
         plan.interrupts,
     );
     let mut reader = Counted::new(source);
-    let mut writer = Counted::new(Sink::new(alloc, plan.takes, plan.write_fails));
+    let mut writer = Counted::new(Sink::new(alloc, plan.takes, plan.write_fails, plan.interrupts));
     let mut service = Stored::new(alloc, plan.refused);
     let end = match serve(alloc, &mut reader, &mut writer, &mut service) {
         Ok(end) => format!(in alloc; "{end:?}")?,
