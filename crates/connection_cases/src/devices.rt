@@ -86,11 +86,11 @@ pub struct Sink {
 }
 
 impl Sink {
-    pub fn new(alloc: Global, step: usize, fails_at: u64) -> Sink {
+    pub fn new(alloc: Global, step: usize, fails_at: u64, interrupts: bool) -> Sink {
         Sink {
             written: Vec::new(alloc),
             step,
-            calls: Calls::new(fails_at, false),
+            calls: Calls::new(fails_at, interrupts),
         }
     }
 }

@@ -5,9 +5,9 @@
 //!   text comes to.
 //! - `cuts` and a text, pushed in two pieces, cut at every place. Printed are the places and the same of the items.
 //! - Seven numbers and a text that is served: how much the first read gives and how much each other one, the read
-//!   that fails, whether each read is interrupted once before it gives, how much each write takes, the write that
-//!   fails, and the call that the service refuses, where 0 is none. Printed are the end or the refusal, what was
-//!   written, the payloads of the calls, and how often reader and writer failed.
+//!   that fails, whether each read and write is interrupted once before it goes well, how much each write takes, the
+//!   write that fails, and the call that the service refuses, where 0 is none. Printed are the end or the refusal, what
+//!   was written, the payloads of the calls, and how often reader and writer failed.
 //! - `waits` and a text of requests, each of which is sent only when the answers to all before it were seen.
 //!
 //! The service answers `STORED`. What is wanted of each case was computed by an independent program.

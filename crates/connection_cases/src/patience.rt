@@ -1,6 +1,7 @@
 //! A connection whose other side waits: it sends its next request only when it has seen the answers to all before.
 
 use crate::devices::Stored;
+use crate::serving::in_words;
 use connection::{Counted, serve};
 use std::alloc::Global;
 use std::cell::Cell;
@@ -66,9 +67,7 @@ pub fn holds_texts_back(alloc: Global, text: &[u8]) -> anyhow::Result<String> {
         seen: &seen,
     });
     let mut service = Stored::new(alloc, 0);
-    let end = match serve(alloc, &mut reader, &mut writer, &mut service) {
-        Ok(end) => format!(in alloc; "{end:?}")?,
-        Err(fault) => format!(in alloc; "fault {}", fault.number())?,
-    };
+    let end = serve(alloc, &mut reader, &mut writer, &mut service);
+    let end = in_words(alloc, end)?;
     Ok(format!(in alloc; "{end}, {} calls, {} bytes seen", service.calls, seen.get())?)
 }

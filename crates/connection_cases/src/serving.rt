@@ -1,5 +1,6 @@
 use crate::devices::{Sink, Source, Stored};
-use connection::{Counted, serve};
+use connection::{Counted, End, serve};
+use ids::Fault;
 use sha2::{Digest, Sha256};
 use std::alloc::Global;
 
@@ -56,6 +57,14 @@ impl Plan {
     }
 }
 
+/// An end or a refusal.
+pub fn in_words(alloc: Global, end: Result<End, Fault>) -> anyhow::Result<String> {
+    Ok(match end {
+        Ok(end) => format!(in alloc; "{end:?}")?,
+        Err(fault) => format!(in alloc; "fault {}", fault.number())?,
+    })
+}
+
 /// The length of some bytes, and the first half of their digest.
 fn short(alloc: Global, bytes: &[u8]) -> anyhow::Result<String> {
     let digest = Sha256::digest(bytes);
@@ -73,12 +82,10 @@ pub fn served(alloc: Global, plan: &Plan, text: &[u8]) -> anyhow::Result<String>
         plan.interrupts,
     );
     let mut reader = Counted::new(source);
-    let mut writer = Counted::new(Sink::new(alloc, plan.takes, plan.write_fails));
+    let mut writer = Counted::new(Sink::new(alloc, plan.takes, plan.write_fails, plan.interrupts));
     let mut service = Stored::new(alloc, plan.refused);
-    let end = match serve(alloc, &mut reader, &mut writer, &mut service) {
-        Ok(end) => format!(in alloc; "{end:?}")?,
-        Err(fault) => format!(in alloc; "fault {}", fault.number())?,
-    };
+    let end = serve(alloc, &mut reader, &mut writer, &mut service);
+    let end = in_words(alloc, end)?;
     let (reads, writes) = (reader.failures(), writer.failures());
     let written = short(alloc, &writer.into_device().written)?;
     let payloads = short(alloc, &service.payloads)?;
