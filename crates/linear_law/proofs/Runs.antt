@@ -21,7 +21,7 @@ use Rattle.definitions.specs.Keyrings.{verify}
 use Rattle.definitions.specs.Digests.{digest_of, NoCollision}
 use Rattle.definitions.specs.Histories.{Answer, last_seq, answer_to}
 use Rattle.definitions.specs.Chronicles.{Admitted, Step, Step.took_block, Step.got_vote, Step.got_new_view, Step.got_request, Step.got_fetch, Step.timed_out, Step.beat, Chronicle, voted, taken, decided, decided_by, decides, executed, history}
-use Rattle.definitions.specs.Checks.{Identity, counted}
+use Rattle.definitions.specs.Checks.{Identity, Findings}
 use Rattle.definitions.specs.States.{Justified, view, leads, proposed}
 use Rattle.definitions.specs.Rulings.{Input, Ruling, Ruling.due, conflicts, ruling}
 use Rattle.definitions.specs.Sendings.{as_taken, Sending, To, To.to_all, To.to_party, sendings, new_replies, reply_to, vote_frame, proposes, again, supplies, block_frame, new_view_frame, proposal_frame, fetch_frame}
@@ -67,20 +67,20 @@ vote-tag x s (frame.block r c q t) l h = absurd (let k = h.0 in cc)
 pub member-faulty : (w : World) (p : ℕ) → is_member w p ≡ true → w.is_faulty p ≡ false
 member-faulty w p m = not-true _ (and_parts _ _ m).1
 
-pub arises-checked : (w : World) (e : Event) (i : Input) → Arises w e i → IsCheckedInput (self_of w (party_of e)) i
+pub arises-checked : (w : World) (e : Event) (i : Input) → Arises w e i → IsCheckedInput w.sizes i
 arises-checked w e i (inl b) = carried-checked (self_of w (party_of e)) b.frame i (check-carried (self_of w (party_of e)) b.frame i b.is_frame b.good)
-arises-checked w e i (inr (inl t)) = subst (IsCheckedInput (self_of w (party_of e))) (sym t) tt
-arises-checked w e i (inr (inr t)) = subst (IsCheckedInput (self_of w (party_of e))) (sym t) tt
+arises-checked w e i (inr (inl t)) = subst (IsCheckedInput w.sizes) (sym t) tt
+arises-checked w e i (inr (inr t)) = subst (IsCheckedInput w.sizes) (sym t) tt
 
-pub arises-carried : (w : World) (e : Event) (i : Input) (core : Core) (q : Certificate) → Arises w e i → Carries i core q → (b : Brings w e i) × IsCarried (self_of w (party_of e)) b.frame core q
-arises-carried w e i core q (inl b) ca = (b, check-carried (self_of w (party_of e)) b.frame i b.is_frame b.good core q ca)
-arises-carried w e i core q (inr (inl t)) ca = absurd (subst (λ (j : Input). Carries j core q) t ca)
-arises-carried w e i core q (inr (inr t)) ca = absurd (subst (λ (j : Input). Carries j core q) t ca)
+pub arises-carried : (w : World) (e : Event) (i : Input) (core : Core) (q : Certificate) (g : Findings) → Arises w e i → Carries i core q g → (b : Brings w e i) × IsCarried (self_of w (party_of e)) b.frame core q g
+arises-carried w e i core q g (inl b) ca = (b, check-carried (self_of w (party_of e)) b.frame i b.is_frame b.good core q g ca)
+arises-carried w e i core q g (inr (inl t)) ca = absurd (subst (λ (j : Input). Carries j core q g) t ca)
+arises-carried w e i core q g (inr (inr t)) ca = absurd (subst (λ (j : Input). Carries j core q g) t ca)
 
 module _ (Known : Core → Type 0) where
   -- a vote that was counted in a member's name was given by it
-  counted-vote : (w : World) (e : Event) (i : Input) (core : Core) (q : Certificate) → IsRun Known w → IsHonest Known w e → is_member w (party_of e) ≡ true → (b : Brings w e i) → IsCarried (self_of w (party_of e)) b.frame core q → (v : ℕ) → Among v (counted (self_of w (party_of e)) q) → is_member w v ≡ true → (x : Branch) × Among x (voted (chronicles w v)) × (digest_of x ≡ q.digest)
-  counted-vote w e i core q run honest me b ca v m mv =
+  counted-vote : (w : World) (e : Event) (i : Input) (core : Core) (q : Certificate) (g : Findings) → IsRun Known w → IsHonest Known w e → is_member w (party_of e) ≡ true → (b : Brings w e i) → IsCarried (self_of w (party_of e)) b.frame core q g → (v : ℕ) → Among v g.counted → is_member w v ≡ true → (x : Branch) × Among x (voted (chronicles w v)) × (digest_of x ≡ q.digest)
+  counted-vote w e i core q g run honest me b ca v m mv =
       let c = ca.votes v m in
       let sent : WasSent w.sent c.0 = honest.forgery b.frame b.brings (member-faulty w (party_of e) me) (admits-good w (party_of e) b.frame i (and_parts _ _ me).0 b.good) c.0 c.1 (ap w.is_faulty c.3 ∙ member-faulty w v mv) in
       let is : sent.0.sender ≡ v = sent.2 ∙ c.3 in
@@ -88,14 +88,14 @@ module _ (Known : Core → Type 0) where
       let r = run.votes sent.0 sent.1 c.0.content vote.0 vote.1 (ap (is_member w) is ∙ mv) in
       (r.0, subst (λ (p : ℕ). Among r.0 (voted (chronicles w p))) is r.1, r.2 ∙ c.5)
 
-  may-follow : (w : World) (e : Event) (i : Input) → IsRun Known w → IsHonest Known w e → is_member w (party_of e) ≡ true → Arises w e i → (st : Step) → FromInput (self_of w (party_of e)) i st → StepMayFollow Known (is_member w) (chronicles w) st
+  may-follow : (w : World) (e : Event) (i : Input) → IsRun Known w → IsHonest Known w e → is_member w (party_of e) ≡ true → Arises w e i → (st : Step) → FromInput i st → StepMayFollow Known (is_member w) (chronicles w) st
   may-follow w e i run honest me ar (took_block a) f =
-      let b = arises-carried w e i f.0 f.1 ar f.2 in
+      let b = arises-carried w e i f.0 f.1 f.2 ar f.3 in
       record {
-        known = λ n. subst Known (sym (f.3.core_is n)) (honest.cores b.0.frame b.0.brings f.0 b.1.from);
+        known = λ n. subst Known (sym (f.4.core_is n)) (honest.cores b.0.frame b.0.brings f.0 b.1.from);
         votes = λ v m mv.
-            let r = counted-vote w e i f.0 f.1 run honest me b.0 b.1 v (subst (λ (l : List ℕ). Among v l) f.3.counted_is m) mv in
-            (r.0, r.1, r.2 ∙ f.3.justified);
+            let r = counted-vote w e i f.0 f.1 f.2 run honest me b.0 b.1 v (subst (λ (l : List ℕ). Among v l) f.4.counted_is m) mv in
+            (r.0, r.1, r.2 ∙ f.4.justified);
       }
   may-follow w e i run honest me ar (got_vote v t b) f = tt
   may-follow w e i run honest me ar (got_new_view x s q b) f = tt
@@ -286,11 +286,11 @@ module _ (Known : Core → Type 0) (apart : NoCollision Known) (genesis : Known 
   step-keeps w e m i run made honest me ar =
       let self : Identity = self_of w (party_of e) in
       let so : IsSound w.sizes (chronicles w (party_of e)) = run.row.sound (party_of e) me in
-      let ch : IsCheckedInput self i = arises-checked w e i ar in
+      let ch : IsCheckedInput w.sizes i = arises-checked w e i ar in
       after-step w (party_of e) m (ruling self i (chronicles w (party_of e))) _ made run.row me
       (λ st v. row-grows Known apart genesis ground w.sizes (is_member w) (chronicles w) run.row (party_of e) me st
       (subst (Keeps self (chronicles w (party_of e))) v (ruling-sound self i (chronicles w (party_of e)) ch so))
-      (may-follow Known w e i run honest me ar st (subst (AllStanding (FromInput self i)) v (ruling-from self i (chronicles w (party_of e))))))
+      (may-follow Known w e i run honest me ar st (subst (AllStanding (FromInput i)) v (ruling-from self i (chronicles w (party_of e))))))
       (step-outcome self m i (w.replica (party_of e)) ch so)
 
 -- what an effect keeps

@@ -1,8 +1,7 @@
 //! Replica 1 of four, kept for two threads that bring the same proposal.
 
-ghost use Rattle.std.specs.Prelude.{◌≡◌, ◌<◌, ◌==◌, ◌&&◌, IfOk, IsTrue};
+ghost use Rattle.std.specs.Prelude.{◌≡◌, ◌<◌, IfOk};
 ghost use Rattle.ids.specs.Sizes.{replicas};
-ghost use Rattle.locked_replica.specs.Addressed.{same_sizes};
 
 use crate::signed::{first_proposal, keyring, two_keyrings};
 use authenticators::Keyring;
@@ -30,8 +29,7 @@ fn step_on(
     ring: &Keyring,
     bytes: &[u8],
 ) -> Result<Result<Out, Fault>, Fail>
-    requires replica { ring.now.party < replicas ring.now.sizes }
-    requires same { IsTrue ((ring.now.party == kept.old.keys.party) && same_sizes ring.now.sizes kept.old.keys.sizes) → ring.now ≡ kept.old.keys }
+    requires { ring.now.party < replicas ring.now.sizes }
     ensures { kept.new.keys ≡ kept.old.keys }
 {
     let config = ring.config();
