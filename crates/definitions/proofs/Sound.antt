@@ -15,7 +15,7 @@ use Rattle.ids.specs.Sizes.{Sizes, replicas, quorum}
 use Rattle.definitions.specs.Digests.{digest, digest_of}
 use Rattle.definitions.specs.Trees.{block_of, is_clear, clear_above, most_blocks, Placing, Placing.stands, Placing.grows, Placing.lacks_parent, Placing.unfit, placing, IsTree}
 use Rattle.definitions.proofs.Trees.{same_bytes, found-in, unfit-calm, IsPlaced, placed, tree-below, growth-tree, growth-new, grown-heights}
-use Rattle.definitions.specs.Chronicles.{Admitted, Step, Step.took_block, Step.got_vote, Step.got_new_view, Step.got_request, Step.timed_out, Step.beat, Chronicle, taken, stored, stored_of, tree, lock, history, may_vote, IsLawfulVote, IsLawfulStep, IsLawful}
+use Rattle.definitions.specs.Chronicles.{Admitted, Step, Step.took_block, Step.got_vote, Step.got_new_view, Step.got_request, Step.timed_out, Step.beat, Chronicle, taken, stored, stored_of, tree, lock, history, may_vote, IsLawfulVote, IsLawfulStep, IsSound}
 use Rattle.definitions.specs.Checks.{Identity, Findings, is_genesis}
 use Rattle.definitions.specs.States.{is_due, pending, is_same_request}
 use Rattle.definitions.specs.Rulings.{Input, Input.proposal_in, Input.block_in, Input.vote_in, Input.new_view_in, Input.request_in, Input.fetch_in, Input.timeout_in, Input.beat_in, Ruling, Ruling.due, Ruling.missing, Ruling.refusing, find_block, admitted, votes_for, take_block, on_placing, on_block, on_request, conflicts, with_block, ruling}
@@ -33,12 +33,6 @@ abbrev pub IsCheckedInput : Sizes → Input → Type 0
 IsCheckedInput sizes (proposal_in w core q f) = IsChecked sizes core q f
 IsCheckedInput sizes (block_in sender core q f) = IsChecked sizes core q f
 IsCheckedInput sizes i = ⊤
-
-pub record IsSound (need : Sizes) (c : Chronicle) : Type 0 where
-  pub is_tree : IsTree (tree c)
-  pub lawful : IsLawful need c
-  pub full : length (tree c) ≤ 1048576
-  pub heights : (x : Branch) → Among x (tree c) → length x < length (tree c)
 
 -- a clear block was taken as one
 pub clear-taken : (x : Branch) (ys : List Admitted) → is_clear x (map stored_of ys) ≡ true → (a : Admitted) × Among a ys × (a.branch ≡ x) × (a.clear ≡ true)
@@ -108,7 +102,7 @@ certified sizes core q f j t tr m ch e =
     ]
 
 -- a new block that passes the tests
-new-step : (self : Identity) (w : Option ℕ) (parent : Branch) (core : Core) (q : Certificate) (f : Findings) (c : Chronicle) → IsSound self.sizes c → IsTree ((block_of core ∷ parent) ∷ tree c) → (Among (block_of core ∷ parent) (tree c) → ⊥) → Among parent (tree c) → IsChecked self.sizes core q f → q.digest ≡ digest_of (just1 (block_of core ∷ parent)) → length (tree c) < 1048576 →
+new-step : (self : Identity) (w : Option ℕ) (parent : Branch) (core : Core) (q : Certificate) (f : Findings) (c : Chronicle) → IsSound self.sizes c → IsTree ((block_of core ∷ parent) ∷ tree c) → (Among (block_of core ∷ parent) (tree c) → ⊥) → Among parent (tree c) → IsChecked self.sizes core q f → q.digest ≡ digest_of (just1 (block_of core ∷ parent)) → length (tree c) < most_blocks →
     OnStands (λ st. IsSound self.sizes (st ∷ c)) (take_block self w (admitted (block_of core ∷ parent) core q f true) c)
 unfolding admitted tree taken
 new-step self w parent core q f c so tr fresh m ch e room = record {
@@ -124,7 +118,7 @@ new-step self w parent core q f c so tr fresh m ch e room = record {
     ),
     so.lawful,
   );
-  full = (let l = room in omega (arith, l));
+  bounded = (let l = room in omega (arith, l));
   heights = grown-heights (tree c) (block_of core) parent m so.heights;
 }
 
@@ -142,7 +136,7 @@ placed-sound self w sender core q f c ch so (stands b) h =
     record {
       is_tree = so.is_tree;
       lawful = ((λ v. vote-lawful self.sizes w (admitted b core q f false) c (so.is_tree.branches b m) m v, λ n. absurd (true≢false (sym n))), so.lawful);
-      full = so.full;
+      bounded = so.bounded;
       heights = so.heights;
     }
 placed-sound self w sender core q f c ch so (grows b) (parent, g) =
@@ -162,7 +156,7 @@ other-sound : (need : Sizes) (c : Chronicle) (st : Step) → tree (st ∷ c) ≡
 other-sound need c st e l so = record {
   is_tree = subst IsTree (sym e) so.is_tree;
   lawful = (l, so.lawful);
-  full = subst (λ (t : List Branch). length t ≤ 1048576) (sym e) so.full;
+  bounded = subst (λ (t : List Branch). length t ≤ most_blocks) (sym e) so.bounded;
   heights = subst (λ (t : List Branch). (x : Branch) → Among x t → length x < length t) (sym e) so.heights;
 }
 

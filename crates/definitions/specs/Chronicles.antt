@@ -6,7 +6,7 @@ use Rattle.definitions.specs.Lists.{Among, AreDistinct, greatest}
 use Rattle.definitions.specs.Frames.{Command, Core, Certificate}
 use Rattle.definitions.specs.Branches.{Block, Branch, justify_height, just1, just2, just3, Extends, extends, highest}
 use Rattle.definitions.specs.Bytes.{Bytes}
-use Rattle.definitions.specs.Trees.{Stored}
+use Rattle.definitions.specs.Trees.{Stored, IsTree, most_blocks}
 use Rattle.ids.specs.Sizes.{Sizes, replicas, quorum}
 use Rattle.definitions.specs.Histories.{History, history_of}
 
@@ -120,3 +120,11 @@ IsLawfulStep sizes s earlier = ⊤
 abbrev pub IsLawful : Sizes → Chronicle → Type 0
 IsLawful sizes [] = ⊤
 IsLawful sizes (s ∷ earlier) = IsLawfulStep sizes s earlier × IsLawful sizes earlier
+
+-- What is kept of a replica's chronicle at these sizes: each step is lawful, and the blocks that it knows are a tree
+-- of at most so many as a tree may have, in which each height is below their number.
+pub record IsSound (sizes : Sizes) (c : Chronicle) : Type 0 where
+  pub is_tree : IsTree (tree c)
+  pub lawful : IsLawful sizes c
+  pub bounded : length (tree c) ≤ most_blocks
+  pub heights : (x : Branch) → Among x (tree c) → length x < length (tree c)

@@ -10,13 +10,12 @@ use Rattle.definitions.specs.Frames as frame
 use Rattle.definitions.specs.Branches.{Block, Branch}
 use Rattle.definitions.specs.Digests.{core_of, core_over, AllKnown}
 use Rattle.definitions.specs.Histories.{Entry, entry_of, History, history_of, Answer, answers, is_fresh}
-use Rattle.definitions.specs.Chronicles.{Chronicle, tree, executed, history}
+use Rattle.definitions.specs.Chronicles.{Chronicle, tree, executed, history, IsSound}
 use Rattle.definitions.specs.Replicas.{held_history}
 use Rattle.definitions.specs.Worlds.{World, Happening}
 use Rattle.definitions.specs.Events.{happens}
 use Rattle.definitions.specs.Premises.{AllRead, CoreOf, CoreBrought}
 use Rattle.definitions.proofs.Lists.{Among-either, Among-map, Among-reverse}
-use Rattle.definitions.proofs.Sound.{IsSound}
 use Rattle.linear_law.proofs.Inputs.{all-among}
 use Rattle.linear_law.proofs.Effects.{is_member, brought-frame}
 use Rattle.linear_law.proofs.Runs.{chronicles, IsRun}
@@ -117,6 +116,6 @@ answers-fit Known w run cores p mp a m =
     let i : IsAnswerOf a (history_of x) = answers-entry (history_of x) a (answers-grow (held_history (w.replica p)) (history c) (held-begins (w.replica p)) a m) in
     let l = history-length Known w.sizes cores x known in
     let h = so.heights x t in
-    let f = so.full in
+    let f = so.bounded in
     let q = i.place in
     (subst (λ (n : ℕ). n < 2 ^ 64) i.seq (history-seq Known w.sizes cores x known i.entry i.among), omega (arith, l, h, f, q))

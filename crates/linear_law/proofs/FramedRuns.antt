@@ -14,7 +14,7 @@ use Rattle.definitions.specs.Frames.{Core, Frame, spelling, genesis_core, comman
 use Rattle.definitions.specs.FrameLimits.{IsReadAs, IsDigest, IsCore, IsFrame, most_payload}
 use Rattle.definitions.specs.Branches.{Branch}
 use Rattle.definitions.specs.Digests.{AllKnown, NoCollision}
-use Rattle.definitions.specs.Chronicles.{Step, Chronicle, tree}
+use Rattle.definitions.specs.Chronicles.{Step, Chronicle, tree, IsSound}
 use Rattle.definitions.specs.Checks.{Identity}
 use Rattle.definitions.specs.States.{me, Justified, leaf, proposed}
 use Rattle.definitions.specs.Rulings.{Input, Ruling, Ruling.due, Ruling.missing, Ruling.refusing, ruling, conflicts}
@@ -30,7 +30,7 @@ use Rattle.definitions.proofs.Lists.{Among-either, Among-map, Among-mapped, Amon
 use Rattle.definitions.proofs.Spellings.{IsReadAs-unique}
 use Rattle.definitions.proofs.Vectors.{IsVector-vector_for}
 use Rattle.definitions.proofs.RequestTexts.{request_of_some, length-canonical}
-use Rattle.definitions.proofs.Sound.{IsSound, Outcome, Outcome.unchanged, Outcome.refused, Outcome.lacks, Outcome.conflict, Outcome.stood, Outcome.cut, step-outcome}
+use Rattle.definitions.proofs.Sound.{Outcome, Outcome.unchanged, Outcome.refused, Outcome.lacks, Outcome.conflict, Outcome.stood, Outcome.cut, step-outcome}
 use Rattle.linear_law.proofs.Effects.{is_member, Arises, Effects, Effects.idle, Effects.step_by, Effects.hearing, Effects.submitting, effects, named}
 use Rattle.linear_law.proofs.Runs.{chronicles, IsMadeWell, IsHonest, IsAfter, step-keeps, arises-checked}
 use Rattle.linear_law.proofs.Fits.{IsCoreOrGenesis, brought-core}

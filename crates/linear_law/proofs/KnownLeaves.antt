@@ -6,13 +6,12 @@ use Rattle.definitions.specs.Frames.{Core, genesis_core}
 use Rattle.definitions.specs.FrameLimits.{IsCore}
 use Rattle.definitions.specs.Branches.{Branch}
 use Rattle.definitions.specs.Digests.{digest_of, core_of, AllKnown, NoCollision}
-use Rattle.definitions.specs.Chronicles.{Step, Step.took_block, Step.got_vote, Step.got_new_view, Step.got_request, Step.got_fetch, Step.timed_out, Step.beat, Chronicle, tree}
+use Rattle.definitions.specs.Chronicles.{Step, Step.took_block, Step.got_vote, Step.got_new_view, Step.got_request, Step.got_fetch, Step.timed_out, Step.beat, Chronicle, tree, IsSound}
 use Rattle.definitions.specs.Checks.{Identity}
 use Rattle.definitions.specs.States.{view, qc_high, Justified, leads, child, leaf, made_with, proposed}
 use Rattle.definitions.specs.Sendings.{To.to_all, Sending, sendings, proposes, proposal_frame}
 use Rattle.definitions.specs.Premises.{CoreOf}
 use Rattle.definitions.proofs.Digests.{digest_of-one}
-use Rattle.definitions.proofs.Sound.{IsSound}
 use Rattle.linear_law.proofs.Linear.{ground}
 use Rattle.linear_law.proofs.StoredFrames.{AreStored}
 use Rattle.linear_law.proofs.MadeCertificates.{qc_high-is}
@@ -56,7 +55,7 @@ module _ (Known : Core → Type 0) (apart : NoCollision Known) (genesis : Known 
       let x = known-block (digest_of (leaf self c)) c ch.known in
       let e = digest_of-one Known apart genesis ground x.0 (leaf self c) (g.known x.0 x.1) k.known x.2 in
       let l = g.sound.heights x.0 x.1 in
-      let f = g.sound.full in
+      let f = g.sound.bounded in
       let n = ap (λ (y : Branch). length y) e in
       omega (arith, l, f, n)
 

@@ -82,7 +82,7 @@ new-row Known sizes is_member = record {
   sound = λ p m. record {
     is_tree = record { branches = λ x k. one_only (λ (b : Branch). IsBranch b) tt x k; one = λ x y k l e. by x k ∙ sym (by y l); parents = λ b parent k. absurd (cons-nil b parent (by (b ∷ parent) k)); genesis = inl refl };
     lawful = tt;
-    full = omega arith;
+    bounded = omega arith;
     heights = λ x k. one_only (λ (b : Branch). length b < 1) (omega arith) x k;
   };
   known = λ p m b k. one_only (AllKnown Known) tt b k;

@@ -4,14 +4,13 @@ use Rattle.std.proofs.Common.{ℕ, ◌≡◌, Bool, true, false, [], ◌∷◌, 
 use Rattle.std.specs.Bool.{⊤}
 use Rattle.std.proofs.lemmas.Bool.{eqb-true, eq-eqb, cond_both, cond-true, cond-false, cases_Bool, ne_eqb}
 use Rattle.definitions.proofs.Digests.{digest_of-one}
-use Rattle.definitions.proofs.Sound.{IsSound}
 use Rattle.definitions.proofs.Branches.{just1-extends}
 use Rattle.definitions.specs.Lists.{Among}
 use Rattle.definitions.specs.Frames.{Core, genesis_core}
 use Rattle.definitions.specs.Branches.{Branch, just1, Extends}
 use Rattle.ids.specs.Sizes.{Sizes}
 use Rattle.definitions.specs.Digests.{digest_of, core_of, AllKnown, NoCollision}
-use Rattle.definitions.specs.Chronicles.{Admitted, Step, Step.took_block, Step.got_vote, Step.got_new_view, Step.got_request, Step.got_fetch, Step.timed_out, Step.beat, Chronicle, voted, taken, tree, IsLawful, IsLawfulTake}
+use Rattle.definitions.specs.Chronicles.{Admitted, Step, Step.took_block, Step.got_vote, Step.got_new_view, Step.got_request, Step.got_fetch, Step.timed_out, Step.beat, Chronicle, voted, taken, tree, IsLawful, IsLawfulTake, IsSound}
 use Rattle.definitions.specs.Agreement.{Order, steps_of, IsBacked, IsOrderly}
 
 abbrev pub put_row : ℕ → Chronicle → (ℕ → Chronicle) → ℕ → Chronicle

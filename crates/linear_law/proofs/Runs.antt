@@ -8,7 +8,7 @@ use Rattle.std.proofs.lemmas.Bool.{and_parts, eq-eqb, cond_both, cond-true, not-
 use Rattle.std.specs.List.{list_any}
 use Rattle.definitions.proofs.Lists.{Among-either, Among-map}
 use Rattle.definitions.proofs.Branches.{extends-from}
-use Rattle.definitions.proofs.Sound.{IsSound, Outcome, Outcome.unchanged, Outcome.refused, Outcome.lacks, Outcome.conflict, Outcome.stood, Outcome.cut, step-outcome, Keeps, ruling-sound, IsCheckedInput}
+use Rattle.definitions.proofs.Sound.{Outcome, Outcome.unchanged, Outcome.refused, Outcome.lacks, Outcome.conflict, Outcome.stood, Outcome.cut, step-outcome, Keeps, ruling-sound, IsCheckedInput}
 use Rattle.linear_law.proofs.Inputs.{Carries, FromInput, AllStanding, ruling-from, IsCarried, check-carried, carried-checked}
 use Rattle.linear_law.proofs.Rows.{IsRow, same-row, put_row, put_row-both, StepMayFollow, row-grows}
 use Rattle.linear_law.proofs.Effects.{is_member, Arises, Brings, Effects, Effects.idle, Effects.step_by, Effects.hearing, Effects.submitting, admits-good, effects}
@@ -20,7 +20,7 @@ use Rattle.ids.specs.Sizes.{replicas, quorum}
 use Rattle.definitions.specs.Keyrings.{verify}
 use Rattle.definitions.specs.Digests.{digest_of, NoCollision}
 use Rattle.definitions.specs.Histories.{Answer, last_seq, answer_to}
-use Rattle.definitions.specs.Chronicles.{Admitted, Step, Step.took_block, Step.got_vote, Step.got_new_view, Step.got_request, Step.got_fetch, Step.timed_out, Step.beat, Chronicle, voted, taken, decided, decided_by, decides, executed, history}
+use Rattle.definitions.specs.Chronicles.{Admitted, Step, Step.took_block, Step.got_vote, Step.got_new_view, Step.got_request, Step.got_fetch, Step.timed_out, Step.beat, Chronicle, voted, taken, decided, decided_by, decides, executed, history, IsSound}
 use Rattle.definitions.specs.Checks.{Identity, Findings}
 use Rattle.definitions.specs.States.{Justified, view, leads, proposed}
 use Rattle.definitions.specs.Rulings.{Input, Ruling, Ruling.due, conflicts, ruling}

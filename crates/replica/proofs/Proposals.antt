@@ -14,7 +14,7 @@ use Rattle.definitions.specs.Checks.{Identity, Findings, findings, identity_of}
 use Rattle.definitions.specs.Branches.{Branch, justify_height, just1}
 use Rattle.definitions.specs.Digests.{digest, digest_of}
 use Rattle.definitions.specs.Trees.{Stored, TreeState, blocks, find_in, block_of, clear_above, most_blocks, Placing, Placing.stands, Placing.grows, Placing.lacks_parent, Placing.unfit, placing}
-use Rattle.definitions.specs.Chronicles.{Admitted, Step, Step.took_block, Chronicle, taken, stored, stored_of, tree, may_vote}
+use Rattle.definitions.specs.Chronicles.{Admitted, Step, Step.took_block, Chronicle, taken, stored, stored_of, tree, may_vote, IsSound}
 use Rattle.definitions.specs.States.{Justified, view, proposed}
 use Rattle.definitions.specs.Rulings as rulings
 use Rattle.definitions.specs.Rulings.{Input, Input.proposal_in, Ruling, admitted, votes_for, take_block, on_placing, ruling}
@@ -22,7 +22,7 @@ use Rattle.definitions.specs.Replicas.{ample, running, stopped, stops, fails, as
 use Rattle.definitions.proofs.Branches.{justify_height-just1}
 use Rattle.definitions.proofs.Trees.{found-in, found-itself, IsUnfit, IsPlaced, placed, digest-core}
 use Rattle.definitions.proofs.Held.{blocks-stored}
-use Rattle.definitions.proofs.Sound.{IsChecked, IsSound, OnStands, ruling-sound}
+use Rattle.definitions.proofs.Sound.{IsChecked, OnStands, ruling-sound}
 use Rattle.block_tree.specs.Insertions.{InsertedAt}
 use Rattle.replica.specs.declared.state.State.{State}
 use Rattle.replica.specs.Replay.{or_genesis, branch_in}

@@ -11,11 +11,10 @@ use Rattle.definitions.specs.Keyrings.{Keys, keyring_of, vector_for}
 use Rattle.definitions.specs.Checks.{Findings, identity_of}
 use Rattle.definitions.specs.Branches.{Branch, just1}
 use Rattle.definitions.specs.Digests.{digest_of}
-use Rattle.definitions.specs.Chronicles.{Admitted, Step.took_block, Chronicle, tree}
+use Rattle.definitions.specs.Chronicles.{Admitted, Step.took_block, Chronicle, tree, IsSound}
 use Rattle.definitions.specs.States.{view}
 use Rattle.definitions.specs.Rulings.{admitted, conflicts}
 use Rattle.definitions.specs.Sendings.{to_party, sendings}
-use Rattle.definitions.proofs.Sound.{IsSound}
 use Rattle.replica.specs.Replay.{branch_in}
 use Rattle.replica.specs.Steps.{Sent, shown}
 use Rattle.replica.specs.State.{AreRecordsOf, tree_of}
