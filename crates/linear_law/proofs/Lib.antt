@@ -18,3 +18,4 @@ pub mod Receipts
 pub mod Accounts
 pub mod Final
 pub mod FramedRuns
+pub mod WholeRuns

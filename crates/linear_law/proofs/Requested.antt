@@ -6,7 +6,7 @@ use Rattle.definitions.proofs.Lists.{Among-before}
 use Rattle.definitions.proofs.Sound.{Outcome, Outcome.unchanged, Outcome.refused, Outcome.lacks, Outcome.conflict, Outcome.stood, Outcome.cut, step-outcome}
 use Rattle.linear_law.proofs.Inputs.{all-among, FromInput, AllStanding, ruling-from}
 use Rattle.linear_law.proofs.Rows.{put_row-both}
-use Rattle.linear_law.proofs.Effects.{is_member, Arises, Effects, Effects.idle, Effects.step_by, Effects.hearing, Effects.submitting, admits-good, effects}
+use Rattle.linear_law.proofs.Effects.{ComesFramed, is_member, Arises, Effects, Effects.idle, Effects.step_by, Effects.hearing, Effects.submitting, admits-good, effects}
 use Rattle.linear_law.proofs.Runs.{chronicles, IsRun, IsHonest, member-faulty, arises-checked, arises-carried, put-chronicle}
 use Rattle.definitions.proofs.Chronicles.{taken-now}
 use Rattle.definitions.specs.Lists.{Among}
@@ -21,7 +21,7 @@ use Rattle.definitions.specs.Replicas.{Memory, Replica, Reaction, step}
 use Rattle.definitions.specs.Worlds.{World, Sent, Event, self_of}
 use Rattle.definitions.specs.Runs.{refusal}
 use Rattle.definitions.specs.Events.{Effect, nothing, stepped, told, submitted, party_of, effect, happens}
-use Rattle.definitions.specs.Premises.{IsReadIn, Claim, IsTagOf, WasSent}
+use Rattle.definitions.specs.Premises.{Claim, IsTagOf, WasSent}
 use Rattle.definitions.specs.Frames as frame
 
 -- its client sent a request of the same content
@@ -88,7 +88,7 @@ module _ (Known : Core → Type 0) where
   pub happens-requested : (w : World) (e : Event) (m : Memory) → IsRun Known w → IsHonest Known w e → refusal w e ≡ None → ((p : ℕ) → is_member w p ≡ true → AllRequested w w.sent (chronicles w p)) → (p : ℕ) → is_member w p ≡ true → AllRequested (happens w (e, m)) (happens w (e, m)).sent (chronicles (happens w (e, m)) p)
   unfolding happens
   happens-requested w e m run honest ok old p mp a k cl c mc f =
-      let r = effect-requested w e m (effect w (e, m)) run honest (effects w e m honest.read ok) old p mp a k cl c mc f in
+      let r = effect-requested w e m (effect w (e, m)) run honest (effects w e m honest.framed ok) old p mp a k cl c mc f in
       (r.0, r.1, Among-before r.0 w.sent _ r.2, r.3, r.4, r.5, r.6)
 
 -- ---- stored cores
@@ -127,6 +127,6 @@ module _ (Known : Core → Type 0) where
   effect-stored w e m f run (submitting c payload i ok) old = old
 
   -- each event keeps it
-  pub happens-stored : (w : World) (e : Event) (m : Memory) → IsRun Known w → IsReadIn w e → refusal w e ≡ None → ((p : ℕ) → is_member w p ≡ true → StoresCores (chronicles w p)) → (p : ℕ) → is_member w p ≡ true → StoresCores (chronicles (happens w (e, m)) p)
+  pub happens-stored : (w : World) (e : Event) (m : Memory) → IsRun Known w → ComesFramed w e → refusal w e ≡ None → ((p : ℕ) → is_member w p ≡ true → StoresCores (chronicles w p)) → (p : ℕ) → is_member w p ≡ true → StoresCores (chronicles (happens w (e, m)) p)
   unfolding happens
   happens-stored w e m run rd ok old = effect-stored w e m (effect w (e, m)) run (effects w e m rd ok) old

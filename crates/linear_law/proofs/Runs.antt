@@ -11,7 +11,7 @@ use Rattle.definitions.proofs.Branches.{extends-from}
 use Rattle.definitions.proofs.Sound.{Outcome, Outcome.unchanged, Outcome.refused, Outcome.lacks, Outcome.conflict, Outcome.stood, Outcome.cut, step-outcome, Keeps, ruling-sound, IsCheckedInput}
 use Rattle.linear_law.proofs.Inputs.{Carries, FromInput, AllStanding, ruling-from, IsCarried, check-carried, carried-checked}
 use Rattle.linear_law.proofs.Rows.{IsRow, same-row, put_row, put_row-both, StepMayFollow, row-grows}
-use Rattle.linear_law.proofs.Effects.{is_member, Arises, Brings, Effects, Effects.idle, Effects.step_by, Effects.hearing, Effects.submitting, admits-good, effects}
+use Rattle.linear_law.proofs.Effects.{is_member, ComesFramed, Arises, Brings, Effects, Effects.idle, Effects.step_by, Effects.hearing, Effects.submitting, admits-good, effects}
 use Rattle.definitions.specs.Lists.{Among, count_below}
 use Rattle.definitions.specs.Frames.{Core, Vote, Certificate, Frame, genesis_core, reply_content}
 use Rattle.definitions.specs.Branches.{Branch, just3, Conflict}
@@ -29,7 +29,7 @@ use Rattle.definitions.specs.Replicas.{Memory, Replica, Reaction, Reaction.sends
 use Rattle.definitions.specs.Worlds.{World, Sent, Event, self_of, put}
 use Rattle.definitions.specs.Runs.{refusal}
 use Rattle.definitions.specs.Events.{Effect, nothing, stepped, out_of, answer_of, brought, party_of, effect, happens, told, submitted, heard_answer, submitted_out, submitted_answer}
-use Rattle.definitions.specs.Premises.{IsReadIn, Claim, IsTagOf, WasSent, NoForgeryIn, CoreOf}
+use Rattle.definitions.specs.Premises.{Claim, IsTagOf, WasSent, NoForgeryIn, CoreOf}
 use Rattle.definitions.specs.Sessions.{is_ample, Client, Session, Heard, Heard.not_counted, Submitted, Submitted.not_sent, count_reply, on_reply, submission, request_frame}
 use Rattle.definitions.specs.Tally.{Told, agrees}
 use Rattle.agreement.proofs.Agreement as agreed
@@ -49,9 +49,9 @@ pub record IsMadeWell (w : World) : Type 0 where
   pub enough : quorum w.sizes ≤ count_below (replicas w.sizes) (is_member w)
 
 pub record IsHonest (Known : Core → Type 0) (w : World) (e : Event) : Type 0 where
-  pub read : IsReadIn w e
+  pub framed : ComesFramed w e
   pub forgery : NoForgeryIn w e
-  pub cores : (f : Frame) → brought e ≡ Some f → (c : Core) → CoreOf c f → Known c
+  pub cores : (f : Frame) → brought w e ≡ Some f → (c : Core) → CoreOf c f → Known c
 
 -- ---- a block's step may follow
 
@@ -385,7 +385,7 @@ module _ (Known : Core → Type 0) (apart : NoCollision Known) (genesis : Known 
       (record { row = k.row; votes = votes }, record { rings = made.rings; enough = made.enough }, k.mild)
     where
       k : IsKept Known w e (effect w (e, m))
-      k = effect-kept w e m (effect w (e, m)) run made honest (effects w e m honest.read ok)
+      k = effect-kept w e m (effect w (e, m)) run made honest (effects w e m honest.framed ok)
 
       sent : Sending → Sent
       sent o = record { event = w.now; sender = party_of e; to = o.0; frame = o.1 }
