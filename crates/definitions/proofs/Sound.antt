@@ -15,7 +15,7 @@ use Rattle.ids.specs.Sizes.{Sizes, replicas, quorum}
 use Rattle.definitions.specs.Digests.{digest, digest_of}
 use Rattle.definitions.specs.Trees.{block_of, is_clear, clear_above, most_blocks, Placing, Placing.stands, Placing.grows, Placing.lacks_parent, Placing.unfit, placing, IsTree}
 use Rattle.definitions.proofs.Trees.{same_bytes, found-in, unfit-calm, IsPlaced, placed, tree-below, growth-tree, growth-new, grown-heights}
-use Rattle.definitions.specs.Chronicles.{Admitted, Step, Step.took_block, Step.got_vote, Step.got_new_view, Step.got_request, Step.timed_out, Step.beat, Chronicle, taken, stored, stored_of, tree, lock, history, may_vote, IsLawfulVote, IsLawfulStep, IsSound}
+use Rattle.definitions.specs.Chronicles.{Admitted, Step, Step.took_block, Step.noted, Note.got_vote, Note.got_new_view, Note.got_request, Note.timed_out, Note.beat, Chronicle, taken, stored, stored_of, tree, lock, history, may_vote, IsLawfulVote, IsLawfulStep, IsSound}
 use Rattle.definitions.specs.Checks.{Identity, Findings, is_genesis}
 use Rattle.definitions.specs.States.{is_due, pending, is_same_request}
 use Rattle.definitions.specs.Rulings.{Input, Input.proposal_in, Input.block_in, Input.vote_in, Input.new_view_in, Input.request_in, Input.fetch_in, Input.timeout_in, Input.beat_in, Ruling, Ruling.due, Ruling.missing, Ruling.refusing, find_block, admitted, votes_for, take_block, on_placing, on_block, on_request, conflicts, with_block, ruling}
@@ -160,19 +160,19 @@ other-sound need c st e l so = record {
   heights = subst (λ (t : List Branch). (x : Branch) → Among x t → length x < length t) (sym e) so.heights;
 }
 
-vote-sound : (self : Identity) (o : Option Branch) (b : Vote) (d : Bytes) (c : Chronicle) → IsSound self.sizes c → Keeps self c (with_block o b.voter d (λ x. due (got_vote b.voter b.vector x)))
+vote-sound : (self : Identity) (o : Option Branch) (b : Vote) (d : Bytes) (c : Chronicle) → IsSound self.sizes c → Keeps self c (with_block o b.voter d (λ x. due (noted (got_vote b.voter b.vector x))))
 unfolding tree taken
 vote-sound self None b d c so = tt
 vote-sound self (Some x) b d c so = other-sound _ c _ refl tt so
 
-new_view-sound : (self : Identity) (o : Option Branch) (w sender : ℕ) (q : Certificate) (d : Bytes) (c : Chronicle) → IsSound self.sizes c → Keeps self c (with_block o sender d (λ x. due (got_new_view w sender q x)))
+new_view-sound : (self : Identity) (o : Option Branch) (w sender : ℕ) (q : Certificate) (d : Bytes) (c : Chronicle) → IsSound self.sizes c → Keeps self c (with_block o sender d (λ x. due (noted (got_new_view w sender q x))))
 unfolding tree taken
 new_view-sound self None w sender q d c so = tt
 new_view-sound self (Some x) w sender q d c so = other-sound _ c _ refl tt so
 
 request-sound : (self : Identity) (r : Command) (c : Chronicle) → IsSound self.sizes c → Keeps self c (on_request r c)
 unfolding tree taken on_request
-request-sound self r c so = cond_both (is_due (history c) r && (not (list_any (is_same_request r) (pending c)) && not (nat_lt (length (pending c)) 4096))) _ _ P (λ e k. cc) (λ e. other-sound _ c (got_request r) refl tt so)
+request-sound self r c so = cond_both (is_due (history c) r && (not (list_any (is_same_request r) (pending c)) && not (nat_lt (length (pending c)) 4096))) _ _ P (λ e k. cc) (λ e. other-sound _ c (noted (got_request r)) refl tt so)
   where
     P : Ruling → Type 0
     P = Keeps self c
@@ -185,8 +185,8 @@ ruling-sound self (vote_in d b) c ch so = vote-sound self _ b d c so
 ruling-sound self (new_view_in w sender q) c ch so = new_view-sound self _ w sender q _ c so
 ruling-sound self (request_in r) c ch so = request-sound self r c so
 ruling-sound self (fetch_in sender d) c ch so = other-sound _ c _ refl tt so
-ruling-sound self timeout_in c ch so = other-sound _ c timed_out refl tt so
-ruling-sound self beat_in c ch so = other-sound _ c beat refl tt so
+ruling-sound self timeout_in c ch so = other-sound _ c (noted timed_out) refl tt so
+ruling-sound self beat_in c ch so = other-sound _ c (noted beat) refl tt so
 
 -- ---- the whole step
 

@@ -20,15 +20,19 @@ pub record Admitted : Type 0 where
   pub new : Bool  -- it was not in the tree before
   pub voted : Bool
 
+-- what a replica took in beside blocks
+pub data Note : Type 0 where
+  got_vote : (voter : ℕ) → (vector : Bytes) → (block : Branch) → Note
+  got_new_view : (view sender : ℕ) → (certificate : Certificate) → (block : Branch) → Note
+  got_request : Command → Note
+  got_fetch : (sender : ℕ) → (block : Option Branch) → Note  -- the block of its digest, where it was in the tree
+  timed_out : Note
+  beat : Note
+
 -- what a replica took in and stored
 pub data Step : Type 0 where
   took_block : Admitted → Step
-  got_vote : (voter : ℕ) → (vector : Bytes) → (block : Branch) → Step
-  got_new_view : (view sender : ℕ) → (certificate : Certificate) → (block : Branch) → Step
-  got_request : Command → Step
-  got_fetch : (sender : ℕ) → (block : Option Branch) → Step  -- the block of its digest, where it was in the tree
-  timed_out : Step
-  beat : Step
+  noted : Note → Step
 
 -- the steps of one replica
 abbrev pub Chronicle : Type 0

@@ -8,7 +8,7 @@ use Rattle.definitions.specs.Branches.{Branch, justify_height, just3, extends}
 use Rattle.definitions.specs.Bytes.{Bytes}
 use Rattle.ids.specs.Sizes.{Sizes, leader}
 use Rattle.definitions.specs.Trees.{find_in, Placing, Placing.stands, Placing.grows, Placing.lacks_parent, Placing.unfit, placing, most_blocks, clear_above}
-use Rattle.definitions.specs.Chronicles.{Admitted, Step, Step.took_block, Step.got_vote, Step.got_new_view, Step.got_request, Step.got_fetch, Step.timed_out, Step.beat, Chronicle, stored, tree, decides, executed, history, may_vote}
+use Rattle.definitions.specs.Chronicles.{Admitted, Step, Step.took_block, Step.noted, Note.got_vote, Note.got_new_view, Note.got_request, Note.got_fetch, Note.timed_out, Note.beat, Chronicle, stored, tree, decides, executed, history, may_vote}
 use Rattle.definitions.specs.Checks.{Identity, Findings}
 use Rattle.definitions.specs.States.{view, is_same_request, is_due, pending}
 
@@ -73,7 +73,7 @@ on_block self w sender core q found c = on_placing self w sender core q found c 
 unfoldable pub on_request : Command → Chronicle → Ruling
 on_request r c =
     if is_due (history c) r && (not (list_any (is_same_request r) (pending c)) && not (nat_lt (length (pending c)) most_pending))
-    then refusing fault.PoolFull else due (got_request r)
+    then refusing fault.PoolFull else due (noted (got_request r))
 
 -- what follows where the block stands in the tree
 abbrev pub with_block : Option Branch → ℕ → Bytes → (Branch → Ruling) → Ruling
@@ -84,12 +84,12 @@ with_block (Some b) sender d follows = follows b
 unfoldable pub ruling : Identity → Input → Chronicle → Ruling
 ruling self (proposal_in w core q found) c = on_block self (Some w) (leader self.sizes w) core q found c
 ruling self (block_in sender core q found) c = on_block self None sender core q found c
-ruling self (vote_in d b) c = with_block (find_block d c) b.voter d (λ x. due (got_vote b.voter b.vector x))
-ruling self (new_view_in w sender q) c = with_block (find_block q.digest c) sender q.digest (λ x. due (got_new_view w sender q x))
+ruling self (vote_in d b) c = with_block (find_block d c) b.voter d (λ x. due (noted (got_vote b.voter b.vector x)))
+ruling self (new_view_in w sender q) c = with_block (find_block q.digest c) sender q.digest (λ x. due (noted (got_new_view w sender q x)))
 ruling self (request_in r) c = on_request r c
-ruling self (fetch_in sender d) c = due (got_fetch sender (find_block d c))
-ruling self timeout_in c = due timed_out
-ruling self beat_in c = due beat
+ruling self (fetch_in sender d) c = due (noted (got_fetch sender (find_block d c)))
+ruling self timeout_in c = due (noted timed_out)
+ruling self beat_in c = due (noted beat)
 
 -- the block that a step decides neither extends the last executed one nor is extended by it
 unfoldable pub conflicts : Step → Chronicle → Bool

@@ -35,7 +35,8 @@ use Rattle.linear_law.proofs.Fits.{IsCoreOrGenesis}
 use Rattle.linear_law.proofs.Linear.{IsGood, ground}
 use Rattle.linear_law.proofs.Final.{IsAccount}
 use Rattle.linear_law.proofs.StoredFrames.{arises-read, AreStored, IsStoredRuling, ruling-stored}
-use Rattle.linear_law.proofs.SentFrames.{fetch-fits, sendings-fit}
+use Rattle.linear_law.proofs.SentFrames.{fetch-fits, sends-fit}
+use Rattle.linear_law.proofs.Sends.{sends}
 use Rattle.linear_law.proofs.FitAnswers.{answers-fit}
 use Rattle.linear_law.proofs.KnownLeaves.{IsLeafKnown, IsGrown, known-now}
 
@@ -104,14 +105,14 @@ module _ (Known : Core → Type 0) (apart : NoCollision Known) (genesis : Known 
   after-framed self m v before r cores number g leaf so known stored asks sent (stood st u e h) = record {
     stored = now.stored;
     leaf = λ i. kept;
-    out = λ o k. sendings-fit self st before.chronicle o (record {
+    out = λ o k. sends-fit self st before.chronicle o (record {
       lawful = so.lawful;
       stored = now.stored;
       number = number;
       before = answers-fit Known self.sizes cores before.chronicle g.sound g.known;
       now = answers-fit Known self.sizes cores (st ∷ before.chronicle) so known;
       proposal = kept.proposal;
-    }) k;
+    }) (sends self st before.chronicle o k);
   }
     where
       now : IsGrown Known self (st ∷ before.chronicle)

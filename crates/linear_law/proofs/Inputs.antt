@@ -19,7 +19,7 @@ use Rattle.definitions.specs.Branches.{Branch, just1}
 use Rattle.definitions.specs.Bytes.{Bytes}
 use Rattle.ids.specs.Sizes.{client_party}
 use Rattle.definitions.specs.Digests.{digest_of, core_of}
-use Rattle.definitions.specs.Chronicles.{Admitted, Step, Step.took_block, Step.got_vote, Step.got_new_view, Chronicle, tree, history}
+use Rattle.definitions.specs.Chronicles.{Admitted, Step, Step.took_block, Step.noted, Note.got_vote, Note.got_new_view, Chronicle, tree, history}
 use Rattle.definitions.specs.Checks.{Identity, Findings, findings, counted, is_good, vote_verifies, command_verifies, is_clear_core}
 use Rattle.definitions.specs.States.{is_due, pending, is_same_request}
 use Rattle.definitions.specs.Rulings.{Input, Input.proposal_in, Input.block_in, Input.vote_in, Input.new_view_in, Input.request_in, Input.fetch_in, Input.timeout_in, Input.beat_in, Ruling, Ruling.due, Ruling.missing, Ruling.refusing, admitted, on_placing, on_block, on_request, with_block, ruling}
@@ -72,11 +72,11 @@ placed-from self i w sender core q f c ca (unfit n) h = tt
 block-from : (self : Identity) (i : Input) (w : Option ℕ) (sender : ℕ) (core : Core) (q : Certificate) (f : Findings) (c : Chronicle) → Carries i core q f → AllStanding (FromInput i) (on_block self w sender core q f c)
 block-from self i w sender core q f c ca = placed-from self i w sender core q f c ca (placing most_blocks core q (tree c)) (placed most_blocks core q (tree c))
 
-vote-from : (self : Identity) (i : Input) (o : Option Branch) (b : Vote) (d : Bytes) → AllStanding (FromInput i) (with_block o b.voter d (λ x. due (got_vote b.voter b.vector x)))
+vote-from : (self : Identity) (i : Input) (o : Option Branch) (b : Vote) (d : Bytes) → AllStanding (FromInput i) (with_block o b.voter d (λ x. due (noted (got_vote b.voter b.vector x))))
 vote-from self i None b d = tt
 vote-from self i (Some x) b d = tt
 
-new_view-from : (self : Identity) (i : Input) (o : Option Branch) (w sender : ℕ) (q : Certificate) (d : Bytes) → AllStanding (FromInput i) (with_block o sender d (λ x. due (got_new_view w sender q x)))
+new_view-from : (self : Identity) (i : Input) (o : Option Branch) (w sender : ℕ) (q : Certificate) (d : Bytes) → AllStanding (FromInput i) (with_block o sender d (λ x. due (noted (got_new_view w sender q x))))
 new_view-from self i None w sender q d = tt
 new_view-from self i (Some x) w sender q d = tt
 

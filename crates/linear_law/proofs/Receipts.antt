@@ -13,7 +13,8 @@ use Rattle.linear_law.proofs.Effects.{is_member, Effects, Effects.idle, Effects.
 use Rattle.linear_law.proofs.Runs.{chronicles, IsRun, IsMadeWell, IsHonest, member-faulty, arises-checked}
 use Rattle.linear_law.proofs.Fits.{AnswersFit}
 use Rattle.definitions.proofs.Counts.{apart-count, first-passing}
-use Rattle.linear_law.proofs.Replies.{ReplyStands, answer_at, answers-grow, sendings-reply, held-grows}
+use Rattle.linear_law.proofs.Sends.{sends}
+use Rattle.linear_law.proofs.Replies.{ReplyStands, answer_at, answers-grow, sends-reply, held-grows}
 use Rattle.definitions.specs.Lists.{IsBeginning, Among, AreDistinct, count_below}
 use Rattle.definitions.specs.Bytes.{Bytes}
 use Rattle.ids.specs.Sizes.{replicas, quorum, client_party}
@@ -65,7 +66,7 @@ outcome-replies self m v old r (refused s n u l) o k = absurd k
 outcome-replies self m v old r (lacks sender d u) o k =
     cond_both (is_ample m && not (sender == self.ring.party)) ((to_party sender, fetch_frame self sender d) ∷ []) [] (λ (l : List Sending). Among o l → ReplyStands (history old.chronicle) o) (λ e y. fetch-reply self sender d (history old.chronicle) o y) (λ e y. nothing-replies (history old.chronicle) o y) k
 outcome-replies self m v old r (conflict st u e h) o k = absurd k
-outcome-replies self m v old r (stood st u e h) o k = sendings-reply self st old.chronicle h o k
+outcome-replies self m v old r (stood st u e h) o k = sends-reply self st old.chronicle h o (sends self st old.chronicle o k)
 outcome-replies self m v old r (cut st n u e h) o k = absurd k
 
 -- what an effect does to what is held, and what it replies

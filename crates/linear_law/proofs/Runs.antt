@@ -3,13 +3,14 @@ use Rattle.definitions.proofs.Chronicles.{executed-decided, voted-grows}
 use Rattle.ids.specs.declared.kind.Kind.TheVariants as kind
 use Rattle.ids.specs.declared.fault.Fault.{Fault}
 use Rattle.ids.specs.declared.fault.Fault.TheVariants as fault
-use Rattle.std.proofs.Common.{ℕ, suc, ◌≡◌, ◌-◌, ◌≤◌, ◌&&◌, not, Bool, true, false, List, [], ◌∷◌, ◌++◌, length, cond, refl, sym, ap, subst, ◌∙◌, inl, inr, map, Option, Some, None, true≢false, ◌==◌, nat_lt, ◌%◌, filter, ◌^◌}
+use Rattle.std.proofs.Common.{ℕ, suc, ◌≡◌, ◌-◌, ◌≤◌, ◌&&◌, not, Bool, true, false, List, [], ◌∷◌, ◌++◌, length, cond, refl, sym, ap, subst, ◌∙◌, inl, inr, map, Option, Some, None, true≢false, ◌==◌, nat_lt, filter, ◌^◌}
 use Rattle.std.proofs.lemmas.Bool.{and_parts, eq-eqb, cond_both, cond-true, not-true}
 use Rattle.std.specs.List.{list_any}
 use Rattle.definitions.proofs.Lists.{Among-either, Among-map}
 use Rattle.definitions.proofs.Branches.{extends-from}
 use Rattle.definitions.proofs.Sound.{Outcome, Outcome.unchanged, Outcome.refused, Outcome.lacks, Outcome.conflict, Outcome.stood, Outcome.cut, step-outcome, Keeps, ruling-sound, IsCheckedInput}
 use Rattle.linear_law.proofs.Inputs.{Carries, FromInput, AllStanding, ruling-from, IsCarried, check-carried, carried-checked}
+use Rattle.linear_law.proofs.Sends.{Sends, Sends.its_vote, Sends.new_reply, Sends.old_reply, Sends.its_view, Sends.its_block, Sends.its_proposal, sends}
 use Rattle.linear_law.proofs.Rows.{IsRow, same-row, put_row, put_row-both, StepMayFollow, row-grows}
 use Rattle.linear_law.proofs.Effects.{is_member, ComesFramed, Arises, Brings, Effects, Effects.idle, Effects.step_by, Effects.hearing, Effects.submitting, admits-good, effects}
 use Rattle.definitions.specs.Lists.{Among, count_below}
@@ -19,12 +20,11 @@ use Rattle.definitions.specs.Bytes.{Bytes}
 use Rattle.ids.specs.Sizes.{replicas, quorum}
 use Rattle.definitions.specs.Keyrings.{verify}
 use Rattle.definitions.specs.Digests.{digest_of, NoCollision}
-use Rattle.definitions.specs.Histories.{Answer, last_seq, answer_to}
-use Rattle.definitions.specs.Chronicles.{Admitted, Step, Step.took_block, Step.got_vote, Step.got_new_view, Step.got_request, Step.got_fetch, Step.timed_out, Step.beat, Chronicle, voted, taken, decided, decided_by, decides, executed, history, IsSound}
+use Rattle.definitions.specs.Chronicles.{Admitted, Step, Step.took_block, Step.noted, Chronicle, voted, taken, decided, decided_by, decides, executed, IsSound}
 use Rattle.definitions.specs.Checks.{Identity, Findings}
-use Rattle.definitions.specs.States.{Justified, view, leads, proposed}
+use Rattle.definitions.specs.States.{view}
 use Rattle.definitions.specs.Rulings.{Input, Ruling, Ruling.due, conflicts, ruling}
-use Rattle.definitions.specs.Sendings.{as_taken, Sending, To, To.to_all, To.to_party, sendings, new_replies, reply_to, vote_frame, proposes, again, supplies, block_frame, new_view_frame, proposal_frame, fetch_frame}
+use Rattle.definitions.specs.Sendings.{Sending, To, To.to_all, To.to_party, sendings, reply_to, vote_frame, block_frame, new_view_frame, proposal_frame, fetch_frame}
 use Rattle.definitions.specs.Replicas.{Memory, Replica, Reaction, Reaction.sends_out, Reaction.asks_for, step}
 use Rattle.definitions.specs.Worlds.{World, Sent, Event, self_of, put}
 use Rattle.definitions.specs.Runs.{refusal}
@@ -97,80 +97,31 @@ module _ (Known : Core → Type 0) where
             let r = counted-vote w e i f.0 f.1 f.2 run honest me b.0 b.1 v (subst (λ (l : List ℕ). Among v l) f.4.counted_is m) mv in
             (r.0, r.1, r.2 ∙ f.4.justified);
       }
-  may-follow w e i run honest me ar (got_vote v t b) f = tt
-  may-follow w e i run honest me ar (got_new_view x s q b) f = tt
-  may-follow w e i run honest me ar (got_request r) f = tt
-  may-follow w e i run honest me ar (got_fetch s b) f = tt
-  may-follow w e i run honest me ar timed_out f = tt
-  may-follow w e i run honest me ar beat f = tt
+  may-follow w e i run honest me ar (noted n) f = tt
 
 -- ---- votes that go out stand in the chronicle
 
 abbrev VoteStands : Chronicle → Sending → Type 0
 VoteStands c o = (d : Bytes) (b : Vote) → o.1 ≡ frame.vote d b → (x : Branch) × Among x (voted c) × (digest_of x ≡ d)
 
-reply-stands : (self : Identity) (c : Chronicle) (a : Answer) (o : Sending) → o ≡ reply_to self a → VoteStands c o
-unfolding reply_to
-reply-stands self c a o e d b h = absurd (apart (sym (ap (λ (x : Sending). x.1) e) ∙ h))
-  where
-    apart : (reply_to self a).1 ≡ frame.vote d b → ⊥
-    apart k = cc
-
-replies-stand : (self : Identity) (st : Step) (c k : Chronicle) (o : Sending) → Among o (new_replies self st c) → VoteStands k o
-unfolding new_replies
-replies-stand self st c k o m = let r = Among-map (reply_to self) _ o m in reply-stands self k r.0 o r.2
-
-own-vote : (self : Identity) (a : Admitted) (c : Chronicle) (t : Bool) (to : To) (o : Sending) → a.voted ≡ t → Among o (cond t ((to, vote_frame self a.branch) ∷ []) []) → VoteStands (took_block a ∷ c) o
-unfolding vote_frame voted
-own-vote self a c true to o e (inl i) d b h = (a.branch, subst (Among a.branch) (sym (cond-true a.voted (a.branch ∷ voted c) (voted c) e)) (inl refl), digests (sym (ap (λ (x : Sending). x.1) i) ∙ h))
-  where
-    digests : vote_frame self a.branch ≡ frame.vote d b → digest_of a.branch ≡ d
-    digests k = cc
-own-vote self a c true to o e (inr m) d b h = absurd m
-own-vote self a c false to o e m d b h = absurd m
-
 one-stands : (c : Chronicle) (to : To) (f : Frame) → ((d : Bytes) (b : Vote) → f ≡ frame.vote d b → ⊥) → (o : Sending) → Among o ((to, f) ∷ []) → VoteStands c o
 one-stands c to f apart o (inl i) d b h = absurd (apart d b (sym (ap (λ (x : Sending). x.1) i) ∙ h))
 one-stands c to f apart o (inr m) d b h = absurd m
 
-proposes-stand : (self : Identity) (w : ℕ) (p : Option Justified) (c : Chronicle) (o : Sending) → Among o (proposes self w p) → VoteStands c o
-unfolding proposal_frame
-proposes-stand self w None c o m = absurd m
-proposes-stand self w (Some p) c o m = one-stands c to_all (proposal_frame self w p) (λ d b h. cc) o m
-
-again-stand : (self : Identity) (a : Option Answer) (c : Chronicle) (o : Sending) → Among o (again self a) → VoteStands c o
-again-stand self None c o m = absurd m
-again-stand self (Some a) c o (inl e) = reply-stands self c a o e
-again-stand self (Some a) c o (inr m) = absurd m
-
-supplies-stand : (self : Identity) (to : ℕ) (a : Option Admitted) (c : Chronicle) (o : Sending) → Among o (supplies self to a) → VoteStands c o
-unfolding block_frame
-supplies-stand self to None c o m = absurd m
-supplies-stand self to (Some a) c o m = one-stands c (to_party to) (block_frame self to a) (λ d b h. cc) o m
-
-new_view-stands : (self : Identity) (k c : Chronicle) (o : Sending) → Among o ((to_all, new_view_frame self k) ∷ []) → VoteStands c o
-unfolding new_view_frame
-new_view-stands self k c o m = one-stands c to_all (new_view_frame self k) (λ d b h. cc) o m
-
 nothing-stands : (c : Chronicle) (o : Sending) → Among o [] → VoteStands c o
 nothing-stands c o m = absurd m
 
-block-stands : (self : Identity) (a : Admitted) (c : Chronicle) (to : To) (o : Sending) → Among o (cond a.voted ((to, vote_frame self a.branch) ∷ []) [] ++ new_replies self (took_block a) c) → VoteStands (took_block a ∷ c) o
-block-stands self a c to o m =
-    elim (Among-either o (cond a.voted ((to, vote_frame self a.branch) ∷ []) []) (new_replies self (took_block a) c) m) [ inl k ↦ own-vote self a c a.voted to o refl k | inr k ↦ replies-stand self (took_block a) c (took_block a ∷ c) o k ]
-
-sendings-stand : (self : Identity) (st : Step) (c : Chronicle) (o : Sending) → Among o (sendings self st c) → VoteStands (st ∷ c) o
-unfolding sendings
-sendings-stand self (took_block a) c o = λ m. block-stands self a c (to_party (view self.sizes c % replicas self.sizes)) o m
-sendings-stand self (got_vote v t b) c o = λ m. absurd m
-sendings-stand self (got_new_view w s q b) c o =
-    cond_both (nat_lt (view self.sizes c) (view self.sizes (got_new_view w s q b ∷ c))) _ [] (λ (l : List Sending). Among o l → VoteStands (got_new_view w s q b ∷ c) o) (λ e m. new_view-stands self (got_new_view w s q b ∷ c) _ o m) (λ e m. nothing-stands _ o m)
-sendings-stand self (got_request r) c o =
-    cond_both (r.seq == last_seq r.client (history c)) _ [] (λ (l : List Sending). Among o l → VoteStands (got_request r ∷ c) o) (λ e m. again-stand self (answer_to r.client r.seq (history c)) _ o m) (λ e m. nothing-stands _ o m)
-sendings-stand self (got_fetch s b) c o = λ m. supplies-stand self s (as_taken b c) _ o m
-sendings-stand self timed_out c o = λ m. new_view-stands self (timed_out ∷ c) _ o m
-sendings-stand self beat c o =
-    cond_both (leads self c) _ [] (λ (l : List Sending). Among o l → VoteStands (beat ∷ c) o) (λ e m. proposes-stand self (view self.sizes c) (proposed self (beat ∷ c)) _ o m) (λ e m. nothing-stands _ o m)
+sends-stand : (self : Identity) (st : Step) (c : Chronicle) (o : Sending) → Sends self st c o → VoteStands (st ∷ c) o
+unfolding vote_frame reply_to new_view_frame block_frame proposal_frame voted
+sends-stand self st c o (its_vote a e v to) d b h =
+    let same : frame.vote (digest_of a.branch) _ ≡ frame.vote d b = h in
+    let own : Among a.branch (voted (took_block a ∷ c)) = subst (Among a.branch) (sym (cond-true a.voted (a.branch ∷ voted c) (voted c) v)) (inl refl) in
+    (a.branch, subst (λ (x : Step). Among a.branch (voted (x ∷ c))) (sym e) own, (let k : digest_of a.branch ≡ d = cc in k))
+sends-stand self st c o (new_reply a m) d b h = absurd (let k : (reply_to self a).1 ≡ frame.vote d b = h in cc)
+sends-stand self st c o (old_reply a m) d b h = absurd (let k : (reply_to self a).1 ≡ frame.vote d b = h in cc)
+sends-stand self st c o its_view d b h = absurd (let k : new_view_frame self (st ∷ c) ≡ frame.vote d b = h in cc)
+sends-stand self st c o (its_block to a m) d b h = absurd (let k : block_frame self to a ≡ frame.vote d b = h in cc)
+sends-stand self st c o (its_proposal j e) d b h = absurd (let k : proposal_frame self (view self.sizes c) j ≡ frame.vote d b = h in cc)
 
 -- ---- two decisions of one chronicle do not conflict, so none is refused
 
@@ -201,12 +152,7 @@ conflict-decides (took_block a) c h =
       decided-taken a (taken c) (executed c) a.new (executed-decided c),
       (λ e. true≢false (sym (extends-from _ _ e) ∙ not-true _ r.0), λ e. true≢false (sym (extends-from _ _ e) ∙ not-true _ r.1)),
     )
-conflict-decides (got_vote v t b) c h = absurd (true≢false (sym h))
-conflict-decides (got_new_view w s q b) c h = absurd (true≢false (sym h))
-conflict-decides (got_request r) c h = absurd (true≢false (sym h))
-conflict-decides (got_fetch s b) c h = absurd (true≢false (sym h))
-conflict-decides timed_out c h = absurd (true≢false (sym h))
-conflict-decides beat c h = absurd (true≢false (sym h))
+conflict-decides (noted n) c h = absurd (true≢false (sym h))
 
 -- a row in which each member's chronicle is lawful and in order has no conflict
 pub row-agrees : (Known : Core → Type 0) (w : World) (row : ℕ → Chronicle) → IsMadeWell w → IsRow Known w.sizes (is_member w) row → (i j : ℕ) (a b : Branch) → is_member w i ≡ true → is_member w j ≡ true → Among a (decided (row i)) → Among b (decided (row j)) → Conflict a b → ⊥
@@ -278,7 +224,7 @@ module _ (Known : Core → Type 0) (apart : NoCollision Known) (genesis : Known 
   after-step w p m v r made row me more (refused s n u l) = record { row = row-kept Known w p _ row refl; grows = λ x k. k; out = λ o k. nothing-stands _ o k; mild = mild-number n l }
   after-step w p m v r made row me more (lacks sender d u) = record { row = row-kept Known w p _ row refl; grows = λ x k. k; out = λ o k. lacks-stand (self_of w p) m sender d _ o k; mild = mild-number fault.UnknownParent (λ k. cc) }
   after-step w p m v r made row me more (conflict st u e h) = absurd (no-conflict Known w made p st me (more st e) h)
-  after-step w p m v r made row me more (stood st u e h) = record { row = row-more Known w p _ (more st e); grows = λ x k. voted-grows st _ x k; out = λ o k. sendings-stand (self_of w p) st _ o k; mild = done-mild (sendings (self_of w p) st (chronicles w p)) }
+  after-step w p m v r made row me more (stood st u e h) = record { row = row-more Known w p _ (more st e); grows = λ x k. voted-grows st _ x k; out = λ o k. sends-stand (self_of w p) st _ o (sends (self_of w p) st _ o k); mild = done-mild (sendings (self_of w p) st (chronicles w p)) }
   after-step w p m v r made row me more (cut st n u e h) = record { row = row-more Known w p _ (more st e); grows = λ x k. voted-grows st _ x k; out = λ o k. nothing-stands _ o k; mild = mild-number fault.Memory (λ k. cc) }
 
   -- a member's step keeps the row

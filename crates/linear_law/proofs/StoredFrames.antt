@@ -11,7 +11,7 @@ use Rattle.definitions.specs.Frames as frame
 use Rattle.definitions.specs.FrameLimits.{IsDigest, IsCommand, IsCore, IsVote, IsCertificate, IsFrame}
 use Rattle.definitions.specs.Branches.{Branch, just1}
 use Rattle.definitions.specs.Digests.{digest_of, core_of}
-use Rattle.definitions.specs.Chronicles.{Admitted, Step, Step.took_block, Step.got_vote, Step.got_new_view, Step.got_request, Chronicle, tree, history, IsSound}
+use Rattle.definitions.specs.Chronicles.{Admitted, Step, Step.took_block, Step.noted, Note.got_vote, Note.got_new_view, Note.got_request, Chronicle, tree, history, IsSound}
 use Rattle.definitions.specs.Checks.{Identity, Findings, is_good, is_genesis, vote_verifies}
 use Rattle.definitions.specs.States.{is_due, pending, is_same_request}
 use Rattle.definitions.specs.Rulings.{Input, Input.proposal_in, Input.block_in, Input.vote_in, Input.new_view_in, Input.request_in, Input.fetch_in, Input.timeout_in, Input.beat_in, Ruling, Ruling.due, Ruling.missing, Ruling.refusing, find_block, admitted, on_placing, on_block, on_request, with_block, ruling}
@@ -52,9 +52,9 @@ pub record IsStoredView (self : Identity) (view : ℕ) (q : Certificate) (b : Br
 -- a step that is stored after this chronicle
 abbrev pub IsStored : Identity → Chronicle → Step → Type 0
 IsStored self c (took_block a) = IsStoredBlock self a
-IsStored self c (got_vote voter v b) = IsStoredVote self (record { voter = voter; vector = v }) b c
-IsStored self c (got_new_view view sender q b) = IsStoredView self view q b c
-IsStored self c (got_request r) = IsCommand self.sizes r
+IsStored self c (noted (got_vote voter v b)) = IsStoredVote self (record { voter = voter; vector = v }) b c
+IsStored self c (noted (got_new_view view sender q b)) = IsStoredView self view q b c
+IsStored self c (noted (got_request r)) = IsCommand self.sizes r
 IsStored self c st = ⊤
 
 -- each step of a chronicle
@@ -126,14 +126,14 @@ block-stored : (self : Identity) (w : Option ℕ) (sender : ℕ) (core : Core) (
 block-stored self w sender core q f c hk hq g = placed-stored self w sender core q f c hk hq g (placing most_blocks core q (tree c)) (placed most_blocks core q (tree c))
 
 -- a vote
-vote-stored : (self : Identity) (b : Vote) (d : Bytes) (c : Chronicle) → IsSound self.sizes c → IsDigest d → IsVote self.sizes b → vote_verifies self d b ≡ true → (o : Option Branch) → find_block d c ≡ o → IsStoredRuling self c (with_block o b.voter d (λ x. due (got_vote b.voter b.vector x)))
+vote-stored : (self : Identity) (b : Vote) (d : Bytes) (c : Chronicle) → IsSound self.sizes c → IsDigest d → IsVote self.sizes b → vote_verifies self d b ≡ true → (o : Option Branch) → find_block d c ≡ o → IsStoredRuling self c (with_block o b.voter d (λ x. due (noted (got_vote b.voter b.vector x))))
 vote-stored self b d c so hd hb v None e = hd
 vote-stored self b d c so hd hb v (Some x) e =
     let r = found d c x e in
     record { vote_is = hb; verifies = subst (λ (y : Bytes). vote_verifies self y b ≡ true) (sym r.1) v; genesis = genesis-only c x so.is_tree r.0; among = r.0 }
 
 -- a view that is announced
-view-stored : (self : Identity) (w sender : ℕ) (q : Certificate) (c : Chronicle) → w < 2 ^ 64 → IsCertificate self.sizes q → is_good self q ≡ true → (o : Option Branch) → find_block q.digest c ≡ o → IsStoredRuling self c (with_block o sender q.digest (λ x. due (got_new_view w sender q x)))
+view-stored : (self : Identity) (w sender : ℕ) (q : Certificate) (c : Chronicle) → w < 2 ^ 64 → IsCertificate self.sizes q → is_good self q ≡ true → (o : Option Branch) → find_block q.digest c ≡ o → IsStoredRuling self c (with_block o sender q.digest (λ x. due (noted (got_new_view w sender q x))))
 view-stored self w sender q c l hq g None e = hq.digest
 view-stored self w sender q c l hq g (Some x) e = let r = found q.digest c x e in record { view_is = l; certificate_is = hq; good = g; justified = sym r.1; among = r.0 }
 
