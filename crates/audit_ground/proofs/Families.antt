@@ -11,7 +11,7 @@ use Rattle.definitions.specs.Lists.{beginning, Among, count_below}
 use Rattle.definitions.specs.Frames.{Core, genesis_core}
 use Rattle.definitions.specs.Branches.{Branch, just1}
 use Rattle.definitions.specs.Digests.{digest, StandsFor, NoCollision}
-use Rattle.definitions.specs.Chronicles.{Admitted, Step, Step.took_block, Step.got_vote, Step.got_new_view, Step.got_request, Step.got_fetch, Step.timed_out, Step.beat, Chronicle, voted}
+use Rattle.definitions.specs.Chronicles.{Admitted, Step, Step.took_block, Step.noted, Chronicle, voted}
 use Rattle.definitions.specs.Agreement.{Order, steps_of, IsBacked, IsOrdered, IsOrderly}
 use Rattle.definitions.specs.Audit.{Cut, Turns, steps_in, Judged, is_judged, chronicle_of, gives_vote, counted_by, counted_for, step_after, has_vote, is_backed, may_move, AreAllowed, AreFronts}
 use Rattle.definitions.proofs.Lists.{beginning-whole, all-passes}
@@ -72,12 +72,7 @@ order_of-steps chronicle (u ∷ earlier) i =
 given-vote : (d : Bytes) (s : Step) → gives_vote d s ≡ true → (a : Admitted) × (s ≡ took_block a) × (a.voted ≡ true) × (digest a.core ≡ d)
 unfolding gives_vote
 given-vote d (took_block a) h = let p = and_parts a.voted (bytes_eq (digest a.core) d) h in (a, refl, p.0, (bytes_decides (digest a.core) d).0 p.1)
-given-vote d (got_vote v t b) h = absurd (true≢false (sym h))
-given-vote d (got_new_view w s q b) h = absurd (true≢false (sym h))
-given-vote d (got_request r) h = absurd (true≢false (sym h))
-given-vote d (got_fetch s b) h = absurd (true≢false (sym h))
-given-vote d timed_out h = absurd (true≢false (sym h))
-given-vote d beat h = absurd (true≢false (sym h))
+given-vote d (noted n) h = absurd (true≢false (sym h))
 
 -- a block that was taken with a vote was voted for
 voted-taken : (a : Admitted) → a.voted ≡ true → (c : Chronicle) → Among (took_block a) c → Among a.branch (voted c)
@@ -114,12 +109,7 @@ module _ (Known : Core → Type 0) (apart : NoCollision Known) (genesis : Known 
   backed-step : (k : Cut) (u : ℕ) (earlier : Order) → ((i : ℕ) → steps_of i earlier ≡ beginning (k i) (chronicle_of ks i)) → (s : Step) → Among s (chronicle_of ks u) → is_backed ks k s ≡ true → IsBacked (is_judged ks) s earlier
   backed-step k u earlier same (took_block a) m h = λ new v among t.
       subst (λ (c : Chronicle). Among (just1 a.branch) (voted c)) (sym (same v)) (vote-stands k v a.certificate.digest (just1 a.branch) (named u a m).justified (backed-has_vote ks k a h new v among t))
-  backed-step k u earlier same (got_vote v t b) m h = tt
-  backed-step k u earlier same (got_new_view w s q b) m h = tt
-  backed-step k u earlier same (got_request r) m h = tt
-  backed-step k u earlier same (got_fetch s b) m h = tt
-  backed-step k u earlier same timed_out m h = tt
-  backed-step k u earlier same beat m h = tt
+  backed-step k u earlier same (noted n) m h = tt
 
   -- an order with one more step that is backed
   ordered-step : (k : Cut) (u : ℕ) (earlier : Order) → ((i : ℕ) → steps_of i earlier ≡ beginning (k i) (chronicle_of ks i)) → IsOrdered (is_judged ks) earlier

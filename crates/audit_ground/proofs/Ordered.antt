@@ -9,7 +9,7 @@ use Rattle.definitions.specs.Lists.{beginning, IsBeginning, Among}
 use Rattle.definitions.specs.Frames.{Core}
 use Rattle.definitions.specs.Branches.{Branch, just1}
 use Rattle.definitions.specs.Digests.{digest, digest_of, StandsFor}
-use Rattle.definitions.specs.Chronicles.{Admitted, Step, Step.took_block, Step.got_vote, Step.got_new_view, Step.got_request, Step.got_fetch, Step.timed_out, Step.beat, Chronicle, voted}
+use Rattle.definitions.specs.Chronicles.{Admitted, Step, Step.took_block, Step.noted, Chronicle, voted}
 use Rattle.definitions.specs.Agreement.{Order, steps_of, IsBacked, IsOrdered}
 use Rattle.definitions.specs.Audit.{Cut, Turns, steps_in, Judged, is_judged, chronicle_of, gives_vote, counted_by, counted_for, step_after, has_vote, is_backed, may_move, AreAllowed, AreFronts}
 use Rattle.definitions.proofs.Lists.{IsBeginning-beginning}
@@ -39,12 +39,7 @@ voted-now x (took_block a) c m = by a.voted refl m
     by true v (inl e) = inl (record { block = a; is_step = refl; voted = v; branch = sym e })
     by true v (inr k) = inr k
     by false v k = inr k
-voted-now x (got_vote v t b) c m = inr m
-voted-now x (got_new_view w s q b) c m = inr m
-voted-now x (got_request r) c m = inr m
-voted-now x (got_fetch s b) c m = inr m
-voted-now x timed_out c m = inr m
-voted-now x beat c m = inr m
+voted-now x (noted n) c m = inr m
 
 -- what was voted for was taken with a vote
 voted-took : (x : Branch) (c : Chronicle) → Among x (voted c) → (a : Admitted) × Among (took_block a) c × (a.voted ≡ true) × (a.branch ≡ x)
@@ -145,12 +140,7 @@ module _ (Known : Core → Type 0) (ks : Judged) (named : (i : ℕ) (a : Admitte
         | inl j ↦ or_right (not (is_judged ks v)) (has_vote ks k a.certificate.digest v) (counted-has_vote k earlier same a (named u a m) h v n j)
         | inr f ↦ or_left (not (is_judged ks v)) (has_vote ks k a.certificate.digest v) (not_from_false (is_judged ks v) f)
       ])
-  backed-by_digests k u earlier same (got_vote v t b) m h = refl
-  backed-by_digests k u earlier same (got_new_view w s q b) m h = refl
-  backed-by_digests k u earlier same (got_request r) m h = refl
-  backed-by_digests k u earlier same (got_fetch s b) m h = refl
-  backed-by_digests k u earlier same timed_out m h = refl
-  backed-by_digests k u earlier same beat m h = refl
+  backed-by_digests k u earlier same (noted n) m h = refl
 
   -- a judged replica's next step in the order is its step after the cut
   next-step : (p : ℕ × Step) (earlier : Order) → AreBeginnings (p ∷ earlier) → is_judged ks p.0 ≡ true → step_after (steps_in (turns_of (is_judged ks) earlier) p.0) (chronicle_of ks p.0) ≡ Some p.1
@@ -196,12 +186,7 @@ module _ (Known : Core → Type 0) (ks : Judged) (named : (i : ℕ) (a : Admitte
 -- a step that is backed in a family is backed in a smaller one
 backed-fewer : (fewer more : ℕ → Bool) → ((i : ℕ) → fewer i ≡ true → more i ≡ true) → (s : Step) (o : Order) → IsBacked more s o → IsBacked fewer s o
 backed-fewer fewer more up (took_block a) o h = λ new v m f. h new v m (up v f)
-backed-fewer fewer more up (got_vote v t b) o h = tt
-backed-fewer fewer more up (got_new_view w s q b) o h = tt
-backed-fewer fewer more up (got_request r) o h = tt
-backed-fewer fewer more up (got_fetch s b) o h = tt
-backed-fewer fewer more up timed_out o h = tt
-backed-fewer fewer more up beat o h = tt
+backed-fewer fewer more up (noted n) o h = tt
 
 -- so are all steps of an order
 ordered-fewer : (fewer more : ℕ → Bool) → ((i : ℕ) → fewer i ≡ true → more i ≡ true) → (o : Order) → IsOrdered more o → IsOrdered fewer o

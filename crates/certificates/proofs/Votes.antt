@@ -9,7 +9,7 @@ use Rattle.definitions.specs.Bytes.{Bytes}
 use Rattle.definitions.specs.Frames.{Vote, Certificate}
 use Rattle.definitions.specs.Branches.{Branch}
 use Rattle.definitions.specs.Digests.{digest_of}
-use Rattle.definitions.specs.Chronicles.{Chronicle, Step.got_vote}
+use Rattle.definitions.specs.Chronicles.{Chronicle, Step.noted, Note.got_vote}
 use Rattle.definitions.specs.States.{votes, insert_vote, by_voter}
 use Rattle.definitions.proofs.Certificates.{length-by_voter}
 use Rattle.certificates.specs.declared.kept_votes.Added.TheVariants.{First, Late, Complete}
@@ -67,7 +67,7 @@ added_in_order most b xs =
 
 -- a counted vote is collected
 pub vote_collected : (s : Sizes) (c : Chronicle) (old new : List Certificate) (voter : ℕ) (v : Bytes) (b : Branch)
-    → IsVotesOf s c old → IsWith (quorum s) (digest_of b) (record { voter = voter; vector = v }) old new → IsVotesOf s (got_vote voter v b ∷ c) new
+    → IsVotesOf s c old → IsWith (quorum s) (digest_of b) (record { voter = voter; vector = v }) old new → IsVotesOf s (noted (got_vote voter v b) ∷ c) new
 unfolding votes
 vote_collected s c old new voter v b before with_it d =
     let vote : Vote = record { voter = voter; vector = v } in

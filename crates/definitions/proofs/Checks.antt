@@ -1,16 +1,16 @@
 -- What the checks on a frame establish.
 use Rattle.ids.specs.declared.fault.Fault.TheVariants as fault
-use Rattle.std.proofs.Common.{ℕ, ◌≡◌, ◌<◌, Bool, true, false, List, [], ◌∷◌, ◌&&◌, cond, refl, sym, subst, arith, inl, inr, map, filter}
+use Rattle.std.proofs.Common.{ℕ, ◌≡◌, ◌<◌, ◌≤◌, ◌⊎◌, ◌∙◌, length, Bool, true, false, List, [], ◌∷◌, ◌&&◌, cond, refl, sym, subst, arith, inl, inr, map, filter}
 use Rattle.std.specs.Bool.{⊤}
 use Rattle.std.specs.List.{AllByRecursion}
-use Rattle.std.proofs.lemmas.Bool.{and_parts}
-use Rattle.ids.specs.Sizes.{Sizes, replicas}
+use Rattle.std.proofs.lemmas.Bool.{and_parts, cases_Bool, leb-true, cond-false}
+use Rattle.ids.specs.Sizes.{Sizes, replicas, quorum}
 use Rattle.definitions.specs.Bytes.{Bytes}
 use Rattle.definitions.specs.Lists.{Among, AreDistinct}
 use Rattle.definitions.specs.Frames.{Core, Vote, Certificate}
 use Rattle.definitions.specs.Frames as frame
 use Rattle.definitions.specs.FrameLimits.{IsCore, IsVote, IsCertificate, IsFrame, Rise}
-use Rattle.definitions.specs.Checks.{Identity, vote_verifies, counted, is_good}
+use Rattle.definitions.specs.Checks.{Identity, vote_verifies, counted, is_genesis, is_good, findings}
 use Rattle.definitions.specs.Rulings.{Input}
 use Rattle.definitions.specs.Admission.{passes, rejected, when, own_tag_verifies}
 use Rattle.definitions.proofs.Sound.{IsChecked}
@@ -66,16 +66,25 @@ kept-within : (p : Vote → Bool) (n : ℕ) (bs : List Vote) → AreVotes n bs �
 kept-within p n [] h = tt
 kept-within p n (b ∷ bs) h = kept-within-step p n b bs h.0 (kept-within p n bs h.2) (p b)
 
+-- a good certificate is that of genesis, or a quorum of its voters is counted
+good-either : (self : Identity) (q : Certificate) → is_good self q ≡ true → (is_genesis q.digest ≡ true) ⊎ (quorum self.sizes ≤ length (counted self q))
+unfolding is_good
+good-either self q g =
+    elim (cases_Bool (is_genesis q.digest)) [
+      | inl k ↦ inl k
+      | inr k ↦ inr (leb-true _ _ (sym (cond-false _ _ _ k) ∙ g))
+    ]
+
 -- what is known of a certificate and a core at these sizes, where the certificate is good
-pub block-checked : (self : Identity) (core : Core) (q : Certificate) → IsCore self.sizes core → IsCertificate self.sizes q → is_good self q ≡ true → IsChecked self core q
+pub block-checked : (self : Identity) (core : Core) (q : Certificate) → IsCore self.sizes core → IsCertificate self.sizes q → is_good self q ≡ true → IsChecked self.sizes core q (findings self core q)
 unfolding counted
 block-checked self core q k c g = record {
   below = k.justify_height;
   distinct = kept-distinct (vote_verifies self q.digest) (replicas self.sizes) q.votes (are-votes self.sizes q.votes c.votes c.rising);
   voters = kept-within (vote_verifies self q.digest) (replicas self.sizes) q.votes (are-votes self.sizes q.votes c.votes c.rising);
-  good = g;
+  good = good-either self q g;
 }
 
 -- so is it of a proposal that passes
-pub proposal-checked : (self : Identity) (view : ℕ) (core : Core) (q : Certificate) (v : Bytes) → IsFrame self.sizes (frame.proposal view core q v) → own_tag_verifies self (frame.proposal view core q v) && is_good self q ≡ true → IsChecked self core q
+pub proposal-checked : (self : Identity) (view : ℕ) (core : Core) (q : Certificate) (v : Bytes) → IsFrame self.sizes (frame.proposal view core q v) → own_tag_verifies self (frame.proposal view core q v) && is_good self q ≡ true → IsChecked self.sizes core q (findings self core q)
 proposal-checked self view core q v fr ok = block-checked self core q fr.1 fr.2 (and_parts _ _ ok).1

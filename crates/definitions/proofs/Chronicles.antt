@@ -6,7 +6,7 @@ use Rattle.definitions.proofs.Lists.{Among-after, Among-either, Among-map, great
 use Rattle.definitions.specs.Lists.{Among, AreDistinct}
 use Rattle.definitions.specs.Branches.{Block, Branch, just1, Extends, IsBranch, just2, just3}
 use Rattle.ids.specs.Sizes.{Sizes, replicas, quorum}
-use Rattle.definitions.specs.Chronicles.{Admitted, Step, Step.took_block, Step.got_vote, Step.got_new_view, Step.got_request, Step.got_fetch, Step.timed_out, Step.beat, Chronicle, taken, tree, lock, IsLawfulVote, IsLawfulStep, IsLawful, voted, IsLawfulTake, vheight, decides, decided_by, decided, executed}
+use Rattle.definitions.specs.Chronicles.{Admitted, Step, Step.took_block, Step.noted, Chronicle, taken, tree, lock, IsLawfulVote, IsLawfulStep, IsLawful, voted, IsLawfulTake, vheight, decides, decided_by, decided, executed}
 
 pub tree-genesis : (c : Chronicle) → Among [] (tree c)
 unfolding tree
@@ -21,12 +21,7 @@ tree-step a c x false m = m
 pub tree-grows : (st : Step) (c : Chronicle) (x : Branch) → Among x (tree c) → Among x (tree (st ∷ c))
 unfolding tree taken
 tree-grows (took_block a) c x m = tree-step a c x a.new m
-tree-grows (got_vote v t b) c x m = m
-tree-grows (got_new_view w s q b) c x m = m
-tree-grows (got_request r) c x m = m
-tree-grows (got_fetch s b) c x m = m
-tree-grows timed_out c x m = m
-tree-grows beat c x m = m
+tree-grows (noted n) c x m = m
 
 pub voted-step : (a : Admitted) (c : Chronicle) (x : Branch) (t : Bool) → Among x (voted c) → Among x (cond t (a.branch ∷ voted c) (voted c))
 voted-step a c x true m = inr m
@@ -35,12 +30,7 @@ voted-step a c x false m = m
 pub voted-grows : (st : Step) (c : Chronicle) (x : Branch) → Among x (voted c) → Among x (voted (st ∷ c))
 unfolding voted
 voted-grows (took_block a) c x m = voted-step a c x a.voted m
-voted-grows (got_vote v t b) c x m = m
-voted-grows (got_new_view w s q b) c x m = m
-voted-grows (got_request r) c x m = m
-voted-grows (got_fetch s b) c x m = m
-voted-grows timed_out c x m = m
-voted-grows beat c x m = m
+voted-grows (noted n) c x m = m
 
 -- what was voted for was taken
 pub voted-tree-step : (a : Admitted) (c : Chronicle) (x : Branch) (t : Bool) → (t ≡ true → Among a.branch (tree (took_block a ∷ c))) → (Among x (voted c) → Among x (tree (took_block a ∷ c))) → Among x (cond t (a.branch ∷ voted c) (voted c)) → Among x (tree (took_block a ∷ c))
@@ -52,12 +42,7 @@ pub voted-tree : (need : Sizes) (c : Chronicle) → IsLawful need c → (x : Bra
 unfolding voted
 voted-tree need [] l x m = absurd m
 voted-tree need (took_block a ∷ c) l x m = voted-tree-step a c x a.voted (λ v. (l.0.0 v).taken) (λ k. tree-grows (took_block a) c x (voted-tree need c l.1 x k)) m
-voted-tree need (got_vote v t b ∷ c) l x m = tree-grows (got_vote v t b) c x (voted-tree need c l.1 x m)
-voted-tree need (got_new_view w s q b ∷ c) l x m = tree-grows (got_new_view w s q b) c x (voted-tree need c l.1 x m)
-voted-tree need (got_request r ∷ c) l x m = tree-grows (got_request r) c x (voted-tree need c l.1 x m)
-voted-tree need (got_fetch s b ∷ c) l x m = tree-grows (got_fetch s b) c x (voted-tree need c l.1 x m)
-voted-tree need (timed_out ∷ c) l x m = tree-grows timed_out c x (voted-tree need c l.1 x m)
-voted-tree need (beat ∷ c) l x m = tree-grows beat c x (voted-tree need c l.1 x m)
+voted-tree need (noted n ∷ c) l x m = tree-grows (noted n) c x (voted-tree need c l.1 x m)
 
 -- ---- what a chronicle's law says of all of it
 
@@ -68,12 +53,7 @@ taken-step a c x false m = m
 pub taken-grows : (st : Step) (c : Chronicle) (x : Admitted) → Among x (taken c) → Among x (taken (st ∷ c))
 unfolding taken
 taken-grows (took_block a) c x m = taken-step a c x a.new m
-taken-grows (got_vote v t b) c x m = m
-taken-grows (got_new_view w s q b) c x m = m
-taken-grows (got_request r) c x m = m
-taken-grows (got_fetch s b) c x m = m
-taken-grows timed_out c x m = m
-taken-grows beat c x m = m
+taken-grows (noted n) c x m = m
 
 -- ---- counted votes, in an order
 
@@ -85,12 +65,7 @@ taken-now (took_block b) c a m = by b.new refl m
     by true n (inl e) = inl (ap (λ (x : Admitted). took_block x) (sym e), ap (λ (x : Admitted). x.new) e ∙ n)
     by true n (inr k) = inr k
     by false n k = inr k
-taken-now (got_vote v t b) c a m = inr m
-taken-now (got_new_view w s q b) c a m = inr m
-taken-now (got_request r) c a m = inr m
-taken-now (got_fetch s b) c a m = inr m
-taken-now timed_out c a m = inr m
-taken-now beat c a m = inr m
+taken-now (noted n) c a m = inr m
 
 pub tree-cases : (c : Chronicle) (b : Branch) → Among b (tree c) → (b ≡ []) ⊎ ((a : Admitted) × Among a (taken c) × (a.branch ≡ b))
 unfolding tree
@@ -120,12 +95,7 @@ pub lawful-taken : (s : Sizes) (c : Chronicle) → IsLawful s c → (x : Admitte
 unfolding taken
 lawful-taken s [] l x m = absurd m
 lawful-taken s (took_block a ∷ c) l x m = take-step s a c x a.new refl l.0.1 (lawful-taken s c l.1 x) (λ b k. tree-branch s c (λ y n. lawful-taken s c l.1 y n) b k) m
-lawful-taken s (got_vote v t b ∷ c) l x m = lawful-taken s c l.1 x m
-lawful-taken s (got_new_view w r q b ∷ c) l x m = lawful-taken s c l.1 x m
-lawful-taken s (got_request r ∷ c) l x m = lawful-taken s c l.1 x m
-lawful-taken s (got_fetch r b ∷ c) l x m = lawful-taken s c l.1 x m
-lawful-taken s (timed_out ∷ c) l x m = lawful-taken s c l.1 x m
-lawful-taken s (beat ∷ c) l x m = lawful-taken s c l.1 x m
+lawful-taken s (noted n ∷ c) l x m = lawful-taken s c l.1 x m
 
 -- ---- votes
 
@@ -240,12 +210,7 @@ vote-cases a c b false e same law m = inr m
 pub voted-cases : (s : Sizes) (st : Step) (c : Chronicle) (b : Branch) → IsLawful s (st ∷ c) → Among b (voted (st ∷ c)) → IsVote b (st ∷ c) c ⊎ Among b (voted c)
 unfolding voted
 voted-cases s (took_block a) c b l m = vote-cases a c b a.voted refl refl l.0.0 m
-voted-cases s (got_vote v t x) c b l m = inr m
-voted-cases s (got_new_view w r q x) c b l m = inr m
-voted-cases s (got_request r) c b l m = inr m
-voted-cases s (got_fetch r x) c b l m = inr m
-voted-cases s timed_out c b l m = inr m
-voted-cases s beat c b l m = inr m
+voted-cases s (noted n) c b l m = inr m
 
 -- one height is voted for once
 pub one-vote : (s : Sizes) (c : Chronicle) → IsLawful s c → (a b : Branch) → Among a (voted c) → Among b (voted c) → length a ≡ length b → a ≡ b

@@ -5,7 +5,7 @@ use Rattle.ids.specs.declared.fault.Fault.TheVariants as fault
 use Rattle.std.proofs.Common.{ℕ, suc, ◌≡◌, ◌<◌, ◌≤◌, ◌⊎◌, ◌&&◌, not, Bool, true, false, List, [], ◌∷◌, length, cond, refl, sym, ap, subst, ◌∙◌, arith, inl, inr, map, Option, Some, None, true≢false, nat_lt, ◌+◌, min, if◌then◌else◌}
 use Rattle.std.specs.Bool.{⊤}
 use Rattle.std.specs.List.{list_any, AllByRecursion}
-use Rattle.std.proofs.lemmas.Bool.{and_parts, or_cases, cond_both, ltb-true, ltb-false, cases_Bool, leb-true, cond-true, cond-false}
+use Rattle.std.proofs.lemmas.Bool.{and_parts, or_cases, cond_both, ltb-true, ltb-false, cases_Bool, cond-true}
 use lib.Dec.{ltb}
 use Rattle.definitions.specs.Lists.{Among, AreDistinct}
 use Rattle.definitions.specs.Frames.{Command, Core, Vote, Certificate}
@@ -15,30 +15,24 @@ use Rattle.ids.specs.Sizes.{Sizes, replicas, quorum}
 use Rattle.definitions.specs.Digests.{digest, digest_of}
 use Rattle.definitions.specs.Trees.{block_of, is_clear, clear_above, most_blocks, Placing, Placing.stands, Placing.grows, Placing.lacks_parent, Placing.unfit, placing, IsTree}
 use Rattle.definitions.proofs.Trees.{same_bytes, found-in, unfit-calm, IsPlaced, placed, tree-below, growth-tree, growth-new, grown-heights}
-use Rattle.definitions.specs.Chronicles.{Admitted, Step, Step.took_block, Step.got_vote, Step.got_new_view, Step.got_request, Step.timed_out, Step.beat, Chronicle, taken, stored, stored_of, tree, lock, history, may_vote, IsLawfulVote, IsLawfulStep, IsLawful}
-use Rattle.definitions.specs.Checks.{Identity, counted, is_good, is_genesis}
+use Rattle.definitions.specs.Chronicles.{Admitted, Step, Step.took_block, Step.noted, Note.got_vote, Note.got_new_view, Note.got_request, Note.timed_out, Note.beat, Chronicle, taken, stored, stored_of, tree, lock, history, may_vote, IsLawfulVote, IsLawfulStep, IsSound}
+use Rattle.definitions.specs.Checks.{Identity, Findings, is_genesis}
 use Rattle.definitions.specs.States.{is_due, pending, is_same_request}
 use Rattle.definitions.specs.Rulings.{Input, Input.proposal_in, Input.block_in, Input.vote_in, Input.new_view_in, Input.request_in, Input.fetch_in, Input.timeout_in, Input.beat_in, Ruling, Ruling.due, Ruling.missing, Ruling.refusing, find_block, admitted, votes_for, take_block, on_placing, on_block, on_request, conflicts, with_block, ruling}
 use Rattle.definitions.specs.Sendings.{sendings}
 use Rattle.definitions.specs.Replicas.{on_ruling, on_step, step, Memory, Memory.ample, Memory.refused_at_once, Memory.refused_after, Replica, Standing, Standing.running, Standing.stopped, Standing.cut_short, Reaction, Reaction.fails, Reaction.sends_out, Reaction.asks_for, stopped_at, stops, executes}
 
--- what is known of a certificate and a core that were read and checked
-pub record IsChecked (self : Identity) (core : Core) (q : Certificate) : Type 0 where
+-- what is known of a core, a certificate and what was found of them, where they were read and checked at these sizes
+pub record IsChecked (sizes : Sizes) (core : Core) (q : Certificate) (f : Findings) : Type 0 where
   pub below : core.justify_height < core.height
-  pub distinct : AreDistinct (counted self q)
-  pub voters : AllByRecursion (λ v. v < replicas self.sizes) (counted self q)
-  pub good : is_good self q ≡ true
+  pub distinct : AreDistinct f.counted
+  pub voters : AllByRecursion (λ v. v < replicas sizes) f.counted
+  pub good : (is_genesis q.digest ≡ true) ⊎ (quorum sizes ≤ length f.counted)
 
-abbrev pub IsCheckedInput : Identity → Input → Type 0
-IsCheckedInput self (proposal_in w core q) = IsChecked self core q
-IsCheckedInput self (block_in sender core q) = IsChecked self core q
-IsCheckedInput self i = ⊤
-
-pub record IsSound (need : Sizes) (c : Chronicle) : Type 0 where
-  pub is_tree : IsTree (tree c)
-  pub lawful : IsLawful need c
-  pub full : length (tree c) ≤ 1048576
-  pub heights : (x : Branch) → Among x (tree c) → length x < length (tree c)
+abbrev pub IsCheckedInput : Sizes → Input → Type 0
+IsCheckedInput sizes (proposal_in w core q f) = IsChecked sizes core q f
+IsCheckedInput sizes (block_in sender core q f) = IsChecked sizes core q f
+IsCheckedInput sizes i = ⊤
 
 -- a clear block was taken as one
 pub clear-taken : (x : Branch) (ys : List Admitted) → is_clear x (map stored_of ys) ≡ true → (a : Admitted) × Among a ys × (a.branch ≡ x) × (a.clear ≡ true)
@@ -98,32 +92,33 @@ OnStands P (missing sender d) = ⊤
 OnStands P (refusing n) = n ≡ fault.Conflict → ⊥
 
 -- what a good certificate of the justified block gives
-certified : (self : Identity) (q : Certificate) (j : Branch) (t : List Branch) → IsTree t → Among j t → is_good self q ≡ true → AreDistinct (counted self q) → AllByRecursion (λ v. v < replicas self.sizes) (counted self q) → q.digest ≡ digest_of j → (AreDistinct (counted self q) × AllByRecursion (λ v. v < replicas self.sizes) (counted self q) × (quorum self.sizes ≤ length (counted self q))) ⊎ (j ≡ [])
-unfolding is_good digest_of
-certified self q j t tr m g d vs e =
-    elim (cases_Bool (is_genesis q.digest)) [
+certified : (sizes : Sizes) (core : Core) (q : Certificate) (f : Findings) (j : Branch) (t : List Branch) → IsTree t → Among j t → IsChecked sizes core q f → q.digest ≡ digest_of j
+    → (AreDistinct f.counted × AllByRecursion (λ v. v < replicas sizes) f.counted × (quorum sizes ≤ length f.counted)) ⊎ (j ≡ [])
+unfolding digest_of
+certified sizes core q f j t tr m ch e =
+    elim ch.good [
       | inl k ↦ inr (tr.one j [] m tr.genesis (sym e ∙ same_bytes _ _ k))
-      | inr k ↦ inl (d, vs, leb-true _ _ (sym (cond-false _ _ _ k) ∙ g))
+      | inr k ↦ inl (ch.distinct, ch.voters, k)
     ]
 
 -- a new block that passes the tests
-new-step : (self : Identity) (w : Option ℕ) (parent : Branch) (core : Core) (q : Certificate) (c : Chronicle) → IsSound self.sizes c → IsTree ((block_of core ∷ parent) ∷ tree c) → (Among (block_of core ∷ parent) (tree c) → ⊥) → Among parent (tree c) → is_good self q ≡ true → AreDistinct (counted self q) → AllByRecursion (λ v. v < replicas self.sizes) (counted self q) → q.digest ≡ digest_of (just1 (block_of core ∷ parent)) → length (tree c) < 1048576 →
-    OnStands (λ st. IsSound self.sizes (st ∷ c)) (take_block self w (admitted self (block_of core ∷ parent) core q true) c)
+new-step : (self : Identity) (w : Option ℕ) (parent : Branch) (core : Core) (q : Certificate) (f : Findings) (c : Chronicle) → IsSound self.sizes c → IsTree ((block_of core ∷ parent) ∷ tree c) → (Among (block_of core ∷ parent) (tree c) → ⊥) → Among parent (tree c) → IsChecked self.sizes core q f → q.digest ≡ digest_of (just1 (block_of core ∷ parent)) → length (tree c) < most_blocks →
+    OnStands (λ st. IsSound self.sizes (st ∷ c)) (take_block self w (admitted (block_of core ∷ parent) core q f true) c)
 unfolding admitted tree taken
-new-step self w parent core q c so tr fresh m g d vs e room = record {
+new-step self w parent core q f c so tr fresh m ch e room = record {
   is_tree = tr;
   lawful = (
     (
-      λ v. vote-lawful self.sizes w (admitted self (block_of core ∷ parent) core q true) c (tr.branches _ (inl refl)) (inl refl) v,
+      λ v. vote-lawful self.sizes w (admitted (block_of core ∷ parent) core q f true) c (tr.branches _ (inl refl)) (inl refl) v,
       λ n. record {
         new = fresh;
         parent = (block_of core, parent, refl, (tr.branches _ (inl refl)).0, m);
-        certified = certified self q (just1 (block_of core ∷ parent)) _ tr (tree-below _ tr (block_of core ∷ parent) _ (inl refl) (just1-extends _)) g d vs e;
+        certified = certified self.sizes core q f (just1 (block_of core ∷ parent)) _ tr (tree-below _ tr (block_of core ∷ parent) _ (inl refl) (just1-extends _)) ch e;
       },
     ),
     so.lawful,
   );
-  full = (let l = room in omega (arith, l));
+  bounded = (let l = room in omega (arith, l));
   heights = grown-heights (tree c) (block_of core) parent m so.heights;
 }
 
@@ -134,64 +129,64 @@ pub found : (d : Bytes) (c : Chronicle) (b : Branch) → find_block d c ≡ Some
 unfolding find_block
 found d c b e = found-in d (tree c) b e
 
-placed-sound : (self : Identity) (w : Option ℕ) (sender : ℕ) (core : Core) (q : Certificate) (c : Chronicle) → IsChecked self core q → IsSound self.sizes c → (p : Placing) → IsPlaced most_blocks core q (tree c) p → Keeps self c (on_placing self w sender core q c p)
+placed-sound : (self : Identity) (w : Option ℕ) (sender : ℕ) (core : Core) (q : Certificate) (f : Findings) (c : Chronicle) → IsChecked self.sizes core q f → IsSound self.sizes c → (p : Placing) → IsPlaced most_blocks core q (tree c) p → Keeps self c (on_placing self w sender core q f c p)
 unfolding on_placing admitted tree taken
-placed-sound self w sender core q c ch so (stands b) h =
+placed-sound self w sender core q f c ch so (stands b) h =
     let m = (found-in (digest core) (tree c) b h.0).0 in
     record {
       is_tree = so.is_tree;
-      lawful = ((λ v. vote-lawful self.sizes w (admitted self b core q false) c (so.is_tree.branches b m) m v, λ n. absurd (true≢false (sym n))), so.lawful);
-      full = so.full;
+      lawful = ((λ v. vote-lawful self.sizes w (admitted b core q f false) c (so.is_tree.branches b m) m v, λ n. absurd (true≢false (sym n))), so.lawful);
+      bounded = so.bounded;
       heights = so.heights;
     }
-placed-sound self w sender core q c ch so (grows b) (parent, g) =
-    subst (λ (x : Branch). OnStands (λ st. IsSound self.sizes (st ∷ c)) (take_block self w (admitted self x core q true) c)) (sym g.is)
-    (new-step self w parent core q c so
+placed-sound self w sender core q f c ch so (grows b) (parent, g) =
+    subst (λ (x : Branch). OnStands (λ st. IsSound self.sizes (st ∷ c)) (take_block self w (admitted x core q f true) c)) (sym g.is)
+    (new-step self w parent core q f c so
     (subst (λ (x : Branch). IsTree (x ∷ tree c)) g.is (growth-tree most_blocks core q (tree c) b parent so.is_tree ch.below g))
     (subst (λ (x : Branch). Among x (tree c) → ⊥) g.is (growth-new most_blocks core q (tree c) b parent g))
-    (found-in core.parent (tree c) parent g.parent_found).0 ch.good ch.distinct ch.voters g.justified g.room)
-placed-sound self w sender core q c ch so lacks_parent h = tt
-placed-sound self w sender core q c ch so (unfit n) h = unfit-calm n h
+    (found-in core.parent (tree c) parent g.parent_found).0 ch g.justified g.room)
+placed-sound self w sender core q f c ch so lacks_parent h = tt
+placed-sound self w sender core q f c ch so (unfit n) h = unfit-calm n h
 
-block-sound : (self : Identity) (w : Option ℕ) (sender : ℕ) (core : Core) (q : Certificate) (c : Chronicle) → IsChecked self core q → IsSound self.sizes c → Keeps self c (on_block self w sender core q c)
-block-sound self w sender core q c ch so = placed-sound self w sender core q c ch so (placing most_blocks core q (tree c)) (placed most_blocks core q (tree c))
+block-sound : (self : Identity) (w : Option ℕ) (sender : ℕ) (core : Core) (q : Certificate) (f : Findings) (c : Chronicle) → IsChecked self.sizes core q f → IsSound self.sizes c → Keeps self c (on_block self w sender core q f c)
+block-sound self w sender core q f c ch so = placed-sound self w sender core q f c ch so (placing most_blocks core q (tree c)) (placed most_blocks core q (tree c))
 
 -- a step that takes no block
 other-sound : (need : Sizes) (c : Chronicle) (st : Step) → tree (st ∷ c) ≡ tree c → IsLawfulStep need st c → IsSound need c → IsSound need (st ∷ c)
 other-sound need c st e l so = record {
   is_tree = subst IsTree (sym e) so.is_tree;
   lawful = (l, so.lawful);
-  full = subst (λ (t : List Branch). length t ≤ 1048576) (sym e) so.full;
+  bounded = subst (λ (t : List Branch). length t ≤ most_blocks) (sym e) so.bounded;
   heights = subst (λ (t : List Branch). (x : Branch) → Among x t → length x < length t) (sym e) so.heights;
 }
 
-vote-sound : (self : Identity) (o : Option Branch) (b : Vote) (d : Bytes) (c : Chronicle) → IsSound self.sizes c → Keeps self c (with_block o b.voter d (λ x. due (got_vote b.voter b.vector x)))
+vote-sound : (self : Identity) (o : Option Branch) (b : Vote) (d : Bytes) (c : Chronicle) → IsSound self.sizes c → Keeps self c (with_block o b.voter d (λ x. due (noted (got_vote b.voter b.vector x))))
 unfolding tree taken
 vote-sound self None b d c so = tt
 vote-sound self (Some x) b d c so = other-sound _ c _ refl tt so
 
-new_view-sound : (self : Identity) (o : Option Branch) (w sender : ℕ) (q : Certificate) (d : Bytes) (c : Chronicle) → IsSound self.sizes c → Keeps self c (with_block o sender d (λ x. due (got_new_view w sender q x)))
+new_view-sound : (self : Identity) (o : Option Branch) (w sender : ℕ) (q : Certificate) (d : Bytes) (c : Chronicle) → IsSound self.sizes c → Keeps self c (with_block o sender d (λ x. due (noted (got_new_view w sender q x))))
 unfolding tree taken
 new_view-sound self None w sender q d c so = tt
 new_view-sound self (Some x) w sender q d c so = other-sound _ c _ refl tt so
 
 request-sound : (self : Identity) (r : Command) (c : Chronicle) → IsSound self.sizes c → Keeps self c (on_request r c)
 unfolding tree taken on_request
-request-sound self r c so = cond_both (is_due (history c) r && (not (list_any (is_same_request r) (pending c)) && not (nat_lt (length (pending c)) 4096))) _ _ P (λ e k. cc) (λ e. other-sound _ c (got_request r) refl tt so)
+request-sound self r c so = cond_both (is_due (history c) r && (not (list_any (is_same_request r) (pending c)) && not (nat_lt (length (pending c)) 4096))) _ _ P (λ e k. cc) (λ e. other-sound _ c (noted (got_request r)) refl tt so)
   where
     P : Ruling → Type 0
     P = Keeps self c
 
-pub ruling-sound : (self : Identity) (i : Input) (c : Chronicle) → IsCheckedInput self i → IsSound self.sizes c → Keeps self c (ruling self i c)
+pub ruling-sound : (self : Identity) (i : Input) (c : Chronicle) → IsCheckedInput self.sizes i → IsSound self.sizes c → Keeps self c (ruling self i c)
 unfolding ruling tree taken
-ruling-sound self (proposal_in w core q) c ch so = block-sound self _ _ core q c ch so
-ruling-sound self (block_in sender core q) c ch so = block-sound self _ _ core q c ch so
+ruling-sound self (proposal_in w core q f) c ch so = block-sound self _ _ core q f c ch so
+ruling-sound self (block_in sender core q f) c ch so = block-sound self _ _ core q f c ch so
 ruling-sound self (vote_in d b) c ch so = vote-sound self _ b d c so
 ruling-sound self (new_view_in w sender q) c ch so = new_view-sound self _ w sender q _ c so
 ruling-sound self (request_in r) c ch so = request-sound self r c so
 ruling-sound self (fetch_in sender d) c ch so = other-sound _ c _ refl tt so
-ruling-sound self timeout_in c ch so = other-sound _ c timed_out refl tt so
-ruling-sound self beat_in c ch so = other-sound _ c beat refl tt so
+ruling-sound self timeout_in c ch so = other-sound _ c (noted timed_out) refl tt so
+ruling-sound self beat_in c ch so = other-sound _ c (noted beat) refl tt so
 
 -- ---- the whole step
 
@@ -212,7 +207,7 @@ on_step-outcome self (refused_after k) st c r u =
     cond_both (conflicts st c) _ _ (Outcome self c (due st) r) (λ e. conflict st u refl e)
     (λ e. cond_both (executes st c) _ _ (Outcome self c (due st) r) (λ x. cut st k u refl e) (λ x. refused true fault.Memory u (λ k. cc)))
 
-pub step-outcome : (self : Identity) (m : Memory) (i : Input) (r : Replica) → IsCheckedInput self i → IsSound self.sizes r.chronicle → Outcome self r.chronicle (ruling self i r.chronicle) r (step self m i r)
+pub step-outcome : (self : Identity) (m : Memory) (i : Input) (r : Replica) → IsCheckedInput self.sizes i → IsSound self.sizes r.chronicle → Outcome self r.chronicle (ruling self i r.chronicle) r (step self m i r)
 unfolding step on_ruling
 step-outcome self m i r ch so = by r.standing refl
   where

@@ -45,3 +45,12 @@ command_verifies self c =
 -- the tag of each command verifies
 unfoldable pub is_clear_core : Identity → Core → Bool
 is_clear_core self core = list_all (command_verifies self) core.commands
+
+-- What a check found of a block and of the certificate that came along.
+pub record Findings : Type 0 where
+  pub counted : List ℕ  -- the voters whose tags for the receiver verified
+  pub clear : Bool  -- so did the tag of each command
+
+-- what this replica finds
+abbrev pub findings : Identity → Core → Certificate → Findings
+findings self core q = record { counted = counted self q; clear = is_clear_core self core }

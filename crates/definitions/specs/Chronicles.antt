@@ -6,7 +6,7 @@ use Rattle.definitions.specs.Lists.{Among, AreDistinct, greatest}
 use Rattle.definitions.specs.Frames.{Command, Core, Certificate}
 use Rattle.definitions.specs.Branches.{Block, Branch, justify_height, just1, just2, just3, Extends, extends, highest}
 use Rattle.definitions.specs.Bytes.{Bytes}
-use Rattle.definitions.specs.Trees.{Stored}
+use Rattle.definitions.specs.Trees.{Stored, IsTree, most_blocks}
 use Rattle.ids.specs.Sizes.{Sizes, replicas, quorum}
 use Rattle.definitions.specs.Histories.{History, history_of}
 
@@ -20,15 +20,19 @@ pub record Admitted : Type 0 where
   pub new : Bool  -- it was not in the tree before
   pub voted : Bool
 
+-- what a replica took in beside blocks
+pub data Note : Type 0 where
+  got_vote : (voter : ℕ) → (vector : Bytes) → (block : Branch) → Note
+  got_new_view : (view sender : ℕ) → (certificate : Certificate) → (block : Branch) → Note
+  got_request : Command → Note
+  got_fetch : (sender : ℕ) → (block : Option Branch) → Note  -- the block of its digest, where it was in the tree
+  timed_out : Note
+  beat : Note
+
 -- what a replica took in and stored
 pub data Step : Type 0 where
   took_block : Admitted → Step
-  got_vote : (voter : ℕ) → (vector : Bytes) → (block : Branch) → Step
-  got_new_view : (view sender : ℕ) → (certificate : Certificate) → (block : Branch) → Step
-  got_request : Command → Step
-  got_fetch : (sender : ℕ) → (block : Option Branch) → Step  -- the block of its digest, where it was in the tree
-  timed_out : Step
-  beat : Step
+  noted : Note → Step
 
 -- the steps of one replica
 abbrev pub Chronicle : Type 0
@@ -120,3 +124,11 @@ IsLawfulStep sizes s earlier = ⊤
 abbrev pub IsLawful : Sizes → Chronicle → Type 0
 IsLawful sizes [] = ⊤
 IsLawful sizes (s ∷ earlier) = IsLawfulStep sizes s earlier × IsLawful sizes earlier
+
+-- What is kept of a replica's chronicle at these sizes: each step is lawful, and the blocks that it knows are a tree
+-- of at most so many as a tree may have, in which each height is below their number.
+pub record IsSound (sizes : Sizes) (c : Chronicle) : Type 0 where
+  pub is_tree : IsTree (tree c)
+  pub lawful : IsLawful sizes c
+  pub bounded : length (tree c) ≤ most_blocks
+  pub heights : (x : Branch) → Among x (tree c) → length x < length (tree c)

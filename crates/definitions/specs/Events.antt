@@ -2,7 +2,7 @@
 use Rattle.ids.specs.declared.fault.Fault.{Fault}
 use Rattle.ids.specs.declared.fault.Fault.TheVariants as fault
 use Rattle.std.specs.Prelude.{ℕ, suc, ◌-◌, ◌==◌, ◌&&◌, not, List, [], ◌∷◌, ◌++◌, map, if◌then◌else◌, Option, Some, None, slice_get, option_map}
-use Rattle.definitions.specs.Frames.{Frame, spelling}
+use Rattle.definitions.specs.Frames.{Frame}
 use Rattle.definitions.specs.Bytes.{Bytes}
 use Rattle.ids.specs.Sizes.{client_party}
 use Rattle.definitions.specs.Checks.{Identity}
@@ -104,27 +104,25 @@ comes p m (Some f) w = if is_replica w p then on_checked p m (check (self_of w p
 -- the party that an event names
 unfoldable pub party_of : Event → ℕ
 party_of (submit c payload) = client_party c
-party_of (relay k to read) = to
+party_of (relay k to) = to
 party_of (inject to bytes read) = to
 party_of (timeout r) = r
 party_of (beat r) = r
 
--- the frame that an event brings, where the bytes are read as one
-unfoldable pub brought : Event → Option Frame
-brought (relay k to read) = read
-brought (inject to bytes read) = read
-brought e = None
+-- the frame of this number in the record
+abbrev pub recorded : World → ℕ → Option Frame
+recorded w k = option_map (λ s. s.frame) (slice_get w.sent k)
 
--- the bytes that an event brings, if any
-unfoldable pub bytes_of : World → Event → Option Bytes
-bytes_of w (relay k to read) = option_map (λ s. spelling s.frame) (slice_get w.sent k)
-bytes_of w (inject to bytes read) = Some bytes
-bytes_of w e = None
+-- the frame that an event brings: that of the record, or what injected bytes are read as
+unfoldable pub brought : World → Event → Option Frame
+brought w (relay k to) = recorded w k
+brought w (inject to bytes read) = read
+brought w e = None
 
 -- what an event does to the correct party that it names
 unfoldable pub acts : World → Event → Memory → Effect
 acts w (submit c payload) m = submits c m payload w
-acts w (relay k to read) m = comes to m read w
+acts w (relay k to) m = comes to m (recorded w k) w
 acts w (inject to bytes read) m = comes to m read w
 acts w (timeout r) m = steps r m timeout_in w
 acts w (beat r) m = steps r m beat_in w

@@ -1,7 +1,8 @@
--- What is assumed of a run: what comes is read rightly, no tag is forged, and which cores must not collide.
+-- What is assumed of a run: injected bytes are read rightly, no tag is forged, and which cores must not collide.
 use Rattle.ids.specs.declared.kind.Kind.{Kind}
 use Rattle.ids.specs.declared.kind.Kind.TheVariants as kind
-use Rattle.std.specs.Prelude.{ℕ, ◌≡◌, ◌-◌, ◌==◌, ◌⊎◌, ◌&&◌, not, Bool, true, false, List, [], ◌∷◌, ◌++◌, map, filter, Option, Some, None, ⊤, ◌≤◌}
+use Rattle.std.specs.Prelude.{ℕ, ◌≡◌, ◌-◌, ◌==◌, ◌⊎◌, ◌&&◌, not, Bool, true, false, List, [], ◌∷◌, ◌++◌, map, filter, Some, ⊤, ◌≤◌}
+use Rattle.std.specs.List.{AllByRecursion}
 use Rattle.definitions.specs.Lists.{Among, count_below}
 use Rattle.definitions.specs.Frames.{Command, Vote, Core, Certificate, Frame, kind_of, sender_of, content_of, own_tag, genesis_core, command_content, reply_content}
 use Rattle.definitions.specs.FrameLimits.{IsReadAs}
@@ -13,9 +14,9 @@ use Rattle.definitions.specs.Keyrings.{verify}
 use Rattle.definitions.specs.Checks.{Identity, vote_verifies, command_verifies}
 use Rattle.definitions.specs.Sendings.{To, To.to_party}
 use Rattle.definitions.specs.Frames as frame
-use Rattle.definitions.specs.Worlds.{Sent, World, Event, Happening, is_replica, is_correct, self_of}
+use Rattle.definitions.specs.Worlds.{Sent, World, Event, inject, Happening, is_replica, is_correct, self_of}
 use Rattle.definitions.specs.Runs.{after}
-use Rattle.definitions.specs.Events.{party_of, brought, bytes_of, happens}
+use Rattle.definitions.specs.Events.{party_of, brought, happens}
 use Rattle.definitions.specs.Admission.{Checked, check, Checked.passes, Checked.rejected}
 
 -- A tag in a sender's name, for a receiver.
@@ -94,23 +95,18 @@ admits w p (frame.reply replica client seq place text t) =
     not (is_replica w p) && ((client == (p - 256)) && verify (w.ring p) kind.Reply replica (reply_content replica client seq place text) t)
 admits w p f = is_replica w p && is_good_check (check (self_of w p) f)
 
--- bytes are read as what they spell; where nothing comes nothing is read
-abbrev pub IsRead : Sizes → Option Bytes → Option Frame → Type 0
-IsRead sizes (Some bytes) read = IsReadAs sizes bytes read
-IsRead sizes None read = read ≡ None
+-- injected bytes are read as the frame that they spell, and as none where they spell none
+abbrev pub IsReadIn : Sizes → Event → Type 0
+IsReadIn sizes (inject to bytes read) = IsReadAs sizes bytes read
+IsReadIn sizes e = ⊤
 
--- what comes is read as the frame that its bytes spell, and as none where they spell none
-abbrev pub IsReadIn : World → Event → Type 0
-IsReadIn w e = IsRead w.sizes (bytes_of w e) (brought e)
-
--- each event of a schedule reads rightly what it brings
-abbrev pub AllRead : World → List Happening → Type 0
-AllRead w [] = ⊤
-AllRead w (h ∷ hs) = IsReadIn w h.0 × AllRead (happens w h) hs
+-- so are those of a whole schedule
+abbrev pub AllRead : Sizes → List Happening → Type 0
+AllRead sizes hs = AllByRecursion (λ h. IsReadIn sizes h.0) hs
 
 -- each right tag in a correct party's name was sent by it before
 abbrev pub NoForgeryIn : World → Event → Type 0
-NoForgeryIn w e = (f : Frame) → brought e ≡ Some f → w.is_faulty (party_of e) ≡ false → admits w (party_of e) f ≡ true →
+NoForgeryIn w e = (f : Frame) → brought w e ≡ Some f → w.is_faulty (party_of e) ≡ false → admits w (party_of e) f ≡ true →
     (x : Claim) → Among x (accepted_tags (self_of w (party_of e)) f) → w.is_faulty x.sender ≡ false → WasSent w.sent x
 
 -- no event of the run brings a forged tag
@@ -127,17 +123,17 @@ CoreOf c f = ⊥
 -- the cores of a run: genesis's, those of its frames, and those of the frames brought in it
 abbrev pub CoreBrought : Core → World → List Happening → Type 0
 CoreBrought c w [] = ⊥
-CoreBrought c w (h ∷ hs) = ((f : Frame) × (brought h.0 ≡ Some f) × CoreOf c f) ⊎ CoreBrought c (happens w h) hs
+CoreBrought c w (h ∷ hs) = ((f : Frame) × (brought w h.0 ≡ Some f) × CoreOf c f) ⊎ CoreBrought c (happens w h) hs
 
 -- the core is one of the run
 abbrev pub CoreOfRun : World → List Happening → Core → Type 0
 CoreOfRun w hs c = (c ≡ genesis_core) ⊎ (((s : Sent) × Among s (after w hs).sent × CoreOf c s.frame) ⊎ CoreBrought c w hs)
 
 -- What is assumed of a schedule that begins in this world: at most f replicas are faulty, each correct one has its
--- own keys, what comes is read rightly, no tag is forged and no two cores collide.
+-- own keys, injected bytes are read rightly, no tag is forged and no two cores collide.
 pub record ArePremises (start : World) (hs : List Happening) : Type 0 where
   pub few : count_below (replicas start.sizes) start.is_faulty ≤ start.sizes.faults
   pub keys : (p : ℕ) → is_correct start p ≡ true → (start.ring p).party ≡ p
-  pub read : AllRead start hs
+  pub read : AllRead start.sizes hs
   pub no_forgery : NoForgery start hs
   pub no_collision : NoCollision (CoreOfRun start hs)

@@ -50,9 +50,9 @@ held_history r = elim r.standing [
 abbrev pub stopped_at : Chronicle → Replica
 stopped_at c = record { chronicle = c; standing = stopped }
 
--- the step executes something
+-- the step executes a command
 unfoldable pub executes : Step → Chronicle → Bool
-executes s c = nat_lt (length (executed c)) (length (executed (s ∷ c)))
+executes s c = nat_lt (length (history c)) (length (history (s ∷ c)))
 
 -- a step that is to stand
 unfoldable pub on_step : Identity → Memory → Step → Chronicle → Replica × Reaction

@@ -8,8 +8,8 @@ use Rattle.definitions.specs.Branches.{Branch, justify_height, just3, extends}
 use Rattle.definitions.specs.Bytes.{Bytes}
 use Rattle.ids.specs.Sizes.{Sizes, leader}
 use Rattle.definitions.specs.Trees.{find_in, Placing, Placing.stands, Placing.grows, Placing.lacks_parent, Placing.unfit, placing, most_blocks, clear_above}
-use Rattle.definitions.specs.Chronicles.{Admitted, Step, Step.took_block, Step.got_vote, Step.got_new_view, Step.got_request, Step.got_fetch, Step.timed_out, Step.beat, Chronicle, stored, tree, decides, executed, history, may_vote}
-use Rattle.definitions.specs.Checks.{Identity, counted, is_clear_core}
+use Rattle.definitions.specs.Chronicles.{Admitted, Step, Step.took_block, Step.noted, Note.got_vote, Note.got_new_view, Note.got_request, Note.got_fetch, Note.timed_out, Note.beat, Chronicle, stored, tree, decides, executed, history, may_vote}
+use Rattle.definitions.specs.Checks.{Identity, Findings}
 use Rattle.definitions.specs.States.{view, is_same_request, is_due, pending}
 
 -- the most requests that wait
@@ -18,8 +18,8 @@ most_pending = 4096
 
 -- what is taken in, after its tags were found right
 pub data Input : Type 0 where
-  proposal_in : (view : ℕ) → (core : Core) → (certificate : Certificate) → Input
-  block_in : (sender : ℕ) → (core : Core) → (certificate : Certificate) → Input
+  proposal_in : (view : ℕ) → (core : Core) → (certificate : Certificate) → (found : Findings) → Input
+  block_in : (sender : ℕ) → (core : Core) → (certificate : Certificate) → (found : Findings) → Input
   vote_in : (block : Bytes) → (vote : Vote) → Input
   new_view_in : (view sender : ℕ) → (certificate : Certificate) → Input
   request_in : Command → Input
@@ -38,13 +38,13 @@ unfoldable pub find_block : Bytes → Chronicle → Option Branch
 find_block d c = find_in d (tree c)
 
 -- a block and what was found of it, before the vote
-unfoldable pub admitted : Identity → Branch → Core → Certificate → Bool → Admitted
-admitted self b core q new = record {
+unfoldable pub admitted : Branch → Core → Certificate → Findings → Bool → Admitted
+admitted b core q found new = record {
   branch = b;
   core = core;
   certificate = q;
-  counted = counted self q;
-  clear = is_clear_core self core;
+  counted = found.counted;
+  clear = found.clear;
   new = new;
   voted = false;
 }
@@ -59,21 +59,21 @@ abbrev pub take_block : Identity → Option ℕ → Admitted → Chronicle → R
 take_block self w a c = due (took_block (record a { voted = votes_for self.sizes w a c }))
 
 -- what follows from the place of a block in the tree
-unfoldable pub on_placing : Identity → Option ℕ → ℕ → Core → Certificate → Chronicle → Placing → Ruling
-on_placing self w sender core q c (stands b) = take_block self w (admitted self b core q false) c
-on_placing self w sender core q c (grows b) = take_block self w (admitted self b core q true) c
-on_placing self w sender core q c lacks_parent = missing sender core.parent
-on_placing self w sender core q c (unfit n) = refusing n
+unfoldable pub on_placing : Identity → Option ℕ → ℕ → Core → Certificate → Findings → Chronicle → Placing → Ruling
+on_placing self w sender core q found c (stands b) = take_block self w (admitted b core q found false) c
+on_placing self w sender core q found c (grows b) = take_block self w (admitted b core q found true) c
+on_placing self w sender core q found c lacks_parent = missing sender core.parent
+on_placing self w sender core q found c (unfit n) = refusing n
 
 -- a block with its certificate, as a proposal of this view or on its own
-abbrev pub on_block : Identity → Option ℕ → ℕ → Core → Certificate → Chronicle → Ruling
-on_block self w sender core q c = on_placing self w sender core q c (placing most_blocks core q (tree c))
+abbrev pub on_block : Identity → Option ℕ → ℕ → Core → Certificate → Findings → Chronicle → Ruling
+on_block self w sender core q found c = on_placing self w sender core q found c (placing most_blocks core q (tree c))
 
 -- a request, where there is room for it
 unfoldable pub on_request : Command → Chronicle → Ruling
 on_request r c =
     if is_due (history c) r && (not (list_any (is_same_request r) (pending c)) && not (nat_lt (length (pending c)) most_pending))
-    then refusing fault.PoolFull else due (got_request r)
+    then refusing fault.PoolFull else due (noted (got_request r))
 
 -- what follows where the block stands in the tree
 abbrev pub with_block : Option Branch → ℕ → Bytes → (Branch → Ruling) → Ruling
@@ -82,14 +82,14 @@ with_block (Some b) sender d follows = follows b
 
 -- what an input comes to
 unfoldable pub ruling : Identity → Input → Chronicle → Ruling
-ruling self (proposal_in w core q) c = on_block self (Some w) (leader self.sizes w) core q c
-ruling self (block_in sender core q) c = on_block self None sender core q c
-ruling self (vote_in d b) c = with_block (find_block d c) b.voter d (λ x. due (got_vote b.voter b.vector x))
-ruling self (new_view_in w sender q) c = with_block (find_block q.digest c) sender q.digest (λ x. due (got_new_view w sender q x))
+ruling self (proposal_in w core q found) c = on_block self (Some w) (leader self.sizes w) core q found c
+ruling self (block_in sender core q found) c = on_block self None sender core q found c
+ruling self (vote_in d b) c = with_block (find_block d c) b.voter d (λ x. due (noted (got_vote b.voter b.vector x)))
+ruling self (new_view_in w sender q) c = with_block (find_block q.digest c) sender q.digest (λ x. due (noted (got_new_view w sender q x)))
 ruling self (request_in r) c = on_request r c
-ruling self (fetch_in sender d) c = due (got_fetch sender (find_block d c))
-ruling self timeout_in c = due timed_out
-ruling self beat_in c = due beat
+ruling self (fetch_in sender d) c = due (noted (got_fetch sender (find_block d c)))
+ruling self timeout_in c = due (noted timed_out)
+ruling self beat_in c = due (noted beat)
 
 -- the block that a step decides neither extends the last executed one nor is extended by it
 unfoldable pub conflicts : Step → Chronicle → Bool

@@ -9,14 +9,14 @@ use Rattle.definitions.specs.Events.{happens}
 -- what the run refuses
 abbrev pub names_party : World → Event → Bool
 names_party w (submit c payload) = nat_lt c w.sizes.clients
-names_party w (relay k to read) = is_party w to
+names_party w (relay k to) = is_party w to
 names_party w (inject to bytes read) = is_party w to
 names_party w (timeout r) = is_replica w r
 names_party w (beat r) = is_replica w r
 
 -- the frame is one of the record
 abbrev pub names_frame : World → Event → Bool
-names_frame w (relay k to read) = nat_lt k (length w.sent)
+names_frame w (relay k to) = nat_lt k (length w.sent)
 names_frame w e = true
 
 -- the payload is a canonical request

@@ -8,7 +8,7 @@ use Rattle.ids.specs.Sizes.{leader, client_party}
 use Rattle.definitions.specs.Digests.{digest_of, core_of}
 use Rattle.definitions.specs.Keyrings.{tag_for, vector_for}
 use Rattle.definitions.specs.Histories.{Answer, last_seq, answers, answer_to}
-use Rattle.definitions.specs.Chronicles.{Admitted, Step, Step.took_block, Step.got_vote, Step.got_new_view, Step.got_request, Step.got_fetch, Step.timed_out, Step.beat, Chronicle, taken, history}
+use Rattle.definitions.specs.Chronicles.{Admitted, Step, Step.took_block, Step.noted, Note.got_vote, Note.got_new_view, Note.got_request, Note.got_fetch, Note.timed_out, Note.beat, Chronicle, taken, history}
 use Rattle.definitions.specs.Frames as frame
 use Rattle.definitions.specs.Checks.{Identity}
 use Rattle.definitions.specs.States.{view, Justified, qc_high, me, leads, proposed}
@@ -85,11 +85,11 @@ proposes self w (Some p) = (to_all, proposal_frame self w p) ∷ []
 unfoldable pub sendings : Identity → Step → Chronicle → List Sending
 sendings self (took_block a) c =
     (if a.voted then (to_party (leader self.sizes (view self.sizes c)), vote_frame self a.branch) ∷ [] else []) ++ new_replies self (took_block a) c
-sendings self (got_vote voter v b) c = []
-sendings self (got_new_view w sender q b) c =
-    if nat_lt (view self.sizes c) (view self.sizes (got_new_view w sender q b ∷ c))
-    then (to_all, new_view_frame self (got_new_view w sender q b ∷ c)) ∷ [] else []
-sendings self (got_request r) c = if r.seq == last_seq r.client (history c) then again self (answer_to r.client r.seq (history c)) else []
-sendings self (got_fetch to b) c = supplies self to (as_taken b c)
-sendings self timed_out c = (to_all, new_view_frame self (timed_out ∷ c)) ∷ []
-sendings self beat c = if leads self c then proposes self (view self.sizes c) (proposed self (beat ∷ c)) else []
+sendings self (noted (got_vote voter v b)) c = []
+sendings self (noted (got_new_view w sender q b)) c =
+    if nat_lt (view self.sizes c) (view self.sizes (noted (got_new_view w sender q b) ∷ c))
+    then (to_all, new_view_frame self (noted (got_new_view w sender q b) ∷ c)) ∷ [] else []
+sendings self (noted (got_request r)) c = if r.seq == last_seq r.client (history c) then again self (answer_to r.client r.seq (history c)) else []
+sendings self (noted (got_fetch to b)) c = supplies self to (as_taken b c)
+sendings self (noted timed_out) c = (to_all, new_view_frame self (noted timed_out ∷ c)) ∷ []
+sendings self (noted beat) c = if leads self c then proposes self (view self.sizes c) (proposed self (noted beat ∷ c)) else []

@@ -11,13 +11,13 @@ use Rattle.definitions.specs.Bytes.{Bytes}
 use Rattle.ids.specs.Sizes.{Sizes, replicas, quorum, leader}
 use Rattle.definitions.specs.Digests.{digest, digest_of}
 use Rattle.definitions.specs.Histories.{History, last_seq, history_of}
-use Rattle.definitions.specs.Chronicles.{Step, Step.took_block, Step.got_vote, Step.got_new_view, Step.got_request, Step.timed_out, Step.beat, Chronicle, tree, history}
+use Rattle.definitions.specs.Chronicles.{Step, Step.took_block, Step.noted, Note.got_vote, Note.got_new_view, Note.got_request, Note.timed_out, Note.beat, Chronicle, tree, history}
 use Rattle.definitions.specs.Checks.{Identity}
 
 -- each view that a replica announced, with its number
 unfoldable pub announcements : Chronicle → List (ℕ × ℕ)
 announcements [] = []
-announcements (got_new_view view sender q b ∷ earlier) = (sender, view) ∷ announcements earlier
+announcements (noted (got_new_view view sender q b) ∷ earlier) = (sender, view) ∷ announcements earlier
 announcements (s ∷ earlier) = announcements earlier
 
 -- the greatest view that a replica announced
@@ -32,14 +32,14 @@ reached s c =
 -- the view: a timeout adds one, and new-view messages raise it
 unfoldable pub view : Sizes → Chronicle → ℕ
 view s [] = 0
-view s (timed_out ∷ earlier) = min (suc (view s earlier)) (2 ^ 64 - 1)
-view s (got_new_view w sender q b ∷ earlier) = max (view s earlier) (reached s (got_new_view w sender q b ∷ earlier))
+view s (noted timed_out ∷ earlier) = min (suc (view s earlier)) (2 ^ 64 - 1)
+view s (noted (got_new_view w sender q b) ∷ earlier) = max (view s earlier) (reached s (noted (got_new_view w sender q b) ∷ earlier))
 view s (x ∷ earlier) = view s earlier
 
 -- the kept votes for a block, one a voter and at most a quorum, newest first
 unfoldable pub votes : Sizes → Bytes → Chronicle → List Vote
 votes s d [] = []
-votes s d (got_vote voter v b ∷ earlier) =
+votes s d (noted (got_vote voter v b) ∷ earlier) =
     if bytes_eq (digest_of b) d && (not (list_any (λ x. x.voter == voter) (votes s d earlier)) && nat_lt (length (votes s d earlier)) (quorum s))
     then record { voter = voter; vector = v } ∷ votes s d earlier
     else votes s d earlier
@@ -63,10 +63,10 @@ pub record Justified : Type 0 where
 -- the certificate that a step brings or completes, if any
 unfoldable pub raised : Sizes → Step → Chronicle → Option Justified
 raised s (took_block a) earlier = if a.new then Some (record { block = just1 a.branch; certificate = a.certificate }) else None
-raised s (got_new_view w sender q b) earlier = Some (record { block = b; certificate = q })
-raised s (got_vote voter v b) earlier =
-    if nat_lt (length (votes s (digest_of b) earlier)) (quorum s) && (length (votes s (digest_of b) (got_vote voter v b ∷ earlier)) == quorum s)
-    then Some (record { block = b; certificate = record { digest = digest_of b; votes = by_voter (votes s (digest_of b) (got_vote voter v b ∷ earlier)) } })
+raised s (noted (got_new_view w sender q b)) earlier = Some (record { block = b; certificate = q })
+raised s (noted (got_vote voter v b)) earlier =
+    if nat_lt (length (votes s (digest_of b) earlier)) (quorum s) && (length (votes s (digest_of b) (noted (got_vote voter v b) ∷ earlier)) == quorum s)
+    then Some (record { block = b; certificate = record { digest = digest_of b; votes = by_voter (votes s (digest_of b) (noted (got_vote voter v b) ∷ earlier)) } })
     else None
 raised s x earlier = None
 
@@ -90,7 +90,7 @@ is_due h r = nat_lt (last_seq r.client h) r.seq
 
 -- a new request is added last
 abbrev pub with_request : Step → List Command → List Command
-with_request (got_request r) ps = if list_any (is_same_request r) ps then ps else ps ++ r ∷ []
+with_request (noted (got_request r)) ps = if list_any (is_same_request r) ps then ps else ps ++ r ∷ []
 with_request s ps = ps
 
 -- the requests that wait
@@ -129,7 +129,7 @@ or_else (Some y) x = y
 -- the block that the next proposal stands on (HotStuff, PODC 2019, b_leaf)
 unfoldable pub leaf : Identity → Chronicle → Branch
 leaf self [] = []
-leaf self (beat ∷ earlier) = or_else (child self earlier (leaf self earlier)) (leaf self earlier)
+leaf self (noted beat ∷ earlier) = or_else (child self earlier (leaf self earlier)) (leaf self earlier)
 leaf self (s ∷ earlier) =
     if nat_lt (length (qc_high self.sizes earlier).block) (length (qc_high self.sizes (s ∷ earlier)).block)
     then (qc_high self.sizes (s ∷ earlier)).block
@@ -143,5 +143,5 @@ made_with (Some b) q before = Some (record { block = b; certificate = q })
 -- the last block that it made, with the certificate that went along
 unfoldable pub proposed : Identity → Chronicle → Option Justified
 proposed self [] = None
-proposed self (beat ∷ earlier) = made_with (child self earlier (leaf self earlier)) (qc_high self.sizes earlier).certificate (proposed self earlier)
+proposed self (noted beat ∷ earlier) = made_with (child self earlier (leaf self earlier)) (qc_high self.sizes earlier).certificate (proposed self earlier)
 proposed self (s ∷ earlier) = proposed self earlier

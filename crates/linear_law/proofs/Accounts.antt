@@ -2,11 +2,11 @@
 use Rattle.ids.specs.declared.kind.Kind.TheVariants as kind
 use Rattle.ids.specs.declared.fault.Fault.{Fault}
 use Rattle.ids.specs.declared.fault.Fault.TheVariants as fault
-use Rattle.std.proofs.Common.{ℕ, suc, ◌≡◌, ◌-◌, ◌^◌, ◌%◌, ◌<◌, ◌≤◌, ◌&&◌, not, ◌==◌, Bool, true, false, List, [], ◌∷◌, ◌++◌, length, cond, refl, sym, ap, subst, ◌∙◌, arith, inl, inr, true≢false, nat_lt, Option, Some, None, filter}
+use Rattle.std.proofs.Common.{ℕ, suc, ◌≡◌, ◌-◌, ◌^◌, ◌<◌, ◌≤◌, ◌&&◌, not, ◌==◌, false, List, [], ◌∷◌, length, refl, sym, ap, subst, ◌∙◌, arith, inl, inr, true≢false, nat_lt, filter}
 use Rattle.std.specs.List.{list_any}
 use Rattle.std.proofs.lemmas.Bool.{cond_both, eqb-true, eq-eqb, cases_lt}
-use Rattle.definitions.proofs.Lists.{Among-either, Among-map}
 use Rattle.definitions.proofs.Sound.{Outcome, Outcome.unchanged, Outcome.refused, Outcome.lacks, Outcome.conflict, Outcome.stood, Outcome.cut, step-outcome}
+use Rattle.linear_law.proofs.Sends.{Sends, Sends.its_vote, Sends.new_reply, Sends.old_reply, Sends.its_view, Sends.its_block, Sends.its_proposal, sends}
 use Rattle.linear_law.proofs.Effects.{Effects, Effects.idle, Effects.step_by, Effects.hearing, Effects.submitting}
 use Rattle.linear_law.proofs.Runs.{chronicles, IsRun, IsMadeWell, IsHonest, arises-checked}
 use Rattle.linear_law.proofs.Fits.{AnswersFit}
@@ -14,14 +14,13 @@ use Rattle.linear_law.proofs.Receipts.{RepliesStand, SessionStands, IsTrueReceip
 use Rattle.definitions.specs.Lists.{Among}
 use Rattle.definitions.specs.Frames.{Command, Core, Frame, reply_content}
 use Rattle.definitions.specs.Bytes.{Bytes}
-use Rattle.ids.specs.Sizes.{replicas, client_party}
+use Rattle.ids.specs.Sizes.{client_party}
 use Rattle.definitions.specs.Keyrings.{verify}
-use Rattle.definitions.specs.Histories.{Answer, last_seq, answer_to}
-use Rattle.definitions.specs.Chronicles.{Admitted, Step, Step.took_block, Step.got_vote, Step.got_new_view, Step.got_request, Step.got_fetch, Step.timed_out, Step.beat, Chronicle, history}
+use Rattle.definitions.specs.Chronicles.{Step, Chronicle}
 use Rattle.definitions.specs.Checks.{Identity}
-use Rattle.definitions.specs.States.{Justified, view, leads, proposed}
+use Rattle.definitions.specs.States.{view}
 use Rattle.definitions.specs.Rulings.{Ruling, ruling}
-use Rattle.definitions.specs.Sendings.{as_taken, To, To.to_all, To.to_party, Sending, sendings, new_replies, reply_to, vote_frame, proposes, again, supplies, block_frame, new_view_frame, proposal_frame, fetch_frame}
+use Rattle.definitions.specs.Sendings.{To, To.to_all, To.to_party, Sending, reply_to, vote_frame, block_frame, new_view_frame, proposal_frame, fetch_frame}
 use Rattle.definitions.specs.Replicas.{Memory, Replica, Reaction}
 use Rattle.definitions.specs.Sessions.{Client, Session, Heard, Receipt, Submitted, Submitted.not_sent, is_ample, submission, request_frame, on_reply, count_reply}
 use Rattle.definitions.specs.Tally.{agrees}
@@ -41,60 +40,18 @@ one-not to f apart o (inr m) c h = m
 none-not : (o : Sending) → Among o [] → NotRequest o
 none-not o m c h = m
 
-reply-not : (self : Identity) (a : Answer) (o : Sending) → o ≡ reply_to self a → NotRequest o
-unfolding reply_to
-reply-not self a o e c h = apart (sym (ap (λ (x : Sending). x.1) e) ∙ h)
-  where
-    apart : (reply_to self a).1 ≡ frame.request c → ⊥
-    apart k = cc
-
-vote-not : (self : Identity) (a : Admitted) (t : Bool) (to : To) (o : Sending) → Among o (cond t ((to, vote_frame self a.branch) ∷ []) []) → NotRequest o
-unfolding vote_frame
-vote-not self a true to o m = one-not to (vote_frame self a.branch) (λ c h. cc) o m
-vote-not self a false to o m = none-not o m
-
-replies-not : (self : Identity) (st : Step) (c : Chronicle) (o : Sending) → Among o (new_replies self st c) → NotRequest o
-unfolding new_replies
-replies-not self st c o m = let r = Among-map (reply_to self) _ o m in reply-not self r.0 o r.2
-
-block-not : (self : Identity) (a : Admitted) (c : Chronicle) (to : To) (o : Sending) → Among o (cond a.voted ((to, vote_frame self a.branch) ∷ []) [] ++ new_replies self (took_block a) c) → NotRequest o
-block-not self a c to o m = elim (Among-either o (cond a.voted ((to, vote_frame self a.branch) ∷ []) []) (new_replies self (took_block a) c) m) [ inl k ↦ vote-not self a a.voted to o k | inr k ↦ replies-not self (took_block a) c o k ]
-
-again-not : (self : Identity) (a : Option Answer) (o : Sending) → Among o (again self a) → NotRequest o
-again-not self None o m = none-not o m
-again-not self (Some a) o (inl e) = reply-not self a o e
-again-not self (Some a) o (inr m) = none-not o m
-
-supplies-not : (self : Identity) (to : ℕ) (a : Option Admitted) (o : Sending) → Among o (supplies self to a) → NotRequest o
-unfolding block_frame
-supplies-not self to None o m = none-not o m
-supplies-not self to (Some a) o m = one-not (to_party to) (block_frame self to a) (λ c h. cc) o m
-
-proposes-not : (self : Identity) (w : ℕ) (p : Option Justified) (o : Sending) → Among o (proposes self w p) → NotRequest o
-unfolding proposal_frame
-proposes-not self w None o m = none-not o m
-proposes-not self w (Some p) o m = one-not to_all (proposal_frame self w p) (λ c h. cc) o m
-
-new_view-not : (self : Identity) (k : Chronicle) (o : Sending) → Among o ((to_all, new_view_frame self k) ∷ []) → NotRequest o
-unfolding new_view_frame
-new_view-not self k o m = one-not to_all (new_view_frame self k) (λ c h. cc) o m
-
 fetch-not : (self : Identity) (sender : ℕ) (d : Bytes) (o : Sending) → Among o ((to_party sender, fetch_frame self sender d) ∷ []) → NotRequest o
 unfolding fetch_frame
 fetch-not self sender d o m = one-not (to_party sender) (fetch_frame self sender d) (λ c h. cc) o m
 
-sendings-not : (self : Identity) (st : Step) (c : Chronicle) (o : Sending) → Among o (sendings self st c) → NotRequest o
-unfolding sendings
-sendings-not self (took_block a) c o = λ m. block-not self a c (to_party (view self.sizes c % replicas self.sizes)) o m
-sendings-not self (got_vote v t b) c o = λ m. none-not o m
-sendings-not self (got_new_view w s q b) c o =
-    cond_both (nat_lt (view self.sizes c) (view self.sizes (got_new_view w s q b ∷ c))) _ [] (λ (l : List Sending). Among o l → NotRequest o) (λ e m. new_view-not self (got_new_view w s q b ∷ c) o m) (λ e m. none-not o m)
-sendings-not self (got_request r) c o =
-    cond_both (r.seq == last_seq r.client (history c)) _ [] (λ (l : List Sending). Among o l → NotRequest o) (λ e m. again-not self (answer_to r.client r.seq (history c)) o m) (λ e m. none-not o m)
-sendings-not self (got_fetch s b) c o = λ m. supplies-not self s (as_taken b c) o m
-sendings-not self timed_out c o = λ m. new_view-not self (timed_out ∷ c) o m
-sendings-not self beat c o =
-    cond_both (leads self c) _ [] (λ (l : List Sending). Among o l → NotRequest o) (λ e m. proposes-not self (view self.sizes c) (proposed self (beat ∷ c)) o m) (λ e m. none-not o m)
+sends-not : (self : Identity) (st : Step) (c : Chronicle) (o : Sending) → Sends self st c o → NotRequest o
+unfolding vote_frame reply_to new_view_frame block_frame proposal_frame
+sends-not self st c o (its_vote a e v to) x h = let k : vote_frame self a.branch ≡ frame.request x = h in cc
+sends-not self st c o (new_reply a m) x h = let k : (reply_to self a).1 ≡ frame.request x = h in cc
+sends-not self st c o (old_reply a m) x h = let k : (reply_to self a).1 ≡ frame.request x = h in cc
+sends-not self st c o its_view x h = let k : new_view_frame self (st ∷ c) ≡ frame.request x = h in cc
+sends-not self st c o (its_block to a m) x h = let k : block_frame self to a ≡ frame.request x = h in cc
+sends-not self st c o (its_proposal j e) x h = let k : proposal_frame self (view self.sizes c) j ≡ frame.request x = h in cc
 
 outcome-not : (self : Identity) (m : Memory) (v : Ruling) (old : Replica) (r : Replica × Reaction) → Outcome self old.chronicle v old r → (o : Sending) → Among o (out_of self m r.1) → NotRequest o
 outcome-not self m v old r (unchanged n l) o k = none-not o k
@@ -102,7 +59,7 @@ outcome-not self m v old r (refused s n u l) o k = none-not o k
 outcome-not self m v old r (lacks sender d u) o k =
     cond_both (is_ample m && not (sender == self.ring.party)) ((to_party sender, fetch_frame self sender d) ∷ []) [] (λ (l : List Sending). Among o l → NotRequest o) (λ e y. fetch-not self sender d o y) (λ e y. none-not o y) k
 outcome-not self m v old r (conflict st u e h) o k = none-not o k
-outcome-not self m v old r (stood st u e h) o k = sendings-not self st old.chronicle o k
+outcome-not self m v old r (stood st u e h) o k = sends-not self st old.chronicle o (sends self st old.chronicle o k)
 outcome-not self m v old r (cut st n u e h) o k = none-not o k
 
 -- ---- what an event does to sessions and requests

@@ -8,7 +8,7 @@ use Rattle.std.proofs.lemmas.Bool.{cases_lt}
 use Rattle.definitions.specs.Lists.{Among, count_below}
 use Rattle.definitions.specs.Branches.{Branch, just1, Extends, IsBranch}
 use Rattle.ids.specs.Sizes.{Sizes, replicas, quorum}
-use Rattle.definitions.specs.Chronicles.{Admitted, Step, Step.took_block, Step.got_vote, Step.got_new_view, Step.got_request, Step.got_fetch, Step.timed_out, Step.beat, Chronicle, voted, taken, tree, IsLawful, IsLawfulVote}
+use Rattle.definitions.specs.Chronicles.{Admitted, Step, Step.took_block, Step.noted, Chronicle, voted, taken, tree, IsLawful, IsLawfulVote}
 use Rattle.definitions.specs.Agreement.{Family, IsOrderly}
 
 -- the block was taken, and as a clear one
@@ -32,12 +32,7 @@ vote-clear : (s : Sizes) (c : Chronicle) → IsLawful s c → (b : Branch) → A
 unfolding voted
 vote-clear s [] l b m = absurd m
 vote-clear s (took_block a ∷ c) l b m = vote-step a c b a.voted refl l.0.0 (vote-clear s c l.1 b) m
-vote-clear s (got_vote v t x ∷ c) l b m = clear-vote-grows _ b c (vote-clear s c l.1 b m)
-vote-clear s (got_new_view w r q x ∷ c) l b m = clear-vote-grows _ b c (vote-clear s c l.1 b m)
-vote-clear s (got_request r ∷ c) l b m = clear-vote-grows _ b c (vote-clear s c l.1 b m)
-vote-clear s (got_fetch r x ∷ c) l b m = clear-vote-grows _ b c (vote-clear s c l.1 b m)
-vote-clear s (timed_out ∷ c) l b m = clear-vote-grows _ b c (vote-clear s c l.1 b m)
-vote-clear s (beat ∷ c) l b m = clear-vote-grows _ b c (vote-clear s c l.1 b m)
+vote-clear s (noted n ∷ c) l b m = clear-vote-grows _ b c (vote-clear s c l.1 b m)
 
 -- the chronicles of some members, in order
 pub record IsCourse (fam : Family) : Type 0 where

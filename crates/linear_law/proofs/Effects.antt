@@ -1,20 +1,19 @@
 -- What an event that isn't refused comes to.
 use Rattle.ids.specs.declared.fault.Fault.{Fault}
 use Rattle.ids.specs.declared.fault.Fault.TheVariants as fault
-use Rattle.std.proofs.Common.{ℕ, ◌≡◌, ◌-◌, ◌≤◌, ◌⊎◌, Bool, true, false, refl, sym, ap, subst, ◌∙◌, inl, inr, Option, Some, None, true≢false}
+use Rattle.std.proofs.Common.{ℕ, ◌≡◌, ◌-◌, ◌≤◌, ◌⊎◌, Bool, true, false, refl, sym, ap, ◌∙◌, inl, inr, Option, Some, None, true≢false}
 use Rattle.std.proofs.lemmas.Bool.{and_parts, and_from, cond_both, cond-true, cases_Bool, not_from_false, or_cases, leb-true}
 use Rattle.definitions.specs.Bytes.{Bytes}
-use Rattle.ids.specs.Sizes.{Sizes}
 use Rattle.definitions.specs.Frames.{Frame}
-use Rattle.definitions.specs.FrameLimits.{IsFrame, IsReadAs}
+use Rattle.definitions.specs.FrameLimits.{IsFrame}
 use Rattle.definitions.specs.Checks.{Identity}
 use Rattle.definitions.specs.Rulings.{Input, Input.timeout_in, Input.beat_in}
 use Rattle.definitions.specs.Replicas.{Memory, step}
 use Rattle.definitions.specs.Worlds.{World, Event, Event.submit, Event.relay, Event.inject, Event.timeout, Event.beat, is_replica, is_correct, is_party, self_of}
 use Rattle.definitions.specs.Runs.{refusal, names_party}
-use Rattle.definitions.specs.Events.{Effect, nothing, stepped, on_checked, hears, submits, comes, brought, bytes_of, party_of, acts, effect}
+use Rattle.definitions.specs.Events.{Effect, nothing, stepped, on_checked, hears, submits, comes, recorded, brought, party_of, acts, effect}
 use Rattle.definitions.specs.Admission.{Checked, Checked.passes, Checked.rejected, check, when}
-use Rattle.definitions.specs.Premises.{IsRead, IsReadIn, admits, is_good_check}
+use Rattle.definitions.specs.Premises.{admits, is_good_check}
 use Rattle.definitions.specs.Frames as frame
 
 abbrev pub is_member : World → ℕ → Bool
@@ -22,7 +21,7 @@ is_member = is_correct
 
 pub record Brings (w : World) (e : Event) (i : Input) : Type 0 where
   pub frame : Frame
-  pub brings : brought e ≡ Some frame
+  pub brings : brought w e ≡ Some frame
   pub is_frame : IsFrame w.sizes frame
   pub good : check (self_of w (party_of e)) frame ≡ passes i
 
@@ -32,7 +31,7 @@ Arises w e i = Brings w e i ⊎ ((i ≡ timeout_in) ⊎ (i ≡ beat_in))
 pub data Effects (w : World) (e : Event) (m : Memory) : Effect → Type 0 where
   idle : (a : Option Fault) → (a ≡ Some fault.Conflict → ⊥) → Effects w e m (nothing w a)
   step_by : (i : Input) → is_member w (party_of e) ≡ true → Arises w e i → Effects w e m (stepped w (party_of e) m (step (self_of w (party_of e)) m i (w.replica (party_of e))))
-  hearing : (f : Frame) → (brought e ≡ Some f) × IsFrame w.sizes f → is_replica w (party_of e) ≡ false → w.is_faulty (party_of e) ≡ false → 256 ≤ party_of e → Effects w e m (hears (party_of e - 256) m f w)
+  hearing : (f : Frame) → (brought w e ≡ Some f) × IsFrame w.sizes f → is_replica w (party_of e) ≡ false → w.is_faulty (party_of e) ≡ false → 256 ≤ party_of e → Effects w e m (hears (party_of e - 256) m f w)
   submitting : (c : ℕ) (payload : Bytes) → e ≡ submit c payload → w.is_faulty (party_of e) ≡ false → Effects w e m (submits c m payload w)
 
 when-bad : (ok : Bool) (i : Input) (n : Fault) → when ok i ≡ rejected n → Some n ≡ Some fault.Conflict → ⊥
@@ -89,38 +88,31 @@ party-client : (w : World) (p : ℕ) → is_party w p ≡ true → is_replica w 
 party-client w p h r = elim (or_cases _ _ h) [ inl k ↦ absurd (true≢false (sym k ∙ r)) | inr k ↦ leb-true 256 p (and_parts _ _ k).0 ]
 
 -- what is brought is a frame
-read-frame : (s : Sizes) (o : Option Bytes) (r : Option Frame) (f : Frame) → IsRead s o r → r ≡ Some f → IsFrame s f
-read-frame s (Some bytes) r f h e = (subst (IsReadAs s bytes) e h).0
-read-frame s None r f h e = absurd (none (sym h ∙ e))
-  where
-    none : None ≡ Some f → ⊥
-    none k = cc
-
-pub brought-frame : (w : World) (e : Event) (f : Frame) → IsReadIn w e → brought e ≡ Some f → IsFrame w.sizes f
-brought-frame w e f rd b = read-frame w.sizes (bytes_of w e) (brought e) f rd b
+abbrev pub ComesFramed : World → Event → Type 0
+ComesFramed w e = (f : Frame) → brought w e ≡ Some f → IsFrame w.sizes f
 
 -- a frame comes
-comes-effects : (w : World) (e : Event) (m : Memory) → is_party w (party_of e) ≡ true → w.is_faulty (party_of e) ≡ false → IsReadIn w e → (o : Option Frame) → brought e ≡ o → Effects w e m (comes (party_of e) m o w)
+comes-effects : (w : World) (e : Event) (m : Memory) → is_party w (party_of e) ≡ true → w.is_faulty (party_of e) ≡ false → ComesFramed w e → (o : Option Frame) → brought w e ≡ o → Effects w e m (comes (party_of e) m o w)
 unfolding comes
 comes-effects w e m pa ok rd None b = idle (Some fault.NotAFrame) no_frame-apart
 comes-effects w e m pa ok rd (Some f) b =
     cond_both (is_replica w (party_of e)) (on_checked (party_of e) m (check (self_of w (party_of e)) f) w) (hears (party_of e - 256) m f w) (Effects w e m)
     (λ r. checked (check (self_of w (party_of e)) f) refl r)
-    (λ r. hearing f (b, brought-frame w e f rd b) r ok (party-client w (party_of e) pa r))
+    (λ r. hearing f (b, rd f b) r ok (party-client w (party_of e) pa r))
   where
     checked : (x : Checked) → check (self_of w (party_of e)) f ≡ x → is_replica w (party_of e) ≡ true → Effects w e m (on_checked (party_of e) m x w)
-    checked (passes i) g r = step_by i (and_from _ _ r (not_from_false _ ok)) (inl (record { frame = f; brings = b; is_frame = brought-frame w e f rd b; good = g }))
+    checked (passes i) g r = step_by i (and_from _ _ r (not_from_false _ ok)) (inl (record { frame = f; brings = b; is_frame = rd f b; good = g }))
     checked (rejected n) g r = idle (Some n) (check-bad (self_of w (party_of e)) f n g)
 
-acts-effects : (w : World) (e : Event) (m : Memory) → IsReadIn w e → refusal w e ≡ None → w.is_faulty (party_of e) ≡ false → Effects w e m (acts w e m)
+acts-effects : (w : World) (e : Event) (m : Memory) → ComesFramed w e → refusal w e ≡ None → w.is_faulty (party_of e) ≡ false → Effects w e m (acts w e m)
 unfolding acts party_of brought
 acts-effects w (submit c payload) m rd n ok = submitting c payload refl ok
-acts-effects w (relay k to f) m rd n ok = comes-effects w (relay k to f) m (named w (relay k to f) n) ok rd f refl
+acts-effects w (relay k to) m rd n ok = comes-effects w (relay k to) m (named w (relay k to) n) ok rd (recorded w k) refl
 acts-effects w (inject to bytes f) m rd n ok = comes-effects w (inject to bytes f) m (named w (inject to bytes f) n) ok rd f refl
 acts-effects w (timeout r) m rd n ok = step_by timeout_in (and_from _ _ (named w (timeout r) n) (not_from_false _ ok)) (inr (inl refl))
 acts-effects w (beat r) m rd n ok = step_by beat_in (and_from _ _ (named w (beat r) n) (not_from_false _ ok)) (inr (inr refl))
 
-pub effects : (w : World) (e : Event) (m : Memory) → IsReadIn w e → refusal w e ≡ None → Effects w e m (effect w (e, m))
+pub effects : (w : World) (e : Event) (m : Memory) → ComesFramed w e → refusal w e ≡ None → Effects w e m (effect w (e, m))
 unfolding effect
 effects w e m rd n = cond_both (w.is_faulty (party_of e)) (nothing w None) (acts w e m) (Effects w e m) (λ f. idle None none-conflict) (λ ok. acts-effects w e m rd n ok)
 

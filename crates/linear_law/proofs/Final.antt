@@ -1,5 +1,5 @@
 -- Every run is linear.
-use Rattle.std.proofs.Common.{ℕ, suc, ◌≡◌, ◌^◌, ◌<◌, ◌≤◌, Bool, true, false, List, [], ◌∷◌, length, cond, refl, sym, ap, subst, ◌∙◌, arith, inl, inr, map, None, Ok, ◌&&◌, not, nat_lt}
+use Rattle.std.proofs.Common.{ℕ, suc, ◌≡◌, ◌^◌, ◌<◌, ◌≤◌, Bool, true, false, [], ◌∷◌, length, cond, refl, sym, ap, subst, ◌∙◌, arith, inl, inr, map, None, ◌&&◌, not, nat_lt}
 use Rattle.std.proofs.lemmas.Bool.{lt-ltb, and_parts, ltb-true, cases_lt}
 use Rattle.definitions.proofs.Lists.{Among-either, Among-map, Among-before, Among-after, length-added}
 use Rattle.linear_law.proofs.Effects.{is_member, effects}
@@ -8,28 +8,25 @@ use Rattle.linear_law.proofs.Entries.{entry-requested}
 use Rattle.linear_law.proofs.Replies.{answer_at, answers-grow}
 use Rattle.linear_law.proofs.Receipts.{held, RepliesStand, SessionStands, happens-replies, effect-held, KeepsHeld}
 use Rattle.linear_law.proofs.Requested.{RequestsFit}
-use Rattle.linear_law.proofs.Fits.{IsCoreOrGenesis, brought-core, answers-entry, answers-fit}
+use Rattle.linear_law.proofs.Fits.{answers-entry, answers-fit}
 use Rattle.linear_law.proofs.Accounts.{KeepsSessions, effect-sessions}
-use Rattle.linear_law.proofs.Linear.{HonestAlong, honest-along, IsGood, run-step, good-happens, new-good, ground, NoneBelow, longest-below, longest-extends, at-beginning, history-submitted}
+use Rattle.linear_law.proofs.Linear.{IsGood, NoneBelow, longest-below, longest-extends, at-beginning, history-submitted}
 use Rattle.definitions.proofs.Histories.{held-begins, history_of-grows}
 use Rattle.definitions.proofs.Lists.{IsBeginning-trans}
 use Rattle.definitions.specs.Lists.{IsBeginning, Among, count_below}
 use Rattle.definitions.proofs.Counts.{count-same, count-not}
-use Rattle.linear_law.specs.Law.{EveryRunIsLinear, ChroniclesAreLawful, ChroniclesAreAFamily, NoEventConflicts}
 use Rattle.definitions.specs.Frames.{Command, Core, genesis_core}
 use Rattle.ids.specs.Sizes.{Sizes, replicas, quorum, client_party}
 use Rattle.definitions.specs.Keyrings.{Keyring}
 use Rattle.definitions.proofs.Spellings.{command_content_injective}
-use Rattle.definitions.specs.Digests.{NoCollision}
 use Rattle.definitions.specs.Histories.{Entry, History, history_of, Answer, answers, is_fresh}
 use Rattle.definitions.specs.Chronicles.{executed, history}
 use Rattle.definitions.specs.Sendings.{Sending}
 use Rattle.definitions.specs.Replicas.{Memory}
 use Rattle.definitions.specs.Sessions.{Receipt}
-use Rattle.definitions.specs.Worlds.{World, Sent, AcceptedBy, Event, Happening, new_world}
-use Rattle.definitions.specs.Runs.{refusal, run}
+use Rattle.definitions.specs.Worlds.{World, Sent, AcceptedBy, Event, new_world}
+use Rattle.definitions.specs.Runs.{refusal}
 use Rattle.definitions.specs.Events.{Effect, party_of, effect, happens, client_number}
-use Rattle.definitions.specs.Premises.{ArePremises, CoreOfRun}
 use Rattle.definitions.specs.Linearity.{HasPlace, WasSubmitted, IsLinearBy, IsLinear}
 use Rattle.definitions.specs.Frames as frame
 
@@ -81,10 +78,10 @@ module _ (Known : Core → Type 0) where
       f = effect w (e, m)
 
       h : KeepsHeld w e f
-      h = effect-held Known w e m f g.run (effects w e m honest.read ok)
+      h = effect-held Known w e m f g.run (effects w e m honest.framed ok)
 
       k : KeepsSessions w e f
-      k = effect-sessions Known w e m f g.run honest g.made a.replies (answers-fit Known w g.run g.cores) a.sessions (effects w e m honest.read ok)
+      k = effect-sessions Known w e m f g.run honest g.made a.replies (answers-fit Known w g.run g.cores) a.sessions (effects w e m honest.framed ok)
 
       sent : Sending → Sent
       sent o = record { event = w.now; sender = party_of e; to = o.0; frame = o.1 }
@@ -159,14 +156,6 @@ answers-within old (z ∷ new) (y ∷ added, e) a m l =
 
 -- ---- the theorem
 
-module _ (Known : Core → Type 0) (apart : NoCollision Known) (genesis : Known genesis_core) where
-  account-run : (hs : List Happening) (w last : World) → IsGood Known w → IsAccount w → HonestAlong Known w hs → run w hs ≡ Ok last → IsGood Known last × IsAccount last
-  unfolding run
-  account-run [] w last g a honest e = let k : w ≡ last = cc in (subst (IsGood Known) k g, subst IsAccount k a)
-  account-run (h ∷ hs) w last g a honest e =
-      let r = run-step (refusal w h.0) (run (happens w h) hs) last e in
-      account-run hs (happens w h) last (good-happens Known apart genesis ground w h g honest.0 r.0) (account-happens Known w h.0 h.1 g honest.0 r.0 a) honest.1 r.1
-
 pub new-account : (sizes : Sizes) (is_faulty : ℕ → Bool) (ring : ℕ → Keyring) → IsAccount (new_world sizes is_faulty ring)
 unfolding new_world
 new-account sizes is_faulty ring = record {
@@ -207,7 +196,7 @@ linear-by Known w g a h all from = record {
   in_order = λ r e event place n ok sub later has. not-above r.receipt.place place (λ l. order-holds w h r e event place a (a.receipts r n) all ok sub later has l);
 }
 
-linear : (Known : Core → Type 0) (w : World) → IsGood Known w → IsAccount w → IsLinear w
+pub linear : (Known : Core → Type 0) (w : World) → IsGood Known w → IsAccount w → IsLinear w
 unfolding NoneBelow history
 linear Known w g a =
     elim (longest-below w (replicas w.sizes)) [
@@ -220,41 +209,9 @@ linear Known w g a =
       )
     ]
 
--- the cores of a run that a frame may have, and genesis's
-unfoldable pub KnownIn : (sizes : Sizes) (w : World) (hs : List Happening) → Core → Type 0
-KnownIn sizes w hs c = CoreOfRun w hs c × IsCoreOrGenesis sizes c
-
 -- at most f faulty replicas leave a quorum of correct ones
 pub correct-quorum : (sizes : Sizes) (is_faulty : ℕ → Bool) → count_below (replicas sizes) is_faulty ≤ sizes.faults → quorum sizes ≤ count_below (replicas sizes) (λ p. nat_lt p (replicas sizes) && not (is_faulty p))
 correct-quorum sizes is_faulty few =
     let n : ℕ = replicas sizes in
     let same = count-same n (λ p. nat_lt p n && not (is_faulty p)) (λ p. not (is_faulty p)) (λ i l. ap (λ (t : Bool). t && not (is_faulty i)) (lt-ltb i n l)) in
     omega (arith, few, count-not n is_faulty, same)
-
--- what a run whose premises hold comes to
-run-is-good : (sizes : Sizes) (is_faulty : ℕ → Bool) (ring : ℕ → Keyring) (hs : List Happening) (last : World) → ArePremises (new_world sizes is_faulty ring) hs → run (new_world sizes is_faulty ring) hs ≡ Ok last
-    → IsGood (KnownIn sizes (new_world sizes is_faulty ring) hs) last × IsAccount last
-unfolding KnownIn new_world
-run-is-good sizes is_faulty ring hs last met e =
-    let w : World = new_world sizes is_faulty ring in
-    account-run (KnownIn sizes w hs) (λ a b ka kb. met.no_collision a b ka.0 kb.0) (inl refl, inl refl) hs w last
-    (new-good _ sizes is_faulty ring (met.keys, correct-quorum sizes is_faulty met.few) (λ c k. k.1)) (new-account sizes is_faulty ring)
-    (honest-along _ _ hs met.read met.no_forgery (λ c b. (inr (inr b), inr (brought-core w hs c met.read b)))) e
-
--- every run is linear
-pub every-run-linear : EveryRunIsLinear
-every-run-linear sizes is_faulty ring hs last met e = let r = run-is-good sizes is_faulty ring hs last met e in linear _ last r.0 r.1
-
--- the correct replicas' chronicles are lawful
-pub chronicles-lawful : ChroniclesAreLawful
-chronicles-lawful sizes is_faulty ring hs last met e = let r = run-is-good sizes is_faulty ring hs last met e in λ i c. (r.0.run.row.sound i c).lawful
-
--- and an orderly family
-pub chronicles-family : ChroniclesAreAFamily
-chronicles-family sizes is_faulty ring hs last met e =
-    let r = run-is-good sizes is_faulty ring hs last met e in
-    record { enough = r.0.made.enough; lawful = λ i c. (r.0.run.row.sound i c).lawful; orderly = r.0.run.row.orderly }
-
--- no event of a run is answered with a conflict
-pub none-conflicts : NoEventConflicts
-none-conflicts sizes is_faulty ring hs last met e = (run-is-good sizes is_faulty ring hs last met e).0.answers

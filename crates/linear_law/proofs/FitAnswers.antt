@@ -7,10 +7,9 @@ use Rattle.definitions.specs.FrameLimits.{IsCommand}
 use Rattle.definitions.specs.Branches.{Branch}
 use Rattle.definitions.specs.Digests.{AllKnown}
 use Rattle.definitions.specs.Histories.{Entry, entry_of, History, history_of, Answer, answers, is_fresh}
-use Rattle.definitions.specs.Chronicles.{Chronicle, tree, executed, history}
+use Rattle.definitions.specs.Chronicles.{Chronicle, tree, executed, history, IsSound}
 use Rattle.definitions.proofs.Lists.{Among-either, Among-map, Among-reverse}
 use Rattle.definitions.proofs.ReplyTexts.{answer-text}
-use Rattle.definitions.proofs.Sound.{IsSound}
 use Rattle.linear_law.proofs.Inputs.{all-among}
 use Rattle.linear_law.proofs.Fits.{IsCoreOrGenesis, core-block, history-length, answers-entry}
 use Rattle.definitions.proofs.Held.{executed-tree}
@@ -51,7 +50,7 @@ module _ (Known : Core → Type 0) (s : Sizes) (cores : (c : Core) → Known c �
       let seq : k.0.seq ≡ a.seq = sym (ap (λ (e : Entry). e.seq) k.2) ∙ i.seq in
       let l = history-length Known s cores x (known x t) in
       let h = so.heights x t in
-      let f = so.full in
+      let f = so.bounded in
       let q = i.place in
       record {
         client = subst (λ (n : ℕ). n < s.clients) client k.1.client;

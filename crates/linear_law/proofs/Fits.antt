@@ -10,15 +10,13 @@ use Rattle.definitions.specs.Frames as frame
 use Rattle.definitions.specs.Branches.{Block, Branch}
 use Rattle.definitions.specs.Digests.{core_of, core_over, AllKnown}
 use Rattle.definitions.specs.Histories.{Entry, entry_of, History, history_of, Answer, answers, is_fresh}
-use Rattle.definitions.specs.Chronicles.{Chronicle, tree, executed, history}
+use Rattle.definitions.specs.Chronicles.{Chronicle, tree, executed, history, IsSound}
 use Rattle.definitions.specs.Replicas.{held_history}
-use Rattle.definitions.specs.Worlds.{World, Happening}
-use Rattle.definitions.specs.Events.{happens}
-use Rattle.definitions.specs.Premises.{AllRead, CoreOf, CoreBrought}
+use Rattle.definitions.specs.Worlds.{World}
+use Rattle.definitions.specs.Premises.{CoreOf}
 use Rattle.definitions.proofs.Lists.{Among-either, Among-map, Among-reverse}
-use Rattle.definitions.proofs.Sound.{IsSound}
 use Rattle.linear_law.proofs.Inputs.{all-among}
-use Rattle.linear_law.proofs.Effects.{is_member, brought-frame}
+use Rattle.linear_law.proofs.Effects.{is_member}
 use Rattle.linear_law.proofs.Runs.{chronicles, IsRun}
 use Rattle.definitions.proofs.Histories.{held-begins}
 use Rattle.definitions.proofs.Held.{executed-tree}
@@ -30,7 +28,7 @@ IsCoreOrGenesis sizes c = (c ≡ genesis_core) ⊎ IsCore sizes c
 
 -- ---- the cores of frames
 
-core-frame : (s : Sizes) (f : Frame) (c : Core) → IsFrame s f → CoreOf c f → IsCore s c
+pub core-frame : (s : Sizes) (f : Frame) (c : Core) → IsFrame s f → CoreOf c f → IsCore s c
 core-frame s (frame.proposal view core q v) c fr o = subst (IsCore s) (sym o) fr.1
 core-frame s (frame.block sender core q t) c fr o = subst (IsCore s) (sym o) fr.1
 core-frame s (frame.request k) c fr o = absurd o
@@ -38,12 +36,6 @@ core-frame s (frame.vote d b) c fr o = absurd o
 core-frame s (frame.new_view w r q v) c fr o = absurd o
 core-frame s (frame.reply r k q p t g) c fr o = absurd o
 core-frame s (frame.fetch r d t) c fr o = absurd o
-
-pub brought-core : (w : World) (hs : List Happening) (c : Core) → AllRead w hs → CoreBrought c w hs → IsCore w.sizes c
-unfolding happens
-brought-core w [] c rd o = absurd o
-brought-core w (h ∷ hs) c rd (inl x) = core-frame w.sizes x.0 c (brought-frame w h.0 x.0 rd.0 x.1) x.2
-brought-core w (h ∷ hs) c rd (inr y) = brought-core (happens w h) hs c rd.1 y
 
 -- ---- histories of branches of such cores
 
@@ -117,6 +109,6 @@ answers-fit Known w run cores p mp a m =
     let i : IsAnswerOf a (history_of x) = answers-entry (history_of x) a (answers-grow (held_history (w.replica p)) (history c) (held-begins (w.replica p)) a m) in
     let l = history-length Known w.sizes cores x known in
     let h = so.heights x t in
-    let f = so.full in
+    let f = so.bounded in
     let q = i.place in
     (subst (λ (n : ℕ). n < 2 ^ 64) i.seq (history-seq Known w.sizes cores x known i.entry i.among), omega (arith, l, h, f, q))

@@ -2,45 +2,42 @@
 use Rattle.ids.specs.declared.fault.Fault.{Fault}
 use Rattle.ids.specs.declared.fault.Fault.TheVariants as fault
 use Rattle.ids.specs.declared.kind.Kind.TheVariants as kind
-use Rattle.std.proofs.Common.{ℕ, zero, suc, slice_get, option_map, ◌≡◌, ◌-◌, ◌<◌, ◌≤◌, ◌^◌, ◌&&◌, ◌==◌, not, Bool, true, List, [], ◌∷◌, length, refl, sym, ap, subst, arith, inl, inr, Option, Some, None, Ok, true≢false, is_some}
+use Rattle.std.proofs.Common.{ℕ, suc, ◌≡◌, ◌-◌, ◌<◌, ◌≤◌, ◌^◌, ◌&&◌, ◌==◌, not, true, List, [], ◌∷◌, length, refl, sym, ap, subst, arith, inl, inr, Option, Some, None, true≢false, is_some}
 use Rattle.std.specs.Bool.{⊤}
 use Rattle.std.proofs.lemmas.Bool.{and_parts, cond_both, cond-true, eqb-true, eq-eqb, eqb-false, ltb-true, not-false}
-use Rattle.ids.specs.Sizes.{Sizes, AreSizes, replicas}
+use Rattle.ids.specs.Sizes.{Sizes, replicas}
 use Rattle.definitions.specs.Lists.{Among}
 use Rattle.definitions.specs.Bytes.{Bytes}
 use Rattle.definitions.specs.Canonical.{request_of, is_canonical}
 use Rattle.definitions.specs.Requests.{Asked}
-use Rattle.definitions.specs.Frames.{Core, Frame, spelling, genesis_core, command_content}
-use Rattle.definitions.specs.FrameLimits.{IsReadAs, IsDigest, IsCore, IsFrame, most_payload}
+use Rattle.definitions.specs.Frames.{Core, genesis_core, command_content}
+use Rattle.definitions.specs.FrameLimits.{IsDigest, IsCore, IsFrame, most_payload}
 use Rattle.definitions.specs.Branches.{Branch}
 use Rattle.definitions.specs.Digests.{AllKnown, NoCollision}
-use Rattle.definitions.specs.Chronicles.{Step, Chronicle, tree}
+use Rattle.definitions.specs.Chronicles.{Step, Chronicle, tree, IsSound}
 use Rattle.definitions.specs.Checks.{Identity}
-use Rattle.definitions.specs.States.{me, Justified, leaf, proposed}
+use Rattle.definitions.specs.States.{me, leaf}
 use Rattle.definitions.specs.Rulings.{Input, Ruling, Ruling.due, Ruling.missing, Ruling.refusing, ruling, conflicts}
 use Rattle.definitions.specs.Sendings.{To.to_party, Sending, fetch_frame}
 use Rattle.definitions.specs.Replicas.{Memory, Memory.ample, Memory.refused_at_once, Memory.refused_after, Replica, Standing, Standing.running, Standing.stopped, Standing.cut_short, Reaction, Reaction.sends_out, Reaction.fails, Reaction.asks_for, executes, on_step, on_ruling, step}
 use Rattle.definitions.specs.Sessions.{Client, Session, Submitted, is_ample, submission, request_frame}
-use Rattle.definitions.specs.Worlds.{World, Sent, Event, Event.submit, relay, Happening, self_of, client_of, put, new_world}
-use Rattle.definitions.specs.Runs.{refusal, names_party, run, after}
-use Rattle.definitions.specs.Events.{bytes_of, brought, Effect, nothing, stepped, out_of, told, submitted, submitted_out, party_of, effect, happens}
-use Rattle.definitions.specs.Premises.{CoreOf, ArePremises, IsRead, IsReadIn, AllRead}
-use Rattle.definitions.specs.Keyrings.{Keyring}
-use Rattle.definitions.proofs.Lists.{Among-either, Among-map, Among-mapped, Among-after, Among-before}
-use Rattle.definitions.proofs.Spellings.{IsReadAs-unique}
+use Rattle.definitions.specs.Worlds.{World, Sent, Event, Event.submit, self_of, client_of, put}
+use Rattle.definitions.specs.Runs.{refusal, names_party}
+use Rattle.definitions.specs.Events.{Effect, nothing, stepped, out_of, told, submitted, submitted_out, party_of, effect, happens}
+use Rattle.definitions.specs.Premises.{CoreOf}
+use Rattle.definitions.proofs.Lists.{Among-either, Among-map, Among-mapped, Among-after}
 use Rattle.definitions.proofs.Vectors.{IsVector-vector_for}
 use Rattle.definitions.proofs.RequestTexts.{request_of_some, length-canonical}
-use Rattle.definitions.proofs.Sound.{IsSound, Outcome, Outcome.unchanged, Outcome.refused, Outcome.lacks, Outcome.conflict, Outcome.stood, Outcome.cut, step-outcome}
+use Rattle.definitions.proofs.Sound.{Outcome, Outcome.unchanged, Outcome.refused, Outcome.lacks, Outcome.conflict, Outcome.stood, Outcome.cut, step-outcome}
 use Rattle.linear_law.proofs.Effects.{is_member, Arises, Effects, Effects.idle, Effects.step_by, Effects.hearing, Effects.submitting, effects, named}
 use Rattle.linear_law.proofs.Runs.{chronicles, IsMadeWell, IsHonest, IsAfter, step-keeps, arises-checked}
-use Rattle.linear_law.proofs.Fits.{IsCoreOrGenesis, brought-core}
-use Rattle.linear_law.proofs.Linear.{IsGood, ground, good-happens, run-step, HonestAlong, honest-along, new-good}
-use Rattle.linear_law.specs.Law.{SentFramesAreFrames, AreReadAsSent, SentFramesAreRead, MadeCertificatesAreCertificates}
-use Rattle.linear_law.proofs.Final.{IsAccount, account-happens, KnownIn, correct-quorum, new-account}
+use Rattle.linear_law.proofs.Fits.{IsCoreOrGenesis}
+use Rattle.linear_law.proofs.Linear.{IsGood, ground}
+use Rattle.linear_law.proofs.Final.{IsAccount}
 use Rattle.linear_law.proofs.StoredFrames.{arises-read, AreStored, IsStoredRuling, ruling-stored}
-use Rattle.linear_law.proofs.SentFrames.{fetch-fits, sendings-fit}
+use Rattle.linear_law.proofs.SentFrames.{fetch-fits, sends-fit}
+use Rattle.linear_law.proofs.Sends.{sends}
 use Rattle.linear_law.proofs.FitAnswers.{answers-fit}
-use Rattle.linear_law.proofs.MadeCertificates.{has-certificates}
 use Rattle.linear_law.proofs.KnownLeaves.{IsLeafKnown, IsGrown, known-now}
 
 -- ---- what a step asks for
@@ -108,14 +105,14 @@ module _ (Known : Core → Type 0) (apart : NoCollision Known) (genesis : Known 
   after-framed self m v before r cores number g leaf so known stored asks sent (stood st u e h) = record {
     stored = now.stored;
     leaf = λ i. kept;
-    out = λ o k. sendings-fit self st before.chronicle o (record {
+    out = λ o k. sends-fit self st before.chronicle o (record {
       lawful = so.lawful;
       stored = now.stored;
       number = number;
       before = answers-fit Known self.sizes cores before.chronicle g.sound g.known;
       now = answers-fit Known self.sizes cores (st ∷ before.chronicle) so known;
       proposal = kept.proposal;
-    }) k;
+    }) (sends self st before.chronicle o k);
   }
     where
       now : IsGrown Known self (st ∷ before.chronicle)
@@ -251,121 +248,4 @@ module _ (Known : Core → Type 0) (apart : NoCollision Known) (genesis : Known 
       sent o = record { event = w.now; sender = party_of e; to = o.0; frame = o.1 }
 
       k : IsFramedEffect Known w (effect w (e, m))
-      k = effect-framed w e m (effect w (e, m)) g n honest a ok (λ o j. known (sent o) (Among-after (sent o) w.sent _ (Among-mapped sent (effect w (e, m)).out o j))) (effects w e m honest.read ok)
-
--- ---- a run
-
--- the cores of what was sent are known
-abbrev SentKnown : (Core → Type 0) → World → Type 0
-SentKnown Known w = (s : Sent) → Among s w.sent → (x : Core) → CoreOf x s.frame → IsCore w.sizes x → Known x
-
--- after each event
-abbrev SentAlong : (Core → Type 0) → World → List Happening → Type 0
-SentAlong Known w [] = ⊤
-SentAlong Known w (h ∷ hs) = SentKnown Known (happens w h) × SentAlong Known (happens w h) hs
-
--- what was sent stays in the record
-sent-stays : (w : World) (hs : List Happening) (s : Sent) → Among s w.sent → Among s (after w hs).sent
-unfolding after happens
-sent-stays w [] s m = m
-sent-stays w (h ∷ hs) s m = sent-stays (happens w h) hs s (Among-before s w.sent _ m)
-
--- where it is so at the end it is so all along
-sent-along : (Known : Core → Type 0) (sizes : Sizes) (w : World) (hs : List Happening) → w.sizes ≡ sizes → ((s : Sent) → Among s (after w hs).sent → (x : Core) → CoreOf x s.frame → IsCore sizes x → Known x) → SentAlong Known w hs
-unfolding after happens
-sent-along Known sizes w [] e known = tt
-sent-along Known sizes w (h ∷ hs) e known = (
-  λ s m x o k. known s (sent-stays (happens w h) hs s m) x o (subst (λ (z : Sizes). IsCore z x) e k),
-  sent-along Known sizes (happens w h) hs e known,
-)
-
--- the world at its start
-new-framed : (Known : Core → Type 0) (sizes : Sizes) (is_faulty : ℕ → Bool) (ring : ℕ → Keyring) → IsFramed Known (new_world sizes is_faulty ring)
-unfolding new_world leaf proposed
-new-framed Known sizes is_faulty ring = record {
-  stored = λ p m. tt;
-  leaves = λ p m u. record { known = tt; proposal = λ j e. absurd (none j e) };
-  sent = λ s m. absurd m;
-}
-  where
-    none : (j : Justified) → None ≡ Some j → ⊥
-    none j e = cc
-
-module _ (Known : Core → Type 0) (apart : NoCollision Known) (genesis : Known genesis_core) where
-  -- each run keeps it
-  framed-run : (hs : List Happening) (w last : World) → IsGood Known w → IsAccount w → IsFramed Known w → HonestAlong Known w hs → SentAlong Known w hs → run w hs ≡ Ok last → IsGood Known last × IsFramed Known last
-  unfolding run happens
-  framed-run [] w last g n a honest sent e = let k : w ≡ last = cc in (subst (IsGood Known) k g, subst (IsFramed Known) k a)
-  framed-run (h ∷ hs) w last g n a honest sent e =
-      let r = run-step (refusal w h.0) (run (happens w h) hs) last e in
-      framed-run hs (happens w h) last (good-happens Known apart genesis ground w h g honest.0 r.0) (account-happens Known w h.0 h.1 g honest.0 r.0 n) (happens-framed Known apart genesis w h.0 h.1 g n honest.0 a r.0 sent.0) honest.1 sent.1 r.1
-
--- what a run whose premises hold comes to
-run-is-framed : (sizes : Sizes) (is_faulty : ℕ → Bool) (ring : ℕ → Keyring) (hs : List Happening) (last : World) → ArePremises (new_world sizes is_faulty ring) hs → run (new_world sizes is_faulty ring) hs ≡ Ok last
-    → IsGood (KnownIn sizes (new_world sizes is_faulty ring) hs) last × IsFramed (KnownIn sizes (new_world sizes is_faulty ring) hs) last
-unfolding KnownIn new_world
-run-is-framed sizes is_faulty ring hs last met e =
-    let w : World = new_world sizes is_faulty ring in
-    framed-run (KnownIn sizes w hs) (λ a b ka kb. met.no_collision a b ka.0 kb.0) (inl refl, inl refl) hs w last
-    (new-good _ sizes is_faulty ring (met.keys, correct-quorum sizes is_faulty met.few) (λ c k. k.1)) (new-account sizes is_faulty ring) (new-framed _ sizes is_faulty ring)
-    (honest-along _ _ hs met.read met.no_forgery (λ c b. (inr (inr b), inr (brought-core w hs c met.read b))))
-    (sent-along _ sizes w hs refl (λ s m x o k. (inr (inl (s, m, o)), inr k))) e
-
--- each frame that was sent is a frame
-pub sent-are-frames : SentFramesAreFrames
-sent-are-frames sizes is_faulty ring hs last met e = (run-is-framed sizes is_faulty ring hs last met e).1.sent
-
--- the certificates of each correct replica
-pub made-are-certificates : MadeCertificatesAreCertificates
-made-are-certificates sizes is_faulty ring hs last met e =
-    let r = run-is-framed sizes is_faulty ring hs last met e in
-    λ i c. has-certificates (self_of last i) (chronicles last i) (r.0.run.row.sound i c).lawful (r.1.stored i c)
-
--- ---- frames of the record that come
-
--- a run that refuses nothing ends in the world after its events
-run-after : (w : World) (hs : List Happening) (last : World) → run w hs ≡ Ok last → last ≡ after w hs
-unfolding run after
-run-after w [] last e = cc
-run-after w (h ∷ hs) last e = run-after (happens w h) hs last (run-step (refusal w h.0) (run (happens w h) hs) last e).1
-
--- what has a place in a list stands in it
-slice_get-among : {A : Type 0} (xs : List A) (i : ℕ) (x : A) → slice_get xs i ≡ Some x → Among x xs
-slice_get-among [] i x e = absurd (none e)
-  where
-    none : None ≡ Some x → ⊥
-    none k = cc
-slice_get-among (y ∷ xs) zero x e = inl (cc)
-slice_get-among (y ∷ xs) (suc i) x e = inr (slice_get-among xs i x e)
-
--- no event changes the sizes
-sizes-stay : (w : World) (hs : List Happening) → (after w hs).sizes ≡ w.sizes
-unfolding after happens
-sizes-stay w [] = refl
-sizes-stay w (h ∷ hs) = sizes-stay (happens w h) hs
-
--- the bytes of a frame are read as it
-read-as-sent : (sizes : Sizes) → AreSizes sizes → (w : World) (e : Event) (k to : ℕ) (read : Option Frame) (s : Sent) → w.sizes ≡ sizes → IsReadIn w e → e ≡ relay k to read → slice_get w.sent k ≡ Some s → IsFrame sizes s.frame → read ≡ Some s.frame
-unfolding bytes_of brought
-read-as-sent sizes are w e k to read s size rd is place fits =
-    let here : IsRead w.sizes (option_map (λ s. spelling s.frame) (slice_get w.sent k)) read = subst (IsReadIn w) is rd in
-    let there : IsReadAs sizes (spelling s.frame) read = subst (λ (z : Sizes). IsReadAs z (spelling s.frame) read) size (subst (λ (o : Option Sent). IsRead w.sizes (option_map (λ s. spelling s.frame) o) read) place here) in
-    IsReadAs-unique sizes are (spelling s.frame) read (Some s.frame) there (fits, refl)
-
--- where all that was sent are frames, it is read as it was sent
-read-along : (sizes : Sizes) → AreSizes sizes → (w : World) (hs : List Happening) → w.sizes ≡ sizes → ((s : Sent) → Among s (after w hs).sent → IsFrame sizes s.frame) → AllRead w hs → AreReadAsSent w hs
-unfolding after happens
-read-along sizes are w [] size fits rd = tt
-read-along sizes are w (h ∷ hs) size fits rd = (
-  λ k to read s is place. read-as-sent sizes are w h.0 k to read s size rd.0 is place (fits s (sent-stays w (h ∷ hs) s (slice_get-among w.sent k s place))),
-  read-along sizes are (happens w h) hs size fits rd.1,
-)
-
--- each frame of the record that comes is read as it was sent
-pub sent-are-read : SentFramesAreRead
-unfolding new_world
-sent-are-read sizes is_faulty ring hs last are met e =
-    let w : World = new_world sizes is_faulty ring in
-    let end : last ≡ after w hs = run-after w hs last e in
-    let all : IsFramed (KnownIn sizes w hs) (after w hs) = subst (IsFramed (KnownIn sizes w hs)) end (run-is-framed sizes is_faulty ring hs last met e).1 in
-    read-along sizes are w hs refl (λ s m. subst (λ (z : Sizes). IsFrame z s.frame) (sizes-stay w hs) (all.sent s m)) met.read
+      k = effect-framed w e m (effect w (e, m)) g n honest a ok (λ o j. known (sent o) (Among-after (sent o) w.sent _ (Among-mapped sent (effect w (e, m)).out o j))) (effects w e m honest.framed ok)

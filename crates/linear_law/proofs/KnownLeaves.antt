@@ -6,13 +6,12 @@ use Rattle.definitions.specs.Frames.{Core, genesis_core}
 use Rattle.definitions.specs.FrameLimits.{IsCore}
 use Rattle.definitions.specs.Branches.{Branch}
 use Rattle.definitions.specs.Digests.{digest_of, core_of, AllKnown, NoCollision}
-use Rattle.definitions.specs.Chronicles.{Step, Step.took_block, Step.got_vote, Step.got_new_view, Step.got_request, Step.got_fetch, Step.timed_out, Step.beat, Chronicle, tree}
+use Rattle.definitions.specs.Chronicles.{Step, Step.took_block, Step.noted, Note.beat, Chronicle, tree, IsSound}
 use Rattle.definitions.specs.Checks.{Identity}
 use Rattle.definitions.specs.States.{view, qc_high, Justified, leads, child, leaf, made_with, proposed}
 use Rattle.definitions.specs.Sendings.{To.to_all, Sending, sendings, proposes, proposal_frame}
 use Rattle.definitions.specs.Premises.{CoreOf}
 use Rattle.definitions.proofs.Digests.{digest_of-one}
-use Rattle.definitions.proofs.Sound.{IsSound}
 use Rattle.linear_law.proofs.Linear.{ground}
 use Rattle.linear_law.proofs.StoredFrames.{AreStored}
 use Rattle.linear_law.proofs.MadeCertificates.{qc_high-is}
@@ -33,15 +32,15 @@ pub record IsGrown (Known : Core → Type 0) (self : Identity) (c : Chronicle) :
 -- ---- what a beat proposes
 
 -- a child that is made is the next proposal
-proposed-made : (self : Identity) (c : Chronicle) (b : Branch) → child self c (leaf self c) ≡ Some b → proposed self (beat ∷ c) ≡ Some (record { block = b; certificate = (qc_high self.sizes c).certificate })
+proposed-made : (self : Identity) (c : Chronicle) (b : Branch) → child self c (leaf self c) ≡ Some b → proposed self (noted beat ∷ c) ≡ Some (record { block = b; certificate = (qc_high self.sizes c).certificate })
 unfolding proposed
 proposed-made self c b e = ap (λ (o : Option Branch). made_with o (qc_high self.sizes c).certificate (proposed self c)) e
 
 -- a beat of a leader sends its proposal
-proposal-sent : (self : Identity) (c : Chronicle) (j : Justified) → leads self c ≡ true → proposed self (beat ∷ c) ≡ Some j → Among (to_all, proposal_frame self (view self.sizes c) j) (sendings self beat c)
+proposal-sent : (self : Identity) (c : Chronicle) (j : Justified) → leads self c ≡ true → proposed self (noted beat ∷ c) ≡ Some j → Among (to_all, proposal_frame self (view self.sizes c) j) (sendings self (noted beat) c)
 unfolding sendings
 proposal-sent self c j l e =
-    subst (Among (to_all, proposal_frame self (view self.sizes c) j)) (sym (cond-true (leads self c) (proposes self (view self.sizes c) (proposed self (beat ∷ c))) [] l))
+    subst (Among (to_all, proposal_frame self (view self.sizes c) j)) (sym (cond-true (leads self c) (proposes self (view self.sizes c) (proposed self (noted beat ∷ c))) [] l))
     (subst (λ (o : Option Justified). Among (to_all, proposal_frame self (view self.sizes c) j) (proposes self (view self.sizes c) o)) (sym e) (inl refl))
 
 -- the core of a proposal is its block's
@@ -56,7 +55,7 @@ module _ (Known : Core → Type 0) (apart : NoCollision Known) (genesis : Known 
       let x = known-block (digest_of (leaf self c)) c ch.known in
       let e = digest_of-one Known apart genesis ground x.0 (leaf self c) (g.known x.0 x.1) k.known x.2 in
       let l = g.sound.heights x.0 x.1 in
-      let f = g.sound.full in
+      let f = g.sound.bounded in
       let n = ap (λ (y : Branch). length y) e in
       omega (arith, l, f, n)
 
@@ -67,7 +66,7 @@ module _ (Known : Core → Type 0) (apart : NoCollision Known) (genesis : Known 
   -- the proposal after a step
   pub proposal-now : (self : Identity) (st : Step) (c : Chronicle) → IsGrown Known self c → IsLeafKnown Known self c → (j : Justified) → proposed self (st ∷ c) ≡ Some j → IsFitProposal self.sizes j
   unfolding proposed
-  proposal-now self beat c g k j e = by (child self c (leaf self c)) refl e
+  proposal-now self (noted beat) c g k j e = by (child self c (leaf self c)) refl e
     where
       by : (o : Option Branch) → child self c (leaf self c) ≡ o → made_with o (qc_high self.sizes c).certificate (proposed self c) ≡ Some j → IsFitProposal self.sizes j
       by None i f = k.proposal j f
@@ -75,11 +74,7 @@ module _ (Known : Core → Type 0) (apart : NoCollision Known) (genesis : Known 
           let is : record { block = b; certificate = (qc_high self.sizes c).certificate } ≡ j = cc in
           subst (IsFitProposal self.sizes) is (record { core_is = made-core self c b g k i; certificate_is = (qc_high-is self c g.sound.lawful g.stored).certificate_is })
   proposal-now self (took_block a) c g k j e = k.proposal j e
-  proposal-now self (got_vote v t b) c g k j e = k.proposal j e
-  proposal-now self (got_new_view w r q b) c g k j e = k.proposal j e
-  proposal-now self (got_request r) c g k j e = k.proposal j e
-  proposal-now self (got_fetch r b) c g k j e = k.proposal j e
-  proposal-now self timed_out c g k j e = k.proposal j e
+  proposal-now self (noted n) c g k j e = k.proposal j e
 
   -- the leaf after a step whose frames have known cores
   leaf-now : (self : Identity) (st : Step) (c : Chronicle) (b : Branch) → IsGrown Known self c → IsGrown Known self (st ∷ c) → IsLeafKnown Known self c

@@ -11,7 +11,7 @@ use Rattle.definitions.specs.FrameLimits.{IsCommand, IsCore, most_commands}
 use Rattle.definitions.specs.Branches.{Branch}
 use Rattle.definitions.specs.Digests.{digest_of, core_of, core_over}
 use Rattle.definitions.specs.Histories.{history_of}
-use Rattle.definitions.specs.Chronicles.{Step, Step.took_block, Step.got_vote, Step.got_new_view, Step.got_request, Step.got_fetch, Step.timed_out, Step.beat, Chronicle, tree, history}
+use Rattle.definitions.specs.Chronicles.{Step, Step.took_block, Step.noted, Note.got_new_view, Note.got_request, Note.timed_out, Note.beat, Chronicle, tree, history}
 use Rattle.definitions.specs.Checks.{Identity}
 use Rattle.definitions.specs.States.{announcements, announced, reached, view, raised, qc_high, is_same_request, is_due, with_request, pending, leads, is_known, picks, child, leaf, or_else}
 use Rattle.definitions.proofs.Certificates.{IsDigest-digest_of, all-filter}
@@ -24,13 +24,9 @@ use Rattle.linear_law.proofs.StoredFrames.{AreStored}
 announced-fit : (self : Identity) (c : Chronicle) → AreStored self c → AllByRecursion (λ v. v < 2 ^ 64) (map (λ p. p.1) (announcements c))
 unfolding announcements
 announced-fit self [] h = tt
-announced-fit self (got_new_view w r q b ∷ c) h = (h.0.view_is, announced-fit self c h.1)
+announced-fit self (noted (got_new_view w r q b) ∷ c) h = (h.0.view_is, announced-fit self c h.1)
 announced-fit self (took_block a ∷ c) h = announced-fit self c h.1
-announced-fit self (got_vote v t b ∷ c) h = announced-fit self c h.1
-announced-fit self (got_request r ∷ c) h = announced-fit self c h.1
-announced-fit self (got_fetch r b ∷ c) h = announced-fit self c h.1
-announced-fit self (timed_out ∷ c) h = announced-fit self c h.1
-announced-fit self (beat ∷ c) h = announced-fit self c h.1
+announced-fit self (noted n ∷ c) h = announced-fit self c h.1
 
 -- the greatest of numbers below a bound is below it
 greatest-below : (n : ℕ) (xs : List ℕ) → 0 < n → AllByRecursion (λ v. v < n) xs → greatest xs < n
@@ -49,13 +45,10 @@ reached-fits self c h =
 pub view-fits : (self : Identity) (c : Chronicle) → AreStored self c → view self.sizes c < 2 ^ 64
 unfolding view
 view-fits self [] h = omega arith
-view-fits self (timed_out ∷ c) h = omega arith
-view-fits self (got_new_view w r q b ∷ c) h = let k = view-fits self c h.1 in let l = reached-fits self (got_new_view w r q b ∷ c) h in omega (arith, k, l)
+view-fits self (noted timed_out ∷ c) h = omega arith
+view-fits self (noted (got_new_view w r q b) ∷ c) h = let k = view-fits self c h.1 in let l = reached-fits self (noted (got_new_view w r q b) ∷ c) h in omega (arith, k, l)
 view-fits self (took_block a ∷ c) h = view-fits self c h.1
-view-fits self (got_vote v t b ∷ c) h = view-fits self c h.1
-view-fits self (got_request r ∷ c) h = view-fits self c h.1
-view-fits self (got_fetch r b ∷ c) h = view-fits self c h.1
-view-fits self (beat ∷ c) h = view-fits self c h.1
+view-fits self (noted n ∷ c) h = view-fits self c h.1
 
 -- ---- requests that wait
 
@@ -66,13 +59,9 @@ all-after P (y ∷ xs) x h k = (h.0, all-after P xs x h.1 k)
 
 -- a new request is added last
 all-with_request : (self : Identity) (st : Step) (c : Chronicle) (ps : List Command) → AreStored self (st ∷ c) → AllByRecursion (IsCommand self.sizes) ps → AllByRecursion (IsCommand self.sizes) (with_request st ps)
-all-with_request self (got_request r) c ps h all = cond_both (list_any (is_same_request r) ps) ps (ps ++ r ∷ []) (AllByRecursion (IsCommand self.sizes)) (λ e. all) (λ e. all-after (IsCommand self.sizes) ps r all h.0)
+all-with_request self (noted (got_request r)) c ps h all = cond_both (list_any (is_same_request r) ps) ps (ps ++ r ∷ []) (AllByRecursion (IsCommand self.sizes)) (λ e. all) (λ e. all-after (IsCommand self.sizes) ps r all h.0)
 all-with_request self (took_block a) c ps h all = all
-all-with_request self (got_vote v t b) c ps h all = all
-all-with_request self (got_new_view w r q b) c ps h all = all
-all-with_request self (got_fetch r b) c ps h all = all
-all-with_request self timed_out c ps h all = all
-all-with_request self beat c ps h all = all
+all-with_request self (noted n) c ps h all = all
 
 -- each request that waits came in a frame
 pub pending-fit : (self : Identity) (c : Chronicle) → AreStored self c → AllByRecursion (IsCommand self.sizes) (pending c)
@@ -123,7 +112,7 @@ child-is self c on b =
 pub data LeafStep (self : Identity) (st : Step) (c : Chronicle) : Branch → Type 0 where
   raises : length (qc_high self.sizes c).block < length (qc_high self.sizes (st ∷ c)).block → LeafStep self st c (qc_high self.sizes (st ∷ c)).block
   keeps : length (qc_high self.sizes (st ∷ c)).block ≤ length (qc_high self.sizes c).block → LeafStep self st c (leaf self c)
-  makes : (b : Branch) → st ≡ beat → length (qc_high self.sizes (st ∷ c)).block ≤ length (qc_high self.sizes c).block → child self c (leaf self c) ≡ Some b → LeafStep self st c b
+  makes : (b : Branch) → st ≡ (noted beat) → length (qc_high self.sizes (st ∷ c)).block ≤ length (qc_high self.sizes c).block → child self c (leaf self c) ≡ Some b → LeafStep self st c b
 
 -- a step that is no beat
 leaf-either : (self : Identity) (st : Step) (c : Chronicle) → LeafStep self st c (if nat_lt (length (qc_high self.sizes c).block) (length (qc_high self.sizes (st ∷ c)).block) then (qc_high self.sizes (st ∷ c)).block else leaf self c)
@@ -133,24 +122,20 @@ leaf-either self st c =
     (λ e. keeps (ltb-false _ _ e))
 
 -- a beat raises no certificate
-beat-same : (self : Identity) (c : Chronicle) → length (qc_high self.sizes (beat ∷ c)).block ≤ length (qc_high self.sizes c).block
+beat-same : (self : Identity) (c : Chronicle) → length (qc_high self.sizes (noted beat ∷ c)).block ≤ length (qc_high self.sizes c).block
 unfolding qc_high raised
 beat-same self c = omega arith
 
 -- each step leaves it in one of these ways
 pub leaf-step : (self : Identity) (st : Step) (c : Chronicle) → LeafStep self st c (leaf self (st ∷ c))
 unfolding leaf
-leaf-step self beat c = by (child self c (leaf self c)) refl
+leaf-step self (noted beat) c = by (child self c (leaf self c)) refl
   where
-    by : (o : Option Branch) → child self c (leaf self c) ≡ o → LeafStep self beat c (or_else o (leaf self c))
+    by : (o : Option Branch) → child self c (leaf self c) ≡ o → LeafStep self (noted beat) c (or_else o (leaf self c))
     by None e = keeps (beat-same self c)
     by (Some b) e = makes b refl (beat-same self c) e
 leaf-step self (took_block a) c = leaf-either self (took_block a) c
-leaf-step self (got_vote v t b) c = leaf-either self (got_vote v t b) c
-leaf-step self (got_new_view w r q b) c = leaf-either self (got_new_view w r q b) c
-leaf-step self (got_request r) c = leaf-either self (got_request r) c
-leaf-step self (got_fetch r b) c = leaf-either self (got_fetch r b) c
-leaf-step self timed_out c = leaf-either self timed_out c
+leaf-step self (noted n) c = leaf-either self (noted n) c
 
 -- each step leaves it as high as the highest certified block
 above-step : (self : Identity) (st : Step) (c : Chronicle) (b : Branch) → length (qc_high self.sizes c).block ≤ length (leaf self c) → LeafStep self st c b → length (qc_high self.sizes (st ∷ c)).block ≤ length b

@@ -1,4 +1,5 @@
 pub mod Inputs
+pub mod Sends
 pub mod Rows
 pub mod Effects
 pub mod Runs
@@ -18,3 +19,4 @@ pub mod Receipts
 pub mod Accounts
 pub mod Final
 pub mod FramedRuns
+pub mod WholeRuns

@@ -2,7 +2,6 @@
 use Rattle.ids.specs.declared.fault.Fault.{Fault}
 use Rattle.ids.specs.declared.fault.Fault.TheVariants as fault
 use Rattle.std.proofs.Common.{ℕ, zero, suc, ◌≡◌, ◌<◌, ◌≤◌, ◌⊎◌, ◌&&◌, not, Bool, true, false, List, [], ◌∷◌, length, refl, sym, ap, subst, ◌∙◌, arith, inl, inr, Option, Some, None, true≢false, ltb, Result, Ok, Err}
-use Rattle.std.specs.Bool.{⊤}
 use Rattle.std.proofs.lemmas.Bool.{cases_Bool, cases_lt}
 use Rattle.definitions.proofs.Lists.{length-added, Among-after}
 use Rattle.definitions.proofs.Branches.{extends-true, extends-from}
@@ -26,7 +25,6 @@ use Rattle.definitions.specs.Chronicles.{tree, taken, executed, history}
 use Rattle.definitions.specs.Worlds.{World, Happening, new_world}
 use Rattle.definitions.specs.Runs.{refusal}
 use Rattle.definitions.specs.Events.{happens}
-use Rattle.definitions.specs.Premises.{AllRead, NoForgery, CoreBrought}
 use Rattle.definitions.specs.Linearity.{WasSubmitted}
 use Rattle.definitions.specs.Agreement.{steps_of}
 
@@ -39,14 +37,6 @@ same-length a b ([], e) l = ([], sym e)
 same-length a b (x ∷ added, e) l = absurd (let k = length-added added b in let m = ap (λ (y : Branch). length y) e in omega (arith, k, m, l))
 
 -- ---- the whole schedule
-
-abbrev pub HonestAlong : (Core → Type 0) → World → List Happening → Type 0
-HonestAlong Known w [] = ⊤
-HonestAlong Known w (h ∷ hs) = IsHonest Known w h.0 × HonestAlong Known (happens w h) hs
-
-pub honest-along : (Known : Core → Type 0) (w : World) (hs : List Happening) → AllRead w hs → NoForgery w hs → ((c : Core) → CoreBrought c w hs → Known c) → HonestAlong Known w hs
-honest-along Known w [] rd n k = tt
-honest-along Known w (h ∷ hs) rd n k = (record { read = rd.0; forgery = n.0; cores = λ f b c o. k c (inl (f, b, o)) }, honest-along Known (happens w h) hs rd.1 n.1 (λ c o. k c (inr o)))
 
 -- the answers of a run are none of them a conflict
 abbrev pub NoneConflicts : List (Option Fault) → Type 0
@@ -72,7 +62,7 @@ module _ (Known : Core → Type 0) (apart : NoCollision Known) (genesis : Known 
   unfolding happens
   good-happens w h g honest ok =
       let k = happens-keeps Known apart genesis ground w h.0 h.1 g.run g.made honest ok in
-      record { run = k.0; made = k.1; answers = (k.2, g.answers); cores = g.cores; stored = happens-stored Known w h.0 h.1 g.run honest.read ok g.stored; requested = happens-requested Known w h.0 h.1 g.run honest ok g.requested }
+      record { run = k.0; made = k.1; answers = (k.2, g.answers); cores = g.cores; stored = happens-stored Known w h.0 h.1 g.run honest.framed ok g.stored; requested = happens-requested Known w h.0 h.1 g.run honest ok g.requested }
 
 -- ---- the world at its start
 
@@ -82,7 +72,7 @@ new-row Known sizes is_member = record {
   sound = λ p m. record {
     is_tree = record { branches = λ x k. one_only (λ (b : Branch). IsBranch b) tt x k; one = λ x y k l e. by x k ∙ sym (by y l); parents = λ b parent k. absurd (cons-nil b parent (by (b ∷ parent) k)); genesis = inl refl };
     lawful = tt;
-    full = omega arith;
+    bounded = omega arith;
     heights = λ x k. one_only (λ (b : Branch). length b < 1) (omega arith) x k;
   };
   known = λ p m b k. one_only (AllKnown Known) tt b k;

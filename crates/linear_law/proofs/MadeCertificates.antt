@@ -11,7 +11,7 @@ use Rattle.definitions.specs.Frames.{Vote, genesis_core}
 use Rattle.definitions.specs.FrameLimits.{IsVote, IsCertificate}
 use Rattle.definitions.specs.Branches.{Branch}
 use Rattle.definitions.specs.Digests.{digest, digest_of}
-use Rattle.definitions.specs.Chronicles.{Admitted, Step, Step.took_block, Step.got_vote, Step.got_new_view, Step.got_request, Step.got_fetch, Step.timed_out, Step.beat, Chronicle, taken, tree, IsLawful}
+use Rattle.definitions.specs.Chronicles.{Admitted, Step, Step.took_block, Step.noted, Note.got_vote, Note.got_new_view, Chronicle, taken, tree, IsLawful}
 use Rattle.definitions.specs.Checks.{Identity, is_good, is_genesis, vote_verifies}
 use Rattle.definitions.specs.States.{votes, by_voter, Justified, raised, higher, qc_high}
 use Rattle.definitions.proofs.Chronicles.{tree-genesis, tree-grows, taken-tree, tree-just1}
@@ -31,16 +31,12 @@ not-kept voter (b ∷ bs) h = ((λ e. true≢false (sym (eq-eqb b.voter voter e)
 pub votes-each : (s : Sizes) (d : Bytes) (c : Chronicle) → AreOfEach (votes s d c)
 unfolding votes
 votes-each s d [] = tt
-votes-each s d (got_vote voter v b ∷ c) =
+votes-each s d (noted (got_vote voter v b) ∷ c) =
     cond_both (bytes_eq (digest_of b) d && (not (list_any (λ x. x.voter == voter) (votes s d c)) && nat_lt (length (votes s d c)) (quorum s))) _ _ AreOfEach
     (λ e. (not-kept voter (votes s d c) (not-true _ (and_parts _ _ (and_parts _ _ e).1).0), votes-each s d c))
     (λ e. votes-each s d c)
 votes-each s d (took_block a ∷ c) = votes-each s d c
-votes-each s d (got_new_view w r q b ∷ c) = votes-each s d c
-votes-each s d (got_request r ∷ c) = votes-each s d c
-votes-each s d (got_fetch r b ∷ c) = votes-each s d c
-votes-each s d (timed_out ∷ c) = votes-each s d c
-votes-each s d (beat ∷ c) = votes-each s d c
+votes-each s d (noted n ∷ c) = votes-each s d c
 
 -- a vote of a frame that verifies
 abbrev pub Counts : Identity → Bytes → Vote → Type 0
@@ -50,16 +46,12 @@ Counts self d b = IsVote self.sizes b × (vote_verifies self d b ≡ true)
 pub votes-count : (self : Identity) (d : Bytes) (c : Chronicle) → AreStored self c → AllByRecursion (Counts self d) (votes self.sizes d c)
 unfolding votes
 votes-count self d [] h = tt
-votes-count self d (got_vote voter v b ∷ c) h =
+votes-count self d (noted (got_vote voter v b) ∷ c) h =
     cond_both (bytes_eq (digest_of b) d && (not (list_any (λ x. x.voter == voter) (votes self.sizes d c)) && nat_lt (length (votes self.sizes d c)) (quorum self.sizes))) _ _ (AllByRecursion (Counts self d))
     (λ e. ((h.0.vote_is, subst (λ (y : Bytes). vote_verifies self y (record { voter = voter; vector = v }) ≡ true) (same_bytes _ _ (and_parts _ _ e).0) h.0.verifies), votes-count self d c h.1))
     (λ e. votes-count self d c h.1)
 votes-count self d (took_block a ∷ c) h = votes-count self d c h.1
-votes-count self d (got_new_view w r q b ∷ c) h = votes-count self d c h.1
-votes-count self d (got_request r ∷ c) h = votes-count self d c h.1
-votes-count self d (got_fetch r b ∷ c) h = votes-count self d c h.1
-votes-count self d (timed_out ∷ c) h = votes-count self d c h.1
-votes-count self d (beat ∷ c) h = votes-count self d c h.1
+votes-count self d (noted n ∷ c) h = votes-count self d c h.1
 
 -- ---- the certificates that steps bring or complete
 
@@ -75,17 +67,17 @@ above-genesis : (b : Branch) → b ≡ [] → 0 < length b → ⊥
 above-genesis b e l = let k = ap (λ (x : Branch). length x) e in omega (arith, k, l)
 
 -- the certificate that a quorum of votes completes
-completed : (self : Identity) (voter : ℕ) (v : Bytes) (b : Branch) (c : Chronicle) → AreStored self (got_vote voter v b ∷ c) → length (votes self.sizes (digest_of b) (got_vote voter v b ∷ c)) ≡ quorum self.sizes
-    → IsRaised self (got_vote voter v b ∷ c) (record { block = b; certificate = record { digest = digest_of b; votes = by_voter (votes self.sizes (digest_of b) (got_vote voter v b ∷ c)) } })
+completed : (self : Identity) (voter : ℕ) (v : Bytes) (b : Branch) (c : Chronicle) → AreStored self (noted (got_vote voter v b) ∷ c) → length (votes self.sizes (digest_of b) (noted (got_vote voter v b) ∷ c)) ≡ quorum self.sizes
+    → IsRaised self (noted (got_vote voter v b) ∷ c) (record { block = b; certificate = record { digest = digest_of b; votes = by_voter (votes self.sizes (digest_of b) (noted (got_vote voter v b) ∷ c)) } })
 completed self voter v b c h enough =
-    let bs : List Vote = votes self.sizes (digest_of b) (got_vote voter v b ∷ c) in
-    let each : AllByRecursion (Counts self (digest_of b)) bs = votes-count self (digest_of b) (got_vote voter v b ∷ c) h in
+    let bs : List Vote = votes self.sizes (digest_of b) (noted (got_vote voter v b) ∷ c) in
+    let each : AllByRecursion (Counts self (digest_of b)) bs = votes-count self (digest_of b) (noted (got_vote voter v b) ∷ c) h in
     record {
-      certificate_is = IsCertificate-by_voter self.sizes (digest_of b) bs (IsDigest-digest_of b) (all-implied (Counts self (digest_of b)) (IsVote self.sizes) (λ x k. k.0) bs each) (votes-each self.sizes (digest_of b) (got_vote voter v b ∷ c)) enough;
+      certificate_is = IsCertificate-by_voter self.sizes (digest_of b) bs (IsDigest-digest_of b) (all-implied (Counts self (digest_of b)) (IsVote self.sizes) (λ x k. k.0) bs each) (votes-each self.sizes (digest_of b) (noted (got_vote voter v b) ∷ c)) enough;
       good = λ l. is_good-by_voter self (digest_of b) bs (all-implied (Counts self (digest_of b)) (λ x. vote_verifies self (digest_of b) x ≡ true) (λ x k. k.1) bs each) enough
           (elim (cases_Bool (is_genesis (digest_of b))) [ inl t ↦ absurd (above-genesis b (h.0.genesis t) l) | inr f ↦ f ]);
       justified = refl;
-      among = tree-grows (got_vote voter v b) c b h.0.among;
+      among = tree-grows (noted (got_vote voter v b)) c b h.0.among;
     }
 
 -- what a step may raise
@@ -105,15 +97,12 @@ raised-all self (took_block a) c l h =
       among = tree-just1 self.sizes (took_block a ∷ c) l a.branch (taken-tree (took_block a ∷ c) a (subst (λ (xs : List Admitted). Among a xs) (sym (cond-true a.new (a ∷ taken c) (taken c) e)) (inl refl)));
     })
     (λ e. tt)
-raised-all self (got_vote voter v b) c l h =
-    cond_both (nat_lt (length (votes self.sizes (digest_of b) c)) (quorum self.sizes) && (length (votes self.sizes (digest_of b) (got_vote voter v b ∷ c)) == quorum self.sizes)) _ _ (AllRaised self (got_vote voter v b ∷ c))
+raised-all self (noted (got_vote voter v b)) c l h =
+    cond_both (nat_lt (length (votes self.sizes (digest_of b) c)) (quorum self.sizes) && (length (votes self.sizes (digest_of b) (noted (got_vote voter v b) ∷ c)) == quorum self.sizes)) _ _ (AllRaised self (noted (got_vote voter v b) ∷ c))
     (λ e. completed self voter v b c h (eqb-true _ _ (and_parts _ _ e).1))
     (λ e. tt)
-raised-all self (got_new_view w r q b) c l h = record { certificate_is = h.0.certificate_is; good = λ k. h.0.good; justified = h.0.justified; among = tree-grows (got_new_view w r q b) c b h.0.among }
-raised-all self (got_request r) c l h = tt
-raised-all self (got_fetch r b) c l h = tt
-raised-all self timed_out c l h = tt
-raised-all self beat c l h = tt
+raised-all self (noted (got_new_view w r q b)) c l h = record { certificate_is = h.0.certificate_is; good = λ k. h.0.good; justified = h.0.justified; among = tree-grows (noted (got_new_view w r q b)) c b h.0.among }
+raised-all self (noted n) c l h = tt
 
 -- the certificate that a step brings or completes
 pub raised-is : (self : Identity) (st : Step) (c : Chronicle) (j : Justified) → IsLawful self.sizes (st ∷ c) → AreStored self (st ∷ c) → raised self.sizes st c ≡ Some j → IsRaised self (st ∷ c) j

@@ -13,7 +13,8 @@ use Rattle.linear_law.proofs.Effects.{is_member, Effects, Effects.idle, Effects.
 use Rattle.linear_law.proofs.Runs.{chronicles, IsRun, IsMadeWell, IsHonest, member-faulty, arises-checked}
 use Rattle.linear_law.proofs.Fits.{AnswersFit}
 use Rattle.definitions.proofs.Counts.{apart-count, first-passing}
-use Rattle.linear_law.proofs.Replies.{ReplyStands, answer_at, answers-grow, sendings-reply, held-grows}
+use Rattle.linear_law.proofs.Sends.{sends}
+use Rattle.linear_law.proofs.Replies.{ReplyStands, answer_at, answers-grow, sends-reply, held-grows}
 use Rattle.definitions.specs.Lists.{IsBeginning, Among, AreDistinct, count_below}
 use Rattle.definitions.specs.Bytes.{Bytes}
 use Rattle.ids.specs.Sizes.{replicas, quorum, client_party}
@@ -65,7 +66,7 @@ outcome-replies self m v old r (refused s n u l) o k = absurd k
 outcome-replies self m v old r (lacks sender d u) o k =
     cond_both (is_ample m && not (sender == self.ring.party)) ((to_party sender, fetch_frame self sender d) ∷ []) [] (λ (l : List Sending). Among o l → ReplyStands (history old.chronicle) o) (λ e y. fetch-reply self sender d (history old.chronicle) o y) (λ e y. nothing-replies (history old.chronicle) o y) k
 outcome-replies self m v old r (conflict st u e h) o k = absurd k
-outcome-replies self m v old r (stood st u e h) o k = sendings-reply self st old.chronicle h o k
+outcome-replies self m v old r (stood st u e h) o k = sends-reply self st old.chronicle h o (sends self st old.chronicle o k)
 outcome-replies self m v old r (cut st n u e h) o k = absurd k
 
 -- what an effect does to what is held, and what it replies
@@ -121,7 +122,7 @@ module _ (Known : Core → Type 0) where
       ]
     where
       h : KeepsHeld w e (effect w (e, m))
-      h = effect-held w e m (effect w (e, m)) run (effects w e m honest.read ok)
+      h = effect-held w e m (effect w (e, m)) run (effects w e m honest.framed ok)
 
       sent : Sending → Sent
       sent o = record { event = w.now; sender = party_of e; to = o.0; frame = o.1 }
@@ -147,7 +148,7 @@ party-number p h = omega arith
 same-party : (a b : ℕ) → client_party a ≡ client_party b → a ≡ b
 same-party a b e = omega arith
 
-counted-true : (w : World) (e : Event) (r cl q pl : ℕ) (tx g : Bytes) → RepliesStand w → AnswersFit w → IsFrame w.sizes (frame.reply r cl q pl tx g) → NoForgeryIn w e → brought e ≡ Some (frame.reply r cl q pl tx g) → is_replica w (party_of e) ≡ false → w.is_faulty (party_of e) ≡ false → 256 ≤ party_of e →
+counted-true : (w : World) (e : Event) (r cl q pl : ℕ) (tx g : Bytes) → RepliesStand w → AnswersFit w → IsFrame w.sizes (frame.reply r cl q pl tx g) → NoForgeryIn w e → brought w e ≡ Some (frame.reply r cl q pl tx g) → is_replica w (party_of e) ≡ false → w.is_faulty (party_of e) ≡ false → 256 ≤ party_of e →
     (cl == (party_of e - 256)) ≡ true → verify (w.ring (client_party (party_of e - 256))) kind.Reply r (reply_content r cl q pl tx) g ≡ true → Truth w cl q (record { replica = r; place = pl; text = tx })
 unfolding accepted_tags
 counted-true w e r cl q pl tx g rs fit fr nf b rep ok pa mine good mem =
@@ -252,7 +253,7 @@ count-well w me cl t s ef q h =
 unheard : (w : World) (cl : ℕ) (s : Session) (n : Fault) → SessionStands w cl s → HeardWell w cl (s, not_counted n)
 unheard w cl s n h = record { session = h; receipt = λ r m. absurd m }
 
-pub reply-well : (w : World) (e : Event) (m : Memory) (f : Frame) (s : Session) → RepliesStand w → AnswersFit w → NoForgeryIn w e → IsMadeWell w → IsFrame w.sizes f → brought e ≡ Some f → is_replica w (party_of e) ≡ false → w.is_faulty (party_of e) ≡ false → 256 ≤ party_of e → SessionStands w (party_of e - 256) s → HeardWell w (party_of e - 256) (on_reply (client_of w (party_of e - 256)) m f s)
+pub reply-well : (w : World) (e : Event) (m : Memory) (f : Frame) (s : Session) → RepliesStand w → AnswersFit w → NoForgeryIn w e → IsMadeWell w → IsFrame w.sizes f → brought w e ≡ Some f → is_replica w (party_of e) ≡ false → w.is_faulty (party_of e) ≡ false → 256 ≤ party_of e → SessionStands w (party_of e - 256) s → HeardWell w (party_of e - 256) (on_reply (client_of w (party_of e - 256)) m f s)
 unfolding on_reply
 reply-well w e m (frame.reply r cl q pl tx g) s rs fit nf made fr b rep ok pa h =
     let me : Client = client_of w (party_of e - 256) in

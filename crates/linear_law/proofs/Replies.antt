@@ -1,7 +1,7 @@
 -- Histories only grow, and a member's replies are those of its history.
-use Rattle.definitions.proofs.Histories.{numbered-is, history_of-grows}
-use Rattle.definitions.proofs.Lists.{Among-take, Among-either, Among-map, length-added, find_some, Among-reverse}
-use Rattle.std.proofs.Common.{ℕ, ◌≡◌, ◌+◌, ◌-◌, ◌<◌, ◌≤◌, ◌&&◌, not, ◌==◌, Bool, true, false, List, [], ◌∷◌, ◌++◌, length, cond, refl, sym, ap, subst, ◌∙◌, arith, inl, inr, take, true≢false, ltb, nat_lt, min, Option, Some, None, ◌%◌}
+use Rattle.definitions.proofs.Histories.{history_of-grows}
+use Rattle.definitions.proofs.Lists.{length-added}
+use Rattle.std.proofs.Common.{ℕ, ◌≡◌, ◌+◌, ◌<◌, ◌≤◌, ◌&&◌, not, Bool, true, false, List, [], ◌∷◌, ◌++◌, length, cond, refl, sym, ap, subst, ◌∙◌, arith, inl, inr, true≢false, ltb, min}
 use Rattle.std.proofs.lemmas.Bool.{cond_both, and_cases, not-false, ltb-true, ltb-false}
 use Rattle.definitions.proofs.Branches.{extends-true, length-extends}
 use Rattle.definitions.proofs.Sound.{Outcome, Outcome.unchanged, Outcome.refused, Outcome.lacks, Outcome.conflict, Outcome.stood, Outcome.cut}
@@ -9,15 +9,15 @@ use Rattle.definitions.specs.Lists.{beginning, IsBeginning, Among}
 use Rattle.definitions.specs.Frames.{Frame}
 use Rattle.definitions.specs.Branches.{Branch, just3, Extends, extends, highest}
 use Rattle.definitions.specs.Bytes.{Bytes}
-use Rattle.ids.specs.Sizes.{replicas}
-use Rattle.definitions.specs.Histories.{Entry, History, Answer, answers, is_fresh, answer_to, last_answer, last_seq}
-use Rattle.definitions.specs.Chronicles.{Admitted, Step, Step.took_block, Step.got_vote, Step.got_new_view, Step.got_request, Step.got_fetch, Step.timed_out, Step.beat, Chronicle, taken, decided, decided_by, decides, executed, history}
+use Rattle.definitions.specs.Histories.{Entry, History, Answer, answers, is_fresh}
+use Rattle.definitions.specs.Chronicles.{Admitted, Step, Step.took_block, Step.noted, Chronicle, taken, decided, decided_by, decides, executed, history}
 use Rattle.definitions.specs.Checks.{Identity}
-use Rattle.definitions.specs.States.{Justified, view, leads, proposed}
+use Rattle.definitions.specs.States.{view}
 use Rattle.definitions.specs.Rulings.{conflicts, Ruling}
-use Rattle.definitions.specs.Sendings.{as_taken, To, To.to_all, To.to_party, Sending, sendings, new_replies, reply_to, vote_frame, proposes, again, supplies, block_frame, new_view_frame, proposal_frame}
+use Rattle.definitions.specs.Sendings.{Sending, reply_to, vote_frame, block_frame, new_view_frame, proposal_frame}
 use Rattle.definitions.specs.Replicas.{Replica, Standing, Standing.running, Standing.stopped, Standing.cut_short, held_history, Reaction}
 use Rattle.definitions.specs.Frames as frame
+use Rattle.linear_law.proofs.Sends.{Sends, Sends.its_vote, Sends.new_reply, Sends.old_reply, Sends.its_view, Sends.its_block, Sends.its_proposal}
 
 -- ---- histories grow
 
@@ -50,12 +50,7 @@ executed-step a c false e h = ([], refl)
 pub executed-grows : (st : Step) (c : Chronicle) → conflicts st c ≡ false → Extends (executed (st ∷ c)) (executed c)
 unfolding conflicts executed decided taken
 executed-grows (took_block a) c h = executed-step a (taken c) a.new refl h
-executed-grows (got_vote v t b) c h = ([], refl)
-executed-grows (got_new_view w s q b) c h = ([], refl)
-executed-grows (got_request r) c h = ([], refl)
-executed-grows (got_fetch s b) c h = ([], refl)
-executed-grows timed_out c h = ([], refl)
-executed-grows beat c h = ([], refl)
+executed-grows (noted n) c h = ([], refl)
 
 pub history-grows : (st : Step) (c : Chronicle) → conflicts st c ≡ false → IsBeginning (history c) (history (st ∷ c))
 unfolding history
@@ -105,61 +100,14 @@ own-reply self a h m o e replica client seq place text t k = subst (λ (x : Answ
     same : (reply_to self a).1 ≡ frame.reply replica client seq place text t → a ≡ record { client = client; seq = seq; place = place; text = text }
     same q = let c : a.client ≡ client = cc in let s : a.seq ≡ seq = cc in let p : a.place ≡ place = cc in let x : a.text ≡ text = cc in λ i. record { client = c i; seq = s i; place = p i; text = x i }
 
-new-replies-stand : (self : Identity) (st : Step) (c : Chronicle) (o : Sending) → Among o (new_replies self st c) → ReplyStands (history (st ∷ c)) o
-unfolding new_replies
-new-replies-stand self st c o m =
-    let r = Among-map (reply_to self) _ o m in
-    own-reply self r.0 (history (st ∷ c)) (Among-take (length (answers (history (st ∷ c))) - length (answers (history c))) (answers (history (st ∷ c))) r.0 (Among-reverse (take (length (answers (history (st ∷ c))) - length (answers (history c))) (answers (history (st ∷ c)))) r.0 r.1)) o r.2
-
-no-reply : (h : History) (to : To) (f : Frame) → ((replica client seq place : ℕ) (text t : Bytes) → f ≡ frame.reply replica client seq place text t → ⊥) → (o : Sending) → Among o ((to, f) ∷ []) → ReplyStands h o
-no-reply h to f apart o (inl i) r c s p x t k = absurd (apart r c s p x t (sym (ap (λ (y : Sending). y.1) i) ∙ k))
-no-reply h to f apart o (inr m) r c s p x t k = absurd m
-
-empty-replies : (h : History) (o : Sending) → Among o [] → ReplyStands h o
-empty-replies h o m = absurd m
-
-own-vote-reply : (self : Identity) (a : Admitted) (h : History) (t : Bool) (to : To) (o : Sending) → Among o (cond t ((to, vote_frame self a.branch) ∷ []) []) → ReplyStands h o
-unfolding vote_frame
-own-vote-reply self a h true to o m = no-reply h to (vote_frame self a.branch) (λ r c s p x t k. cc) o m
-own-vote-reply self a h false to o m = absurd m
-
-block-replies : (self : Identity) (a : Admitted) (c : Chronicle) (to : To) (o : Sending) → Among o (cond a.voted ((to, vote_frame self a.branch) ∷ []) [] ++ new_replies self (took_block a) c) → ReplyStands (history (took_block a ∷ c)) o
-block-replies self a c to o m =
-    elim (Among-either o (cond a.voted ((to, vote_frame self a.branch) ∷ []) []) (new_replies self (took_block a) c) m) [ inl k ↦ own-vote-reply self a _ a.voted to o k | inr k ↦ new-replies-stand self (took_block a) c o k ]
-
-again-reply : (self : Identity) (client seq : ℕ) (h : History) (a : Option Answer) → answer_to client seq h ≡ a → (o : Sending) → Among o (again self a) → ReplyStands h o
-unfolding answer_to last_answer
-again-reply self client seq h None e o m = absurd m
-again-reply self client seq h (Some a) e o (inl i) = own-reply self a h (find_some (λ (x : Answer). x.client == client) (answers h) a (numbered-is seq (last_answer client h) a e)).0 o i
-again-reply self client seq h (Some a) e o (inr m) = absurd m
-
-supplies-reply : (self : Identity) (to : ℕ) (a : Option Admitted) (h : History) (o : Sending) → Among o (supplies self to a) → ReplyStands h o
-unfolding block_frame
-supplies-reply self to None h o m = absurd m
-supplies-reply self to (Some a) h o m = no-reply h (to_party to) (block_frame self to a) (λ r c s p x t k. cc) o m
-
-proposes-reply : (self : Identity) (w : ℕ) (p : Option Justified) (h : History) (o : Sending) → Among o (proposes self w p) → ReplyStands h o
-unfolding proposal_frame
-proposes-reply self w None h o m = absurd m
-proposes-reply self w (Some p) h o m = no-reply h to_all (proposal_frame self w p) (λ r c s q x t k. cc) o m
-
-new_view-reply : (self : Identity) (k : Chronicle) (h : History) (o : Sending) → Among o ((to_all, new_view_frame self k) ∷ []) → ReplyStands h o
-unfolding new_view_frame
-new_view-reply self k h o m = no-reply h to_all (new_view_frame self k) (λ r c s q x t e. cc) o m
-
-pub sendings-reply : (self : Identity) (st : Step) (c : Chronicle) → conflicts st c ≡ false → (o : Sending) → Among o (sendings self st c) → ReplyStands (history (st ∷ c)) o
-unfolding sendings
-sendings-reply self (took_block a) c n o = λ m. block-replies self a c (to_party (view self.sizes c % replicas self.sizes)) o m
-sendings-reply self (got_vote v t b) c n o = λ m. absurd m
-sendings-reply self (got_new_view w s q b) c n o =
-    cond_both (nat_lt (view self.sizes c) (view self.sizes (got_new_view w s q b ∷ c))) _ [] (λ (l : List Sending). Among o l → ReplyStands (history (got_new_view w s q b ∷ c)) o) (λ e m. new_view-reply self (got_new_view w s q b ∷ c) _ o m) (λ e m. empty-replies _ o m)
-sendings-reply self (got_request r) c n o =
-    cond_both (r.seq == last_seq r.client (history c)) _ [] (λ (l : List Sending). Among o l → ReplyStands (history (got_request r ∷ c)) o)
-    (λ e m a b s p x t k. answers-grow (history c) (history (got_request r ∷ c)) (history-grows (got_request r) c n) _ (again-reply self r.client r.seq (history c) (answer_to r.client r.seq (history c)) refl o m a b s p x t k)) (λ e m. empty-replies _ o m)
-sendings-reply self (got_fetch s b) c n o = λ m. supplies-reply self s (as_taken b c) _ o m
-sendings-reply self timed_out c n o = λ m. new_view-reply self (timed_out ∷ c) _ o m
-sendings-reply self beat c n o =
-    cond_both (leads self c) _ [] (λ (l : List Sending). Among o l → ReplyStands (history (beat ∷ c)) o) (λ e m. proposes-reply self (view self.sizes c) (proposed self (beat ∷ c)) _ o m) (λ e m. empty-replies _ o m)
+pub sends-reply : (self : Identity) (st : Step) (c : Chronicle) → conflicts st c ≡ false → (o : Sending) → Sends self st c o → ReplyStands (history (st ∷ c)) o
+unfolding vote_frame new_view_frame block_frame proposal_frame
+sends-reply self st c n o (its_vote a e v to) r cl s p x t h = absurd (let k : vote_frame self a.branch ≡ frame.reply r cl s p x t = h in cc)
+sends-reply self st c n o (new_reply a m) r cl s p x t h = own-reply self a (history (st ∷ c)) m (reply_to self a) refl r cl s p x t h
+sends-reply self st c n o (old_reply a m) r cl s p x t h = own-reply self a (history (st ∷ c)) (answers-grow (history c) (history (st ∷ c)) (history-grows st c n) a m) (reply_to self a) refl r cl s p x t h
+sends-reply self st c n o its_view r cl s p x t h = absurd (let k : new_view_frame self (st ∷ c) ≡ frame.reply r cl s p x t = h in cc)
+sends-reply self st c n o (its_block to a m) r cl s p x t h = absurd (let k : block_frame self to a ≡ frame.reply r cl s p x t = h in cc)
+sends-reply self st c n o (its_proposal j e) r cl s p x t h = absurd (let k : proposal_frame self (view self.sizes c) j ≡ frame.reply r cl s p x t = h in cc)
 
 -- what a member holds grows with each outcome
 held-running : (o : Replica) → o.standing ≡ running → held_history o ≡ history o.chronicle

@@ -4,14 +4,13 @@ use Rattle.std.proofs.Common.{ℕ, ◌≡◌, Bool, true, false, [], ◌∷◌, 
 use Rattle.std.specs.Bool.{⊤}
 use Rattle.std.proofs.lemmas.Bool.{eqb-true, eq-eqb, cond_both, cond-true, cond-false, cases_Bool, ne_eqb}
 use Rattle.definitions.proofs.Digests.{digest_of-one}
-use Rattle.definitions.proofs.Sound.{IsSound}
 use Rattle.definitions.proofs.Branches.{just1-extends}
 use Rattle.definitions.specs.Lists.{Among}
 use Rattle.definitions.specs.Frames.{Core, genesis_core}
 use Rattle.definitions.specs.Branches.{Branch, just1, Extends}
 use Rattle.ids.specs.Sizes.{Sizes}
 use Rattle.definitions.specs.Digests.{digest_of, core_of, AllKnown, NoCollision}
-use Rattle.definitions.specs.Chronicles.{Admitted, Step, Step.took_block, Step.got_vote, Step.got_new_view, Step.got_request, Step.got_fetch, Step.timed_out, Step.beat, Chronicle, voted, taken, tree, IsLawful, IsLawfulTake}
+use Rattle.definitions.specs.Chronicles.{Admitted, Step, Step.took_block, Step.noted, Chronicle, voted, taken, tree, IsLawful, IsLawfulTake, IsSound}
 use Rattle.definitions.specs.Agreement.{Order, steps_of, IsBacked, IsOrderly}
 
 abbrev pub put_row : ℕ → Chronicle → (ℕ → Chronicle) → ℕ → Chronicle
@@ -61,12 +60,7 @@ step-known Known a c false e here old b m = old b m
 pub grows-known : (Known : Core → Type 0) (need : Sizes) (st : Step) (is_member : ℕ → Bool) (row : ℕ → Chronicle) (c : Chronicle) → IsLawful need (st ∷ c) → StepMayFollow Known is_member row st → ((b : Branch) → Among b (tree c) → AllKnown Known b) → (b : Branch) → Among b (tree (st ∷ c)) → AllKnown Known b
 unfolding tree taken
 grows-known Known need (took_block a) is_member row c l f old = step-known Known a c a.new refl (λ n. taken-known Known need a c (l.0.1 n) old (f.known n)) old
-grows-known Known need (got_vote v t b) is_member row c l f old = old
-grows-known Known need (got_new_view w s q b) is_member row c l f old = old
-grows-known Known need (got_request r) is_member row c l f old = old
-grows-known Known need (got_fetch s b) is_member row c l f old = old
-grows-known Known need timed_out is_member row c l f old = old
-grows-known Known need beat is_member row c l f old = old
+grows-known Known need (noted n) is_member row c l f old = old
 
 module _ (Known : Core → Type 0) (apart : NoCollision Known) (genesis : Known genesis_core) (ground : genesis_core.height ≡ 0) where
   -- each vote counted in a member's name is an earlier vote of it
@@ -78,12 +72,7 @@ module _ (Known : Core → Type 0) (apart : NoCollision Known) (genesis : Known 
       let kj : AllKnown Known (just1 a.branch) = all_known-below Known a.branch (just1 a.branch) kb (just1-extends a.branch) in
       let e : x.0 ≡ just1 a.branch = digest_of-one Known apart genesis ground x.0 (just1 a.branch) kx kj x.2 in
       subst (λ (c : Chronicle). Among (just1 a.branch) (voted c)) (sym (r.orderly.whole v mv)) (subst (λ (y : Branch). Among y (voted (row v))) e x.1)
-  grows-backed sizes is_member row r p m (got_vote v t b) so f = tt
-  grows-backed sizes is_member row r p m (got_new_view w s q b) so f = tt
-  grows-backed sizes is_member row r p m (got_request q) so f = tt
-  grows-backed sizes is_member row r p m (got_fetch s b) so f = tt
-  grows-backed sizes is_member row r p m timed_out so f = tt
-  grows-backed sizes is_member row r p m beat so f = tt
+  grows-backed sizes is_member row r p m (noted n) so f = tt
 
   whole-step : (p : ℕ) (st : Step) (o : Order) (row : ℕ → Chronicle) (i : ℕ) → steps_of i o ≡ row i → steps_of p o ≡ row p → steps_of i ((p, st) ∷ o) ≡ put_row p (st ∷ row p) row i
   unfolding steps_of

@@ -3,15 +3,16 @@ use Rattle.definitions.proofs.Chronicles.{executed-decided, voted-grows}
 use Rattle.ids.specs.declared.kind.Kind.TheVariants as kind
 use Rattle.ids.specs.declared.fault.Fault.{Fault}
 use Rattle.ids.specs.declared.fault.Fault.TheVariants as fault
-use Rattle.std.proofs.Common.{ℕ, suc, ◌≡◌, ◌-◌, ◌≤◌, ◌&&◌, not, Bool, true, false, List, [], ◌∷◌, ◌++◌, length, cond, refl, sym, ap, subst, ◌∙◌, inl, inr, map, Option, Some, None, true≢false, ◌==◌, nat_lt, ◌%◌, filter, ◌^◌}
+use Rattle.std.proofs.Common.{ℕ, suc, ◌≡◌, ◌-◌, ◌≤◌, ◌&&◌, not, Bool, true, false, List, [], ◌∷◌, ◌++◌, length, cond, refl, sym, ap, subst, ◌∙◌, inl, inr, map, Option, Some, None, true≢false, ◌==◌, nat_lt, filter, ◌^◌}
 use Rattle.std.proofs.lemmas.Bool.{and_parts, eq-eqb, cond_both, cond-true, not-true}
 use Rattle.std.specs.List.{list_any}
 use Rattle.definitions.proofs.Lists.{Among-either, Among-map}
 use Rattle.definitions.proofs.Branches.{extends-from}
-use Rattle.definitions.proofs.Sound.{IsSound, Outcome, Outcome.unchanged, Outcome.refused, Outcome.lacks, Outcome.conflict, Outcome.stood, Outcome.cut, step-outcome, Keeps, ruling-sound, IsCheckedInput}
+use Rattle.definitions.proofs.Sound.{Outcome, Outcome.unchanged, Outcome.refused, Outcome.lacks, Outcome.conflict, Outcome.stood, Outcome.cut, step-outcome, Keeps, ruling-sound, IsCheckedInput}
 use Rattle.linear_law.proofs.Inputs.{Carries, FromInput, AllStanding, ruling-from, IsCarried, check-carried, carried-checked}
+use Rattle.linear_law.proofs.Sends.{Sends, Sends.its_vote, Sends.new_reply, Sends.old_reply, Sends.its_view, Sends.its_block, Sends.its_proposal, sends}
 use Rattle.linear_law.proofs.Rows.{IsRow, same-row, put_row, put_row-both, StepMayFollow, row-grows}
-use Rattle.linear_law.proofs.Effects.{is_member, Arises, Brings, Effects, Effects.idle, Effects.step_by, Effects.hearing, Effects.submitting, admits-good, effects}
+use Rattle.linear_law.proofs.Effects.{is_member, ComesFramed, Arises, Brings, Effects, Effects.idle, Effects.step_by, Effects.hearing, Effects.submitting, admits-good, effects}
 use Rattle.definitions.specs.Lists.{Among, count_below}
 use Rattle.definitions.specs.Frames.{Core, Vote, Certificate, Frame, genesis_core, reply_content}
 use Rattle.definitions.specs.Branches.{Branch, just3, Conflict}
@@ -19,17 +20,16 @@ use Rattle.definitions.specs.Bytes.{Bytes}
 use Rattle.ids.specs.Sizes.{replicas, quorum}
 use Rattle.definitions.specs.Keyrings.{verify}
 use Rattle.definitions.specs.Digests.{digest_of, NoCollision}
-use Rattle.definitions.specs.Histories.{Answer, last_seq, answer_to}
-use Rattle.definitions.specs.Chronicles.{Admitted, Step, Step.took_block, Step.got_vote, Step.got_new_view, Step.got_request, Step.got_fetch, Step.timed_out, Step.beat, Chronicle, voted, taken, decided, decided_by, decides, executed, history}
-use Rattle.definitions.specs.Checks.{Identity, counted}
-use Rattle.definitions.specs.States.{Justified, view, leads, proposed}
+use Rattle.definitions.specs.Chronicles.{Admitted, Step, Step.took_block, Step.noted, Chronicle, voted, taken, decided, decided_by, decides, executed, IsSound}
+use Rattle.definitions.specs.Checks.{Identity, Findings}
+use Rattle.definitions.specs.States.{view}
 use Rattle.definitions.specs.Rulings.{Input, Ruling, Ruling.due, conflicts, ruling}
-use Rattle.definitions.specs.Sendings.{as_taken, Sending, To, To.to_all, To.to_party, sendings, new_replies, reply_to, vote_frame, proposes, again, supplies, block_frame, new_view_frame, proposal_frame, fetch_frame}
+use Rattle.definitions.specs.Sendings.{Sending, To, To.to_all, To.to_party, sendings, reply_to, vote_frame, block_frame, new_view_frame, proposal_frame, fetch_frame}
 use Rattle.definitions.specs.Replicas.{Memory, Replica, Reaction, Reaction.sends_out, Reaction.asks_for, step}
 use Rattle.definitions.specs.Worlds.{World, Sent, Event, self_of, put}
 use Rattle.definitions.specs.Runs.{refusal}
 use Rattle.definitions.specs.Events.{Effect, nothing, stepped, out_of, answer_of, brought, party_of, effect, happens, told, submitted, heard_answer, submitted_out, submitted_answer}
-use Rattle.definitions.specs.Premises.{IsReadIn, Claim, IsTagOf, WasSent, NoForgeryIn, CoreOf}
+use Rattle.definitions.specs.Premises.{Claim, IsTagOf, WasSent, NoForgeryIn, CoreOf}
 use Rattle.definitions.specs.Sessions.{is_ample, Client, Session, Heard, Heard.not_counted, Submitted, Submitted.not_sent, count_reply, on_reply, submission, request_frame}
 use Rattle.definitions.specs.Tally.{Told, agrees}
 use Rattle.agreement.proofs.Agreement as agreed
@@ -49,9 +49,9 @@ pub record IsMadeWell (w : World) : Type 0 where
   pub enough : quorum w.sizes ≤ count_below (replicas w.sizes) (is_member w)
 
 pub record IsHonest (Known : Core → Type 0) (w : World) (e : Event) : Type 0 where
-  pub read : IsReadIn w e
+  pub framed : ComesFramed w e
   pub forgery : NoForgeryIn w e
-  pub cores : (f : Frame) → brought e ≡ Some f → (c : Core) → CoreOf c f → Known c
+  pub cores : (f : Frame) → brought w e ≡ Some f → (c : Core) → CoreOf c f → Known c
 
 -- ---- a block's step may follow
 
@@ -67,20 +67,20 @@ vote-tag x s (frame.block r c q t) l h = absurd (let k = h.0 in cc)
 pub member-faulty : (w : World) (p : ℕ) → is_member w p ≡ true → w.is_faulty p ≡ false
 member-faulty w p m = not-true _ (and_parts _ _ m).1
 
-pub arises-checked : (w : World) (e : Event) (i : Input) → Arises w e i → IsCheckedInput (self_of w (party_of e)) i
+pub arises-checked : (w : World) (e : Event) (i : Input) → Arises w e i → IsCheckedInput w.sizes i
 arises-checked w e i (inl b) = carried-checked (self_of w (party_of e)) b.frame i (check-carried (self_of w (party_of e)) b.frame i b.is_frame b.good)
-arises-checked w e i (inr (inl t)) = subst (IsCheckedInput (self_of w (party_of e))) (sym t) tt
-arises-checked w e i (inr (inr t)) = subst (IsCheckedInput (self_of w (party_of e))) (sym t) tt
+arises-checked w e i (inr (inl t)) = subst (IsCheckedInput w.sizes) (sym t) tt
+arises-checked w e i (inr (inr t)) = subst (IsCheckedInput w.sizes) (sym t) tt
 
-pub arises-carried : (w : World) (e : Event) (i : Input) (core : Core) (q : Certificate) → Arises w e i → Carries i core q → (b : Brings w e i) × IsCarried (self_of w (party_of e)) b.frame core q
-arises-carried w e i core q (inl b) ca = (b, check-carried (self_of w (party_of e)) b.frame i b.is_frame b.good core q ca)
-arises-carried w e i core q (inr (inl t)) ca = absurd (subst (λ (j : Input). Carries j core q) t ca)
-arises-carried w e i core q (inr (inr t)) ca = absurd (subst (λ (j : Input). Carries j core q) t ca)
+pub arises-carried : (w : World) (e : Event) (i : Input) (core : Core) (q : Certificate) (g : Findings) → Arises w e i → Carries i core q g → (b : Brings w e i) × IsCarried (self_of w (party_of e)) b.frame core q g
+arises-carried w e i core q g (inl b) ca = (b, check-carried (self_of w (party_of e)) b.frame i b.is_frame b.good core q g ca)
+arises-carried w e i core q g (inr (inl t)) ca = absurd (subst (λ (j : Input). Carries j core q g) t ca)
+arises-carried w e i core q g (inr (inr t)) ca = absurd (subst (λ (j : Input). Carries j core q g) t ca)
 
 module _ (Known : Core → Type 0) where
   -- a vote that was counted in a member's name was given by it
-  counted-vote : (w : World) (e : Event) (i : Input) (core : Core) (q : Certificate) → IsRun Known w → IsHonest Known w e → is_member w (party_of e) ≡ true → (b : Brings w e i) → IsCarried (self_of w (party_of e)) b.frame core q → (v : ℕ) → Among v (counted (self_of w (party_of e)) q) → is_member w v ≡ true → (x : Branch) × Among x (voted (chronicles w v)) × (digest_of x ≡ q.digest)
-  counted-vote w e i core q run honest me b ca v m mv =
+  counted-vote : (w : World) (e : Event) (i : Input) (core : Core) (q : Certificate) (g : Findings) → IsRun Known w → IsHonest Known w e → is_member w (party_of e) ≡ true → (b : Brings w e i) → IsCarried (self_of w (party_of e)) b.frame core q g → (v : ℕ) → Among v g.counted → is_member w v ≡ true → (x : Branch) × Among x (voted (chronicles w v)) × (digest_of x ≡ q.digest)
+  counted-vote w e i core q g run honest me b ca v m mv =
       let c = ca.votes v m in
       let sent : WasSent w.sent c.0 = honest.forgery b.frame b.brings (member-faulty w (party_of e) me) (admits-good w (party_of e) b.frame i (and_parts _ _ me).0 b.good) c.0 c.1 (ap w.is_faulty c.3 ∙ member-faulty w v mv) in
       let is : sent.0.sender ≡ v = sent.2 ∙ c.3 in
@@ -88,89 +88,40 @@ module _ (Known : Core → Type 0) where
       let r = run.votes sent.0 sent.1 c.0.content vote.0 vote.1 (ap (is_member w) is ∙ mv) in
       (r.0, subst (λ (p : ℕ). Among r.0 (voted (chronicles w p))) is r.1, r.2 ∙ c.5)
 
-  may-follow : (w : World) (e : Event) (i : Input) → IsRun Known w → IsHonest Known w e → is_member w (party_of e) ≡ true → Arises w e i → (st : Step) → FromInput (self_of w (party_of e)) i st → StepMayFollow Known (is_member w) (chronicles w) st
+  may-follow : (w : World) (e : Event) (i : Input) → IsRun Known w → IsHonest Known w e → is_member w (party_of e) ≡ true → Arises w e i → (st : Step) → FromInput i st → StepMayFollow Known (is_member w) (chronicles w) st
   may-follow w e i run honest me ar (took_block a) f =
-      let b = arises-carried w e i f.0 f.1 ar f.2 in
+      let b = arises-carried w e i f.0 f.1 f.2 ar f.3 in
       record {
-        known = λ n. subst Known (sym (f.3.core_is n)) (honest.cores b.0.frame b.0.brings f.0 b.1.from);
+        known = λ n. subst Known (sym (f.4.core_is n)) (honest.cores b.0.frame b.0.brings f.0 b.1.from);
         votes = λ v m mv.
-            let r = counted-vote w e i f.0 f.1 run honest me b.0 b.1 v (subst (λ (l : List ℕ). Among v l) f.3.counted_is m) mv in
-            (r.0, r.1, r.2 ∙ f.3.justified);
+            let r = counted-vote w e i f.0 f.1 f.2 run honest me b.0 b.1 v (subst (λ (l : List ℕ). Among v l) f.4.counted_is m) mv in
+            (r.0, r.1, r.2 ∙ f.4.justified);
       }
-  may-follow w e i run honest me ar (got_vote v t b) f = tt
-  may-follow w e i run honest me ar (got_new_view x s q b) f = tt
-  may-follow w e i run honest me ar (got_request r) f = tt
-  may-follow w e i run honest me ar (got_fetch s b) f = tt
-  may-follow w e i run honest me ar timed_out f = tt
-  may-follow w e i run honest me ar beat f = tt
+  may-follow w e i run honest me ar (noted n) f = tt
 
 -- ---- votes that go out stand in the chronicle
 
 abbrev VoteStands : Chronicle → Sending → Type 0
 VoteStands c o = (d : Bytes) (b : Vote) → o.1 ≡ frame.vote d b → (x : Branch) × Among x (voted c) × (digest_of x ≡ d)
 
-reply-stands : (self : Identity) (c : Chronicle) (a : Answer) (o : Sending) → o ≡ reply_to self a → VoteStands c o
-unfolding reply_to
-reply-stands self c a o e d b h = absurd (apart (sym (ap (λ (x : Sending). x.1) e) ∙ h))
-  where
-    apart : (reply_to self a).1 ≡ frame.vote d b → ⊥
-    apart k = cc
-
-replies-stand : (self : Identity) (st : Step) (c k : Chronicle) (o : Sending) → Among o (new_replies self st c) → VoteStands k o
-unfolding new_replies
-replies-stand self st c k o m = let r = Among-map (reply_to self) _ o m in reply-stands self k r.0 o r.2
-
-own-vote : (self : Identity) (a : Admitted) (c : Chronicle) (t : Bool) (to : To) (o : Sending) → a.voted ≡ t → Among o (cond t ((to, vote_frame self a.branch) ∷ []) []) → VoteStands (took_block a ∷ c) o
-unfolding vote_frame voted
-own-vote self a c true to o e (inl i) d b h = (a.branch, subst (Among a.branch) (sym (cond-true a.voted (a.branch ∷ voted c) (voted c) e)) (inl refl), digests (sym (ap (λ (x : Sending). x.1) i) ∙ h))
-  where
-    digests : vote_frame self a.branch ≡ frame.vote d b → digest_of a.branch ≡ d
-    digests k = cc
-own-vote self a c true to o e (inr m) d b h = absurd m
-own-vote self a c false to o e m d b h = absurd m
-
 one-stands : (c : Chronicle) (to : To) (f : Frame) → ((d : Bytes) (b : Vote) → f ≡ frame.vote d b → ⊥) → (o : Sending) → Among o ((to, f) ∷ []) → VoteStands c o
 one-stands c to f apart o (inl i) d b h = absurd (apart d b (sym (ap (λ (x : Sending). x.1) i) ∙ h))
 one-stands c to f apart o (inr m) d b h = absurd m
 
-proposes-stand : (self : Identity) (w : ℕ) (p : Option Justified) (c : Chronicle) (o : Sending) → Among o (proposes self w p) → VoteStands c o
-unfolding proposal_frame
-proposes-stand self w None c o m = absurd m
-proposes-stand self w (Some p) c o m = one-stands c to_all (proposal_frame self w p) (λ d b h. cc) o m
-
-again-stand : (self : Identity) (a : Option Answer) (c : Chronicle) (o : Sending) → Among o (again self a) → VoteStands c o
-again-stand self None c o m = absurd m
-again-stand self (Some a) c o (inl e) = reply-stands self c a o e
-again-stand self (Some a) c o (inr m) = absurd m
-
-supplies-stand : (self : Identity) (to : ℕ) (a : Option Admitted) (c : Chronicle) (o : Sending) → Among o (supplies self to a) → VoteStands c o
-unfolding block_frame
-supplies-stand self to None c o m = absurd m
-supplies-stand self to (Some a) c o m = one-stands c (to_party to) (block_frame self to a) (λ d b h. cc) o m
-
-new_view-stands : (self : Identity) (k c : Chronicle) (o : Sending) → Among o ((to_all, new_view_frame self k) ∷ []) → VoteStands c o
-unfolding new_view_frame
-new_view-stands self k c o m = one-stands c to_all (new_view_frame self k) (λ d b h. cc) o m
-
 nothing-stands : (c : Chronicle) (o : Sending) → Among o [] → VoteStands c o
 nothing-stands c o m = absurd m
 
-block-stands : (self : Identity) (a : Admitted) (c : Chronicle) (to : To) (o : Sending) → Among o (cond a.voted ((to, vote_frame self a.branch) ∷ []) [] ++ new_replies self (took_block a) c) → VoteStands (took_block a ∷ c) o
-block-stands self a c to o m =
-    elim (Among-either o (cond a.voted ((to, vote_frame self a.branch) ∷ []) []) (new_replies self (took_block a) c) m) [ inl k ↦ own-vote self a c a.voted to o refl k | inr k ↦ replies-stand self (took_block a) c (took_block a ∷ c) o k ]
-
-sendings-stand : (self : Identity) (st : Step) (c : Chronicle) (o : Sending) → Among o (sendings self st c) → VoteStands (st ∷ c) o
-unfolding sendings
-sendings-stand self (took_block a) c o = λ m. block-stands self a c (to_party (view self.sizes c % replicas self.sizes)) o m
-sendings-stand self (got_vote v t b) c o = λ m. absurd m
-sendings-stand self (got_new_view w s q b) c o =
-    cond_both (nat_lt (view self.sizes c) (view self.sizes (got_new_view w s q b ∷ c))) _ [] (λ (l : List Sending). Among o l → VoteStands (got_new_view w s q b ∷ c) o) (λ e m. new_view-stands self (got_new_view w s q b ∷ c) _ o m) (λ e m. nothing-stands _ o m)
-sendings-stand self (got_request r) c o =
-    cond_both (r.seq == last_seq r.client (history c)) _ [] (λ (l : List Sending). Among o l → VoteStands (got_request r ∷ c) o) (λ e m. again-stand self (answer_to r.client r.seq (history c)) _ o m) (λ e m. nothing-stands _ o m)
-sendings-stand self (got_fetch s b) c o = λ m. supplies-stand self s (as_taken b c) _ o m
-sendings-stand self timed_out c o = λ m. new_view-stands self (timed_out ∷ c) _ o m
-sendings-stand self beat c o =
-    cond_both (leads self c) _ [] (λ (l : List Sending). Among o l → VoteStands (beat ∷ c) o) (λ e m. proposes-stand self (view self.sizes c) (proposed self (beat ∷ c)) _ o m) (λ e m. nothing-stands _ o m)
+sends-stand : (self : Identity) (st : Step) (c : Chronicle) (o : Sending) → Sends self st c o → VoteStands (st ∷ c) o
+unfolding vote_frame reply_to new_view_frame block_frame proposal_frame voted
+sends-stand self st c o (its_vote a e v to) d b h =
+    let same : frame.vote (digest_of a.branch) _ ≡ frame.vote d b = h in
+    let own : Among a.branch (voted (took_block a ∷ c)) = subst (Among a.branch) (sym (cond-true a.voted (a.branch ∷ voted c) (voted c) v)) (inl refl) in
+    (a.branch, subst (λ (x : Step). Among a.branch (voted (x ∷ c))) (sym e) own, (let k : digest_of a.branch ≡ d = cc in k))
+sends-stand self st c o (new_reply a m) d b h = absurd (let k : (reply_to self a).1 ≡ frame.vote d b = h in cc)
+sends-stand self st c o (old_reply a m) d b h = absurd (let k : (reply_to self a).1 ≡ frame.vote d b = h in cc)
+sends-stand self st c o its_view d b h = absurd (let k : new_view_frame self (st ∷ c) ≡ frame.vote d b = h in cc)
+sends-stand self st c o (its_block to a m) d b h = absurd (let k : block_frame self to a ≡ frame.vote d b = h in cc)
+sends-stand self st c o (its_proposal j e) d b h = absurd (let k : proposal_frame self (view self.sizes c) j ≡ frame.vote d b = h in cc)
 
 -- ---- two decisions of one chronicle do not conflict, so none is refused
 
@@ -201,12 +152,7 @@ conflict-decides (took_block a) c h =
       decided-taken a (taken c) (executed c) a.new (executed-decided c),
       (λ e. true≢false (sym (extends-from _ _ e) ∙ not-true _ r.0), λ e. true≢false (sym (extends-from _ _ e) ∙ not-true _ r.1)),
     )
-conflict-decides (got_vote v t b) c h = absurd (true≢false (sym h))
-conflict-decides (got_new_view w s q b) c h = absurd (true≢false (sym h))
-conflict-decides (got_request r) c h = absurd (true≢false (sym h))
-conflict-decides (got_fetch s b) c h = absurd (true≢false (sym h))
-conflict-decides timed_out c h = absurd (true≢false (sym h))
-conflict-decides beat c h = absurd (true≢false (sym h))
+conflict-decides (noted n) c h = absurd (true≢false (sym h))
 
 -- a row in which each member's chronicle is lawful and in order has no conflict
 pub row-agrees : (Known : Core → Type 0) (w : World) (row : ℕ → Chronicle) → IsMadeWell w → IsRow Known w.sizes (is_member w) row → (i j : ℕ) (a b : Branch) → is_member w i ≡ true → is_member w j ≡ true → Among a (decided (row i)) → Among b (decided (row j)) → Conflict a b → ⊥
@@ -278,7 +224,7 @@ module _ (Known : Core → Type 0) (apart : NoCollision Known) (genesis : Known 
   after-step w p m v r made row me more (refused s n u l) = record { row = row-kept Known w p _ row refl; grows = λ x k. k; out = λ o k. nothing-stands _ o k; mild = mild-number n l }
   after-step w p m v r made row me more (lacks sender d u) = record { row = row-kept Known w p _ row refl; grows = λ x k. k; out = λ o k. lacks-stand (self_of w p) m sender d _ o k; mild = mild-number fault.UnknownParent (λ k. cc) }
   after-step w p m v r made row me more (conflict st u e h) = absurd (no-conflict Known w made p st me (more st e) h)
-  after-step w p m v r made row me more (stood st u e h) = record { row = row-more Known w p _ (more st e); grows = λ x k. voted-grows st _ x k; out = λ o k. sendings-stand (self_of w p) st _ o k; mild = done-mild (sendings (self_of w p) st (chronicles w p)) }
+  after-step w p m v r made row me more (stood st u e h) = record { row = row-more Known w p _ (more st e); grows = λ x k. voted-grows st _ x k; out = λ o k. sends-stand (self_of w p) st _ o (sends (self_of w p) st _ o k); mild = done-mild (sendings (self_of w p) st (chronicles w p)) }
   after-step w p m v r made row me more (cut st n u e h) = record { row = row-more Known w p _ (more st e); grows = λ x k. voted-grows st _ x k; out = λ o k. nothing-stands _ o k; mild = mild-number fault.Memory (λ k. cc) }
 
   -- a member's step keeps the row
@@ -286,11 +232,11 @@ module _ (Known : Core → Type 0) (apart : NoCollision Known) (genesis : Known 
   step-keeps w e m i run made honest me ar =
       let self : Identity = self_of w (party_of e) in
       let so : IsSound w.sizes (chronicles w (party_of e)) = run.row.sound (party_of e) me in
-      let ch : IsCheckedInput self i = arises-checked w e i ar in
+      let ch : IsCheckedInput w.sizes i = arises-checked w e i ar in
       after-step w (party_of e) m (ruling self i (chronicles w (party_of e))) _ made run.row me
       (λ st v. row-grows Known apart genesis ground w.sizes (is_member w) (chronicles w) run.row (party_of e) me st
       (subst (Keeps self (chronicles w (party_of e))) v (ruling-sound self i (chronicles w (party_of e)) ch so))
-      (may-follow Known w e i run honest me ar st (subst (AllStanding (FromInput self i)) v (ruling-from self i (chronicles w (party_of e))))))
+      (may-follow Known w e i run honest me ar st (subst (AllStanding (FromInput i)) v (ruling-from self i (chronicles w (party_of e))))))
       (step-outcome self m i (w.replica (party_of e)) ch so)
 
 -- what an effect keeps
@@ -385,7 +331,7 @@ module _ (Known : Core → Type 0) (apart : NoCollision Known) (genesis : Known 
       (record { row = k.row; votes = votes }, record { rings = made.rings; enough = made.enough }, k.mild)
     where
       k : IsKept Known w e (effect w (e, m))
-      k = effect-kept w e m (effect w (e, m)) run made honest (effects w e m honest.read ok)
+      k = effect-kept w e m (effect w (e, m)) run made honest (effects w e m honest.framed ok)
 
       sent : Sending → Sent
       sent o = record { event = w.now; sender = party_of e; to = o.0; frame = o.1 }

@@ -11,14 +11,14 @@ use Rattle.definitions.specs.Frames as frame
 use Rattle.definitions.specs.FrameLimits.{IsDigest, IsCommand, IsCore, IsVote, IsCertificate, IsFrame}
 use Rattle.definitions.specs.Branches.{Branch, just1}
 use Rattle.definitions.specs.Digests.{digest_of, core_of}
-use Rattle.definitions.specs.Chronicles.{Admitted, Step, Step.took_block, Step.got_vote, Step.got_new_view, Step.got_request, Chronicle, tree, history}
-use Rattle.definitions.specs.Checks.{Identity, is_good, is_genesis, vote_verifies}
+use Rattle.definitions.specs.Chronicles.{Admitted, Step, Step.took_block, Step.noted, Note.got_vote, Note.got_new_view, Note.got_request, Chronicle, tree, history, IsSound}
+use Rattle.definitions.specs.Checks.{Identity, Findings, is_good, is_genesis, vote_verifies}
 use Rattle.definitions.specs.States.{is_due, pending, is_same_request}
 use Rattle.definitions.specs.Rulings.{Input, Input.proposal_in, Input.block_in, Input.vote_in, Input.new_view_in, Input.request_in, Input.fetch_in, Input.timeout_in, Input.beat_in, Ruling, Ruling.due, Ruling.missing, Ruling.refusing, find_block, admitted, on_placing, on_block, on_request, with_block, ruling}
 use Rattle.definitions.specs.Admission.{check, Checked.passes, Checked.rejected}
 use Rattle.definitions.specs.Worlds.{World, Event, self_of}
 use Rattle.definitions.specs.Events.{party_of}
-use Rattle.definitions.proofs.Sound.{IsSound, found}
+use Rattle.definitions.proofs.Sound.{found}
 use Rattle.definitions.specs.Trees.{most_blocks, Placing, Placing.stands, Placing.grows, Placing.lacks_parent, Placing.unfit, placing, IsTree}
 use Rattle.definitions.proofs.Trees.{same_bytes, found-in, core-known, IsPlaced, placed}
 use Rattle.definitions.proofs.Checks.{when-good}
@@ -52,9 +52,9 @@ pub record IsStoredView (self : Identity) (view : ℕ) (q : Certificate) (b : Br
 -- a step that is stored after this chronicle
 abbrev pub IsStored : Identity → Chronicle → Step → Type 0
 IsStored self c (took_block a) = IsStoredBlock self a
-IsStored self c (got_vote voter v b) = IsStoredVote self (record { voter = voter; vector = v }) b c
-IsStored self c (got_new_view view sender q b) = IsStoredView self view q b c
-IsStored self c (got_request r) = IsCommand self.sizes r
+IsStored self c (noted (got_vote voter v b)) = IsStoredVote self (record { voter = voter; vector = v }) b c
+IsStored self c (noted (got_new_view view sender q b)) = IsStoredView self view q b c
+IsStored self c (noted (got_request r)) = IsCommand self.sizes r
 IsStored self c st = ⊤
 
 -- each step of a chronicle
@@ -64,8 +64,8 @@ AreStored self (st ∷ c) = IsStored self c st × AreStored self c
 
 -- what an input says, where it was a frame
 abbrev pub IsReadInput : Identity → Input → Type 0
-IsReadInput self (proposal_in w core q) = IsCore self.sizes core × IsCertificate self.sizes q × (is_good self q ≡ true)
-IsReadInput self (block_in sender core q) = IsCore self.sizes core × IsCertificate self.sizes q × (is_good self q ≡ true)
+IsReadInput self (proposal_in w core q f) = IsCore self.sizes core × IsCertificate self.sizes q × (is_good self q ≡ true)
+IsReadInput self (block_in sender core q f) = IsCore self.sizes core × IsCertificate self.sizes q × (is_good self q ≡ true)
 IsReadInput self (vote_in d b) = IsDigest d × IsVote self.sizes b × (vote_verifies self d b ≡ true)
 IsReadInput self (new_view_in w sender q) = (w < 2 ^ 64) × IsCertificate self.sizes q × (is_good self q ≡ true)
 IsReadInput self (request_in r) = IsCommand self.sizes r
@@ -107,10 +107,10 @@ unfolding digest_of
 genesis-only c b tr m h = tr.one b [] m tr.genesis (same_bytes _ _ h)
 
 -- a block with its certificate
-placed-stored : (self : Identity) (w : Option ℕ) (sender : ℕ) (core : Core) (q : Certificate) (c : Chronicle) → IsCore self.sizes core → IsCertificate self.sizes q → is_good self q ≡ true → (p : Placing) → IsPlaced most_blocks core q (tree c) p → IsStoredRuling self c (on_placing self w sender core q c p)
+placed-stored : (self : Identity) (w : Option ℕ) (sender : ℕ) (core : Core) (q : Certificate) (f : Findings) (c : Chronicle) → IsCore self.sizes core → IsCertificate self.sizes q → is_good self q ≡ true → (p : Placing) → IsPlaced most_blocks core q (tree c) p → IsStoredRuling self c (on_placing self w sender core q f c p)
 unfolding on_placing admitted
-placed-stored self w sender core q c hk hq g (stands b) h = record { core_is = hk; certificate_is = hq; good = g; justified = h.1; stored = λ n. absurd (true≢false (sym n)) }
-placed-stored self w sender core q c hk hq g (grows b) (parent, t) =
+placed-stored self w sender core q f c hk hq g (stands b) h = record { core_is = hk; certificate_is = hq; good = g; justified = h.1; stored = λ n. absurd (true≢false (sym n)) }
+placed-stored self w sender core q f c hk hq g (grows b) (parent, t) =
     let ep = sym (found-in core.parent (tree c) parent t.parent_found).1 in
     record {
       core_is = hk;
@@ -119,21 +119,21 @@ placed-stored self w sender core q c hk hq g (grows b) (parent, t) =
       justified = t.justified ∙ ap (λ (x : Branch). digest_of (just1 x)) (sym t.is);
       stored = λ n. ap core_of t.is ∙ core-known core parent ep t.height;
     }
-placed-stored self w sender core q c hk hq g lacks_parent h = hk.parent
-placed-stored self w sender core q c hk hq g (unfit n) h = tt
+placed-stored self w sender core q f c hk hq g lacks_parent h = hk.parent
+placed-stored self w sender core q f c hk hq g (unfit n) h = tt
 
-block-stored : (self : Identity) (w : Option ℕ) (sender : ℕ) (core : Core) (q : Certificate) (c : Chronicle) → IsCore self.sizes core → IsCertificate self.sizes q → is_good self q ≡ true → IsStoredRuling self c (on_block self w sender core q c)
-block-stored self w sender core q c hk hq g = placed-stored self w sender core q c hk hq g (placing most_blocks core q (tree c)) (placed most_blocks core q (tree c))
+block-stored : (self : Identity) (w : Option ℕ) (sender : ℕ) (core : Core) (q : Certificate) (f : Findings) (c : Chronicle) → IsCore self.sizes core → IsCertificate self.sizes q → is_good self q ≡ true → IsStoredRuling self c (on_block self w sender core q f c)
+block-stored self w sender core q f c hk hq g = placed-stored self w sender core q f c hk hq g (placing most_blocks core q (tree c)) (placed most_blocks core q (tree c))
 
 -- a vote
-vote-stored : (self : Identity) (b : Vote) (d : Bytes) (c : Chronicle) → IsSound self.sizes c → IsDigest d → IsVote self.sizes b → vote_verifies self d b ≡ true → (o : Option Branch) → find_block d c ≡ o → IsStoredRuling self c (with_block o b.voter d (λ x. due (got_vote b.voter b.vector x)))
+vote-stored : (self : Identity) (b : Vote) (d : Bytes) (c : Chronicle) → IsSound self.sizes c → IsDigest d → IsVote self.sizes b → vote_verifies self d b ≡ true → (o : Option Branch) → find_block d c ≡ o → IsStoredRuling self c (with_block o b.voter d (λ x. due (noted (got_vote b.voter b.vector x))))
 vote-stored self b d c so hd hb v None e = hd
 vote-stored self b d c so hd hb v (Some x) e =
     let r = found d c x e in
     record { vote_is = hb; verifies = subst (λ (y : Bytes). vote_verifies self y b ≡ true) (sym r.1) v; genesis = genesis-only c x so.is_tree r.0; among = r.0 }
 
 -- a view that is announced
-view-stored : (self : Identity) (w sender : ℕ) (q : Certificate) (c : Chronicle) → w < 2 ^ 64 → IsCertificate self.sizes q → is_good self q ≡ true → (o : Option Branch) → find_block q.digest c ≡ o → IsStoredRuling self c (with_block o sender q.digest (λ x. due (got_new_view w sender q x)))
+view-stored : (self : Identity) (w sender : ℕ) (q : Certificate) (c : Chronicle) → w < 2 ^ 64 → IsCertificate self.sizes q → is_good self q ≡ true → (o : Option Branch) → find_block q.digest c ≡ o → IsStoredRuling self c (with_block o sender q.digest (λ x. due (noted (got_new_view w sender q x))))
 view-stored self w sender q c l hq g None e = hq.digest
 view-stored self w sender q c l hq g (Some x) e = let r = found q.digest c x e in record { view_is = l; certificate_is = hq; good = g; justified = sym r.1; among = r.0 }
 
@@ -145,8 +145,8 @@ request-stored self r c h = cond_both (is_due (history c) r && (not (list_any (i
 -- what an input comes to
 pub ruling-stored : (self : Identity) (i : Input) (c : Chronicle) → IsReadInput self i → IsSound self.sizes c → IsStoredRuling self c (ruling self i c)
 unfolding ruling
-ruling-stored self (proposal_in w core q) c h so = block-stored self _ _ core q c h.0 h.1 h.2
-ruling-stored self (block_in sender core q) c h so = block-stored self _ _ core q c h.0 h.1 h.2
+ruling-stored self (proposal_in w core q f) c h so = block-stored self _ _ core q f c h.0 h.1 h.2
+ruling-stored self (block_in sender core q f) c h so = block-stored self _ _ core q f c h.0 h.1 h.2
 ruling-stored self (vote_in d b) c h so = vote-stored self b d c so h.0 h.1 h.2 _ refl
 ruling-stored self (new_view_in w sender q) c h so = view-stored self w sender q c h.0 h.1 h.2 _ refl
 ruling-stored self (request_in r) c h so = request-stored self r c h

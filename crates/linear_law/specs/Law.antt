@@ -1,19 +1,18 @@
 -- The laws of every run, as clauses.
-use Rattle.std.specs.Prelude.{ℕ, ◌≡◌, ◌≢◌, ◌<◌, Bool, true, List, [], ◌∷◌, length, Option, Some, Ok, slice_get, ⊤}
+use Rattle.std.specs.Prelude.{ℕ, ◌≡◌, ◌≢◌, ◌<◌, Bool, true, List, ◌∷◌, length, Option, Some, Ok}
 use Rattle.std.specs.List.{AllByRecursion}
 use Rattle.ids.specs.declared.fault.Fault.TheVariants as fault
 use Rattle.ids.specs.Sizes.{Sizes, AreSizes}
 use Rattle.definitions.specs.Keyrings.{Keyring}
 use Rattle.definitions.specs.Lists.{Among, IsBeginning}
-use Rattle.definitions.specs.FrameLimits.{IsFrame, IsCertificate}
+use Rattle.definitions.specs.FrameLimits.{IsFrame, IsReadAs, IsCertificate}
 use Rattle.definitions.specs.Digests.{digest_of}
 use Rattle.definitions.specs.Checks.{Identity, is_good}
 use Rattle.definitions.specs.States.{Justified, raised, qc_high}
 use Rattle.definitions.specs.Chronicles.{Step, Chronicle, IsLawful}
 use Rattle.definitions.specs.Agreement.{Family, IsLawfulFamily}
-use Rattle.definitions.specs.Worlds.{World, Sent, relay, Happening, new_world, is_correct, self_of}
-use Rattle.definitions.specs.Events.{happens}
-use Rattle.definitions.specs.Frames.{Frame}
+use Rattle.definitions.specs.Worlds.{World, Sent, Happening, new_world, is_correct, self_of}
+use Rattle.definitions.specs.Frames.{Frame, spelling}
 use Rattle.definitions.specs.Runs.{run}
 use Rattle.definitions.specs.Premises.{ArePremises}
 use Rattle.definitions.specs.Linearity.{IsLinear}
@@ -59,15 +58,13 @@ SentAreFrames w = (s : Sent) → Among s w.sent → IsFrame w.sizes s.frame
 abbrev pub SentFramesAreFrames : Type 0
 SentFramesAreFrames = AfterEachRun SentAreFrames
 
--- where a frame of the record comes to a party, it is read as it was sent
-abbrev pub AreReadAsSent : World → List Happening → Type 0
-AreReadAsSent w [] = ⊤
-AreReadAsSent w (h ∷ hs) = ((k to : ℕ) (read : Option Frame) (s : Sent) → h.0 ≡ relay k to read → slice_get w.sent k ≡ Some s → read ≡ Some s.frame) × AreReadAsSent (happens w h) hs
+-- the bytes of each frame that a correct party sent are read as that frame
+abbrev pub AreReadAsSent : World → Type 0
+AreReadAsSent w = (s : Sent) (read : Option Frame) → Among s w.sent → IsReadAs w.sizes (spelling s.frame) read → read ≡ Some s.frame
 
--- so is each frame that comes in such a run
+-- so are those of each such run
 abbrev pub SentFramesAreRead : Type 0
-SentFramesAreRead = (sizes : Sizes) (is_faulty : ℕ → Bool) (ring : ℕ → Keyring) (hs : List Happening) (last : World) → AreSizes sizes
-    → ArePremises (new_world sizes is_faulty ring) hs → run (new_world sizes is_faulty ring) hs ≡ Ok last → AreReadAsSent (new_world sizes is_faulty ring) hs
+SentFramesAreRead = AfterEachRun (λ w. AreSizes w.sizes → AreReadAsSent w)
 
 -- a certificate at the replica's sizes, for its block; where that isn't genesis, it is good for the replica
 pub record IsCertified (self : Identity) (j : Justified) : Type 0 where

@@ -5,9 +5,9 @@ ghost use Rattle.std.specs.Bool.{OnTrue, OnFalse};
 ghost use Rattle.definitions.specs.Checks.{identity_of};
 ghost use Rattle.definitions.specs.Chronicles.{IsLawful};
 ghost use Rattle.replica.specs.Steps.{Stepped};
-ghost use Rattle.replica.specs.Inputs.{IsFor, input_of};
+ghost use Rattle.replica.specs.Inputs.{input_of, is_addressed};
 ghost use Rattle.locked_replica.specs.Kept.{is_own, AreAll, counted, gained};
-ghost use Rattle.locked_replica.specs.Addressed.{is_addressed, may_step};
+ghost use Rattle.locked_replica.specs.Addressed.{may_step};
 
 use crate::closed::{Closed, NotAll};
 use crate::once::each_once;
@@ -115,7 +115,6 @@ impl Kept {
     /// It is refused with `NotMine` where the input is for another replica, and else with `NotAll` where the share
     /// isn't one of this replica's own.
     pub fn step(&mut self, share: &mut Share, input: Input<'_>) -> Result<Out, Fault>
-        requires { IsTrue (is_addressed self.old.keys input) → IsFor self.old.keys input }
         ensures not_mine { OnFalse (is_addressed self.old.keys input.entry) (IsErrOf result Fault.NotMine) }
         ensures not_all { OnTrue (is_addressed self.old.keys input.entry) (OnFalse (is_own self.old share.old) (IsErrOf result Fault.NotAll)) }
         ensures unchanged { OnFalse (may_step self.old share.old input.entry) (self.new ≡ self.old) }

@@ -11,7 +11,7 @@ use Rattle.definitions.specs.Keyrings.{Keys}
 use Rattle.definitions.specs.Checks.{Identity, identity_of}
 use Rattle.definitions.specs.Branches.{Branch}
 use Rattle.definitions.specs.Digests.{digest, digest_of, core_of, core_over}
-use Rattle.definitions.specs.Chronicles.{Step.beat, Chronicle, taken, stored, tree, voted, vheight, lock, decided, executed}
+use Rattle.definitions.specs.Chronicles.{Step.noted, Note.beat, Chronicle, taken, stored, tree, voted, vheight, lock, decided, executed}
 use Rattle.definitions.specs.States.{Justified, view, raised, qc_high, pending, leads, is_known, picks, child, leaf, proposed}
 use Rattle.definitions.specs.Trees.{find_in}
 use Rattle.definitions.specs.Sendings.{sendings, proposes}
@@ -26,23 +26,23 @@ use Rattle.replica.proofs.Records.{replay-push}
 
 -- ---- what stays
 
-pub ruled-beat : (c : Chronicle) → ruled_by (beat ∷ c) ≡ ruled_by c
+pub ruled-beat : (c : Chronicle) → ruled_by (noted beat ∷ c) ≡ ruled_by c
 unfolding vheight voted lock executed decided taken
 ruled-beat c = refl
 
-pub stored-beat : (c : Chronicle) → stored (beat ∷ c) ≡ stored c
+pub stored-beat : (c : Chronicle) → stored (noted beat ∷ c) ≡ stored c
 unfolding stored taken
 stored-beat c = refl
 
-pub view-beat : (s : Sizes) (c : Chronicle) → view s (beat ∷ c) ≡ view s c
+pub view-beat : (s : Sizes) (c : Chronicle) → view s (noted beat ∷ c) ≡ view s c
 unfolding view
 view-beat s c = refl
 
-pub qc-beat : (s : Sizes) (c : Chronicle) → qc_high s (beat ∷ c) ≡ qc_high s c
+pub qc-beat : (s : Sizes) (c : Chronicle) → qc_high s (noted beat ∷ c) ≡ qc_high s c
 unfolding qc_high raised
 qc-beat s c = refl
 
-pub pending-beat : (c : Chronicle) → pending c ≡ [] → pending (beat ∷ c) ≡ []
+pub pending-beat : (c : Chronicle) → pending c ≡ [] → pending (noted beat ∷ c) ≡ []
 unfolding pending
 pending-beat c e = rw e refl
 
@@ -81,37 +81,37 @@ pub child-unknown : (self : Identity) (c : Chronicle) → leads self c ≡ true 
 unfolding child
 child-unknown self c l k = rw (l, k) refl
 
-pub leaf-with : (self : Identity) (c : Chronicle) (b : Branch) → child self c (leaf self c) ≡ Some b → leaf self (beat ∷ c) ≡ b
+pub leaf-with : (self : Identity) (c : Chronicle) (b : Branch) → child self c (leaf self c) ≡ Some b → leaf self (noted beat ∷ c) ≡ b
 unfolding leaf
 leaf-with self c b e = rw e refl
 
-pub leaf-without : (self : Identity) (c : Chronicle) → child self c (leaf self c) ≡ None → leaf self (beat ∷ c) ≡ leaf self c
+pub leaf-without : (self : Identity) (c : Chronicle) → child self c (leaf self c) ≡ None → leaf self (noted beat ∷ c) ≡ leaf self c
 unfolding leaf
 leaf-without self c e = rw e refl
 
-pub proposed-with : (self : Identity) (c : Chronicle) (b : Branch) → child self c (leaf self c) ≡ Some b → proposed self (beat ∷ c) ≡ Some (record { block = b; certificate = (qc_high self.sizes c).certificate })
+pub proposed-with : (self : Identity) (c : Chronicle) (b : Branch) → child self c (leaf self c) ≡ Some b → proposed self (noted beat ∷ c) ≡ Some (record { block = b; certificate = (qc_high self.sizes c).certificate })
 unfolding proposed
 proposed-with self c b e = rw e refl
 
-pub proposed-without : (self : Identity) (c : Chronicle) → child self c (leaf self c) ≡ None → proposed self (beat ∷ c) ≡ proposed self c
+pub proposed-without : (self : Identity) (c : Chronicle) → child self c (leaf self c) ≡ None → proposed self (noted beat ∷ c) ≡ proposed self c
 unfolding proposed
 proposed-without self c e = rw e refl
 
 -- ---- what is sent
 
-pub sent-unled : (self : Identity) (c : Chronicle) → leads self c ≡ false → sendings self beat c ≡ []
+pub sent-unled : (self : Identity) (c : Chronicle) → leads self c ≡ false → sendings self (noted beat) c ≡ []
 unfolding sendings
 sent-unled self c l = rw l refl
 
-pub sent-led : (self : Identity) (c : Chronicle) → leads self c ≡ true → sendings self beat c ≡ proposes self (view self.sizes c) (proposed self (beat ∷ c))
+pub sent-led : (self : Identity) (c : Chronicle) → leads self c ≡ true → sendings self (noted beat) c ≡ proposes self (view self.sizes c) (proposed self (noted beat ∷ c))
 unfolding sendings
 sent-led self c l = rw l refl
 
 -- ---- the records after a beat
 
-pub records-beat : (keys : Keys) (c : Chronicle) (old new : Records) → AreRecordsOf keys c old → new.steps.items ≡ old.steps.items ++ Beat ∷ [] → new.rules ≡ old.rules → new.high ≡ old.high → new.leaf ≡ mark_of (leaf (identity_of keys) (beat ∷ c)) → AreRecordsOf keys (beat ∷ c) new
+pub records-beat : (keys : Keys) (c : Chronicle) (old new : Records) → AreRecordsOf keys c old → new.steps.items ≡ old.steps.items ++ Beat ∷ [] → new.rules ≡ old.rules → new.high ≡ old.high → new.leaf ≡ mark_of (leaf (identity_of keys) (noted beat ∷ c)) → AreRecordsOf keys (noted beat ∷ c) new
 records-beat keys c old new o es er eh el = record {
-  replayed = ap (λ (xs : List StoredStep). replay (reverse xs)) es ∙ replay-push old.steps.items Beat ∙ ap (λ (x : Chronicle). beat ∷ x) o.replayed;
+  replayed = ap (λ (xs : List StoredStep). replay (reverse xs)) es ∙ replay-push old.steps.items Beat ∙ ap (λ (x : Chronicle). noted beat ∷ x) o.replayed;
   rules = er ∙ o.rules ∙ sym (ruled-beat c);
   high = (λ i. (eh i).block) ∙ o.high ∙ ap (λ (q : Justified). mark_of q.block) (sym (qc-beat keys.sizes c));
   certificate = (λ i. (eh i).certificate) ∙ o.certificate ∙ ap (λ (q : Justified). q.certificate) (sym (qc-beat keys.sizes c));

@@ -8,9 +8,8 @@ use Rattle.definitions.specs.Keyrings.{Keys}
 use Rattle.definitions.specs.Branches.{Block, Branch, IsBranch}
 use Rattle.definitions.specs.Digests.{digest}
 use Rattle.definitions.specs.Trees.{most_blocks, IsTree}
-use Rattle.definitions.specs.Chronicles.{Chronicle, taken, stored, tree}
+use Rattle.definitions.specs.Chronicles.{Chronicle, taken, stored, tree, IsSound}
 use Rattle.definitions.specs.States.{view, qc_high, leaf, pending, proposed}
-use Rattle.definitions.proofs.Sound.{IsSound}
 use Rattle.replica_rules.specs.Ruled.{mark_of, ruled_by}
 use Rattle.replica.specs.declared.stored.StoredStep.{StoredStep}
 use Rattle.replica.specs.declared.state.State.{State}
@@ -37,7 +36,7 @@ unfolding tree taken
 first-sound s = record {
   is_tree = genesis-tree;
   lawful = tt;
-  full = omega arith;
+  bounded = omega arith;
   heights = λ x m. let e = ap (λ (b : Branch). length b) (only-genesis x m) in omega (arith, e);
 }
 

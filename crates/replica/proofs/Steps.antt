@@ -11,7 +11,7 @@ use Rattle.definitions.specs.Trees.{TreeState, blocks, find_in}
 use Rattle.definitions.proofs.Held.{blocks-stored}
 use Rattle.definitions.specs.Keyrings.{Keys}
 use Rattle.definitions.specs.Checks.{identity_of}
-use Rattle.definitions.specs.Chronicles.{Step, Step.beat, Chronicle}
+use Rattle.definitions.specs.Chronicles.{Step, Step.noted, Note.beat, Chronicle}
 use Rattle.definitions.specs.States.{Justified, leads, is_known, leaf, child, proposed, qc_high, view}
 use Rattle.definitions.specs.Rulings.{Input, Input.beat_in, Ruling, Ruling.due, ruling, conflicts}
 use Rattle.definitions.specs.Sendings.{sendings, proposes}
@@ -59,22 +59,22 @@ conflict-step keys i c st result new e k s r = record {
 }
 
 -- a beat is always due
-pub beat-due : (keys : Keys) (c : Chronicle) → ruling (identity_of keys) beat_in c ≡ due beat
+pub beat-due : (keys : Keys) (c : Chronicle) → ruling (identity_of keys) beat_in c ≡ due (noted beat)
 unfolding ruling
 beat-due keys c = refl
 
-beat-calm : (c : Chronicle) → conflicts beat c ≡ false
+beat-calm : (c : Chronicle) → conflicts (noted beat) c ≡ false
 unfolding conflicts
 beat-calm c = refl
 
 pub beat-memory : (keys : Keys) (c : Chronicle) (result : Result (List Sent) Fault) (new : State) → IsStateOf keys c new → result ≡ Err fault.Memory → StepsTo keys beat_in c result new
-beat-memory keys c result new s r = memory-step keys beat_in c beat result new (beat-due keys c) s r
+beat-memory keys c result new s r = memory-step keys beat_in c (noted beat) result new (beat-due keys c) s r
 
-pub beat-stands : (keys : Keys) (c : Chronicle) (out : List Sent) (new : State) → IsStateOf keys (beat ∷ c) new → out ≡ shown (sendings (identity_of keys) beat c) → StepsTo keys beat_in c (Ok out) new
-beat-stands keys c out new s o = standing-step keys beat_in c beat out new (beat-due keys c) (beat-calm c) s o
+pub beat-stands : (keys : Keys) (c : Chronicle) (out : List Sent) (new : State) → IsStateOf keys (noted beat ∷ c) new → out ≡ shown (sendings (identity_of keys) (noted beat) c) → StepsTo keys beat_in c (Ok out) new
+beat-stands keys c out new s o = standing-step keys beat_in c (noted beat) out new (beat-due keys c) (beat-calm c) s o
 
 -- the state after a beat
-pub state-beat : (keys : Keys) (c : Chronicle) (old new : State) → IsStateOf keys c old → AreRecordsOf keys (beat ∷ c) new.records → new.tree ≡ old.tree → new.view ≡ old.view → IsOwn (proposed (identity_of keys) (beat ∷ c)) new.own → IsStateOf keys (beat ∷ c) new
+pub state-beat : (keys : Keys) (c : Chronicle) (old new : State) → IsStateOf keys c old → AreRecordsOf keys (noted beat ∷ c) new.records → new.tree ≡ old.tree → new.view ≡ old.view → IsOwn (proposed (identity_of keys) (noted beat ∷ c)) new.own → IsStateOf keys (noted beat ∷ c) new
 unfolding ruling
 state-beat keys c old new o r t v own = record {
   its_records = r;
@@ -122,7 +122,7 @@ beat-refused keys c old new result o es er eh el t v own r =
 -- a beat without a child
 pub beat-without : (keys : Keys) (c : Chronicle) (old new : State) (out : List Sent) → IsStateOf keys c old → child (identity_of keys) c (leaf (identity_of keys) c) ≡ None
     → new.records.steps.items ≡ old.records.steps.items ++ Beat ∷ [] → new.records.rules ≡ old.records.rules → new.records.high ≡ old.records.high → new.records.leaf ≡ old.records.leaf
-    → new.tree ≡ old.tree → new.view ≡ old.view → new.own ≡ old.own → out ≡ shown (sendings (identity_of keys) beat c) → StepsTo keys beat_in c (Ok out) new
+    → new.tree ≡ old.tree → new.view ≡ old.view → new.own ≡ old.own → out ≡ shown (sendings (identity_of keys) (noted beat) c) → StepsTo keys beat_in c (Ok out) new
 beat-without keys c old new out o n es er eh el t v own s =
     let r = records-beat keys c old.records new.records o.its_records es er eh (el ∙ o.its_records.its_leaf ∙ ap mark_of (sym (leaf-without (identity_of keys) c n))) in
     beat-stands keys c out new

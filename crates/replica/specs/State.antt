@@ -5,9 +5,8 @@ use Rattle.definitions.specs.Keyrings.{Keys}
 use Rattle.definitions.specs.Checks.{identity_of}
 use Rattle.definitions.specs.Digests.{core_of}
 use Rattle.definitions.specs.Trees.{TreeState, most_blocks}
-use Rattle.definitions.specs.Chronicles.{Chronicle, stored}
+use Rattle.definitions.specs.Chronicles.{Chronicle, stored, IsSound}
 use Rattle.definitions.specs.States.{Justified, view, qc_high, leaf, pending, proposed}
-use Rattle.definitions.proofs.Sound.{IsSound}
 use Rattle.replica_rules.specs.Ruled.{mark_of, ruled_by}
 use Rattle.replica.specs.Replay.{replay}
 use Rattle.replica.specs.declared.state.OwnProposal.{OwnProposal}

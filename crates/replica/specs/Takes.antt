@@ -8,14 +8,13 @@ use Rattle.definitions.specs.Bytes.{Bytes}
 use Rattle.definitions.specs.Lists.{Among}
 use Rattle.definitions.specs.Frames.{Core, Certificate, vote, spelling}
 use Rattle.definitions.specs.Keyrings.{Keys, keyring_of, vector_for}
-use Rattle.definitions.specs.Checks.{identity_of}
+use Rattle.definitions.specs.Checks.{Findings, identity_of}
 use Rattle.definitions.specs.Branches.{Branch, just1}
 use Rattle.definitions.specs.Digests.{digest_of}
-use Rattle.definitions.specs.Chronicles.{Admitted, Step.took_block, Chronicle, tree}
+use Rattle.definitions.specs.Chronicles.{Admitted, Step.took_block, Chronicle, tree, IsSound}
 use Rattle.definitions.specs.States.{view}
 use Rattle.definitions.specs.Rulings.{admitted, conflicts}
 use Rattle.definitions.specs.Sendings.{to_party, sendings}
-use Rattle.definitions.proofs.Sound.{IsSound}
 use Rattle.replica.specs.Replay.{branch_in}
 use Rattle.replica.specs.Steps.{Sent, shown}
 use Rattle.replica.specs.State.{AreRecordsOf, tree_of}
@@ -23,8 +22,8 @@ use Rattle.replica.specs.declared.state.Records.{Records}
 use Rattle.replica.specs.declared.state.State.{State}
 
 -- a proposed block as it is admitted
-abbrev pub admitted_as : Keys → Core → Certificate → Bool → Bool → List Branch → Admitted
-admitted_as keys core q new voted blocks = record (admitted (identity_of keys) (branch_in core new blocks) core q new) { voted = voted }
+abbrev pub admitted_as : Core → Certificate → Findings → Bool → Bool → List Branch → Admitted
+admitted_as core q found new voted blocks = record (admitted (branch_in core new blocks) core q found new) { voted = voted }
 
 -- what goes out with a vote
 abbrev pub vote_sent : Keys → ℕ → Bytes → Sent

@@ -1,6 +1,6 @@
 //! One replica.
 
-ghost use Rattle.std.specs.Prelude.{◌≡◌, ◌<◌, ◌⊎◌, [], length, suc, IfOk, OnErr};
+ghost use Rattle.std.specs.Prelude.{◌≡◌, ◌<◌, ◌⊎◌, [], length, suc, IsTrue, IfOk, OnErr};
 ghost use Rattle.ids.specs.Sizes.{replicas};
 ghost use Rattle.definitions.specs.Checks.{identity_of};
 ghost use Rattle.definitions.specs.Chronicles.{Chronicle, IsLawful};
@@ -9,7 +9,7 @@ ghost use Rattle.replica.specs.Steps.{Stepped};
 ghost use Rattle.definitions.specs.Keyrings.{Keys};
 ghost use Rattle.replica.specs.State.{IsStateOf};
 ghost use Rattle.replica.specs.StepsTo.{StepsTo, halts};
-ghost use Rattle.replica.specs.Inputs.{input_of, IsFor};
+ghost use Rattle.replica.specs.Inputs.{input_of, is_addressed};
 
 use crate::beat::beat;
 use crate::input::Input;
@@ -58,7 +58,7 @@ fn is_final(answer: &Result<Out, Fault>) -> bool
 
 /// Takes an input of a replica that goes on.
 fn take(state: &mut State, keyring: &Keyring, input: Input<'_>) -> Result<Out, Fault>
-    requires own { IsFor keyring.now input }
+    requires own { IsTrue (is_addressed keyring.now input) }
     requires replica { keyring.now.party < replicas keyring.now.sizes }
     ensures { (c : Chronicle) → IsStateOf keyring.now c state.old → StepsTo keyring.now (input_of input.entry) c result state.new }
 {
@@ -139,7 +139,7 @@ impl Replica {
     /// After `Full`, `Conflict` and `Memory` it is stopped; after `UnknownParent`, `BadHeight`, `WrongJustify` and
     /// `Crowded` it is as before.
     pub fn step(&mut self, input: Input<'_>) -> Result<Out, Fault>
-        requires own { IsFor self.old.keys input }
+        requires { IsTrue (is_addressed self.old.keys input) }
         ensures stepped { Stepped (identity_of self.old.keys) (input_of input.entry) self.old.replica result self.new.replica }
         ensures keys { self.new.keys ≡ self.old.keys }
         ensures grows { (length self.new.replica.chronicle ≡ length self.old.replica.chronicle) ⊎ (length self.new.replica.chronicle ≡ suc (length self.old.replica.chronicle)) }

@@ -13,7 +13,7 @@ ghost use Rattle.replica.specs.Takes.{admitted_as, vote_sent, MayAdmit, Admits};
 ghost use Rattle.replica.specs.Raises.{IsRaise, TookIn};
 ghost use Rattle.replica.specs.State.{IsStateOf};
 ghost use Rattle.replica.specs.StepsTo.{StepsTo};
-ghost use Rattle.replica.specs.Inputs.{proposed_core, proposed_certificate, proposal_input};
+ghost use Rattle.replica.specs.Inputs.{proposed_core, proposed_certificate, found_of, proposal_input};
 
 use crate::frames::vote_frame;
 use crate::out::{Out, To};
@@ -46,7 +46,7 @@ fn stored_step(
     ensures made { (blocks : List Branch) →
         let core = proposed_core proposal.now.view in
         let certificate = proposed_certificate proposal.now.view in
-        let a = admitted_as proposal.now.keys core certificate admission.now.new admission.now.voted blocks in
+        let a = admitted_as core certificate (found_of proposal.now) admission.now.new admission.now.voted blocks in
         IfOk result (λ s. step_of s blocks ≡ took_block a) }
     ensures memory { OnErr result (result ≡ Err Fault.Memory) }
 {
@@ -151,13 +151,12 @@ fn admit(
     proposal: &Checked<ProposalView>,
     admission: &Admission,
 ) -> Result<Out, Fault>
-    requires keys { proposal.now.keys ≡ keyring.now }
-    requires replica { keyring.now.party < replicas keyring.now.sizes }
+    requires { keyring.now.party < replicas keyring.now.sizes }
     ensures rest { state.new ≡ record state.old { records = state.new.records } }
     ensures admitted { (c : Chronicle) →
         let core = proposed_core proposal.now.view in
         let certificate = proposed_certificate proposal.now.view in
-        let a = admitted_as keyring.now core certificate admission.now.new admission.now.voted (tree c) in
+        let a = admitted_as core certificate (found_of proposal.now) admission.now.new admission.now.voted (tree c) in
         MayAdmit keyring.now c a state.old
         → find_in admission.now.digest (tree (took_block a ∷ c)) ≡ Some a.branch → Admits keyring.now c a result state.new.records }
 {
@@ -194,9 +193,9 @@ pub(crate) fn take_proposal(
     keyring: &Keyring,
     proposal: &Checked<ProposalView>,
 ) -> Result<Out, Fault>
-    requires keys { proposal.now.keys ≡ keyring.now }
+    requires sizes { proposal.now.keys.sizes ≡ keyring.now.sizes }
     requires replica { keyring.now.party < replicas keyring.now.sizes }
-    ensures { (c : Chronicle) → IsStateOf keyring.now c state.old → StepsTo keyring.now (proposal_input proposal.now.view) c result state.new }
+    ensures { (c : Chronicle) → IsStateOf keyring.now c state.old → StepsTo keyring.now (proposal_input proposal.now) c result state.new }
 {
     let core = proposal.view().core();
     let certificate = proposal.view().certificate();

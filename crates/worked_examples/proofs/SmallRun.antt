@@ -22,16 +22,14 @@ use Rattle.std.specs.Prelude.{◌≡◌, [], ◌∷◌}
 use Rattle.definitions.specs.Replicas.{ample}
 use Rattle.definitions.specs.Sendings.{to_all, to_party}
 use Rattle.definitions.specs.Worlds.{World, Sent, beat}
-use Rattle.std.proofs.Common.{arith, inl, inr, sym, subst, ◌∙◌, Some, None, ◌⊎◌, get_or, ap}
+use Rattle.std.proofs.Common.{arith, inl, inr, sym, subst, ◌∙◌, Some, None, ◌⊎◌, get_or, ap, option_map, slice_get}
 use Rattle.std.specs.Prelude.{List}
 use Rattle.definitions.specs.Lists.{Among}
-use Rattle.definitions.specs.FrameLimits.{IsFrame}
-use Rattle.definitions.specs.Premises.{Claim, accepted_tags, WasSent, NoForgeryIn, IsReadIn, CoreOf, CoreBrought, CoreOfRun}
+use Rattle.definitions.specs.Premises.{Claim, accepted_tags, WasSent, NoForgeryIn, CoreOf, CoreBrought, CoreOfRun}
 use Rattle.definitions.specs.Worlds.{self_of, relay}
 use Rattle.definitions.specs.Frames.{Frame, Core, genesis_core}
 use Rattle.definitions.specs.Checks.{Identity}
 use Rattle.definitions.specs.Bytes.{Bytes}
-use Rattle.definitions.specs.Events.{bytes_of}
 use Rattle.worked_examples.specs.Runs.{IsTakenWhole, SendsOneVote, Lengths, Answers, PremisesHold, sizes, start}
 use Rattle.worked_examples.specs.Runs as example
 
@@ -61,22 +59,12 @@ answered = refl
 
 -- ---- the premises
 
--- the proposal is a frame
-proposed_is_frame : IsFrame sizes example.proposed
-unfolding sha256 digest_bytes hash_after compress rounds schedule first_words beginning greatest count_below hmac tag_for verify tags_for justify_height just1 just2 just3 command_eq block_eq branch_eq extends highest digest core_over digest_of core_of history_of answers last_seq voted taken tree vheight lock decides decided_by decided executed history stored is_clear clear_above may_vote counted is_good is_clear_core view announcements announced reached votes raised qc_high is_due pending leads is_known picks child leaf proposed find_block admitted votes_for placing_known placing_new placing on_placing ruling conflicts vote_frame proposal_frame new_replies sendings on_step on_ruling step check new_world nothing stepped comes party_of brought acts effect happens refusal run after
-proposed_is_frame = (
-  omega arith,
-  record { parent = refl; height = (omega arith, omega arith); justify_height = omega arith; count = omega arith; commands = tt },
-  record { digest = refl; count = inl refl; votes = tt; rising = tt },
-  refl,
-)
-
 -- the record after the beat and after the vote
 after_beat : (after start ((beat 0, ample) ∷ [])).sent ≡ proposal_sent ∷ []
 unfolding sha256 digest_bytes hash_after compress rounds schedule first_words beginning greatest count_below hmac tag_for verify tags_for justify_height just1 just2 just3 command_eq block_eq branch_eq extends highest digest core_over digest_of core_of history_of answers last_seq voted taken tree vheight lock decides decided_by decided executed history stored is_clear clear_above may_vote counted is_good is_clear_core view announcements announced reached votes raised qc_high is_due pending leads is_known picks child leaf proposed find_block admitted votes_for placing_known placing_new placing on_placing ruling conflicts vote_frame proposal_frame new_replies sendings on_step on_ruling step check new_world nothing stepped comes party_of brought acts effect happens refusal run after
 after_beat = refl
 
-after_vote : (after start ((beat 0, ample) ∷ (relay 0 1 (Some example.proposed), ample) ∷ [])).sent
+after_vote : (after start ((beat 0, ample) ∷ (relay 0 1, ample) ∷ [])).sent
     ≡ proposal_sent ∷ record { event = 2; sender = 1; to = to_party 0; frame = example.voted } ∷ []
 unfolding sha256 digest_bytes hash_after compress rounds schedule first_words beginning greatest count_below hmac tag_for verify tags_for justify_height just1 just2 just3 command_eq block_eq branch_eq extends highest digest core_over digest_of core_of history_of answers last_seq voted taken tree vheight lock decides decided_by decided executed history stored is_clear clear_above may_vote counted is_good is_clear_core view announcements announced reached votes raised qc_high is_due pending leads is_known picks child leaf proposed find_block admitted votes_for placing_known placing_new placing on_placing ruling conflicts vote_frame proposal_frame new_replies sendings on_step on_ruling step check new_world nothing stepped comes party_of brought acts effect happens refusal run after
 after_vote = refl
@@ -87,12 +75,20 @@ unfolding accepted_tags proposal_frame core_of core_over is_good new_world
 claim_was_sent sent m x (inl e) = subst (WasSent sent) (sym e) (proposal_sent, m, refl, (refl, refl, refl, tt))
 claim_was_sent sent m x (inr k) = absurd k
 
+-- the proposal is the first frame of the record, and is brought
+brings : (w : World) (rest : List Sent) → w.sent ≡ proposal_sent ∷ rest → brought w (relay 0 1) ≡ Some example.proposed
+unfolding brought
+brings w rest e = ap (λ (l : List Sent). option_map (λ (s : Sent). s.frame) (slice_get l 0)) e
+
+same-frame : (w : World) (rest : List Sent) (f : Frame) → w.sent ≡ proposal_sent ∷ rest → brought w (relay 0 1) ≡ Some f → f ≡ example.proposed
+same-frame w rest f e b = let h : Some f ≡ Some example.proposed = sym b ∙ brings w rest e in cc
+
 -- so no tag in it is forged
-none_forged : (w : World) → self_of w 1 ≡ self_of start 1 → Among proposal_sent w.sent → NoForgeryIn w (relay 0 1 (Some example.proposed))
-unfolding brought party_of
-none_forged w same m f b ok ad x k okx =
-    let e : example.proposed ≡ f = cc in
-    claim_was_sent w.sent m x (subst (λ (g : Frame). Among x (accepted_tags (self_of start 1) g)) (sym e) (subst (λ (i : Identity). Among x (accepted_tags i f)) same k))
+none_forged : (w : World) (rest : List Sent) → self_of w 1 ≡ self_of start 1 → w.sent ≡ proposal_sent ∷ rest → NoForgeryIn w (relay 0 1)
+unfolding party_of
+none_forged w rest same sent f b ok ad x k okx =
+    claim_was_sent w.sent (subst (λ (l : List Sent). Among proposal_sent l) (sym sent) (inl refl)) x
+    (subst (λ (g : Frame). Among x (accepted_tags (self_of start 1) g)) (same-frame w rest f sent b) (subst (λ (i : Identity). Among x (accepted_tags i f)) same k))
 
 -- the digests of the two cores begin with other bytes
 genesis_first : get_or (digest genesis_core) 0 0 ≡ 120
@@ -122,11 +118,15 @@ sent_core c s m o =
       | inr k ↦ (elim k [ inl e ↦ absurd (subst (CoreOf c) (ap (λ (x : Sent). x.frame) e) o) | inr n ↦ absurd n ])
     ]
 
-brought_core : (c : Core) → CoreBrought c start example.schedule → IsOneOfTwo c
+not_brought : (f : Frame) → brought start (beat 0) ≡ Some f → ⊥
 unfolding brought
-brought_core c (inl x) = let e : None ≡ Some x.0 = x.1 in absurd (cc)
-brought_core c (inr (inl x)) = proposed_core c x.0 (let e : Some example.proposed ≡ Some x.0 = x.1 in cc) x.2
-brought_core c (inr (inr (inl x))) = proposed_core c x.0 (let e : Some example.proposed ≡ Some x.0 = x.1 in cc) x.2
+not_brought f b = let e : None ≡ Some f = b in cc
+
+brought_core : (c : Core) → CoreBrought c start example.schedule → IsOneOfTwo c
+unfolding after
+brought_core c (inl x) = absurd (not_brought x.0 x.1)
+brought_core c (inr (inl x)) = proposed_core c x.0 (same-frame _ _ x.0 after_beat x.1) x.2
+brought_core c (inr (inr (inl x))) = proposed_core c x.0 (same-frame _ _ x.0 after_vote x.1) x.2
 brought_core c (inr (inr (inr n))) = absurd n
 
 run_core : (c : Core) → CoreOfRun start example.schedule c → IsOneOfTwo c
@@ -142,31 +142,18 @@ two_apart a b (inl e) (inr f) h = absurd (digests_apart (sym (ap digest e) ∙ (
 two_apart a b (inr e) (inl f) h = absurd (digests_apart (sym (ap digest f) ∙ (sym h ∙ ap digest e)))
 two_apart a b (inr e) (inr f) h = e ∙ sym f
 
--- what is brought is read as the proposal
-first_read : IsReadIn (after start ((beat 0, ample) ∷ [])) (relay 0 1 (Some example.proposed))
-unfolding sha256 digest_bytes hash_after compress rounds schedule first_words beginning greatest count_below hmac tag_for verify tags_for justify_height just1 just2 just3 command_eq block_eq branch_eq extends highest digest core_over digest_of core_of history_of answers last_seq voted taken tree vheight lock decides decided_by decided executed history stored is_clear clear_above may_vote counted is_good is_clear_core view announcements announced reached votes raised qc_high is_due pending leads is_known picks child leaf proposed find_block admitted votes_for placing_known placing_new placing on_placing ruling conflicts vote_frame proposal_frame new_replies sendings on_step on_ruling step check new_world nothing stepped comes party_of brought acts effect happens refusal run after bytes_of
-first_read = (proposed_is_frame, refl)
-
-second_read : IsReadIn (after start ((beat 0, ample) ∷ (relay 0 1 (Some example.proposed), ample) ∷ [])) (relay 0 1 (Some example.proposed))
-unfolding sha256 digest_bytes hash_after compress rounds schedule first_words beginning greatest count_below hmac tag_for verify tags_for justify_height just1 just2 just3 command_eq block_eq branch_eq extends highest digest core_over digest_of core_of history_of answers last_seq voted taken tree vheight lock decides decided_by decided executed history stored is_clear clear_above may_vote counted is_good is_clear_core view announcements announced reached votes raised qc_high is_due pending leads is_known picks child leaf proposed find_block admitted votes_for placing_known placing_new placing on_placing ruling conflicts vote_frame proposal_frame new_replies sendings on_step on_ruling step check new_world nothing stepped comes party_of brought acts effect happens refusal run after bytes_of
-second_read = (proposed_is_frame, refl)
-
-nothing_read : IsReadIn start (beat 0)
-unfolding bytes_of brought
-nothing_read = refl
-
 -- the premises hold
 pub premises : PremisesHold
 unfolding happens after count_below new_world brought
 premises = record {
   few = omega arith;
   keys = λ p c. refl;
-  read = (nothing_read, (first_read, (second_read, tt)));
+  read = (tt, (tt, (tt, tt)));
   no_forgery = (
-    λ f b. (let e : None ≡ Some f = b in absurd (cc)),
+    λ f b. absurd (not_brought f b),
     (
-      none_forged (after start ((beat 0, ample) ∷ [])) refl (subst (λ (l : List Sent). Among proposal_sent l) (sym after_beat) (inl refl)),
-      (none_forged (after start ((beat 0, ample) ∷ (relay 0 1 (Some example.proposed), ample) ∷ [])) refl (subst (λ (l : List Sent). Among proposal_sent l) (sym after_vote) (inl refl)), tt),
+      none_forged (after start ((beat 0, ample) ∷ [])) _ refl after_beat,
+      (none_forged (after start ((beat 0, ample) ∷ (relay 0 1, ample) ∷ [])) _ refl after_vote, tt),
     ),
   );
   no_collision = λ a b ka kb. two_apart a b (run_core a ka) (run_core b kb);

@@ -1,18 +1,18 @@
 -- One replica, step by step: it takes a request and four proposals, and executes the first block.
-use Rattle.std.specs.Prelude.{◌≡◌, ◌++◌, List, [], ◌∷◌, map, length, Option, Some, None, codes}
+use Rattle.std.specs.Prelude.{ℕ, ◌≡◌, ◌++◌, List, [], ◌∷◌, map, length, Option, Some, None, codes}
 use Rattle.ids.specs.declared.fault.Fault.{Fault}
 use Rattle.ids.specs.declared.fault.Fault.TheVariants as fault
 use Rattle.ids.specs.declared.kind.Kind.TheVariants as kind
 use Rattle.ids.specs.Sizes.{client_party}
 use Rattle.definitions.specs.Bytes.{Bytes}
 use Rattle.definitions.specs.Requests.{crlf}
-use Rattle.definitions.specs.Frames.{Command, Certificate, command_content}
+use Rattle.definitions.specs.Frames.{Command, Core, Certificate, command_content}
 use Rattle.definitions.specs.Keyrings.{vector_for}
 use Rattle.definitions.specs.Branches.{Branch, just1}
 use Rattle.definitions.specs.Digests.{digest_of, core_of}
 use Rattle.definitions.specs.Histories.{answers}
 use Rattle.definitions.specs.Chronicles.{Chronicle, voted, tree, lock, executed, history}
-use Rattle.definitions.specs.Checks.{Identity}
+use Rattle.definitions.specs.Checks.{Identity, findings}
 use Rattle.definitions.specs.States.{pending, qc_high}
 use Rattle.definitions.specs.Rulings.{Input, proposal_in, request_in}
 use Rattle.definitions.specs.Replicas.{Replica, Reaction, fails, asks_for, sends_out, running, ample, step}
@@ -64,9 +64,13 @@ fourth = record { commands = []; justify = 3 } ∷ third
 abbrev pub certificate_for : Branch → Certificate
 certificate_for b = record { digest = digest_of (just1 b); votes = [] }
 
--- its proposal in view 0
+-- the proposal of a core with a certificate, as the replica found it
+abbrev pub proposal_of : ℕ → Core → Certificate → Input
+proposal_of view core q = proposal_in view core q (findings self core q)
+
+-- a block's proposal in view 0
 abbrev pub proposes : Branch → Input
-proposes b = proposal_in 0 (core_of b) (certificate_for b)
+proposes b = proposal_of 0 (core_of b) (certificate_for b)
 
 -- the replica after the request and the first three proposals, and after the fourth
 abbrev pub before : Chronicle
@@ -107,18 +111,18 @@ Orphan = answer_to (proposes second) [] ≡ Some fault.UnknownParent
 
 -- a block of another height than its parent's and one
 abbrev pub Gap : Type 0
-Gap = answer_to (proposal_in 0 (record (core_of first) { height = 2 }) (certificate_for first)) [] ≡ Some fault.BadHeight
+Gap = answer_to (proposal_of 0 (record (core_of first) { height = 2 }) (certificate_for first)) [] ≡ Some fault.BadHeight
 
 -- a block with the certificate of another block than the one that it justifies
 abbrev pub OtherJustified : Type 0
-OtherJustified = answer_to (proposal_in 0 (core_of first) (record { digest = digest_of first; votes = [] })) [] ≡ Some fault.WrongJustify
+OtherJustified = answer_to (proposal_of 0 (core_of first) (record { digest = digest_of first; votes = [] })) [] ≡ Some fault.WrongJustify
 
 -- a known block is refused for its certificate alone
 abbrev pub KnownBlock : Type 0
 KnownBlock = (answer_to (proposes first) before ≡ None)
-    × (answer_to (proposal_in 0 (core_of first) (certificate_for second)) before ≡ Some fault.WrongJustify)
+    × (answer_to (proposal_of 0 (core_of first) (certificate_for second)) before ≡ Some fault.WrongJustify)
 
 -- a proposal of another view gets no vote, and its block is taken
 abbrev pub OtherView : Type 0
-OtherView = let c = (step self ample (proposal_in 4 (core_of first) (certificate_for first)) (stands_at [])).0.chronicle in
+OtherView = let c = (step self ample (proposal_of 4 (core_of first) (certificate_for first)) (stands_at [])).0.chronicle in
     (length (voted c) ≡ 0) × (length (tree c) ≡ 2)

@@ -1,5 +1,5 @@
 -- A small run with real digests and tags: a leader proposes, another replica votes.
-use Rattle.std.specs.Prelude.{◌≡◌, ℕ, ◌++◌, false, List, [], ◌∷◌, min, max, map, length, Some, None, Ok}
+use Rattle.std.specs.Prelude.{◌≡◌, ℕ, ◌++◌, false, List, [], ◌∷◌, min, max, map, length, None, Ok}
 use Rattle.std.specs.Int.{w16, to_be_bytes}
 use Rattle.ids.specs.Sizes.{Sizes}
 use Rattle.definitions.specs.Frames.{Frame, Certificate, genesis_core, spelling}
@@ -42,7 +42,7 @@ voted = vote_frame (self_of start 1) block1
 
 -- a beat of replica 0, and what it sends is brought to replica 1, twice
 abbrev pub schedule : List Happening
-schedule = (beat 0, ample) ∷ (relay 0 1 (Some proposed), ample) ∷ (relay 0 1 (Some proposed), ample) ∷ []
+schedule = (beat 0, ample) ∷ (relay 0 1, ample) ∷ (relay 0 1, ample) ∷ []
 
 -- the run takes it whole
 abbrev pub IsTakenWhole : Type 0

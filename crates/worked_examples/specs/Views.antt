@@ -1,7 +1,7 @@
 -- The view of a replica that hears of greater ones.
 use Rattle.std.specs.Prelude.{◌≡◌, ℕ, ◌-◌, ◌^◌, [], ◌∷◌}
 use Rattle.ids.specs.Sizes.{Sizes}
-use Rattle.definitions.specs.Chronicles.{Step, Step.got_new_view, Step.timed_out}
+use Rattle.definitions.specs.Chronicles.{Step, Step.noted, Note.got_new_view, Note.timed_out}
 use Rattle.definitions.specs.States.{view}
 
 -- four replicas
@@ -10,7 +10,7 @@ four = record { faults = 1; clients = 1 }
 
 -- a replica announced this view
 abbrev pub announces : ℕ → ℕ → Step
-announces replica view = got_new_view view replica (record { digest = []; votes = [] }) []
+announces replica view = noted (got_new_view view replica (record { digest = []; votes = [] }) [])
 
 -- replica 2 announced view 3: one replica alone moves nobody
 abbrev pub OneAlone : Type 0
@@ -26,8 +26,8 @@ Lower = view four (announces 2 1 ∷ announces 3 5 ∷ announces 2 3 ∷ []) ≡
 
 -- a timeout adds one
 abbrev pub TimesOut : Type 0
-TimesOut = view four (timed_out ∷ announces 3 5 ∷ announces 2 3 ∷ []) ≡ 4
+TimesOut = view four (noted timed_out ∷ announces 3 5 ∷ announces 2 3 ∷ []) ≡ 4
 
 -- the greatest view stays
 abbrev pub StaysGreatest : Type 0
-StaysGreatest = view four (timed_out ∷ announces 3 (2 ^ 64 - 1) ∷ announces 2 (2 ^ 64 - 1) ∷ []) ≡ 2 ^ 64 - 1
+StaysGreatest = view four (noted timed_out ∷ announces 3 (2 ^ 64 - 1) ∷ announces 2 (2 ^ 64 - 1) ∷ []) ≡ 2 ^ 64 - 1

@@ -1,5 +1,5 @@
 -- The lemma of this name.
-use Rattle.linear_law.proofs.Final.{every-run-linear}
+use Rattle.linear_law.proofs.WholeRuns.{every-run-linear}
 use Rattle.linear_law.proofs.every_run_is_linear.Goals as goal
 
 pub returns : goal.returns

@@ -1,5 +1,5 @@
 -- The lemma of this name.
-use Rattle.linear_law.proofs.FramedRuns.{made-are-certificates}
+use Rattle.linear_law.proofs.WholeRuns.{made-are-certificates}
 use Rattle.linear_law.proofs.made_certificates_are_certificates.Goals as goal
 
 pub returns : goal.returns

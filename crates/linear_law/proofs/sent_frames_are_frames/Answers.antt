@@ -1,5 +1,5 @@
 -- The lemma of this name.
-use Rattle.linear_law.proofs.FramedRuns.{sent-are-frames}
+use Rattle.linear_law.proofs.WholeRuns.{sent-are-frames}
 use Rattle.linear_law.proofs.sent_frames_are_frames.Goals as goal
 
 pub returns : goal.returns

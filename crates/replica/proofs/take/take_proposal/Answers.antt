@@ -2,15 +2,13 @@ use Rattle.std.proofs.Common.{◌≡◌, ◌⊎◌, ◌≤◌, Bool, true, false
 use Rattle.std.specs.Result.{is_err}
 use Rattle.ids.specs.declared.fault.Fault.{Fault}
 use Rattle.std.proofs.lemmas.Bool.{lt-ltb, le-ltb}
-use Rattle.definitions.specs.Keyrings.{Keys}
-use Rattle.definitions.specs.Checks.{identity_of, is_clear_core}
 use Rattle.frames_view.specs.Fields.{frame_view, frame_core, frame_certificate}
 use Rattle.frames_view.specs.Views.{proposal_of}
 use Rattle.frames_view.specs.declared.frame_views.ProposalView.{ProposalView}
 use Rattle.definitions.specs.Rulings.{admitted}
 use Rattle.replica.specs.Steps.{Sent}
 use Rattle.replica.specs.declared.state.State.{State}
-use Rattle.replica.specs.Inputs.{proposal_input}
+use Rattle.replica.specs.Inputs.{found_of, proposal_input}
 use Rattle.replica.specs.StepsTo.{StepsTo}
 use Rattle.replica.proofs.Steps.{err-is, state-resized}
 use Rattle.replica.proofs.Proposals.{checked-proposal, inserted-as, taken-ends, refused-ends}
@@ -24,8 +22,8 @@ returns-in_err-digest c c' o =
     let i = inserted-as c.args.keyring.now c' c.args.state.now.tree c.insert.new.self (frame_core (proposal_of v)) _ (frame_certificate (proposal_of v)) _ c.is_clear.result (Err c.in_err-digest.field-0.0) core certificate o.its_tree c.in_err-digest.ensures in
     let r = err-is c.from_residual.result c.in_err-digest.field-0.0 c.from_residual.ensures.0 c.from_residual.ensures.1 in
     let last : State = record { alloc = c.args.state.now.alloc; tree = c.insert.new.self; records = c.args.state.now.records; view = c.args.state.now.view; own = c.args.state.now.own } in
-    subst (λ (x : Result (List Sent) Fault). StepsTo c.args.keyring.now (proposal_input v) c' x last) (sym r)
-    (refused-ends c.args.keyring.now c' (frame_view (proposal_of v)) (frame_core (proposal_of v)) (frame_certificate (proposal_of v)) c.is_clear.result c.args.state.now.tree c.insert.new.self c.in_err-digest.field-0.0 last i
+    subst (λ (x : Result (List Sent) Fault). StepsTo c.args.keyring.now (proposal_input c.args.proposal.now) c' x last) (sym r)
+    (refused-ends c.args.keyring.now c' (frame_view (proposal_of v)) (frame_core (proposal_of v)) (frame_certificate (proposal_of v)) (found_of c.args.proposal.now) c.is_clear.result c.args.state.now.tree c.insert.new.self c.in_err-digest.field-0.0 last i
     (λ t. state-resized c.args.keyring.now c' c.args.state.now last o o.its_records t refl refl))
 
 pub returns-then-new : goal.returns-then-new
@@ -38,11 +36,11 @@ returns-then-new c c' o =
     let s : State = record { alloc = c.args.state.now.alloc; tree = c.insert.new.self; records = c.args.state.now.records; view = c.args.state.now.view; own = c.args.state.now.own } in
     let left : State = c.admit-result.new.state in
     let last : State = record { alloc = left.alloc; tree = c.remove_newest.new.self; records = left.records; view = left.view; own = left.own } in
-    taken-ends c.args.keyring.now c' (frame_view (proposal_of v)) (frame_core (proposal_of v)) (frame_certificate (proposal_of v)) c.is_clear.result c.args.state.now s last c.in_ok-digest.digest (nat_lt c.len-before.result c.len.result) c.votes_for-voted.result c.admit-result.result
+    taken-ends c.args.keyring.now c' (frame_view (proposal_of v)) (frame_core (proposal_of v)) (frame_certificate (proposal_of v)) (found_of c.args.proposal.now) c.is_clear.result c.args.state.now s last c.in_ok-digest.digest (nat_lt c.len-before.result c.len.result) c.votes_for-voted.result c.admit-result.result
     (record {
       before = o;
-      checked = checked-proposal c.args.proposal.now.keys c.args.keyring.now v c.requires.keys c.view.ensures.fits c.view.ensures.passed;
-      its_clear = c.is_clear.ensures ∙ ap (λ (k : Keys). is_clear_core (identity_of k) (frame_core (proposal_of v))) c.requires.keys;
+      checked = checked-proposal c.args.proposal.now c.args.keyring.now.sizes c.requires.sizes c.view.ensures.fits c.view.ensures.passed;
+      its_clear = c.is_clear.ensures;
       inserted = i;
       records = refl;
       its_view = refl;
@@ -68,11 +66,11 @@ returns-else-is_err c c' o =
     let i = inserted-as c.args.keyring.now c' c.args.state.now.tree c.insert.new.self (frame_core (proposal_of v)) _ (frame_certificate (proposal_of v)) _ c.is_clear.result (Ok c.in_ok-digest.digest) core certificate o.its_tree c.in_ok-digest.ensures in
     let s : State = record { alloc = c.args.state.now.alloc; tree = c.insert.new.self; records = c.args.state.now.records; view = c.args.state.now.view; own = c.args.state.now.own } in
     let left : State = c.admit-result.new.state in
-    taken-ends c.args.keyring.now c' (frame_view (proposal_of v)) (frame_core (proposal_of v)) (frame_certificate (proposal_of v)) c.is_clear.result c.args.state.now s left c.in_ok-digest.digest (nat_lt c.len-before.result c.len.result) c.votes_for-voted.result c.admit-result.result
+    taken-ends c.args.keyring.now c' (frame_view (proposal_of v)) (frame_core (proposal_of v)) (frame_certificate (proposal_of v)) (found_of c.args.proposal.now) c.is_clear.result c.args.state.now s left c.in_ok-digest.digest (nat_lt c.len-before.result c.len.result) c.votes_for-voted.result c.admit-result.result
     (record {
       before = o;
-      checked = checked-proposal c.args.proposal.now.keys c.args.keyring.now v c.requires.keys c.view.ensures.fits c.view.ensures.passed;
-      its_clear = c.is_clear.ensures ∙ ap (λ (k : Keys). is_clear_core (identity_of k) (frame_core (proposal_of v))) c.requires.keys;
+      checked = checked-proposal c.args.proposal.now c.args.keyring.now.sizes c.requires.sizes c.view.ensures.fits c.view.ensures.passed;
+      its_clear = c.is_clear.ensures;
       inserted = i;
       records = refl;
       its_view = refl;
