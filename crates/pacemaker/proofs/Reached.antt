@@ -9,7 +9,7 @@ use Rattle.ids.specs.Sizes.{Sizes, replicas}
 use Rattle.definitions.specs.Lists.{Among, greatest, count_below}
 use Rattle.definitions.specs.Frames.{Certificate}
 use Rattle.definitions.specs.Branches.{Branch}
-use Rattle.definitions.specs.Chronicles.{Chronicle, Step.got_new_view, Step.timed_out}
+use Rattle.definitions.specs.Chronicles.{Chronicle, Step.noted, Note.got_new_view, Note.timed_out}
 use Rattle.definitions.specs.States.{announcements, announced, reached, view}
 use Rattle.definitions.proofs.Lists.{greatest-above, Among-map, Among-mapped, Among-kept}
 use Rattle.definitions.proofs.Counts.{count-same}
@@ -87,14 +87,14 @@ next_step false x xs = refl
 
 -- the last announcement counts where it is the greater one
 pub announced-next : (i view sender : ℕ) (q : Certificate) (b : Branch) (c : Chronicle) →
-    announced i (got_new_view view sender q b ∷ c) ≡ cond (sender == i) (max view (announced i c)) (announced i c)
+    announced i (noted (got_new_view view sender q b) ∷ c) ≡ cond (sender == i) (max view (announced i c)) (announced i c)
 unfolding announced announcements
 announced-next i view sender q b c = next_step (sender == i) (sender, view) (filter (λ p. p.0 == i) (announcements c))
 
 -- the row after an announcement is that of the chronicle with it
-pub noted : (p : Pace) (c : Chronicle) (v sender : ℕ) (q : Certificate) (b : Branch) → IsPaceOf c p → sender < replicas p.sizes → replicas p.sizes ≤ MOST_REPLICAS →
-    (i : ℕ) → i < replicas p.sizes → slice_index (slice_set p.announced sender (max v (slice_index p.announced sender))) i ≡ announced i (got_new_view v sender q b ∷ c)
-noted p c v sender q b o l most i below =
+pub row_next : (p : Pace) (c : Chronicle) (v sender : ℕ) (q : Certificate) (b : Branch) → IsPaceOf c p → sender < replicas p.sizes → replicas p.sizes ≤ MOST_REPLICAS →
+    (i : ℕ) → i < replicas p.sizes → slice_index (slice_set p.announced sender (max v (slice_index p.announced sender))) i ≡ announced i (noted (got_new_view v sender q b) ∷ c)
+row_next p c v sender q b o l most i below =
     let new = max v (slice_index p.announced sender) in
     elim (eqb_tells sender i) [
       | inl (same, is) ↦
@@ -107,27 +107,27 @@ noted p c v sender q b o l most i below =
           ∙ sym (announced-next i v sender q b c ∙ ap (λ (t : Bool). cond t (max v (announced i c)) (announced i c)) other)
     ]
 
-view-next : (s : Sizes) (v sender : ℕ) (q : Certificate) (b : Branch) (c : Chronicle) → view s (got_new_view v sender q b ∷ c) ≡ max (view s c) (reached s (got_new_view v sender q b ∷ c))
+view-next : (s : Sizes) (v sender : ℕ) (q : Certificate) (b : Branch) (c : Chronicle) → view s (noted (got_new_view v sender q b) ∷ c) ≡ max (view s c) (reached s (noted (got_new_view v sender q b) ∷ c))
 unfolding view
 view-next s v sender q b c = refl
 
-view-later : (s : Sizes) (c : Chronicle) → view s (timed_out ∷ c) ≡ min (suc (view s c)) (2 ^ 64 - 1)
+view-later : (s : Sizes) (c : Chronicle) → view s (noted timed_out ∷ c) ≡ min (suc (view s c)) (2 ^ 64 - 1)
 unfolding view
 view-later s c = refl
 
-announced-later : (i : ℕ) (c : Chronicle) → announced i (timed_out ∷ c) ≡ announced i c
+announced-later : (i : ℕ) (c : Chronicle) → announced i (noted timed_out ∷ c) ≡ announced i c
 unfolding announced announcements
 announced-later i c = refl
 
 -- the pace after a timeout
-pub paced-later : (p new : Pace) (c : Chronicle) → IsPaceOf c p → new ≡ record p { view = min (suc p.view) (2 ^ 64 - 1) } → IsPaceOf (timed_out ∷ c) new
+pub paced-later : (p new : Pace) (c : Chronicle) → IsPaceOf c p → new ≡ record p { view = min (suc p.view) (2 ^ 64 - 1) } → IsPaceOf (noted timed_out ∷ c) new
 paced-later p new c o e =
-    let is : IsPaceOf (timed_out ∷ c) (record p { view = min (suc p.view) (2 ^ 64 - 1) }) = record {
+    let is : IsPaceOf (noted timed_out ∷ c) (record p { view = min (suc p.view) (2 ^ 64 - 1) }) = record {
       row = o.row;
       view = ap (λ (w : ℕ). min (suc w) (2 ^ 64 - 1)) o.view ∙ sym (view-later p.sizes c);
       announced = λ i l. o.announced i l ∙ sym (announced-later i c);
     } in
-    subst (λ (x : Pace). IsPaceOf (timed_out ∷ c) x) (sym e) is
+    subst (λ (x : Pace). IsPaceOf (noted timed_out ∷ c) x) (sym e) is
 
 -- the pace with what a replica announced
 abbrev pub with_announced : Pace → ℕ → ℕ → Pace
@@ -136,18 +136,18 @@ with_announced p v sender = record p { announced = slice_set p.announced sender 
 -- the pace after an announcement, where the view became the greater one of the old view and the one that is reached
 pub paced-next : (p n new : Pace) (c : Chronicle) (v sender w r : ℕ) (q : Certificate) (b : Branch) → IsPaceOf c p → sender < replicas p.sizes → replicas p.sizes ≤ MOST_REPLICAS →
     n ≡ with_announced p v sender → IsReached n r → new ≡ record n { view = w } → w ≡ max n.view r →
-    IsPaceOf (got_new_view v sender q b ∷ c) new
+    IsPaceOf (noted (got_new_view v sender q b) ∷ c) new
 paced-next p n new c v sender w r q b o l most noted_is reached new_is e =
     let m = with_announced p v sender in
     let reached' : IsReached m r = subst (λ (x : Pace). IsReached x r) noted_is reached in
-    let is = reached-is (got_new_view v sender q b ∷ c) m r (noted p c v sender q b o l most) reached' in
+    let is = reached-is (noted (got_new_view v sender q b) ∷ c) m r (row_next p c v sender q b o l most) reached' in
     let e' : w ≡ max p.view r = e ∙ ap (λ (x : Pace). max x.view r) noted_is in
-    let whole : IsPaceOf (got_new_view v sender q b ∷ c) (record m { view = w }) = record {
+    let whole : IsPaceOf (noted (got_new_view v sender q b) ∷ c) (record m { view = w }) = record {
       row = length-set p.announced sender (max v (slice_index p.announced sender)) ∙ o.row;
       view = e' ∙ ap (λ (x : ℕ). max x r) o.view ∙ ap (max (view p.sizes c)) (sym is) ∙ sym (view-next p.sizes v sender q b c);
-      announced = noted p c v sender q b o l most;
+      announced = row_next p c v sender q b o l most;
     } in
-    subst (λ (x : Pace). IsPaceOf (got_new_view v sender q b ∷ c) x) (sym (new_is ∙ ap (λ (x : Pace). record x { view = w }) noted_is)) whole
+    subst (λ (x : Pace). IsPaceOf (noted (got_new_view v sender q b) ∷ c) x) (sym (new_is ∙ ap (λ (x : Pace). record x { view = w }) noted_is)) whole
 
 announced-none : (i : ℕ) → announced i [] ≡ 0
 unfolding announced announcements greatest

@@ -2,7 +2,7 @@ ghost use Rattle.std.specs.Prelude.{◌≡◌, ◌↔◌, ◌<◌, ◌∷◌, []
 ghost use Rattle.ids.specs.Sizes.{replicas, leader};
 ghost use Rattle.definitions.specs.Frames.{Certificate};
 ghost use Rattle.definitions.specs.Branches.{Branch};
-ghost use Rattle.definitions.specs.Chronicles.{Chronicle, Step.got_new_view, Step.timed_out};
+ghost use Rattle.definitions.specs.Chronicles.{Chronicle, Step.noted, Note.got_new_view, Note.timed_out};
 ghost use Rattle.pacemaker.specs.Pacing.{IsPaceOf, IsReached, passed_by};
 
 use ids::{Config, MOST_REPLICAS, ReplicaId, View};
@@ -56,7 +56,7 @@ impl Pacemaker {
     /// Goes on to the next view. At the greatest one, 2^64 - 1, nothing changes.
     pub fn timeout(&mut self)
         ensures sizes { self.new.sizes ≡ self.old.sizes }
-        ensures paced { (c : Chronicle) → IsPaceOf c self.old → IsPaceOf (timed_out ∷ c) self.new }
+        ensures paced { (c : Chronicle) → IsPaceOf c self.old → IsPaceOf (noted timed_out ∷ c) self.new }
     {
         let next = self.view.saturating_add(1);
         self.go_to(next);
@@ -67,7 +67,7 @@ impl Pacemaker {
     pub fn on_new_view(&mut self, sender: ReplicaId, view: View) -> bool
         requires { sender < replicas self.old.sizes }
         ensures sizes { self.new.sizes ≡ self.old.sizes }
-        ensures paced { (c : Chronicle) (q : Certificate) (b : Branch) → IsPaceOf c self.old → IsPaceOf (got_new_view view sender q b ∷ c) self.new }
+        ensures paced { (c : Chronicle) (q : Certificate) (b : Branch) → IsPaceOf c self.old → IsPaceOf (noted (got_new_view view sender q b) ∷ c) self.new }
         ensures moved { IsTrue result ↔ (self.old.view < self.new.view) }
     {
         let _n = self.config.n();

@@ -15,7 +15,6 @@ ghost use Rattle.replica.specs.State.{AreRecordsOf, IsOwn, IsStateOf};
 ghost use Rattle.replica.specs.StepsTo.{StepsTo};
 ghost use Rattle.replica.specs.Beats.{IsChild};
 
-use crate::frames::proposal_frame;
 use crate::out::{Out, To};
 use crate::state::{OwnProposal, Records, State};
 use crate::stored::StoredStep;
@@ -24,6 +23,7 @@ use frames_view::write_core;
 use ids::{Digest, Fault, Height, View};
 use replica_rules::Mark;
 use sha2::Sha256;
+use signed_frames::proposal_frame;
 use std::alloc::Global;
 
 /// A block to be proposed, with its proposal.

@@ -2,7 +2,6 @@
 #![tactic(auto)]
 
 mod beat;
-mod frames;
 mod input;
 mod out;
 mod replica;

@@ -15,7 +15,6 @@ ghost use Rattle.replica.specs.State.{IsStateOf};
 ghost use Rattle.replica.specs.StepsTo.{StepsTo};
 ghost use Rattle.replica.specs.Inputs.{proposed_core, proposed_certificate, found_of, proposal_input};
 
-use crate::frames::vote_frame;
 use crate::out::{Out, To};
 use crate::state::{High, Records, State};
 use crate::stored::{StoredStep, TookBlock};
@@ -25,6 +24,7 @@ use certificates::Checked;
 use frames_view::{CertificateBuf, CoreBuf, ProposalView};
 use ids::{Digest, Fault, View};
 use replica_rules::{Mark, Rules};
+use signed_frames::vote_frame;
 use std::alloc::Global;
 
 /// What was found of a proposed block.
