@@ -4,9 +4,9 @@ ghost use Rattle.std.specs.Prelude.{◌≡◌, ◌<◌};
 ghost use Rattle.ids.specs.Sizes.{replicas};
 ghost use Rattle.definitions.specs.FrameLimits.{IsFrame};
 ghost use Rattle.definitions.specs.Checks.{identity_of};
-ghost use Rattle.definitions.specs.Admission.{own_tag_verifies, check};
+ghost use Rattle.definitions.specs.Admission.{own_tag_verifies, check, is_passed};
 ghost use Rattle.frames_view.specs.Views.{proposal_of};
-ghost use Rattle.certificates.specs.Outcomes.{is_passed, IsGivenIf};
+ghost use Rattle.certificates.specs.Outcomes.{IsGivenIf};
 
 use crate::certificate::good_voters;
 use crate::checked::{Authenticated, CarriesBlock, Certified, Checked};
@@ -17,10 +17,9 @@ use ids::{Config, Fault, Kind, PartyId};
 
 impl<'a> Authenticated for ProposalView<'a> {
     ghost use Rattle.definitions.specs.FrameLimits.{IsFrame};
-    ghost use Rattle.definitions.specs.Admission.{check};
+    ghost use Rattle.definitions.specs.Admission.{check, is_passed};
     ghost use Rattle.frames_view.specs.Fields.{frame_certificate, frame_core};
     ghost use Rattle.frames_view.specs.Views.{proposal_of};
-    ghost use Rattle.certificates.specs.Outcomes.{is_passed};
 
     ghost fits = { λ sizes f. IsFrame sizes (proposal_of f) };
 

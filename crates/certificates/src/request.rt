@@ -5,9 +5,9 @@ ghost use Rattle.ids.specs.Sizes.{replicas};
 ghost use Rattle.definitions.specs.Frames.{request};
 ghost use Rattle.definitions.specs.FrameLimits.{IsCommand};
 ghost use Rattle.definitions.specs.Checks.{identity_of};
-ghost use Rattle.definitions.specs.Admission.{check};
+ghost use Rattle.definitions.specs.Admission.{check, is_passed};
 ghost use Rattle.frames_view.specs.Views.{command_of};
-ghost use Rattle.certificates.specs.Outcomes.{is_passed, IsGivenIf};
+ghost use Rattle.certificates.specs.Outcomes.{IsGivenIf};
 
 use crate::checked::{Authenticated, Checked};
 use crate::commands::command_verifies;
@@ -18,11 +18,10 @@ use ids::{Config, Fault};
 
 impl<'a> Authenticated for CommandView<'a> {
     ghost use Rattle.definitions.specs.FrameLimits.{IsFrame};
-    ghost use Rattle.definitions.specs.Admission.{check};
+    ghost use Rattle.definitions.specs.Admission.{check, is_passed};
     ghost use Rattle.frames_view.specs.Fields.{frame_certificate, frame_core};
     ghost use Rattle.frames_view.specs.Views.{command_of};
     ghost use Rattle.definitions.specs.Frames.{request};
-    ghost use Rattle.certificates.specs.Outcomes.{is_passed};
 
     ghost fits = { λ sizes f. IsFrame sizes (request (command_of f)) };
 

@@ -17,8 +17,8 @@ use Rattle.definitions.specs.Trees.{block_of, is_clear, clear_above, most_blocks
 use Rattle.definitions.proofs.Trees.{same_bytes, found-in, unfit-calm, IsPlaced, placed, tree-below, growth-tree, growth-new, grown-heights}
 use Rattle.definitions.specs.Chronicles.{Admitted, Step, Step.took_block, Step.noted, Note.got_vote, Note.got_new_view, Note.got_request, Note.timed_out, Note.beat, Chronicle, taken, stored, stored_of, tree, lock, history, may_vote, IsLawfulVote, IsLawfulStep, IsSound}
 use Rattle.definitions.specs.Checks.{Identity, Findings, is_genesis}
-use Rattle.definitions.specs.States.{is_due, pending, is_same_request}
-use Rattle.definitions.specs.Rulings.{Input, Input.proposal_in, Input.block_in, Input.vote_in, Input.new_view_in, Input.request_in, Input.fetch_in, Input.timeout_in, Input.beat_in, Ruling, Ruling.due, Ruling.missing, Ruling.refusing, find_block, admitted, votes_for, take_block, on_placing, on_block, on_request, conflicts, with_block, ruling}
+use Rattle.definitions.specs.States.{find_block, is_due, pending, is_same_request}
+use Rattle.definitions.specs.Rulings.{Input, Input.proposal_in, Input.block_in, Input.vote_in, Input.new_view_in, Input.request_in, Input.fetch_in, Input.timeout_in, Input.beat_in, Ruling, Ruling.due, Ruling.missing, Ruling.refusing, admitted, votes_for, take_block, on_placing, on_block, on_request, conflicts, with_block, ruling}
 use Rattle.definitions.specs.Sendings.{sendings}
 use Rattle.definitions.specs.Replicas.{on_ruling, on_step, step, Memory, Memory.ample, Memory.refused_at_once, Memory.refused_after, Replica, Standing, Standing.running, Standing.stopped, Standing.cut_short, Reaction, Reaction.fails, Reaction.sends_out, Reaction.asks_for, stopped_at, stops, executes}
 

@@ -1,7 +1,7 @@
 -- Which frames a replica admits, and as what input.
 use Rattle.ids.specs.declared.fault.Fault.{Fault}
 use Rattle.ids.specs.declared.fault.Fault.TheVariants as fault
-use Rattle.std.specs.Prelude.{◌&&◌, Bool, if◌then◌else◌}
+use Rattle.std.specs.Prelude.{◌&&◌, Bool, true, false, if◌then◌else◌}
 use Rattle.definitions.specs.Frames.{Frame, kind_of, sender_of, content_of, own_tag}
 use Rattle.definitions.specs.Frames as frame
 use Rattle.definitions.specs.Keyrings.{verify}
@@ -12,6 +12,11 @@ use Rattle.definitions.specs.Rulings.{Input, Input.proposal_in, Input.block_in, 
 pub data Checked : Type 0 where
   passes : Input → Checked
   rejected : Fault → Checked
+
+-- the checks passed
+abbrev pub is_passed : Checked → Bool
+is_passed (passes i) = true
+is_passed (rejected n) = false
 
 -- the frame's own tag for this replica verifies
 abbrev pub own_tag_verifies : Identity → Frame → Bool

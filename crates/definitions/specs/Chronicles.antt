@@ -1,6 +1,6 @@
 -- The chronicle of a replica: the steps that stand, newest first. Here is what it says of blocks: votes, lock,
 -- decisions, and its law (HotStuff, PODC 2019, the safety rules, with this project's clear blocks).
-use Rattle.std.specs.Prelude.{ℕ, suc, ◌≡◌, ◌<◌, ◌≤◌, ◌==◌, ◌⊎◌, ◌&&◌, ◌||◌, Bool, true, List, [], ◌∷◌, ◌++◌, map, length, if◌then◌else◌, nat_lt, Option, ⊤}
+use Rattle.std.specs.Prelude.{ℕ, suc, ◌≡◌, ◌<◌, ◌≤◌, ◌==◌, ◌⊎◌, ◌&&◌, ◌||◌, not, Bool, true, List, [], ◌∷◌, ◌++◌, map, length, if◌then◌else◌, nat_lt, Option, ⊤}
 use Rattle.std.specs.List.{AllByRecursion}
 use Rattle.definitions.specs.Lists.{Among, AreDistinct, greatest}
 use Rattle.definitions.specs.Frames.{Command, Core, Certificate}
@@ -75,6 +75,10 @@ lock c = highest (map (λ a. just2 a.branch) (taken c))
 -- three blocks in direct succession, each justified by the next, decide the first of them (HotStuff, PODC 2019, three-chain)
 unfoldable pub decides : Branch → Bool
 decides x = (length (just2 x) == suc (length (just3 x))) && (length (just1 x) == suc (length (just2 x)))
+
+-- what a block decides, if anything, neither extends the last executed one nor is extended by it
+abbrev pub decides_against : Branch → Branch → Bool
+decides_against last x = decides x && (not (extends (just3 x) last) && not (extends last (just3 x)))
 
 -- what was decided by these blocks
 unfoldable pub decided_by : List Admitted → List Branch

@@ -1,10 +1,11 @@
 -- One event of a run: what it does to the party that it names.
 use Rattle.ids.specs.declared.fault.Fault.{Fault}
 use Rattle.ids.specs.declared.fault.Fault.TheVariants as fault
-use Rattle.std.specs.Prelude.{ℕ, suc, ◌-◌, ◌==◌, ◌&&◌, not, List, [], ◌∷◌, ◌++◌, map, if◌then◌else◌, Option, Some, None, slice_get, option_map}
+use Rattle.std.specs.Prelude.{ℕ, suc, ◌==◌, ◌&&◌, not, List, [], ◌∷◌, ◌++◌, map, if◌then◌else◌, Option, Some, None, slice_get, option_map}
 use Rattle.definitions.specs.Frames.{Frame}
 use Rattle.definitions.specs.Bytes.{Bytes}
 use Rattle.ids.specs.Sizes.{client_party}
+use Rattle.definitions.specs.Keyrings.{client_at}
 use Rattle.definitions.specs.Checks.{Identity}
 use Rattle.definitions.specs.Rulings.{Input, Input.timeout_in, Input.beat_in}
 use Rattle.definitions.specs.Sendings.{To.to_all, To.to_party, Sending, fetch_frame}
@@ -99,7 +100,7 @@ submits c m payload w = submitted w c (submission (client_of w c) m payload (w.s
 -- a frame comes to a correct party
 unfoldable pub comes : ℕ → Memory → Option Frame → World → Effect
 comes p m None w = nothing w (Some fault.NotAFrame)
-comes p m (Some f) w = if is_replica w p then on_checked p m (check (self_of w p) f) w else hears (p - 256) m f w
+comes p m (Some f) w = if is_replica w p then on_checked p m (check (self_of w p) f) w else hears (client_at p) m f w
 
 -- the party that an event names
 unfoldable pub party_of : Event → ℕ
@@ -133,7 +134,7 @@ effect w h = if w.is_faulty (party_of h.0) then nothing w None else acts w h.0 h
 
 -- the client of an event
 abbrev pub client_number : Event → ℕ
-client_number e = party_of e - 256
+client_number e = client_at (party_of e)
 
 -- the world after an event
 unfoldable pub happens : World → Happening → World

@@ -43,6 +43,14 @@ is_replica_of sizes party = nat_lt party (replicas sizes)
 abbrev pub is_client_of : Sizes → ℕ → Bool
 is_client_of sizes party = nat_le (client_party 0) party && nat_lt party (client_party sizes.clients)
 
+-- there is such a party
+abbrev pub is_party_of : Sizes → ℕ → Bool
+is_party_of sizes party = is_replica_of sizes party || is_client_of sizes party
+
+-- the number of the client that a party is
+abbrev pub client_at : ℕ → ℕ
+client_at party = party - client_party 0
+
 -- how many keys a party has
 abbrev pub keys_due : Sizes → ℕ → ℕ
 keys_due sizes party = if is_replica_of sizes party then replicas sizes + sizes.clients else replicas sizes
@@ -53,7 +61,7 @@ is_peer ring party = is_replica_of ring.sizes party || (is_replica_of ring.sizes
 
 -- the place of a party among them
 abbrev pub place_of : Sizes → ℕ → ℕ
-place_of sizes party = if nat_lt party (client_party 0) then party else replicas sizes + (party - client_party 0)
+place_of sizes party = if nat_lt party (client_party 0) then party else replicas sizes + client_at party
 
 -- the keyring that they are
 abbrev pub keyring_of : Keys → Keyring

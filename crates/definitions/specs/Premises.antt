@@ -1,7 +1,7 @@
 -- What is assumed of a run: injected bytes are read rightly, no tag is forged, and which cores must not collide.
 use Rattle.ids.specs.declared.kind.Kind.{Kind}
 use Rattle.ids.specs.declared.kind.Kind.TheVariants as kind
-use Rattle.std.specs.Prelude.{ℕ, ◌≡◌, ◌-◌, ◌==◌, ◌⊎◌, ◌&&◌, not, Bool, true, false, List, [], ◌∷◌, ◌++◌, map, filter, Some, ⊤, ◌≤◌}
+use Rattle.std.specs.Prelude.{ℕ, ◌≡◌, ◌==◌, ◌⊎◌, ◌&&◌, not, Bool, true, false, List, [], ◌∷◌, ◌++◌, map, filter, Some, ⊤, ◌≤◌}
 use Rattle.std.specs.List.{AllByRecursion}
 use Rattle.definitions.specs.Lists.{Among, count_below}
 use Rattle.definitions.specs.Frames.{Command, Vote, Core, Certificate, Frame, kind_of, sender_of, content_of, own_tag, genesis_core, command_content, reply_content}
@@ -10,14 +10,14 @@ use Rattle.definitions.specs.Tags.{tag_of}
 use Rattle.definitions.specs.Bytes.{Bytes}
 use Rattle.ids.specs.Sizes.{Sizes, replicas, client_party}
 use Rattle.definitions.specs.Digests.{NoCollision}
-use Rattle.definitions.specs.Keyrings.{verify}
+use Rattle.definitions.specs.Keyrings.{client_at, verify}
 use Rattle.definitions.specs.Checks.{Identity, vote_verifies, command_verifies}
 use Rattle.definitions.specs.Sendings.{To, To.to_party}
 use Rattle.definitions.specs.Frames as frame
 use Rattle.definitions.specs.Worlds.{Sent, World, Event, inject, Happening, is_replica, is_correct, self_of}
 use Rattle.definitions.specs.Runs.{after}
 use Rattle.definitions.specs.Events.{party_of, brought, happens}
-use Rattle.definitions.specs.Admission.{Checked, check, Checked.passes, Checked.rejected}
+use Rattle.definitions.specs.Admission.{check, is_passed}
 
 -- A tag in a sender's name, for a receiver.
 pub record Claim : Type 0 where
@@ -84,16 +84,11 @@ IsTagOf x s f = (x.label ≡ kind_of f) × (x.content ≡ content_of f) × (x.ta
 abbrev pub WasSent : List Sent → Claim → Type 0
 WasSent sent x = (s : Sent) × Among s sent × (s.sender ≡ x.sender) × IsTagOf x s s.frame
 
--- the checks passed
-abbrev pub is_good_check : Checked → Bool
-is_good_check (passes i) = true
-is_good_check (rejected n) = false
-
 -- whether a correct party admits the frame
 abbrev pub admits : World → ℕ → Frame → Bool
 admits w p (frame.reply replica client seq place text t) =
-    not (is_replica w p) && ((client == (p - 256)) && verify (w.ring p) kind.Reply replica (reply_content replica client seq place text) t)
-admits w p f = is_replica w p && is_good_check (check (self_of w p) f)
+    not (is_replica w p) && ((client == client_at p) && verify (w.ring p) kind.Reply replica (reply_content replica client seq place text) t)
+admits w p f = is_replica w p && is_passed (check (self_of w p) f)
 
 -- injected bytes are read as the frame that they spell, and as none where they spell none
 abbrev pub IsReadIn : Sizes → Event → Type 0

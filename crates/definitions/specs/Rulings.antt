@@ -4,13 +4,13 @@ use Rattle.ids.specs.declared.fault.Fault.TheVariants as fault
 use Rattle.std.specs.Prelude.{ℕ, ◌==◌, ◌&&◌, not, Bool, true, false, ◌∷◌, length, if◌then◌else◌, nat_lt, Option, Some, None}
 use Rattle.std.specs.List.{list_any}
 use Rattle.definitions.specs.Frames.{Command, Core, Vote, Certificate}
-use Rattle.definitions.specs.Branches.{Branch, justify_height, just3, extends}
+use Rattle.definitions.specs.Branches.{Branch, justify_height}
 use Rattle.definitions.specs.Bytes.{Bytes}
 use Rattle.ids.specs.Sizes.{Sizes, leader}
-use Rattle.definitions.specs.Trees.{find_in, Placing, Placing.stands, Placing.grows, Placing.lacks_parent, Placing.unfit, placing, most_blocks, clear_above}
-use Rattle.definitions.specs.Chronicles.{Admitted, Step, Step.took_block, Step.noted, Note.got_vote, Note.got_new_view, Note.got_request, Note.got_fetch, Note.timed_out, Note.beat, Chronicle, stored, tree, decides, executed, history, may_vote}
+use Rattle.definitions.specs.Trees.{Placing, Placing.stands, Placing.grows, Placing.lacks_parent, Placing.unfit, placing, most_blocks, clear_above}
+use Rattle.definitions.specs.Chronicles.{Admitted, Step, Step.took_block, Step.noted, Note.got_vote, Note.got_new_view, Note.got_request, Note.got_fetch, Note.timed_out, Note.beat, Chronicle, stored, tree, decides_against, executed, history, may_vote}
 use Rattle.definitions.specs.Checks.{Identity, Findings}
-use Rattle.definitions.specs.States.{view, is_same_request, is_due, pending}
+use Rattle.definitions.specs.States.{view, find_block, is_same_request, is_due, pending}
 
 -- the most requests that wait
 abbrev pub most_pending : ℕ
@@ -32,10 +32,6 @@ pub data Ruling : Type 0 where
   due : Step → Ruling
   missing : (sender : ℕ) → (block : Bytes) → Ruling
   refusing : Fault → Ruling
-
--- the block of this digest, as its branch
-unfoldable pub find_block : Bytes → Chronicle → Option Branch
-find_block d c = find_in d (tree c)
 
 -- a block and what was found of it, before the vote
 unfoldable pub admitted : Branch → Core → Certificate → Findings → Bool → Admitted
@@ -91,8 +87,7 @@ ruling self (fetch_in sender d) c = due (noted (got_fetch sender (find_block d c
 ruling self timeout_in c = due (noted timed_out)
 ruling self beat_in c = due (noted beat)
 
--- the block that a step decides neither extends the last executed one nor is extended by it
+-- a step takes a block that decides against what was executed
 unfoldable pub conflicts : Step → Chronicle → Bool
-conflicts (took_block a) c =
-    a.new && (decides a.branch && (not (extends (just3 a.branch) (executed c)) && not (extends (executed c) (just3 a.branch))))
+conflicts (took_block a) c = a.new && decides_against (executed c) a.branch
 conflicts s c = false

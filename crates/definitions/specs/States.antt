@@ -1,6 +1,6 @@
 -- The rest of a replica's state, read off its whole chronicle: views, votes, certificates, pending requests, and
 -- what to propose (HotStuff, PODC 2019, the event-driven form; the pacemaker is this project's own).
-use Rattle.std.specs.Prelude.{ℕ, suc, ◌-◌, ◌^◌, ◌==◌, ◌&&◌, not, Bool, List, [], ◌∷◌, ◌++◌, map, filter, take, length, min, max, if◌then◌else◌, nat_lt, nat_le, Option, Some, None}
+use Rattle.std.specs.Prelude.{ℕ, suc, ◌-◌, ◌^◌, ◌==◌, ◌&&◌, not, Bool, List, [], ◌∷◌, ◌++◌, map, filter, take, length, min, max, if◌then◌else◌, nat_lt, nat_le, Option, Some, None, is_some}
 use Rattle.std.specs.List.{list_any}
 use Rattle.std.specs.Str.{bytes_eq}
 use Rattle.definitions.specs.Lists.{greatest, count_below}
@@ -10,6 +10,7 @@ use Rattle.definitions.specs.Branches.{Branch, just1}
 use Rattle.definitions.specs.Bytes.{Bytes}
 use Rattle.ids.specs.Sizes.{Sizes, replicas, quorum, leader}
 use Rattle.definitions.specs.Digests.{digest, digest_of}
+use Rattle.definitions.specs.Trees.{find_in}
 use Rattle.definitions.specs.Histories.{History, last_seq, history_of}
 use Rattle.definitions.specs.Chronicles.{Step, Step.took_block, Step.noted, Note.got_vote, Note.got_new_view, Note.got_request, Note.timed_out, Note.beat, Chronicle, tree, history}
 use Rattle.definitions.specs.Checks.{Identity}
@@ -106,9 +107,13 @@ me self = self.ring.party
 unfoldable pub leads : Identity → Chronicle → Bool
 leads self c = leader self.sizes (view self.sizes c) == me self
 
+-- the block of this digest, as its branch
+unfoldable pub find_block : Bytes → Chronicle → Option Branch
+find_block d c = find_in d (tree c)
+
 -- whether a block of this digest stands in the tree
 unfoldable pub is_known : Bytes → Chronicle → Bool
-is_known d c = list_any (λ b. bytes_eq (digest_of b) d) (tree c)
+is_known d c = is_some (find_block d c)
 
 -- the pending requests that do not stand on the branch, 16 at most
 unfoldable pub picks : Chronicle → Branch → List Command

@@ -1,10 +1,10 @@
 -- Worlds: replicas, clients, what was sent, and every schedule of events.
 use Rattle.ids.specs.declared.fault.Fault.{Fault}
-use Rattle.std.specs.Prelude.{ℕ, ◌==◌, ◌&&◌, ◌||◌, Bool, List, [], if◌then◌else◌, nat_lt, nat_le, Option, not}
+use Rattle.std.specs.Prelude.{ℕ, ◌==◌, ◌&&◌, Bool, List, [], if◌then◌else◌, Option, not}
 use Rattle.definitions.specs.Frames.{Frame}
 use Rattle.definitions.specs.Bytes.{Bytes}
-use Rattle.ids.specs.Sizes.{Sizes, replicas, client_party}
-use Rattle.definitions.specs.Keyrings.{Keyring}
+use Rattle.ids.specs.Sizes.{Sizes, client_party}
+use Rattle.definitions.specs.Keyrings.{Keyring, is_replica_of, is_party_of}
 use Rattle.definitions.specs.Checks.{Identity}
 use Rattle.definitions.specs.Sendings.{To}
 use Rattle.definitions.specs.Replicas.{Memory, Replica, Standing.running}
@@ -66,15 +66,11 @@ new_world sizes is_faulty ring = record {
 
 -- the number is that of a replica
 abbrev pub is_replica : World → ℕ → Bool
-is_replica w p = nat_lt p (replicas w.sizes)
-
--- the number is that of a client
-abbrev pub is_client : World → ℕ → Bool
-is_client w p = nat_le 256 p && nat_lt p (client_party w.sizes.clients)
+is_replica w p = is_replica_of w.sizes p
 
 -- the number is that of a party
 abbrev pub is_party : World → ℕ → Bool
-is_party w p = is_replica w p || is_client w p
+is_party w p = is_party_of w.sizes p
 
 -- a replica that isn't faulty
 abbrev pub is_correct : World → ℕ → Bool

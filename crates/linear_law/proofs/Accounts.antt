@@ -15,7 +15,7 @@ use Rattle.definitions.specs.Lists.{Among}
 use Rattle.definitions.specs.Frames.{Command, Core, Frame, reply_content}
 use Rattle.definitions.specs.Bytes.{Bytes}
 use Rattle.ids.specs.Sizes.{client_party}
-use Rattle.definitions.specs.Keyrings.{verify}
+use Rattle.definitions.specs.Keyrings.{client_at, verify}
 use Rattle.definitions.specs.Chronicles.{Step, Chronicle}
 use Rattle.definitions.specs.Checks.{Identity}
 use Rattle.definitions.specs.States.{view}
@@ -167,7 +167,7 @@ module _ (Known : Core → Type 0) where
     requests = λ o k c h. absurd (outcome-not (self_of w (party_of e)) m (ruling (self_of w (party_of e)) i (chronicles w (party_of e))) (w.replica (party_of e)) _ (step-outcome (self_of w (party_of e)) m i (w.replica (party_of e)) (arises-checked w e i ar) (run.row.sound (party_of e) me)) o k c h);
   }
   effect-sessions w e m f run honest made rs fit ss (hearing g b r ok pa) =
-      let cl : ℕ = party_of e - 256 in
+      let cl : ℕ = client_at (party_of e) in
       let x : Session × Heard = on_reply (client_of w cl) m g (w.session cl) in
       let h : HeardWell w cl x = reply-well w e m g (w.session cl) rs fit honest.forgery made b.1 b.0 r ok pa (ss cl) in
       record {

@@ -1,8 +1,9 @@
 -- What an event that isn't refused comes to.
 use Rattle.ids.specs.declared.fault.Fault.{Fault}
 use Rattle.ids.specs.declared.fault.Fault.TheVariants as fault
-use Rattle.std.proofs.Common.{ℕ, ◌≡◌, ◌-◌, ◌≤◌, ◌⊎◌, Bool, true, false, refl, sym, ap, ◌∙◌, inl, inr, Option, Some, None, true≢false}
+use Rattle.std.proofs.Common.{ℕ, ◌≡◌, ◌≤◌, ◌⊎◌, Bool, true, false, refl, sym, ap, ◌∙◌, inl, inr, Option, Some, None, true≢false}
 use Rattle.std.proofs.lemmas.Bool.{and_parts, and_from, cond_both, cond-true, cases_Bool, not_from_false, or_cases, leb-true}
+use Rattle.definitions.specs.Keyrings.{client_at}
 use Rattle.definitions.specs.Bytes.{Bytes}
 use Rattle.definitions.specs.Frames.{Frame}
 use Rattle.definitions.specs.FrameLimits.{IsFrame}
@@ -12,8 +13,8 @@ use Rattle.definitions.specs.Replicas.{Memory, step}
 use Rattle.definitions.specs.Worlds.{World, Event, Event.submit, Event.relay, Event.inject, Event.timeout, Event.beat, is_replica, is_correct, is_party, self_of}
 use Rattle.definitions.specs.Runs.{refusal, names_party}
 use Rattle.definitions.specs.Events.{Effect, nothing, stepped, on_checked, hears, submits, comes, recorded, brought, party_of, acts, effect}
-use Rattle.definitions.specs.Admission.{Checked, Checked.passes, Checked.rejected, check, when}
-use Rattle.definitions.specs.Premises.{admits, is_good_check}
+use Rattle.definitions.specs.Admission.{is_passed, Checked, Checked.passes, Checked.rejected, check, when}
+use Rattle.definitions.specs.Premises.{admits}
 use Rattle.definitions.specs.Frames as frame
 
 abbrev pub is_member : World → ℕ → Bool
@@ -31,7 +32,7 @@ Arises w e i = Brings w e i ⊎ ((i ≡ timeout_in) ⊎ (i ≡ beat_in))
 pub data Effects (w : World) (e : Event) (m : Memory) : Effect → Type 0 where
   idle : (a : Option Fault) → (a ≡ Some fault.Conflict → ⊥) → Effects w e m (nothing w a)
   step_by : (i : Input) → is_member w (party_of e) ≡ true → Arises w e i → Effects w e m (stepped w (party_of e) m (step (self_of w (party_of e)) m i (w.replica (party_of e))))
-  hearing : (f : Frame) → (brought w e ≡ Some f) × IsFrame w.sizes f → is_replica w (party_of e) ≡ false → w.is_faulty (party_of e) ≡ false → 256 ≤ party_of e → Effects w e m (hears (party_of e - 256) m f w)
+  hearing : (f : Frame) → (brought w e ≡ Some f) × IsFrame w.sizes f → is_replica w (party_of e) ≡ false → w.is_faulty (party_of e) ≡ false → 256 ≤ party_of e → Effects w e m (hears (client_at (party_of e)) m f w)
   submitting : (c : ℕ) (payload : Bytes) → e ≡ submit c payload → w.is_faulty (party_of e) ≡ false → Effects w e m (submits c m payload w)
 
 when-bad : (ok : Bool) (i : Input) (n : Fault) → when ok i ≡ rejected n → Some n ≡ Some fault.Conflict → ⊥
@@ -96,7 +97,7 @@ comes-effects : (w : World) (e : Event) (m : Memory) → is_party w (party_of e)
 unfolding comes
 comes-effects w e m pa ok rd None b = idle (Some fault.NotAFrame) no_frame-apart
 comes-effects w e m pa ok rd (Some f) b =
-    cond_both (is_replica w (party_of e)) (on_checked (party_of e) m (check (self_of w (party_of e)) f) w) (hears (party_of e - 256) m f w) (Effects w e m)
+    cond_both (is_replica w (party_of e)) (on_checked (party_of e) m (check (self_of w (party_of e)) f) w) (hears (client_at (party_of e)) m f w) (Effects w e m)
     (λ r. checked (check (self_of w (party_of e)) f) refl r)
     (λ r. hearing f (b, rd f b) r ok (party-client w (party_of e) pa r))
   where
@@ -124,10 +125,10 @@ reply-bad self x c s k t g i e = apart e
     apart h = cc
 
 pub admits-good : (w : World) (p : ℕ) (f : Frame) (i : Input) → is_replica w p ≡ true → check (self_of w p) f ≡ passes i → admits w p f ≡ true
-admits-good w p (frame.request c) i r e = and_from _ _ r (ap is_good_check e)
-admits-good w p (frame.proposal v c q t) i r e = and_from _ _ r (ap is_good_check e)
-admits-good w p (frame.vote d b) i r e = and_from _ _ r (ap is_good_check e)
-admits-good w p (frame.new_view v s q t) i r e = and_from _ _ r (ap is_good_check e)
-admits-good w p (frame.fetch s d t) i r e = and_from _ _ r (ap is_good_check e)
-admits-good w p (frame.block s c q t) i r e = and_from _ _ r (ap is_good_check e)
+admits-good w p (frame.request c) i r e = and_from _ _ r (ap is_passed e)
+admits-good w p (frame.proposal v c q t) i r e = and_from _ _ r (ap is_passed e)
+admits-good w p (frame.vote d b) i r e = and_from _ _ r (ap is_passed e)
+admits-good w p (frame.new_view v s q t) i r e = and_from _ _ r (ap is_passed e)
+admits-good w p (frame.fetch s d t) i r e = and_from _ _ r (ap is_passed e)
+admits-good w p (frame.block s c q t) i r e = and_from _ _ r (ap is_passed e)
 admits-good w p (frame.reply x c s k t g) i r e = absurd (reply-bad (self_of w p) x c s k t g i e)

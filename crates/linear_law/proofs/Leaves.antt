@@ -1,7 +1,7 @@
 -- Views, waiting requests and the block that the next proposal stands on, of a chronicle whose steps came in frames.
-use Rattle.std.proofs.Common.{ℕ, zero, suc, if◌then◌else◌, ◌≡◌, ◌<◌, ◌≤◌, ◌^◌, ◌&&◌, not, true, List, [], ◌∷◌, ◌++◌, length, refl, sym, ap, subst, arith, inl, inr, Option, Some, None, true≢false, ◌==◌, nat_lt, nat_le, map, filter, take, bytes_eq}
+use Rattle.std.proofs.Common.{ℕ, zero, suc, if◌then◌else◌, ◌≡◌, ◌<◌, ◌≤◌, ◌^◌, ◌&&◌, not, true, List, [], ◌∷◌, ◌++◌, length, refl, sym, ap, subst, arith, Option, Some, None, true≢false, ◌==◌, nat_lt, nat_le, map, filter, take, is_some}
 use Rattle.std.specs.List.{list_any, AllByRecursion}
-use Rattle.std.proofs.lemmas.Bool.{and_parts, cond_both, ltb-true, ltb-false, or_cases}
+use Rattle.std.proofs.lemmas.Bool.{and_parts, cond_both, ltb-true, ltb-false}
 use Rattle.std.proofs.lemmas.List.{length-take}
 use Rattle.ids.specs.Sizes.{replicas}
 use Rattle.definitions.specs.Lists.{Among, greatest, count_below}
@@ -13,9 +13,10 @@ use Rattle.definitions.specs.Digests.{digest_of, core_of, core_over}
 use Rattle.definitions.specs.Histories.{history_of}
 use Rattle.definitions.specs.Chronicles.{Step, Step.took_block, Step.noted, Note.got_new_view, Note.got_request, Note.timed_out, Note.beat, Chronicle, tree, history}
 use Rattle.definitions.specs.Checks.{Identity}
-use Rattle.definitions.specs.States.{announcements, announced, reached, view, raised, qc_high, is_same_request, is_due, with_request, pending, leads, is_known, picks, child, leaf, or_else}
+use Rattle.definitions.specs.States.{announcements, announced, reached, view, raised, qc_high, is_same_request, is_due, with_request, pending, leads, find_block, is_known, picks, child, leaf, or_else}
+use Rattle.std.proofs.lemmas.Option.{same_Some}
+use Rattle.definitions.proofs.Sound.{found}
 use Rattle.definitions.proofs.Certificates.{IsDigest-digest_of, all-filter}
-use Rattle.definitions.proofs.Trees.{same_bytes}
 use Rattle.linear_law.proofs.StoredFrames.{AreStored}
 
 -- ---- views
@@ -92,10 +93,6 @@ pub record IsChild (self : Identity) (c : Chronicle) (on b : Branch) : Type 0 wh
   pub leads_view : leads self c ≡ true
   pub known : is_known (digest_of on) c ≡ true
 
--- equal options have equal contents
-some-is : {A : Type 0} (x y : A) → Some x ≡ Some y → x ≡ y
-some-is x y e = cc
-
 -- nothing is no content
 none-some : {A : Type 0} (x : A) → None ≡ Some x → ⊥
 none-some x e = cc
@@ -105,7 +102,7 @@ pub child-is : (self : Identity) (c : Chronicle) (on b : Branch) → child self 
 unfolding child
 child-is self c on b =
     cond_both (leads self c && is_known (digest_of on) c) _ _ (λ (o : Option Branch). o ≡ Some b → IsChild self c on b)
-    (λ t e. record { is = sym (some-is _ b e); leads_view = (and_parts _ _ t).0; known = (and_parts _ _ t).1 })
+    (λ t e. record { is = sym (same_Some _ b e); leads_view = (and_parts _ _ t).0; known = (and_parts _ _ t).1 })
     (λ t e. absurd (none-some b e))
 
 -- how a step leaves it
@@ -160,11 +157,11 @@ leaf-above self (st ∷ c) = above-step self st c (leaf self (st ∷ c)) (leaf-a
 -- the leaf's digest is that of a block of the tree
 pub known-block : (d : Bytes) (c : Chronicle) → is_known d c ≡ true → (x : Branch) × Among x (tree c) × (digest_of x ≡ d)
 unfolding is_known
-known-block d c h = among (tree c) h
+known-block d c h = by (find_block d c) refl h
   where
-    among : (t : List Branch) → list_any (λ b. bytes_eq (digest_of b) d) t ≡ true → (x : Branch) × Among x t × (digest_of x ≡ d)
-    among [] e = absurd (true≢false (sym e))
-    among (x ∷ t) e = elim (or_cases _ _ e) [ inl k ↦ (x, inl refl, same_bytes _ _ k) | inr k ↦ (let r = among t k in (r.0, inr r.1, r.2)) ]
+    by : (o : Option Branch) → find_block d c ≡ o → is_some o ≡ true → (x : Branch) × Among x (tree c) × (digest_of x ≡ d)
+    by None e t = absurd (true≢false (sym t))
+    by (Some x) e t = (let r = found d c x e in (x, r.0, r.1))
 
 -- the core of a block that a beat makes on a leaf of this height is one of a frame
 pub child-core : (self : Identity) (c : Chronicle) (b : Branch) → AreStored self c → length (leaf self c) < 1048576 → IsChild self c (leaf self c) b → IsCore self.sizes (core_of b)

@@ -21,7 +21,7 @@ use Rattle.ids.specs.Sizes.{replicas, quorum, client_party}
 use Rattle.definitions.specs.Frames.{Core, Frame, reply_content}
 use Rattle.definitions.specs.FrameLimits.{IsFrame}
 use Rattle.definitions.proofs.Spellings.{reply_content_injective}
-use Rattle.definitions.specs.Keyrings.{verify}
+use Rattle.definitions.specs.Keyrings.{client_at, verify}
 use Rattle.definitions.specs.Histories.{History, Answer, answers}
 use Rattle.definitions.specs.Chronicles.{history}
 use Rattle.definitions.specs.Checks.{Identity}
@@ -142,14 +142,14 @@ reply-tag x s (frame.block r c q t) l h = absurd (let k = h.0 in cc)
 abbrev pub Truth : World → ℕ → ℕ → Told → Type 0
 Truth w cl seq t = is_member w t.replica ≡ true → Among (answer_at cl seq t.place t.text) (answers (held w t.replica))
 
-party-number : (p : ℕ) → 256 ≤ p → client_party (p - 256) ≡ p
+party-number : (p : ℕ) → 256 ≤ p → client_party (client_at p) ≡ p
 party-number p h = omega arith
 
 same-party : (a b : ℕ) → client_party a ≡ client_party b → a ≡ b
 same-party a b e = omega arith
 
 counted-true : (w : World) (e : Event) (r cl q pl : ℕ) (tx g : Bytes) → RepliesStand w → AnswersFit w → IsFrame w.sizes (frame.reply r cl q pl tx g) → NoForgeryIn w e → brought w e ≡ Some (frame.reply r cl q pl tx g) → is_replica w (party_of e) ≡ false → w.is_faulty (party_of e) ≡ false → 256 ≤ party_of e →
-    (cl == (party_of e - 256)) ≡ true → verify (w.ring (client_party (party_of e - 256))) kind.Reply r (reply_content r cl q pl tx) g ≡ true → Truth w cl q (record { replica = r; place = pl; text = tx })
+    (cl == (client_at (party_of e))) ≡ true → verify (w.ring (client_party (client_at (party_of e)))) kind.Reply r (reply_content r cl q pl tx) g ≡ true → Truth w cl q (record { replica = r; place = pl; text = tx })
 unfolding accepted_tags
 counted-true w e r cl q pl tx g rs fit fr nf b rep ok pa mine good mem =
     let good' : verify (w.ring (party_of e)) kind.Reply r (reply_content r cl q pl tx) g ≡ true = subst (λ (p : ℕ). verify (w.ring p) kind.Reply r (reply_content r cl q pl tx) g ≡ true) (party-number (party_of e) pa) good in
@@ -253,10 +253,10 @@ count-well w me cl t s ef q h =
 unheard : (w : World) (cl : ℕ) (s : Session) (n : Fault) → SessionStands w cl s → HeardWell w cl (s, not_counted n)
 unheard w cl s n h = record { session = h; receipt = λ r m. absurd m }
 
-pub reply-well : (w : World) (e : Event) (m : Memory) (f : Frame) (s : Session) → RepliesStand w → AnswersFit w → NoForgeryIn w e → IsMadeWell w → IsFrame w.sizes f → brought w e ≡ Some f → is_replica w (party_of e) ≡ false → w.is_faulty (party_of e) ≡ false → 256 ≤ party_of e → SessionStands w (party_of e - 256) s → HeardWell w (party_of e - 256) (on_reply (client_of w (party_of e - 256)) m f s)
+pub reply-well : (w : World) (e : Event) (m : Memory) (f : Frame) (s : Session) → RepliesStand w → AnswersFit w → NoForgeryIn w e → IsMadeWell w → IsFrame w.sizes f → brought w e ≡ Some f → is_replica w (party_of e) ≡ false → w.is_faulty (party_of e) ≡ false → 256 ≤ party_of e → SessionStands w (client_at (party_of e)) s → HeardWell w (client_at (party_of e)) (on_reply (client_of w (client_at (party_of e))) m f s)
 unfolding on_reply
 reply-well w e m (frame.reply r cl q pl tx g) s rs fit nf made fr b rep ok pa h =
-    let me : Client = client_of w (party_of e - 256) in
+    let me : Client = client_of w (client_at (party_of e)) in
     cond_both (not (cl == me.number)) _ _ P (λ k. unheard w me.number s fault.NotMine h) (λ mine.
     cond_both (not (verify me.ring kind.Reply r (reply_content r cl q pl tx) g)) _ _ P (λ k. unheard w me.number s fault.BadTag h) (λ good.
     cond_both (not (s.waiting && (q == s.used))) _ _ P (λ k. unheard w me.number s fault.WrongSeq h) (λ now.
@@ -270,11 +270,11 @@ reply-well w e m (frame.reply r cl q pl tx g) s rs fit nf made fr b rep ok pa h 
     }))))))
   where
     P : Session × Heard → Type 0
-    P = HeardWell w (party_of e - 256)
+    P = HeardWell w (client_at (party_of e))
 
-    truths : (cl == (party_of e - 256)) ≡ true → verify (w.ring (client_party (party_of e - 256))) kind.Reply r (reply_content r cl q pl tx) g ≡ true → q ≡ s.used → (t : Told) → Among t (record { replica = r; place = pl; text = tx } ∷ s.tally) → Truth w (party_of e - 256) s.used t
-    truths mine good eq t (inl i) = subst (Truth w (party_of e - 256) s.used) (sym i)
-        (subst (λ (c : ℕ). Truth w c s.used (record { replica = r; place = pl; text = tx })) (eqb-true cl (party_of e - 256) mine)
+    truths : (cl == (client_at (party_of e))) ≡ true → verify (w.ring (client_party (client_at (party_of e)))) kind.Reply r (reply_content r cl q pl tx) g ≡ true → q ≡ s.used → (t : Told) → Among t (record { replica = r; place = pl; text = tx } ∷ s.tally) → Truth w (client_at (party_of e)) s.used t
+    truths mine good eq t (inl i) = subst (Truth w (client_at (party_of e)) s.used) (sym i)
+        (subst (λ (c : ℕ). Truth w c s.used (record { replica = r; place = pl; text = tx })) (eqb-true cl (client_at (party_of e)) mine)
         (subst (λ (n : ℕ). Truth w cl n (record { replica = r; place = pl; text = tx })) eq (counted-true w e r cl q pl tx g rs fit fr nf b rep ok pa mine good)))
     truths mine good eq t (inr n) = h.true_ones t n
 reply-well w e m (frame.request c) s rs fit nf made fr b rep ok pa h = unheard w _ s fault.NotMine h

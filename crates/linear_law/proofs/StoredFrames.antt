@@ -13,8 +13,8 @@ use Rattle.definitions.specs.Branches.{Branch, just1}
 use Rattle.definitions.specs.Digests.{digest_of, core_of}
 use Rattle.definitions.specs.Chronicles.{Admitted, Step, Step.took_block, Step.noted, Note.got_vote, Note.got_new_view, Note.got_request, Chronicle, tree, history, IsSound}
 use Rattle.definitions.specs.Checks.{Identity, Findings, is_good, is_genesis, vote_verifies}
-use Rattle.definitions.specs.States.{is_due, pending, is_same_request}
-use Rattle.definitions.specs.Rulings.{Input, Input.proposal_in, Input.block_in, Input.vote_in, Input.new_view_in, Input.request_in, Input.fetch_in, Input.timeout_in, Input.beat_in, Ruling, Ruling.due, Ruling.missing, Ruling.refusing, find_block, admitted, on_placing, on_block, on_request, with_block, ruling}
+use Rattle.definitions.specs.States.{find_block, is_due, pending, is_same_request}
+use Rattle.definitions.specs.Rulings.{Input, Input.proposal_in, Input.block_in, Input.vote_in, Input.new_view_in, Input.request_in, Input.fetch_in, Input.timeout_in, Input.beat_in, Ruling, Ruling.due, Ruling.missing, Ruling.refusing, admitted, on_placing, on_block, on_request, with_block, ruling}
 use Rattle.definitions.specs.Admission.{check, Checked.passes, Checked.rejected}
 use Rattle.definitions.specs.Worlds.{World, Event, self_of}
 use Rattle.definitions.specs.Events.{party_of}

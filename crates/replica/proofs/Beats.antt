@@ -1,8 +1,6 @@
 -- What a beat does to what a replica keeps.
-use Rattle.std.proofs.Common.{ℕ, suc, ◌≡◌, Bool, true, false, List, [], ◌∷◌, ◌++◌, length, refl, sym, ap, ◌∙◌, Some, None, reverse}
+use Rattle.std.proofs.Common.{ℕ, suc, ◌≡◌, true, false, List, [], ◌∷◌, ◌++◌, length, refl, sym, ap, ◌∙◌, Some, None, reverse}
 use Rattle.std.specs.Option.{is_some}
-use Rattle.std.specs.List.{list_any}
-use Rattle.std.specs.Prelude.{bytes_eq}
 use Rattle.ids.specs.Sizes.{Sizes}
 use Rattle.definitions.specs.Bytes.{Bytes}
 use Rattle.sha2.specs.Sha256.{sha256}
@@ -12,7 +10,7 @@ use Rattle.definitions.specs.Checks.{Identity, identity_of}
 use Rattle.definitions.specs.Branches.{Branch}
 use Rattle.definitions.specs.Digests.{digest, digest_of, core_of, core_over}
 use Rattle.definitions.specs.Chronicles.{Step.noted, Note.beat, Chronicle, taken, stored, tree, voted, vheight, lock, decided, executed}
-use Rattle.definitions.specs.States.{Justified, view, raised, qc_high, pending, leads, is_known, picks, child, leaf, proposed}
+use Rattle.definitions.specs.States.{Justified, view, raised, qc_high, pending, leads, find_block, is_known, picks, child, leaf, proposed}
 use Rattle.definitions.specs.Trees.{find_in}
 use Rattle.definitions.specs.Sendings.{sendings, proposes}
 use Rattle.replica_rules.specs.Ruled.{mark_of, ruled_by}
@@ -48,18 +46,10 @@ pending-beat c e = rw e refl
 
 -- ---- the child
 
-known-step : (d : Bytes) (x : Branch) (t : List Branch) (b : Bool) → bytes_eq (digest_of x) d ≡ b → (list_any (λ x. bytes_eq (digest_of x) d) t ≡ is_some (find_in d t)) → list_any (λ x. bytes_eq (digest_of x) d) (x ∷ t) ≡ is_some (find_in d (x ∷ t))
-known-step d x t true e rest = rw e refl
-known-step d x t false e rest = (rw e refl) ∙ rest ∙ sym (rw e refl)
-
-known-in : (d : Bytes) (t : List Branch) → list_any (λ x. bytes_eq (digest_of x) d) t ≡ is_some (find_in d t)
-known-in d [] = refl
-known-in d (x ∷ t) = known-step d x t (bytes_eq (digest_of x) d) refl (known-in d t)
-
 -- a block is known where it is found
 pub known-found : (d : Bytes) (c : Chronicle) → is_known d c ≡ is_some (find_in d (tree c))
-unfolding is_known
-known-found d c = known-in d (tree c)
+unfolding is_known find_block
+known-found d c = refl
 
 -- without pending requests a block has no commands
 no-picks : (c : Chronicle) (on : Branch) → pending c ≡ [] → picks c on ≡ []

@@ -35,9 +35,9 @@ use Rattle.replica.proofs.Steps.{memory-step, standing-step, conflict-step, stat
 use Rattle.std.proofs.lemmas.Bool.{lt-ltb, le-ltb}
 use Rattle.definitions.specs.Frames as frame
 use Rattle.definitions.specs.FrameLimits.{IsFrame}
-use Rattle.definitions.specs.Admission.{when, check}
+use Rattle.definitions.specs.Admission.{when, check, is_passed}
 use Rattle.definitions.proofs.Checks.{proposal-checked}
-use Rattle.certificates.specs.Outcomes.{CheckedView, is_passed}
+use Rattle.certificates.specs.Outcomes.{CheckedView}
 use Rattle.frames_view.specs.declared.frame_views.ProposalView.{ProposalView}
 use Rattle.frames_view.specs.Views.{proposal_of}
 use Rattle.replica.proofs.Admits.{has-marks, found-there}

@@ -2,9 +2,10 @@
 
 ghost use Rattle.std.specs.Prelude.{◌≡◌, ℕ, slice_index_or, ◌<◌, ◌≤◌, ◌↔◌, length, take, vec_len, IsTrue, IsFalse, IsOk, IsErrOf, OnOk, OnErr, IfOk, IfErr};
 ghost use Rattle.ids.specs.Sizes.{replicas};
+ghost use Rattle.definitions.specs.Keyrings.{is_party_of};
 ghost use Rattle.simulated_keys.specs.Keys.{simulated_keys};
 ghost use Rattle.server.specs.declared.node.Node.{Node};
-ghost use Rattle.server.specs.Worlds.{is_party_of, receiver, BringsUnsent};
+ghost use Rattle.server.specs.Worlds.{receiver, BringsUnsent};
 
 use crate::node::Node;
 use crate::schedule::Event;

@@ -9,9 +9,9 @@ use Rattle.definitions.specs.Digests.{digest, core_over, digest_of, core_of}
 use Rattle.definitions.specs.Histories.{history_of, answers, last_seq}
 use Rattle.definitions.specs.Chronicles.{voted, taken, tree, vheight, lock, decides, decided_by, decided, executed, history, stored, may_vote}
 use Rattle.definitions.specs.Checks.{counted, is_good, is_clear_core}
-use Rattle.definitions.specs.States.{view, announcements, announced, reached, votes, raised, qc_high, is_due, pending, leads, is_known, picks, child, leaf, proposed}
+use Rattle.definitions.specs.States.{find_block, view, announcements, announced, reached, votes, raised, qc_high, is_due, pending, leads, is_known, picks, child, leaf, proposed}
 use Rattle.definitions.specs.Trees.{is_clear, clear_above, placing_known, placing_new, placing}
-use Rattle.definitions.specs.Rulings.{find_block, admitted, votes_for, on_placing, ruling, conflicts}
+use Rattle.definitions.specs.Rulings.{admitted, votes_for, on_placing, ruling, conflicts}
 use Rattle.definitions.specs.Sendings.{vote_frame, proposal_frame, new_replies, sendings}
 use Rattle.definitions.specs.Replicas.{on_step, on_ruling, step}
 use Rattle.definitions.specs.Admission.{check}
