@@ -14,7 +14,8 @@ use Rattle.line_feed.specs.Feeding.{Gives}
 use Rattle.line_feed.proofs.Streams.{takes_some}
 use Rattle.connection.specs.declared.end.End.{End}
 use Rattle.connection.specs.declared.end.End.TheVariants.{Quit, Input, Closed, NoReply}
-use Rattle.connection.specs.Serving.{Call, Calls, end_of, ended_by, ending, State, Serving, Replies, ServesFront, ServesLast, ServesText, ServesHeld}
+use Rattle.connection.specs.Serving.{Call, Calls, end_of, ended_by, ending, State, Serving, Replies, ServesFront, ServesText}
+use Rattle.connection.specs.Steps.{ServesLast, ServesHeld}
 
 -- ---- which exchanges end the connection
 

@@ -10,7 +10,8 @@ use Rattle.definitions.proofs.ItemLaws.{IsItemAt-append}
 use Rattle.connection.specs.Devices.{CountsOne}
 use Rattle.connection.specs.declared.end.End.{End}
 use Rattle.connection.specs.declared.end.End.TheVariants.{Input}
-use Rattle.connection.specs.Serving.{end_of, ending, State, ServesFront, ServesLast, ServesText, ServesHeld, IsNext, IsHeld, IsRound, IsServed}
+use Rattle.connection.specs.Serving.{end_of, ending, State, ServesFront, ServesText, IsServed}
+use Rattle.connection.specs.Steps.{ServesLast, ServesHeld, IsNext, IsHeld, IsRound}
 use Rattle.connection.proofs.Fronts.{ends_so, never_input, front_then, front_more, text_ended, text_held, held_then}
 
 -- of two equal errors

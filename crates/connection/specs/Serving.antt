@@ -1,18 +1,16 @@
 -- How a connection is served: by which exchanges, by which calls of the service, and with what written.
-use Rattle.std.specs.Prelude.{length, map, ◌≡◌, ◌≢◌, ℕ, ◌-◌, ◌^◌, ◌<◌, ◌≤◌, Bool, true, false, ◌⊎◌, List, [], ◌∷◌, ◌++◌, drop, Option, Some, None, IfSome, Result, Ok, Err}
+use Rattle.std.specs.Prelude.{length, map, ◌≡◌, ◌≢◌, ℕ, ◌-◌, ◌^◌, ◌≤◌, true, ◌⊎◌, List, [], ◌∷◌, ◌++◌, drop, Option, Some, None, IfSome, Result, Ok, Err}
 use Rattle.std.specs.Io.KnownBytes.{Appends, Consumes, Keeps, IsAtEnd}
 use Rattle.ids.specs.declared.fault.Fault.{Fault}
 use Rattle.ids.specs.declared.fault.Fault.TheVariants as faults
 use Rattle.ids.specs.declared.line_fault.LineFault.TheVariants.{UnknownName}
 use Rattle.definitions.specs.Bytes.{Bytes}
-use Rattle.definitions.specs.Requests.{canonical, IsRequest}
-use Rattle.definitions.specs.Items.{Item, asked, quit, bad, IsItemAt, IsUnfinished, AreItems}
+use Rattle.definitions.specs.Requests.{canonical}
+use Rattle.definitions.specs.Items.{Item, IsItemAt, AreItems}
 use Rattle.definitions.specs.ServerText.{Exchange, answered, finished, told, item_in, exchange_text, server_text, is_followed, AreExchanges}
 use Rattle.connection.specs.Devices.{Device, CountsOne, WritesPart}
 use Rattle.connection.specs.declared.end.End.{End}
 use Rattle.connection.specs.declared.end.End.TheVariants.{Quit, Input, Closed, NoReply}
-use Rattle.connection.specs.declared.replies.Next.{Next}
-use Rattle.connection.specs.declared.replies.Next.TheVariants.{Unfinished, Served, Ended}
 
 -- ---- exchanges with a service
 
@@ -88,16 +86,6 @@ module _ {S : Type 0} (answers : S → Bytes → Option Bytes → S → Type 0) 
       pub wrote : Appends old.written new.written (server_text exchanges)
       pub unfailed : new.failures ≡ old.failures
 
-    -- the first item of a text was served, and it ends the connection
-    pub record ServesLast (text : Bytes) (end : End) : Type 0 where
-      pub item : Item
-      pub used : ℕ
-      pub at : IsItemAt text item used
-      pub reply : Bytes
-      pub replies : Replies old.service new.service item reply (Some end)
-      pub wrote : Appends old.written new.written reply
-      pub unfailed : new.failures ≡ old.failures
-
     -- the first item of a text was served, the writer failed, and of its reply a part was written
     pub record CutsFirst (text : Bytes) : Type 0 where
       pub item : Item
@@ -125,49 +113,16 @@ module _ {S : Type 0} (answers : S → Bytes → Option Bytes → S → Type 0) 
       pub kept : Keeps old.written new.written
       pub failed : CountsOne old.failures new.failures
 
--- ---- what the functions answer
-
--- an item that was read may be handed to a service
-abbrev pub MayBeServed : Item → Type 0
-MayBeServed (asked request noreply) = IsRequest request noreply
-MayBeServed quit = Unit {0}
-MayBeServed (bad fault) = Unit {0}
+-- ---- what serving comes to
 
 module _ {S : Type 0} (answers : S → Bytes → Option Bytes → S → Type 0) (old new : State S) where
-  -- the first item of what is held was served, or there is none, or the writer failed
-  abbrev pub IsNext : Bytes → Bytes → Result Next Fault → Type 0
-  IsNext held left (Ok Unfinished) = IsUnfinished held × (left ≡ held) × (new ≡ old)
-  IsNext held left (Ok Served) = ServesFront answers old new held left × (length left < length held)
-  IsNext held left (Ok (Ended end)) = ServesLast answers old new held end
-  IsNext held left (Err faults.WriteFailed) = CutsFirst answers old new held
-  IsNext held left (Err _) = ⊥
-
-  -- all whole items that are held were served, up to the one that ends the connection
-  abbrev pub ServesHeld : Bytes → Bytes → Option End → Type 0
-  ServesHeld held left None = ServesFront answers old new held left × IsUnfinished left
-  ServesHeld held left (Some end) = (mid : State S) × (rest : Bytes) × ServesFront answers old mid held rest × ServesLast answers mid new rest end
-
-  -- the writer failed at a reply, and all before it were written
+  -- the writer failed at a reply, of which a part was written, and all before it were written
   abbrev pub CutsHeld : Bytes → Type 0
   CutsHeld held = (mid : State S) × (rest : Bytes) × ServesFront answers old mid held rest × CutsFirst answers mid new rest
 
-  abbrev pub IsHeld : Bytes → Bytes → Result (Option End) Fault → Type 0
-  IsHeld held left (Ok end) = ServesHeld held left end
-  IsHeld held left (Err faults.WriteFailed) = CutsHeld held
-  IsHeld held left (Err _) = ⊥
-
-module _ {S : Type 0} (answers : S → Bytes → Option Bytes → S → Type 0) (old new : State S) where
-  -- the same, and then a flush
-  abbrev pub IsRound : Bytes → Bytes → Result (Option End) Fault → Type 0
-  IsRound held left (Ok end) = ServesHeld answers old new held left end
-  IsRound held left (Err faults.WriteFailed) = CutsHeld answers old new held
-      ⊎ ((mid : State S) × (end : Option End) × ServesHeld answers old mid held left end × FailsFlush answers mid new)
-  IsRound held left (Err _) = ⊥
-
-  -- A text was served, and the writer failed: at a reply, of which a part was written and before which all were; or
-  -- at a flush, behind all replies.
+  -- a text was served, and the writer failed: at a reply, or at a flush behind all replies
   abbrev pub CutsText : Bytes → Type 0
-  CutsText text = CutsHeld answers old new text ⊎ ((mid : State S) × (end : Option End) × ServesText answers old mid text end × FailsFlush answers mid new)
+  CutsText text = CutsHeld text ⊎ ((mid : State S) × (end : Option End) × ServesText answers old mid text end × FailsFlush answers mid new)
 
   -- What serving a connection comes to. The reader had the bytes `source` and now has `rest`; `reads` and `reads_now`
   -- are its counts of failures. Where an item or a read told the end, all that was read was served, and so was the whole
@@ -181,8 +136,3 @@ module _ {S : Type 0} (answers : S → Bytes → Option Bytes → S → Type 0) 
   IsServed source rest reads reads_now (Err faults.Memory) = (((new ≡ old) × (rest ≡ source))
       ⊎ ((read : Bytes) × (left : Bytes) × Consumes source rest read × (2 ^ 64 - 1 ≤ length read) × ServesFront answers old new read left)) × (reads_now ≡ reads)
   IsServed source rest reads reads_now (Err _) = ⊥
-
--- some bytes were read behind those that were held, or the reader is at its end
-abbrev pub IsPulled : Option Bytes → Option Bytes → Bytes → Bytes → Bool → Type 0
-IsPulled source rest held new true = (read : Bytes) × Consumes source rest read × (1 ≤ length read) × (new ≡ held ++ read)
-IsPulled source rest held new false = Consumes source rest [] × IsAtEnd rest × (new ≡ held)

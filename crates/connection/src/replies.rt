@@ -5,7 +5,8 @@ ghost use Rattle.definitions.specs.Requests.{IsRequest};
 ghost use Rattle.definitions.specs.Items.{asked};
 ghost use Rattle.definitions.specs.ServerText.{told, exchange_text};
 ghost use Rattle.line_feed.specs.Feeding.{item_of};
-ghost use Rattle.connection.specs.Serving.{Replies, MayBeServed, IsNext, state, end_of};
+ghost use Rattle.connection.specs.Serving.{Replies, state, end_of};
+ghost use Rattle.connection.specs.Steps.{MayBeServed, IsNext};
 
 use crate::counted::Counted;
 use crate::end::End;

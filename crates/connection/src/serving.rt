@@ -2,7 +2,8 @@ ghost use Rattle.std.specs.Prelude.{◌≡◌, ◌≤◌, [], IfOk, OnOk, OnErr,
 ghost use Rattle.std.specs.Io.KnownBytes.{Consumes};
 ghost use Rattle.ids.specs.declared.fault.Fault.TheVariants.{ReadFailed};
 ghost use Rattle.connection.specs.Devices.{CountsOne};
-ghost use Rattle.connection.specs.Serving.{IsHeld, IsRound, IsPulled, IsServed, state};
+ghost use Rattle.connection.specs.Serving.{IsServed, state};
+ghost use Rattle.connection.specs.Steps.{IsHeld, IsRound, IsPulled};
 
 use crate::counted::Counted;
 use crate::end::End;
