@@ -76,8 +76,8 @@ impl Keyring {
         hmac_of_parts(self.key(to), &head, content)
     }
 
-    /// Whether this is the tag of a content from a sender. All 32 bytes are compared, in the same time whether
-    /// they agree or not.
+    /// Whether this is the tag of a content from a sender. All 32 bytes are compared, wherever
+    /// they differ.
     #[tactic(auto, unfolding(definitions::specs::Keyrings::verify))]
     pub fn verify(&self, label: Kind, from: PartyId, content: &[u8], tag: &[u8; 32]) -> bool
         requires { IsTrue (is_peer self.now from) }
@@ -88,7 +88,7 @@ impl Keyring {
         are_equal(tag, &right)
     }
 
-    /// Appends a vector: one tag for each replica, in order. Memory is wanting only where the spare room was too
+    /// Appends a vector: one tag for each replica, in order. `Memory` comes only where the spare room was too
     /// small, and `out` is as before then.
     #[tactic(auto, unfolding(definitions::specs::Keyrings::tags_for))]
     pub fn vector(&self, label: Kind, content: &[u8], out: &mut Vec<u8>) -> Result<(), Fault>

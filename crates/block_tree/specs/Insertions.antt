@@ -30,6 +30,6 @@ InsertedAt old core q clear result new (grows b) =
 InsertedAt old core q clear result new lacks_parent = (result ≡ Err fault.UnknownParent) × (new ≡ old)
 InsertedAt old core q clear result new (unfit n) = (result ≡ Err n) × (new ≡ old)
 
--- what an insertion answers and leaves: a block that may stand does afterwards, unless memory is wanting
+-- what an insertion answers and leaves: a block that may stand does afterwards, unless memory is refused
 abbrev pub Inserted : TreeState → Core → Certificate → Bool → Result Bytes Fault → TreeState → Type 0
 Inserted old core q clear result new = InsertedAt old core q clear result new (placing old.most core q (blocks old.stored))

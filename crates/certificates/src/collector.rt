@@ -45,7 +45,7 @@ impl Collector {
         }
     }
 
-    /// Adds a checked vote for the block of a digest. Where memory is wanting, all kept votes are as before.
+    /// Adds a checked vote for the block of a digest. At `Memory` all kept votes are as before.
     pub fn add(&mut self, digest: Digest, vote: &Checked<VoteFrameView>) -> Result<Added, Fault>
         requires sizes { vote.now.keys.sizes ≡ self.old.sizes }
         requires digest { frame_digest (vote_frame_of vote.now.view) ≡ digest }

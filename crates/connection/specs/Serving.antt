@@ -126,7 +126,7 @@ module _ {S : Type 0} (answers : S → Bytes → Option Bytes → S → Type 0) 
 
   -- What serving a connection comes to. The reader had the bytes `source` and now has `rest`; `reads` and `reads_now`
   -- are its counts of failures. Where an item or a read told the end, all that was read was served, and so was the whole
-  -- input, in whatever pieces it came. Where the reader failed, all that was read was. Where memory was wanting
+  -- input, in whatever pieces it came. Where the reader failed, all that was read was. Where memory was refused
   -- nothing was done; or else 2^64 - 1 reads each gave something, and the front of that was served.
   abbrev pub IsServed : (source rest : Option Bytes) (reads reads_now : ℕ) → Result End Fault → Type 0
   IsServed source rest reads reads_now (Ok end) = (read : Bytes) × Consumes source rest read × ServesText answers old new read (ending end)

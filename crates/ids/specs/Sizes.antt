@@ -1,7 +1,7 @@
 -- The sizes of a deployment, and the numbers of its parties.
 use Rattle.std.specs.Prelude.{ℕ, ◌+◌, ◌*◌, ◌%◌, ◌≤◌}
 
--- how many faulty replicas are borne, and how many clients there are
+-- how many faulty replicas are tolerated, and how many clients there are
 pub record Sizes : Type 0 where
   pub faults : ℕ
   pub clients : ℕ

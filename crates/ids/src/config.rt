@@ -9,7 +9,7 @@ use std::marker::Model;
 /// The most replicas that there are: the length of each fixed row over replicas.
 pub const MOST_REPLICAS: usize = 13;
 
-/// The sizes of a deployment: how many faulty replicas it bears, and how many clients it has.
+/// The sizes of a deployment: how many faulty replicas it tolerates, and how many clients it has.
 #[derive(Clone, Copy, Debug, PartialEq, Eq)]
 pub struct Config {
     faults: u8,
@@ -42,7 +42,7 @@ impl Config {
         }
     }
 
-    /// The number f of faulty replicas that are borne.
+    /// The number f of faulty replicas that are tolerated.
     pub fn faults(&self) -> u8
         ensures { result ≡ self.now.faults }
     {

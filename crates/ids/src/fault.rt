@@ -61,7 +61,7 @@ pub enum Fault {
     NoSuchParty = 41,
     /// A submitted payload isn't the canonical text of a request.
     NotARequest = 42,
-    /// More replicas are named faulty than are borne.
+    /// More replicas are named faulty than are tolerated.
     TooManyFaulty = 43,
     /// Too few replicas are handed in, one of them twice, or ones of unequal sizes.
     TooFew = 44,

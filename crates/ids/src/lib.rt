@@ -13,8 +13,6 @@ mod line_fault;
 mod not_a_frame;
 mod numbers;
 mod party;
-#[cfg(test)]
-mod tests;
 
 pub use config::{Config, MOST_REPLICAS};
 pub use digest::Digest;

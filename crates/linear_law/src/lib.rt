@@ -1,6 +1,6 @@
 //! The laws of every run of a world, over the definitions alone; no code runs here. Each stands as the contract of
 //! a function with an empty body. A run is any list of submissions, deliveries, losses, repeats, timeouts, beats and
-//! invented frames; want of memory is its one free choice.
+//! invented frames; refused memory is its one free choice.
 #![tactic(auto)]
 
 ghost use Rattle.linear_law.specs.Law.{EveryRunIsLinear, ChroniclesAreLawful, ChroniclesAreAFamily, NoEventConflicts, SentFramesAreFrames, SentFramesAreRead, MadeCertificatesAreCertificates};

@@ -98,7 +98,7 @@ fn write_counted(name: &[u8], key: &[u8], value: u64, out: &mut Vec<u8>) -> Resu
 
 /// Appends the canonical text of a request: without the word noreply.
 ///
-/// Memory is wanting only where the spare room was too small, and `out` is as before then. Where a key or the
+/// `Memory` comes only where the spare room was too small, and `out` is as before then. Where a key or the
 /// data isn't what a request may have, the text is no request either.
 pub fn write_request(request: &Request<'_>, out: &mut Vec<u8>) -> Result<(), Fault>
     ensures { IsAppended out.old out.new (canonical (asked_of request.now)) result }
@@ -226,7 +226,7 @@ fn write_values(values: &[Value], with_unique: bool, out: &mut Vec<u8>) -> Resul
 
 /// Appends the text of a reply.
 ///
-/// Memory is wanting only where the spare room was too small, and `out` is as before then.
+/// `Memory` comes only where the spare room was too small, and `out` is as before then.
 pub fn write_reply(reply: &Reply, out: &mut Vec<u8>) -> Result<(), Fault>
     ensures { IsAppended out.old out.new (reply_text (reply_of reply.now)) result }
 {

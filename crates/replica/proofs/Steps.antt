@@ -29,7 +29,7 @@ use Rattle.replica.specs.Beats.{empty_child, IsChild}
 use Rattle.replica.proofs.Admits.{records-resized}
 use Rattle.replica.proofs.Beats.{known-found, stored-beat, view-beat, pending-beat, records-beat, leaf-without, leaf-with, proposed-without, proposed-with, sent-led}
 
--- want of memory before any change
+-- memory is refused before any change
 pub memory-step : (keys : Keys) (i : Input) (c : Chronicle) (st : Step) (result : Result (List Sent) Fault) (new : State) → ruling (identity_of keys) i c ≡ due st → IsStateOf keys c new → result ≡ Err fault.Memory → StepsTo keys i c result new
 unfolding on_ruling on_step
 memory-step keys i c st result new e s r = record {
@@ -113,7 +113,7 @@ pub err-same : {A B : Type 0} (f m : Fault) (r : Result A Fault) → r ≡ Err m
 unfolding fault_in
 err-same f m r e g s h = h ∙ ap (λ (x : Fault). Err x) (ap (fault_in m) (sym g ∙ e))
 
--- want of memory leaves the steps
+-- refused memory leaves the steps
 pub beat-refused : (keys : Keys) (c : Chronicle) (old new : State) (result : Result (List Sent) Fault) → IsStateOf keys c old → new.records.steps.items ≡ old.records.steps.items → new.records.rules ≡ old.records.rules → new.records.high ≡ old.records.high → new.records.leaf ≡ old.records.leaf
     → new.tree ≡ old.tree → new.view ≡ old.view → new.own ≡ old.own → result ≡ Err fault.Memory → StepsTo keys beat_in c result new
 beat-refused keys c old new result o es er eh el t v own r =

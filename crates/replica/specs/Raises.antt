@@ -25,7 +25,7 @@ abbrev pub RaisesIf : Bool → Core → Certificate → Records → Records → 
 RaisesIf true core q old new = (r : Option High) × IsRaise core q old.high r × IsRaised old r new
 RaisesIf false core q old new = IsRaised old None new
 
--- a block was taken in, or memory was wanting or it decides against what was executed
+-- a block was taken in, or memory was refused or it decides against what was executed
 abbrev pub TookIn : Chronicle → Admitted → Core → Certificate → Records → Result (Unit {0}) Fault → Records → Type 0
 TookIn c a core q old (Ok _) new = (conflicts (took_block a) c ≡ false) × (new.rules ≡ record (ruled_by (took_block a ∷ c)) { vheight = old.rules.vheight })
     × RaisesIf a.new core q old new

@@ -40,7 +40,7 @@ pub record MayAdmit (keys : Keys) (c : Chronicle) (a : Admitted) (s : State) : T
   pub height : a.new ≡ true → length (just1 a.branch) ≡ a.core.justify_height
   pub justified : a.certificate.digest ≡ digest_of (just1 a.branch)
 
--- the step stands, or memory was wanting or it decides against what was executed
+-- the step stands, or memory was refused or it decides against what was executed
 abbrev pub Admits : Keys → Chronicle → Admitted → Result (List Sent) Fault → Records → Type 0
 Admits keys c a (Ok sent) r = AreRecordsOf keys (took_block a ∷ c) r
     × (sent ≡ shown (sendings (identity_of keys) (took_block a) c)) × (conflicts (took_block a) c ≡ false)

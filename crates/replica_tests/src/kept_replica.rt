@@ -107,7 +107,7 @@ fn a_replica_is_given_back_for_all_its_shares(rt: HostRuntime) -> Result<(), Fai
     } = Leader::new(rt.alloc())?;
     let last = shares.pop().ok_or("four shares")?;
     let Err(NotAll { kept, mut shares }) = kept.close(shares) else {
-        return Err("a share is wanting".into());
+        return Err("a share is missing".into());
     };
     shares.push(last)?;
     let Ok(Closed { replica }) = kept.close(shares) else {

@@ -10,7 +10,7 @@ use Rattle.server.specs.declared.schedule.Schedule.{Schedule}
 use Rattle.server.specs.declared.sim_fault.SimFault.{SimFault}
 use Rattle.server.specs.declared.sim_fault.SimFault.TheVariants.{Line, Fault}
 
--- the fault is the text's first bad line, or want of memory
+-- the fault is the text's first bad line, or out of memory
 abbrev pub IsWhyNot : Bytes → SimFault → Type 0
 IsWhyNot text (Line number) = IsFirstBadLine text number
 IsWhyNot text (Fault fault) = fault ≡ Memory
@@ -24,7 +24,7 @@ abbrev pub IsRightIn : Bytes → SimFault → Type 0
 IsRightIn text (Line number) = IsFirstBadLine text number
 IsRightIn text (Fault fault) = ⊤
 
--- a reader's error, as a refusal: want of memory is told apart
+-- a reader's error, as a refusal: out of memory is told apart
 abbrev pub read_fault_of : ErrorKind → refusal.Fault
 read_fault_of OutOfMemory = Memory
 read_fault_of _ = ReadFailed

@@ -9,7 +9,7 @@ use Rattle.server.specs.declared.schedule.Event.TheVariants.{Relay, Beat}
 abbrev pub spaced : Bytes → Bytes → Bytes
 spaced first second = first ++ (codes " " ++ second)
 
--- the first line: how many faulty replicas are borne, and how many clients there are
+-- the first line: how many faulty replicas are tolerated, and how many clients there are
 abbrev pub AreNumbers : ℕ × ℕ → Type 0
 AreNumbers n = (n.0 < 2 ^ 64) × (n.1 < 2 ^ 64)
 

@@ -1,6 +1,6 @@
 //! The text of a schedule, read.
 //!
-//! Its first line is `world F C`: F faulty replicas are borne, and there are C clients. Each other line is an event:
+//! Its first line is `world F C`: F faulty replicas are tolerated, and there are C clients. Each other line is an event:
 //! `relay K PARTY` brings frame K of the record to a party, and `beat rN` is a beat of replica N. A party is `r` or
 //! `c` and its number. Each line ends by LF, and one space stands between fields. Numbers are decimals without
 //! leading zeros, below 2^64, and a party's below 256.

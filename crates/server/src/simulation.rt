@@ -47,7 +47,7 @@ fn read_all<R: Read>(alloc: Global, reader: &mut R) -> Result<Vec<u8>, Fault>
     }
 }
 
-/// The refusal that a failed read is: want of memory is told apart.
+/// The refusal that a failed read is: out of memory is told apart.
 pub fn read_fault(error: &io::Error) -> Fault
     ensures { result ≡ read_fault_of (error_kind error.now) }
 {

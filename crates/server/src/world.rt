@@ -68,7 +68,7 @@ impl World {
 
     /// Lets an event happen, and appends what was sent in it to the record.
     ///
-    /// A refusal of a party is its answer. `Err` says that there is no such event here, or that memory was wanting.
+    /// A refusal of a party is its answer. `Err` says that there is no such event here, or that memory was refused.
     pub(crate) fn happen(&mut self, event: Event) -> Result<Answer, Fault>
         ensures config { self.new.config ≡ self.old.config }
         ensures absent { IsErrOf result Fault.NoSuchParty ↔ IsFalse (is_party_of self.old.config (receiver event)) }
