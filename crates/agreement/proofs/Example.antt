@@ -5,7 +5,7 @@ use Rattle.std.specs.List.{AllByRecursion}
 use Rattle.definitions.specs.Lists.{beginning, Among, AreDistinct, greatest, count_below}
 use Rattle.definitions.specs.Branches.{Branch, justify_height, just1, just2, just3, Extends, highest}
 use Rattle.ids.specs.Sizes.{Sizes, replicas, quorum}
-use Rattle.definitions.specs.Chronicles.{Admitted, Step, Step.took_block, Chronicle, voted, taken, tree, vheight, lock, decides, decided_by, decided, IsLawful}
+use Rattle.definitions.specs.Chronicles.{Admitted, Step, Step.took_block, Chronicle, voted, taken, tree, vheight, lock, decides, decided_by, decided, IsLawful, stored}
 use Rattle.definitions.specs.Agreement.{Order, steps_of, IsOrdered}
 use Rattle.definitions.proofs.Lists.{beginning-append}
 use Rattle.definitions.proofs.Branches.{extends-cases, length-extends}
@@ -58,7 +58,7 @@ record MayDo (parent : Branch) (voters : List ℕ) (c : Chronicle) : Type 0 wher
   certified : (AreDistinct voters × AllByRecursion (λ v. v < replicas sizes) voters × (quorum sizes ≤ length voters)) ⊎ (parent ≡ [])
 
 does-lawful : (parent : Branch) (voters : List ℕ) (c : Chronicle) → MayDo parent voters c → IsLawful sizes c → IsLawful sizes (does (on parent) voters ∷ c)
-unfolding tree taken
+unfolding tree stored taken
 does-lawful parent voters c h l = (
   (
     λ v. record {
@@ -105,20 +105,20 @@ three-quorum = (
 )
 
 lawful1 : IsLawful sizes history1
-unfolding vheight voted greatest lock taken highest tree
+unfolding vheight voted greatest lock taken highest tree stored
 lawful1 = does-lawful [] [] [] (record { higher = omega arith; safe = (block1, refl); lower = (omega arith, tt); stands = inl refl; certified = inr refl }) tt
 
 lawful2 : IsLawful sizes history2
-unfolding vheight voted greatest lock taken highest tree just2 just1 justify_height beginning
+unfolding vheight voted greatest lock taken highest tree stored just2 just1 justify_height beginning
 lawful2 = does-lawful block1 three history1 (record { higher = omega arith; safe = (block2, refl); lower = (omega arith, (omega arith, tt)); stands = inl refl; certified = inl three-quorum }) lawful1
 
 lawful3 : IsLawful sizes history3
-unfolding vheight voted greatest lock taken highest tree just2 just1 justify_height beginning
+unfolding vheight voted greatest lock taken highest tree stored just2 just1 justify_height beginning
 lawful3 = does-lawful block2 three history2 (record { higher = omega arith; safe = (block3, refl); lower = (omega arith, (omega arith, (omega arith, tt))); stands = inl refl; certified = inl three-quorum }) lawful2
 
 -- the lock is block1 by now
 lawful4 : IsLawful sizes history4
-unfolding vheight voted greatest lock taken highest tree just2 just1 justify_height beginning
+unfolding vheight voted greatest lock taken highest tree stored just2 just1 justify_height beginning
 lawful4 = does-lawful block3 three history3 (record {
   higher = omega arith;
   safe = (record { commands = []; justify = 3 } ∷ record { commands = []; justify = 2 } ∷ record { commands = []; justify = 1 } ∷ [], refl);

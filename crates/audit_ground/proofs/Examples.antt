@@ -107,7 +107,7 @@ take-lawful (b ∷ parent) counted voted c h q =
 
 -- a vote that passes is lawful
 vote-lawful : (b : Branch) (counted : List ℕ) (voted : Bool) (c : Chronicle) → votes_well b (took_block (admitted b counted voted) ∷ c) c ≡ true → IsLawfulVote b (took_block (admitted b counted voted) ∷ c) c
-unfolding votes_well tree taken
+unfolding votes_well tree stored taken
 vote-lawful b counted voted c h =
     let p = and_parts _ _ h in
     let r = and_parts _ _ p.1 in
@@ -140,7 +140,7 @@ digest_of-core (b ∷ parent) c h = refl
 
 -- each block of a life is stored
 took-stored : (ts : List Taking) → lives_well ts ≡ true → (a : Admitted) → Among (took_block a) (life ts) → IsStored (life ts) a
-unfolding lives_well tree taken
+unfolding lives_well tree stored taken
 took-stored [] h a m = absurd m
 took-stored (t ∷ earlier) h a (inl e) =
     let p = and_parts (may_take t.0 (life earlier) && (not t.2 || votes_well t.0 (life (t ∷ earlier)) (life earlier))) (lives_well earlier) h in

@@ -1,12 +1,11 @@
 -- What an insertion answers and leaves.
-use Rattle.std.specs.Prelude.{◌≡◌, ◌⊎◌, ℕ, Bool, List, ◌∷◌, Some, None, Result, Ok, Err}
+use Rattle.std.specs.Prelude.{◌≡◌, ◌⊎◌, Bool, ◌∷◌, Result, Ok, Err}
 use Rattle.ids.specs.declared.fault.Fault.{Fault}
 use Rattle.ids.specs.declared.fault.Fault.TheVariants as fault
 use Rattle.definitions.specs.Bytes.{Bytes}
 use Rattle.definitions.specs.Frames.{Core, Certificate}
-use Rattle.definitions.specs.Branches.{Branch}
 use Rattle.definitions.specs.Digests.{digest}
-use Rattle.definitions.specs.Trees.{TreeState, blocks, find_in, Placing, Placing.stands, Placing.grows, Placing.lacks_parent, Placing.unfit, placing_new, placing}
+use Rattle.definitions.specs.Trees.{TreeState, blocks, Placing, Placing.stands, Placing.grows, Placing.lacks_parent, Placing.unfit, placing}
 use Rattle.block_tree.specs.declared.place.Place.{Place}
 use Rattle.block_tree.specs.declared.place.Place.TheVariants.{Stands, Grows}
 
@@ -16,10 +15,6 @@ place_of (stands b) = Ok Stands
 place_of (grows b) = Ok Grows
 place_of lacks_parent = Err fault.UnknownParent
 place_of (unfit n) = Err n
-
--- what a block comes to that doesn't stand in the tree
-unfoldable pub placing_over : ℕ → Core → Certificate → List Branch → Placing
-placing_over most core q tree = elim (find_in core.parent tree) [ Some parent ↦ placing_new most parent core q tree | None ↦ lacks_parent ]
 
 -- what an insertion answers and leaves, where the block comes to this
 abbrev pub InsertedAt : TreeState → Core → Certificate → Bool → Result Bytes Fault → TreeState → Placing → Type 0

@@ -3,9 +3,9 @@
 ghost use Rattle.std.specs.Prelude.{◌≡◌, ◌<◌, ◌==◌, ◌∷◌, not, nat_lt, length, Some, count_by};
 ghost use Rattle.definitions.specs.Branches.{Branch};
 ghost use Rattle.definitions.specs.Digests.{digest as digest_of_core};
-ghost use Rattle.definitions.specs.Trees.{blocks, find_in, block_of, justifies, most_of_height, placing};
+ghost use Rattle.definitions.specs.Trees.{blocks, find_in, block_of, justifies, most_of_height, placing, placing_over};
 ghost use Rattle.frames_view.specs.Views.{core_of, certificate_of};
-ghost use Rattle.block_tree.specs.Insertions.{place_of, placing_over};
+ghost use Rattle.block_tree.specs.Insertions.{place_of};
 
 use crate::node::{count_at, is_same};
 use crate::tree::Tree;
@@ -26,7 +26,7 @@ pub(crate) enum Place {
 
 impl Tree {
     /// What a block comes to, with the certificate that came along.
-    #[tactic(auto, unfolding(definitions::specs::Trees::placing, definitions::specs::Trees::placing_known, crate::specs::Insertions::placing_over))]
+    #[tactic(auto, unfolding(definitions::specs::Trees::placing, definitions::specs::Trees::placing_known))]
     pub(crate) fn placing(
         &self,
         digest: &Digest,

@@ -6,7 +6,8 @@ use Rattle.definitions.proofs.Lists.{Among-after, Among-either, Among-map, great
 use Rattle.definitions.specs.Lists.{Among, AreDistinct}
 use Rattle.definitions.specs.Branches.{Block, Branch, just1, Extends, IsBranch, just2, just3}
 use Rattle.ids.specs.Sizes.{Sizes, replicas, quorum}
-use Rattle.definitions.specs.Chronicles.{Admitted, Step, Step.took_block, Step.noted, Chronicle, taken, tree, lock, IsLawfulVote, IsLawfulStep, IsLawful, voted, IsLawfulTake, vheight, decides, decided_by, decided, executed}
+use Rattle.definitions.specs.Trees.{Stored, blocks}
+use Rattle.definitions.specs.Chronicles.{Admitted, Step, Step.took_block, Step.noted, Chronicle, taken, stored, stored_of, tree, lock, IsLawfulVote, IsLawfulStep, IsLawful, voted, IsLawfulTake, vheight, decides, decided_by, decided, executed}
 
 pub tree-genesis : (c : Chronicle) → Among [] (tree c)
 unfolding tree
@@ -14,12 +15,12 @@ tree-genesis c = Among-after [] _ ([] ∷ []) (inl refl)
 
 -- ---- a step more
 
-pub tree-step : (a : Admitted) (c : Chronicle) (x : Branch) (t : Bool) → Among x (map (λ a. a.branch) (taken c) ++ [] ∷ []) → Among x (map (λ a. a.branch) (cond t (a ∷ taken c) (taken c)) ++ [] ∷ [])
+pub tree-step : (a : Admitted) (c : Chronicle) (x : Branch) (t : Bool) → Among x (blocks (map stored_of (taken c))) → Among x (blocks (map stored_of (cond t (a ∷ taken c) (taken c))))
 tree-step a c x true m = inr m
 tree-step a c x false m = m
 
 pub tree-grows : (st : Step) (c : Chronicle) (x : Branch) → Among x (tree c) → Among x (tree (st ∷ c))
-unfolding tree taken
+unfolding tree stored taken
 tree-grows (took_block a) c x m = tree-step a c x a.new m
 tree-grows (noted n) c x m = m
 
@@ -68,10 +69,13 @@ taken-now (took_block b) c a m = by b.new refl m
 taken-now (noted n) c a m = inr m
 
 pub tree-cases : (c : Chronicle) (b : Branch) → Among b (tree c) → (b ≡ []) ⊎ ((a : Admitted) × Among a (taken c) × (a.branch ≡ b))
-unfolding tree
+unfolding tree stored
 tree-cases c b m =
-    elim (Among-either b (map (λ a. a.branch) (taken c)) ([] ∷ []) m) [
-      | inl k ↦ (let r = Among-map (λ (a : Admitted). a.branch) (taken c) b k in inr (r.0, r.1, sym r.2))
+    elim (Among-either b (map (λ s. s.branch) (map stored_of (taken c))) ([] ∷ []) m) [
+      | inl k ↦ (
+          let r = Among-map (λ (s : Stored). s.branch) (map stored_of (taken c)) b k in
+          let q = Among-map stored_of (taken c) r.0 r.1 in
+          inr (q.0, q.1, sym (r.2 ∙ ap (λ (s : Stored). s.branch) q.2)))
       | inr k ↦ (elim k [ inl e ↦ inl e | inr n ↦ absurd n ])
     ]
 
@@ -172,8 +176,10 @@ tree-just1 s c l b m = tree-extends s c l b (just1 b) m (just1-extends b)
 
 -- a taken block is in the tree
 pub taken-tree : (c : Chronicle) (a : Admitted) → Among a (taken c) → Among a.branch (tree c)
-unfolding tree
-taken-tree c a m = Among-before a.branch (map (λ (x : Admitted). x.branch) (taken c)) ([] ∷ []) (Among-mapped (λ (x : Admitted). x.branch) (taken c) a m)
+unfolding tree stored
+taken-tree c a m =
+    Among-before a.branch (map (λ (s : Stored). s.branch) (map stored_of (taken c))) ([] ∷ [])
+    (Among-mapped (λ (s : Stored). s.branch) (map stored_of (taken c)) (stored_of a) (Among-mapped stored_of (taken c) a m))
 
 -- ---- decisions
 

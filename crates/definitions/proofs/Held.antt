@@ -1,21 +1,17 @@
 -- What a chronicle's tree holds: the blocks that are stored, the lock and the last executed block.
-use Rattle.std.proofs.Common.{◌≡◌, ◌⊎◌, List, [], ◌∷◌, ◌++◌, refl, sym, ap, subst, inl, inr, map}
+use Rattle.std.proofs.Common.{◌≡◌, ◌⊎◌, [], refl, sym, subst, inl, inr}
 use Rattle.definitions.proofs.Branches.{just1-extends, just3-below, Extends-trans}
 use Rattle.definitions.proofs.Chronicles.{tree-genesis, taken-tree, lock-cases, decided-cases, executed-decided}
 use Rattle.definitions.proofs.Trees.{tree-below}
 use Rattle.definitions.specs.Lists.{Among}
 use Rattle.definitions.specs.Branches.{Branch, just1, just2, just3, Extends}
 use Rattle.definitions.specs.Trees.{blocks, IsTree}
-use Rattle.definitions.specs.Chronicles.{Admitted, Chronicle, taken, stored, stored_of, tree, lock, executed}
-
-blocks-taken : (xs : List Admitted) → blocks (map stored_of xs) ≡ map (λ a. a.branch) xs ++ [] ∷ []
-blocks-taken [] = refl
-blocks-taken (a ∷ xs) = ap (λ (t : List Branch). a.branch ∷ t) (blocks-taken xs)
+use Rattle.definitions.specs.Chronicles.{Admitted, Chronicle, taken, stored, tree, lock, executed}
 
 -- the branches of what is stored are the tree
 pub blocks-stored : (c : Chronicle) → blocks (stored c) ≡ tree c
-unfolding stored tree
-blocks-stored c = blocks-taken (taken c)
+unfolding tree
+blocks-stored c = refl
 
 just2-extends : (b : Branch) → Extends b (just2 b)
 unfolding just2

@@ -104,7 +104,7 @@ certified sizes core q f j t tr m ch e =
 -- a new block that passes the tests
 new-step : (self : Identity) (w : Option ℕ) (parent : Branch) (core : Core) (q : Certificate) (f : Findings) (c : Chronicle) → IsSound self.sizes c → IsTree ((block_of core ∷ parent) ∷ tree c) → (Among (block_of core ∷ parent) (tree c) → ⊥) → Among parent (tree c) → IsChecked self.sizes core q f → q.digest ≡ digest_of (just1 (block_of core ∷ parent)) → length (tree c) < most_blocks →
     OnStands (λ st. IsSound self.sizes (st ∷ c)) (take_block self w (admitted (block_of core ∷ parent) core q f true) c)
-unfolding admitted tree taken
+unfolding admitted tree stored taken
 new-step self w parent core q f c so tr fresh m ch e room = record {
   is_tree = tr;
   lawful = (
@@ -130,7 +130,7 @@ unfolding find_block
 found d c b e = found-in d (tree c) b e
 
 placed-sound : (self : Identity) (w : Option ℕ) (sender : ℕ) (core : Core) (q : Certificate) (f : Findings) (c : Chronicle) → IsChecked self.sizes core q f → IsSound self.sizes c → (p : Placing) → IsPlaced most_blocks core q (tree c) p → Keeps self c (on_placing self w sender core q f c p)
-unfolding on_placing admitted tree taken
+unfolding on_placing admitted tree stored taken
 placed-sound self w sender core q f c ch so (stands b) h =
     let m = (found-in (digest core) (tree c) b h.0).0 in
     record {
@@ -161,24 +161,24 @@ other-sound need c st e l so = record {
 }
 
 vote-sound : (self : Identity) (o : Option Branch) (b : Vote) (d : Bytes) (c : Chronicle) → IsSound self.sizes c → Keeps self c (with_block o b.voter d (λ x. due (noted (got_vote b.voter b.vector x))))
-unfolding tree taken
+unfolding tree stored taken
 vote-sound self None b d c so = tt
 vote-sound self (Some x) b d c so = other-sound _ c _ refl tt so
 
 new_view-sound : (self : Identity) (o : Option Branch) (w sender : ℕ) (q : Certificate) (d : Bytes) (c : Chronicle) → IsSound self.sizes c → Keeps self c (with_block o sender d (λ x. due (noted (got_new_view w sender q x))))
-unfolding tree taken
+unfolding tree stored taken
 new_view-sound self None w sender q d c so = tt
 new_view-sound self (Some x) w sender q d c so = other-sound _ c _ refl tt so
 
 request-sound : (self : Identity) (r : Command) (c : Chronicle) → IsSound self.sizes c → Keeps self c (on_request r c)
-unfolding tree taken on_request
+unfolding tree stored taken on_request
 request-sound self r c so = cond_both (is_due (history c) r && (not (list_any (is_same_request r) (pending c)) && not (nat_lt (length (pending c)) 4096))) _ _ P (λ e k. cc) (λ e. other-sound _ c (noted (got_request r)) refl tt so)
   where
     P : Ruling → Type 0
     P = Keeps self c
 
 pub ruling-sound : (self : Identity) (i : Input) (c : Chronicle) → IsCheckedInput self.sizes i → IsSound self.sizes c → Keeps self c (ruling self i c)
-unfolding ruling tree taken
+unfolding ruling tree stored taken
 ruling-sound self (proposal_in w core q f) c ch so = block-sound self _ _ core q f c ch so
 ruling-sound self (block_in sender core q f) c ch so = block-sound self _ _ core q f c ch so
 ruling-sound self (vote_in d b) c ch so = vote-sound self _ b d c so

@@ -6,7 +6,7 @@ use Rattle.definitions.specs.Lists.{Among, AreDistinct, greatest}
 use Rattle.definitions.specs.Frames.{Command, Core, Certificate}
 use Rattle.definitions.specs.Branches.{Block, Branch, justify_height, just1, just2, just3, Extends, extends, highest}
 use Rattle.definitions.specs.Bytes.{Bytes}
-use Rattle.definitions.specs.Trees.{Stored, IsTree, most_blocks}
+use Rattle.definitions.specs.Trees.{Stored, blocks, IsTree, most_blocks}
 use Rattle.ids.specs.Sizes.{Sizes, replicas, quorum}
 use Rattle.definitions.specs.Histories.{History, history_of}
 
@@ -62,7 +62,7 @@ stored c = map stored_of (taken c)
 
 -- the blocks that it knows, with genesis
 unfoldable pub tree : Chronicle → List Branch
-tree c = map (λ a. a.branch) (taken c) ++ [] ∷ []
+tree c = blocks (stored c)
 
 -- the greatest height that it voted for (HotStuff, PODC 2019, vheight)
 unfoldable pub vheight : Chronicle → ℕ

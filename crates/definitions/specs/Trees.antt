@@ -68,7 +68,7 @@ pub data Placing : Type 0 where
 unfoldable pub placing_known : Branch → Certificate → Placing
 placing_known b q = if justifies q b then stands b else unfit fault.WrongJustify
 
--- a block whose parent stands in the tree
+-- a new block whose parent stands in the tree
 unfoldable pub placing_new : ℕ → Branch → Core → Certificate → List Branch → Placing
 placing_new most parent core q tree =
     let b : Branch = block_of core ∷ parent in
@@ -78,13 +78,13 @@ placing_new most parent core q tree =
     else (if not (nat_lt (length tree) most) then unfit fault.Full
     else grows b)))
 
+-- a block that doesn't stand in the tree
+abbrev pub placing_over : ℕ → Core → Certificate → List Branch → Placing
+placing_over most core q tree = elim (find_in core.parent tree) [ Some parent ↦ placing_new most parent core q tree | None ↦ lacks_parent ]
+
 -- a block with its certificate, in a tree of at most so many blocks
 unfoldable pub placing : ℕ → Core → Certificate → List Branch → Placing
-placing most core q tree =
-    elim (find_in (digest core) tree) [
-      | Some b ↦ placing_known b q
-      | None ↦ elim (find_in core.parent tree) [ Some parent ↦ placing_new most parent core q tree | None ↦ lacks_parent ]
-    ]
+placing most core q tree = elim (find_in (digest core) tree) [ Some b ↦ placing_known b q | None ↦ placing_over most core q tree ]
 
 -- one branch a digest, each with all below it, and genesis
 pub record IsTree (t : List Branch) : Type 0 where

@@ -21,7 +21,7 @@ use Rattle.definitions.specs.Keyrings.{Keyring}
 use Rattle.definitions.proofs.Spellings.{command_content_injective}
 use Rattle.definitions.specs.Digests.{AllKnown, NoCollision}
 use Rattle.definitions.specs.Histories.{Entry}
-use Rattle.definitions.specs.Chronicles.{tree, taken, executed, history}
+use Rattle.definitions.specs.Chronicles.{tree, taken, executed, history, stored}
 use Rattle.definitions.specs.Worlds.{World, Happening, new_world}
 use Rattle.definitions.specs.Runs.{refusal}
 use Rattle.definitions.specs.Events.{happens}
@@ -67,7 +67,7 @@ module _ (Known : Core → Type 0) (apart : NoCollision Known) (genesis : Known 
 -- ---- the world at its start
 
 new-row : (Known : Core → Type 0) (sizes : Sizes) (is_member : ℕ → Bool) → IsRow Known sizes is_member (λ i. [])
-unfolding tree taken steps_of
+unfolding tree stored taken steps_of
 new-row Known sizes is_member = record {
   sound = λ p m. record {
     is_tree = record { branches = λ x k. one_only (λ (b : Branch). IsBranch b) tt x k; one = λ x y k l e. by x k ∙ sym (by y l); parents = λ b parent k. absurd (cons-nil b parent (by (b ∷ parent) k)); genesis = inl refl };

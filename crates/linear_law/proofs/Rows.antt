@@ -10,7 +10,8 @@ use Rattle.definitions.specs.Frames.{Core, genesis_core}
 use Rattle.definitions.specs.Branches.{Branch, just1, Extends}
 use Rattle.ids.specs.Sizes.{Sizes}
 use Rattle.definitions.specs.Digests.{digest_of, core_of, AllKnown, NoCollision}
-use Rattle.definitions.specs.Chronicles.{Admitted, Step, Step.took_block, Step.noted, Chronicle, voted, taken, tree, IsLawful, IsLawfulTake, IsSound}
+use Rattle.definitions.specs.Trees.{blocks}
+use Rattle.definitions.specs.Chronicles.{Admitted, Step, Step.took_block, Step.noted, Chronicle, voted, taken, tree, IsLawful, IsLawfulTake, IsSound, stored, stored_of}
 use Rattle.definitions.specs.Agreement.{Order, steps_of, IsBacked, IsOrderly}
 
 abbrev pub put_row : ℕ → Chronicle → (ℕ → Chronicle) → ℕ → Chronicle
@@ -52,13 +53,13 @@ taken-known Known need a c l old k =
     let p = l.parent in
     subst (AllKnown Known) (sym p.2) (subst (λ (b : Branch). Known (core_of b)) p.2 k, old p.1 p.4)
 
-step-known : (Known : Core → Type 0) (a : Admitted) (c : Chronicle) (t : Bool) → a.new ≡ t → (a.new ≡ true → AllKnown Known a.branch) → ((b : Branch) → Among b (map (λ a. a.branch) (taken c) ++ [] ∷ []) → AllKnown Known b) → (b : Branch) → Among b (map (λ a. a.branch) (cond t (a ∷ taken c) (taken c)) ++ [] ∷ []) → AllKnown Known b
+step-known : (Known : Core → Type 0) (a : Admitted) (c : Chronicle) (t : Bool) → a.new ≡ t → (a.new ≡ true → AllKnown Known a.branch) → ((b : Branch) → Among b (blocks (map stored_of (taken c))) → AllKnown Known b) → (b : Branch) → Among b (blocks (map stored_of (cond t (a ∷ taken c) (taken c)))) → AllKnown Known b
 step-known Known a c true e here old b (inl i) = subst (AllKnown Known) (sym i) (here e)
 step-known Known a c true e here old b (inr m) = old b m
 step-known Known a c false e here old b m = old b m
 
 pub grows-known : (Known : Core → Type 0) (need : Sizes) (st : Step) (is_member : ℕ → Bool) (row : ℕ → Chronicle) (c : Chronicle) → IsLawful need (st ∷ c) → StepMayFollow Known is_member row st → ((b : Branch) → Among b (tree c) → AllKnown Known b) → (b : Branch) → Among b (tree (st ∷ c)) → AllKnown Known b
-unfolding tree taken
+unfolding tree stored taken
 grows-known Known need (took_block a) is_member row c l f old = step-known Known a c a.new refl (λ n. taken-known Known need a c (l.0.1 n) old (f.known n)) old
 grows-known Known need (noted n) is_member row c l f old = old
 

@@ -32,7 +32,7 @@ genesis-tree = record {
 }
 
 first-sound : (s : Sizes) → IsSound s []
-unfolding tree taken
+unfolding tree stored taken
 first-sound s = record {
   is_tree = genesis-tree;
   lawful = tt;

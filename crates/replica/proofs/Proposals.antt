@@ -110,7 +110,7 @@ pub stored-took : (c : Chronicle) (a : Admitted) → stored (took_block a ∷ c)
 stored-took c a = stored-by c a a.new refl
 
 tree-by : (c : Chronicle) (a : Admitted) (t : Bool) → a.new ≡ t → tree (took_block a ∷ c) ≡ cond t (a.branch ∷ tree c) (tree c)
-unfolding tree taken
+unfolding tree stored taken
 tree-by c a true e = rw e refl
 tree-by c a false e = rw e refl
 
