@@ -9,9 +9,8 @@ use Rattle.ids.specs.declared.line_fault.LineFault.TheVariants.{UnknownName, Bad
 use Rattle.definitions.specs.Bytes.{Bytes}
 use Rattle.definitions.specs.Items.{Item, goes_on, IsItemAt, IsUnfinished}
 use Rattle.definitions.specs.ServerText.{Exchange, answered, finished, told, item_in, exchange_text, is_followed, AreExchanges}
-use Rattle.definitions.proofs.ItemLaws.{IsItemAt-append}
+use Rattle.definitions.proofs.ItemLaws.{IsItemAt-append, takes_some}
 use Rattle.line_feed.specs.Feeding.{Gives}
-use Rattle.line_feed.proofs.Streams.{takes_some}
 use Rattle.connection.specs.declared.end.End.{End}
 use Rattle.connection.specs.declared.end.End.TheVariants.{Quit, Input, Closed, NoReply}
 use Rattle.connection.specs.Serving.{Call, Calls, end_of, ended_by, ending, State, Serving, Replies, ServesFront, ServesText}

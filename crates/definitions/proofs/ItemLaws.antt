@@ -611,11 +611,11 @@ AreItems-unique (x ∷ xs) (y ∷ ys) text (m, is, behind) (n, js, later) =
     cc
 
 -- what a text begins with is no longer than the text
-length_front : (text front : Bytes) → StartsWith text front → length front ≤ length text
+pub length_front : (text front : Bytes) → StartsWith text front → length front ≤ length text
 length_front text front h = omega (arith, ap (λ (t : Bytes). length t) h.1, length-append front h.0)
 
 -- an item behind which more is read takes some of the text
-takes_some : (text : Bytes) (x : Item) (used : ℕ) → IsItemAt text x used → goes_on x ≡ true → (1 ≤ used) × (used ≤ length text)
+pub takes_some : (text : Bytes) (x : Item) (used : ℕ) → IsItemAt text x used → goes_on x ≡ true → (1 ≤ used) × (used ≤ length text)
 takes_some text (asked r n) used is e = let front = length_front text (spelling r n) is.1 in let size = length-spelling r n in (omega (arith, is.2, size), omega (arith, is.2, front))
 takes_some text quit used is e = absurd cc
 takes_some text (bad UnknownName) used is e = let front = length_front text (is.0 ++ crlf) is.1.2 in (omega (arith, is.3), omega (arith, is.3, front, length-append is.0 crlf))

@@ -3,30 +3,14 @@ use Rattle.std.proofs.Common.{◌≡◌, ◌∙◌, ℕ, ◌+◌, ◌<◌, ◌�
 use Rattle.std.proofs.lemmas.List.{drop-append-le}
 use Rattle.std.specs.List.{AllByRecursion}
 use Rattle.std.specs.Prelude.{if◌then◌else◌, IsSomeAnd}
-use Rattle.ids.specs.declared.line_fault.LineFault.TheVariants.{UnknownName, BadFields, TooLarge, BadChunk, LineTooLong}
 use Rattle.definitions.specs.Bytes.{Bytes}
-use Rattle.definitions.specs.Requests.{spelling, crlf, most_line, most_data, Head, stored_of}
-use Rattle.definitions.specs.Items.{Item, asked, quit, bad, goes_on, StartsWith, IsLineOf, IsItemAt, IsUnfinished}
+use Rattle.definitions.specs.Requests.{crlf, most_line, most_data, Head, stored_of}
+use Rattle.definitions.specs.Items.{Item, goes_on, IsLineOf, IsItemAt, IsUnfinished}
 use Rattle.definitions.proofs.Lines.{length-line}
-use Rattle.definitions.proofs.RequestTexts.{length-spelling}
-use Rattle.definitions.proofs.ItemLaws.{IsItemAt-append, IsItemAt-unique}
+use Rattle.definitions.proofs.ItemLaws.{IsItemAt-append, IsItemAt-unique, takes_some}
 use Rattle.line_feed.specs.Feeding.{left_behind, Call, pushed, asked_next, Lead, all_pushed, all_given, StandFirst}
 
 -- ---- what an item takes
-
--- what a text begins with is no longer than the text
-length_front : (text front : Bytes) → StartsWith text front → length front ≤ length text
-length_front text front h = omega (arith, ap (λ (t : Bytes). length t) h.1, length-append front h.0)
-
--- an item behind which more is read takes some of the text
-pub takes_some : (text : Bytes) (x : Item) (used : ℕ) → IsItemAt text x used → goes_on x ≡ true → (1 ≤ used) × (used ≤ length text)
-takes_some text (asked r n) used is e = let front = length_front text (spelling r n) is.1 in let size = length-spelling r n in (omega (arith, is.2, size), omega (arith, is.2, front))
-takes_some text quit used is e = absurd cc
-takes_some text (bad UnknownName) used is e = let front = length_front text (is.0 ++ crlf) is.1.2 in (omega (arith, is.3), omega (arith, is.3, front, length-append is.0 crlf))
-takes_some text (bad BadFields) used is e = absurd cc
-takes_some text (bad TooLarge) used is e = absurd cc
-takes_some text (bad BadChunk) used is e = absurd cc
-takes_some text (bad LineTooLong) used is e = absurd cc
 
 -- what is left behind an item, of a longer text
 left_more : (text more : Bytes) (x : Item) (used : ℕ) → IsItemAt text x used → (b : Bool) → goes_on x ≡ b → (if b then drop used (text ++ more) else text ++ more) ≡ (if b then drop used text else text) ++ more

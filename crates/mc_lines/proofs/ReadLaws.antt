@@ -6,11 +6,11 @@ use Rattle.std.proofs.lemmas.Option.{some_pair_parts}
 use Rattle.ids.specs.declared.line_fault.LineFault.TheVariants.{UnknownName, BadFields, TooLarge, BadChunk, LineTooLong}
 use Rattle.definitions.specs.Bytes.{Bytes}
 use Rattle.definitions.specs.Requests.{spelling, Asked, Head, store, cas, get, gets, delete, incr, decr, stored_of, crlf, most_data, most_line, canonical}
-use Rattle.definitions.specs.Items.{StartsWith, names, name_of, HasNoEnd, IsLineOf, Item, asked, quit, bad, IsItemAt, IsUnfinished}
+use Rattle.definitions.specs.Items.{names, name_of, HasNoEnd, IsLineOf, Item, asked, quit, bad, IsItemAt, IsUnfinished}
 use Rattle.definitions.specs.Canonical.{request_of}
 use Rattle.definitions.proofs.Lines.{head_at, head_at-line}
 use Rattle.definitions.proofs.RequestTexts.{request_of_some, request_of-canonical}
-use Rattle.definitions.proofs.ItemLaws.{HasFirst, item_by_line, made_item, made_open, IsItemAt-unique, IsUnfinished-no_item}
+use Rattle.definitions.proofs.ItemLaws.{length_front, HasFirst, item_by_line, made_item, made_open, IsItemAt-unique, IsUnfinished-no_item}
 use Rattle.mc_lines.specs.declared.request.Request.{Request}
 use Rattle.mc_lines.specs.declared.read.Read.{Read}
 use Rattle.mc_lines.specs.declared.read.Read.TheVariants as reads
@@ -138,10 +138,6 @@ pub length_at : (text : Bytes) (i : ℕ) → EndsAt text i → i + 2 ≡ length 
 length_at text i h = omega (arith, h.0, length-take-le i text (omega (arith, h.0)))
 
 -- ---- how much is taken
-
--- what a text begins with is no longer than the text
-length_front : (text front : Bytes) → StartsWith text front → length front ≤ length text
-length_front text front h = omega (arith, ap (λ (t : Bytes). length t) h.1, length-append front h.0)
 
 -- what is taken is there
 pub used_of-within : (text : Bytes) (r : Read) → IsReadOf text r → used_of r ≤ length text

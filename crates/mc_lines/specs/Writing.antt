@@ -1,9 +1,6 @@
 -- The texts that are written.
-use Rattle.std.specs.Prelude.{◌≡◌, ℕ, ◌+◌, ◌^◌, ◌<◌, ◌≤◌, Bool, List, [], ◌∷◌, ◌++◌, length, decimal, codes, Result, Err, OnOk, OnErr, MatchResult, Vec, vec_len, vec_capacity}
+use Rattle.std.specs.Prelude.{ℕ, Bool, List, [], ◌∷◌, ◌++◌, length, decimal, codes}
 use Rattle.std.specs.List.{flat_map, join_with_byte}
-use Rattle.std.specs.declared.alloc.Global.{Global}
-use Rattle.ids.specs.declared.fault.Fault.{Fault}
-use Rattle.ids.specs.declared.fault.Fault.TheVariants.{Memory}
 use Rattle.definitions.specs.Bytes.{Bytes}
 use Rattle.definitions.specs.Requests.{space, crlf}
 use Rattle.definitions.specs.Replies.{value_text}
