@@ -9,7 +9,7 @@ mod bounded;
 mod frames;
 mod parts;
 
-pub use bounded::{Payload, ReplyText};
+pub use bounded::{Bounded, Payload, ReplyText};
 pub use frames::{
     write_block, write_fetch, write_new_view, write_proposal, write_reply_frame,
     write_request_frame, write_vote,
