@@ -45,18 +45,26 @@ impl Collector {
         }
     }
 
-    /// Adds a checked vote for the block of a digest. At `Memory` all kept votes are as before.
-    pub fn add(&mut self, digest: Digest, vote: &Checked<VoteFrameView>) -> Result<Added, Fault>
-        requires sizes { vote.now.keys.sizes ≡ self.old.sizes }
-        requires digest { frame_digest (vote_frame_of vote.now.view) ≡ digest }
-        ensures answer { IfOk result (λ added. added ≡ added_to (quorum self.old.sizes) (frame_vote (vote_frame_of vote.now.view)) (kept_for digest self.old.kept)) }
-        ensures kept { OnOk result (IsWith (quorum self.old.sizes) digest (frame_vote (vote_frame_of vote.now.view)) self.old.kept self.new.kept) }
+    /// Adds a checked vote for its block. At `Memory` all kept votes are as before.
+    pub fn add(&mut self, vote: &Checked<VoteFrameView>) -> Result<Added, Fault>
+        requires { vote.now.keys.sizes ≡ self.old.sizes }
+        ensures answer { IfOk result (λ added. let frame = vote_frame_of vote.now.view in
+            added ≡ added_to (quorum self.old.sizes) (frame_vote frame) (kept_for (frame_digest frame) self.old.kept)) }
+        ensures kept { OnOk result (let frame = vote_frame_of vote.now.view in
+            IsWith (quorum self.old.sizes) (frame_digest frame) (frame_vote frame) self.old.kept self.new.kept) }
         ensures unchanged { OnErr result (IsAlike self.old.kept self.new.kept) }
         ensures memory { OnErr result (result ≡ Err Fault.Memory) }
         ensures same_sizes { self.new.sizes ≡ self.old.sizes }
     {
-        let vote = vote.view().vote();
-        add_to(self.alloc, &self.config, &mut self.blocks, digest, &vote)
+        let view = vote.view();
+        let digest = Digest(*view.digest());
+        add_to(
+            self.alloc,
+            &self.config,
+            &mut self.blocks,
+            digest,
+            &view.vote(),
+        )
     }
 
     /// The certificate of the votes that are kept for a digest, by number of voter, once they are a quorum.

@@ -34,8 +34,8 @@ impl Poll {
             return Err(Fault::NotAFrame);
         };
         let vote = check_vote(&self.ring, &config, &view)?;
+        let added = self.collector.add(&vote)?;
         let digest = Digest(*view.digest());
-        let added = self.collector.add(digest, &vote)?;
         Ok((added, self.collector.certificate(&digest)?))
     }
 
