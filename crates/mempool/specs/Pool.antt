@@ -1,0 +1,31 @@
+-- What stands in a pool of pending requests.
+use Rattle.std.specs.Prelude.{ℕ, ◌+◌, ◌==◌, ◌&&◌, not, Bool, List, take, drop, filter, nat_le}
+use Rattle.std.specs.List.{list_any}
+use Rattle.definitions.specs.Bytes.{Bytes}
+use Rattle.definitions.specs.Frames.{Command}
+use Rattle.definitions.specs.FrameLimits.{most_commands}
+
+-- the command of these bytes, whose client, number and length of payload are known: its payload begins at byte 12
+abbrev pub command_at : (client seq payload_len : ℕ) → Bytes → Command
+command_at client seq payload_len bytes = record {
+  client = client;
+  seq = seq;
+  payload = take payload_len (drop 12 bytes);
+  vector = drop (12 + payload_len) bytes;
+}
+
+-- whether a request has this client and number
+abbrev pub is_of : ℕ → ℕ → Command → Bool
+is_of client seq r = (client == r.client) && (seq == r.seq)
+
+-- whether it is this client's, and its number is at most this one
+abbrev pub is_up_to : ℕ → ℕ → Command → Bool
+is_up_to client seq r = (r.client == client) && nat_le r.seq seq
+
+-- whether its client and number are among these
+abbrev pub stands_among : List (ℕ × ℕ) → Command → Bool
+stands_among on r = list_any (λ e. (e.0 == r.client) && (e.1 == r.seq)) on
+
+-- the first ones whose clients and numbers are not among these, as many as a block may have
+abbrev pub first_beside : List (ℕ × ℕ) → List Command → List Command
+first_beside on rs = take most_commands (filter (λ r. not (stands_among on r)) rs)
