@@ -1,5 +1,5 @@
 -- What stands in a pool of pending requests.
-use Rattle.std.specs.Prelude.{ℕ, ◌+◌, ◌==◌, ◌&&◌, not, Bool, List, take, drop, filter, nat_le}
+use Rattle.std.specs.Prelude.{ℕ, ◌+◌, ◌==◌, ◌&&◌, not, Bool, List, take, drop, map, filter, nat_le}
 use Rattle.std.specs.List.{list_any}
 use Rattle.definitions.specs.Bytes.{Bytes}
 use Rattle.definitions.specs.Frames.{Command}
@@ -20,7 +20,7 @@ is_of client seq r = (client == r.client) && (seq == r.seq)
 
 -- whether it is this client's, and its number is at most this one
 abbrev pub is_up_to : ℕ → ℕ → Command → Bool
-is_up_to client seq r = (r.client == client) && nat_le r.seq seq
+is_up_to client seq r = (client == r.client) && nat_le r.seq seq
 
 -- whether its client and number are among these
 abbrev pub stands_among : List (ℕ × ℕ) → Command → Bool
@@ -29,3 +29,7 @@ stands_among on r = list_any (λ e. (e.0 == r.client) && (e.1 == r.seq)) on
 -- the first ones whose clients and numbers are not among these, as many as a block may have
 abbrev pub first_beside : List (ℕ × ℕ) → List Command → List Command
 first_beside on rs = take most_commands (filter (λ r. not (stands_among on r)) rs)
+
+-- each under its client and number
+abbrev pub keyed : List Command → List ((ℕ × ℕ) × Command)
+keyed rs = map (λ r. ((r.client, r.seq), r)) rs

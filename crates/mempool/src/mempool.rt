@@ -11,6 +11,7 @@ ghost use Rattle.mempool.specs.Pool.{is_of, is_up_to, stands_among, first_beside
 use crate::pending::Pending;
 use frames_view::CommandView;
 use ids::{ClientId, Fault, Seq};
+use indexmap::IndexMap;
 use std::alloc::Global;
 use std::marker::Model;
 
@@ -24,16 +25,20 @@ const MOST_COMMANDS: usize = 16;
 #[derive(Debug, Drop)]
 pub struct Mempool {
     alloc: Global,
-    requests: Vec<Pending>,
+    requests: IndexMap<(ClientId, Seq), Pending>,
 }
 
 impl Model for Mempool {
-    ghost use Rattle.std.specs.Prelude.{List};
+    ghost use Rattle.std.specs.Prelude.{◌≡◌, List};
     ghost use Rattle.definitions.specs.Frames.{Command};
+    ghost use Rattle.indexmap.specs.IndexMap.{values};
+    ghost use Rattle.mempool.specs.Pool.{keyed};
 
     ghost Value = { List Command };
 
-    ghost view = { λ pool. pool.requests.items };
+    ghost view = { λ pool. values pool.requests };
+
+    ghost invariant = { λ pool. pool.requests.entries ≡ keyed (values pool.requests) };
 }
 
 impl Mempool {
@@ -43,7 +48,7 @@ impl Mempool {
     {
         Mempool {
             alloc,
-            requests: Vec::new(alloc),
+            requests: IndexMap::new(alloc),
         }
     }
 
@@ -65,9 +70,7 @@ impl Mempool {
     pub fn contains(&self, client: ClientId, seq: Seq) -> bool
         ensures { result ≡ list_any (is_of client seq) self.now }
     {
-        self.requests
-            .iter()
-            .any(|request| request.is_of(client, seq))
+        self.requests.contains_key(&(client, seq))
     }
 
     /// Adds a request last; one whose client and number are pending changes nothing.
@@ -79,13 +82,15 @@ impl Mempool {
         ensures full { (result ≡ Err Fault.PoolFull) ↔ ((list_any (is_same_request (command_of request.now)) self.old ≡ false) × (most_pending ≤ length self.old)) }
         ensures refused { OnErr result ((result ≡ Err Fault.PoolFull) ⊎ (result ≡ Err Fault.Memory)) }
     {
-        if self.contains(request.client(), request.seq()) {
+        let (client, seq) = (request.client(), request.seq());
+        if self.contains(client, seq) {
             return Ok(());
         }
         if self.requests.len() >= MOST_PENDING {
             return Err(Fault::PoolFull);
         }
-        self.requests.push(Pending::new(self.alloc, request)?)?;
+        let pending = Pending::new(self.alloc, request)?;
+        self.requests.insert((client, seq), pending)?;
         Ok(())
     }
 
@@ -93,8 +98,11 @@ impl Mempool {
     pub fn drop_executed(&mut self, client: ClientId, seq: Seq)
         ensures { self.new ≡ filter (λ r. not (is_up_to client seq r)) self.old }
     {
-        self.requests
-            .retain(|request| !request.is_up_to(client, seq));
+        self.requests.retain(
+            |_key: &(ClientId, Seq), request: &mut Pending| -> bool
+                ensures { (result ≡ not (is_up_to client seq request.old)) × (request.new ≡ request.old) }
+            { !request.is_up_to(client, seq) },
+        );
     }
 
     /// The first 16 requests whose client and number are not among those of `on`, in order of arrival. `on` is of the
@@ -104,7 +112,8 @@ impl Mempool {
         ensures memory { OnErr result (result ≡ Err Fault.Memory) }
     {
         let mut picked = Vec::new(self.alloc);
-        for request in &self.requests {
+        for i in 0..self.requests.len() {
+            let request = &self.requests[i];
             if picked.len() >= MOST_COMMANDS {
                 break;
             }

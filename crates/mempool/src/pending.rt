@@ -81,7 +81,7 @@ impl Pending {
     pub(crate) fn is_up_to(&self, client: ClientId, seq: Seq) -> bool
         ensures { result ≡ is_up_to client seq self.now }
     {
-        self.client == client && self.seq <= seq
+        client == self.client && self.seq <= seq
     }
 
     /// Whether its client and number are among these.
