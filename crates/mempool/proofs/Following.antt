@@ -1,15 +1,21 @@
 -- The pool after a step of its replica.
-use Rattle.std.proofs.Common.{◌≡◌, Bool, true, false, cond, ◌&&◌, ◌||◌, ◌==◌, not, List, [], ◌∷◌, ◌++◌, map, filter, take, refl, ap, ◌∙◌, if◌then◌else◌}
+use Rattle.std.proofs.Common.{arith, ◌≡◌, ℕ, max, nat_lt, nat_le, Bool, true, false, cond, ◌&&◌, ◌||◌, ◌==◌, not, List, [], ◌∷◌, ◌++◌, map, filter, take, refl, ap, ◌∙◌, if◌then◌else◌}
 use Rattle.std.proofs.lemmas.List.{append-nil}
 use Rattle.std.proofs.lemmas.List.Elements.{filter-append}
 use Rattle.std.specs.List.{list_any}
 use Rattle.definitions.specs.Frames.{Command}
 use Rattle.definitions.specs.FrameLimits.{most_commands}
 use Rattle.definitions.specs.Branches.{Branch}
-use Rattle.definitions.specs.Histories.{Entry, history_of}
+use Rattle.definitions.specs.Lists.{greatest}
+use Rattle.definitions.specs.Histories.{Entry, History, last_seq, history_of}
 use Rattle.definitions.specs.Chronicles.{Chronicle, Step, Step.noted, Note.got_request, history, executed, decided, taken}
 use Rattle.definitions.specs.States.{is_due, is_same_request, pending, picks, with_request}
 use Rattle.mempool.specs.Laws.{FollowsRequest, IsLeftBy, IsPicked}
+use Rattle.mempool.specs.Pool.{is_up_to, left_after}
+
+filter-alike : {A : Type 0} (p q : A → Bool) → ((x : A) → p x ≡ q x) → (xs : List A) → filter p xs ≡ filter q xs
+filter-alike p q h [] = refl
+filter-alike p q h (x ∷ xs) = λ i. cond (h x i) (x ∷ filter-alike p q h xs i) (filter-alike p q h xs i)
 
 -- what passed a test passes it again
 filter-twice : {A : Type 0} (p : A → Bool) (xs : List A) → filter p (filter p xs) ≡ filter p xs
@@ -26,9 +32,48 @@ unfolding pending
 pending-due [] = refl
 pending-due (s ∷ c) = filter-twice (is_due (history (s ∷ c))) (with_request s (pending c))
 
-pub left_by : (c : Chronicle) (s : Step) → IsLeftBy c s
+-- a number exceeds the greater of two
+above-both : (a m s : ℕ) → nat_lt (max a m) s ≡ (nat_lt m s && not (nat_le s a))
+above-both a m s = grind arith
+
+and-true : (b : Bool) → b ≡ (b && true)
+and-true true = refl
+and-true false = refl
+
+-- what is due after one more entry was due before, and isn't overtaken by it
+due-after : (e : Entry) (h : History) (r : Command) → is_due (e ∷ h) r ≡ (is_due h r && not (is_up_to e.client e.seq r))
+unfolding is_due last_seq greatest
+due-after e h r = by (e.client == r.client)
+  where
+    by : (b : Bool) → nat_lt (greatest (map (λ x. x.seq) (if b then e ∷ filter (λ x. x.client == r.client) h else filter (λ x. x.client == r.client) h))) r.seq
+        ≡ (nat_lt (greatest (map (λ x. x.seq) (filter (λ x. x.client == r.client) h))) r.seq && not (b && nat_le r.seq e.seq))
+    by true = above-both e.seq (greatest (map (λ x. x.seq) (filter (λ x. x.client == r.client) h))) r.seq
+    by false = and-true _
+
+-- two tests in one
+filter-both : {A : Type 0} (p q : A → Bool) (xs : List A) → filter (λ x. p x && q x) xs ≡ filter q (filter p xs)
+filter-both p q [] = refl
+filter-both p q (x ∷ xs) = by (p x) (filter-both p q xs)
+  where
+    by : (b : Bool) → filter (λ x. p x && q x) xs ≡ filter q (filter p xs)
+        → (if b && q x then x ∷ filter (λ x. p x && q x) xs else filter (λ x. p x && q x) xs) ≡ filter q (if b then x ∷ filter p xs else filter p xs)
+    by true rest = λ i. if q x then x ∷ rest i else rest i
+    by false rest = rest
+
+-- what is due after more entries
+due-left : (new h : History) (rs : List Command) → filter (is_due (new ++ h)) rs ≡ left_after new (filter (is_due h) rs)
+unfolding left_after
+due-left [] h rs = refl
+due-left (e ∷ earlier) h rs =
+    filter-alike _ _ (due-after e (earlier ++ h)) rs
+    ∙ filter-both (is_due (earlier ++ h)) (λ r. not (is_up_to e.client e.seq r)) rs
+    ∙ ap (filter (λ r. not (is_up_to e.client e.seq r))) (due-left earlier h rs)
+
+pub left_by : (c : Chronicle) (s : Step) (new : History) → IsLeftBy c s new
 unfolding pending
-left_by c s h w = ap (λ l. filter (is_due (history (s ∷ c))) l) w ∙ ap (λ l. filter (is_due l) (pending c)) h ∙ pending-due c
+left_by c s new w h =
+    ap (filter (is_due (history (s ∷ c)))) w ∙ ap (λ l. filter (is_due l) (pending c)) h ∙ due-left new (history c) (pending c)
+    ∙ ap (left_after new) (pending-due c)
 
 -- a request changes no history
 request-history : (c : Chronicle) (r : Command) → history (noted (got_request r) ∷ c) ≡ history c
@@ -63,10 +108,6 @@ module _ (c : Chronicle) (r : Command) where
 any-mapped : {A B : Type 0} (f : A → B) (p : B → Bool) (xs : List A) → list_any p (map f xs) ≡ list_any (λ x. p (f x)) xs
 any-mapped f p [] = refl
 any-mapped f p (x ∷ xs) = ap (λ b. p (f x) || b) (any-mapped f p xs)
-
-filter-alike : {A : Type 0} (p q : A → Bool) → ((x : A) → p x ≡ q x) → (xs : List A) → filter p xs ≡ filter q xs
-filter-alike p q h [] = refl
-filter-alike p q h (x ∷ xs) = λ i. cond (h x i) (x ∷ filter-alike p q h xs i) (filter-alike p q h xs i)
 
 pub picked : (c : Chronicle) (on : Branch) → IsPicked c on
 unfolding picks

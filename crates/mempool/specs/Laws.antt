@@ -1,20 +1,20 @@
 -- How a pool follows the chronicle of its replica.
-use Rattle.std.specs.Prelude.{◌≡◌, ◌∷◌, map, true, false}
+use Rattle.std.specs.Prelude.{◌≡◌, ◌∷◌, ◌++◌, map, true, false}
 use Rattle.definitions.specs.Frames.{Command}
 use Rattle.definitions.specs.Branches.{Branch}
-use Rattle.definitions.specs.Histories.{history_of}
+use Rattle.definitions.specs.Histories.{History, history_of}
 use Rattle.definitions.specs.Chronicles.{Chronicle, Step, Step.noted, Note.got_request, history}
 use Rattle.definitions.specs.States.{is_due, pending, picks, with_request}
-use Rattle.mempool.specs.Pool.{first_beside}
+use Rattle.mempool.specs.Pool.{first_beside, left_after}
 
 -- a request that is stored joins the pending ones where it is due, and where it isn't they stay
 pub record FollowsRequest (c : Chronicle) (r : Command) : Type 0 where
   pub due : is_due (history c) r ≡ true → pending (noted (got_request r) ∷ c) ≡ with_request (noted (got_request r)) (pending c)
   pub late : is_due (history c) r ≡ false → pending (noted (got_request r) ∷ c) ≡ pending c
 
--- a step that is no request and executes nothing leaves them
-abbrev pub IsLeftBy : Chronicle → Step → Type 0
-IsLeftBy c s = history (s ∷ c) ≡ history c → with_request s (pending c) ≡ pending c → pending (s ∷ c) ≡ pending c
+-- a step that brings no request takes out what it executes, and leaves the others
+abbrev pub IsLeftBy : Chronicle → Step → History → Type 0
+IsLeftBy c s new = with_request s (pending c) ≡ pending c → history (s ∷ c) ≡ new ++ history c → pending (s ∷ c) ≡ left_after new (pending c)
 
 -- what is picked beside the clients and numbers of a branch is what a child of it takes
 abbrev pub IsPicked : Chronicle → Branch → Type 0

@@ -1,9 +1,10 @@
 -- What stands in a pool of pending requests.
-use Rattle.std.specs.Prelude.{ℕ, ◌+◌, ◌==◌, ◌&&◌, not, Bool, List, take, drop, map, filter, nat_le}
+use Rattle.std.specs.Prelude.{ℕ, ◌+◌, ◌==◌, ◌&&◌, not, Bool, List, [], ◌∷◌, take, drop, map, filter, nat_le}
 use Rattle.std.specs.List.{list_any}
 use Rattle.definitions.specs.Bytes.{Bytes}
 use Rattle.definitions.specs.Frames.{Command}
 use Rattle.definitions.specs.FrameLimits.{most_commands}
+use Rattle.definitions.specs.Histories.{History}
 
 -- the command of these bytes, whose client, number and length of payload are known: its payload begins at byte 12
 abbrev pub command_at : (client seq payload_len : ℕ) → Bytes → Command
@@ -33,3 +34,8 @@ first_beside on rs = take most_commands (filter (λ r. not (stands_among on r)) 
 -- each under its client and number
 abbrev pub keyed : List Command → List ((ℕ × ℕ) × Command)
 keyed rs = map (λ r. ((r.client, r.seq), r)) rs
+
+-- what is left after executed commands, newest first
+unfoldable pub left_after : History → List Command → List Command
+left_after [] rs = rs
+left_after (e ∷ earlier) rs = filter (λ r. not (is_up_to e.client e.seq r)) (left_after earlier rs)

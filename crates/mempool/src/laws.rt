@@ -2,6 +2,7 @@
 
 ghost use Rattle.definitions.specs.Frames.{Command};
 ghost use Rattle.definitions.specs.Branches.{Branch};
+ghost use Rattle.definitions.specs.Histories.{History};
 ghost use Rattle.definitions.specs.Chronicles.{Chronicle, Step};
 ghost use Rattle.mempool.specs.Laws.{FollowsRequest, IsLeftBy, IsPicked};
 
@@ -11,9 +12,10 @@ pub fn request_joins_pending()
     ensures { (c : Chronicle) (r : Command) → FollowsRequest c r }
 {}
 
-/// A step that brings no request and executes nothing leaves the pending requests.
-pub fn others_leave_pending()
-    ensures { (c : Chronicle) (s : Step) → IsLeftBy c s }
+/// After a step that brings no request, the pending requests are those that `drop_executed` leaves, called for each
+/// command that the step executes, in their order.
+pub fn executed_leave_pending()
+    ensures { (c : Chronicle) (s : Step) (new : History) → IsLeftBy c s new }
 {}
 
 /// What `pick` gives of the commands along a branch is what a child of it takes.

@@ -6,6 +6,6 @@ mod laws;
 mod mempool;
 mod pending;
 
-pub use laws::{others_leave_pending, pick_is_for_child, request_joins_pending};
+pub use laws::{executed_leave_pending, pick_is_for_child, request_joins_pending};
 pub use mempool::Mempool;
 pub use pending::Pending;
