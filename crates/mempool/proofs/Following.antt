@@ -1,5 +1,5 @@
 -- The pool after a step of its replica.
-use Rattle.std.proofs.Common.{arith, ◌≡◌, ℕ, max, nat_lt, nat_le, Bool, true, false, cond, ◌&&◌, ◌||◌, ◌==◌, not, List, [], ◌∷◌, ◌++◌, map, filter, take, refl, ap, ◌∙◌, if◌then◌else◌}
+use Rattle.std.proofs.Common.{sym, true≢false, arith, ◌≡◌, ℕ, max, nat_lt, nat_le, Bool, true, false, cond, ◌&&◌, ◌||◌, ◌==◌, not, List, [], ◌∷◌, ◌++◌, map, filter, take, refl, ap, ◌∙◌, if◌then◌else◌}
 use Rattle.std.proofs.lemmas.List.{append-nil}
 use Rattle.std.proofs.lemmas.List.Elements.{filter-append}
 use Rattle.std.specs.List.{list_any}
@@ -11,7 +11,7 @@ use Rattle.definitions.specs.Histories.{Entry, History, last_seq, history_of}
 use Rattle.definitions.specs.Chronicles.{Chronicle, Step, Step.noted, Note.got_request, history, executed, decided, taken}
 use Rattle.definitions.specs.States.{is_due, is_same_request, pending, picks, with_request}
 use Rattle.mempool.specs.Laws.{FollowsRequest, IsLeftBy, IsPicked}
-use Rattle.mempool.specs.Pool.{is_up_to, left_after}
+use Rattle.mempool.specs.Pool.{is_up_to, left_after, first_beside}
 
 filter-alike : {A : Type 0} (p q : A → Bool) → ((x : A) → p x ≡ q x) → (xs : List A) → filter p xs ≡ filter q xs
 filter-alike p q h [] = refl
@@ -109,6 +109,55 @@ any-mapped : {A B : Type 0} (f : A → B) (p : B → Bool) (xs : List A) → lis
 any-mapped f p [] = refl
 any-mapped f p (x ∷ xs) = ap (λ b. p (f x) || b) (any-mapped f p xs)
 
-pub picked : (c : Chronicle) (on : Branch) → IsPicked c on
+-- whether an entry has the client and number of a request
+abbrev is_entry_of : Command → Entry → Bool
+is_entry_of r e = (e.client == r.client) && (e.seq == r.seq)
+
+picked-whole : (c : Chronicle) (on : Branch) → first_beside (map (λ e. (e.client, e.seq)) (history_of on)) (pending c) ≡ picks c on
 unfolding picks
-picked c on = ap (take most_commands) (filter-alike _ _ (λ r. ap not (any-mapped (λ (e : Entry). (e.client, e.seq)) (λ e. (e.0 == r.client) && (e.1 == r.seq)) (history_of on))) (pending c))
+picked-whole c on = ap (take most_commands) (filter-alike _ _ (λ r. ap not (any-mapped (λ (e : Entry). (e.client, e.seq)) (λ e. (e.0 == r.client) && (e.1 == r.seq)) (history_of on))) (pending c))
+
+-- a request that isn't overtaken by an entry is another one
+apart : (a : Bool) (m n : ℕ) → not (a && nat_le n m) ≡ true → (a && (m == n)) ≡ false
+apart true m n h = grind arith
+apart false m n h = refl
+
+both : (a b : Bool) → (a && b) ≡ true → (a ≡ true) × (b ≡ true)
+both true b h = (refl, h)
+both false b h = absurd (true≢false (sym h))
+
+-- a due request stands nowhere in the history
+not-executed : (h : History) (r : Command) → is_due h r ≡ true → list_any (is_entry_of r) h ≡ false
+not-executed [] r d = refl
+not-executed (e ∷ h) r d =
+    let two = both (is_due h r) (not (is_up_to e.client e.seq r)) (sym (due-after e h r) ∙ d) in
+    ap (λ b. b || list_any (is_entry_of r) h) (apart (e.client == r.client) e.seq r.seq two.1) ∙ not-executed h r two.0
+
+any-appended : {A : Type 0} (p : A → Bool) (xs ys : List A) → list_any p ys ≡ false → list_any p (xs ++ ys) ≡ list_any p xs
+any-appended p [] ys none = none
+any-appended p (x ∷ xs) ys none = ap (λ b. p x || b) (any-appended p xs ys none)
+
+-- tests that agree where a third one passes
+filter-alike-where : {A : Type 0} (d p q : A → Bool) → ((x : A) → d x ≡ true → p x ≡ q x) → (xs : List A) → filter p (filter d xs) ≡ filter q (filter d xs)
+filter-alike-where d p q h [] = refl
+filter-alike-where d p q h (x ∷ xs) = by (d x) (h x) (filter-alike-where d p q h xs)
+  where
+    by : (b : Bool) → (b ≡ true → p x ≡ q x) → filter p (filter d xs) ≡ filter q (filter d xs)
+        → filter p (if b then x ∷ filter d xs else filter d xs) ≡ filter q (if b then x ∷ filter d xs else filter d xs)
+    by true same rest = λ i. cond (same refl i) (x ∷ rest i) (rest i)
+    by false same rest = rest
+
+picked-above : (c : Chronicle) (on : Branch) (new : History) → history_of on ≡ new ++ history c
+    → first_beside (map (λ e. (e.client, e.seq)) new) (pending c) ≡ picks c on
+unfolding picks
+picked-above c on new goes =
+    let beside : History → Command → Bool = λ h r. not (list_any (is_entry_of r) h) in
+    ap (take most_commands) (filter-alike _ (beside new) (λ r. ap not (any-mapped (λ (e : Entry). (e.client, e.seq)) (λ e. (e.0 == r.client) && (e.1 == r.seq)) new)) (pending c)
+    ∙ ap (filter (beside new)) (sym (pending-due c))
+    ∙ filter-alike-where (is_due (history c)) (beside new) (beside (new ++ history c))
+    (λ r d. ap not (sym (any-appended (is_entry_of r) new (history c) (not-executed (history c) r d)))) (pending c)
+    ∙ ap (filter (beside (new ++ history c))) (pending-due c)
+    ∙ ap (λ h. filter (beside h) (pending c)) (sym goes))
+
+pub picked : (c : Chronicle) (on : Branch) → IsPicked c on
+picked c on = record { whole = picked-whole c on; above = picked-above c on }

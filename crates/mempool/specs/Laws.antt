@@ -16,6 +16,8 @@ pub record FollowsRequest (c : Chronicle) (r : Command) : Type 0 where
 abbrev pub IsLeftBy : Chronicle → Step → History → Type 0
 IsLeftBy c s new = with_request s (pending c) ≡ pending c → history (s ∷ c) ≡ new ++ history c → pending (s ∷ c) ≡ left_after new (pending c)
 
--- what is picked beside the clients and numbers of a branch is what a child of it takes
-abbrev pub IsPicked : Chronicle → Branch → Type 0
-IsPicked c on = first_beside (map (λ e. (e.client, e.seq)) (history_of on)) (pending c) ≡ picks c on
+-- What is picked beside the clients and numbers of a branch is what a child of it takes; where the branch goes on from
+-- what was executed, those of its commands above that are enough.
+pub record IsPicked (c : Chronicle) (on : Branch) : Type 0 where
+  pub whole : first_beside (map (λ e. (e.client, e.seq)) (history_of on)) (pending c) ≡ picks c on
+  pub above : (new : History) → history_of on ≡ new ++ history c → first_beside (map (λ e. (e.client, e.seq)) new) (pending c) ≡ picks c on

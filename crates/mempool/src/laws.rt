@@ -18,7 +18,8 @@ pub fn executed_leave_pending()
     ensures { (c : Chronicle) (s : Step) (new : History) → IsLeftBy c s new }
 {}
 
-/// What `pick` gives of the commands along a branch is what a child of it takes.
+/// What `pick` gives beside the commands along a branch is what a child of it takes. Where the branch goes on from what
+/// was executed, its commands above that are enough.
 pub fn pick_is_for_child()
     ensures { (c : Chronicle) (on : Branch) → IsPicked c on }
 {}
