@@ -1,0 +1,3 @@
+mod Following
+mod Keyed
+mod Picking

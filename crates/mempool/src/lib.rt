@@ -1,0 +1,11 @@
+//! The pending requests of a replica: what clients asked for and no executed block has answered yet, in order of
+//! arrival.
+#![tactic(auto)]
+
+mod laws;
+mod mempool;
+mod pending;
+
+pub use laws::{executed_leave_pending, pick_is_for_child, request_joins_pending};
+pub use mempool::Mempool;
+pub use pending::Pending;

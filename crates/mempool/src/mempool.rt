@@ -1,0 +1,126 @@
+//! The pool of pending requests.
+
+ghost use Rattle.std.specs.Prelude.{◌≡◌, ◌==◌, ◌≤◌, ◌↔◌, ◌⊎◌, [], not, false, length, map, filter, IfOk, OnOk, OnErr};
+ghost use Rattle.std.specs.List.{list_any};
+ghost use Rattle.definitions.specs.Rulings.{most_pending};
+ghost use Rattle.definitions.specs.Chronicles.{Step.noted, Note.got_request};
+ghost use Rattle.definitions.specs.States.{is_same_request, with_request};
+ghost use Rattle.frames_view.specs.Views.{command_of};
+ghost use Rattle.mempool.specs.Pool.{is_of, is_up_to, stands_among, first_beside};
+
+use crate::pending::Pending;
+use frames_view::CommandView;
+use ids::{ClientId, Fault, Seq};
+use indexmap::IndexMap;
+use std::alloc::Global;
+use std::marker::Model;
+
+/// The most requests that are pending at once.
+const MOST_PENDING: usize = 4096;
+
+/// The most commands of a block.
+const MOST_COMMANDS: usize = 16;
+
+/// The pending requests of a replica, in order of arrival. Each has a client and a number of its own.
+#[derive(Debug, Drop)]
+pub struct Mempool {
+    alloc: Global,
+    requests: IndexMap<(ClientId, Seq), Pending>,
+}
+
+impl Model for Mempool {
+    ghost use Rattle.std.specs.Prelude.{◌≡◌, List};
+    ghost use Rattle.definitions.specs.Frames.{Command};
+    ghost use Rattle.indexmap.specs.IndexMap.{values};
+    ghost use Rattle.mempool.specs.Pool.{keyed};
+
+    ghost Value = { List Command };
+
+    ghost view = { λ pool. values pool.requests };
+
+    ghost invariant = { λ pool. pool.requests.entries ≡ keyed (values pool.requests) };
+}
+
+impl Mempool {
+    /// A pool where nothing is pending. It takes no memory yet.
+    pub fn new(alloc: Global) -> Mempool
+        ensures { result ≡ [] }
+    {
+        Mempool {
+            alloc,
+            requests: IndexMap::new(alloc),
+        }
+    }
+
+    /// How many requests are pending.
+    pub fn len(&self) -> usize
+        ensures { result ≡ length self.now }
+    {
+        self.requests.len()
+    }
+
+    /// Whether none is pending.
+    pub fn is_empty(&self) -> bool
+        ensures { result ≡ (length self.now == 0) }
+    {
+        self.requests.is_empty()
+    }
+
+    /// Whether the request of this client and number is pending.
+    pub fn contains(&self, client: ClientId, seq: Seq) -> bool
+        ensures { result ≡ list_any (is_of client seq) self.now }
+    {
+        self.requests.contains_key(&(client, seq))
+    }
+
+    /// Adds a request last; one whose client and number are pending changes nothing.
+    ///
+    /// `PoolFull` comes where 4,096 others are pending, and `Memory` where its bytes find no room.
+    pub fn add(&mut self, request: &CommandView<'_>) -> Result<(), Fault>
+        ensures added { OnOk result (self.new ≡ with_request (noted (got_request (command_of request.now))) self.old) }
+        ensures unchanged { OnErr result (self.new ≡ self.old) }
+        ensures full { (result ≡ Err Fault.PoolFull) ↔ ((list_any (is_same_request (command_of request.now)) self.old ≡ false) × (most_pending ≤ length self.old)) }
+        ensures refused { OnErr result ((result ≡ Err Fault.PoolFull) ⊎ (result ≡ Err Fault.Memory)) }
+    {
+        let (client, seq) = (request.client(), request.seq());
+        if self.contains(client, seq) {
+            return Ok(());
+        }
+        if self.requests.len() >= MOST_PENDING {
+            return Err(Fault::PoolFull);
+        }
+        let pending = Pending::new(self.alloc, request)?;
+        self.requests.insert((client, seq), pending)?;
+        Ok(())
+    }
+
+    /// Lets all requests of a client go whose numbers are at most this one. It takes no memory.
+    pub fn drop_executed(&mut self, client: ClientId, seq: Seq)
+        ensures { self.new ≡ filter (λ r. not (is_up_to client seq r)) self.old }
+    {
+        self.requests.retain(
+            |_key: &(ClientId, Seq), request: &mut Pending| -> bool
+                ensures { (result ≡ not (is_up_to client seq request.old)) × (request.new ≡ request.old) }
+            { !request.is_up_to(client, seq) },
+        );
+    }
+
+    /// The first 16 requests whose client and number are not among those of `on`, in order of arrival. `on` is of the
+    /// commands that stand on a branch, in any order.
+    pub fn pick(&self, on: &[(ClientId, Seq)]) -> Result<Vec<&Pending>, Fault>
+        ensures picked { IfOk result (λ v. map (λ r. r.now) v.items ≡ first_beside on.now self.now) }
+        ensures memory { OnErr result (result ≡ Err Fault.Memory) }
+    {
+        let mut picked = Vec::new(self.alloc);
+        for i in 0..self.requests.len() {
+            let request = &self.requests[i];
+            if picked.len() >= MOST_COMMANDS {
+                break;
+            }
+            if !request.stands_among(on) {
+                picked.push(request)?;
+            }
+        }
+        Ok(picked)
+    }
+}

@@ -1,0 +1,94 @@
+//! One pending request.
+
+ghost use Rattle.std.specs.Prelude.{◌≡◌, length, IfOk, OnErr};
+ghost use Rattle.definitions.specs.Frames.{command_bytes};
+ghost use Rattle.frames_view.specs.Views.{command_of};
+ghost use Rattle.mempool.specs.Pool.{is_of, is_up_to, stands_among};
+
+use appending::append;
+use frames_view::CommandView;
+use ids::{ClientId, Fault, Seq};
+use std::alloc::Global;
+use std::marker::Model;
+
+/// A pending request. It keeps the bytes of its command once, as a frame spells them, so that a proposal copies them
+/// from here.
+#[derive(Debug, Drop)]
+pub struct Pending {
+    client: ClientId,
+    seq: Seq,
+    payload_len: usize,
+    bytes: Vec<u8>,
+}
+
+impl Model for Pending {
+    ghost use Rattle.std.specs.Prelude.{◌≡◌};
+    ghost use Rattle.definitions.specs.Frames.{Command, command_bytes};
+    ghost use Rattle.mempool.specs.Pool.{command_at};
+
+    ghost Value = { Command };
+
+    ghost view = { λ p. command_at p.client p.seq p.payload_len p.bytes.items };
+
+    ghost invariant = { λ p. p.bytes.items ≡ command_bytes (command_at p.client p.seq p.payload_len p.bytes.items) };
+}
+
+impl Pending {
+    /// Keeps a copy of a request's bytes.
+    pub(crate) fn new(alloc: Global, request: &CommandView<'_>) -> Result<Pending, Fault>
+        ensures kept { IfOk result (λ p. p ≡ command_of request.now) }
+        ensures memory { OnErr result (result ≡ Err Fault.Memory) }
+    {
+        let mut bytes = Vec::new(alloc);
+        append(&mut bytes, &[request.content(), request.vector()])?;
+        Ok(Pending {
+            client: request.client(),
+            seq: request.seq(),
+            payload_len: request.payload().len(),
+            bytes,
+        })
+    }
+
+    /// Whose request it is.
+    pub fn client(&self) -> ClientId
+        ensures { result ≡ self.now.client }
+    {
+        self.client
+    }
+
+    /// Its number among the client's requests.
+    pub fn seq(&self) -> Seq
+        ensures { result ≡ self.now.seq }
+    {
+        self.seq
+    }
+
+    /// The bytes of its command: the client, the number, the payload with its length, and the client's tags.
+    pub fn bytes(&self) -> &[u8]
+        ensures { result.now ≡ command_bytes self.now }
+    {
+        &self.bytes
+    }
+
+    /// Whether it has this client and number.
+    pub(crate) fn is_of(&self, client: ClientId, seq: Seq) -> bool
+        ensures { result ≡ is_of client seq self.now }
+    {
+        client == self.client && seq == self.seq
+    }
+
+    /// Whether it is this client's, and its number is at most this one.
+    pub(crate) fn is_up_to(&self, client: ClientId, seq: Seq) -> bool
+        ensures { result ≡ is_up_to client seq self.now }
+    {
+        client == self.client && self.seq <= seq
+    }
+
+    /// Whether its client and number are among these.
+    pub(crate) fn stands_among(&self, on: &[(ClientId, Seq)]) -> bool
+        ensures { result ≡ stands_among on.now self.now }
+    {
+        let (client, seq) = (self.client, self.seq);
+        on.iter().any(|e| e.0 == client && e.1 == seq)
+    }
+}
