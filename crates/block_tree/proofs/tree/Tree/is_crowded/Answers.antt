@@ -14,6 +14,6 @@ returns c =
     c.count_at.ensures
     ∙ (ap (λ (ns : List Node). count_by (λ (n : Node). n.core.height == h) ns) c.as_slice.ensures.value
     ∙ (sym (count-reverse (λ (n : Node). n.core.height == h) items)
-    ∙ (sym (count-kept (reverse items) c.self.invariant.nodes h c.requires)
+    ∙ (sym (count-kept (reverse items) c.self.invariant.kept.nodes h c.requires)
     ∙ ap (λ (t : TreeState). count_by (λ (x : Branch). length x == h) (blocks t.stored)) c.self.view_is))) in
     at-least c.count_at.result most_of_height ∙ ap (λ (n : ℕ). not (nat_lt n most_of_height)) count
