@@ -1,5 +1,5 @@
 -- A node that is added, and one that is taken back.
-use Rattle.std.proofs.Common.{ℕ, Bool, cond, bytes_eq, IsSome, suc, ◌≡◌, ◌<◌, List, [], ◌∷◌, ◌++◌, length, drop, refl, sym, ap, subst, ◌∙◌, arith, inl, Option, Some, None, Ok, reverse}
+use Rattle.std.proofs.Common.{ℕ, ◌==◌, ◌-◌, Bool, cond, bytes_eq, IsSome, suc, ◌≡◌, ◌<◌, List, [], ◌∷◌, ◌++◌, length, drop, refl, sym, ap, subst, ◌∙◌, arith, inl, Option, Some, None, Ok, reverse}
 use Rattle.std.specs.Option.{option_to_list}
 use Rattle.std.proofs.lemmas.List.{length-reverse}
 use Rattle.definitions.specs.Bytes.{Bytes}
@@ -12,11 +12,12 @@ use Rattle.block_tree.specs.declared.node.Node.{Node}
 use Rattle.block_tree.specs.declared.place.Place.TheVariants.{Grows}
 use Rattle.block_tree.specs.declared.index.Index.{Index}
 use Rattle.block_tree.specs.Indexed.{number_of}
-use Rattle.block_tree.specs.Numbers.{AreLinks}
+use Rattle.block_tree.specs.Numbers.{AreLinks, count_of, AreCounts}
 use Rattle.block_tree.specs.Nodes.{branch_in, block_in, stored_as, stored_of, IsNode, AreNodes, IsWhole}
 use Rattle.block_tree.specs.Insertions.{place_of, InsertedAt, Inserted}
 use Rattle.block_tree.proofs.Kept.{nodes-count, stored-count, reverse-last}
 use Rattle.block_tree.proofs.Numbers.{entered, struck}
+use Rattle.block_tree.proofs.Counted.{one-less, some-counted}
 
 -- ---- what an answer says of the place
 
@@ -46,17 +47,20 @@ module _ (most : ℕ) (n : Node) (t : List Branch) where
 
 -- ---- the nodes after it was added
 
-pub added-whole : (most : ℕ) (first : Bytes) (items : List Node) (index new : Index) (n : Node) (k : ℕ) → IsWhole most first (reverse items) index → IsNode n (blocks (stored_of (reverse items)))
+pub added-whole : (most : ℕ) (first : Bytes) (items : List Node) (index new : Index) (counts more : List ℕ) (n : Node) (k : ℕ) → IsWhole most first (reverse items) index counts → IsNode n (blocks (stored_of (reverse items)))
     → length (blocks (stored_of (reverse items))) < most → k ≡ length (blocks (stored_of (reverse items)))
-    → ((d : Bytes) → number_of new d ≡ cond (bytes_eq n.digest d) (Some k) (number_of index d)) → IsWhole most first (reverse (items ++ n ∷ [])) new
-added-whole most first items index new n k whole is room number entry =
+    → ((d : Bytes) → number_of new d ≡ cond (bytes_eq n.digest d) (Some k) (number_of index d))
+    → AreCounts more (block_in n.core (blocks (stored_of (reverse items))) ∷ blocks (stored_of (reverse items))) → IsWhole most first (reverse (items ++ n ∷ [])) new more
+unfolding stored_of
+added-whole most first items index new counts more n k whole is room number entry counted =
     let ns = reverse items in
     let count = nodes-count ns in
     let nodes : AreNodes (n ∷ ns) = (is, whole.kept.nodes) in
-    subst (λ (l : List Node). IsWhole most first l new) (sym (reverse-last items n))
+    subst (λ (l : List Node). IsWhole most first l new more) (sym (reverse-last items n))
     (record {
       kept = record { genesis = whole.kept.genesis; nodes = nodes; room = omega (arith, room, count); limit = whole.kept.limit };
       indexed = entered n ns nodes index new k (omega (arith, number, count)) whole.indexed entry;
+      counted = counted;
     })
 
 pub added-stored : (items : List Node) (n : Node) → stored_of (reverse (items ++ n ∷ [])) ≡ stored_as n (blocks (stored_of (reverse items))) ∷ stored_of (reverse items)
@@ -111,12 +115,26 @@ taken-back items new None e none some =
 taken-back items new (Some x) e none some =
     without_last x (reverse new) ∙ ap (λ (ns : List Node). drop 1 (stored_of ns)) (sym (ap reverse e ∙ reverse-last new x))
 
-pub taken-whole : (most : ℕ) (first : Bytes) (items rest : List Node) (n : Node) (index new : Index) → IsWhole most first (reverse items) index → items ≡ rest ++ n ∷ []
-    → ((d : Bytes) → number_of new d ≡ cond (bytes_eq n.digest d) None (number_of index d)) → IsWhole most first (reverse rest) new
-taken-whole most first items rest n index new whole e entry =
-    let was = subst (λ (l : List Node). IsWhole most first l index) (ap reverse e ∙ reverse-last rest n) whole in
+pub taken-whole : (most : ℕ) (first : Bytes) (items rest : List Node) (n : Node) (index new : Index) (counts less : List ℕ) → IsWhole most first (reverse items) index counts → items ≡ rest ++ n ∷ []
+    → ((d : Bytes) → number_of new d ≡ cond (bytes_eq n.digest d) None (number_of index d))
+    → ((h : ℕ) → 0 < h → count_of less h ≡ cond (n.core.height == h) (count_of counts h - 1) (count_of counts h)) → length less ≡ length counts → IsWhole most first (reverse rest) new less
+unfolding stored_of
+taken-whole most first items rest n index new counts less whole e entry count long =
+    let was = subst (λ (l : List Node). IsWhole most first l index counts) (ap reverse e ∙ reverse-last rest n) whole in
     let room = was.kept.room in
+    let tree = blocks (stored_of (reverse rest)) in
     record {
       kept = record { genesis = was.kept.genesis; nodes = was.kept.nodes.1; room = omega (arith, room); limit = was.kept.limit };
       indexed = struck n (reverse rest) was.kept.nodes index new was.indexed entry;
+      counted = one-less counts less (block_in n.core tree) tree n.core.height was.kept.nodes.0.height was.counted count long;
     }
+
+-- the newest node's block is above genesis, and counted
+pub newest-counted : (most : ℕ) (first : Bytes) (items rest : List Node) (n : Node) (index : Index) (counts : List ℕ) → IsWhole most first (reverse items) index counts → items ≡ rest ++ n ∷ []
+    → (0 < n.core.height) × (0 < count_of counts n.core.height)
+unfolding stored_of
+newest-counted most first items rest n index counts whole e =
+    let was = subst (λ (l : List Node). IsWhole most first l index counts) (ap reverse e ∙ reverse-last rest n) whole in
+    let tree = blocks (stored_of (reverse rest)) in
+    let height : n.core.height ≡ length (block_in n.core tree) = was.kept.nodes.0.height in
+    (omega (arith, height), subst (λ (h : ℕ). 0 < count_of counts h) (sym height) (some-counted counts (block_in n.core tree) tree (omega arith) was.counted))

@@ -17,6 +17,7 @@ use Rattle.block_tree.specs.Nodes.{block_in, stored_of, AreNodes, IsWhole}
 use Rattle.block_tree.specs.Finding.{Kept, kept, kept_of, stored_in}
 use Rattle.block_tree.specs.Numbers.{stored_number}
 use Rattle.block_tree.proofs.Kept.{node-named, stored-count, reverse-first}
+use Rattle.block_tree.proofs.Counted.{genesis-counted}
 use Rattle.block_tree.proofs.Found.{node-kept, block_from, blocks-found}
 
 -- the node at a place is an older one, or the newest
@@ -129,6 +130,6 @@ struck n older h index new was is d =
         ∙ ap (λ (b : Bool). cond b (Some (suc (length (stored_of older)))) (stored_number d (stored_of older))) i
 
 -- genesis alone
-pub new-whole : (most : ℕ) (first : Bytes) (index : Index) → first ≡ digest genesis_core → 1 ≤ most → most ≤ most_blocks → ((d : Bytes) → number_of index d ≡ None) → IsWhole most first [] index
+pub new-whole : (most : ℕ) (first : Bytes) (index : Index) → first ≡ digest genesis_core → 1 ≤ most → most ≤ most_blocks → ((d : Bytes) → number_of index d ≡ None) → IsWhole most first [] index []
 unfolding stored_number stored_of
-new-whole most first index genesis some limit none = record { kept = record { genesis = genesis; nodes = tt; room = some; limit = limit }; indexed = none }
+new-whole most first index genesis some limit none = record { kept = record { genesis = genesis; nodes = tt; room = some; limit = limit }; indexed = none; counted = genesis-counted }

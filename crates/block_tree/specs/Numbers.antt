@@ -1,7 +1,8 @@
 -- The numbers of blocks, in order of insertion: genesis has 0. A tree lists its blocks newest first.
-use Rattle.std.specs.Prelude.{◌≡◌, ◌==◌, ◌<◌, ◌≤◌, ◌^◌, ℕ, suc, List, [], ◌∷◌, length, drop, slice_get, MatchOption, Option, Some, None, if◌then◌else◌}
+use Rattle.std.specs.Prelude.{count_by, ◌≡◌, ◌==◌, ◌-◌, ◌<◌, ◌≤◌, ◌^◌, ℕ, suc, get_or, List, [], ◌∷◌, length, drop, slice_get, MatchOption, Option, Some, None, if◌then◌else◌}
 use Rattle.std.specs.Str.{bytes_eq}
 use Rattle.definitions.specs.Bytes.{Bytes}
+use Rattle.definitions.specs.Lists.{Among}
 use Rattle.definitions.specs.Branches.{Branch}
 use Rattle.definitions.specs.Digests.{digest_of}
 use Rattle.definitions.specs.Trees.{Stored}
@@ -30,3 +31,12 @@ pub record IsDown (tree : List Branch) (distance : ℕ) (b : Branch) (m : ℕ) :
 -- the links of b lead to the blocks 1, 2, 4 and so on below it, down to genesis
 abbrev pub AreLinks : List Branch → Branch → List ℕ → Type 0
 AreLinks tree b links = (i : ℕ) → MatchOption (slice_get links i) (length b < 2 ^ i) (IsDown tree (2 ^ i) b)
+
+-- how many blocks of a height above 0 there are, by the counts of the heights from 1 on
+abbrev pub count_of : List ℕ → ℕ → ℕ
+count_of counts h = get_or counts (h - 1) 0
+
+-- they are those of a tree, and reach up to its highest block
+pub record AreCounts (counts : List ℕ) (tree : List Branch) : Type 0 where
+  pub right : (h : ℕ) → 0 < h → count_of counts h ≡ count_by (λ b. length b == h) tree
+  pub high : (b : Branch) → Among b tree → length b ≤ length counts

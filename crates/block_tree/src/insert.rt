@@ -45,8 +45,11 @@ impl Tree {
         ensures memory { OnErr result (result ≡ Err Fault.Memory) }
     {
         let number = self.len() as u32;
+        let height = node.core.view().height();
         self.nodes.reserve(1)?;
+        self.counts.reach(height)?;
         self.index.insert(node.digest, number)?;
+        self.counts.add_one(height);
         self.nodes.push(node).unwrap();
         Ok(())
     }
@@ -58,5 +61,6 @@ impl Tree {
     {
         let newest = self.nodes.pop().unwrap();
         self.index.remove(&newest.digest);
+        self.counts.take_one(newest.core.view().height());
     }
 }

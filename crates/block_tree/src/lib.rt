@@ -5,6 +5,7 @@
 #![tactic(auto)]
 
 mod climb;
+mod counts;
 mod index;
 mod insert;
 mod links;

@@ -48,13 +48,3 @@ pub(crate) fn is_same(a: &Digest, b: &Digest) -> bool
 {
     a == b
 }
-
-/// How many nodes have this height.
-pub(crate) fn count_at(nodes: &[Node], height: Height) -> usize
-    ensures { result ≡ count_by (λ n. n.core.height == height) nodes.now }
-{
-    nodes
-        .iter()
-        .filter(|n| n.core.view().height().0 == height.0)
-        .count()
-}

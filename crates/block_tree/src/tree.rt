@@ -3,6 +3,7 @@
 ghost use Rattle.std.specs.Prelude.{◌≡◌, ◌≤◌, ◌<◌, [], ◌∷◌, length};
 ghost use Rattle.definitions.specs.Trees.{Stored, blocks, most_blocks};
 
+use crate::counts::Counts;
 use crate::index::Index;
 use crate::node::Node;
 use frames_view::genesis_digest;
@@ -18,6 +19,7 @@ pub struct Tree {
     pub(crate) genesis: Digest,
     pub(crate) nodes: Vec<Node>,
     pub(crate) index: Index,
+    pub(crate) counts: Counts,
 }
 
 impl Model for Tree {
@@ -29,7 +31,7 @@ impl Model for Tree {
 
     ghost view = { λ t. record { most = t.most; stored = stored_of (reverse t.nodes.items) } };
 
-    ghost invariant = { λ t. IsWhole t.most t.genesis (reverse t.nodes.items) t.index };
+    ghost invariant = { λ t. IsWhole t.most t.genesis (reverse t.nodes.items) t.index t.counts };
 }
 
 impl Tree {
@@ -45,6 +47,7 @@ impl Tree {
             genesis: genesis_digest(),
             nodes: Vec::new(alloc),
             index: Index::new(alloc),
+            counts: Counts::new(alloc),
         }
     }
 
