@@ -176,6 +176,3 @@ down-more tree a c b m k x y =
       high = omega (arith, here, high, top);
       is = y.is ∙ ap (λ (z : Branch). drop c z) x.is ∙ drop-drop c a b;
     }
-
-pub down-none : (tree : List Branch) (m : ℕ) → m < length tree → IsDown tree 0 (numbered tree m) m
-down-none tree m known = record { known = known; high = omega arith; is = refl }
