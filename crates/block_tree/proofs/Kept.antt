@@ -1,6 +1,7 @@
 -- What nodes stand for is a tree, in which each block stands once.
-use Rattle.std.proofs.Common.{ℕ, suc, ◌≡◌, ◌<◌, ◌≤◌, ◌+◌, List, [], ◌∷◌, length, refl, sym, ap, subst, ◌∙◌, arith, inl, inr}
+use Rattle.std.proofs.Common.{ℕ, suc, ◌≡◌, ◌<◌, ◌≤◌, ◌+◌, List, [], ◌∷◌, length, refl, sym, ap, subst, ◌∙◌, arith, inl, inr, ◌++◌, reverse}
 use Rattle.std.specs.Prelude.{⊤}
+use Rattle.std.proofs.lemmas.List.{reverse-append}
 use Rattle.definitions.specs.Lists.{Among}
 use Rattle.definitions.specs.Bytes.{Bytes}
 use Rattle.definitions.specs.Frames.{Certificate, genesis_core}
@@ -65,6 +66,21 @@ pub nodes-count : (ns : List Node) → length (blocks (stored_of ns)) ≡ length
 unfolding stored_of
 nodes-count [] = refl
 nodes-count (n ∷ older) = let h = nodes-count older in omega (arith, h)
+
+pub stored-count : (ns : List Node) → length (stored_of ns) ≡ length ns
+unfolding stored_of
+stored-count [] = refl
+stored-count (n ∷ older) = ap suc (stored-count older)
+
+pub reverse-last : {A : Type 0} (xs : List A) (x : A) → reverse (xs ++ x ∷ []) ≡ x ∷ reverse xs
+reverse-last xs x = reverse-append xs (x ∷ [])
+
+pub reverse-first : {A : Type 0} (x : A) (xs : List A) → reverse (x ∷ xs) ≡ reverse xs ++ x ∷ []
+reverse-first x xs = reverse-append (x ∷ []) xs
+
+pub reverse-twice : {A : Type 0} (xs : List A) → reverse (reverse xs) ≡ xs
+reverse-twice [] = refl
+reverse-twice {A} (x ∷ xs) = ap reverse (reverse-first x xs) ∙ (reverse-last (reverse xs) x ∙ ap (λ (l : List A). x ∷ l) (reverse-twice xs))
 
 pub kept-sound : (most : ℕ) (first : Bytes) (ns : List Node) → IsKept most first ns → IsSound (record { most = most; stored = stored_of ns })
 kept-sound most first ns h = record {

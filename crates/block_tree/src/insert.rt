@@ -1,8 +1,10 @@
 //! Inserting blocks.
 
-ghost use Rattle.std.specs.Prelude.{◌≡◌, ◌<◌, length, drop};
+ghost use Rattle.std.specs.Prelude.{◌≡◌, ◌<◌, ◌∷◌, length, drop, OnErr, OnOk};
+ghost use Rattle.definitions.specs.Trees.{blocks};
 ghost use Rattle.frames_view.specs.Views.{core_of, certificate_of};
 ghost use Rattle.block_tree.specs.Insertions.{Inserted};
+ghost use Rattle.block_tree.specs.Nodes.{IsNode, stored_as};
 
 use crate::node::Node;
 use crate::place::Place;
@@ -26,11 +28,30 @@ impl Tree {
         match self.placing(&digest, core, certificate)? {
             Place::Stands => Ok(digest),
             Place::Grows => {
-                let node = Node::copy(self.alloc, digest, core, certificate, clear)?;
-                self.nodes.push(node)?;
+                let links = self.links_over(core)?;
+                let node = Node::copy(self.alloc, digest, core, certificate, clear, links)?;
+                self.add(node)?;
                 Ok(digest)
             }
         }
+    }
+
+    /// Adds a node. All memory is taken first.
+    fn add(&mut self, node: Node) -> Result<(), Fault>
+        requires node { IsNode node (blocks self.old.stored) }
+        requires room { length (blocks self.old.stored) < self.old.most }
+        ensures added { OnOk result (self.new ≡ record { most = self.old.most; stored = stored_as node (blocks self.old.stored) ∷ self.old.stored }) }
+        ensures unchanged { OnErr result (self.new ≡ self.old) }
+        ensures memory { OnErr result (result ≡ Err Fault.Memory) }
+    {
+        let number = self.len() as u32;
+        let height = node.core.view().height();
+        self.nodes.reserve(1)?;
+        self.counts.reach(height)?;
+        self.index.insert(node.digest, number)?;
+        self.counts.add_one(height);
+        self.nodes.push(node).unwrap();
+        Ok(())
     }
 
     /// Takes the last insertion back: that of the newest block.
@@ -38,6 +59,8 @@ impl Tree {
         requires { 0 < length self.old.stored }
         ensures { self.new ≡ record { most = self.old.most; stored = drop 1 self.old.stored } }
     {
-        let _newest = self.nodes.pop();
+        let newest = self.nodes.pop().unwrap();
+        self.index.remove(&newest.digest);
+        self.counts.take_one(newest.core.view().height());
     }
 }

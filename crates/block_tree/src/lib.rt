@@ -4,11 +4,17 @@
 //! Blocks are named by their digests. Only an insertion takes memory.
 #![tactic(auto)]
 
+mod climb;
+mod counts;
+mod index;
 mod insert;
+mod links;
 mod node;
 mod place;
 mod queries;
 mod tree;
+mod turns;
 mod walks;
 
 pub use tree::Tree;
+pub use turns::Turns;

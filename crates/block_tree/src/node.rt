@@ -4,6 +4,7 @@ ghost use Rattle.std.specs.Prelude.{◌≡◌, ◌==◌, reverse, find, count_by
 ghost use Rattle.std.specs.Str.{bytes_eq};
 ghost use Rattle.frames_view.specs.Views.{core_of, certificate_of};
 
+use crate::links::Links;
 use frames_view::{CertificateBuf, CertificateView, CoreBuf, CoreView};
 use ids::{Digest, Fault, Height};
 use std::alloc::Global;
@@ -15,18 +16,20 @@ pub(crate) struct Node {
     pub(crate) core: CoreBuf,
     pub(crate) certificate: CertificateBuf,
     pub(crate) clear: bool,
+    pub(crate) links: Links,
 }
 
 impl Node {
-    /// A node with copies of these parts.
+    /// A node with copies of these parts, and with these links.
     pub(crate) fn copy(
         alloc: Global,
         digest: Digest,
         core: &CoreView,
         certificate: &CertificateView,
         clear: bool,
+        links: Links,
     ) -> Result<Node, Fault>
-        ensures copied { IfOk result (λ n. n ≡ record { digest = digest; core = core_of core.now; certificate = certificate_of certificate.now; clear = clear }) }
+        ensures copied { IfOk result (λ n. n ≡ record { digest = digest; core = core_of core.now; certificate = certificate_of certificate.now; clear = clear; links = links }) }
         ensures memory { OnErr result (result ≡ Err Fault.Memory) }
     {
         Ok(Node {
@@ -34,6 +37,7 @@ impl Node {
             core: CoreBuf::copy(alloc, core)?,
             certificate: CertificateBuf::copy(alloc, certificate)?,
             clear,
+            links,
         })
     }
 }
@@ -43,21 +47,4 @@ pub(crate) fn is_same(a: &Digest, b: &Digest) -> bool
     ensures { result ≡ bytes_eq a.now b.now }
 {
     a == b
-}
-
-/// The last node of this digest.
-pub(crate) fn last_of<'a>(nodes: &'a [Node], digest: &Digest) -> Option<&'a Node>
-    ensures { option_map (λ n. n.now) result ≡ find (λ n. bytes_eq n.digest digest.now) (reverse nodes.now) }
-{
-    nodes.iter().rev().find(|n| is_same(&n.digest, digest))
-}
-
-/// How many nodes have this height.
-pub(crate) fn count_at(nodes: &[Node], height: Height) -> usize
-    ensures { result ≡ count_by (λ n. n.core.height == height) nodes.now }
-{
-    nodes
-        .iter()
-        .filter(|n| n.core.view().height().0 == height.0)
-        .count()
 }

@@ -7,7 +7,7 @@ ghost use Rattle.definitions.specs.Trees.{blocks, find_in, block_of, justifies, 
 ghost use Rattle.frames_view.specs.Views.{core_of, certificate_of};
 ghost use Rattle.block_tree.specs.Insertions.{place_of};
 
-use crate::node::{count_at, is_same};
+use crate::node::is_same;
 use crate::tree::Tree;
 use frames_view::{CertificateView, CoreView};
 use ids::{Digest, Fault, Height};
@@ -89,7 +89,7 @@ impl Tree {
         requires { 0 < height }
         ensures { result ≡ not (nat_lt (count_by (λ x. length x == height) (blocks self.now.stored)) most_of_height) }
     {
-        count_at(self.nodes.as_slice(), height) >= MOST_OF_HEIGHT
+        self.counts.of(height) >= MOST_OF_HEIGHT
     }
 
     /// Whether as many blocks stand in the tree as may.

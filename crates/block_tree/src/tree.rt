@@ -3,6 +3,8 @@
 ghost use Rattle.std.specs.Prelude.{◌≡◌, ◌≤◌, ◌<◌, [], ◌∷◌, length};
 ghost use Rattle.definitions.specs.Trees.{Stored, blocks, most_blocks};
 
+use crate::counts::Counts;
+use crate::index::Index;
 use crate::node::Node;
 use frames_view::genesis_digest;
 use ids::Digest;
@@ -16,18 +18,20 @@ pub struct Tree {
     pub(crate) most: usize,
     pub(crate) genesis: Digest,
     pub(crate) nodes: Vec<Node>,
+    pub(crate) index: Index,
+    pub(crate) counts: Counts,
 }
 
 impl Model for Tree {
     ghost use Rattle.std.specs.Prelude.{reverse};
     ghost use Rattle.definitions.specs.Trees.{TreeState};
-    ghost use Rattle.block_tree.specs.Nodes.{stored_of, IsKept};
+    ghost use Rattle.block_tree.specs.Nodes.{stored_of, IsWhole};
 
     ghost Value = { TreeState };
 
     ghost view = { λ t. record { most = t.most; stored = stored_of (reverse t.nodes.items) } };
 
-    ghost invariant = { λ t. IsKept t.most t.genesis (reverse t.nodes.items) };
+    ghost invariant = { λ t. IsWhole t.most t.genesis (reverse t.nodes.items) t.index t.counts };
 }
 
 impl Tree {
@@ -42,6 +46,8 @@ impl Tree {
             most,
             genesis: genesis_digest(),
             nodes: Vec::new(alloc),
+            index: Index::new(alloc),
+            counts: Counts::new(alloc),
         }
     }
 

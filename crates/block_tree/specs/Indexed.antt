@@ -1,0 +1,11 @@
+-- The index from digests to numbers.
+use Rattle.std.specs.Prelude.{ℕ, Option}
+use Rattle.std.specs.Ordering.{nat_cmp}
+use Rattle.std.specs.Cmp.Lexicographic.{slice_cmp}
+use Rattle.std.specs.BTreeMap.{get}
+use Rattle.definitions.specs.Bytes.{Bytes}
+use Rattle.block_tree.specs.declared.index.Index.{Index}
+
+-- the number that was entered for a digest
+abbrev pub number_of : Index → Bytes → Option ℕ
+number_of i d = get (slice_cmp nat_cmp) i.numbers d

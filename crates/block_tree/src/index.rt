@@ -1,0 +1,52 @@
+//! The numbers of blocks, by digest.
+
+ghost use Rattle.std.specs.Prelude.{◌≡◌, Some, None, OnErr, OnOk, if◌then◌else◌};
+ghost use Rattle.std.specs.Str.{bytes_eq};
+
+use ids::{Digest, Fault};
+use std::alloc::Global;
+use std::collections::BTreeMap;
+
+/// The number of each block that was entered.
+#[derive(Drop)]
+pub(crate) struct Index {
+    numbers: BTreeMap<Digest, u32>,
+}
+
+impl Index {
+    ghost use Rattle.definitions.specs.Bytes.{Bytes};
+    ghost use Rattle.block_tree.specs.Indexed.{number_of};
+
+    /// No block.
+    pub(crate) fn new(alloc: Global) -> Index
+        ensures { (d : Bytes) → number_of result d ≡ None }
+    {
+        Index {
+            numbers: BTreeMap::new(alloc),
+        }
+    }
+
+    /// The number of the block of a digest.
+    pub(crate) fn get(&self, digest: &Digest) -> Option<u32>
+        ensures { result ≡ number_of self.now digest.now }
+    {
+        self.numbers.get(digest).copied()
+    }
+
+    /// Enters a block by its digest.
+    pub(crate) fn insert(&mut self, digest: Digest, number: u32) -> Result<(), Fault>
+        ensures entered { OnOk result ((d : Bytes) → number_of self.new d ≡ (if bytes_eq digest d then Some number else number_of self.old d)) }
+        ensures kept { OnErr result ((d : Bytes) → number_of self.new d ≡ number_of self.old d) }
+        ensures memory { OnErr result (result ≡ Err Fault.Memory) }
+    {
+        self.numbers.insert(digest, number)?;
+        Ok(())
+    }
+
+    /// Strikes a block out.
+    pub(crate) fn remove(&mut self, digest: &Digest)
+        ensures { (d : Bytes) → number_of self.new d ≡ (if bytes_eq digest.now d then None else number_of self.old d) }
+    {
+        let _number = self.numbers.remove(digest);
+    }
+}
