@@ -4,8 +4,8 @@
 //! Blocks are named by their digests. Only an insertion takes memory.
 #![tactic(auto)]
 
-mod climb;
 mod counts;
+mod descend;
 mod index;
 mod insert;
 mod links;

@@ -1,6 +1,6 @@
 //! A tree with room for two blocks, and what the rules say of them.
 
-use block_tree::Tree;
+use block_tree::{Tree, Turns};
 use frames_view::{Frame, genesis_digest, read, write_certificate, write_core, write_proposal};
 use ids::{Config, Digest, Fault, Height, View};
 use replica_rules::{Mark, Rules};
@@ -74,6 +74,39 @@ fn a_block_is_told(rt: HostRuntime) -> Result<(), Fail> {
     assert_eq!(rt; *core.parent(), genesis.0);
     let certificate = tree.certificate(&first).ok_or("it stands there")?;
     assert_eq!(rt; *certificate.digest(), genesis.0);
+    Ok(())
+}
+
+/// Grows a chain of so many heights, and gives its digests from genesis on.
+fn chain(alloc: Global, tree: &mut Tree, heights: u64) -> Result<Vec<Digest>, Fail> {
+    let mut branch = vec![in alloc; genesis_digest()]?;
+    for _ in 0..heights {
+        let next = grow(alloc, tree, &branch, 0)??;
+        branch.push(next)?;
+    }
+    Ok(branch)
+}
+
+/// How many links lead from the block of a digest to its ancestor of a height, where it has one.
+fn links_to(tree: &Tree, digest: &Digest, height: u64) -> (Option<Digest>, u64) {
+    let mut turns = Turns::new();
+    let found = tree.ancestor_in(digest, Height(height), &mut turns);
+    (found, turns.count())
+}
+
+/// From the top of 1,000 heights one link is followed for each one bit of the way down.
+#[test]
+fn few_links_to_an_ancestor(rt: HostRuntime) -> Result<(), Fail> {
+    let alloc = rt.alloc();
+    let mut tree = Tree::new(alloc, 1_001);
+    let branch = chain(alloc, &mut tree, 1_000)?;
+    let [genesis, .., top] = branch.as_slice() else {
+        return Err("a chain".into());
+    };
+    assert_eq!(rt; links_to(&tree, top, 0), (Some(*genesis), 6));
+    assert_eq!(rt; links_to(&tree, top, 488), (branch.get(488).copied(), 1));
+    assert_eq!(rt; links_to(&tree, top, 1_000), (Some(*top), 0));
+    assert_eq!(rt; links_to(&tree, top, 1_001), (None, 0));
     Ok(())
 }
 

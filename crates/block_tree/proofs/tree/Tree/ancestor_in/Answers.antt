@@ -36,8 +36,8 @@ returns-then-top-height-clause-counted c =
     low-turns c.args.height (find_in c.args.digest.now tree) (numbered tree c.in_ok-from.from) found.1 c.args.turns.now
     (omega (arith, c.if-top-height.true, c.height_at-top.ensures, c.top.view_is, c.height.view_is))
 
-pub climb-ancestor-requires-clause-known : goal.climb-ancestor-requires-clause-known
-climb-ancestor-requires-clause-known c = (number-found c.args.digest.now (blocks c.args.self.now.stored) c.in_ok-from.from (sym c.in_ok-from.ensures)).0
+pub descend-ancestor-requires-clause-known : goal.descend-ancestor-requires-clause-known
+descend-ancestor-requires-clause-known c = (number-found c.args.digest.now (blocks c.args.self.now.stored) c.in_ok-from.from (sym c.in_ok-from.ensures)).0
 
 pub returns-clause-found : goal.returns-clause-found
 returns-clause-found c =
@@ -46,8 +46,8 @@ returns-clause-found c =
     let found = number-found c.args.digest.now tree c.in_ok-from.from (sym c.in_ok-from.ensures) in
     let distance : c.top.inside.0 - c.height.inside.0 ≡ length b - c.args.height = omega (arith, c.top.view_is, c.height.view_is, c.height_at-top.ensures) in
     ap (λ (d : Bytes). Some d) c.digest_at.ensures
-    ∙ down-found c.args.height (find_in c.args.digest.now tree) b found.1 tree c.climb-ancestor.result (omega (arith, c.if-top-height.false, c.top.view_is, c.height.view_is, c.height_at-top.ensures))
-    (subst (λ (n : ℕ). IsDown tree n b c.climb-ancestor.result) distance c.climb-ancestor.ensures.down)
+    ∙ down-found c.args.height (find_in c.args.digest.now tree) b found.1 tree c.descend-ancestor.result (omega (arith, c.if-top-height.false, c.top.view_is, c.height.view_is, c.height_at-top.ensures))
+    (subst (λ (n : ℕ). IsDown tree n b c.descend-ancestor.result) distance c.descend-ancestor.ensures.down)
 
 pub returns-clause-counted : goal.returns-clause-counted
 returns-clause-counted c =
@@ -56,7 +56,7 @@ returns-clause-counted c =
     let found = number-found c.args.digest.now tree c.in_ok-from.from (sym c.in_ok-from.ensures) in
     let distance : c.top.inside.0 - c.height.inside.0 ≡ length b - c.args.height = omega (arith, c.top.view_is, c.height.view_is, c.height_at-top.ensures) in
     let low : c.args.height ≤ length b = omega (arith, c.if-top-height.false, c.top.view_is, c.height.view_is, c.height_at-top.ensures) in
-    c.climb-ancestor.ensures.counted ∙ ap (λ (n : ℕ). c.args.turns.now + count_ones n) distance
+    c.descend-ancestor.ensures.counted ∙ ap (λ (n : ℕ). c.args.turns.now + count_ones n) distance
     ∙ ap (λ (n : ℕ). c.args.turns.now + n) (sym (down-turns c.args.height (find_in c.args.digest.now tree) b found.1 low))
 
 pub returns-clause-few : goal.returns-clause-few
@@ -67,4 +67,4 @@ returns-clause-few c =
     let found = number-found c.args.digest.now tree c.in_ok-from.from (sym c.in_ok-from.ensures) in
     let high = sound.heights b (numbered-among tree c.in_ok-from.from found.0) in
     let bits = ones-le 20 (c.top.inside.0 - c.height.inside.0) (omega (arith, high, sound.room, sound.limit, c.top.view_is, c.height_at-top.ensures)) in
-    omega (arith, bits, c.climb-ancestor.ensures.counted)
+    omega (arith, bits, c.descend-ancestor.ensures.counted)

@@ -4,7 +4,7 @@ use Rattle.definitions.specs.Branches.{Branch}
 use Rattle.definitions.specs.Trees.{blocks}
 use Rattle.block_tree.specs.Numbers.{numbered, IsDown}
 use Rattle.block_tree.proofs.Numbered.{numbered-genesis}
-use Rattle.block_tree.proofs.Climbing.{pow-some}
+use Rattle.block_tree.proofs.Descending.{pow-some}
 use Rattle.block_tree.proofs.tree.Tree.link.Goals as goal
 
 pub returns-then-at-eq0 : goal.returns-then-at-eq0

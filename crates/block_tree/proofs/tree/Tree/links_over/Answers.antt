@@ -8,7 +8,7 @@ use Rattle.block_tree.specs.Nodes.{branch_in, block_in}
 use Rattle.block_tree.specs.Numbers.{numbered, number_in}
 use Rattle.block_tree.proofs.Kept.{sound-of}
 use Rattle.block_tree.proofs.Numbered.{number-found, number-there}
-use Rattle.block_tree.proofs.Climbing.{Building, build-begin, build-more, build-lower, build-done}
+use Rattle.block_tree.proofs.Descending.{Building, build-begin, build-more, build-lower, build-done}
 use Rattle.block_tree.proofs.tree.Tree.links_over.Goals as goal
 
 pub unwrap-at-requires : goal.unwrap-at-requires

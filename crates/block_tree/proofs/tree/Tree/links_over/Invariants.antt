@@ -3,7 +3,7 @@ use Rattle.definitions.specs.Trees.{blocks}
 use Rattle.frames_view.specs.Views.{core_of}
 use Rattle.block_tree.specs.Nodes.{block_in}
 use Rattle.block_tree.specs.Numbers.{numbered}
-use Rattle.block_tree.proofs.Climbing.{Building}
+use Rattle.block_tree.proofs.Descending.{Building}
 use Rattle.block_tree.proofs.tree.Tree.links_over.Given as goal
 
 abbrev pub invariant-build : goal.invariant-build

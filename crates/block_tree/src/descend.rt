@@ -81,7 +81,7 @@ impl Tree {
     }
 
     /// The ancestor so many blocks down, by one link for each one bit of the distance.
-    pub(crate) fn climb(&self, from: usize, distance: usize, turns: &mut Turns) -> usize
+    pub(crate) fn descend(&self, from: usize, distance: usize, turns: &mut Turns) -> usize
         requires known { from < length (blocks self.now.stored) }
         requires high { distance ≤ length (numbered (blocks self.now.stored) from) }
         requires room { turns.old + count_ones distance < 2 ^ 64 }
@@ -93,7 +93,7 @@ impl Tree {
         let mut at = from;
         let mut level: usize = 0;
         let mut rest = distance;
-        'climb: while rest > 0 {
+        'descend: while rest > 0 {
             if rest % 2 == 1 {
                 at = self.turn(at, level, turns);
             }

@@ -1,4 +1,4 @@
--- A climb by the bits of a distance, the lowest first, and the links of a new block, from its parent's on.
+-- A descent by the bits of a distance, the lowest first, and the links of a new block, from its parent's on.
 use Rattle.std.proofs.Common.{ℕ, suc, ◌+◌, ◌*◌, ◌-◌, ◌/◌, ◌%◌, ◌^◌, ◌≡◌, ◌<◌, ◌≤◌, List, [], ◌∷◌, ◌++◌, length, drop, get_or, refl, sym, ap, subst, ◌∙◌, arith, inl, inr, Option}
 use Rattle.std.specs.Prelude.{count_ones, MatchOption}
 use Rattle.std.proofs.Math.Nat.{pow-suc, pow-le-pow_right}
@@ -26,10 +26,10 @@ pow-lower i j h low high =
 pub pow-some : (k : ℕ) → 1 ≤ 2 ^ k
 pow-some k = elim (cases_lt 0 (2 ^ k)) [ inl p ↦ p | inr q ↦ let lt : 2 ^ k < 2 ^ 0 = omega (arith, q) in let bad = pow-lower k 0 (2 ^ k) (omega arith) lt in absurd (omega (arith, bad)) ]
 
--- ---- a climb
+-- ---- a descent
 
 -- At `at`, with `rest` times `2 ^ level` blocks left of a distance, `done` turns were taken, of `all` in the end.
-pub record Climbing (tree : List Branch) (from distance at rest level done all : ℕ) : Type 0 where
+pub record Descending (tree : List Branch) (from distance at rest level done all : ℕ) : Type 0 where
   pub known : at < length tree
   pub low : rest * 2 ^ level ≤ length (numbered tree at)
   pub is : drop (rest * 2 ^ level) (numbered tree at) ≡ drop distance (numbered tree from)
@@ -41,10 +41,10 @@ halves rest level =
     let many : rest * 2 ^ level ≡ (2 * (rest / 2) + rest % 2) * 2 ^ level = ap (λ (n : ℕ). n * 2 ^ level) split in
     rw double (omega (arith, many))
 
-module _ (tree : List Branch) (from distance at rest level done all : ℕ) (w : Climbing tree from distance at rest level done all) where
+module _ (tree : List Branch) (from distance at rest level done all : ℕ) (w : Descending tree from distance at rest level done all) where
   -- a zero bit
-  pub climb-even : rest % 2 ≡ 0 → Climbing tree from distance at (rest / 2) (level + 1) done all
-  climb-even even =
+  pub descend-even : rest % 2 ≡ 0 → Descending tree from distance at (rest / 2) (level + 1) done all
+  descend-even even =
       let whole = halves rest level in
       let none : (rest % 2) * 2 ^ level ≡ 0 = rw even (omega arith) in
       let e : (rest / 2) * 2 ^ (level + 1) ≡ rest * 2 ^ level = omega (arith, whole, none) in
@@ -52,8 +52,8 @@ module _ (tree : List Branch) (from distance at rest level done all : ℕ) (w : 
       record { known = w.known; low = rw e w.low; is = rw e w.is; counted = omega (arith, bits, w.counted) }
 
   -- a one bit
-  pub climb-odd : (next : ℕ) → rest % 2 ≡ 1 → IsDown tree (2 ^ level) (numbered tree at) next → Climbing tree from distance next (rest / 2) (level + 1) (done + 1) all
-  climb-odd next odd down =
+  pub descend-odd : (next : ℕ) → rest % 2 ≡ 1 → IsDown tree (2 ^ level) (numbered tree at) next → Descending tree from distance next (rest / 2) (level + 1) (done + 1) all
+  descend-odd next odd down =
       let whole = halves rest level in
       let one : (rest % 2) * 2 ^ level ≡ 2 ^ level = rw odd (omega arith) in
       let e : 2 ^ level + (rest / 2) * 2 ^ (level + 1) ≡ rest * 2 ^ level = omega (arith, whole, one) in
@@ -69,14 +69,14 @@ module _ (tree : List Branch) (from distance at rest level done all : ℕ) (w : 
       }
 
   -- it has its link
-  pub climb-high : 0 < rest → 2 ^ level ≤ length (numbered tree at)
-  climb-high some =
+  pub descend-high : 0 < rest → 2 ^ level ≤ length (numbered tree at)
+  descend-high some =
       let more : 1 * 2 ^ level ≤ rest * 2 ^ level = mul-le 1 (2 ^ level) rest (2 ^ level) some (omega arith) in
       let low = w.low in
       omega (arith, more, low)
 
-  pub climb-done : rest ≡ 0 → distance ≤ length (numbered tree from) → IsDown tree distance (numbered tree from) at
-  climb-done none high =
+  pub descend-done : rest ≡ 0 → distance ≤ length (numbered tree from) → IsDown tree distance (numbered tree from) at
+  descend-done none high =
       let e : rest * 2 ^ level ≡ 0 = rw none (omega arith) in
       record { known = w.known; high = high; is = rw e at w.is }
 
