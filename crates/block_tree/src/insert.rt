@@ -21,7 +21,6 @@ impl Tree {
         certificate: &CertificateView,
         clear: bool,
     ) -> Result<Digest, Fault>
-        requires { (core_of core.now).justify_height < (core_of core.now).height }
         ensures { Inserted self.old (core_of core.now) (certificate_of certificate.now) clear result self.new }
     {
         let digest = core.digest();

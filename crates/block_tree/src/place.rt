@@ -33,8 +33,7 @@ impl Tree {
         core: &CoreView,
         certificate: &CertificateView,
     ) -> Result<Place, Fault>
-        requires named { digest.now ≡ digest_of_core (core_of core.now) }
-        requires below { (core_of core.now).justify_height < (core_of core.now).height }
+        requires { digest.now ≡ digest_of_core (core_of core.now) }
         ensures { result ≡ place_of (placing self.now.most (core_of core.now) (certificate_of certificate.now) (blocks self.now.stored)) }
     {
         match self.justified(digest) {
@@ -48,7 +47,6 @@ impl Tree {
 
     /// What a block comes to that doesn't stand in the tree.
     fn placing_over(&self, core: &CoreView, certificate: &CertificateView) -> Result<Place, Fault>
-        requires { (core_of core.now).justify_height < (core_of core.now).height }
         ensures { result ≡ place_of (placing_over self.now.most (core_of core.now) (certificate_of certificate.now) (blocks self.now.stored)) }
     {
         let Some(parent) = self.height(&Digest(*core.parent())) else {
@@ -72,7 +70,6 @@ impl Tree {
 
     /// Whether the certificate is for the block that a core justifies, over its parent.
     fn is_justified(&self, core: &CoreView, certificate: &CertificateView) -> bool
-        requires { (core_of core.now).justify_height < (core_of core.now).height }
         ensures { (parent : Branch) → find_in (core_of core.now).parent (blocks self.now.stored) ≡ Some parent
             → (core_of core.now).height ≡ length (block_of (core_of core.now) ∷ parent)
             → result ≡ justifies (certificate_of certificate.now) (block_of (core_of core.now) ∷ parent) }

@@ -26,7 +26,7 @@ pub struct CoreBuf {
 }
 
 impl Model for CoreBuf {
-    ghost use Rattle.std.specs.Prelude.{◌≡◌, length, drop};
+    ghost use Rattle.std.specs.Prelude.{◌≡◌, ◌<◌, length, drop};
     ghost use Rattle.definitions.specs.Frames.{Core, core_bytes};
     ghost use Rattle.frames_view.specs.Readings.{elements};
     ghost use Rattle.frames_view.specs.Parts.{command_in};
@@ -41,7 +41,7 @@ impl Model for CoreBuf {
     } };
 
     ghost invariant = { λ k. let commands = elements (command_in k.replicas k.clients) k.count (drop 49 k.raw.items) in
-        (length k.parent ≡ 32) × (length commands ≡ k.count)
+        (length k.parent ≡ 32) × (length commands ≡ k.count) × (k.justify_height < k.height)
         × (k.raw.items ≡ core_bytes (record { parent = k.parent; height = k.height; justify_height = k.justify_height; commands = commands })) };
 }
 

@@ -1,6 +1,6 @@
 //! The fields of a core, as they lie in the bytes that it was read from.
 
-ghost use Rattle.std.specs.Prelude.{◌≡◌, length};
+ghost use Rattle.std.specs.Prelude.{◌≡◌, ◌<◌, length};
 ghost use Rattle.std.specs.List.{flat_map};
 ghost use Rattle.definitions.specs.Frames.{command_bytes};
 ghost use Rattle.frames_view.specs.Readings.{elements};
@@ -16,6 +16,7 @@ pub(crate) struct CoreFields<'a> {
     pub(crate) count: u8,
     pub(crate) commands: &'a [u8],
     ghost whole: { length parent.now ≡ 32 },
+    ghost below: { justify_height < height },
     ghost counted: { length (elements (command_in replicas clients) count commands.now) ≡ count },
     ghost trimmed: { commands.now ≡ flat_map command_bytes (elements (command_in replicas clients) count commands.now) },
 }

@@ -1,6 +1,6 @@
 //! One field at a time: what stands at the front of bytes, and what is left behind it.
 
-ghost use Rattle.std.specs.Prelude.{◌≡◌, ◌+◌, ◌-◌, ◌≤◌, length, take, drop, IfSome};
+ghost use Rattle.std.specs.Prelude.{◌<◌, ◌≡◌, ◌+◌, ◌-◌, ◌≤◌, length, take, drop, IfSome};
 ghost use Rattle.std.specs.Int.{w8, w16, w32, w64};
 ghost use Rattle.definitions.specs.Slices.{LiesAt, LentAt, LeftAt};
 ghost use Rattle.frames_view.specs.Readings.{number, chunk};
@@ -146,6 +146,7 @@ pub(crate) fn take_text(bytes: &[u8]) -> Option<(&[u8], &[u8])>
 #[tactic(auto, unfolding(crate::specs::Parts::heights_in))]
 pub(crate) fn take_heights(bytes: &[u8]) -> Option<((u64, u64), &[u8])>
     ensures taken { Gives (λ p. ((p.0.0, p.0.1), p.1.now)) result (heights_in bytes.now) }
+    ensures below { IfSome result (λ p. p.0.1 < p.0.0) }
     ensures lent { IfSome result (λ p. LeftAt bytes.entry 16 p.1) }
 {
     let (height, rest) = take_u64(bytes)?;

@@ -1,7 +1,8 @@
 ghost use Rattle.line_feed.specs.Feeding.{items_in, Gives, IsItemLent, IsGivenLent};
-ghost use Rattle.std.specs.Prelude.{◌≡◌, ◌+◌, ◌-◌, ◌<◌, ◌≤◌, ◌++◌, [], length, drop, vec_len, vec_capacity, IfOk, IfSome, OnOk, OnErr, Err};
+ghost use Rattle.std.specs.Prelude.{◌≡◌, ◌+◌, ◌-◌, ◌<◌, ◌≤◌, ◌++◌, [], length, drop, vec_capacity, IfOk, IfSome, OnOk, OnErr, Err};
 
 use crate::item::Item;
+use appending::put;
 use ids::{Fault, LineFault};
 use mc_lines::{Read, read_request};
 use std::alloc::Global;
@@ -41,15 +42,6 @@ fn keep_from(bytes: &mut Vec<u8>, start: usize)
     let left = bytes.len() - start;
     bytes.copy_within(start.., 0);
     bytes.truncate(left);
-}
-
-/// Appends these bytes, for which there is room.
-fn put(out: &mut Vec<u8>, bytes: &[u8])
-    requires { vec_len out.old + length bytes.now ≤ vec_capacity out.old }
-    ensures items { out.new.items ≡ out.old.items ++ bytes.now }
-    ensures capacity { vec_capacity out.old ≤ vec_capacity out.new }
-{
-    out.extend_from_slice(bytes).unwrap();
 }
 
 /// The first item of these bytes, if it is whole, and how many of them are let go.

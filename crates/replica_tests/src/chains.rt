@@ -30,11 +30,7 @@ fn grow(
     let Ok(Frame::Proposal(proposal)) = read(&config, &frame) else {
         return Err("the bytes are a Proposal frame".into());
     };
-    let core = proposal.core();
-    if core.justify_height().0 >= core.height().0 {
-        return Err("a block above the one that it justifies".into());
-    }
-    Ok(tree.insert(&core, &proposal.certificate(), true))
+    Ok(tree.insert(&proposal.core(), &proposal.certificate(), true))
 }
 
 /// The third block is refused, until the second one is taken back.

@@ -18,7 +18,7 @@ add-requires-clause-node c =
     let tree = blocks c.args.self.now.stored in
     let node : Node = record { digest = c.digest-digest.result; core = core_of c.args.core.now; certificate = certificate_of c.args.certificate.now; clear = c.args.clear; links = c.in_ok-links-in-Grows.links } in
     subst (λ (n : Node). IsNode n tree) (sym c.in_ok-node-in-Grows.ensures.copied)
-    (growth-node c.args.self.now.most node tree c.digest-digest.ensures c.requires c.in_ok-links-in-Grows.ensures.linked (ap Ok (sym c.in-Grows.is) ∙ c.in_ok-placing.ensures))
+    (growth-node c.args.self.now.most node tree c.digest-digest.ensures c.args.core.now.fields.below c.in_ok-links-in-Grows.ensures.linked (ap Ok (sym c.in-Grows.is) ∙ c.in_ok-placing.ensures))
 
 pub add-requires-clause-room : goal.add-requires-clause-room
 add-requires-clause-room c =
