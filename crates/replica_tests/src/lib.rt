@@ -9,4 +9,6 @@ mod chains;
 #[cfg(test)]
 mod kept_replica;
 #[cfg(test)]
+mod parts;
+#[cfg(test)]
 mod printed;
