@@ -1,6 +1,6 @@
--- The counts of the heights, as blocks come and go.
-use Rattle.std.proofs.Common.{ℕ, ◌≡◌, ◌<◌, ◌≤◌, ◌+◌, ◌-◌, ◌==◌, Bool, true, false, cond, List, [], ◌∷◌, length, refl, sym, ap, ◌∙◌, arith, inl, inr, count_by}
-use Rattle.std.proofs.lemmas.Bool.{eq-eqb, ne_eqb, cond-true}
+-- The counts of the heights, as blocks come.
+use Rattle.std.proofs.Common.{ℕ, ◌≡◌, ◌<◌, ◌≤◌, ◌+◌, ◌==◌, Bool, true, false, cond, List, [], ◌∷◌, length, refl, sym, ap, ◌∙◌, arith, inl, inr, count_by}
+use Rattle.std.proofs.lemmas.Bool.{ne_eqb}
 use Rattle.std.proofs.lemmas.List.Recursion.{is_count_by}
 use Rattle.definitions.specs.Branches.{Branch}
 use Rattle.block_tree.specs.Numbers.{count_of, AreCounts}
@@ -21,10 +21,6 @@ count-cons p x xs = sym (counted_is p (x ∷ xs)) ∙ (λ i. cond (p x) (1 + cou
 plus : (t : Bool) (n : ℕ) → cond t (n + 1) n ≡ cond t (1 + n) n
 plus true n = omega arith
 plus false n = refl
-
-minus : (t : Bool) (n : ℕ) → cond t (cond t (1 + n) n - 1) (cond t (1 + n) n) ≡ n
-minus true n = omega arith
-minus false n = refl
 
 -- room for more
 pub same-counts : (counts wide : List ℕ) (tree : List Branch) → AreCounts counts tree → ((h : ℕ) → count_of wide h ≡ count_of counts h) → length counts ≤ length wide → AreCounts wide tree
@@ -49,25 +45,6 @@ one-more counts new b tree height e was reach is long = record {
       ];
 }
 
--- and one less
-pub one-less : (counts new : List ℕ) (b : Branch) (tree : List Branch) (height : ℕ) → height ≡ length b → AreCounts counts (b ∷ tree)
-    → ((h : ℕ) → 0 < h → count_of new h ≡ cond (height == h) (count_of counts h - 1) (count_of counts h)) → length new ≡ length counts → AreCounts new tree
-one-less counts new b tree height e was is long = record {
-  right = λ h some.
-      let all : count_of counts h ≡ cond (height == h) (1 + count_by (λ (x : Branch). length x == h) tree) (count_by (λ (x : Branch). length x == h) tree) =
-      was.right h some ∙ count-cons (λ (x : Branch). length x == h) b tree
-      ∙ ap (λ (k : ℕ). cond (k == h) (1 + count_by (λ (x : Branch). length x == h) tree) (count_by (λ (x : Branch). length x == h) tree)) (sym e) in
-      is h some ∙ ap (λ (n : ℕ). cond (height == h) (n - 1) n) all ∙ minus (height == h) (count_by (λ (x : Branch). length x == h) tree);
-  high = λ x m. let h = was.high x (inr m) in omega (arith, h, long);
-}
-
--- which is there
-pub some-counted : (counts : List ℕ) (b : Branch) (tree : List Branch) → 0 < length b → AreCounts counts (b ∷ tree) → 0 < count_of counts (length b)
-some-counted counts b tree some was =
-    let all : count_of counts (length b) ≡ 1 + count_by (λ (x : Branch). length x == length b) tree =
-    was.right (length b) some ∙ count-cons (λ (x : Branch). length x == length b) b tree
-    ∙ cond-true _ _ _ (eq-eqb (length b) (length b) refl) in
-    omega (arith, all)
-
+-- genesis has no height above 0
 pub genesis-counted : AreCounts [] ([] ∷ [])
 genesis-counted = record { right = λ h some. let none : (0 == h) ≡ false = ne_eqb 0 h (λ e. omega (arith, e, some)) in sym (count-cons (λ (x : Branch). length x == h) [] [] ∙ ap (λ (t : Bool). cond t 1 0) none); high = λ b m. elim m [ inl e ↦ let l = ap (λ (x : Branch). length x) e in omega (arith, l) | inr n ↦ absurd n ] }

@@ -5,11 +5,10 @@ use Rattle.std.specs.Str.{bytes_eq}
 use Rattle.std.proofs.Math.Seq.{get_or-append_seam}
 use Rattle.std.proofs.lemmas.Bool.{cases_lt}
 use Rattle.std.proofs.lemmas.List.{get_or_append_left, length-reverse}
-use Rattle.definitions.proofs.Trees.{same_bytes}
 use Rattle.definitions.specs.Bytes.{Bytes}
 use Rattle.definitions.specs.Frames.{genesis_core}
 use Rattle.definitions.specs.Digests.{digest, digest_of}
-use Rattle.definitions.specs.Trees.{Stored, blocks, find_in, most_blocks}
+use Rattle.definitions.specs.Trees.{Stored, blocks, most_blocks}
 use Rattle.block_tree.specs.declared.node.Node.{Node}
 use Rattle.block_tree.specs.declared.index.Index.{Index}
 use Rattle.block_tree.specs.Indexed.{number_of}
@@ -18,7 +17,7 @@ use Rattle.block_tree.specs.Finding.{Kept, kept, kept_of, stored_in}
 use Rattle.block_tree.specs.Numbers.{stored_number}
 use Rattle.block_tree.proofs.Kept.{node-named, stored-count, reverse-first}
 use Rattle.block_tree.proofs.Counted.{genesis-counted}
-use Rattle.block_tree.proofs.Found.{node-kept, block_from, blocks-found}
+use Rattle.block_tree.proofs.Found.{node-kept}
 
 -- the node at a place is an older one, or the newest
 pub node-place : (n : Node) (older : List Node) (i : ℕ) (x : Node) → i < suc (length older) → x ≡ get_or (reverse (n ∷ older)) i x
@@ -108,26 +107,6 @@ entered n older h index new k count was is d =
     is d ∙ ap (λ (o : Option ℕ). cond (bytes_eq n.digest d) (Some k) o) (was d)
     ∙ ap (λ (m : ℕ). cond (bytes_eq n.digest d) (Some m) (stored_number d stored)) next
     ∙ ap (λ (e : Bytes). cond (bytes_eq e d) (Some (suc (length stored))) (stored_number d stored)) (sym (node-named n (blocks stored) h.0))
-
--- and after the newest one was struck out
-pub struck : (n : Node) (older : List Node) → AreNodes (n ∷ older) → (index new : Index) → ((d : Bytes) → number_of index d ≡ stored_number d (stored_of (n ∷ older)))
-    → ((d : Bytes) → number_of new d ≡ cond (bytes_eq n.digest d) None (number_of index d)) → (d : Bytes) → number_of new d ≡ stored_number d (stored_of older)
-unfolding stored_number stored_of
-struck n older h index new was is d =
-    is d ∙ go (bytes_eq n.digest d) refl
-  where
-    gone : n.digest ≡ d → (o : Option Stored) → stored_in d (stored_of older) ≡ o → o ≡ None
-    gone same None e = refl
-    gone same (Some s) e =
-        let found : find_in d (blocks (stored_of older)) ≡ Some s.branch = blocks-found d (stored_of older) ∙ ap (block_from d) e in
-        let none : find_in d (blocks (stored_of older)) ≡ None = ap (λ (x : Bytes). find_in x (blocks (stored_of older))) (sym same ∙ h.0.named) ∙ h.0.new in
-        absurd (cc)
-
-    go : (b : Bool) → bytes_eq n.digest d ≡ b → cond b None (number_of index d) ≡ stored_number d (stored_of older)
-    go true i = sym (number-none d (stored_of older) (gone (same_bytes n.digest d i) (stored_in d (stored_of older)) refl))
-    go false i =
-        was d ∙ ap (λ (e : Bytes). cond (bytes_eq e d) (Some (suc (length (stored_of older)))) (stored_number d (stored_of older))) (node-named n (blocks (stored_of older)) h.0)
-        ∙ ap (λ (b : Bool). cond b (Some (suc (length (stored_of older)))) (stored_number d (stored_of older))) i
 
 -- genesis alone
 pub new-whole : (most : ℕ) (first : Bytes) (index : Index) → first ≡ digest genesis_core → 1 ≤ most → most ≤ most_blocks → ((d : Bytes) → number_of index d ≡ None) → IsWhole most first [] index []

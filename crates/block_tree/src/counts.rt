@@ -1,6 +1,6 @@
 //! How many blocks there are of each height.
 
-ghost use Rattle.std.specs.Prelude.{◌≡◌, ◌==◌, ◌+◌, ◌-◌, ◌<◌, ◌≤◌, ◌^◌, ℕ, [], length, if◌then◌else◌, OnErr, OnOk};
+ghost use Rattle.std.specs.Prelude.{◌≡◌, ◌==◌, ◌+◌, ◌<◌, ◌≤◌, ◌^◌, ℕ, [], length, if◌then◌else◌, OnErr, OnOk};
 
 use ids::{Fault, Height};
 use std::alloc::Global;
@@ -67,15 +67,5 @@ impl Counts {
         ensures long { length self.new ≡ length self.old }
     {
         self.heights[height.0 as usize - 1] += 1;
-    }
-
-    /// One less.
-    pub(crate) fn take_one(&mut self, height: Height)
-        requires above { 0 < height }
-        requires some { 0 < count_of self.old height }
-        ensures counts { (h : ℕ) → 0 < h → count_of self.new h ≡ (if height == h then count_of self.old h - 1 else count_of self.old h) }
-        ensures long { length self.new ≡ length self.old }
-    {
-        self.heights[height.0 as usize - 1] -= 1;
     }
 }

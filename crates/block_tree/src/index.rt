@@ -42,11 +42,4 @@ impl Index {
         self.numbers.insert(digest, number)?;
         Ok(())
     }
-
-    /// Strikes a block out.
-    pub(crate) fn remove(&mut self, digest: &Digest)
-        ensures { (d : Bytes) → number_of self.new d ≡ (if bytes_eq digest.now d then None else number_of self.old d) }
-    {
-        let _number = self.numbers.remove(digest);
-    }
 }

@@ -1,10 +1,10 @@
-//! Inserting blocks.
+//! Planning and inserting blocks.
 
-ghost use Rattle.std.specs.Prelude.{◌≡◌, ◌<◌, ◌∷◌, length, drop, OnErr, OnOk};
-ghost use Rattle.definitions.specs.Trees.{blocks};
+ghost use Rattle.std.specs.Prelude.{◌≡◌, ◌∷◌, OnErr, OnOk};
+ghost use Rattle.definitions.specs.Trees.{blocks, placing};
 ghost use Rattle.frames_view.specs.Views.{core_of, certificate_of};
-ghost use Rattle.block_tree.specs.Insertions.{Inserted};
-ghost use Rattle.block_tree.specs.Nodes.{IsNode, stored_as};
+ghost use Rattle.block_tree.specs.Insertions.{Inserted, IsPlanned, MayStand};
+ghost use Rattle.block_tree.specs.Nodes.{stored_as};
 
 use crate::node::Node;
 use crate::place::Place;
@@ -12,7 +12,58 @@ use crate::tree::Tree;
 use frames_view::{CertificateView, CoreView};
 use ids::{Digest, Fault};
 
+/// What was planned for a block.
+#[derive(Drop)]
+pub enum Plan {
+    /// It stands in the tree, by this digest.
+    Stands(Digest),
+    /// It may stand on its parent: its node, with copies of its parts.
+    Grows(Node),
+}
+
 impl Tree {
+    /// What is to become of a block that comes with the certificate of the block that it justifies, and with a clear
+    /// mark. A new block's parts are copied, and links to its ancestors found; nothing changes yet.
+    ///
+    /// `UnknownParent` where its parent isn't in the tree, `BadHeight` where its height isn't one above, `WrongJustify`
+    /// where the certificate is for another block than it justifies, `Crowded` where 64 blocks have its height, `Full`
+    /// where as many blocks stand as may, in this order; then `Memory`.
+    pub fn plan(
+        &self,
+        core: &CoreView,
+        certificate: &CertificateView,
+        clear: bool,
+    ) -> Result<Plan, Fault>
+        ensures { IsPlanned self.now (core_of core.now) (certificate_of certificate.now) clear result (placing self.now.most (core_of core.now) (certificate_of certificate.now) (blocks self.now.stored)) }
+    {
+        let digest = core.digest();
+        match self.placing(&digest, core, certificate)? {
+            Place::Stands => Ok(Plan::Stands(digest)),
+            Place::Grows => {
+                let links = self.links_over(core)?;
+                let node = Node::copy(self.alloc, digest, core, certificate, clear, links)?;
+                Ok(Plan::Grows(node))
+            }
+        }
+    }
+
+    /// Adds a planned block. Its memory is taken first: where that is refused, nothing changed.
+    pub fn add(&mut self, node: Node) -> Result<(), Fault>
+        requires { MayStand self.old node }
+        ensures added { OnOk result (self.new ≡ record { most = self.old.most; stored = stored_as node (blocks self.old.stored) ∷ self.old.stored }) }
+        ensures unchanged { OnErr result (self.new ≡ self.old) }
+        ensures memory { OnErr result (result ≡ Err Fault.Memory) }
+    {
+        let number = self.len() as u32;
+        let height = node.height();
+        self.nodes.reserve(1)?;
+        self.counts.reach(height)?;
+        self.index.insert(node.digest, number)?;
+        self.counts.add_one(height);
+        self.nodes.push(node).unwrap();
+        Ok(())
+    }
+
     /// Puts a block on its parent, with the certificate of the block that it justifies and a clear mark, and gives
     /// its digest. A block that stands in the tree stays as it is, with its first certificate and mark.
     pub fn insert(
@@ -23,43 +74,13 @@ impl Tree {
     ) -> Result<Digest, Fault>
         ensures { Inserted self.old (core_of core.now) (certificate_of certificate.now) clear result self.new }
     {
-        let digest = core.digest();
-        match self.placing(&digest, core, certificate)? {
-            Place::Stands => Ok(digest),
-            Place::Grows => {
-                let links = self.links_over(core)?;
-                let node = Node::copy(self.alloc, digest, core, certificate, clear, links)?;
+        match self.plan(core, certificate, clear)? {
+            Plan::Stands(digest) => Ok(digest),
+            Plan::Grows(node) => {
+                let digest = node.digest();
                 self.add(node)?;
                 Ok(digest)
             }
         }
-    }
-
-    /// Adds a node. All memory is taken first.
-    fn add(&mut self, node: Node) -> Result<(), Fault>
-        requires node { IsNode node (blocks self.old.stored) }
-        requires room { length (blocks self.old.stored) < self.old.most }
-        ensures added { OnOk result (self.new ≡ record { most = self.old.most; stored = stored_as node (blocks self.old.stored) ∷ self.old.stored }) }
-        ensures unchanged { OnErr result (self.new ≡ self.old) }
-        ensures memory { OnErr result (result ≡ Err Fault.Memory) }
-    {
-        let number = self.len() as u32;
-        let height = node.core.view().height();
-        self.nodes.reserve(1)?;
-        self.counts.reach(height)?;
-        self.index.insert(node.digest, number)?;
-        self.counts.add_one(height);
-        self.nodes.push(node).unwrap();
-        Ok(())
-    }
-
-    /// Takes the last insertion back: that of the newest block.
-    pub fn remove_newest(&mut self)
-        requires { 0 < length self.old.stored }
-        ensures { self.new ≡ record { most = self.old.most; stored = drop 1 self.old.stored } }
-    {
-        let newest = self.nodes.pop().unwrap();
-        self.index.remove(&newest.digest);
-        self.counts.take_one(newest.core.view().height());
     }
 }

@@ -16,5 +16,7 @@ mod tree;
 mod turns;
 mod walks;
 
+pub use insert::Plan;
+pub use node::Node;
 pub use tree::Tree;
 pub use turns::Turns;

@@ -9,9 +9,9 @@ use frames_view::{CertificateBuf, CertificateView, CoreBuf, CoreView};
 use ids::{Digest, Fault, Height};
 use std::alloc::Global;
 
-/// A block that was inserted, with what came along.
+/// A block with what came along, as it stands in a tree or is to stand there.
 #[derive(Drop)]
-pub(crate) struct Node {
+pub struct Node {
     pub(crate) digest: Digest,
     pub(crate) core: CoreBuf,
     pub(crate) certificate: CertificateBuf,
@@ -39,6 +39,41 @@ impl Node {
             clear,
             links,
         })
+    }
+
+    /// The digest of the block.
+    pub fn digest(&self) -> Digest
+        ensures { result ≡ self.now.digest }
+    {
+        self.digest
+    }
+
+    /// The height of the block.
+    pub fn height(&self) -> Height
+        ensures { result ≡ self.now.core.height }
+    {
+        self.core.view().height()
+    }
+
+    /// The core of the block.
+    pub fn core(&self) -> CoreView<'_>
+        ensures { core_of result ≡ self.now.core }
+    {
+        self.core.view()
+    }
+
+    /// The certificate that came along.
+    pub fn certificate(&self) -> CertificateView<'_>
+        ensures { certificate_of result ≡ self.now.certificate }
+    {
+        self.certificate.view()
+    }
+
+    /// Whether the tags of all its commands were right.
+    pub fn is_clear(&self) -> bool
+        ensures { result ≡ self.now.clear }
+    {
+        self.clear
     }
 }
 

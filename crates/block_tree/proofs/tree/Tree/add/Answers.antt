@@ -1,6 +1,5 @@
 use Rattle.std.proofs.Common.{◌≡◌, ◌∷◌, ◌++◌, ◌+◌, [], ◌<◌, ◌≤◌, ◌==◌, ℕ, List, length, count_by, reverse, sym, ap, subst, ◌∙◌, arith}
 use Rattle.std.proofs.lemmas.List.Sums.{count_by-le-length}
-use Rattle.definitions.specs.Frames.{Core}
 use Rattle.definitions.specs.Branches.{Branch}
 use Rattle.definitions.specs.Trees.{Stored, TreeState, blocks}
 use Rattle.definitions.proofs.Trees.{found-in}
@@ -21,7 +20,7 @@ node_height n tree h is e counts are =
 
 pub reach-requires-clause-next : goal.reach-requires-clause-next
 reach-requires-clause-next c =
-    node_height c.args.node (blocks c.args.self.now.stored) c.height-height.result c.requires.node (c.height-height.ensures ∙ ap (λ (k : Core). k.height) c.view.ensures) c.self.inside.counts
+    node_height c.args.node (blocks c.args.self.now.stored) c.height-height.result c.requires.node (c.height-height.ensures) c.self.inside.counts
     (subst (λ (t : TreeState). AreCounts c.self.inside.counts (blocks t.stored)) c.self.view_is c.self.invariant.counted)
 
 pub invariant_of-self-in_err-insert : goal.invariant_of-self-in_err-insert
@@ -40,7 +39,7 @@ add_one-requires-clause-room c =
     let sound = sound-of c.self.inside.most c.self.inside.genesis (reverse c.self.inside.nodes.items) c.args.self.now c.self.view_is c.self.invariant.kept in
     let h = c.height-height.result in
     let tree = blocks c.args.self.now.stored in
-    let height : h ≡ c.args.node.core.height = c.height-height.ensures ∙ ap (λ (k : Core). k.height) c.view.ensures in
+    let height : h ≡ c.args.node.core.height = c.height-height.ensures in
     let above : 0 < h = omega (arith, height, c.requires.node.height) in
     let counted = subst (λ (t : TreeState). AreCounts c.self.inside.counts (blocks t.stored)) c.self.view_is c.self.invariant.counted in
     let count : count_of c.reach.new.self h ≡ count_by (λ (b : Branch). length b == h) tree = c.reach.ensures.same h ∙ counted.right h above in
@@ -56,7 +55,7 @@ invariant_of-self-2 c =
     let all : length tree ≡ length (blocks c.args.self.now.stored) = ap (λ (t : TreeState). length (blocks t.stored)) c.self.view_is in
     let is : IsNode n tree = subst (λ (t : TreeState). IsNode n (blocks t.stored)) (sym c.self.view_is) c.requires.node in
     let room : length tree < inside.most = subst (λ (t : TreeState). length (blocks t.stored) < t.most) (sym c.self.view_is) c.requires.room in
-    let height : c.height-height.result ≡ length (block_in n.core tree) = c.height-height.ensures ∙ ap (λ (k : Core). k.height) c.view.ensures ∙ is.height in
+    let height : c.height-height.result ≡ length (block_in n.core tree) = c.height-height.ensures ∙ is.height in
     let wide = same-counts inside.counts c.reach.new.self tree c.self.invariant.counted c.reach.ensures.same c.reach.ensures.longer in
     let counted = one-more c.reach.new.self c.add_one.new.self (block_in n.core tree) tree c.height-height.result height wide c.in_ok-reach.ensures.reached c.add_one.ensures.counts c.add_one.ensures.long in
     subst (λ (l : List Node). IsWhole inside.most inside.genesis (reverse l) c.insert.new.self c.add_one.new.self) (sym pushed)
