@@ -1,9 +1,12 @@
 pub mod Steps
 pub mod Outs
+pub mod Entries
 pub mod Replay
-pub mod State
-pub mod Raises
-pub mod Takes
+pub mod Kept
+pub mod Changes
 pub mod StepsTo
 pub mod Beats
+pub mod Offers
+pub mod Announcements
+pub mod Fetches
 pub mod Inputs

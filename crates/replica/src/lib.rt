@@ -1,13 +1,17 @@
 //! One replica as a state machine: what it takes in, and what it sends.
 #![tactic(auto)]
 
+mod announce;
 mod beat;
+mod blocks;
+mod change;
+mod fetch;
 mod input;
+mod offer;
 mod out;
 mod replica;
 mod state;
 mod stored;
-mod take;
 
 pub use input::Input;
 pub use out::{Out, Sending, To};

@@ -7,20 +7,26 @@ ghost use Rattle.definitions.specs.Chronicles.{Chronicle, IsLawful};
 ghost use Rattle.definitions.specs.Replicas.{running};
 ghost use Rattle.replica.specs.Steps.{Stepped};
 ghost use Rattle.definitions.specs.Keyrings.{Keys};
-ghost use Rattle.replica.specs.State.{IsStateOf};
-ghost use Rattle.replica.specs.StepsTo.{StepsTo, halts};
+ghost use Rattle.replica.specs.Kept.{IsStateOf};
+ghost use Rattle.replica.specs.Changes.{Fits};
+ghost use Rattle.replica.specs.StepsTo.{StepsTo, halts, answer, after};
 ghost use Rattle.replica.specs.Inputs.{input_of, is_addressed};
 
-use crate::beat::beat;
+use crate::announce::{decide_new_view, decide_timeout};
+use crate::beat::decide_beat;
+use crate::blocks::decide_block;
+use crate::change::Change;
+use crate::fetch::decide_fetch;
 use crate::input::Input;
+use crate::offer::Offer;
 use crate::out::Out;
-use crate::state::{High, Records, State};
-use crate::take::take_proposal;
+use crate::state::{High, State};
 use authenticators::Keyring;
 use block_tree::Tree;
 use frames_view::{CertificateBuf, genesis_digest};
-use ids::{Config, Fault, ReplicaId, View};
-use replica_rules::{Mark, Rules};
+use ids::{Config, Fault, ReplicaId};
+use pacemaker::Pacemaker;
+use replica_rules::{BlockRef, Rules};
 use std::alloc::Global;
 use std::marker::Model;
 
@@ -42,11 +48,11 @@ impl Model for Replica {
 
     ghost Value = { Held };
 
-    ghost use Rattle.replica.specs.State.{IsStateOf, chronicle_of};
+    ghost use Rattle.replica.specs.Kept.{IsStateOf};
 
-    ghost view = { λ r. record { keys = r.keyring; replica = record { chronicle = chronicle_of r.state; standing = standing_of r.stopped } } };
+    ghost view = { λ r. record { keys = r.keyring; replica = record { chronicle = r.state.variables.chronicle; standing = standing_of r.stopped } } };
 
-    ghost invariant = { λ r. IsStateOf r.keyring (chronicle_of r.state) r.state × (r.keyring.party < replicas r.keyring.sizes) };
+    ghost invariant = { λ r. IsStateOf r.keyring r.state.variables.chronicle r.state × (r.keyring.party < replicas r.keyring.sizes) };
 }
 
 /// Whether the replica is stopped after this answer.
@@ -56,16 +62,33 @@ fn is_final(answer: &Result<Out, Fault>) -> bool
     matches!(answer, Err(Fault::Full | Fault::Conflict | Fault::Memory))
 }
 
+/// What an input comes to: a change that is to be made, or a refusal.
+fn decide(state: &State, keyring: &Keyring, input: Input<'_>) -> Result<Change, Fault>
+    requires own { IsTrue (is_addressed keyring.now input) }
+    requires replica { keyring.now.party < replicas keyring.now.sizes }
+    requires sizes { state.now.pace.sizes ≡ keyring.now.sizes }
+    ensures decided { (c : Chronicle) → IsStateOf keyring.now c state.now → StepsTo keyring.now (input_of input.entry) c (answer result) (after result state.now) }
+    ensures fits { IfOk result (λ d. Fits state.now.variables d) }
+{
+    match input {
+        Input::Proposal(proposal) => decide_block(state, keyring, &Offer::of_proposal(&proposal)),
+        Input::Block(block) => decide_block(state, keyring, &Offer::of_block(&block)),
+        Input::NewView(announced) => decide_new_view(state, keyring, announced.view()),
+        Input::Fetch(asked) => decide_fetch(state, keyring, asked.view()),
+        Input::Timeout => decide_timeout(state, keyring),
+        Input::Beat => decide_beat(state, keyring),
+    }
+}
+
 /// Takes an input of a replica that goes on.
 fn take(state: &mut State, keyring: &Keyring, input: Input<'_>) -> Result<Out, Fault>
     requires own { IsTrue (is_addressed keyring.now input) }
     requires replica { keyring.now.party < replicas keyring.now.sizes }
+    requires sizes { state.old.pace.sizes ≡ keyring.now.sizes }
     ensures { (c : Chronicle) → IsStateOf keyring.now c state.old → StepsTo keyring.now (input_of input.entry) c result state.new }
 {
-    match input {
-        Input::Proposal(proposal) => take_proposal(state, keyring, &proposal),
-        Input::Beat => beat(state, keyring),
-    }
+    let change = decide(state, keyring, input)?;
+    state.commit(change)
 }
 
 /// The state of a replica that has made no step.
@@ -73,21 +96,18 @@ fn first_state(alloc: Global, config: Config) -> State
     ensures { (keys : Keys) → keys.sizes ≡ config → IsStateOf keys [] result }
 {
     let high = High {
-        block: Mark::genesis(),
+        block: BlockRef::genesis(),
         certificate: CertificateBuf::without_votes(alloc, config, genesis_digest()),
-    };
-    let records = Records {
-        rules: Rules::new(),
-        high,
-        leaf: Mark::genesis(),
-        steps: Vec::new(alloc),
     };
     State {
         alloc,
         tree: Tree::new(alloc, MOST_BLOCKS),
-        records,
-        view: View(0),
+        rules: Rules::new(),
+        high,
+        leaf: BlockRef::genesis(),
         own: None,
+        pace: Pacemaker::new(config),
+        steps: Vec::new(alloc),
     }
 }
 
@@ -131,7 +151,7 @@ impl Replica {
         ensures count { result ≡ length self.now.replica.chronicle }
         ensures lawful { IsLawful self.now.keys.sizes self.now.replica.chronicle }
     {
-        self.state.records.steps.as_slice().len()
+        self.state.count()
     }
 
     /// Takes an input: one step, which answers what goes out but for replies.

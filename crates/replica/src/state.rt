@@ -1,16 +1,25 @@
-//! The running variables of a replica.
+//! What a replica keeps beside its keys.
 
+ghost use Rattle.std.specs.Prelude.{◌≡◌, length, IfOk, OnOk, OnErr};
+ghost use Rattle.std.specs.Option.{unwrap_or};
+ghost use Rattle.definitions.specs.Trees.{Stored};
+ghost use Rattle.replica.specs.Changes.{changed, grown, MayGrow, Fits};
+
+use crate::change::{Change, Growth};
+use crate::out::Out;
 use crate::stored::StoredStep;
 use block_tree::Tree;
 use frames_view::CertificateBuf;
-use ids::View;
-use replica_rules::{Mark, Rules};
+use ids::Fault;
+use pacemaker::Pacemaker;
+use replica_rules::{BlockRef, Rules};
 use std::alloc::Global;
+use std::marker::Model;
 
 /// The highest certificate, with the block that it is for.
 #[derive(Drop)]
 pub(crate) struct High {
-    pub(crate) block: Mark,
+    pub(crate) block: BlockRef,
     pub(crate) certificate: CertificateBuf,
 }
 
@@ -21,23 +30,106 @@ pub(crate) struct OwnProposal {
     pub(crate) certificate: Vec<u8>,
 }
 
-/// What a block that is taken in changes, but for the tree.
-#[derive(Drop)]
-pub(crate) struct Records {
-    pub(crate) rules: Rules,
-    pub(crate) high: High,
-    /// The block that the next proposal stands on.
-    pub(crate) leaf: Mark,
-    /// The steps that stand, oldest first.
-    pub(crate) steps: Vec<StoredStep>,
+impl Model for OwnProposal {
+    ghost use Rattle.replica.specs.Kept.{Own};
+
+    ghost Value = { Own };
+
+    ghost view = { λ p. record { core = p.core.items; certificate = p.certificate.items } };
 }
 
-/// All that a replica keeps beside its keys.
+/// The running variables of a replica, and its chronicle.
 #[derive(Drop)]
 pub(crate) struct State {
     pub(crate) alloc: Global,
     pub(crate) tree: Tree,
-    pub(crate) records: Records,
-    pub(crate) view: View,
+    pub(crate) rules: Rules,
+    pub(crate) high: High,
+    /// The block that the next proposal stands on.
+    pub(crate) leaf: BlockRef,
     pub(crate) own: Option<OwnProposal>,
+    pub(crate) pace: Pacemaker,
+    /// The steps that stand, oldest first.
+    pub(crate) steps: Vec<StoredStep>,
+}
+
+impl Model for State {
+    ghost use Rattle.std.specs.Prelude.{reverse};
+    ghost use Rattle.replica.specs.Kept.{Kept};
+    ghost use Rattle.replica.specs.Replay.{replay};
+
+    ghost Value = { Kept };
+
+    ghost view = { λ s. record {
+      variables = record {
+        chronicle = replay (reverse s.steps.items) s.tree.stored;
+        most = s.tree.most;
+        stored = s.tree.stored;
+        rules = s.rules;
+        high = s.high;
+        leaf = s.leaf;
+        own = s.own;
+      };
+      pace = s.pace;
+    } };
+}
+
+/// What is new takes the place of what was.
+fn renew<T>(place: &mut T, new: Option<T>)
+    ensures { place.new ≡ unwrap_or new place.old }
+{
+    if let Some(new) = new {
+        *place = new;
+    }
+}
+
+/// What is added takes its place. Its memory is taken first.
+fn grow(tree: &mut Tree, growth: Growth) -> Result<(), Fault>
+    requires { MayGrow tree.old growth }
+    ensures grown { OnOk result (tree.new ≡ record tree.old { stored = grown growth tree.old.stored }) }
+    ensures unchanged { OnErr result (tree.new ≡ tree.old) }
+    ensures memory { OnErr result (result ≡ Err Fault.Memory) }
+{
+    match growth {
+        Growth::Nothing => Ok(()),
+        Growth::Block(node) => tree.add(node),
+    }
+}
+
+impl State {
+    /// How many steps stand.
+    pub(crate) fn count(&self) -> usize
+        ensures { result ≡ length self.now.variables.chronicle }
+    {
+        self.steps.as_slice().len()
+    }
+
+    /// Makes a change. Its memory is taken first: where that is refused, nothing changed.
+    pub(crate) fn commit(&mut self, change: Change) -> Result<Out, Fault>
+        requires { Fits self.old.variables change }
+        ensures made { OnOk result (self.new ≡ changed change self.old) }
+        ensures out { IfOk result (λ out. out ≡ change.out) }
+        ensures unchanged { OnErr result (self.new ≡ self.old) }
+        ensures memory { OnErr result (result ≡ Err Fault.Memory) }
+    {
+        let Change {
+            step,
+            out,
+            growth,
+            rules,
+            high,
+            leaf,
+            own,
+            pace,
+        } = change;
+        self.steps.reserve(1)?;
+        grow(&mut self.tree, growth)?;
+        self.steps.push(step).unwrap();
+        self.rules = rules;
+        self.leaf = leaf;
+        renew(&mut self.high, high);
+        self.own = own.or(self.own.take());
+        renew(&mut self.pace, pace);
+        Ok(out)
+    }
 }

@@ -8,7 +8,7 @@ use Rattle.block_tree.specs.Finding.{kept, kept_of, stored_in}
 use Rattle.block_tree.specs.Numbers.{stored_number}
 use Rattle.block_tree.proofs.Kept.{stored-count, reverse-twice}
 use Rattle.block_tree.proofs.Numbers.{number-within, number-kept, number-missing}
-use Rattle.block_tree.proofs.tree.Tree.node.Goals as goal
+use Rattle.block_tree.proofs.tree.Tree.block.Goals as goal
 
 pub returns-in_err-number : goal.returns-in_err-number
 returns-in_err-number c = ap (option_map _) c.from_residual.ensures ∙ number-missing c.args.digest.now c.args.self.now.stored c.in_err-number.ensures

@@ -1,0 +1,67 @@
+-- What a timeout and an announced view change.
+use Rattle.ids.specs.declared.fault.Fault.{Fault}
+use Rattle.ids.specs.declared.fault.Fault.TheVariants as fault
+use Rattle.ids.specs.declared.kind.Kind.TheVariants as kind
+use Rattle.ids.specs.Numbers.{kind_number}
+use Rattle.std.specs.Prelude.{ℕ, ◌≡◌, List, [], ◌∷◌, length, nat_lt, if◌then◌else◌, Option, Some, None, Result, Err, MatchResult}
+use Rattle.std.specs.Option.{unwrap_or}
+use Rattle.definitions.specs.Frames.{Certificate, certificate_bytes, new_view_text, frame_text}
+use Rattle.definitions.specs.Keyrings.{Keys, keyring_of, vector_for}
+use Rattle.definitions.specs.Branches.{Branch}
+use Rattle.definitions.specs.Chronicles.{Chronicle, Note, Step.noted, Note.got_new_view, Note.timed_out}
+use Rattle.definitions.specs.Sendings.{to_all}
+use Rattle.definitions.specs.Trees.{blocks, find_in}
+use Rattle.pacemaker.specs.Pacing.{Pace, IsPaceOf}
+use Rattle.replica_rules.specs.declared.block_ref.BlockRef.{BlockRef}
+use Rattle.replica.specs.declared.state.High.{High}
+use Rattle.replica.specs.declared.stored.GotNewView.{GotNewView}
+use Rattle.replica.specs.declared.stored.StoredStep.TheVariants.{GotNewView as Announced, TimedOut}
+use Rattle.replica.specs.declared.change.Change.{Change}
+use Rattle.replica.specs.Steps.{Sent}
+use Rattle.replica.specs.Kept.{Kept}
+use Rattle.replica.specs.Changes.{noting, raise_of, leaf_after}
+
+-- the view goes to all, with the highest certificate
+abbrev pub new_view_sent : Keys → ℕ → Certificate → Sent
+new_view_sent keys view q =
+    let content = new_view_text view keys.party (certificate_bytes q) in
+    (to_all, frame_text (kind_number kind.NewView) content (vector_for keys.sizes (keyring_of keys) kind.NewView content))
+
+-- the pace of one note more, of whatever chronicle it was
+pub record IsPacedBy (old new : Pace) (Notes : Note → Type 0) : Type 0 where
+  pub sizes : new.sizes ≡ old.sizes
+  pub paced : (c : Chronicle) (n : Note) → Notes n → IsPaceOf c old → IsPaceOf (noted n ∷ c) new
+
+abbrev pub timeout_change : Keys → Kept → Pace → Change
+timeout_change keys s pace =
+    record (noting s.variables TimedOut (new_view_sent keys pace.view s.variables.high.certificate ∷ [])) { pace = Some pace }
+
+-- a timeout goes on by a view, and announces it
+pub record IsTimeout (keys : Keys) (s : Kept) (d : Change) : Type 0 where
+  pub pace : Pace
+  pub its_pace : IsPacedBy s.pace pace (λ n. n ≡ timed_out)
+  pub change : d ≡ timeout_change keys s pace
+
+abbrev pub new_view_change : Keys → Kept → BlockRef → GotNewView → Pace → Change
+new_view_change keys s block n pace =
+    let v = s.variables in
+    let high = raise_of (record { block = block; certificate = n.certificate }) v.high in
+    let sent = new_view_sent keys pace.view (unwrap_or high v.high).certificate ∷ [] in
+    record (noting v (Announced n) (if nat_lt s.pace.view pace.view then sent else [])) {
+      high = high;
+      leaf = leaf_after high v.leaf;
+      pace = Some pace;
+    }
+
+-- a view that was announced, with a certificate for this block
+pub record IsAnnounced (keys : Keys) (s : Kept) (block : BlockRef) (n : GotNewView) (d : Change) : Type 0 where
+  pub pace : Pace
+  pub its_pace : IsPacedBy s.pace pace (λ x. (q : Certificate) × (b : Branch) × (x ≡ got_new_view n.view n.sender q b))
+  pub change : d ≡ new_view_change keys s block n pace
+
+-- what an announced view comes to
+abbrev pub IsNewView : Keys → Kept → GotNewView → Result Change Fault → Type 0
+IsNewView keys s n result = elim (find_in n.certificate.digest (blocks s.variables.stored)) [
+  | Some b ↦ MatchResult result (IsAnnounced keys s (record { digest = n.certificate.digest; height = length b }) n) (λ f. f ≡ fault.Memory)
+  | None ↦ result ≡ Err fault.UnknownParent
+]

@@ -1,0 +1,89 @@
+-- What a step changes, as functions of what is kept.
+use Rattle.std.specs.Prelude.{◌≡◌, Bool, true, false, List, ◌∷◌, nat_lt, if◌then◌else◌, Option, Some, None, ⊤}
+use Rattle.std.specs.Option.{option_or, unwrap_or}
+use Rattle.definitions.specs.Trees.{Stored, TreeState, blocks}
+use Rattle.block_tree.specs.Nodes.{stored_as}
+use Rattle.block_tree.specs.Insertions.{MayStand}
+use Rattle.definitions.specs.Keyrings.{Keys}
+use Rattle.definitions.specs.Checks.{identity_of}
+use Rattle.definitions.specs.Chronicles.{Step, Chronicle}
+use Rattle.definitions.specs.Sendings.{sendings}
+use Rattle.pacemaker.specs.Pacing.{Pace, IsPaceOf}
+use Rattle.replica_rules.specs.declared.block_ref.BlockRef.{BlockRef}
+use Rattle.replica.specs.declared.state.High.{High}
+use Rattle.replica.specs.declared.stored.StoredStep.{StoredStep}
+use Rattle.replica.specs.declared.change.Change.{Change}
+use Rattle.replica.specs.declared.change.Growth.{Growth}
+use Rattle.replica.specs.declared.change.Growth.TheVariants.{Nothing, Block}
+use Rattle.replica.specs.Replay.{is_new, step_of}
+use Rattle.replica.specs.Steps.{Sent, shown}
+use Rattle.replica.specs.Kept.{Variables, Kept, variables_of}
+
+-- the blocks of the tree with what is added
+abbrev pub grown : Growth → List Stored → List Stored
+grown Nothing stored = stored
+grown (Block n) stored = stored_as n (blocks stored) ∷ stored
+
+-- whether a block is added
+abbrev pub adds : Growth → Bool
+adds Nothing = false
+adds (Block n) = true
+
+-- what is added may be added
+abbrev pub MayGrow : TreeState → Growth → Type 0
+MayGrow t Nothing = ⊤
+MayGrow t (Block n) = MayStand t n
+
+-- the tree of these variables
+abbrev pub tree_of : Variables → TreeState
+tree_of v = record { most = v.most; stored = v.stored }
+
+-- the change can be made: what is added may be, and the step says so
+pub record Fits (v : Variables) (d : Change) : Type 0 where
+  pub growth : MayGrow (tree_of v) d.growth
+  pub step : is_new d.step ≡ adds d.growth
+
+-- the variables after a change
+abbrev pub changed_variables : Change → Variables → Variables
+changed_variables d v = record {
+  chronicle = step_of d.step (grown d.growth v.stored) ∷ v.chronicle;
+  most = v.most;
+  stored = grown d.growth v.stored;
+  rules = d.rules;
+  high = unwrap_or d.high v.high;
+  leaf = d.leaf;
+  own = option_or d.own v.own;
+}
+
+-- what is kept after it
+abbrev pub changed : Change → Kept → Kept
+changed d s = record { variables = changed_variables d s.variables; pace = unwrap_or d.pace s.pace }
+
+-- a step that changes nothing beside the chronicle
+abbrev pub noting : Variables → StoredStep → List Sent → Change
+noting v step out = record {
+  step = step;
+  out = out;
+  growth = Nothing;
+  rules = v.rules;
+  high = None;
+  leaf = v.leaf;
+  own = None;
+  pace = None;
+}
+
+-- a certificate with its block, where it is higher than the highest one so far
+abbrev pub raise_of : High → High → Option High
+raise_of new high = if nat_lt high.block.height new.block.height then Some new else None
+
+-- the leaf after a raise
+abbrev pub leaf_after : Option High → BlockRef → BlockRef
+leaf_after (Some h) leaf = h.block
+leaf_after None leaf = leaf
+
+-- the change makes what is kept that of one step more, and sends what the step sends
+pub record IsStep (keys : Keys) (c : Chronicle) (st : Step) (p : Pace) (d : Change) : Type 0 where
+  pub variables : changed_variables d (variables_of keys c) ≡ variables_of keys (st ∷ c)
+  pub sizes : (unwrap_or d.pace p).sizes ≡ keys.sizes
+  pub pace : IsPaceOf (st ∷ c) (unwrap_or d.pace p)
+  pub out : d.out ≡ shown (sendings (identity_of keys) st c)

@@ -1,0 +1,64 @@
+-- What a replica keeps, as plain data, and what that is: functions of its chronicle.
+use Rattle.std.specs.Prelude.{ℕ, ◌≡◌, ◌+◌, ◌≤◌, [], length, List, Option, option_map}
+use Rattle.definitions.specs.Bytes.{Bytes}
+use Rattle.definitions.specs.Lists.{Among}
+use Rattle.definitions.specs.Frames.{core_bytes, certificate_bytes}
+use Rattle.definitions.specs.Keyrings.{Keys}
+use Rattle.definitions.specs.Checks.{identity_of}
+use Rattle.definitions.specs.Digests.{core_of}
+use Rattle.definitions.specs.Trees.{Stored, most_blocks}
+use Rattle.definitions.specs.Chronicles.{Chronicle, stored, tree, IsSound}
+use Rattle.definitions.specs.States.{Justified, qc_high, leaf, pending, proposed}
+use Rattle.pacemaker.specs.Pacing.{Pace, IsPaceOf}
+use Rattle.replica_rules.specs.declared.block_ref.BlockRef.{BlockRef}
+use Rattle.replica_rules.specs.Ruled.{Ruled, ref_of, ruled_by}
+use Rattle.replica.specs.declared.state.High.{High}
+
+-- the bytes of a proposal's core and certificate
+pub record Own : Type 0 where
+  pub core : Bytes
+  pub certificate : Bytes
+
+-- the chronicle, and the running variables that are functions of it
+pub record Variables : Type 0 where
+  pub chronicle : Chronicle
+  pub most : ℕ  -- as many blocks may stand in the tree
+  pub stored : List Stored
+  pub rules : Ruled
+  pub high : High
+  pub leaf : BlockRef
+  pub own : Option Own
+
+-- what is kept
+pub record Kept : Type 0 where
+  pub variables : Variables
+  pub pace : Pace
+
+-- a certificate with its block, and a proposal, as they are kept
+abbrev pub high_of : Justified → High
+high_of q = record { block = ref_of q.block; certificate = q.certificate }
+
+abbrev pub own_of : Justified → Own
+own_of p = record { core = core_bytes (core_of p.block); certificate = certificate_bytes p.certificate }
+
+-- the variables where this chronicle stands
+abbrev pub variables_of : Keys → Chronicle → Variables
+variables_of keys c = record {
+  chronicle = c;
+  most = most_blocks;
+  stored = stored c;
+  rules = ruled_by c;
+  high = high_of (qc_high keys.sizes c);
+  leaf = ref_of (leaf (identity_of keys) c);
+  own = option_map own_of (proposed (identity_of keys) c);
+}
+
+-- what is kept is that of this chronicle, which is a sound one
+pub record IsStateOf (keys : Keys) (c : Chronicle) (s : Kept) : Type 0 where
+  pub same : s.variables ≡ variables_of keys c
+  pub sizes : s.pace.sizes ≡ keys.sizes
+  pub pace : IsPaceOf c s.pace
+  pub sound : IsSound keys.sizes c
+  pub certified : Among (qc_high keys.sizes c).block (tree c)
+  pub leaf_low : length (leaf (identity_of keys) c) ≤ length c + most_blocks
+  pub none_pending : pending c ≡ []

@@ -1,0 +1,113 @@
+//! Timeouts, and views that are announced.
+
+ghost use Rattle.std.specs.Prelude.{◌≡◌, ◌<◌, [], ◌∷◌, length, option_map, nat_lt, if◌then◌else◌, Some, None, IfOk, OnErr, MatchResult, ⊤};
+ghost use Rattle.std.specs.Option.{unwrap_or};
+ghost use Rattle.ids.specs.Sizes.{replicas};
+ghost use Rattle.definitions.specs.Trees.{blocks, find_in};
+ghost use Rattle.replica.specs.Announcements.{new_view_sent, IsTimeout, IsAnnounced, IsNewView};
+ghost use Rattle.replica.specs.Inputs.{announced_by};
+
+use crate::blocks::{leaf_after, raised};
+use crate::change::Change;
+use crate::out::{Out, To};
+use crate::state::{High, State};
+use crate::stored::{GotNewView, StoredStep};
+use authenticators::Keyring;
+use certificates::Checked;
+use frames_view::{CertificateBuf, NewViewView};
+use ids::{Digest, Fault, View};
+use replica_rules::BlockRef;
+use signed_frames::new_view_frame;
+use std::alloc::Global;
+
+/// The view goes to all, with the highest certificate.
+fn announcement(alloc: Global, keyring: &Keyring, view: View, high: &High) -> Result<Out, Fault>
+    requires { keyring.now.party < replicas keyring.now.sizes }
+    ensures made { IfOk result (λ out. out ≡ new_view_sent keyring.now view high.now.certificate ∷ []) }
+    ensures memory { OnErr result (result ≡ Err Fault.Memory) }
+{
+    let mut certificate = Vec::new(alloc);
+    high.certificate.view().write(&mut certificate)?;
+    let frame = new_view_frame(alloc, keyring, view, &certificate)?;
+    Out::one(alloc, To::All, frame)
+}
+
+/// What a timeout comes to: the replica goes on to the next view, and announces it.
+pub(crate) fn decide_timeout(state: &State, keyring: &Keyring) -> Result<Change, Fault>
+    requires { keyring.now.party < replicas keyring.now.sizes }
+    ensures made { IfOk result (IsTimeout keyring.now state.now) }
+    ensures memory { OnErr result (result ≡ Err Fault.Memory) }
+{
+    let mut pace = state.pace.clone();
+    pace.timeout();
+    let out = announcement(state.alloc, keyring, pace.view(), &state.high)?;
+    Ok(Change {
+        pace: Some(pace),
+        ..Change::noting(state, StoredStep::TimedOut, out)
+    })
+}
+
+/// The highest certificate after a raise.
+fn high_after<'a>(raised: &'a Option<High>, high: &'a High) -> &'a High
+    ensures { result.now ≡ unwrap_or raised.entry.now high.entry.now }
+{
+    match raised {
+        Some(raised) => raised,
+        None => high,
+    }
+}
+
+/// What an announced view comes to, whose certificate is for this block: the certificate is raised, and where the
+/// replica moves on to a greater view, it announces that.
+fn take_new_view(
+    state: &State,
+    keyring: &Keyring,
+    announced: &NewViewView,
+    block: BlockRef,
+) -> Result<Change, Fault>
+    requires replica { keyring.now.party < replicas keyring.now.sizes }
+    requires sender { (announced_by announced.now).sender < replicas state.now.pace.sizes }
+    ensures made { IfOk result (IsAnnounced keyring.now state.now block (announced_by announced.now)) }
+    ensures memory { OnErr result (result ≡ Err Fault.Memory) }
+{
+    let alloc = state.alloc;
+    let (view, sender) = (announced.view(), announced.sender());
+    let high = raised(alloc, block, &announced.certificate(), &state.high)?;
+    let mut pace = state.pace.clone();
+    let moved = pace.on_new_view(sender, view);
+    let out = if moved {
+        announcement(alloc, keyring, pace.view(), high_after(&high, &state.high))?
+    } else {
+        Out::none(alloc)
+    };
+    let certificate = CertificateBuf::copy(alloc, &announced.certificate())?;
+    let step = StoredStep::GotNewView(GotNewView {
+        view,
+        sender,
+        certificate,
+    });
+    let leaf = leaf_after(&high, state.leaf);
+    Ok(Change {
+        high,
+        leaf,
+        pace: Some(pace),
+        ..Change::noting(state, step, out)
+    })
+}
+
+/// What an announced view comes to: `UnknownParent` where the block of its certificate isn't in the tree.
+pub(crate) fn decide_new_view(
+    state: &State,
+    keyring: &Keyring,
+    announced: &NewViewView,
+) -> Result<Change, Fault>
+    requires replica { keyring.now.party < replicas keyring.now.sizes }
+    requires sender { (announced_by announced.now).sender < replicas state.now.pace.sizes }
+    ensures { IsNewView keyring.now state.now (announced_by announced.now) result }
+{
+    let digest = Digest(*announced.certificate().digest());
+    let Some(height) = state.tree.height(&digest) else {
+        return Err(Fault::UnknownParent);
+    };
+    take_new_view(state, keyring, announced, BlockRef { digest, height })
+}

@@ -1,0 +1,178 @@
+//! Taking a block in.
+
+ghost use Rattle.std.specs.Prelude.{◌≡◌, ◌<◌, IfOk, OnErr};
+ghost use Rattle.ids.specs.Sizes.{replicas};
+ghost use Rattle.definitions.specs.Digests.{digest as digest_of_core};
+ghost use Rattle.frames_view.specs.Views.{certificate_of};
+ghost use Rattle.block_tree.specs.Insertions.{IsNodeFor};
+ghost use Rattle.replica_rules.specs.Ruled.{with_vote};
+ghost use Rattle.replica.specs.Changes.{raise_of, leaf_after, tree_of};
+ghost use Rattle.replica.specs.Offers.{votes_sent, with_vote_in, again_step, again_change, new_change, IsDecided};
+
+use crate::change::{Change, Growth};
+use crate::offer::Offer;
+use crate::out::{Out, To};
+use crate::state::{High, State};
+use crate::stored::{StoredStep, TookAgain, TookNew};
+use authenticators::Keyring;
+use block_tree::{Node, Plan, Tree};
+use frames_view::{CertificateBuf, CertificateView, CoreBuf};
+use ids::{Digest, Fault, Height};
+use replica_rules::{BlockRef, Rules};
+use signed_frames::vote_frame;
+use std::alloc::Global;
+
+/// What goes out: the vote, if one was given.
+fn vote_out(state: &State, keyring: &Keyring, digest: &Digest, voted: bool) -> Result<Out, Fault>
+    requires { keyring.now.party < replicas keyring.now.sizes }
+    ensures made { IfOk result (λ out. out ≡ votes_sent keyring.now state.now.pace.view digest.now voted) }
+    ensures memory { OnErr result (result ≡ Err Fault.Memory) }
+{
+    if !voted {
+        return Ok(Out::none(state.alloc));
+    }
+    let frame = vote_frame(state.alloc, keyring, digest)?;
+    let leader = keyring.config().leader(state.pace.view());
+    Out::one(state.alloc, To::Replica(leader), frame)
+}
+
+/// The rules after a vote for a block of this height, if one was given.
+fn with_vote(rules: Rules, voted: bool, height: Height) -> Rules
+    ensures { result ≡ with_vote voted height rules }
+{
+    let mut rules = rules;
+    if voted {
+        rules.voted(height);
+    }
+    rules
+}
+
+/// The same for a block of the tree.
+fn with_vote_in(tree: &Tree, rules: Rules, voted: bool, digest: &Digest) -> Rules
+    ensures { result ≡ with_vote_in voted digest.now tree.now.stored rules }
+{
+    match tree.height(digest) {
+        Some(height) => with_vote(rules, voted, height),
+        None => rules,
+    }
+}
+
+/// A block that stood in the tree, as it is stored.
+fn stored_again(state: &State, offer: &Offer, voted: bool) -> Result<StoredStep, Fault>
+    ensures made { IfOk result (λ s. s ≡ again_step offer.now voted) }
+    ensures memory { OnErr result (result ≡ Err Fault.Memory) }
+{
+    let alloc = state.alloc;
+    Ok(StoredStep::TookAgain(TookAgain {
+        core: CoreBuf::copy(alloc, &offer.core)?,
+        certificate: CertificateBuf::copy(alloc, &offer.certificate)?,
+        counted: offer.counted.to_vec(alloc)?,
+        clear: offer.clear,
+        voted,
+    }))
+}
+
+/// Takes a block that stands in the tree.
+fn take_again(
+    state: &State,
+    keyring: &Keyring,
+    offer: &Offer,
+    digest: Digest,
+) -> Result<Change, Fault>
+    requires replica { keyring.now.party < replicas keyring.now.sizes }
+    requires digest { digest ≡ digest_of_core offer.now.core }
+    ensures made { IfOk result (λ d. d ≡ again_change keyring.now state.now offer.now) }
+    ensures memory { OnErr result (result ≡ Err Fault.Memory) }
+{
+    let voted = offer.is_for(state.pace.view()) && state.rules.may_vote(&state.tree, &digest);
+    let rules = with_vote_in(&state.tree, state.rules, voted, &digest);
+    let out = vote_out(state, keyring, &digest, voted)?;
+    let step = stored_again(state, offer, voted)?;
+    Ok(Change {
+        rules,
+        ..Change::noting(state, step, out)
+    })
+}
+
+/// A certificate with its block, where it is higher than the highest one so far.
+pub(crate) fn raised(
+    alloc: Global,
+    block: BlockRef,
+    certificate: &CertificateView,
+    high: &High,
+) -> Result<Option<High>, Fault>
+    ensures made { IfOk result (λ r. r ≡ raise_of (record { block = block; certificate = certificate_of certificate.now }) high.now) }
+    ensures memory { OnErr result (result ≡ Err Fault.Memory) }
+{
+    if block.height <= high.block.height {
+        return Ok(None);
+    }
+    let certificate = CertificateBuf::copy(alloc, certificate)?;
+    Ok(Some(High { block, certificate }))
+}
+
+/// The leaf after a raise.
+pub(crate) fn leaf_after(raised: &Option<High>, leaf: BlockRef) -> BlockRef
+    ensures { result ≡ leaf_after raised.now leaf }
+{
+    match raised {
+        Some(high) => high.block,
+        None => leaf,
+    }
+}
+
+/// Takes a new block, by the rules after it.
+fn take_new(
+    state: &State,
+    keyring: &Keyring,
+    offer: &Offer,
+    node: Node,
+    rules: Rules,
+) -> Result<Change, Fault>
+    requires replica { keyring.now.party < replicas keyring.now.sizes }
+    requires node { IsNodeFor (tree_of state.now.variables) offer.now.core offer.now.certificate offer.now.found.clear node }
+    ensures made { IfOk result (λ d. d ≡ new_change keyring.now state.now offer.now node rules) }
+    ensures memory { OnErr result (result ≡ Err Fault.Memory) }
+{
+    let voted = offer.is_for(state.pace.view())
+        && state.rules.may_vote_on(&state.tree, &offer.candidate());
+    let rules = with_vote(rules, voted, offer.core.height());
+    let out = vote_out(state, keyring, &node.digest(), voted)?;
+    let high = raised(
+        state.alloc,
+        offer.justified(),
+        &offer.certificate,
+        &state.high,
+    )?;
+    let leaf = leaf_after(&high, state.leaf);
+    let counted = offer.counted.to_vec(state.alloc)?;
+    let step = StoredStep::TookNew(TookNew { counted, voted });
+    Ok(Change {
+        growth: Growth::Block(node),
+        rules,
+        high,
+        leaf,
+        ..Change::noting(state, step, out)
+    })
+}
+
+/// What a block comes to.
+pub(crate) fn decide_block(
+    state: &State,
+    keyring: &Keyring,
+    offer: &Offer,
+) -> Result<Change, Fault>
+    requires { keyring.now.party < replicas keyring.now.sizes }
+    ensures { IsDecided keyring.now state.now offer.now result }
+{
+    match state
+        .tree
+        .plan(&offer.core, &offer.certificate, offer.clear)?
+    {
+        Plan::Stands(digest) => take_again(state, keyring, offer, digest),
+        Plan::Grows(node) => {
+            let rules = state.rules.taking(&state.tree, offer.justified())?;
+            take_new(state, keyring, offer, node, rules)
+        }
+    }
+}

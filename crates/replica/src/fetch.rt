@@ -1,0 +1,54 @@
+//! Questions for blocks.
+
+ghost use Rattle.std.specs.Prelude.{◌≡◌, ◌<◌, IfOk, OnErr};
+ghost use Rattle.ids.specs.Sizes.{replicas};
+ghost use Rattle.block_tree.specs.Finding.{stored_in};
+ghost use Rattle.replica.specs.Fetches.{supplied, fetch_change};
+ghost use Rattle.replica.specs.Inputs.{asked_by};
+
+use crate::change::Change;
+use crate::out::{Out, To};
+use crate::state::State;
+use crate::stored::{GotFetch, StoredStep};
+use authenticators::Keyring;
+use frames_view::FetchView;
+use ids::{Digest, Fault, ReplicaId};
+use signed_frames::block_frame;
+
+/// The block of a digest with its certificate, for a replica that asked for it, where it stands in the tree.
+fn supply(
+    state: &State,
+    keyring: &Keyring,
+    to: ReplicaId,
+    digest: &Digest,
+) -> Result<Out, Fault>
+    requires own { keyring.now.party < replicas keyring.now.sizes }
+    requires other { to < replicas keyring.now.sizes }
+    ensures made { IfOk result (λ out. out ≡ supplied keyring.now to (stored_in digest.now state.now.variables.stored)) }
+    ensures memory { OnErr result (result ≡ Err Fault.Memory) }
+{
+    let Some(block) = state.tree.block(digest) else {
+        return Ok(Out::none(state.alloc));
+    };
+    let mut certificate = Vec::new(state.alloc);
+    block.certificate().write(&mut certificate)?;
+    let frame = block_frame(state.alloc, keyring, to, block.core().raw(), &certificate)?;
+    Out::one(state.alloc, To::Replica(to), frame)
+}
+
+/// What a question for a block comes to: the block goes to the one who asked, where it stands in the tree.
+pub(crate) fn decide_fetch(
+    state: &State,
+    keyring: &Keyring,
+    asked: &FetchView,
+) -> Result<Change, Fault>
+    requires own { keyring.now.party < replicas keyring.now.sizes }
+    requires other { (asked_by asked.now).sender < replicas keyring.now.sizes }
+    ensures made { IfOk result (λ d. d ≡ fetch_change keyring.now state.now.variables (asked_by asked.now)) }
+    ensures memory { OnErr result (result ≡ Err Fault.Memory) }
+{
+    let (sender, block) = (asked.sender(), Digest(*asked.digest()));
+    let out = supply(state, keyring, sender, &block)?;
+    let step = StoredStep::GotFetch(GotFetch { sender, block });
+    Ok(Change::noting(state, step, out))
+}

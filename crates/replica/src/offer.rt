@@ -1,0 +1,92 @@
+//! A block that comes.
+
+ghost use Rattle.std.specs.Prelude.{◌≡◌, Some, None};
+ghost use Rattle.replica.specs.Offers.{is_for, justified_of};
+ghost use Rattle.replica.specs.Inputs.{proposal_offered, block_offered};
+ghost use Rattle.replica_rules.specs.Votes.{candidate_of};
+
+use certificates::Checked;
+use frames_view::{BlockView, CertificateView, CoreView, ProposalView};
+use ids::{Digest, ReplicaId, View};
+use replica_rules::{BlockRef, Candidate};
+use std::marker::Model;
+
+/// A block with its certificate and what a check found of them, and the view that it was proposed for, if it was.
+pub(crate) struct Offer<'a, 'b> {
+    pub(crate) core: CoreView<'a>,
+    pub(crate) certificate: CertificateView<'a>,
+    pub(crate) counted: &'b [ReplicaId],
+    pub(crate) clear: bool,
+    pub(crate) view: Option<View>,
+}
+
+impl<'a, 'b> Model for Offer<'a, 'b> {
+    ghost use Rattle.frames_view.specs.Views.{core_of, certificate_of};
+    ghost use Rattle.replica.specs.Offers.{Offered};
+
+    ghost Value = { Offered };
+
+    ghost view = { λ o. record { core = core_of o.core; certificate = certificate_of o.certificate; found = record { counted = o.counted.now; clear = o.clear }; view = o.view } };
+}
+
+impl<'a, 'b> Offer<'a, 'b> {
+    /// The block of a proposal.
+    pub(crate) fn of_proposal(proposal: &'b Checked<'a, ProposalView<'a>>) -> Offer<'a, 'b>
+        ensures { result ≡ proposal_offered proposal.entry.now }
+    {
+        let view = proposal.view();
+        Offer {
+            core: view.core(),
+            certificate: view.certificate(),
+            counted: proposal.counted(),
+            clear: proposal.is_clear(),
+            view: Some(view.view()),
+        }
+    }
+
+    /// A block that was asked for.
+    pub(crate) fn of_block(block: &'b Checked<'a, BlockView<'a>>) -> Offer<'a, 'b>
+        ensures { result ≡ block_offered block.entry.now }
+    {
+        let view = block.view();
+        Offer {
+            core: view.core(),
+            certificate: view.certificate(),
+            counted: block.counted(),
+            clear: block.is_clear(),
+            view: None,
+        }
+    }
+
+    /// Whether it was proposed for this view.
+    pub(crate) fn is_for(&self, view: View) -> bool
+        ensures { result ≡ is_for view self.now.view }
+    {
+        match self.view {
+            Some(own) => own == view,
+            None => false,
+        }
+    }
+
+    /// The block that it justifies, as its certificate names it.
+    pub(crate) fn justified(&self) -> BlockRef
+        ensures { result ≡ justified_of self.now }
+    {
+        BlockRef {
+            digest: Digest(*self.certificate.digest()),
+            height: self.core.justify_height(),
+        }
+    }
+
+    /// What the rules are asked about.
+    pub(crate) fn candidate(&self) -> Candidate
+        ensures { result ≡ candidate_of self.now.core self.now.found.clear }
+    {
+        Candidate {
+            parent: Digest(*self.core.parent()),
+            height: self.core.height(),
+            justify_height: self.core.justify_height(),
+            clear: self.clear,
+        }
+    }
+}
