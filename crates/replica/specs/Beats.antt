@@ -7,7 +7,7 @@ use Rattle.definitions.specs.Branches.{Branch}
 use Rattle.definitions.specs.Digests.{core_of}
 use Rattle.definitions.specs.Chronicles.{Chronicle}
 use Rattle.definitions.specs.States.{qc_high, leaf}
-use Rattle.replica_rules.specs.Ruled.{mark_of}
+use Rattle.replica_rules.specs.Ruled.{ref_of}
 use Rattle.replica.specs.declared.beat.Child.{Child}
 
 -- a child of the leaf without commands, which justifies the block of the highest certificate
@@ -16,6 +16,6 @@ empty_child keys c = record { commands = []; justify = length (qc_high keys.size
 
 -- its mark and the bytes of its proposal
 pub record IsChild (keys : Keys) (c : Chronicle) (k : Child) : Type 0 where
-  pub block : k.block ≡ mark_of (empty_child keys c)
+  pub block : k.block ≡ ref_of (empty_child keys c)
   pub core : k.own.core.items ≡ core_bytes (core_of (empty_child keys c))
   pub certificate : k.own.certificate.items ≡ certificate_bytes (qc_high keys.sizes c).certificate

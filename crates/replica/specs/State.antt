@@ -7,7 +7,7 @@ use Rattle.definitions.specs.Digests.{core_of}
 use Rattle.definitions.specs.Trees.{TreeState, most_blocks}
 use Rattle.definitions.specs.Chronicles.{Chronicle, stored, IsSound}
 use Rattle.definitions.specs.States.{Justified, view, qc_high, leaf, pending, proposed}
-use Rattle.replica_rules.specs.Ruled.{mark_of, ruled_by}
+use Rattle.replica_rules.specs.Ruled.{ref_of, ruled_by}
 use Rattle.replica.specs.Replay.{replay}
 use Rattle.replica.specs.declared.state.OwnProposal.{OwnProposal}
 use Rattle.replica.specs.declared.state.Records.{Records}
@@ -17,9 +17,9 @@ use Rattle.replica.specs.declared.state.State.{State}
 pub record AreRecordsOf (keys : Keys) (c : Chronicle) (r : Records) : Type 0 where
   pub replayed : replay (reverse r.steps.items) ≡ c
   pub rules : r.rules ≡ ruled_by c
-  pub high : r.high.block ≡ mark_of (qc_high keys.sizes c).block
+  pub high : r.high.block ≡ ref_of (qc_high keys.sizes c).block
   pub certificate : r.high.certificate ≡ (qc_high keys.sizes c).certificate
-  pub its_leaf : r.leaf ≡ mark_of (leaf (identity_of keys) c)
+  pub its_leaf : r.leaf ≡ ref_of (leaf (identity_of keys) c)
 
 -- the stored proposal is the last one made
 abbrev pub IsOwn : Option Justified → Option OwnProposal → Type 0

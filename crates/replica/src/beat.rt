@@ -21,7 +21,7 @@ use crate::stored::StoredStep;
 use authenticators::Keyring;
 use frames_view::write_core;
 use ids::{Digest, Fault, Height, View};
-use replica_rules::Mark;
+use replica_rules::BlockRef;
 use sha2::Sha256;
 use signed_frames::proposal_frame;
 use std::alloc::Global;
@@ -30,7 +30,7 @@ use std::alloc::Global;
 #[derive(Drop)]
 struct Child {
     own: OwnProposal,
-    block: Mark,
+    block: BlockRef,
 }
 
 /// The child that is made on the leaf.
@@ -60,7 +60,7 @@ fn child_of(alloc: Global, records: &Records) -> Result<Child, Fault>
     let own = OwnProposal { core, certificate };
     Ok(Child {
         own,
-        block: Mark { digest, height },
+        block: BlockRef { digest, height },
     })
 }
 

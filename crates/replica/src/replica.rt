@@ -20,7 +20,7 @@ use authenticators::Keyring;
 use block_tree::Tree;
 use frames_view::{CertificateBuf, genesis_digest};
 use ids::{Config, Fault, ReplicaId, View};
-use replica_rules::{Mark, Rules};
+use replica_rules::{BlockRef, Rules};
 use std::alloc::Global;
 use std::marker::Model;
 
@@ -73,13 +73,13 @@ fn first_state(alloc: Global, config: Config) -> State
     ensures { (keys : Keys) → keys.sizes ≡ config → IsStateOf keys [] result }
 {
     let high = High {
-        block: Mark::genesis(),
+        block: BlockRef::genesis(),
         certificate: CertificateBuf::without_votes(alloc, config, genesis_digest()),
     };
     let records = Records {
         rules: Rules::new(),
         high,
-        leaf: Mark::genesis(),
+        leaf: BlockRef::genesis(),
         steps: Vec::new(alloc),
     };
     State {

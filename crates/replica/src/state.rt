@@ -4,13 +4,13 @@ use crate::stored::StoredStep;
 use block_tree::Tree;
 use frames_view::CertificateBuf;
 use ids::View;
-use replica_rules::{Mark, Rules};
+use replica_rules::{BlockRef, Rules};
 use std::alloc::Global;
 
 /// The highest certificate, with the block that it is for.
 #[derive(Drop)]
 pub(crate) struct High {
-    pub(crate) block: Mark,
+    pub(crate) block: BlockRef,
     pub(crate) certificate: CertificateBuf,
 }
 
@@ -27,7 +27,7 @@ pub(crate) struct Records {
     pub(crate) rules: Rules,
     pub(crate) high: High,
     /// The block that the next proposal stands on.
-    pub(crate) leaf: Mark,
+    pub(crate) leaf: BlockRef,
     /// The steps that stand, oldest first.
     pub(crate) steps: Vec<StoredStep>,
 }

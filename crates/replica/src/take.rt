@@ -23,7 +23,7 @@ use block_tree::Tree;
 use certificates::Checked;
 use frames_view::{CertificateBuf, CoreBuf, ProposalView};
 use ids::{Digest, Fault, View};
-use replica_rules::{Mark, Rules};
+use replica_rules::{BlockRef, Rules};
 use signed_frames::vote_frame;
 use std::alloc::Global;
 
@@ -76,7 +76,7 @@ fn raised(
     if height <= high.block.height {
         return Ok(None);
     }
-    let block = Mark {
+    let block = BlockRef {
         digest: Digest(*certificate.digest()),
         height,
     };
