@@ -16,7 +16,7 @@ use Rattle.replica_rules.specs.Ruled.{Ruled, HasMarks, ref_of, ruled_by, Took}
 use Rattle.replica_rules.specs.Chains.{justified_in, ruled_after}
 use Rattle.replica_rules.proofs.Held.{marks-hold}
 use Rattle.replica_rules.proofs.Chains.{justified-found}
-use Rattle.replica_rules.proofs.Takes.{taking_of, taking-found}
+use Rattle.replica_rules.proofs.Takes.{taking_of, taking-found, taking-stands, taking-refused}
 use Rattle.replica_rules.proofs.rules.Rules.took.Goals as goal
 
 -- by the chronicle
@@ -27,14 +27,6 @@ ruled-took t c a d r first e m f n j =
     let among = tree-below (blocks t.stored) m.is_tree a.branch (just1 a.branch) (found-in d (blocks t.stored) a.branch f).0 (just1-extends a.branch) in
     (λ i. ruled_after (e i) (one i) t.stored) ∙ taking-found t.stored c a (marks-hold t c m) n among
 
-took-ok : (v : Bool) (r new : Ruled) → Ok new ≡ cond v (Err fault.Conflict) (Ok r) → (v ≡ false) × (new ≡ r)
-took-ok true r new e = absurd (let k : Ok new ≡ Err fault.Conflict = e in cc)
-took-ok false r new e = (refl, (cc))
-
-took-err : (v : Bool) (r : Ruled) (f : Fault) → Err f ≡ cond v (Err fault.Conflict) (Ok r) → v ≡ true
-took-err true r f e = refl
-took-err false r f e = absurd (let k : Err f ≡ Ok r = e in cc)
-
 -- a refused call is one of a conflict
 took-refused : (c : Chronicle) (a : Admitted) (v : ℕ) (r : Result (Unit {0}) Fault) (new : Ruled) → IsErr r → conflicts (took_block a) c ≡ true → Took c a v r new
 took-refused c a v (Ok x) new h k = absurd (true≢false (sym h))
@@ -43,11 +35,11 @@ took-refused c a v (Err f) new h k = k
 pub returns-in_err-self-clause-taken : goal.returns-in_err-self-clause-taken
 returns-in_err-self-clause-taken c c' a r m f n =
     let e = ruled-took c.args.tree.now c' a c.args.block.now c.args.self.now c.in-Some.justified r m f n c.in-Some.ensures in
-    let k = took-err (conflicts (took_block a) c') _ c.in_err-self.field-0.0 (c.in_err-self.ensures ∙ e) in
-    took-refused c' a c.args.self.now.vheight c.from_residual.result c.args.self.now c.from_residual.ensures.0 k
+    let k = taking-refused c' a c.in_err-self.field-0.0 (c.in_err-self.ensures ∙ e) in
+    took-refused c' a c.args.self.now.vheight c.from_residual.result c.args.self.now c.from_residual.ensures.0 k.0
 
 pub returns-clause-taken : goal.returns-clause-taken
 returns-clause-taken c c' a r m f n =
     let e = ruled-took c.args.tree.now c' a c.args.block.now c.args.self.now c.in-Some.justified r m f n c.in-Some.ensures in
-    let k = took-ok (conflicts (took_block a) c') _ c.in_ok-self.field-0 (c.in_ok-self.ensures ∙ e) in
+    let k = taking-stands c' a c.in_ok-self.field-0 (c.in_ok-self.ensures ∙ e) in
     (k.0, k.1 ∙ (λ i. record (ruled_by (took_block a ∷ c')) { vheight = sym (ap (λ (x : Ruled). x.vheight) r) i }))
