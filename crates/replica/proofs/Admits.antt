@@ -9,11 +9,11 @@ use Rattle.definitions.specs.Keyrings.{Keys}
 use Rattle.definitions.specs.Checks.{identity_of}
 use Rattle.definitions.specs.Chronicles.{Admitted, Step, Step.took_block, Chronicle, tree, vheight, lock, executed}
 use Rattle.definitions.specs.States.{Justified, qc_high, leaf}
-use Rattle.replica_rules.specs.declared.mark.Mark.{Mark}
+use Rattle.replica_rules.specs.declared.block_ref.BlockRef.{BlockRef}
 use Rattle.replica.specs.declared.state.High.{High}
 use Rattle.replica.specs.declared.state.Records.{Records}
 use Rattle.replica.specs.declared.stored.StoredStep.{StoredStep}
-use Rattle.replica_rules.specs.Ruled.{Ruled, HasMarks, mark_of, ruled_by}
+use Rattle.replica_rules.specs.Ruled.{Ruled, HasMarks, ref_of, ruled_by}
 use Rattle.replica.specs.Replay.{step_of, replay}
 use Rattle.replica.specs.declared.state.State.{State}
 use Rattle.replica.specs.State.{AreRecordsOf}
@@ -27,38 +27,39 @@ use Rattle.definitions.specs.Trees.{TreeState, blocks, find_in, IsTree}
 use Rattle.definitions.proofs.Chronicles.{tree-grows}
 use Rattle.definitions.proofs.Held.{blocks-stored, lock-tree, executed-tree}
 use Rattle.replica.specs.Raises.{IsRaised, RaisesIf, TookIn}
-use Rattle.replica.proofs.Records.{sent-took, vheight-took, qc-known, qc-higher, qc-lower, leaf-same, leaf-raised, replay-push}
+use Rattle.replica_rules.proofs.Takes.{vheight-took}
+use Rattle.replica.proofs.Records.{sent-took, qc-known, qc-higher, qc-lower, leaf-same, leaf-raised, replay-push}
 
 -- highest certificate and leaf are those of the longer chronicle
 record AreHigh (keys : Keys) (c : Chronicle) (m : Records) : Type 0 where
-  block : m.high.block ≡ mark_of (qc_high keys.sizes c).block
+  block : m.high.block ≡ ref_of (qc_high keys.sizes c).block
   certificate : m.high.certificate ≡ (qc_high keys.sizes c).certificate
-  its_leaf : m.leaf ≡ mark_of (leaf (identity_of keys) c)
+  its_leaf : m.leaf ≡ ref_of (leaf (identity_of keys) c)
 
 unraised : (keys : Keys) (c : Chronicle) (a : Admitted) (old mid : Records) → AreRecordsOf keys c old → IsRaised old None mid → qc_high keys.sizes (took_block a ∷ c) ≡ qc_high keys.sizes c → AreHigh keys (took_block a ∷ c) mid
 unraised keys c a old mid o (eh, el) e = record {
-  block = ap (λ (h : High). h.block) eh ∙ o.high ∙ ap (λ (q : Justified). mark_of q.block) (sym e);
+  block = ap (λ (h : High). h.block) eh ∙ o.high ∙ ap (λ (q : Justified). ref_of q.block) (sym e);
   certificate = ap (λ (h : High). h.certificate) eh ∙ o.certificate ∙ ap (λ (q : Justified). q.certificate) (sym e);
-  its_leaf = el ∙ o.its_leaf ∙ ap mark_of (sym (leaf-same (identity_of keys) a c e));
+  its_leaf = el ∙ o.its_leaf ∙ ap ref_of (sym (leaf-same (identity_of keys) a c e));
 }
 
 raise-high : (keys : Keys) (c : Chronicle) (a : Admitted) (old mid : Records) → AreRecordsOf keys c old → (b : Bool) → a.new ≡ b → RaisesIf b a.core a.certificate old mid → (a.new ≡ true → length (just1 a.branch) ≡ a.core.justify_height) → a.certificate.digest ≡ digest_of (just1 a.branch) → AreHigh keys (took_block a ∷ c) mid
 raise-high keys c a old mid o false n r h j = unraised keys c a old mid o r (qc-known keys.sizes a c n)
 raise-high keys c a old mid o true n (None, le, r) h j =
-    let height : old.high.block.height ≡ length (qc_high keys.sizes c).block = ap (λ (m : Mark). m.height) o.high in
+    let height : old.high.block.height ≡ length (qc_high keys.sizes c).block = ap (λ (m : BlockRef). m.height) o.high in
     let jh = h n in
     unraised keys c a old mid o r (qc-lower keys.sizes a c n (omega (arith, height, jh, le)))
 raise-high keys c a old mid o true n (Some r, (lt, er), (eh, el)) h j =
-    let height : old.high.block.height ≡ length (qc_high keys.sizes c).block = ap (λ (m : Mark). m.height) o.high in
+    let height : old.high.block.height ≡ length (qc_high keys.sizes c).block = ap (λ (m : BlockRef). m.height) o.high in
     let jh = h n in
     let above : length (qc_high keys.sizes c).block < length (just1 a.branch) = omega (arith, height, jh, lt) in
     let q : Justified = record { block = just1 a.branch; certificate = a.certificate } in
     let e = qc-higher keys.sizes a c n above in
-    let block : r.block ≡ mark_of (just1 a.branch) = ap (λ (x : High). x.block) er ∙ (λ i. record { digest = j i; height = sym jh i }) in
+    let block : r.block ≡ ref_of (just1 a.branch) = ap (λ (x : High). x.block) er ∙ (λ i. record { digest = j i; height = sym jh i }) in
     record {
-      block = ap (λ (x : High). x.block) eh ∙ block ∙ ap (λ (x : Justified). mark_of x.block) (sym e);
+      block = ap (λ (x : High). x.block) eh ∙ block ∙ ap (λ (x : Justified). ref_of x.block) (sym e);
       certificate = ap (λ (x : High). x.certificate) (eh ∙ er) ∙ ap (λ (x : Justified). x.certificate) (sym e);
-      its_leaf = el ∙ block ∙ ap mark_of (sym (leaf-raised (identity_of keys) a c q e above));
+      its_leaf = el ∙ block ∙ ap ref_of (sym (leaf-raised (identity_of keys) a c q e above));
     }
 
 -- the rules after a vote, if one was given

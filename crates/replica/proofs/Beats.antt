@@ -13,7 +13,7 @@ use Rattle.definitions.specs.Chronicles.{Step.noted, Note.beat, Chronicle, taken
 use Rattle.definitions.specs.States.{Justified, view, raised, qc_high, pending, leads, find_block, is_known, picks, child, leaf, proposed}
 use Rattle.definitions.specs.Trees.{find_in}
 use Rattle.definitions.specs.Sendings.{sendings, proposes}
-use Rattle.replica_rules.specs.Ruled.{mark_of, ruled_by}
+use Rattle.replica_rules.specs.Ruled.{ref_of, ruled_by}
 use Rattle.replica.specs.declared.state.Records.{Records}
 use Rattle.replica.specs.declared.stored.StoredStep.{StoredStep}
 use Rattle.replica.specs.declared.stored.StoredStep.TheVariants.{Beat}
@@ -99,11 +99,11 @@ sent-led self c l = rw l refl
 
 -- ---- the records after a beat
 
-pub records-beat : (keys : Keys) (c : Chronicle) (old new : Records) → AreRecordsOf keys c old → new.steps.items ≡ old.steps.items ++ Beat ∷ [] → new.rules ≡ old.rules → new.high ≡ old.high → new.leaf ≡ mark_of (leaf (identity_of keys) (noted beat ∷ c)) → AreRecordsOf keys (noted beat ∷ c) new
+pub records-beat : (keys : Keys) (c : Chronicle) (old new : Records) → AreRecordsOf keys c old → new.steps.items ≡ old.steps.items ++ Beat ∷ [] → new.rules ≡ old.rules → new.high ≡ old.high → new.leaf ≡ ref_of (leaf (identity_of keys) (noted beat ∷ c)) → AreRecordsOf keys (noted beat ∷ c) new
 records-beat keys c old new o es er eh el = record {
   replayed = ap (λ (xs : List StoredStep). replay (reverse xs)) es ∙ replay-push old.steps.items Beat ∙ ap (λ (x : Chronicle). noted beat ∷ x) o.replayed;
   rules = er ∙ o.rules ∙ sym (ruled-beat c);
-  high = (λ i. (eh i).block) ∙ o.high ∙ ap (λ (q : Justified). mark_of q.block) (sym (qc-beat keys.sizes c));
+  high = (λ i. (eh i).block) ∙ o.high ∙ ap (λ (q : Justified). ref_of q.block) (sym (qc-beat keys.sizes c));
   certificate = (λ i. (eh i).certificate) ∙ o.certificate ∙ ap (λ (q : Justified). q.certificate) (sym (qc-beat keys.sizes c));
   its_leaf = el;
 }

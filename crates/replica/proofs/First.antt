@@ -10,7 +10,7 @@ use Rattle.definitions.specs.Digests.{digest}
 use Rattle.definitions.specs.Trees.{most_blocks, IsTree}
 use Rattle.definitions.specs.Chronicles.{Chronicle, taken, stored, tree, IsSound}
 use Rattle.definitions.specs.States.{view, qc_high, leaf, pending, proposed}
-use Rattle.replica_rules.specs.Ruled.{mark_of, ruled_by}
+use Rattle.replica_rules.specs.Ruled.{ref_of, ruled_by}
 use Rattle.replica.specs.declared.stored.StoredStep.{StoredStep}
 use Rattle.replica.specs.declared.state.State.{State}
 use Rattle.replica.specs.Replay.{replay}
@@ -41,7 +41,7 @@ first-sound s = record {
 }
 
 -- the state at the start
-pub first : (keys : Keys) (s : State) → s.records.steps.items ≡ [] → s.records.rules ≡ ruled_by [] → s.records.high.block ≡ mark_of [] → s.records.high.certificate ≡ record { digest = digest genesis_core; votes = [] } → s.records.leaf ≡ mark_of []
+pub first : (keys : Keys) (s : State) → s.records.steps.items ≡ [] → s.records.rules ≡ ruled_by [] → s.records.high.block ≡ ref_of [] → s.records.high.certificate ≡ record { digest = digest genesis_core; votes = [] } → s.records.leaf ≡ ref_of []
     → s.tree ≡ record { most = most_blocks; stored = [] } → s.view ≡ 0 → s.own ≡ None → IsStateOf keys [] s
 unfolding replay qc_high leaf view proposed pending stored taken
 first keys s es er eh ec el et ev eo = record {

@@ -1,5 +1,5 @@
 -- What a block that is taken in does to what a replica keeps.
-use Rattle.std.proofs.Common.{◌≡◌, ◌<◌, ◌≤◌, Bool, true, false, List, [], ◌∷◌, ◌++◌, length, cond, refl, sym, ap, ◌∙◌, arith, nat_lt, map, filter, max, Some, None, reverse}
+use Rattle.std.proofs.Common.{◌≡◌, ◌<◌, ◌≤◌, Bool, true, false, List, [], ◌∷◌, ◌++◌, length, cond, refl, sym, ap, ◌∙◌, arith, nat_lt, map, filter, Some, None, reverse}
 use Rattle.std.proofs.lemmas.List.{reverse-append}
 use Rattle.std.proofs.lemmas.Bool.{lt-ltb, le-ltb}
 use Rattle.ids.specs.Sizes.{Sizes, leader}
@@ -9,33 +9,16 @@ use Rattle.definitions.specs.Digests.{digest_of}
 use Rattle.definitions.specs.Histories.{Answer}
 use Rattle.definitions.specs.Keyrings.{Keys}
 use Rattle.definitions.specs.Checks.{Identity, identity_of}
-use Rattle.definitions.specs.Chronicles.{Admitted, Step.took_block, Chronicle, taken, tree, voted, vheight, lock, decided, executed}
+use Rattle.definitions.specs.Chronicles.{Admitted, Step.took_block, Chronicle, tree}
 use Rattle.definitions.specs.States.{Justified, view, qc_high, raised, leaf, pending, proposed, higher}
 use Rattle.definitions.specs.Rulings.{conflicts}
 use Rattle.definitions.specs.Sendings.{to_party, Sending, vote_frame, reply_to, new_replies, sendings}
-use Rattle.replica_rules.specs.Ruled.{Ruled, mark_of, ruled_by}
+use Rattle.replica_rules.specs.Ruled.{Ruled, ref_of, ruled_by}
+use Rattle.replica_rules.proofs.Takes.{lock-known, executed-known}
 use Rattle.replica.specs.Steps.{is_no_reply, shown}
 use Rattle.replica.specs.Takes.{vote_sent}
 use Rattle.replica.specs.declared.stored.StoredStep.{StoredStep}
 use Rattle.replica.specs.Replay.{step_of, replay}
-
--- ---- rules
-
-vheight-by : (a : Admitted) (c : Chronicle) (t : Bool) → a.voted ≡ t → vheight (took_block a ∷ c) ≡ cond t (max (length a.branch) (vheight c)) (vheight c)
-unfolding vheight voted Rattle.definitions.specs.Lists.greatest
-vheight-by a c true e = rw e refl
-vheight-by a c false e = rw e refl
-
-pub vheight-took : (a : Admitted) (c : Chronicle) → vheight (took_block a ∷ c) ≡ cond a.voted (max (length a.branch) (vheight c)) (vheight c)
-vheight-took a c = vheight-by a c a.voted refl
-
-pub lock-known : (c : Chronicle) (a : Admitted) → a.new ≡ false → lock (took_block a ∷ c) ≡ lock c
-unfolding lock taken
-lock-known c a n = rw n refl
-
-pub executed-known : (c : Chronicle) (a : Admitted) → a.new ≡ false → executed (took_block a ∷ c) ≡ executed c
-unfolding executed decided taken
-executed-known c a n = rw n refl
 
 -- ---- highest certificate and leaf
 
@@ -118,6 +101,6 @@ pub known-rules : (c : Chronicle) (a : Admitted) (old : Ruled) → a.new ≡ fal
 known-rules c a old n e =
     λ i. record {
       vheight = old.vheight;
-      lock = (ap (λ (x : Ruled). x.lock) e ∙ ap mark_of (sym (lock-known c a n))) i;
-      executed = (ap (λ (x : Ruled). x.executed) e ∙ ap mark_of (sym (executed-known c a n))) i;
+      lock = (ap (λ (x : Ruled). x.lock) e ∙ ap ref_of (sym (lock-known c a n))) i;
+      executed = (ap (λ (x : Ruled). x.executed) e ∙ ap ref_of (sym (executed-known c a n))) i;
     }

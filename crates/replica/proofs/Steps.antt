@@ -18,7 +18,7 @@ use Rattle.definitions.specs.Sendings.{sendings, proposes}
 use Rattle.definitions.specs.Replicas.{ample, refused_at_once, running, stopped_at, sends_out, fails, on_step, on_ruling}
 use Rattle.definitions.specs.Trees.{Stored, most_blocks}
 use Rattle.definitions.proofs.Sound.{ruling-sound}
-use Rattle.replica_rules.specs.Ruled.{mark_of}
+use Rattle.replica_rules.specs.Ruled.{ref_of}
 use Rattle.replica.specs.declared.state.State.{State}
 use Rattle.replica.specs.Steps.{Sent, shown}
 use Rattle.replica.specs.State.{AreRecordsOf, IsOwn, IsStateOf}
@@ -124,7 +124,7 @@ pub beat-without : (keys : Keys) (c : Chronicle) (old new : State) (out : List S
     → new.records.steps.items ≡ old.records.steps.items ++ Beat ∷ [] → new.records.rules ≡ old.records.rules → new.records.high ≡ old.records.high → new.records.leaf ≡ old.records.leaf
     → new.tree ≡ old.tree → new.view ≡ old.view → new.own ≡ old.own → out ≡ shown (sendings (identity_of keys) (noted beat) c) → StepsTo keys beat_in c (Ok out) new
 beat-without keys c old new out o n es er eh el t v own s =
-    let r = records-beat keys c old.records new.records o.its_records es er eh (el ∙ o.its_records.its_leaf ∙ ap mark_of (sym (leaf-without (identity_of keys) c n))) in
+    let r = records-beat keys c old.records new.records o.its_records es er eh (el ∙ o.its_records.its_leaf ∙ ap ref_of (sym (leaf-without (identity_of keys) c n))) in
     beat-stands keys c out new
     (state-beat keys c old new o r t v (subst (λ (p : Option Justified). IsOwn p new.own) (sym (proposed-without (identity_of keys) c n)) (subst (IsOwn (proposed (identity_of keys) c)) (sym own) o.own))) s
 
@@ -135,7 +135,7 @@ pub beat-with : (keys : Keys) (c : Chronicle) (old new : State) (k : Child) (out
     → out ≡ shown (proposes (identity_of keys) old.view (Some (record { block = empty_child keys c; certificate = (qc_high keys.sizes c).certificate }))) → StepsTo keys beat_in c (Ok out) new
 beat-with keys c old new k out o n l ch es er eh el t v own s =
     let p = proposed-with (identity_of keys) c (empty_child keys c) n in
-    let r = records-beat keys c old.records new.records o.its_records es er eh (el ∙ ch.block ∙ ap mark_of (sym (leaf-with (identity_of keys) c (empty_child keys c) n))) in
+    let r = records-beat keys c old.records new.records o.its_records es er eh (el ∙ ch.block ∙ ap ref_of (sym (leaf-with (identity_of keys) c (empty_child keys c) n))) in
     beat-stands keys c out new
     (state-beat keys c old new o r t v (subst (λ (q : Option Justified). IsOwn q new.own) (sym p) (subst (IsOwn (Some (record { block = empty_child keys c; certificate = (qc_high keys.sizes c).certificate }))) (sym own) (ch.core, ch.certificate))))
     (s ∙ (λ i. shown (proposes (identity_of keys) (o.its_view i) (sym p i))) ∙ ap shown (sym (sent-led (identity_of keys) c l)))

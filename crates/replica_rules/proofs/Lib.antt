@@ -1,3 +1,5 @@
-pub mod Safe
-pub mod Marks
+pub mod Held
+pub mod Candidates
+pub mod Votes
+pub mod Chains
 pub mod Takes

@@ -1,16 +1,15 @@
 //! Voting, locking and deciding (HotStuff, PODC 2019, the safety rules, with clear blocks).
 
-ghost use Rattle.std.specs.Prelude.{◌≡◌, ◌&&◌, [], not, true, max, nat_lt, Option, Some, None, if◌then◌else◌, OnErr};
-ghost use Rattle.definitions.specs.Branches.{Branch, just3, justify_height, extends};
-ghost use Rattle.definitions.specs.Digests.{digest_of};
-ghost use Rattle.definitions.specs.Trees.{IsTree, blocks, find_in, clear_above};
-ghost use Rattle.definitions.specs.Chronicles.{Chronicle, Admitted, may_vote, decides};
-ghost use Rattle.definitions.specs.Lists.{Among};
-ghost use Rattle.replica_rules.specs.Ruled.{HasMarks, mark_of, ruled_by, Took};
-ghost use Rattle.replica_rules.specs.Chains.{chain_of, executed_after_of};
+ghost use Rattle.std.specs.Prelude.{◌≡◌, [], true, max, Some, OnErr};
+ghost use Rattle.definitions.specs.Trees.{blocks, find_in};
+ghost use Rattle.definitions.specs.Chronicles.{Chronicle, Admitted};
+ghost use Rattle.replica_rules.specs.Ruled.{HasMarks, ref_of, ruled_by, Took};
+ghost use Rattle.replica_rules.specs.Votes.{is_safe_in, may_vote_at, may_vote_in, may_vote_over};
+ghost use Rattle.replica_rules.specs.Chains.{decides_against_in, executed_after, higher_of, ruled_after, decided_in};
 
-use crate::chain::{Chain, chain_below};
-use crate::mark::Mark;
+use crate::block_ref::{BlockRef, justified};
+use crate::candidate::Candidate;
+use crate::chain::{Chain, chain_from};
 use block_tree::Tree;
 use ids::{Digest, Fault, Height};
 use std::marker::Model;
@@ -20,8 +19,8 @@ use std::marker::Model;
 #[derive(Clone, Copy)]
 pub struct Rules {
     vheight: Height,
-    lock: Mark,
-    executed: Mark,
+    lock: BlockRef,
+    executed: BlockRef,
 }
 
 impl Model for Rules {
@@ -42,8 +41,8 @@ impl Rules {
     {
         Rules {
             vheight: Height(0),
-            lock: Mark::genesis(),
-            executed: Mark::genesis(),
+            lock: BlockRef::genesis(),
+            executed: BlockRef::genesis(),
         }
     }
 
@@ -55,14 +54,14 @@ impl Rules {
     }
 
     /// The block that is locked.
-    pub fn lock(&self) -> Mark
+    pub fn lock(&self) -> BlockRef
         ensures { result ≡ self.now.lock }
     {
         self.lock
     }
 
     /// The last executed block.
-    pub fn executed(&self) -> Mark
+    pub fn executed(&self) -> BlockRef
         ensures { result ≡ self.now.executed }
     {
         self.executed
@@ -70,32 +69,58 @@ impl Rules {
 
     /// Whether the block of this digest may be voted for: by height, lock and clear marks.
     ///
-    /// It is asked of a block that stands in the tree, and so does the replica's lock.
+    /// It is false where the block does not stand in the tree.
     pub fn may_vote(&self, tree: &Tree, block: &Digest) -> bool
-        ensures { (c : Chronicle) (b : Branch) → self.now ≡ ruled_by c → HasMarks tree.now c → find_in block.now (blocks tree.now.stored) ≡ Some b
-            → result ≡ (may_vote b c && clear_above (justify_height b) b tree.now.stored) }
-    {
-        let Some(justify_height) = tree.justify_height(block) else {
-            return false;
-        };
-        self.is_safe(tree, block, justify_height) && tree.is_clear_above(block, justify_height)
-    }
-
-    /// Whether it may be voted for by height and lock, where it justifies a block of this height.
-    fn is_safe(&self, tree: &Tree, block: &Digest, justified: Height) -> bool
-        ensures { (c : Chronicle) (b : Branch) → self.now ≡ ruled_by c → HasMarks tree.now c → find_in block.now (blocks tree.now.stored) ≡ Some b
-            → justified ≡ justify_height b → result ≡ may_vote b c }
+        ensures { result ≡ may_vote_in self.now block.now tree.now.stored }
     {
         let Some(height) = tree.height(block) else {
             return false;
         };
+        let Some(justify_height) = tree.justify_height(block) else {
+            return false;
+        };
+        self.may_vote_at(tree, block, height, justify_height)
+    }
+
+    /// The same of a block that does not stand in the tree, over its parent.
+    ///
+    /// It is safe where it is higher than all that was voted for, and its parent extends the lock or the block that it
+    /// justifies is above the lock. It is clear where it is itself, and each block of its parent's branch above the
+    /// one that it justifies. It is false where the parent does not stand in the tree.
+    pub fn may_vote_on(&self, tree: &Tree, block: &Candidate) -> bool
+        ensures { result ≡ may_vote_over self.now block.now tree.now.stored }
+    {
+        if !block.clear {
+            return false;
+        }
+        self.may_vote_at(tree, &block.parent, block.height, block.justify_height)
+    }
+
+    /// Whether a block of this height, which justifies one of this height, may be voted for on a branch.
+    fn may_vote_at(
+        &self,
+        tree: &Tree,
+        branch: &Digest,
+        height: Height,
+        justify_height: Height,
+    ) -> bool
+        ensures { result ≡ may_vote_at self.now branch.now height justify_height tree.now.stored }
+    {
+        self.is_safe(tree, branch, height, justify_height)
+            && tree.is_clear_above(branch, justify_height)
+    }
+
+    /// The same by height and lock alone.
+    fn is_safe(&self, tree: &Tree, branch: &Digest, height: Height, justify_height: Height) -> bool
+        ensures { result ≡ is_safe_in self.now branch.now height justify_height tree.now.stored }
+    {
         if height <= self.vheight {
             return false;
         }
-        if tree.extends(block, &self.lock.digest) {
+        if tree.extends(branch, &self.lock.digest) {
             return true;
         }
-        justified > self.lock.height
+        justify_height > self.lock.height
     }
 
     /// Notes a vote for a block of this height.
@@ -105,6 +130,27 @@ impl Rules {
         if height > self.vheight {
             self.vheight = height;
         }
+    }
+
+    /// The rules after a new block that justifies this one, but for the vote: the lock rises, and the block that is
+    /// decided becomes the last executed one where it is higher.
+    ///
+    /// `Conflict` comes where the decided block conflicts with the last executed one. The new block need not stand
+    /// in the tree. Where the one that it justifies does not, the rules stay as they are.
+    pub fn taking(&self, tree: &Tree, justified: BlockRef) -> Result<Rules, Fault>
+        ensures { result ≡ ruled_after self.now justified tree.now.stored }
+    {
+        let Some(chain) = chain_from(tree, justified) else {
+            return Ok(*self);
+        };
+        if decides_against(tree, &self.executed, &chain) {
+            return Err(Fault::Conflict);
+        }
+        Ok(Rules {
+            vheight: self.vheight,
+            lock: higher(self.lock, chain.second),
+            executed: last_executed(self.executed, &chain),
+        })
     }
 
     /// Takes the block of this digest, which stands in the tree and is new: the lock rises, and the block that is
@@ -117,21 +163,20 @@ impl Rules {
         ensures conflict { OnErr result (result ≡ Err Fault.Conflict) }
         ensures unchanged { OnErr result (self.new ≡ self.old) }
     {
-        let Some(chain) = chain_below(tree, block) else {
+        let Some(justified) = justified(tree, block) else {
             return Ok(());
         };
-        self.executed = executed_after(tree, self.executed, &chain)?;
-        self.lock = higher(self.lock, chain.second);
+        *self = self.taking(tree, justified)?;
         Ok(())
     }
 
-    /// The block that the one of this digest decides, if any: three blocks in direct succession, each justified by
-    /// the next one, decide the first of them.
+    /// The block that the one of this digest decides, if it stands in the tree: three blocks in direct succession,
+    /// each justified by the next one, decide the first of them.
     pub fn decided(tree: &Tree, block: &Digest) -> Option<Digest>
-        ensures { (b : Branch) → IsTree (blocks tree.now.stored) → find_in block.now (blocks tree.now.stored) ≡ Some b
-            → result ≡ (if decides b then Some (digest_of (just3 b)) else None) }
+        ensures { result ≡ decided_in block.now tree.now.stored }
     {
-        let chain = chain_below(tree, block)?;
+        let first = justified(tree, block)?;
+        let chain = chain_from(tree, first)?;
         if chain.decides() {
             Some(chain.third.digest)
         } else {
@@ -140,32 +185,30 @@ impl Rules {
     }
 }
 
-/// The last executed block after one with this chain was taken; `Conflict` where what is decided conflicts with it.
-fn executed_after(tree: &Tree, executed: Mark, chain: &Chain) -> Result<Mark, Fault>
-    ensures executed { (e b : Branch) → executed ≡ mark_of e → chain.now ≡ chain_of b → IsTree (blocks tree.now.stored) → Among e (blocks tree.now.stored)
-        → Among (just3 b) (blocks tree.now.stored) → result ≡ executed_after_of e b }
-    ensures conflict { OnErr result (result ≡ Err Fault.Conflict) }
+/// Whether what a chain decides, if anything, neither extends the last executed block nor is extended by it.
+fn decides_against(tree: &Tree, executed: &BlockRef, chain: &Chain) -> bool
+    ensures { result ≡ decides_against_in executed.now chain.now tree.now.stored }
 {
-    if !chain.decides() {
-        return Ok(executed);
-    }
-    if are_in_conflict(tree, &executed.digest, &chain.third.digest) {
-        return Err(Fault::Conflict);
-    }
-    Ok(higher(executed, chain.third))
+    let decided = &chain.third.digest;
+    chain.decides()
+        && !tree.extends(decided, &executed.digest)
+        && !tree.extends(&executed.digest, decided)
 }
 
-/// Whether neither of two blocks of the tree extends the other.
-fn are_in_conflict(tree: &Tree, a: &Digest, b: &Digest) -> bool
-    ensures { (x y : Branch) → find_in a.now (blocks tree.now.stored) ≡ Some x → find_in b.now (blocks tree.now.stored) ≡ Some y
-        → result ≡ (not (extends y x) && not (extends x y)) }
+/// The last executed block after one with this chain.
+fn last_executed(executed: BlockRef, chain: &Chain) -> BlockRef
+    ensures { result ≡ executed_after executed chain.now }
 {
-    !tree.extends(b, a) && !tree.extends(a, b)
+    if chain.decides() {
+        higher(executed, chain.third)
+    } else {
+        executed
+    }
 }
 
 /// The higher of two blocks, the first where they are equally high.
-fn higher(first: Mark, second: Mark) -> Mark
-    ensures { result ≡ (if nat_lt first.height second.height then second else first) }
+fn higher(first: BlockRef, second: BlockRef) -> BlockRef
+    ensures { result ≡ higher_of first second }
 {
     if second.height > first.height {
         second

@@ -3,7 +3,7 @@
 use block_tree::{Tree, Turns};
 use frames_view::{Frame, genesis_digest, read, write_certificate, write_core, write_proposal};
 use ids::{Config, Digest, Fault, Height, View};
-use replica_rules::{Mark, Rules};
+use replica_rules::{BlockRef, Rules};
 use std::alloc::Global;
 use std::test::Fail;
 
@@ -120,7 +120,7 @@ fn one_vote_a_height(rt: HostRuntime) -> Result<(), Fail> {
     assert_eq!(rt; Rules::decided(&tree, &first), None);
     assert_eq!(rt;
         (rules.lock(), rules.executed()),
-        (Mark::genesis(), Mark::genesis())
+        (BlockRef::genesis(), BlockRef::genesis())
     );
     Ok(())
 }

@@ -2,7 +2,7 @@ use Rattle.std.proofs.Common.{◌≡◌, ℕ, List, [], ◌∷◌, subst, ap, �
 use Rattle.ids.specs.Numbers.{kind_number}
 use Rattle.ids.specs.declared.kind.Kind.TheVariants as kind
 use Rattle.definitions.specs.Bytes.{Bytes}
-use Rattle.definitions.specs.Frames.{frame_text, proposal_text, core_bytes, certificate_bytes}
+use Rattle.definitions.specs.Frames.{frame_text, proposal_text, core_bytes}
 use Rattle.definitions.specs.Digests.{core_of}
 use Rattle.definitions.specs.Keyrings.{keyring_of, vector_for}
 use Rattle.definitions.specs.Sendings.{to_all, proposal_frame}

@@ -3,7 +3,7 @@ use Rattle.ids.specs.declared.fault.Fault.TheVariants as fault
 use Rattle.definitions.specs.Checks.{identity_of}
 use Rattle.definitions.specs.Digests.{digest_of}
 use Rattle.definitions.specs.States.{Justified, leaf, is_known, qc_high}
-use Rattle.replica_rules.specs.declared.mark.Mark.{Mark}
+use Rattle.replica_rules.specs.declared.block_ref.BlockRef.{BlockRef}
 use Rattle.replica.specs.Beats.{empty_child}
 use Rattle.replica.proofs.Beats.{child-made}
 use Rattle.replica.proofs.Steps.{err-is, err-same, beat-refused, beat-with}
@@ -25,7 +25,7 @@ returns-in_err-push c c' o l k =
 pub returns : goal.returns
 returns c c' o l k =
     let self = identity_of c.args.keyring.now in
-    let known : is_known (digest_of (leaf self c')) c' ≡ true = ap (λ (m : Mark). is_known m.digest c') (sym o.its_records.its_leaf) ∙ k in
+    let known : is_known (digest_of (leaf self c')) c' ≡ true = ap (λ (m : BlockRef). is_known m.digest c') (sym o.its_records.its_leaf) ∙ k in
     let made = child-made c.args.keyring.now c' o.none_pending l known in
     let child = c.in_ok-child.ensures.made c.args.keyring.now c' o.its_records in
     let p : Justified = record { block = empty_child c.args.keyring.now c'; certificate = (qc_high c.args.keyring.now.sizes c').certificate } in

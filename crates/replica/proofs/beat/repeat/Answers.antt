@@ -4,7 +4,7 @@ use Rattle.definitions.specs.Checks.{identity_of}
 use Rattle.definitions.specs.Digests.{digest_of}
 use Rattle.definitions.specs.States.{leaf, is_known, proposed}
 use Rattle.definitions.specs.Sendings.{proposes}
-use Rattle.replica_rules.specs.declared.mark.Mark.{Mark}
+use Rattle.replica_rules.specs.declared.block_ref.BlockRef.{BlockRef}
 use Rattle.replica.specs.Steps.{shown}
 use Rattle.replica.proofs.Beats.{child-unknown, proposed-without, sent-led}
 use Rattle.replica.proofs.Steps.{err-is, beat-refused, beat-without}
@@ -21,7 +21,7 @@ returns-in_err-push c c' o l k =
 pub returns : goal.returns
 returns c c' o l k =
     let self = identity_of c.args.keyring.now in
-    let unknown : is_known (digest_of (leaf self c')) c' ≡ false = ap (λ (m : Mark). is_known m.digest c') (sym o.its_records.its_leaf) ∙ k in
+    let unknown : is_known (digest_of (leaf self c')) c' ≡ false = ap (λ (m : BlockRef). is_known m.digest c') (sym o.its_records.its_leaf) ∙ k in
     let none = child-unknown self c' l unknown in
     let out = c.in_ok-out.ensures.made (proposed self c') o.own in
     beat-without c.args.keyring.now c' c.args.state.now _ _ o none c.in_ok-push.ensures.items refl refl refl refl refl refl

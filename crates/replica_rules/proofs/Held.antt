@@ -1,0 +1,46 @@
+-- Lock and last executed block stand among what is stored, so the tree finds them.
+use Rattle.std.proofs.Common.{ℕ, ◌≡◌, false, List, ap, ◌∙◌, Option, Some, None}
+use Rattle.definitions.specs.Bytes.{Bytes}
+use Rattle.definitions.specs.Lists.{Among}
+use Rattle.ids.specs.Sizes.{Sizes}
+use Rattle.definitions.specs.Branches.{Branch, extends}
+use Rattle.definitions.specs.Digests.{digest_of}
+use Rattle.definitions.specs.Chronicles.{Chronicle, stored, tree, lock, executed, IsSound}
+use Rattle.definitions.specs.Trees.{TreeState, Stored, blocks, find_in, clear_above, IsTree}
+use Rattle.definitions.proofs.Trees.{found-itself}
+use Rattle.definitions.proofs.Held.{lock-tree, executed-tree}
+use Rattle.block_tree.specs.Finding.{extends_in, clear_above_in}
+use Rattle.replica_rules.specs.Ruled.{HasMarks}
+
+-- what is stored makes a tree, in which lock and last executed block stand
+pub record Holds (all : List Stored) (c : Chronicle) : Type 0 where
+  pub is_tree : IsTree (blocks all)
+  pub lock : Among (lock c) (blocks all)
+  pub executed : Among (executed c) (blocks all)
+
+-- so it is of a chronicle's own tree
+pub sound-holds : (sizes : Sizes) (c : Chronicle) → IsSound sizes c → Holds (stored c) c
+unfolding tree
+sound-holds sizes c s = record {
+  is_tree = s.is_tree;
+  lock = lock-tree c s.is_tree;
+  executed = executed-tree c s.is_tree;
+}
+
+pub marks-hold : (t : TreeState) (c : Chronicle) → HasMarks t c → Holds t.stored c
+marks-hold t c m = record { is_tree = m.is_tree; lock = m.lock; executed = m.executed }
+
+pub lock-found : (all : List Stored) (c : Chronicle) → Holds all c → find_in (digest_of (lock c)) (blocks all) ≡ Some (lock c)
+lock-found all c h = found-itself (blocks all) h.is_tree (lock c) h.lock
+
+pub executed-found : (all : List Stored) (c : Chronicle) → Holds all c → find_in (digest_of (executed c)) (blocks all) ≡ Some (executed c)
+executed-found all c h = found-itself (blocks all) h.is_tree (executed c) h.executed
+
+-- where both stand in the tree, their branches decide
+pub extends-found : (a b : Bytes) (t : List Branch) (x y : Branch) → find_in a t ≡ Some x → find_in b t ≡ Some y → extends_in a b t ≡ extends x y
+extends-found a b t x y f g =
+    ap (λ (o : Option Branch). elim o [ Some x ↦ elim (find_in b t) [ Some y ↦ extends x y | None ↦ false ] | None ↦ false ]) f
+    ∙ ap (λ (o : Option Branch). elim o [ Some y ↦ extends x y | None ↦ false ]) g
+
+pub clear-found : (d : Bytes) (height : ℕ) (all : List Stored) (b : Branch) → find_in d (blocks all) ≡ Some b → clear_above_in d height all ≡ clear_above height b all
+clear-found d height all b f = ap (λ (o : Option Branch). elim o [ Some b ↦ clear_above height b all | None ↦ false ]) f
