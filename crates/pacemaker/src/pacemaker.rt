@@ -9,7 +9,7 @@ use ids::{Config, MOST_REPLICAS, ReplicaId, View};
 use std::marker::Model;
 
 /// The view of one replica, and what others announced.
-#[derive(Debug, Drop)]
+#[derive(Clone, Copy, Debug)]
 pub struct Pacemaker {
     config: Config,
     view: u64,
@@ -23,6 +23,8 @@ impl Model for Pacemaker {
     ghost Value = { Pace };
 
     ghost view = { λ p. record { sizes = p.config; view = p.view; announced = p.announced } };
+
+    ghost inverse = { λ p. record { config = p.sizes; view = p.view; announced = p.announced } };
 }
 
 impl Pacemaker {

@@ -1,123 +1,160 @@
--- What a beat does to what a replica keeps.
-use Rattle.std.proofs.Common.{ℕ, suc, ◌≡◌, true, false, List, [], ◌∷◌, ◌++◌, length, refl, sym, ap, ◌∙◌, Some, None, reverse}
-use Rattle.std.specs.Option.{is_some}
-use Rattle.ids.specs.Sizes.{Sizes}
-use Rattle.definitions.specs.Bytes.{Bytes}
+-- What a beat changes is what its step changes.
+use Rattle.ids.specs.declared.fault.Fault.{Fault}
+use Rattle.ids.specs.declared.fault.Fault.TheVariants as fault
+use Rattle.std.proofs.Common.{ℕ, suc, ◌≡◌, ◌≤◌, ◌<◌, ◌+◌, ◌^◌, Bool, true, false, List, [], ◌∷◌, length, cond, refl, sym, ap, ◌∙◌, arith, subst, Option, Some, None, Result, Ok, Err, IfOk, OnErr}
+use Rattle.std.specs.Prelude.{is_some, option_map, ◌==◌}
+use Rattle.std.specs.Option.{unwrap_or}
+use Rattle.definitions.specs.Frames.{Command, core_text, certificate_bytes}
+use Rattle.ids.specs.Sizes.{Sizes, leader}
 use Rattle.sha2.specs.Sha256.{sha256}
-use Rattle.definitions.specs.Frames.{Command, core_bytes}
 use Rattle.definitions.specs.Keyrings.{Keys}
-use Rattle.definitions.specs.Checks.{Identity, identity_of}
+use Rattle.definitions.specs.Checks.{identity_of}
 use Rattle.definitions.specs.Branches.{Branch}
-use Rattle.definitions.specs.Digests.{digest, digest_of, core_of, core_over}
-use Rattle.definitions.specs.Chronicles.{Step.noted, Note.beat, Chronicle, taken, stored, tree, voted, vheight, lock, decided, executed}
-use Rattle.definitions.specs.States.{Justified, view, raised, qc_high, pending, leads, find_block, is_known, picks, child, leaf, proposed}
-use Rattle.definitions.specs.Trees.{find_in}
+use Rattle.definitions.specs.Digests.{digest_of, core_of}
+use Rattle.definitions.specs.Trees.{blocks, find_in, most_blocks}
+use Rattle.definitions.specs.Chronicles.{Step.noted, Note.beat, Chronicle, stored, tree}
+use Rattle.definitions.specs.States.{Justified, view, qc_high, pending, leads, find_block, is_known, picks, child, leaf, proposed, or_else, made_with, raised}
+use Rattle.definitions.specs.Rulings.{Input.beat_in, ruling, conflicts}
 use Rattle.definitions.specs.Sendings.{sendings, proposes}
-use Rattle.replica_rules.specs.Ruled.{ref_of, ruled_by}
-use Rattle.replica.specs.declared.state.Records.{Records}
-use Rattle.replica.specs.declared.stored.StoredStep.{StoredStep}
+use Rattle.definitions.proofs.Sound.{ruling-sound}
+use Rattle.pacemaker.specs.Pacing.{Pace, IsPaceOf}
+use Rattle.replica_rules.specs.Ruled.{ref_of}
+use Rattle.replica.specs.declared.change.Change.{Change}
 use Rattle.replica.specs.declared.stored.StoredStep.TheVariants.{Beat}
-use Rattle.replica.specs.Replay.{replay}
-use Rattle.replica.specs.State.{AreRecordsOf}
-use Rattle.replica.specs.Beats.{empty_child}
-use Rattle.replica.proofs.Records.{replay-push}
-
--- ---- what stays
-
-pub ruled-beat : (c : Chronicle) → ruled_by (noted beat ∷ c) ≡ ruled_by c
-unfolding vheight voted lock executed decided taken
-ruled-beat c = refl
-
-pub stored-beat : (c : Chronicle) → stored (noted beat ∷ c) ≡ stored c
-unfolding stored taken
-stored-beat c = refl
-
-pub view-beat : (s : Sizes) (c : Chronicle) → view s (noted beat ∷ c) ≡ view s c
-unfolding view
-view-beat s c = refl
-
-pub qc-beat : (s : Sizes) (c : Chronicle) → qc_high s (noted beat ∷ c) ≡ qc_high s c
-unfolding qc_high raised
-qc-beat s c = refl
-
-pub pending-beat : (c : Chronicle) → pending c ≡ [] → pending (noted beat ∷ c) ≡ []
-unfolding pending
-pending-beat c e = rw e refl
+use Rattle.replica.specs.Steps.{Sent, shown}
+use Rattle.replica.specs.Kept.{Kept, own_of, variables_of, IsStateOf}
+use Rattle.replica.specs.Changes.{noting, changed_variables, IsStep}
+use Rattle.replica.specs.Beats.{child_height, child_of, child_ref, proposal_sent, own_sent, proposing, beat_change}
+use Rattle.replica.specs.StepsTo.{StepsTo, answer, after}
+use Rattle.replica.proofs.Steps.{BringsKnown, refused-for-memory, stands}
+use Rattle.replica.proofs.Stays.{calm, pace-same}
 
 -- ---- the child
-
--- a block is known where it is found
-pub known-found : (d : Bytes) (c : Chronicle) → is_known d c ≡ is_some (find_in d (tree c))
-unfolding is_known find_block
-known-found d c = refl
 
 -- without pending requests a block has no commands
 no-picks : (c : Chronicle) (on : Branch) → pending c ≡ [] → picks c on ≡ []
 unfolding picks
 no-picks c on e = rw e refl
 
--- the child of a leader whose leaf is known
-pub child-made : (keys : Keys) (c : Chronicle) → pending c ≡ [] → leads (identity_of keys) c ≡ true → is_known (digest_of (leaf (identity_of keys) c)) c ≡ true → child (identity_of keys) c (leaf (identity_of keys) c) ≡ Some (empty_child keys c)
-unfolding child
-child-made keys c e l k = (rw (l, k) refl) ∙ ap (λ (x : List Command). Some (record { commands = x; justify = length (qc_high keys.sizes c).block } ∷ leaf (identity_of keys) c)) (no-picks c (leaf (identity_of keys) c) e)
+-- the block that is made
+made : Keys → Chronicle → Branch
+made keys c = record { commands = []; justify = length (qc_high keys.sizes c).block } ∷ leaf (identity_of keys) c
 
--- no child where the replica doesn't lead
-pub child-unled : (self : Identity) (c : Chronicle) → leads self c ≡ false → child self c (leaf self c) ≡ None
-unfolding child
-child-unled self c l = rw l refl
+-- its height is within 64 bits
+height-fits : (keys : Keys) (c : Chronicle) → length (leaf (identity_of keys) c) ≤ length c + most_blocks → length c < 2 ^ 63 → child_height (ref_of (leaf (identity_of keys) c)) ≡ suc (length (leaf (identity_of keys) c))
+height-fits keys c l s = grind arith
 
--- nor where the leaf isn't known
-pub child-unknown : (self : Identity) (c : Chronicle) → leads self c ≡ true → is_known (digest_of (leaf self c)) c ≡ false → child self c (leaf self c) ≡ None
-unfolding child
-child-unknown self c l k = rw (l, k) refl
+child-is : (keys : Keys) (c : Chronicle) → child_height (ref_of (leaf (identity_of keys) c)) ≡ suc (length (leaf (identity_of keys) c))
+    → child_of (variables_of keys c) ≡ own_of (record { block = made keys c; certificate = (qc_high keys.sizes c).certificate })
+unfolding made core_of Rattle.definitions.specs.Digests.core_over
+child-is keys c e = λ i. record {
+  core = core_text (digest_of (leaf (identity_of keys) c)) (e i) (length (qc_high keys.sizes c).block) 0 [];
+  certificate = certificate_bytes (qc_high keys.sizes c).certificate;
+}
 
-pub leaf-with : (self : Identity) (c : Chronicle) (b : Branch) → child self c (leaf self c) ≡ Some b → leaf self (noted beat ∷ c) ≡ b
-unfolding leaf
-leaf-with self c b e = rw e refl
+-- its digest and height
+ref-is : (keys : Keys) (c : Chronicle) → child_height (ref_of (leaf (identity_of keys) c)) ≡ suc (length (leaf (identity_of keys) c)) → child_ref (variables_of keys c) ≡ ref_of (made keys c)
+unfolding made digest_of Rattle.definitions.specs.Digests.digest core_of Rattle.definitions.specs.Digests.core_over
+ref-is keys c e = λ i. record { digest = sha256 (child-is keys c e i).core; height = e i }
 
-pub leaf-without : (self : Identity) (c : Chronicle) → child self c (leaf self c) ≡ None → leaf self (noted beat ∷ c) ≡ leaf self c
-unfolding leaf
-leaf-without self c e = rw e refl
-
-pub proposed-with : (self : Identity) (c : Chronicle) (b : Branch) → child self c (leaf self c) ≡ Some b → proposed self (noted beat ∷ c) ≡ Some (record { block = b; certificate = (qc_high self.sizes c).certificate })
-unfolding proposed
-proposed-with self c b e = rw e refl
-
-pub proposed-without : (self : Identity) (c : Chronicle) → child self c (leaf self c) ≡ None → proposed self (noted beat ∷ c) ≡ proposed self c
-unfolding proposed
-proposed-without self c e = rw e refl
+-- the variables after a beat, by the child that it makes
+variables-beat : (keys : Keys) (c : Chronicle) (x : Option Branch) → let self = identity_of keys in child self c (leaf self c) ≡ x
+    → variables_of keys (noted beat ∷ c) ≡ record (variables_of keys c) { chronicle = noted beat ∷ c; leaf = ref_of (or_else x (leaf self c)); own = option_map own_of (made_with x (qc_high keys.sizes c).certificate (proposed self c)) }
+unfolding leaf proposed qc_high raised stored Rattle.definitions.specs.Chronicles.taken Rattle.definitions.specs.Chronicles.vheight Rattle.definitions.specs.Chronicles.voted Rattle.definitions.specs.Chronicles.lock Rattle.definitions.specs.Chronicles.executed Rattle.definitions.specs.Chronicles.decided
+variables-beat keys c x e = rw e refl
 
 -- ---- what is sent
 
-pub sent-unled : (self : Identity) (c : Chronicle) → leads self c ≡ false → sendings self (noted beat) c ≡ []
+shown-proposed : (keys : Keys) (w : ℕ) (p : Option Justified) → shown (proposes (identity_of keys) w p) ≡ own_sent keys w (option_map own_of p)
+unfolding Rattle.definitions.specs.Sendings.proposal_frame
+shown-proposed keys w None = refl
+shown-proposed keys w (Some p) = refl
+
+sent-led : (keys : Keys) (c : Chronicle) (p : Option Justified) → let self = identity_of keys in leads self c ≡ true → proposed self (noted beat ∷ c) ≡ p
+    → own_sent keys (view keys.sizes c) (option_map own_of p) ≡ shown (sendings self (noted beat) c)
 unfolding sendings
-sent-unled self c l = rw l refl
+sent-led keys c p e h = sym ((rw e refl) ∙ shown-proposed keys (view keys.sizes c) (proposed (identity_of keys) (noted beat ∷ c)) ∙ ap (λ (x : Option Justified). own_sent keys (view keys.sizes c) (option_map own_of x)) h)
 
-pub sent-led : (self : Identity) (c : Chronicle) → leads self c ≡ true → sendings self (noted beat) c ≡ proposes self (view self.sizes c) (proposed self (noted beat ∷ c))
+sent-unled : (keys : Keys) (c : Chronicle) → let self = identity_of keys in leads self c ≡ false → [] ≡ shown (sendings self (noted beat) c)
 unfolding sendings
-sent-led self c l = rw l refl
+sent-unled keys c e = rw e refl
 
--- ---- the records after a beat
+proposed-beat : (keys : Keys) (c : Chronicle) (x : Option Branch) → let self = identity_of keys in child self c (leaf self c) ≡ x → proposed self (noted beat ∷ c) ≡ made_with x (qc_high keys.sizes c).certificate (proposed self c)
+unfolding proposed
+proposed-beat keys c x e = rw e refl
 
-pub records-beat : (keys : Keys) (c : Chronicle) (old new : Records) → AreRecordsOf keys c old → new.steps.items ≡ old.steps.items ++ Beat ∷ [] → new.rules ≡ old.rules → new.high ≡ old.high → new.leaf ≡ ref_of (leaf (identity_of keys) (noted beat ∷ c)) → AreRecordsOf keys (noted beat ∷ c) new
-records-beat keys c old new o es er eh el = record {
-  replayed = ap (λ (xs : List StoredStep). replay (reverse xs)) es ∙ replay-push old.steps.items Beat ∙ ap (λ (x : Chronicle). noted beat ∷ x) o.replayed;
-  rules = er ∙ o.rules ∙ sym (ruled-beat c);
-  high = (λ i. (eh i).block) ∙ o.high ∙ ap (λ (q : Justified). ref_of q.block) (sym (qc-beat keys.sizes c));
-  certificate = (λ i. (eh i).certificate) ∙ o.certificate ∙ ap (λ (q : Justified). q.certificate) (sym (qc-beat keys.sizes c));
-  its_leaf = el;
+-- ---- the step
+
+-- what is kept where this chronicle stands, with this pace
+abbrev state : Keys → Chronicle → Pace → Kept
+state keys c p = record { variables = variables_of keys c; pace = p }
+
+-- the variables and what is sent
+record IsBeat (keys : Keys) (c : Chronicle) (d : Change) : Type 0 where
+  variables : changed_variables d (variables_of keys c) ≡ variables_of keys (noted beat ∷ c)
+  pace : d.pace ≡ None
+  out : d.out ≡ shown (sendings (identity_of keys) (noted beat) c)
+
+-- by whether it leads, and whether its leaf is known
+by-child : (keys : Keys) (c : Chronicle) (p : Pace) → pending c ≡ [] → child_height (ref_of (leaf (identity_of keys) c)) ≡ suc (length (leaf (identity_of keys) c)) → p.view ≡ view keys.sizes c → (l k : Bool)
+    → let self = identity_of keys in let s = state keys c p in leads self c ≡ l → is_known (digest_of (leaf self c)) c ≡ k
+    → IsBeat keys c (cond l (cond k (proposing keys s) (noting s.variables Beat (own_sent keys s.pace.view s.variables.own))) (noting s.variables Beat []))
+unfolding child made
+by-child keys c p none high at true true l k =
+    let self = identity_of keys in
+    let block : List Command → Branch = λ cs. record { commands = cs; justify = length (qc_high keys.sizes c).block } ∷ leaf self c in
+    let is : child self c (leaf self c) ≡ Some (made keys c) = (rw (l, k) refl) ∙ ap (λ (cs : List Command). Some (block cs)) (no-picks c (leaf self c) none) in
+    let own = child-is keys c high in
+    record {
+      variables = (λ i. record (variables_of keys c) { chronicle = noted beat ∷ c; leaf = ref-is keys c high i; own = Some (own i) }) ∙ sym (variables-beat keys c (Some (made keys c)) is);
+      pace = refl;
+      out = (λ i. proposal_sent keys (at i) (own i) ∷ []) ∙ sent-led keys c _ l (proposed-beat keys c (Some (made keys c)) is);
+    }
+by-child keys c p none high at true false l k =
+    let no : child (identity_of keys) c (leaf (identity_of keys) c) ≡ None = rw (l, k) refl in
+    record {
+      variables = sym (variables-beat keys c None no);
+      pace = refl;
+      out = ap (λ (w : ℕ). own_sent keys w (option_map own_of (proposed (identity_of keys) c))) at ∙ sent-led keys c _ l (proposed-beat keys c None no);
+    }
+by-child keys c p none high at false k l e = record { variables = sym (variables-beat keys c None (rw l refl)); pace = refl; out = sent-unled keys c l }
+
+known-found : (keys : Keys) (c : Chronicle) → is_known (digest_of (leaf (identity_of keys) c)) c ≡ is_some (find_in (digest_of (leaf (identity_of keys) c)) (blocks (stored c)))
+unfolding is_known find_block tree
+known-found keys c = refl
+
+leads-by : (keys : Keys) (c : Chronicle) (p : Pace) → p.view ≡ view keys.sizes c → leads (identity_of keys) c ≡ (leader keys.sizes p.view == keys.party)
+unfolding leads
+leads-by keys c p at = ap (λ (w : ℕ). leader keys.sizes w == keys.party) (sym at)
+
+beat-is : (keys : Keys) (c : Chronicle) (p : Pace) → pending c ≡ [] → child_height (ref_of (leaf (identity_of keys) c)) ≡ suc (length (leaf (identity_of keys) c)) → p.view ≡ view keys.sizes c → IsBeat keys c (beat_change keys (state keys c p))
+beat-is keys c p none high at =
+    let s = state keys c p in
+    subst (λ (l : Bool). IsBeat keys c (cond l (cond (is_some (find_in s.variables.leaf.digest (blocks s.variables.stored))) (proposing keys s) (noting s.variables Beat (own_sent keys s.pace.view s.variables.own))) (noting s.variables Beat []))) (leads-by keys c p at)
+    (subst (λ (k : Bool). IsBeat keys c (cond (leads (identity_of keys) c) (cond k (proposing keys s) (noting s.variables Beat (own_sent keys s.pace.view s.variables.own))) (noting s.variables Beat []))) (known-found keys c)
+    (by-child keys c p none high at (leads (identity_of keys) c) (is_known (digest_of (leaf (identity_of keys) c)) c) refl refl))
+
+-- a beat brings no certificate
+brings-none : (keys : Keys) (c : Chronicle) → BringsKnown keys.sizes (noted beat) c
+unfolding raised
+brings-none keys c q e = absurd (let k : None ≡ Some q = e in cc)
+
+step-is : (keys : Keys) (c : Chronicle) (s : Kept) (d : Change) → IsStateOf keys c s → IsBeat keys c d → IsStep keys c (noted beat) s.pace d
+unfolding Rattle.replica.proofs.Stays.keeps_pace
+step-is keys c s d o b = record {
+  variables = b.variables;
+  sizes = subst (λ (x : Option Pace). (unwrap_or x s.pace).sizes ≡ keys.sizes) (sym b.pace) o.sizes;
+  pace = subst (λ (x : Option Pace). IsPaceOf (noted beat ∷ c) (unwrap_or x s.pace)) (sym b.pace) (pace-same (noted beat) c s.pace refl o.pace);
+  out = b.out;
 }
 
--- ---- the child's core
-
-pub core-child : (keys : Keys) (c : Chronicle) (d : Bytes) (h j : ℕ) → d ≡ digest_of (leaf (identity_of keys) c) → h ≡ suc (length (leaf (identity_of keys) c)) → j ≡ length (qc_high keys.sizes c).block → record { parent = d; height = h; justify_height = j; commands = [] } ≡ core_of (empty_child keys c)
-unfolding core_of core_over
-core-child keys c d h j ed eh ej = λ i. record { parent = ed i; height = eh i; justify_height = ej i; commands = [] }
-
-pub digest-child : (keys : Keys) (c : Chronicle) (bytes : Bytes) → bytes ≡ core_bytes (core_of (empty_child keys c)) → sha256 bytes ≡ digest_of (empty_child keys c)
-unfolding digest digest_of core_of
-digest-child keys c bytes e = ap sha256 e
-
--- what is written behind nothing is all
-pub behind-nothing : (before after written : Bytes) → before ≡ [] → after ≡ before ++ written → after ≡ written
-behind-nothing before after written e f = f ∙ ap (λ (b : Bytes). b ++ written) e
+-- what a beat comes to, where fewer steps stand than fit any memory
+pub beat-decided : (keys : Keys) (c : Chronicle) (s : Kept) (result : Result Change Fault) → length c < 2 ^ 63 → IfOk result (λ d. d ≡ beat_change keys s) → OnErr result (result ≡ Err fault.Memory) → IsStateOf keys c s → StepsTo keys beat_in c (answer result) (after result s)
+unfolding ruling conflicts
+beat-decided keys c s (Ok d) few made memory o =
+    let high = height-fits keys c o.leaf_low few in
+    let at : s.pace.view ≡ view keys.sizes c = o.pace.view ∙ ap (λ (z : Sizes). view z c) o.sizes in
+    let is : IsBeat keys c d = subst (IsBeat keys c) (sym (made ∙ (λ i. beat_change keys (record { variables = o.same i; pace = s.pace })))) (beat-is keys c s.pace o.none_pending high at) in
+    stands keys _ c (noted beat) d s refl refl (ruling-sound (identity_of keys) beat_in c tt o.sound) (brings-none keys c) (calm (noted beat) c refl o.none_pending) o (step-is keys c s d o is)
+beat-decided keys c s (Err n) few made memory o =
+    subst (λ (x : Result (List Sent) Fault). StepsTo keys beat_in c x s) (sym (ap answer memory)) (refused-for-memory keys _ c (noted beat) s refl o)

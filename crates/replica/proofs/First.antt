@@ -1,6 +1,5 @@
--- A replica that has made no step, and how many steps are stored.
-use Rattle.std.proofs.Common.{ℕ, suc, ◌≡◌, List, [], ◌∷◌, length, refl, sym, ap, ◌∙◌, arith, subst, inl, inr, reverse, None}
-use Rattle.std.proofs.lemmas.List.{length-reverse}
+-- A replica that has made no step.
+use Rattle.std.proofs.Common.{◌≡◌, [], ◌∷◌, length, refl, sym, ap, ◌∙◌, arith, subst, inl, inr, None}
 use Rattle.ids.specs.Sizes.{Sizes}
 use Rattle.definitions.specs.Lists.{Among}
 use Rattle.definitions.specs.Frames.{genesis_core}
@@ -8,13 +7,11 @@ use Rattle.definitions.specs.Keyrings.{Keys}
 use Rattle.definitions.specs.Branches.{Block, Branch, IsBranch}
 use Rattle.definitions.specs.Digests.{digest}
 use Rattle.definitions.specs.Trees.{most_blocks, IsTree}
-use Rattle.definitions.specs.Chronicles.{Chronicle, taken, stored, tree, IsSound}
-use Rattle.definitions.specs.States.{view, qc_high, leaf, pending, proposed}
+use Rattle.definitions.specs.Chronicles.{taken, stored, tree, IsSound}
+use Rattle.definitions.specs.States.{qc_high, leaf, pending, proposed}
+use Rattle.pacemaker.specs.Pacing.{IsPaceOf}
 use Rattle.replica_rules.specs.Ruled.{ref_of, ruled_by}
-use Rattle.replica.specs.declared.stored.StoredStep.{StoredStep}
-use Rattle.replica.specs.declared.state.State.{State}
-use Rattle.replica.specs.Replay.{replay}
-use Rattle.replica.specs.State.{IsOwn, IsStateOf, chronicle_of}
+use Rattle.replica.specs.Kept.{Kept, IsStateOf}
 
 only-genesis : (x : Branch) → Among x ([] ∷ []) → x ≡ []
 only-genesis x (inl e) = e
@@ -41,33 +38,15 @@ first-sound s = record {
 }
 
 -- the state at the start
-pub first : (keys : Keys) (s : State) → s.records.steps.items ≡ [] → s.records.rules ≡ ruled_by [] → s.records.high.block ≡ ref_of [] → s.records.high.certificate ≡ record { digest = digest genesis_core; votes = [] } → s.records.leaf ≡ ref_of []
-    → s.tree ≡ record { most = most_blocks; stored = [] } → s.view ≡ 0 → s.own ≡ None → IsStateOf keys [] s
-unfolding replay qc_high leaf view proposed pending stored taken
-first keys s es er eh ec el et ev eo = record {
-  its_records = record {
-    replayed = ap (λ (xs : List StoredStep). replay (reverse xs)) es;
-    rules = er;
-    high = eh;
-    certificate = ec;
-    its_leaf = el;
-  };
-  its_tree = et;
-  its_view = ev;
-  own = subst (IsOwn None) (sym eo) tt;
+pub first : (keys : Keys) (s : Kept) → s.variables ≡ record { chronicle = []; most = most_blocks; stored = []; rules = ruled_by []; high = record { block = ref_of []; certificate = record { digest = digest genesis_core; votes = [] } }; leaf = ref_of []; own = None }
+    → s.pace.sizes ≡ keys.sizes → IsPaceOf [] s.pace → IsStateOf keys [] s
+unfolding qc_high leaf proposed pending stored taken tree
+first keys s e z p = record {
+  same = e;
+  sizes = z;
+  pace = p;
   sound = first-sound keys.sizes;
+  certified = inl refl;
+  leaf_low = omega arith;
   none_pending = refl;
 }
-
-length-replay : (xs : List StoredStep) → length (replay xs) ≡ length xs
-unfolding replay
-length-replay [] = refl
-length-replay (x ∷ xs) = ap (λ (n : ℕ). suc n) (length-replay xs)
-
--- as many steps as are stored
-pub steps-stored : (s : State) → length s.records.steps.items ≡ length (chronicle_of s)
-steps-stored s = sym (length-replay (reverse s.records.steps.items) ∙ length-reverse s.records.steps.items)
-
--- the state is that of what it stores
-pub of-itself : (keys : Keys) (c : Chronicle) (s : State) → IsStateOf keys c s → IsStateOf keys (chronicle_of s) s
-of-itself keys c s h = subst (λ (x : Chronicle). IsStateOf keys x s) (sym h.its_records.replayed) h

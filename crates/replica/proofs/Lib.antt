@@ -1,7 +1,11 @@
-pub mod Records
-pub mod Admits
-pub mod Beats
+pub mod Replaying
 pub mod Steps
-pub mod Proposals
+pub mod Stays
+pub mod Beats
+pub mod Offers
+pub mod Announcements
+pub mod Fetches
+pub mod Checked
+pub mod Fits
 pub mod First
 pub mod Whole

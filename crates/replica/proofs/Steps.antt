@@ -1,181 +1,166 @@
--- What a step comes to, case by case.
+-- What a ruling comes to, case by case, for every input.
 use Rattle.ids.specs.declared.fault.Fault.{Fault}
 use Rattle.ids.specs.declared.fault.Fault.TheVariants as fault
-use Rattle.std.proofs.Common.{◌≡◌, Bool, true, false, List, [], ◌∷◌, refl, sym, ap, ◌∙◌, subst, ◌++◌, true≢false, Option, Some, None, cond, Result, Ok, Err}
-use Rattle.std.specs.Result.{IsErr, IsErrAnd}
-use Rattle.std.specs.Option.{is_some, IsSome}
-use Rattle.std.proofs.Common.{ℕ, not, nat_eq}
-use Rattle.ids.specs.Sizes.{leader}
+use Rattle.std.proofs.Common.{ℕ, suc, ◌≡◌, ◌≤◌, ◌+◌, ◌&&◌, Bool, false, true, true≢false, List, [], ◌∷◌, length, cond, refl, sym, ap, ◌∙◌, subst, arith, nat_lt, Option, Some, None, Result, Ok, Err, IfOk, OnOk, OnErr}
+use Rattle.std.proofs.lemmas.Bool.{cond_both}
+use Rattle.definitions.specs.Lists.{Among}
+use Rattle.definitions.specs.Bytes.{Bytes}
+use Rattle.ids.specs.Sizes.{Sizes}
 use Rattle.definitions.specs.Branches.{Branch}
-use Rattle.definitions.specs.Trees.{TreeState, blocks, find_in}
-use Rattle.definitions.proofs.Held.{blocks-stored}
 use Rattle.definitions.specs.Keyrings.{Keys}
-use Rattle.definitions.specs.Checks.{identity_of}
-use Rattle.definitions.specs.Chronicles.{Step, Step.noted, Note.beat, Chronicle}
-use Rattle.definitions.specs.States.{Justified, leads, is_known, leaf, child, proposed, qc_high, view}
-use Rattle.definitions.specs.Rulings.{Input, Input.beat_in, Ruling, Ruling.due, ruling, conflicts}
-use Rattle.definitions.specs.Sendings.{sendings, proposes}
+use Rattle.definitions.specs.Checks.{Identity, identity_of}
+use Rattle.definitions.specs.Trees.{most_blocks}
+use Rattle.definitions.specs.Chronicles.{Step, Step.took_block, Step.noted, Note.got_vote, Note.got_new_view, Note.got_request, Note.got_fetch, Note.timed_out, Note.beat, Chronicle, tree, IsSound}
+use Rattle.definitions.specs.States.{Justified, raised, higher, qc_high, leaf, child, or_else, is_known, leads, pending}
+use Rattle.definitions.specs.Digests.{digest_of}
+use Rattle.definitions.specs.Rulings.{Ruling, Ruling.due, Ruling.missing, Ruling.refusing, conflicts}
+use Rattle.definitions.specs.Sendings.{sendings}
 use Rattle.definitions.specs.Replicas.{ample, refused_at_once, running, stopped_at, sends_out, fails, on_step, on_ruling}
-use Rattle.definitions.specs.Trees.{Stored, most_blocks}
-use Rattle.definitions.proofs.Sound.{ruling-sound}
-use Rattle.replica_rules.specs.Ruled.{ref_of}
-use Rattle.replica.specs.declared.state.State.{State}
-use Rattle.replica.specs.Steps.{Sent, shown}
-use Rattle.replica.specs.State.{AreRecordsOf, IsOwn, IsStateOf}
-use Rattle.replica.specs.StepsTo.{Leaves, StepsTo}
-use Rattle.replica.specs.declared.beat.Child.{Child}
-use Rattle.replica.specs.declared.stored.StoredStep.TheVariants.{Beat}
-use Rattle.replica.specs.Beats.{empty_child, IsChild}
-use Rattle.replica.proofs.Admits.{records-resized}
-use Rattle.replica.proofs.Beats.{known-found, stored-beat, view-beat, pending-beat, records-beat, leaf-without, leaf-with, proposed-without, proposed-with, sent-led}
+use Rattle.definitions.proofs.Chronicles.{tree-grows}
+use Rattle.replica.specs.declared.change.Change.{Change}
+use Rattle.replica.specs.Steps.{Sent}
+use Rattle.replica.specs.Kept.{Kept, IsStateOf}
+use Rattle.replica.specs.Changes.{changed, changed_variables, IsStep}
+use Rattle.replica.specs.StepsTo.{Leaves, Follows}
 
--- memory is refused before any change
-pub memory-step : (keys : Keys) (i : Input) (c : Chronicle) (st : Step) (result : Result (List Sent) Fault) (new : State) → ruling (identity_of keys) i c ≡ due st → IsStateOf keys c new → result ≡ Err fault.Memory → StepsTo keys i c result new
+-- ---- the highest certificate and the leaf
+
+-- a certificate that a step brings is for a block of the tree
+abbrev pub BringsKnown : Sizes → Step → Chronicle → Type 0
+BringsKnown s st c = (q : Justified) → raised s st c ≡ Some q → Among q.block (tree (st ∷ c))
+
+pub certified-step : (s : Sizes) (st : Step) (c : Chronicle) → Among (qc_high s c).block (tree c) → BringsKnown s st c → Among (qc_high s (st ∷ c)).block (tree (st ∷ c))
+unfolding qc_high
+certified-step s st c m h = go (raised s st c) refl
+  where
+    P : Justified → Type 0
+    P q = Among q.block (tree (st ∷ c))
+
+    go : (o : Option Justified) → raised s st c ≡ o → P (higher o (qc_high s c))
+    go None e = tree-grows st c (qc_high s c).block m
+    go (Some q) e = cond_both (nat_lt (length (qc_high s c).block) (length q.block)) q (qc_high s c) P (λ t. h q e) (λ t. tree-grows st c (qc_high s c).block m)
+
+-- a block of the tree isn't high
+low : (s : Sizes) (c : Chronicle) (x : Branch) → IsSound s c → Among x (tree c) → length x ≤ most_blocks
+low s c x so m = let h = so.heights x m in let b = so.bounded in omega (arith, h, b)
+
+-- the child of a leaf is one higher
+child-low : (self : Identity) (c : Chronicle) (x : Branch) → length (or_else (child self c x) x) ≤ suc (length x)
+unfolding child
+child-low self c x = cond_both (leads self c && is_known (digest_of x) c) _ None P (λ t. omega arith) (λ t. omega arith)
+  where
+    P : Option Branch → Type 0
+    P o = length (or_else o x) ≤ suc (length x)
+
+-- the leaf after a step that is no beat
+unfoldable pub is_beat : Step → Bool
+is_beat (noted beat) = true
+is_beat s = false
+
+pub leaf-other : (self : Identity) (st : Step) (c : Chronicle) → is_beat st ≡ false
+    → leaf self (st ∷ c) ≡ cond (nat_lt (length (qc_high self.sizes c).block) (length (qc_high self.sizes (st ∷ c)).block)) (qc_high self.sizes (st ∷ c)).block (leaf self c)
+unfolding leaf is_beat
+leaf-other self (took_block a) c e = refl
+leaf-other self (noted (got_vote voter v b)) c e = refl
+leaf-other self (noted (got_new_view w sender q b)) c e = refl
+leaf-other self (noted (got_request r)) c e = refl
+leaf-other self (noted (got_fetch to b)) c e = refl
+leaf-other self (noted timed_out) c e = refl
+leaf-other self (noted beat) c e = absurd (true≢false e)
+
+leaf-beat : (self : Identity) (st : Step) (c : Chronicle) → is_beat st ≡ true → leaf self (st ∷ c) ≡ or_else (child self c (leaf self c)) (leaf self c)
+unfolding leaf is_beat
+leaf-beat self (took_block a) c e = absurd (true≢false (sym e))
+leaf-beat self (noted (got_vote voter v b)) c e = absurd (true≢false (sym e))
+leaf-beat self (noted (got_new_view w sender q b)) c e = absurd (true≢false (sym e))
+leaf-beat self (noted (got_request r)) c e = absurd (true≢false (sym e))
+leaf-beat self (noted (got_fetch to b)) c e = absurd (true≢false (sym e))
+leaf-beat self (noted timed_out) c e = absurd (true≢false (sym e))
+leaf-beat self (noted beat) c e = refl
+
+-- each step makes the leaf higher by one at most, or a certified block of the tree is the leaf
+pub leaf-low-step : (self : Identity) (st : Step) (c : Chronicle) → length (leaf self c) ≤ length c + most_blocks → IsSound self.sizes (st ∷ c) → Among (qc_high self.sizes (st ∷ c)).block (tree (st ∷ c))
+    → length (leaf self (st ∷ c)) ≤ length (st ∷ c) + most_blocks
+leaf-low-step self st c l so m = go (is_beat st) refl
+  where
+    P : Branch → Type 0
+    P b = length b ≤ suc (length c) + most_blocks
+
+    go : (t : Bool) → is_beat st ≡ t → P (leaf self (st ∷ c))
+    go true e = let k = child-low self c (leaf self c) in subst P (sym (leaf-beat self st c e)) (omega (arith, k, l))
+    go false e =
+        let k = low self.sizes (st ∷ c) (qc_high self.sizes (st ∷ c)).block so m in
+        subst P (sym (leaf-other self st c e))
+        (cond_both (nat_lt (length (qc_high self.sizes c).block) (length (qc_high self.sizes (st ∷ c)).block)) (qc_high self.sizes (st ∷ c)).block (leaf self c) P (λ t. omega (arith, k)) (λ t. omega (arith, l)))
+
+-- ---- what a ruling comes to
+
+-- want of memory, where a step was due
+pub refused-for-memory : (keys : Keys) (v : Ruling) (c : Chronicle) (st : Step) (s : Kept) → v ≡ due st → IsStateOf keys c s → Follows keys v c (Err fault.Memory) s
 unfolding on_ruling on_step
-memory-step keys i c st result new e s r = record {
+refused-for-memory keys v c st s e o = record {
   memory = refused_at_once;
-  leaves = subst (λ (v : Ruling). Leaves keys (on_ruling (identity_of keys) refused_at_once v c) result new) (sym e)
-      (subst (λ (x : Result (List Sent) Fault). Leaves keys (stopped_at c, fails fault.Memory) x new) (sym r) (record { state = s; standing = refl; answer = refl }));
+  leaves = subst (λ (x : Ruling). Leaves keys (on_ruling (identity_of keys) refused_at_once x c) (Err fault.Memory) s) (sym e) (record { state = o; standing = refl; answer = refl });
 }
+
+-- want of memory in place of a step that would stand
+pub memory-instead : (keys : Keys) (v : Ruling) (c : Chronicle) (out : List Sent) (s new : Kept) → Follows keys v c (Ok out) new → IsStateOf keys c s → Follows keys v c (Err fault.Memory) s
+unfolding on_ruling
+memory-instead keys v c out s new t o = go v refl t.leaves
+  where
+    go : (x : Ruling) → v ≡ x → Leaves keys (on_ruling (identity_of keys) t.memory x c) (Ok out) new → Follows keys v c (Err fault.Memory) s
+    go (due st) e l = refused-for-memory keys v c st s e o
+    go (missing sender d) e l = absurd l.answer
+    go (refusing n) e l = absurd l.answer
 
 -- a step that stands
-pub standing-step : (keys : Keys) (i : Input) (c : Chronicle) (st : Step) (out : List Sent) (new : State) → ruling (identity_of keys) i c ≡ due st → conflicts st c ≡ false → IsStateOf keys (st ∷ c) new → out ≡ shown (sendings (identity_of keys) st c) → StepsTo keys i c (Ok out) new
+pub stands : (keys : Keys) (v : Ruling) (c : Chronicle) (st : Step) (d : Change) (s : Kept) → v ≡ due st → conflicts st c ≡ false → IsSound keys.sizes (st ∷ c) → BringsKnown keys.sizes st c → pending (st ∷ c) ≡ []
+    → IsStateOf keys c s → IsStep keys c st s.pace d → Follows keys v c (Ok d.out) (changed d s)
 unfolding on_ruling on_step
-standing-step keys i c st out new e k s o = record {
-  memory = ample;
-  leaves = subst (λ (v : Ruling). Leaves keys (on_ruling (identity_of keys) ample v c) (Ok out) new) (sym e)
-      (subst (λ (b : Bool). Leaves keys (cond b (stopped_at c, fails fault.Conflict) (record { chronicle = st ∷ c; standing = running }, sends_out (sendings (identity_of keys) st c))) (Ok out) new) (sym k)
-      (record { state = s; standing = refl; answer = o }));
-}
+stands keys v c st d s e k so known p o x =
+    let certified = certified-step keys.sizes st c o.certified known in
+    record {
+      memory = ample;
+      leaves = subst (λ (x : Ruling). Leaves keys (on_ruling (identity_of keys) ample x c) (Ok d.out) (changed d s)) (sym e)
+          (subst (λ (b : Bool). Leaves keys (cond b (stopped_at c, fails fault.Conflict) (record { chronicle = st ∷ c; standing = running }, sends_out (sendings (identity_of keys) st c))) (Ok d.out) (changed d s)) (sym k)
+          (record {
+            state = record {
+              same = ap (changed_variables d) o.same ∙ x.variables;
+              sizes = x.sizes;
+              pace = x.pace;
+              sound = so;
+              certified = certified;
+              leaf_low = leaf-low-step (identity_of keys) st c o.leaf_low so certified;
+              none_pending = p;
+            };
+            standing = refl;
+            answer = x.out;
+          }));
+    }
 
 -- a step that decides against what was executed
-pub conflict-step : (keys : Keys) (i : Input) (c : Chronicle) (st : Step) (result : Result (List Sent) Fault) (new : State) → ruling (identity_of keys) i c ≡ due st → conflicts st c ≡ true → IsStateOf keys c new → result ≡ Err fault.Conflict → StepsTo keys i c result new
+pub refused-for-conflict : (keys : Keys) (v : Ruling) (c : Chronicle) (st : Step) (s : Kept) → v ≡ due st → conflicts st c ≡ true → IsStateOf keys c s → Follows keys v c (Err fault.Conflict) s
 unfolding on_ruling on_step
-conflict-step keys i c st result new e k s r = record {
+refused-for-conflict keys v c st s e k o = record {
   memory = ample;
-  leaves = subst (λ (v : Ruling). Leaves keys (on_ruling (identity_of keys) ample v c) result new) (sym e)
-      (subst (λ (b : Bool). Leaves keys (cond b (stopped_at c, fails fault.Conflict) (record { chronicle = st ∷ c; standing = running }, sends_out (sendings (identity_of keys) st c))) result new) (sym k)
-      (subst (λ (x : Result (List Sent) Fault). Leaves keys (stopped_at c, fails fault.Conflict) x new) (sym r) (record { state = s; standing = refl; answer = refl })));
+  leaves = subst (λ (x : Ruling). Leaves keys (on_ruling (identity_of keys) ample x c) (Err fault.Conflict) s) (sym e)
+      (subst (λ (b : Bool). Leaves keys (cond b (stopped_at c, fails fault.Conflict) (record { chronicle = st ∷ c; standing = running }, sends_out (sendings (identity_of keys) st c))) (Err fault.Conflict) s) (sym k)
+      (record { state = o; standing = refl; answer = refl }));
 }
 
--- a beat is always due
-pub beat-due : (keys : Keys) (c : Chronicle) → ruling (identity_of keys) beat_in c ≡ due (noted beat)
-unfolding ruling
-beat-due keys c = refl
-
-beat-calm : (c : Chronicle) → conflicts (noted beat) c ≡ false
-unfolding conflicts
-beat-calm c = refl
-
-pub beat-memory : (keys : Keys) (c : Chronicle) (result : Result (List Sent) Fault) (new : State) → IsStateOf keys c new → result ≡ Err fault.Memory → StepsTo keys beat_in c result new
-beat-memory keys c result new s r = memory-step keys beat_in c (noted beat) result new (beat-due keys c) s r
-
-pub beat-stands : (keys : Keys) (c : Chronicle) (out : List Sent) (new : State) → IsStateOf keys (noted beat ∷ c) new → out ≡ shown (sendings (identity_of keys) (noted beat) c) → StepsTo keys beat_in c (Ok out) new
-beat-stands keys c out new s o = standing-step keys beat_in c (noted beat) out new (beat-due keys c) (beat-calm c) s o
-
--- the state after a beat
-pub state-beat : (keys : Keys) (c : Chronicle) (old new : State) → IsStateOf keys c old → AreRecordsOf keys (noted beat ∷ c) new.records → new.tree ≡ old.tree → new.view ≡ old.view → IsOwn (proposed (identity_of keys) (noted beat ∷ c)) new.own → IsStateOf keys (noted beat ∷ c) new
-unfolding ruling
-state-beat keys c old new o r t v own = record {
-  its_records = r;
-  its_tree = t ∙ o.its_tree ∙ ap (λ (x : List Stored). record { most = most_blocks; stored = x }) (sym (stored-beat c));
-  its_view = v ∙ o.its_view ∙ sym (view-beat keys.sizes c);
-  own = own;
-  sound = ruling-sound (identity_of keys) beat_in c tt o.sound;
-  none_pending = pending-beat c o.none_pending;
+-- a block that isn't in the tree
+pub asks : (keys : Keys) (v : Ruling) (c : Chronicle) (sender : ℕ) (d : Bytes) (s : Kept) → v ≡ missing sender d → IsStateOf keys c s → Follows keys v c (Err fault.UnknownParent) s
+unfolding on_ruling
+asks keys v c sender d s e o = record {
+  memory = ample;
+  leaves = subst (λ (x : Ruling). Leaves keys (on_ruling (identity_of keys) ample x c) (Err fault.UnknownParent) s) (sym e) (record { state = o; standing = refl; answer = refl });
 }
 
--- room for more steps changes no state
-pub state-resized : (keys : Keys) (c : Chronicle) (old new : State) → IsStateOf keys c old → AreRecordsOf keys c new.records → new.tree ≡ old.tree → new.view ≡ old.view → new.own ≡ old.own → IsStateOf keys c new
-state-resized keys c old new o r t v own = record {
-  its_records = r;
-  its_tree = t ∙ o.its_tree;
-  its_view = v ∙ o.its_view;
-  own = subst (IsOwn (proposed (identity_of keys) c)) (sym own) o.own;
-  sound = o.sound;
-  none_pending = o.none_pending;
-}
-
--- ---- beats
-
--- a refusal that is named so
-pub err-is : {A : Type 0} (r : Result A Fault) (n : Fault) → IsErr r → IsErrAnd r (λ f. f ≡ n) → r ≡ Err n
-err-is (Ok x) n h g = absurd (true≢false (sym h))
-err-is (Err f) n h g = ap (λ (x : Fault). Err x) g
-
--- the refusal, where there is one
-fault_in : {A : Type 0} → Fault → Result A Fault → Fault
-fault_in n (Ok x) = n
-fault_in n (Err f) = f
-
--- the same refusal of another call
-pub err-same : {A B : Type 0} (f m : Fault) (r : Result A Fault) → r ≡ Err m → r ≡ Err f → (s : Result B Fault) → s ≡ Err f → s ≡ Err m
-unfolding fault_in
-err-same f m r e g s h = h ∙ ap (λ (x : Fault). Err x) (ap (fault_in m) (sym g ∙ e))
-
--- refused memory leaves the steps
-pub beat-refused : (keys : Keys) (c : Chronicle) (old new : State) (result : Result (List Sent) Fault) → IsStateOf keys c old → new.records.steps.items ≡ old.records.steps.items → new.records.rules ≡ old.records.rules → new.records.high ≡ old.records.high → new.records.leaf ≡ old.records.leaf
-    → new.tree ≡ old.tree → new.view ≡ old.view → new.own ≡ old.own → result ≡ Err fault.Memory → StepsTo keys beat_in c result new
-beat-refused keys c old new result o es er eh el t v own r =
-    beat-memory keys c result new (state-resized keys c old new o (records-resized keys c old.records new.records o.its_records es er eh el) t v own) r
-
--- a beat without a child
-pub beat-without : (keys : Keys) (c : Chronicle) (old new : State) (out : List Sent) → IsStateOf keys c old → child (identity_of keys) c (leaf (identity_of keys) c) ≡ None
-    → new.records.steps.items ≡ old.records.steps.items ++ Beat ∷ [] → new.records.rules ≡ old.records.rules → new.records.high ≡ old.records.high → new.records.leaf ≡ old.records.leaf
-    → new.tree ≡ old.tree → new.view ≡ old.view → new.own ≡ old.own → out ≡ shown (sendings (identity_of keys) (noted beat) c) → StepsTo keys beat_in c (Ok out) new
-beat-without keys c old new out o n es er eh el t v own s =
-    let r = records-beat keys c old.records new.records o.its_records es er eh (el ∙ o.its_records.its_leaf ∙ ap ref_of (sym (leaf-without (identity_of keys) c n))) in
-    beat-stands keys c out new
-    (state-beat keys c old new o r t v (subst (λ (p : Option Justified). IsOwn p new.own) (sym (proposed-without (identity_of keys) c n)) (subst (IsOwn (proposed (identity_of keys) c)) (sym own) o.own))) s
-
--- a beat with a child
-pub beat-with : (keys : Keys) (c : Chronicle) (old new : State) (k : Child) (out : List Sent) → IsStateOf keys c old → child (identity_of keys) c (leaf (identity_of keys) c) ≡ Some (empty_child keys c) → leads (identity_of keys) c ≡ true → IsChild keys c k
-    → new.records.steps.items ≡ old.records.steps.items ++ Beat ∷ [] → new.records.rules ≡ old.records.rules → new.records.high ≡ old.records.high → new.records.leaf ≡ k.block
-    → new.tree ≡ old.tree → new.view ≡ old.view → new.own ≡ Some k.own
-    → out ≡ shown (proposes (identity_of keys) old.view (Some (record { block = empty_child keys c; certificate = (qc_high keys.sizes c).certificate }))) → StepsTo keys beat_in c (Ok out) new
-beat-with keys c old new k out o n l ch es er eh el t v own s =
-    let p = proposed-with (identity_of keys) c (empty_child keys c) n in
-    let r = records-beat keys c old.records new.records o.its_records es er eh (el ∙ ch.block ∙ ap ref_of (sym (leaf-with (identity_of keys) c (empty_child keys c) n))) in
-    beat-stands keys c out new
-    (state-beat keys c old new o r t v (subst (λ (q : Option Justified). IsOwn q new.own) (sym p) (subst (IsOwn (Some (record { block = empty_child keys c; certificate = (qc_high keys.sizes c).certificate }))) (sym own) (ch.core, ch.certificate))))
-    (s ∙ (λ i. shown (proposes (identity_of keys) (o.its_view i) (sym p i))) ∙ ap shown (sym (sent-led (identity_of keys) c l)))
-
--- ---- who leads, and what is known
-
-not-flip : (b : Bool) → true ≡ not b → b ≡ false
-not-flip true e = e
-not-flip false e = refl
-
-not-keep : (b : Bool) → false ≡ not b → b ≡ true
-not-keep true e = refl
-not-keep false e = e
-
-leads-is : (keys : Keys) (c : Chronicle) → leads (identity_of keys) c ≡ nat_eq (leader keys.sizes (view keys.sizes c)) keys.party
-unfolding leads
-leads-is keys c = refl
-
-same-leader : (keys : Keys) (c : Chronicle) (s : State) (l p : ℕ) → IsStateOf keys c s → l ≡ leader keys.sizes s.view → p ≡ keys.party → leads (identity_of keys) c ≡ nat_eq l p
-same-leader keys c s l p o el ep = leads-is keys c ∙ (λ i. nat_eq ((ap (leader keys.sizes) (sym o.its_view) ∙ sym el) i) (sym ep i))
-
-pub unled-as : (keys : Keys) (c : Chronicle) (s : State) (l p : ℕ) → IsStateOf keys c s → l ≡ leader keys.sizes s.view → p ≡ keys.party → true ≡ not (nat_eq l p) → leads (identity_of keys) c ≡ false
-unled-as keys c s l p o el ep e = same-leader keys c s l p o el ep ∙ not-flip (nat_eq l p) e
-
-pub leads-as : (keys : Keys) (c : Chronicle) (s : State) (l p : ℕ) → IsStateOf keys c s → l ≡ leader keys.sizes s.view → p ≡ keys.party → false ≡ not (nat_eq l p) → leads (identity_of keys) c ≡ true
-leads-as keys c s l p o el ep e = same-leader keys c s l p o el ep ∙ not-keep (nat_eq l p) e
-
-found-as : (keys : Keys) (c : Chronicle) (s : State) → IsStateOf keys c s → is_known s.records.leaf.digest c ≡ is_some (find_in s.records.leaf.digest (blocks s.tree.stored))
-found-as keys c s o = known-found s.records.leaf.digest c ∙ ap (λ (t : List Branch). is_some (find_in s.records.leaf.digest t)) (sym (ap (λ (t : TreeState). blocks t.stored) o.its_tree ∙ blocks-stored c))
-
-some-true : (x : Option Branch) → IsSome x → is_some x ≡ true
-some-true (Some b) h = refl
-some-true None h = absurd (true≢false (sym h))
-
-none-false : (x : Option Branch) → (IsSome x → ⊥) → is_some x ≡ false
-none-false (Some b) h = absurd (h refl)
-none-false None h = refl
-
-pub known-as : (keys : Keys) (c : Chronicle) (s : State) → IsStateOf keys c s → IsSome (find_in s.records.leaf.digest (blocks s.tree.stored)) → is_known s.records.leaf.digest c ≡ true
-known-as keys c s o h = found-as keys c s o ∙ some-true _ h
-
-pub unknown-as : (keys : Keys) (c : Chronicle) (s : State) → IsStateOf keys c s → (IsSome (find_in s.records.leaf.digest (blocks s.tree.stored)) → false ≡ true) → is_known s.records.leaf.digest c ≡ false
-unknown-as keys c s o h = found-as keys c s o ∙ none-false _ (λ k. true≢false (sym (h k)))
+-- a change that was decided is made, or memory is refused and all is as before
+pub committed : (keys : Keys) (v : Ruling) (c : Chronicle) (d : Change) (s new : Kept) (result : Result (List Sent) Fault) → Follows keys v c (Ok d.out) (changed d s) → IsStateOf keys c s
+    → OnOk result (new ≡ changed d s) → IfOk result (λ out. out ≡ d.out) → OnErr result (new ≡ s) → OnErr result (result ≡ Err fault.Memory) → Follows keys v c result new
+committed keys v c d s new (Ok out) f o made sent unchanged memory =
+    subst (λ (x : Kept). Follows keys v c (Ok out) x) (sym made) (subst (λ (x : List Sent). Follows keys v c (Ok x) (changed d s)) (sym sent) f)
+committed keys v c d s new (Err n) f o made sent unchanged memory =
+    subst (λ (x : Kept). Follows keys v c (Err n) x) (sym unchanged)
+    (subst (λ (r : Result (List Sent) Fault). Follows keys v c r s) (sym memory) (memory-instead keys v c d.out s (changed d s) f o))

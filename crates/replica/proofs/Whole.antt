@@ -1,4 +1,4 @@
--- The whole step of a replica, from that of its running variables.
+-- The whole step of a replica, from that of what it keeps.
 use Rattle.ids.specs.declared.fault.Fault.{Fault}
 use Rattle.ids.specs.declared.fault.Fault.TheVariants as fault
 use Rattle.std.proofs.Common.{suc, ◌≡◌, ◌⊎◌, Bool, List, length, refl, sym, ap, ◌∙◌, subst, inl, inr, Result, Err}
@@ -9,9 +9,8 @@ use Rattle.definitions.specs.Chronicles.{Step, Chronicle}
 use Rattle.definitions.specs.Rulings.{Input, Ruling, Ruling.missing, Ruling.refusing, ruling, conflicts}
 use Rattle.definitions.specs.Rulings as rulings
 use Rattle.definitions.specs.Replicas.{Memory, ample, refused_at_once, refused_after, running, stopped, Replica, Reaction, on_step, on_ruling, step, executes}
-use Rattle.replica.specs.declared.state.State.{State}
+use Rattle.replica.specs.Kept.{Variables, Kept}
 use Rattle.replica.specs.Steps.{Sent, Stepped, standing_of}
-use Rattle.replica.specs.State.{chronicle_of}
 use Rattle.replica.specs.StepsTo.{StepsTo, halts}
 
 -- a step adds one to the chronicle or nothing
@@ -30,20 +29,21 @@ ruling-grows self m (rulings.due st) c = step-grows self m st c
 ruling-grows self m (missing sender d) c = inl refl
 ruling-grows self m (refusing n) c = inl refl
 
-pub grows-from : (keys : Keys) (i : Input) (c : Chronicle) (result : Result (List Sent) Fault) (s : State) → StepsTo keys i c result s → (length (chronicle_of s) ≡ length c) ⊎ (length (chronicle_of s) ≡ suc (length c))
+pub grows-from : (keys : Keys) (i : Input) (c : Chronicle) (result : Result (List Sent) Fault) (s : Kept) → StepsTo keys i c result s
+    → (length s.variables.chronicle ≡ length c) ⊎ (length s.variables.chronicle ≡ suc (length c))
 grows-from keys i c result s t =
-    let e = ap (λ (x : Chronicle). length x) t.leaves.state.its_records.replayed in
+    let e = ap (λ (v : Variables). length v.chronicle) t.leaves.state.same in
     elim (ruling-grows (identity_of keys) t.memory (ruling (identity_of keys) i c) c) [ inl k ↦ inl (e ∙ k) | inr k ↦ inr (e ∙ k) ]
 
 -- the step of a replica that goes on
-pub stepped-from : (keys : Keys) (i : Input) (old : Replica) (c : Chronicle) (result : Result (List Sent) Fault) (s : State) (over : Bool) → old ≡ record { chronicle = c; standing = running } → StepsTo keys i c result s → over ≡ halts result
-    → Stepped (identity_of keys) i old result (record { chronicle = chronicle_of s; standing = standing_of over })
+pub stepped-from : (keys : Keys) (i : Input) (old : Replica) (c : Chronicle) (result : Result (List Sent) Fault) (s : Kept) (over : Bool) → old ≡ record { chronicle = c; standing = running } → StepsTo keys i c result s → over ≡ halts result
+    → Stepped (identity_of keys) i old result (record { chronicle = s.variables.chronicle; standing = standing_of over })
 unfolding step
 stepped-from keys i old c result s over e t h =
-    subst (λ (x : Replica). Stepped (identity_of keys) i x result (record { chronicle = chronicle_of s; standing = standing_of over })) (sym e)
+    subst (λ (x : Replica). Stepped (identity_of keys) i x result (record { chronicle = s.variables.chronicle; standing = standing_of over })) (sym e)
     (record {
       memory = t.memory;
-      state = λ j. record { chronicle = t.leaves.state.its_records.replayed j; standing = (ap standing_of h ∙ sym t.leaves.standing) j };
+      state = λ j. record { chronicle = (ap (λ (v : Variables). v.chronicle) t.leaves.state.same) j; standing = (ap standing_of h ∙ sym t.leaves.standing) j };
       answer = t.leaves.answer;
     })
 

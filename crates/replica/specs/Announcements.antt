@@ -3,7 +3,7 @@ use Rattle.ids.specs.declared.fault.Fault.{Fault}
 use Rattle.ids.specs.declared.fault.Fault.TheVariants as fault
 use Rattle.ids.specs.declared.kind.Kind.TheVariants as kind
 use Rattle.ids.specs.Numbers.{kind_number}
-use Rattle.std.specs.Prelude.{ℕ, ◌≡◌, List, [], ◌∷◌, length, nat_lt, if◌then◌else◌, Option, Some, None, Result, Err, MatchResult}
+use Rattle.std.specs.Prelude.{ℕ, ◌≡◌, [], ◌∷◌, length, nat_lt, if◌then◌else◌, Option, Some, None, Result, Err, MatchResult}
 use Rattle.std.specs.Option.{unwrap_or}
 use Rattle.definitions.specs.Frames.{Certificate, certificate_bytes, new_view_text, frame_text}
 use Rattle.definitions.specs.Keyrings.{Keys, keyring_of, vector_for}
@@ -13,7 +13,6 @@ use Rattle.definitions.specs.Sendings.{to_all}
 use Rattle.definitions.specs.Trees.{blocks, find_in}
 use Rattle.pacemaker.specs.Pacing.{Pace, IsPaceOf}
 use Rattle.replica_rules.specs.declared.block_ref.BlockRef.{BlockRef}
-use Rattle.replica.specs.declared.state.High.{High}
 use Rattle.replica.specs.declared.stored.GotNewView.{GotNewView}
 use Rattle.replica.specs.declared.stored.StoredStep.TheVariants.{GotNewView as Announced, TimedOut}
 use Rattle.replica.specs.declared.change.Change.{Change}
@@ -59,9 +58,11 @@ pub record IsAnnounced (keys : Keys) (s : Kept) (block : BlockRef) (n : GotNewVi
   pub its_pace : IsPacedBy s.pace pace (λ x. (q : Certificate) × (b : Branch) × (x ≡ got_new_view n.view n.sender q b))
   pub change : d ≡ new_view_change keys s block n pace
 
--- what an announced view comes to
+-- what an announced view comes to, where this was found of the block of its certificate
+abbrev pub IsNewViewAt : Keys → Kept → GotNewView → Result Change Fault → Option Branch → Type 0
+IsNewViewAt keys s n result None = result ≡ Err fault.UnknownParent
+IsNewViewAt keys s n result (Some b) =
+    MatchResult result (IsAnnounced keys s (record { digest = n.certificate.digest; height = length b }) n) (λ f. f ≡ fault.Memory)
+
 abbrev pub IsNewView : Keys → Kept → GotNewView → Result Change Fault → Type 0
-IsNewView keys s n result = elim (find_in n.certificate.digest (blocks s.variables.stored)) [
-  | Some b ↦ MatchResult result (IsAnnounced keys s (record { digest = n.certificate.digest; height = length b }) n) (λ f. f ≡ fault.Memory)
-  | None ↦ result ≡ Err fault.UnknownParent
-]
+IsNewView keys s n result = IsNewViewAt keys s n result (find_in n.certificate.digest (blocks s.variables.stored))

@@ -4,7 +4,6 @@ use Rattle.ids.specs.Sizes.{leader}
 use Rattle.ids.specs.Numbers.{kind_number}
 use Rattle.ids.specs.declared.kind.Kind.TheVariants as kind
 use Rattle.sha2.specs.Sha256.{sha256}
-use Rattle.definitions.specs.Bytes.{Bytes}
 use Rattle.definitions.specs.Frames.{core_text, certificate_bytes, proposal_text, frame_text}
 use Rattle.definitions.specs.Keyrings.{Keys, keyring_of, vector_for}
 use Rattle.definitions.specs.Sendings.{to_all}

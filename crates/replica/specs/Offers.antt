@@ -23,7 +23,7 @@ use Rattle.replica.specs.declared.stored.StoredStep.TheVariants.{TookNew, TookAg
 use Rattle.replica.specs.declared.change.Change.{Change}
 use Rattle.replica.specs.declared.change.Growth.TheVariants.{Block}
 use Rattle.replica.specs.Steps.{Sent}
-use Rattle.replica.specs.Kept.{Variables, Kept}
+use Rattle.replica.specs.Kept.{Kept}
 use Rattle.replica.specs.Changes.{noting, tree_of, raise_of, leaf_after}
 
 -- A block with its certificate and what a check found of them, and the view that it was proposed for, if it was.

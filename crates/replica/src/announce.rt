@@ -1,9 +1,8 @@
 //! Timeouts, and views that are announced.
 
-ghost use Rattle.std.specs.Prelude.{◌≡◌, ◌<◌, [], ◌∷◌, length, option_map, nat_lt, if◌then◌else◌, Some, None, IfOk, OnErr, MatchResult, ⊤};
+ghost use Rattle.std.specs.Prelude.{◌≡◌, ◌<◌, [], ◌∷◌, if◌then◌else◌, IfOk, OnErr};
 ghost use Rattle.std.specs.Option.{unwrap_or};
 ghost use Rattle.ids.specs.Sizes.{replicas};
-ghost use Rattle.definitions.specs.Trees.{blocks, find_in};
 ghost use Rattle.replica.specs.Announcements.{new_view_sent, IsTimeout, IsAnnounced, IsNewView};
 ghost use Rattle.replica.specs.Inputs.{announced_by};
 
@@ -38,7 +37,7 @@ pub(crate) fn decide_timeout(state: &State, keyring: &Keyring) -> Result<Change,
     ensures made { IfOk result (IsTimeout keyring.now state.now) }
     ensures memory { OnErr result (result ≡ Err Fault.Memory) }
 {
-    let mut pace = state.pace.clone();
+    let mut pace = state.pace;
     pace.timeout();
     let out = announcement(state.alloc, keyring, pace.view(), &state.high)?;
     Ok(Change {
@@ -57,6 +56,24 @@ fn high_after<'a>(raised: &'a Option<High>, high: &'a High) -> &'a High
     }
 }
 
+/// The same, where the replica moved on.
+fn announcement_if(
+    alloc: Global,
+    keyring: &Keyring,
+    moved: bool,
+    view: View,
+    high: &High,
+) -> Result<Out, Fault>
+    requires { keyring.now.party < replicas keyring.now.sizes }
+    ensures made { IfOk result (λ out. out ≡ (if moved then new_view_sent keyring.now view high.now.certificate ∷ [] else [])) }
+    ensures memory { OnErr result (result ≡ Err Fault.Memory) }
+{
+    if !moved {
+        return Ok(Out::none(alloc));
+    }
+    announcement(alloc, keyring, view, high)
+}
+
 /// What an announced view comes to, whose certificate is for this block: the certificate is raised, and where the
 /// replica moves on to a greater view, it announces that.
 fn take_new_view(
@@ -73,13 +90,10 @@ fn take_new_view(
     let alloc = state.alloc;
     let (view, sender) = (announced.view(), announced.sender());
     let high = raised(alloc, block, &announced.certificate(), &state.high)?;
-    let mut pace = state.pace.clone();
+    let mut pace = state.pace;
     let moved = pace.on_new_view(sender, view);
-    let out = if moved {
-        announcement(alloc, keyring, pace.view(), high_after(&high, &state.high))?
-    } else {
-        Out::none(alloc)
-    };
+    let highest = high_after(&high, &state.high);
+    let out = announcement_if(alloc, keyring, moved, pace.view(), highest)?;
     let certificate = CertificateBuf::copy(alloc, &announced.certificate())?;
     let step = StoredStep::GotNewView(GotNewView {
         view,

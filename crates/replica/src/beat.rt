@@ -101,11 +101,7 @@ pub(crate) fn decide_beat(state: &State, keyring: &Keyring) -> Result<Change, Fa
     ensures memory { OnErr result (result ≡ Err Fault.Memory) }
 {
     if !leads(state, keyring) {
-        return Ok(Change::noting(
-            state,
-            StoredStep::Beat,
-            Out::none(state.alloc),
-        ));
+        return Ok(Change::noting(state, StoredStep::Beat, Out::none(state.alloc)));
     }
     if state.tree.contains(&state.leaf.digest) {
         return propose(state, keyring);

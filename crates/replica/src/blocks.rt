@@ -157,11 +157,7 @@ fn take_new(
 }
 
 /// What a block comes to.
-pub(crate) fn decide_block(
-    state: &State,
-    keyring: &Keyring,
-    offer: &Offer,
-) -> Result<Change, Fault>
+pub(crate) fn decide_block(state: &State, keyring: &Keyring, offer: &Offer) -> Result<Change, Fault>
     requires { keyring.now.party < replicas keyring.now.sizes }
     ensures { IsDecided keyring.now state.now offer.now result }
 {

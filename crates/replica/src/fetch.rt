@@ -16,12 +16,7 @@ use ids::{Digest, Fault, ReplicaId};
 use signed_frames::block_frame;
 
 /// The block of a digest with its certificate, for a replica that asked for it, where it stands in the tree.
-fn supply(
-    state: &State,
-    keyring: &Keyring,
-    to: ReplicaId,
-    digest: &Digest,
-) -> Result<Out, Fault>
+fn supply(state: &State, keyring: &Keyring, to: ReplicaId, digest: &Digest) -> Result<Out, Fault>
     requires own { keyring.now.party < replicas keyring.now.sizes }
     requires other { to < replicas keyring.now.sizes }
     ensures made { IfOk result (λ out. out ≡ supplied keyring.now to (stored_in digest.now state.now.variables.stored)) }

@@ -1,6 +1,10 @@
 //! A block that comes.
 
-ghost use Rattle.std.specs.Prelude.{◌≡◌, Some, None};
+ghost use Rattle.std.specs.Prelude.{◌≡◌, Some, None, IsTrue};
+ghost use Rattle.definitions.specs.Admission.{check, is_passed};
+ghost use Rattle.definitions.specs.Checks.{identity_of};
+ghost use Rattle.definitions.specs.FrameLimits.{IsFrame};
+ghost use Rattle.frames_view.specs.Views.{proposal_of, block_of};
 ghost use Rattle.replica.specs.Offers.{is_for, justified_of};
 ghost use Rattle.replica.specs.Inputs.{proposal_offered, block_offered};
 ghost use Rattle.replica_rules.specs.Votes.{candidate_of};
@@ -12,6 +16,7 @@ use replica_rules::{BlockRef, Candidate};
 use std::marker::Model;
 
 /// A block with its certificate and what a check found of them, and the view that it was proposed for, if it was.
+#[derive(Drop)]
 pub(crate) struct Offer<'a, 'b> {
     pub(crate) core: CoreView<'a>,
     pub(crate) certificate: CertificateView<'a>,
@@ -32,7 +37,9 @@ impl<'a, 'b> Model for Offer<'a, 'b> {
 impl<'a, 'b> Offer<'a, 'b> {
     /// The block of a proposal.
     pub(crate) fn of_proposal(proposal: &'b Checked<'a, ProposalView<'a>>) -> Offer<'a, 'b>
-        ensures { result ≡ proposal_offered proposal.entry.now }
+        ensures offered { result ≡ proposal_offered proposal.entry.now }
+        ensures frame { IsFrame proposal.entry.now.keys.sizes (proposal_of proposal.entry.now.view) }
+        ensures passed { IsTrue (is_passed (check (identity_of proposal.entry.now.keys) (proposal_of proposal.entry.now.view))) }
     {
         let view = proposal.view();
         Offer {
@@ -46,7 +53,9 @@ impl<'a, 'b> Offer<'a, 'b> {
 
     /// A block that was asked for.
     pub(crate) fn of_block(block: &'b Checked<'a, BlockView<'a>>) -> Offer<'a, 'b>
-        ensures { result ≡ block_offered block.entry.now }
+        ensures offered { result ≡ block_offered block.entry.now }
+        ensures frame { IsFrame block.entry.now.keys.sizes (block_of block.entry.now.view) }
+        ensures passed { IsTrue (is_passed (check (identity_of block.entry.now.keys) (block_of block.entry.now.view))) }
     {
         let view = block.view();
         Offer {

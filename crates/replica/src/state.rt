@@ -75,7 +75,7 @@ impl Model for State {
 }
 
 /// What is new takes the place of what was.
-fn renew<T>(place: &mut T, new: Option<T>)
+fn renew<T: Drop>(place: &mut T, new: Option<T>)
     ensures { place.new ≡ unwrap_or new place.old }
 {
     if let Some(new) = new {

@@ -1,6 +1,18 @@
-use Rattle.std.proofs.Common.{refl, ap, ◌∙◌, List, ℕ, []}
+use Rattle.std.proofs.Common.{List, ℕ, [], reverse, None, ap, sym, ◌∙◌}
+use Rattle.replica.specs.Replay.{replay}
 use Rattle.replica.proofs.First.{first}
 use Rattle.replica.proofs.replica.first_state.Goals as goal
 
 pub returns : goal.returns
-returns c keys e = first keys _ c.new-2.ensures.items c.new.ensures c.genesis.ensures (c.without_votes.ensures ∙ ap (λ (d : List ℕ). record { digest = d; votes = [] }) c.genesis_digest.ensures) c.genesis-2.ensures c.new-3.ensures refl refl
+unfolding replay
+returns c keys e =
+    first keys _
+    (λ i. record {
+      chronicle = replay (reverse (c.new-4.ensures.items i)) (c.new.ensures i).stored;
+      most = (c.new.ensures i).most;
+      stored = (c.new.ensures i).stored;
+      rules = c.new-2.ensures i;
+      high = record { block = c.genesis.ensures i; certificate = (c.without_votes.ensures ∙ ap (λ (d : List ℕ). record { digest = d; votes = [] }) c.genesis_digest.ensures) i };
+      leaf = c.genesis-2.ensures i;
+      own = None;
+    }) (c.new-3.ensures.sizes ∙ sym e) c.new-3.ensures.begins

@@ -1,0 +1,59 @@
+-- Each decided change can be made.
+use Rattle.std.proofs.Common.{◌≡◌, ◌==◌, [], refl, sym, subst, Option, Some, None, Result, Ok, Err, IfOk}
+use Rattle.std.specs.Prelude.{is_some}
+use Rattle.std.proofs.lemmas.Bool.{cond_both}
+use Rattle.ids.specs.Sizes.{leader}
+use Rattle.ids.specs.declared.fault.Fault.{Fault}
+use Rattle.ids.specs.declared.fault.Fault.TheVariants as fault
+use Rattle.definitions.specs.Branches.{Branch}
+use Rattle.definitions.specs.Keyrings.{Keys}
+use Rattle.definitions.specs.Trees.{blocks, find_in, Placing, Placing.stands, Placing.grows, Placing.lacks_parent, Placing.unfit, placing}
+use Rattle.replica.specs.declared.change.Change.{Change}
+use Rattle.replica.specs.declared.stored.GotNewView.{GotNewView}
+use Rattle.replica.specs.declared.stored.GotFetch.{GotFetch}
+use Rattle.replica.specs.declared.stored.StoredStep.TheVariants.{Beat}
+use Rattle.replica.specs.Kept.{Variables, Kept}
+use Rattle.replica.specs.Changes.{noting, Fits}
+use Rattle.replica.specs.Beats.{own_sent, proposing, beat_change}
+use Rattle.replica.specs.Offers.{Offered, IsDecidedAt, IsDecided}
+use Rattle.replica.specs.Announcements.{IsTimeout, IsNewViewAt, IsNewView}
+use Rattle.replica.specs.Fetches.{fetch_change}
+
+beat-fits : (keys : Keys) (s : Kept) → Fits s.variables (beat_change keys s)
+beat-fits keys s =
+    let v : Variables = s.variables in
+    let P : Change → Type 0 = λ d. Fits v d in
+    cond_both (leader keys.sizes s.pace.view == keys.party) _ (noting v Beat []) P
+    (λ l. cond_both (is_some (find_in v.leaf.digest (blocks v.stored))) (proposing keys s) (noting v Beat (own_sent keys s.pace.view v.own)) P
+    (λ k. record { growth = tt; step = refl }) (λ k. record { growth = tt; step = refl }))
+    (λ l. record { growth = tt; step = refl })
+
+pub fits-beat : (keys : Keys) (s : Kept) (result : Result Change Fault) → IfOk result (λ d. d ≡ beat_change keys s) → IfOk result (λ d. Fits s.variables d)
+fits-beat keys s (Ok d) e = subst (Fits s.variables) (sym e) (beat-fits keys s)
+fits-beat keys s (Err n) e = tt
+
+pub fits-timeout : (keys : Keys) (s : Kept) (result : Result Change Fault) → IfOk result (IsTimeout keys s) → IfOk result (λ d. Fits s.variables d)
+fits-timeout keys s (Ok d) t = subst (Fits s.variables) (sym t.change) (record { growth = tt; step = refl })
+fits-timeout keys s (Err n) t = tt
+
+pub fits-fetch : (keys : Keys) (s : Kept) (f : GotFetch) (result : Result Change Fault) → IfOk result (λ d. d ≡ fetch_change keys s.variables f) → IfOk result (λ d. Fits s.variables d)
+fits-fetch keys s f (Ok d) e = subst (Fits s.variables) (sym e) (record { growth = tt; step = refl })
+fits-fetch keys s f (Err n) e = tt
+
+pub fits-new-view : (keys : Keys) (s : Kept) (n : GotNewView) (result : Result Change Fault) → IsNewView keys s n result → IfOk result (λ d. Fits s.variables d)
+fits-new-view keys s n result h = by result (find_in n.certificate.digest (blocks s.variables.stored)) h
+  where
+    by : (r : Result Change Fault) (o : Option Branch) → IsNewViewAt keys s n r o → IfOk r (λ d. Fits s.variables d)
+    by (Ok d) None h = absurd (let k : Ok d ≡ Err fault.UnknownParent = h in cc)
+    by (Ok d) (Some b) h = subst (Fits s.variables) (sym h.change) (record { growth = tt; step = refl })
+    by (Err n) o h = tt
+
+pub fits-block : (keys : Keys) (s : Kept) (o : Offered) (result : Result Change Fault) → IsDecided keys s o result → IfOk result (λ d. Fits s.variables d)
+fits-block keys s o result h = by result (placing s.variables.most o.core o.certificate (blocks s.variables.stored)) h
+  where
+    by : (r : Result Change Fault) (p : Placing) → IsDecidedAt keys s o r p → IfOk r (λ d. Fits s.variables d)
+    by (Ok d) (stands b) h = subst (Fits s.variables) (sym h) (record { growth = tt; step = refl })
+    by (Ok d) (grows b) h = subst (Fits s.variables) (sym h.change) (record { growth = h.its_node.may_stand; step = refl })
+    by (Ok d) lacks_parent h = absurd (let k : Ok d ≡ Err fault.UnknownParent = h in cc)
+    by (Ok d) (unfit n) h = absurd (let k : Ok d ≡ Err n = h in cc)
+    by (Err n) p h = tt

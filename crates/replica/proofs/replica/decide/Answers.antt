@@ -1,0 +1,77 @@
+use Rattle.std.proofs.Common.{◌≡◌, ◌<◌, true, ◌^◌, IfOk, length, reverse, ap, ◌∙◌, subst, arith}
+use Rattle.std.proofs.lemmas.List.{length-reverse}
+use Rattle.ids.specs.Sizes.{leader}
+use Rattle.definitions.specs.Rulings.{ruling}
+use Rattle.frames_view.specs.Fields.{frame_view, frame_replica}
+use Rattle.frames_view.specs.Views.{proposal_of, block_of}
+use Rattle.frames_view.specs.declared.frame_views.NewViewView.{NewViewView}
+use Rattle.frames_view.specs.declared.frame_views.FetchView.{FetchView}
+use Rattle.replica.specs.Kept.{Variables, Kept}
+use Rattle.replica.specs.Inputs.{proposal_offered, block_offered, announced_by, asked_by, same_replica}
+use Rattle.replica.specs.Offers.{Offered, IsDecided}
+use Rattle.replica.specs.Announcements.{IsNewView}
+use Rattle.replica.specs.Fetches.{fetch_change}
+use Rattle.replica.proofs.Replaying.{length-replay}
+use Rattle.replica.proofs.Beats.{beat-decided}
+use Rattle.replica.proofs.Offers.{block-decided}
+use Rattle.replica.proofs.Announcements.{timeout-decided, new-view-decided}
+use Rattle.replica.proofs.Fetches.{fetch-decided}
+use Rattle.replica.proofs.Checked.{checked-proposal, checked-block}
+use Rattle.replica.proofs.Fits.{fits-timeout, fits-new-view, fits-block}
+use Rattle.replica.proofs.replica.decide.Goals as goal
+
+pub returns-in-Proposal-clause-decided : goal.returns-in-Proposal-clause-decided
+unfolding ruling
+returns-in-Proposal-clause-decided c c' o =
+    let keys = c.args.keyring.now in
+    let p = c.in-Proposal.proposal in
+    let own : same_replica p.keys keys ≡ true = rw c.in-Proposal.is at c.requires.own in
+    let decided = subst (λ (x : Offered). IsDecided keys c.args.state.now x c.decide_block.result) c.of_proposal.ensures.offered c.decide_block.ensures in
+    rw c.in-Proposal.is (block-decided keys c' c.args.state.now (proposal_offered p) (leader keys.sizes (frame_view (proposal_of p.view))) c.decide_block.result decided o (checked-proposal p keys own c.of_proposal.ensures.frame c.of_proposal.ensures.passed))
+
+pub returns-in-Block-clause-decided : goal.returns-in-Block-clause-decided
+unfolding ruling
+returns-in-Block-clause-decided c c' o =
+    let keys = c.args.keyring.now in
+    let b = c.in-Block.block in
+    let own : same_replica b.keys keys ≡ true = rw c.in-Block.is at c.requires.own in
+    let decided = subst (λ (x : Offered). IsDecided keys c.args.state.now x c.decide_block-in-Block.result) c.of_block.ensures.offered c.decide_block-in-Block.ensures in
+    rw c.in-Block.is (block-decided keys c' c.args.state.now (block_offered b) (frame_replica (block_of b.view)) c.decide_block-in-Block.result decided o (checked-block b keys own c.of_block.ensures.frame c.of_block.ensures.passed))
+
+pub returns-in-NewView-clause-decided : goal.returns-in-NewView-clause-decided
+returns-in-NewView-clause-decided c c' o =
+    let keys = c.args.keyring.now in
+    let n = c.in-NewView.announced in
+    let decided = subst (λ (x : NewViewView). IsNewView keys c.args.state.now (announced_by x) c.decide_new_view.result) c.view.ensures.view c.decide_new_view.ensures in
+    rw c.in-NewView.is (new-view-decided keys c' c.args.state.now (announced_by n.view) c.decide_new_view.result decided o)
+
+pub returns-in-Fetch-clause-decided : goal.returns-in-Fetch-clause-decided
+returns-in-Fetch-clause-decided c c' o =
+    let keys = c.args.keyring.now in
+    let s = c.args.state.now in
+    let f = c.in-Fetch.asked in
+    let made = subst (λ (x : FetchView). IfOk c.decide_fetch.result (λ d. d ≡ fetch_change keys s.variables (asked_by x))) c.view-in-Fetch.ensures.view c.decide_fetch.ensures.made in
+    rw c.in-Fetch.is (fetch-decided keys c' s (asked_by f.view) c.decide_fetch.result made c.decide_fetch.ensures.memory o)
+
+pub returns-in-Timeout-clause-decided : goal.returns-in-Timeout-clause-decided
+returns-in-Timeout-clause-decided c c' o =
+    rw c.in-Timeout.is (timeout-decided c.args.keyring.now c' c.args.state.now c.decide_timeout.result c.decide_timeout.ensures.made c.decide_timeout.ensures.memory o)
+
+pub returns-in-Beat-clause-decided : goal.returns-in-Beat-clause-decided
+returns-in-Beat-clause-decided c c' o =
+    let items = c.state.inside.steps.items in
+    let chronicle = ap (λ (k : Kept). length k.variables.chronicle) c.state.view_is ∙ ap (λ (v : Variables). length v.chronicle) o.same in
+    let few : length c' < 2 ^ 63 = (let n = length-replay (reverse items) c.state.inside.tree.stored in let r = length-reverse items in let k = c.state.inside.steps.ok.0 in omega (arith, chronicle, n, r, k)) in
+    rw c.in-Beat.is (beat-decided c.args.keyring.now c' c.args.state.now c.decide_beat.result few c.decide_beat.ensures.made c.decide_beat.ensures.memory o)
+
+pub returns-in-Proposal-clause-fits : goal.returns-in-Proposal-clause-fits
+returns-in-Proposal-clause-fits c = fits-block c.args.keyring.now c.args.state.now c.of_proposal.result c.decide_block.result c.decide_block.ensures
+
+pub returns-in-Block-clause-fits : goal.returns-in-Block-clause-fits
+returns-in-Block-clause-fits c = fits-block c.args.keyring.now c.args.state.now c.of_block.result c.decide_block-in-Block.result c.decide_block-in-Block.ensures
+
+pub returns-in-NewView-clause-fits : goal.returns-in-NewView-clause-fits
+returns-in-NewView-clause-fits c = fits-new-view c.args.keyring.now c.args.state.now (announced_by c.view.result.now) c.decide_new_view.result c.decide_new_view.ensures
+
+pub returns-in-Timeout-clause-fits : goal.returns-in-Timeout-clause-fits
+returns-in-Timeout-clause-fits c = fits-timeout c.args.keyring.now c.args.state.now c.decide_timeout.result c.decide_timeout.ensures.made

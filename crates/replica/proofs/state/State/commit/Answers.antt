@@ -1,0 +1,31 @@
+use Rattle.std.proofs.Common.{List, ◌∷◌, ◌++◌, [], ap, ◌∙◌, reverse}
+use Rattle.std.specs.Option.{option_or}
+use Rattle.definitions.specs.Trees.{Stored}
+use Rattle.replica.specs.declared.stored.StoredStep.{StoredStep}
+use Rattle.replica.specs.Replay.{step_of, replay}
+use Rattle.replica.specs.Kept.{Kept}
+use Rattle.replica.specs.Changes.{grown, changed}
+use Rattle.replica.proofs.Replaying.{replay-push, before-grown}
+use Rattle.replica.proofs.state.State.commit.Goals as goal
+
+pub returns-clause-made : goal.returns-clause-made
+returns-clause-made c =
+    let old = c.self.inside in
+    let d = c.args.change in
+    let items = rw c.unwrap.ensures at c.push.ensures.items ∙ ap (λ (xs : List StoredStep). xs ++ d.step ∷ []) c.reserve.ensures.items in
+    let tree = c.in_ok-grow.ensures.grown in
+    let more : List Stored = grown d.growth old.tree.stored in
+    let chronicle = (λ i. replay (reverse (items i)) (tree i).stored) ∙ replay-push old.steps.items d.step more
+    ∙ ap (λ (l : List Stored). step_of d.step more ∷ replay (reverse old.steps.items) l) (before-grown d.step d.growth old.tree.stored c.requires.step) in
+    (λ i. record {
+      variables = record {
+        chronicle = chronicle i;
+        most = (tree i).most;
+        stored = (tree i).stored;
+        rules = d.rules;
+        high = c.renew.ensures i;
+        leaf = d.leaf;
+        own = (c.or.ensures ∙ ap (option_or d.own) c.take.ensures.value) i;
+      };
+      pace = c.renew-2.ensures i;
+    }) ∙ ap (λ (k : Kept). changed d k) c.self.view_is
