@@ -18,7 +18,8 @@ both_ways false true f g = g refl
 both_ways false false f g = refl
 
 -- it extends what its parent does, but for itself
-pub extends-over : (b : Block) (parent x : Branch) → (x ≡ b ∷ parent → ⊥) → extends (b ∷ parent) x ≡ extends parent x
+pub extends-over : (b : Block) (parent x : Branch) → (x ≡ b ∷ parent → ⊥)
+    → extends (b ∷ parent) x ≡ extends parent x
 extends-over b parent x differs =
     both_ways (extends (b ∷ parent) x) (extends parent x)
     (λ h. elim (extends-cases b parent x (extends-true (b ∷ parent) x h)) [
@@ -40,29 +41,36 @@ own true false rest e f = absurd (cc)
 own false same rest e f = f
 
 -- a higher block says nothing of the clear marks of a branch
-clear_below : (h : ℕ) (p : Branch) (s : Stored) (all : List Stored) → length p < length s.branch → clear_above h p (s ∷ all) ≡ clear_above h p all
+clear_below : (h : ℕ) (p : Branch) (s : Stored) (all : List Stored) → length p < length s.branch
+    → clear_above h p (s ∷ all) ≡ clear_above h p all
 unfolding clear_above is_clear
 clear_below h [] s all lt = refl
 clear_below h (b ∷ p) s all lt =
-    let other : s.branch ≡ b ∷ p → ⊥ = λ e. (let k = ap (λ (x : Branch). length x) e in omega (arith, k, lt)) in
-    let mark = skipped s.clear (branch_eq s.branch (b ∷ p)) (is_clear (b ∷ p) all) (branch-differs s.branch (b ∷ p) other) in
+    let other : s.branch ≡ b ∷ p → ⊥ =
+    λ e. (let k = ap (λ (x : Branch). length x) e in omega (arith, k, lt)) in
+    let mark =
+    skipped s.clear (branch_eq s.branch (b ∷ p)) (is_clear (b ∷ p) all) (branch-differs s.branch (b ∷ p) other) in
     let rest = clear_below h p s all (omega (arith, lt)) in
     λ i. cond (nat_lt h (suc (length p))) (mark i && rest i) true
 
 -- it is clear where its own mark is and its parent's branch
-pub clear-over : (b : Block) (parent : Branch) (q : Certificate) (clear : Bool) (all : List Stored) → b.justify < suc (length parent) → (Among (b ∷ parent) (blocks all) → ⊥)
-    → clear_above b.justify (b ∷ parent) (record { branch = b ∷ parent; certificate = q; clear = clear } ∷ all) ≡ (clear && clear_above b.justify parent all)
+pub clear-over : (b : Block) (parent : Branch) (q : Certificate) (clear : Bool) (all : List Stored)
+    → b.justify < suc (length parent) → (Among (b ∷ parent) (blocks all) → ⊥)
+    → clear_above b.justify (b ∷ parent) (record { branch = b ∷ parent; certificate = q; clear = clear } ∷ all)
+    ≡ (clear && clear_above b.justify parent all)
 unfolding clear_above is_clear
 clear-over b parent q clear all lt absent =
     let s : Stored = record { branch = b ∷ parent; certificate = q; clear = clear } in
-    let mark = own clear (branch_eq (b ∷ parent) (b ∷ parent)) (is_clear (b ∷ parent) all) ((branch_eq-decides (b ∷ parent) (b ∷ parent)).1 refl) (absent-clear (b ∷ parent) all absent) in
+    let mark =
+    own clear (branch_eq (b ∷ parent) (b ∷ parent)) (is_clear (b ∷ parent) all) ((branch_eq-decides (b ∷ parent) (b ∷ parent)).1 refl) (absent-clear (b ∷ parent) all absent) in
     let low : length parent < length s.branch = omega arith in
     let rest = clear_below b.justify parent s all low in
     (rw (lt-ltb b.justify (suc (length parent)) lt) refl) ∙ (λ i. mark i && rest i)
 
 -- ---- a block that the tests let stand
 
-pub grown : (most : ℕ) (core : Core) (q : Certificate) (t : List Branch) (b : Branch) → placing most core q t ≡ grows b → (parent : Branch) × IsGrowth most core q t b parent
+pub grown : (most : ℕ) (core : Core) (q : Certificate) (t : List Branch) (b : Branch)
+    → placing most core q t ≡ grows b → (parent : Branch) × IsGrowth most core q t b parent
 grown most core q t b e = subst (λ (p : Placing). IsPlaced most core q t p) e (placed most core q t)
 
 justify_of : (core : Core) (parent : Branch) → justify_height (block_of core ∷ parent) ≡ core.justify_height
@@ -88,5 +96,6 @@ module _ (most : ℕ) (core : Core) (q : Certificate) (t : List Branch) (b paren
   -- and is named by certificate and core
   pub just1-named : ref_of (just1 b) ≡ record { digest = q.digest; height = core.justify_height }
   just1-named =
-      let d : digest_of (just1 b) ≡ q.digest = ap (λ (x : Branch). digest_of (just1 x)) g.is ∙ sym g.justified in
+      let d : digest_of (just1 b) ≡ q.digest =
+      ap (λ (x : Branch). digest_of (just1 x)) g.is ∙ sym g.justified in
       λ i. record { digest = d i; height = justified_height i }

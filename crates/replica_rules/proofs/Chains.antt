@@ -12,7 +12,7 @@ use Rattle.definitions.proofs.Trees.{found-in, found-itself, tree-below}
 use Rattle.replica_rules.specs.declared.block_ref.BlockRef.{BlockRef}
 use Rattle.replica_rules.specs.declared.chain.Chain.{Chain}
 use Rattle.replica_rules.specs.Ruled.{ref_of}
-use Rattle.replica_rules.specs.Chains.{justified_by, justified_in, chain_in, is_decisive, higher_of, decides_against_in, executed_after, decided_with, decided_in}
+use Rattle.replica_rules.specs.Chains.{justified_by, justified_in, chain_over, chain_in, is_decisive, higher_of, decides_against_in, executed_after, decided_with, decided_in}
 use Rattle.replica_rules.proofs.Held.{Holds, executed-found, extends-found}
 
 -- the chain below a block
@@ -24,23 +24,32 @@ abbrev pub executed_with : Branch → Branch → Branch
 executed_with e b = if decides b then (if nat_lt (length e) (length (just3 b)) then just3 b else e) else e
 
 module _ (all : List Stored) (tr : IsTree (blocks all)) where
-  pub justified-found : (d : Bytes) (b : Branch) → find_in d (blocks all) ≡ Some b → justified_in d all ≡ Some (ref_of (just1 b))
+  pub justified-found : (d : Bytes) (b : Branch) → find_in d (blocks all) ≡ Some b
+      → justified_in d all ≡ Some (ref_of (just1 b))
   justified-found d b f =
       let height = justify_height-just1 b (tr.branches b (found-in d (blocks all) b f).0) in
-      ap (option_map justified_by) f ∙ (λ i. Some (record { digest = digest_of (just1 b); height = sym height i }))
+      ap (option_map justified_by) f
+      ∙ (λ i. Some (record { digest = digest_of (just1 b); height = sym height i }))
 
   -- of a block that stands there by its own digest
-  justified_itself : (b : Branch) → Among b (blocks all) → justified_in (digest_of b) all ≡ Some (ref_of (just1 b))
+  justified_itself : (b : Branch) → Among b (blocks all)
+      → justified_in (digest_of b) all ≡ Some (ref_of (just1 b))
   justified_itself b m = justified-found (digest_of b) b (found-itself (blocks all) tr b m)
 
-  pub chain-found : (b : Branch) → Among (just1 b) (blocks all) → chain_in (ref_of (just1 b)) all ≡ Some (chain_of b)
+  pub chain-found : (b : Branch) → Among (just1 b) (blocks all)
+      → chain_in (ref_of (just1 b)) all ≡ Some (chain_of b)
   chain-found b m =
-      let two : justified_in (digest_of (just1 b)) all ≡ Some (ref_of (just2 b)) = justified_itself (just1 b) m ∙ ap (λ (x : Branch). Some (ref_of x)) (just2-is b) in
-      let among : Among (just1 (just1 b)) (blocks all) = tree-below (blocks all) tr (just1 b) (just1 (just1 b)) m (just1-extends (just1 b)) in
-      let among2 : Among (just2 b) (blocks all) = subst (λ (x : Branch). Among x (blocks all)) (just2-is b) among in
-      let three : justified_in (digest_of (just2 b)) all ≡ Some (ref_of (just3 b)) = justified_itself (just2 b) among2 ∙ ap (λ (x : Branch). Some (ref_of x)) (just3-is b) in
-      ap (option_and_then (λ (second : BlockRef). option_map (λ (third : BlockRef). record { first = ref_of (just1 b); second = second; third = third }) (justified_in second.digest all))) two
-      ∙ ap (option_map (λ (third : BlockRef). record { first = ref_of (just1 b); second = ref_of (just2 b); third = third })) three
+      let two : justified_in (digest_of (just1 b)) all ≡ Some (ref_of (just2 b)) =
+      justified_itself (just1 b) m ∙ ap (λ (x : Branch). Some (ref_of x)) (just2-is b) in
+      let among : Among (just1 (just1 b)) (blocks all) =
+      tree-below (blocks all) tr (just1 b) (just1 (just1 b)) m (just1-extends (just1 b)) in
+      let among2 : Among (just2 b) (blocks all) =
+      subst (λ (x : Branch). Among x (blocks all)) (just2-is b) among in
+      let three : justified_in (digest_of (just2 b)) all ≡ Some (ref_of (just3 b)) =
+      justified_itself (just2 b) among2 ∙ ap (λ (x : Branch). Some (ref_of x)) (just3-is b) in
+      ap (option_and_then (chain_over (ref_of (just1 b)) all)) two
+      ∙ ap (option_map (λ (third : BlockRef). record { first = ref_of (just1 b); second = ref_of (just2 b); third = third }))
+      three
 
   pub third-among : (b : Branch) → Among (just1 b) (blocks all) → Among (just3 b) (blocks all)
   third-among b m = tree-below (blocks all) tr (just1 b) (just3 b) m (just3-below b)
@@ -50,7 +59,8 @@ unfolding decides
 decisive-is b = refl
 
 -- what the block of a digest decides
-pub decided-found : (all : List Stored) (d : Bytes) (b : Branch) → IsTree (blocks all) → find_in d (blocks all) ≡ Some b
+pub decided-found : (all : List Stored) (d : Bytes) (b : Branch) → IsTree (blocks all)
+    → find_in d (blocks all) ≡ Some b
     → decided_in d all ≡ (if decides b then Some (digest_of (just3 b)) else None)
 decided-found all d b tr f =
     let among = tree-below (blocks all) tr b (just1 b) (found-in d (blocks all) b f).0 (just1-extends b) in
@@ -59,23 +69,29 @@ decided-found all d b tr f =
     ∙ ap (λ (t : Bool). cond t (Some (digest_of (just3 b))) None) (decisive-is b)
 
 -- it decides against the last executed block where its branch does
-pub against-found : (all : List Stored) (c : Chronicle) (b : Branch) → Holds all c → Among (just1 b) (blocks all)
+pub against-found : (all : List Stored) (c : Chronicle) (b : Branch) → Holds all c
+    → Among (just1 b) (blocks all)
     → decides_against_in (ref_of (executed c)) (chain_of b) all ≡ decides_against (executed c) b
 against-found all c b h m =
     let third = found-itself (blocks all) h.is_tree (just3 b) (third-among all h.is_tree b m) in
     let last = executed-found all c h in
-    let up = extends-found (digest_of (just3 b)) (digest_of (executed c)) (blocks all) (just3 b) (executed c) third last in
-    let down = extends-found (digest_of (executed c)) (digest_of (just3 b)) (blocks all) (executed c) (just3 b) last third in
+    let up =
+    extends-found (digest_of (just3 b)) (digest_of (executed c)) (blocks all) (just3 b) (executed c) third last in
+    let down =
+    extends-found (digest_of (executed c)) (digest_of (just3 b)) (blocks all) (executed c) (just3 b) last third in
     λ i. decisive-is b i && (not (up i) && not (down i))
 
 pub higher-ref : (x y : Branch) (t : Bool) → cond t (ref_of y) (ref_of x) ≡ ref_of (cond t y x)
 higher-ref x y true = refl
 higher-ref x y false = refl
 
-executed_by : (e b : Branch) (t : Bool) → cond t (higher_of (ref_of e) (ref_of (just3 b))) (ref_of e) ≡ ref_of (cond t (cond (nat_lt (length e) (length (just3 b))) (just3 b) e) e)
+executed_by : (e b : Branch) (t : Bool)
+    → cond t (higher_of (ref_of e) (ref_of (just3 b))) (ref_of e)
+    ≡ ref_of (cond t (cond (nat_lt (length e) (length (just3 b))) (just3 b) e) e)
 executed_by e b true = higher-ref e (just3 b) (nat_lt (length e) (length (just3 b)))
 executed_by e b false = refl
 
 pub executed-after : (e b : Branch) → executed_after (ref_of e) (chain_of b) ≡ ref_of (executed_with e b)
 executed-after e b =
-    ap (λ (t : Bool). cond t (higher_of (ref_of e) (ref_of (just3 b))) (ref_of e)) (decisive-is b) ∙ executed_by e b (decides b)
+    ap (λ (t : Bool). cond t (higher_of (ref_of e) (ref_of (just3 b))) (ref_of e)) (decisive-is b)
+    ∙ executed_by e b (decides b)

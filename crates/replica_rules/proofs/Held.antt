@@ -30,17 +30,21 @@ sound-holds sizes c s = record {
 pub marks-hold : (t : TreeState) (c : Chronicle) → HasMarks t c → Holds t.stored c
 marks-hold t c m = record { is_tree = m.is_tree; lock = m.lock; executed = m.executed }
 
-pub lock-found : (all : List Stored) (c : Chronicle) → Holds all c → find_in (digest_of (lock c)) (blocks all) ≡ Some (lock c)
+pub lock-found : (all : List Stored) (c : Chronicle) → Holds all c
+    → find_in (digest_of (lock c)) (blocks all) ≡ Some (lock c)
 lock-found all c h = found-itself (blocks all) h.is_tree (lock c) h.lock
 
-pub executed-found : (all : List Stored) (c : Chronicle) → Holds all c → find_in (digest_of (executed c)) (blocks all) ≡ Some (executed c)
+pub executed-found : (all : List Stored) (c : Chronicle) → Holds all c
+    → find_in (digest_of (executed c)) (blocks all) ≡ Some (executed c)
 executed-found all c h = found-itself (blocks all) h.is_tree (executed c) h.executed
 
 -- where both stand in the tree, their branches decide
-pub extends-found : (a b : Bytes) (t : List Branch) (x y : Branch) → find_in a t ≡ Some x → find_in b t ≡ Some y → extends_in a b t ≡ extends x y
+pub extends-found : (a b : Bytes) (t : List Branch) (x y : Branch) → find_in a t ≡ Some x
+    → find_in b t ≡ Some y → extends_in a b t ≡ extends x y
 extends-found a b t x y f g =
     ap (λ (o : Option Branch). elim o [ Some x ↦ elim (find_in b t) [ Some y ↦ extends x y | None ↦ false ] | None ↦ false ]) f
     ∙ ap (λ (o : Option Branch). elim o [ Some y ↦ extends x y | None ↦ false ]) g
 
-pub clear-found : (d : Bytes) (height : ℕ) (all : List Stored) (b : Branch) → find_in d (blocks all) ≡ Some b → clear_above_in d height all ≡ clear_above height b all
+pub clear-found : (d : Bytes) (height : ℕ) (all : List Stored) (b : Branch) → find_in d (blocks all) ≡ Some b
+    → clear_above_in d height all ≡ clear_above height b all
 clear-found d height all b f = ap (λ (o : Option Branch). elim o [ Some b ↦ clear_above height b all | None ↦ false ]) f

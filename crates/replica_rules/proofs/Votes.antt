@@ -20,7 +20,8 @@ use Rattle.replica_rules.proofs.Candidates.{extends-over, clear-over, grown}
 module _ (all : List Stored) (c : Chronicle) (h : Holds all c) where
   -- on the branch of a block of the tree
   safe_found : (d : Bytes) (x : Branch) (height justified : ℕ) → find_in d (blocks all) ≡ Some x
-      → is_safe_in (ruled_by c) d height justified all ≡ (nat_lt (vheight c) height && (extends x (lock c) || nat_lt (length (lock c)) justified))
+      → is_safe_in (ruled_by c) d height justified all
+      ≡ (nat_lt (vheight c) height && (extends x (lock c) || nat_lt (length (lock c)) justified))
   safe_found d x height justified f =
       ap (λ (e : Bool). nat_lt (vheight c) height && (e || nat_lt (length (lock c)) justified))
       (extends-found d (digest_of (lock c)) (blocks all) x (lock c) f (lock-found all c h))
@@ -32,7 +33,8 @@ module _ (all : List Stored) (c : Chronicle) (h : Holds all c) where
       λ i. safe_found d x height justified f i && clear-found d justified all x f i
 
   -- a block of the tree
-  pub may-vote-found : (d : Bytes) (b : Branch) → find_in d (blocks all) ≡ Some b → may_vote_in (ruled_by c) d all ≡ (may_vote b c && clear_above (justify_height b) b all)
+  pub may-vote-found : (d : Bytes) (b : Branch) → find_in d (blocks all) ≡ Some b
+      → may_vote_in (ruled_by c) d all ≡ (may_vote b c && clear_above (justify_height b) b all)
   unfolding may_vote
   may-vote-found d b f =
       ap (λ (o : Option Branch). elim o [ Some b ↦ may_vote_at (ruled_by c) d (length b) (justify_height b) all | None ↦ false ]) f
@@ -44,32 +46,40 @@ module _ (all : List Stored) (c : Chronicle) (h : Holds all c) where
   swapped false false z = refl
 
   -- a new block over its parent
-  pub may-vote-grown : (most : ℕ) (core : Core) (q s : Certificate) (clear : Bool) (b parent : Branch) → core.justify_height < core.height → IsGrowth most core q (blocks all) b parent
+  pub may-vote-grown : (most : ℕ) (core : Core) (q s : Certificate) (clear : Bool) (b parent : Branch)
+      → core.justify_height < core.height → IsGrowth most core q (blocks all) b parent
       → may_vote_over (ruled_by c) (candidate_of core clear) all
       ≡ (may_vote b c && clear_above (justify_height b) b (record { branch = b; certificate = s; clear = clear } ∷ all))
   unfolding may_vote justify_height
   may-vote-grown most core q s clear b parent below g =
-      let new : Among (block_of core ∷ parent) (blocks all) → ⊥ = subst (λ (x : Branch). Among x (blocks all) → ⊥) g.is (growth-new most core q (blocks all) b parent g) in
-      let other : lock c ≡ block_of core ∷ parent → ⊥ = λ e. new (subst (λ (x : Branch). Among x (blocks all)) e h.lock) in
-      let low : core.justify_height < suc (length parent) = subst (λ (n : ℕ). core.justify_height < n) g.height below in
-      let safe : Bool = nat_lt (vheight c) core.height && (extends parent (lock c) || nat_lt (length (lock c)) core.justify_height) in
+      let new : Among (block_of core ∷ parent) (blocks all) → ⊥ =
+      subst (λ (x : Branch). Among x (blocks all) → ⊥) g.is (growth-new most core q (blocks all) b parent g) in
+      let other : lock c ≡ block_of core ∷ parent → ⊥ =
+      λ e. new (subst (λ (x : Branch). Among x (blocks all)) e h.lock) in
+      let low : core.justify_height < suc (length parent) =
+      subst (λ (n : ℕ). core.justify_height < n) g.height below in
+      let safe : Bool =
+      nat_lt (vheight c) core.height && (extends parent (lock c) || nat_lt (length (lock c)) core.justify_height) in
       let marks = clear-over (block_of core) parent s clear all low new in
       let path = extends-over (block_of core) parent (lock c) other in
       let whole : may_vote_over (ruled_by c) (candidate_of core clear) all ≡ (safe && (clear && clear_above core.justify_height parent all)) =
-      ap (λ (x : Bool). clear && x) (vote_found core.parent parent core.height core.justify_height g.parent_found) ∙ swapped clear safe (clear_above core.justify_height parent all) in
+      ap (λ (x : Bool). clear && x) (vote_found core.parent parent core.height core.justify_height g.parent_found)
+      ∙ swapped clear safe (clear_above core.justify_height parent all) in
       subst (λ (x : Branch). may_vote_over (ruled_by c) (candidate_of core clear) all ≡ (may_vote x c && clear_above (justify_height x) x (record { branch = x; certificate = s; clear = clear } ∷ all))) (sym g.is)
       (whole ∙ (λ i. (nat_lt (vheight c) (g.height i) && (sym path i || nat_lt (length (lock c)) core.justify_height)) && sym marks i))
 
 -- ---- of a chronicle's own tree
 
 -- a block that stands there
-pub may-vote-known : (sizes : Sizes) (c : Chronicle) (d : Bytes) (b : Branch) → IsSound sizes c → find_in d (tree c) ≡ Some b
+pub may-vote-known : (sizes : Sizes) (c : Chronicle) (d : Bytes) (b : Branch) → IsSound sizes c
+    → find_in d (tree c) ≡ Some b
     → may_vote_in (ruled_by c) d (stored c) ≡ (may_vote b c && clear_above (justify_height b) b (stored c))
 unfolding tree
 may-vote-known sizes c d b s f = may-vote-found (stored c) c (sound-holds sizes c s) d b f
 
 -- a block that may stand there, with any certificate
-pub may-vote-new : (sizes : Sizes) (c : Chronicle) (core : Core) (q : Certificate) (a : Admitted) → IsSound sizes c → core.justify_height < core.height
+pub may-vote-new : (sizes : Sizes) (c : Chronicle) (core : Core) (q : Certificate) (a : Admitted)
+    → IsSound sizes c → core.justify_height < core.height
     → placing most_blocks core q (tree c) ≡ grows a.branch
     → may_vote_over (ruled_by c) (candidate_of core a.clear) (stored c)
     ≡ (may_vote a.branch c && clear_above (justify_height a.branch) a.branch (stored_of a ∷ stored c))
@@ -84,20 +94,24 @@ pub stored-known : (a : Admitted) (c : Chronicle) → a.new ≡ false → stored
 unfolding stored taken
 stored-known a c n = rw n refl
 
-pub stored-new : (a : Admitted) (c : Chronicle) → a.new ≡ true → stored (took_block a ∷ c) ≡ stored_of a ∷ stored c
+pub stored-new : (a : Admitted) (c : Chronicle) → a.new ≡ true
+    → stored (took_block a ∷ c) ≡ stored_of a ∷ stored c
 unfolding stored taken
 stored-new a c n = rw n refl
 
-pub votes-known : (sizes : Sizes) (w : ℕ) (c : Chronicle) (d : Bytes) (a : Admitted) → IsSound sizes c → a.new ≡ false → find_in d (tree c) ≡ Some a.branch
+pub votes-known : (sizes : Sizes) (w : ℕ) (c : Chronicle) (d : Bytes) (a : Admitted) → IsSound sizes c
+    → a.new ≡ false → find_in d (tree c) ≡ Some a.branch
     → votes_for sizes (Some w) a c ≡ ((w == view sizes c) && may_vote_in (ruled_by c) d (stored c))
 unfolding votes_for
 votes-known sizes w c d a s n f =
     ap (λ (all : List Stored). (w == view sizes c) && (may_vote a.branch c && clear_above (justify_height a.branch) a.branch all)) (stored-known a c n)
     ∙ ap (λ (x : Bool). (w == view sizes c) && x) (sym (may-vote-known sizes c d a.branch s f))
 
-pub votes-new : (sizes : Sizes) (w : ℕ) (c : Chronicle) (core : Core) (q : Certificate) (a : Admitted) → IsSound sizes c → core.justify_height < core.height → a.new ≡ true
+pub votes-new : (sizes : Sizes) (w : ℕ) (c : Chronicle) (core : Core) (q : Certificate) (a : Admitted)
+    → IsSound sizes c → core.justify_height < core.height → a.new ≡ true
     → placing most_blocks core q (tree c) ≡ grows a.branch
-    → votes_for sizes (Some w) a c ≡ ((w == view sizes c) && may_vote_over (ruled_by c) (candidate_of core a.clear) (stored c))
+    → votes_for sizes (Some w) a c
+    ≡ ((w == view sizes c) && may_vote_over (ruled_by c) (candidate_of core a.clear) (stored c))
 unfolding votes_for
 votes-new sizes w c core q a s below n e =
     ap (λ (all : List Stored). (w == view sizes c) && (may_vote a.branch c && clear_above (justify_height a.branch) a.branch all)) (stored-new a c n)

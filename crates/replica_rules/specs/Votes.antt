@@ -8,14 +8,15 @@ use Rattle.block_tree.specs.Finding.{extends_in, clear_above_in}
 use Rattle.replica_rules.specs.declared.candidate.Candidate.{Candidate}
 use Rattle.replica_rules.specs.Ruled.{Ruled}
 
--- by height and lock: a block of this height, which justifies one of this height, on the branch of this digest
+-- by height and lock: a block of this height that justifies one of this height, on the branch of this digest
 abbrev pub is_safe_in : Ruled → Bytes → ℕ → ℕ → List Stored → Bool
 is_safe_in r d height justified stored =
     nat_lt r.vheight height && (extends_in d r.lock.digest (blocks stored) || nat_lt r.lock.height justified)
 
 -- the same with the clear marks of that branch above the justified block
 abbrev pub may_vote_at : Ruled → Bytes → ℕ → ℕ → List Stored → Bool
-may_vote_at r d height justified stored = is_safe_in r d height justified stored && clear_above_in d justified stored
+may_vote_at r d height justified stored =
+    is_safe_in r d height justified stored && clear_above_in d justified stored
 
 -- the block of this digest, if it stands in the tree
 abbrev pub may_vote_in : Ruled → Bytes → List Stored → Bool

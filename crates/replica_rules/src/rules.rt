@@ -14,8 +14,8 @@ use block_tree::Tree;
 use ids::{Digest, Fault, Height};
 use std::marker::Model;
 
-/// What a replica keeps to vote, lock and decide: the greatest height that it voted for, its lock and its last
-/// executed block.
+/// What a replica keeps to vote, lock and decide: the greatest height that it voted for, its lock and its
+/// last executed block.
 #[derive(Clone, Copy)]
 pub struct Rules {
     vheight: Height,
@@ -84,9 +84,9 @@ impl Rules {
 
     /// The same of a block that does not stand in the tree, over its parent.
     ///
-    /// It is safe where it is higher than all that was voted for, and its parent extends the lock or the block that it
-    /// justifies is above the lock. It is clear where it is itself, and each block of its parent's branch above the
-    /// one that it justifies. It is false where the parent does not stand in the tree.
+    /// It is safe where it is higher than all that was voted for, and its parent extends the lock or the block
+    /// that it justifies is above the lock. It is clear where it is itself, and each block of its parent's branch
+    /// above the one that it justifies. It is false where the parent does not stand in the tree.
     pub fn may_vote_on(&self, tree: &Tree, block: &Candidate) -> bool
         ensures { result ≡ may_vote_over self.now block.now tree.now.stored }
     {
@@ -132,11 +132,12 @@ impl Rules {
         }
     }
 
-    /// The rules after a new block that justifies this one, but for the vote: the lock rises, and the block that is
-    /// decided becomes the last executed one where it is higher.
+    /// The rules after a new block that justifies this one, but for the vote: the lock rises, and the block that
+    /// is decided becomes the last executed one where it is higher.
     ///
-    /// `Conflict` comes where the decided block conflicts with the last executed one. The new block need not stand
-    /// in the tree. Where the one that it justifies does not, the rules stay as they are.
+    /// `Conflict` comes where a block is decided that conflicts with the last executed one, or this one does not
+    /// stand in the tree. The new block need not stand there. Where the one that it justifies does not, the rules
+    /// stay as they are.
     pub fn taking(&self, tree: &Tree, justified: BlockRef) -> Result<Rules, Fault>
         ensures { result ≡ ruled_after self.now justified tree.now.stored }
     {
@@ -153,8 +154,8 @@ impl Rules {
         })
     }
 
-    /// Takes the block of this digest, which stands in the tree and is new: the lock rises, and the block that is
-    /// decided becomes the last executed one where it is higher.
+    /// Takes the block of this digest, which stands in the tree and is new: the lock rises, and the block that
+    /// is decided becomes the last executed one where it is higher.
     ///
     /// `Conflict` comes where the decided block conflicts with the last executed one; nothing changed then.
     pub fn took(&mut self, tree: &Tree, block: &Digest) -> Result<(), Fault>
@@ -170,8 +171,8 @@ impl Rules {
         Ok(())
     }
 
-    /// The block that the one of this digest decides, if it stands in the tree: three blocks in direct succession,
-    /// each justified by the next one, decide the first of them.
+    /// The block that the one of this digest decides, if it stands in the tree: three blocks in direct
+    /// succession, each justified by the next one, decide the first of them.
     pub fn decided(tree: &Tree, block: &Digest) -> Option<Digest>
         ensures { result ≡ decided_in block.now tree.now.stored }
     {
@@ -185,7 +186,7 @@ impl Rules {
     }
 }
 
-/// Whether what a chain decides, if anything, neither extends the last executed block nor is extended by it.
+/// Whether what a chain decides, if anything, conflicts with the last executed block.
 fn decides_against(tree: &Tree, executed: &BlockRef, chain: &Chain) -> bool
     ensures { result ≡ decides_against_in executed.now chain.now tree.now.stored }
 {
