@@ -1,4 +1,2 @@
 pub mod Clearing
 pub mod Counting
-pub mod Kept
-pub mod Votes

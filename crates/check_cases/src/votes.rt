@@ -1,60 +1,78 @@
 //! What becomes of votes that are collected.
 //!
 //! Of each frame is told, behind the one before and with a comma between them: the number of its refusal, 10 where the
-//! bytes are no vote and 11 for a bad tag; or what the vote was, and the certificate of the block that it is for: its
-//! length and the first 8 bytes of its SHA-256 digest, or `-`, where there is no quorum yet.
+//! bytes are no vote and 11 for a bad tag; or what the vote was: `First`, `Doubled`, `Past` where its block has a
+//! certificate, or `Complete` with the certificate's length and the first 8 bytes of its SHA-256 digest.
 
 ghost use Rattle.std.specs.Prelude.{◌≡◌, ◌<◌};
 ghost use Rattle.ids.specs.Sizes.{replicas};
 
 use anyhow::Result;
 use authenticators::Keyring;
-use certificates::{Added, Collector, check_vote};
+use certificates::check_vote;
 use frames_view::{CertificateBuf, Frame, read};
-use ids::{Config, Digest, Fault, PartyId, ReplicaId};
+use ids::{Config, Digest, Fault, Height, PartyId, ReplicaId};
 use sha2::Sha256;
 use simulated_keys::keyring_of;
 use std::alloc::Global;
+use vote_collector::{Added, Collector};
 
-/// The votes that a replica collects.
+/// The votes that a replica collects, and the blocks that have a certificate.
 #[derive(Drop)]
 struct Poll {
     alloc: Global,
     ring: Keyring,
     collector: Collector,
+    certified: Vec<Digest>,
     ghost same_sizes: { collector.sizes ≡ ring.sizes },
     ghost is_a_replica: { ring.party < replicas ring.sizes },
 }
 
+/// What becomes of a vote.
+#[derive(Drop)]
+enum Fate {
+    First,
+    Doubled,
+    Past,
+    Complete(CertificateBuf),
+}
+
 impl Poll {
-    /// What becomes of one frame, and the certificate of its block then.
-    fn add(&mut self, bytes: &[u8]) -> Result<(Added, Option<CertificateBuf>), Fault> {
+    /// What becomes of one frame.
+    fn add(&mut self, bytes: &[u8]) -> Result<Fate, Fault> {
         let config = self.ring.config();
         let Frame::Vote(view) = read(&config, bytes)? else {
             return Err(Fault::NotAFrame);
         };
-        let vote = check_vote(&self.ring, &config, &view)?;
-        let added = self.collector.add(&vote)?;
-        let digest = Digest(*view.digest());
-        Ok((added, self.collector.certificate(&digest)?))
+        let checked = check_vote(&self.ring, &config, &view)?;
+        let (digest, vote) = (Digest(*view.digest()), checked.view().vote());
+        if self.certified.iter().any(|certified| *certified == digest) {
+            return Ok(Fate::Past);
+        }
+        match self.collector.judge(&digest, vote.voter()) {
+            Added::Doubled => Ok(Fate::Doubled),
+            Added::First => {
+                let kept = self.collector.keep(&vote)?;
+                self.collector.add(digest, Height(1), kept)?;
+                Ok(Fate::First)
+            }
+            Added::Complete => {
+                let certificate = self.collector.completed(&digest, &vote)?;
+                self.certified.push(digest)?;
+                Ok(Fate::Complete(certificate))
+            }
+        }
     }
 
     fn tell(&mut self, bytes: &[u8], text: &mut String) -> Result<()> {
-        let (added, certificate) = match self.add(bytes) {
-            Ok(outcome) => outcome,
-            Err(fault) => {
-                write!(text, "{}", fault.number())?;
-                return Ok(());
-            }
-        };
-        write!(text, "{added:?} ")?;
-        match certificate {
-            Some(certificate) => tell_certificate(self.alloc, &certificate, text),
-            None => {
-                text.push_str("-")?;
-                Ok(())
-            }
+        match self.add(bytes) {
+            Ok(Fate::First) => text.push_str("First")?,
+            Ok(Fate::Doubled) => text.push_str("Doubled")?,
+            Ok(Fate::Past) => text.push_str("Past")?,
+            Ok(Fate::Complete(certificate)) => tell_certificate(self.alloc, &certificate, text)?,
+            Err(fault) => write!(text, "{}", fault.number())?,
         }
+        Ok(())
     }
 }
 
@@ -64,7 +82,7 @@ fn tell_certificate(alloc: Global, certificate: &CertificateBuf, text: &mut Stri
     let digest = <Sha256 as sha2::Digest>::digest(&bytes);
     write!(
         text,
-        "{}:{}",
+        "Complete {}:{}",
         bytes.len(),
         hex::encode(alloc, &digest[..8])?
     )?;
@@ -86,6 +104,7 @@ pub(crate) fn votes(
         alloc,
         ring,
         collector,
+        certified: Vec::new(alloc),
     };
     let mut text = String::new(alloc);
     for digits in rest.split(' ') {

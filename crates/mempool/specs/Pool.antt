@@ -1,9 +1,10 @@
 -- What stands in a pool of pending requests.
-use Rattle.std.specs.Prelude.{ℕ, ◌+◌, ◌==◌, ◌&&◌, not, Bool, List, [], ◌∷◌, take, drop, map, filter, nat_le}
+use Rattle.std.specs.Prelude.{ℕ, ◌+◌, ◌==◌, ◌&&◌, not, Bool, List, [], ◌∷◌, take, drop, map, filter, nat_le, Option, Some, None, if◌then◌else◌}
 use Rattle.std.specs.List.{list_any}
 use Rattle.definitions.specs.Bytes.{Bytes}
 use Rattle.definitions.specs.Frames.{Command}
 use Rattle.definitions.specs.FrameLimits.{most_commands}
+use Rattle.definitions.specs.States.{is_same_request}
 use Rattle.definitions.specs.Histories.{History}
 
 -- the command of these bytes, whose client, number and length of payload are known: its payload begins at byte 12
@@ -26,6 +27,10 @@ is_up_to client seq r = (client == r.client) && nat_le r.seq seq
 -- whether its client and number are among these
 abbrev pub stands_among : List (ℕ × ℕ) → Command → Bool
 stands_among on r = list_any (λ e. (e.0 == r.client) && (e.1 == r.seq)) on
+
+-- what is to be added for a request: nothing where it is pending
+abbrev pub planned_for : Command → List Command → Option Command
+planned_for r rs = if list_any (is_same_request r) rs then None else Some r
 
 -- the first ones whose clients and numbers are not among these, as many as a block may have
 abbrev pub first_beside : List (ℕ × ℕ) → List Command → List Command

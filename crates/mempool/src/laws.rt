@@ -6,7 +6,7 @@ ghost use Rattle.definitions.specs.Histories.{History};
 ghost use Rattle.definitions.specs.Chronicles.{Chronicle, Step};
 ghost use Rattle.mempool.specs.Laws.{FollowsRequest, IsLeftBy, IsPicked};
 
-/// After a step that stores a request, the pending requests are those that `add` leaves where the request is due, and
+/// After a step that stores a request, the pending requests are those that `insert` leaves where the request is due, and
 /// stay where it isn't.
 pub fn request_joins_pending()
     ensures { (c : Chronicle) (r : Command) → FollowsRequest c r }

@@ -6,7 +6,7 @@ ghost use Rattle.definitions.specs.Rulings.{most_pending};
 ghost use Rattle.definitions.specs.Chronicles.{Step.noted, Note.got_request};
 ghost use Rattle.definitions.specs.States.{is_same_request, with_request};
 ghost use Rattle.frames_view.specs.Views.{command_of};
-ghost use Rattle.mempool.specs.Pool.{is_of, is_up_to, stands_among, first_beside};
+ghost use Rattle.mempool.specs.Pool.{is_of, is_up_to, stands_among, planned_for, first_beside};
 
 use crate::pending::Pending;
 use frames_view::CommandView;
@@ -73,24 +73,35 @@ impl Mempool {
         self.requests.contains_key(&(client, seq))
     }
 
-    /// Adds a request last; one whose client and number are pending changes nothing.
+    /// What `insert` needs to add a request, with its bytes; nothing where its client and number are pending.
     ///
     /// `PoolFull` comes where 4,096 others are pending, and `Memory` where its bytes find no room.
-    pub fn add(&mut self, request: &CommandView<'_>) -> Result<(), Fault>
-        ensures added { OnOk result (self.new ≡ with_request (noted (got_request (command_of request.now))) self.old) }
-        ensures unchanged { OnErr result (self.new ≡ self.old) }
-        ensures full { (result ≡ Err Fault.PoolFull) ↔ ((list_any (is_same_request (command_of request.now)) self.old ≡ false) × (most_pending ≤ length self.old)) }
+    pub fn plan(&self, request: &CommandView<'_>) -> Result<Option<Pending>, Fault>
+        ensures planned { IfOk result (λ planned. planned ≡ planned_for (command_of request.now) self.now) }
+        ensures full { (result ≡ Err Fault.PoolFull) ↔ ((list_any (is_same_request (command_of request.now)) self.now ≡ false) × (most_pending ≤ length self.now)) }
         ensures refused { OnErr result ((result ≡ Err Fault.PoolFull) ⊎ (result ≡ Err Fault.Memory)) }
+    {
+        if self.contains(request.client(), request.seq()) {
+            return Ok(None);
+        }
+        if self.requests.len() >= MOST_PENDING {
+            return Err(Fault::PoolFull);
+        }
+        Ok(Some(Pending::new(self.alloc, request)?))
+    }
+
+    /// Adds a request last; one whose client and number are pending changes nothing. At `Memory`, its one refusal, the
+    /// pool is as before.
+    pub fn insert(&mut self, request: Pending) -> Result<(), Fault>
+        ensures added { OnOk result (self.new ≡ with_request (noted (got_request request)) self.old) }
+        ensures unchanged { OnErr result (self.new ≡ self.old) }
+        ensures memory { OnErr result (result ≡ Err Fault.Memory) }
     {
         let (client, seq) = (request.client(), request.seq());
         if self.contains(client, seq) {
             return Ok(());
         }
-        if self.requests.len() >= MOST_PENDING {
-            return Err(Fault::PoolFull);
-        }
-        let pending = Pending::new(self.alloc, request)?;
-        self.requests.insert((client, seq), pending)?;
+        self.requests.insert((client, seq), request)?;
         Ok(())
     }
 

@@ -9,11 +9,11 @@ use Rattle.ids.specs.Sizes.{Sizes, replicas}
 use Rattle.definitions.specs.Lists.{Among, greatest, count_below}
 use Rattle.definitions.specs.Frames.{Certificate}
 use Rattle.definitions.specs.Branches.{Branch}
-use Rattle.definitions.specs.Chronicles.{Chronicle, Step.noted, Note.got_new_view, Note.timed_out}
+use Rattle.definitions.specs.Chronicles.{Chronicle, Step, Step.took_block, Step.noted, Note.got_vote, Note.got_new_view, Note.got_request, Note.got_fetch, Note.timed_out, Note.beat}
 use Rattle.definitions.specs.States.{announcements, announced, reached, view}
 use Rattle.definitions.proofs.Lists.{greatest-above, Among-map, Among-mapped, Among-kept}
 use Rattle.definitions.proofs.Counts.{count-same}
-use Rattle.pacemaker.specs.Pacing.{Pace, IsPaceOf, IsReached, passed_by}
+use Rattle.pacemaker.specs.Pacing.{Pace, IsPaceOf, LeavesPace, IsReached, passed_by}
 use Rattle.pacemaker.proofs.Counting.{at_least, passed_least}
 
 -- the greatest of some numbers is 0 or one of them
@@ -163,4 +163,34 @@ paced-none s most = record {
   row = refl;
   view = sym (view-none s);
   announced = λ i l. get_or-replicate MOST_REPLICAS i 0 0 (omega (arith, l, most)) ∙ sym (announced-none i);
+}
+
+-- ---- any other step
+
+view-stays : (s : Sizes) (st : Step) (c : Chronicle) → LeavesPace st → view s (st ∷ c) ≡ view s c
+unfolding view
+view-stays s (took_block a) c h = refl
+view-stays s (noted (got_vote voter v b)) c h = refl
+view-stays s (noted (got_new_view w sender q b)) c h = absurd h
+view-stays s (noted (got_request r)) c h = refl
+view-stays s (noted (got_fetch sender b)) c h = refl
+view-stays s (noted timed_out) c h = absurd h
+view-stays s (noted beat) c h = refl
+
+announced-stays : (i : ℕ) (st : Step) (c : Chronicle) → LeavesPace st → announced i (st ∷ c) ≡ announced i c
+unfolding announced announcements
+announced-stays i (took_block a) c h = refl
+announced-stays i (noted (got_vote voter v b)) c h = refl
+announced-stays i (noted (got_new_view w sender q b)) c h = absurd h
+announced-stays i (noted (got_request r)) c h = refl
+announced-stays i (noted (got_fetch sender b)) c h = refl
+announced-stays i (noted timed_out) c h = absurd h
+announced-stays i (noted beat) c h = refl
+
+-- keeps the pace
+pub paced-still : (st : Step) (c : Chronicle) (p : Pace) → LeavesPace st → IsPaceOf c p → IsPaceOf (st ∷ c) p
+paced-still st c p h o = record {
+  row = o.row;
+  view = o.view ∙ sym (view-stays p.sizes st c h);
+  announced = λ i l. o.announced i l ∙ sym (announced-stays i st c h);
 }

@@ -1,9 +1,9 @@
 -- What a pacemaker keeps, and whose it is.
-use Rattle.std.specs.Prelude.{◌≡◌, ℕ, ◌<◌, ◌≤◌, ◌⊎◌, List, length, slice_index, nat_le}
+use Rattle.std.specs.Prelude.{◌≡◌, ℕ, ◌<◌, ◌≤◌, ◌⊎◌, List, length, slice_index, nat_le, ⊤}
 use Rattle.ids.specs.declared.config.TheConstants.{MOST_REPLICAS}
 use Rattle.ids.specs.Sizes.{Sizes, replicas}
 use Rattle.definitions.specs.Lists.{count_below}
-use Rattle.definitions.specs.Chronicles.{Chronicle}
+use Rattle.definitions.specs.Chronicles.{Chronicle, Step, Step.noted, Note.got_new_view, Note.timed_out}
 use Rattle.definitions.specs.States.{announced, view}
 
 -- the sizes, the view, and the greatest view that each replica announced, by number
@@ -17,6 +17,12 @@ pub record IsPaceOf (chronicle : Chronicle) (pace : Pace) : Type 0 where
   pub row : length pace.announced ≡ MOST_REPLICAS
   pub view : pace.view ≡ view pace.sizes chronicle
   pub announced : (i : ℕ) → i < replicas pace.sizes → slice_index pace.announced i ≡ announced i chronicle
+
+-- the step is no timeout and brings no announcement
+abbrev pub LeavesPace : Step → Type 0
+LeavesPace (noted timed_out) = ⊥
+LeavesPace (noted (got_new_view view sender q b)) = ⊥
+LeavesPace st = ⊤
 
 -- how many replicas have announced or passed a view
 abbrev pub passed_by : Pace → ℕ → ℕ

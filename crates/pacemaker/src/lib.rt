@@ -5,6 +5,8 @@
 //! It takes no memory.
 #![tactic(auto)]
 
+mod laws;
 mod pacemaker;
 
+pub use laws::other_steps_keep_the_pace;
 pub use pacemaker::Pacemaker;

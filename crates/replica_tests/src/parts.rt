@@ -4,7 +4,7 @@ use frames_view::{
     Frame, Payload, genesis_digest, read, write_certificate, write_command, write_core,
     write_request_frame,
 };
-use ids::{ClientId, Config, Fault, Height, PartyId, ReplicaId, Seq, View};
+use ids::{ClientId, Config, Height, PartyId, ReplicaId, Seq, View};
 use mempool::Mempool;
 use pacemaker::Pacemaker;
 use signed_frames::{block_frame, fetch_frame, new_view_frame};
@@ -29,7 +29,7 @@ fn two_announcements_move_the_view(rt: HostRuntime) -> Result<(), Fail> {
 }
 
 /// Adds client 1's request of a number.
-fn ask(alloc: Global, pool: &mut Mempool, seq: u64) -> Result<Result<(), Fault>, Fail> {
+fn ask(alloc: Global, pool: &mut Mempool, seq: u64) -> Result<(), Fail> {
     let payload = Payload::new(b"get a\r\n").ok_or("a short payload")?;
     let mut command = Vec::new(alloc);
     write_command(ClientId(1), Seq(seq), &payload, &[9; 128], &mut command)?;
@@ -39,17 +39,20 @@ fn ask(alloc: Global, pool: &mut Mempool, seq: u64) -> Result<Result<(), Fault>,
     let Ok(Frame::Request(request)) = read(&config, &frame) else {
         return Err("the bytes are a Request frame".into());
     };
-    Ok(pool.add(&request))
+    if let Some(request) = pool.plan(&request)? {
+        pool.insert(request)?;
+    }
+    Ok(())
 }
 
 #[test]
 fn requests_wait_in_order(rt: HostRuntime) -> Result<(), Fail> {
     let mut pool = Mempool::new(rt.alloc());
     assert!(rt; pool.is_empty());
-    ask(rt.alloc(), &mut pool, 7)??;
-    ask(rt.alloc(), &mut pool, 5)??;
-    ask(rt.alloc(), &mut pool, 9)??;
-    ask(rt.alloc(), &mut pool, 7)??;
+    ask(rt.alloc(), &mut pool, 7)?;
+    ask(rt.alloc(), &mut pool, 5)?;
+    ask(rt.alloc(), &mut pool, 9)?;
+    ask(rt.alloc(), &mut pool, 7)?;
     assert_eq!(rt; pool.len(), 3);
     let picked = pool.pick(&[(ClientId(1), Seq(5))])?;
     assert_eq!(rt; picked.len(), 2);

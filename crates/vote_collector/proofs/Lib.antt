@@ -1,0 +1,5 @@
+pub mod Ballots
+pub mod Entries
+pub mod Kept
+pub mod Seen
+pub mod Steps

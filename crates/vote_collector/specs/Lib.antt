@@ -1,0 +1,3 @@
+pub mod Collecting
+pub mod Following
+pub mod Lawful

@@ -1,0 +1,28 @@
+//! How a collector follows the chronicle of its replica.
+
+ghost use Rattle.ids.specs.Sizes.{Sizes};
+ghost use Rattle.definitions.specs.Chronicles.{Chronicle};
+ghost use Rattle.vote_collector.specs.Collecting.{Kept};
+ghost use Rattle.vote_collector.specs.Lawful.{BeginsEmpty, IsFollowedAtVote, IsFollowedElse, NoneAreLow};
+
+/// An empty collector is that of a replica before its first step.
+pub fn begins_empty()
+    ensures { (s : Sizes) → BeginsEmpty s }
+{}
+
+/// After a vote that a replica stores, its collector is as it was where the block is no higher than that of the highest
+/// certificate or the vote is `Doubled`, what `add` leaves where it is `First`, and what `drop_up_to` leaves where it is
+/// `Complete`; the highest certificate is then the one that `completed` gives, and else the one before.
+pub fn votes_are_followed()
+    ensures { (s : Sizes) (c : Chronicle) (kept : Kept) → IsFollowedAtVote s c kept }
+{}
+
+/// After any other step its collector is what `drop_up_to` leaves at the height of the highest certificate then.
+pub fn other_steps_are_followed()
+    ensures { (s : Sizes) (c : Chronicle) (kept : Kept) → IsFollowedElse s c kept }
+{}
+
+/// Dropping up to a height that the highest certificate had before changes nothing.
+pub fn none_are_low()
+    ensures { (s : Sizes) (c : Chronicle) (kept : Kept) → NoneAreLow s c kept }
+{}
