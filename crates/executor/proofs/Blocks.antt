@@ -1,5 +1,5 @@
 -- Executing a block, command by command.
-use Rattle.std.proofs.Common.{ℕ, ◌≡◌, ◌+◌, ◌-◌, Bool, true, false, List, [], ◌∷◌, ◌++◌, cond, length, length-append, take, reverse, map, refl, sym, ap, ◌∙◌, arith, append_assoc, Option, Some, None, option_to_list}
+use Rattle.std.proofs.Common.{ℕ, ◌≡◌, ◌+◌, ◌-◌, ◌<◌, Bool, true, false, List, [], ◌∷◌, ◌++◌, cond, length, length-append, take, reverse, map, refl, sym, ap, ◌∙◌, arith, append_assoc, Option, Some, None, option_to_list}
 use Rattle.std.proofs.lemmas.List.{reverse-append, map-append, append-nil}
 use Rattle.std.proofs.Math.Seq.{take-append_seam}
 use Rattle.definitions.specs.Frames.{Command}
@@ -63,7 +63,12 @@ run-tells all left old now told r =
     r.told_are ∙ ap reverse (sym (take-append_seam r.added (answers old)) ∙ ap (λ n. take n (r.added ++ answers old)) (sym count))
     ∙ ap (λ (l : List Answer). reverse (take (length l - length (answers old)) l)) (sym r.answers_are)
 
--- some were executed, and no more changed
-pub run-stops : (all left : List Command) (old now held : History) (told : List Answer) → IsRun all left old now told → held ≡ now → (k : ℕ) × (held ≡ with_commands (take k all) old)
-run-stops all left old now held told r e =
-    (length r.done, e ∙ r.now_is ∙ ap (λ (l : List Command). with_commands l old) (sym (take-append_seam r.done left) ∙ ap (take (length r.done)) r.all_are))
+-- those before a command were executed, and no more changed
+pub run-stops : (all left rest : List Command) (c : Command) (old now held : History) (told : List Answer) → IsRun all left old now told → left ≡ c ∷ rest → held ≡ now
+    → (k : ℕ) × (k < length all) × (held ≡ with_commands (take k all) old)
+run-stops all left rest c old now held told r l e =
+    let size = length-append r.done left in
+    let some = ap length l in
+    let whole = ap length r.all_are in
+    let few : length r.done < length all = omega (arith, size, some, whole) in
+    (length r.done, few, e ∙ r.now_is ∙ ap (λ (x : List Command). with_commands x old) (sym (take-append_seam r.done left) ∙ ap (take (length r.done)) r.all_are))

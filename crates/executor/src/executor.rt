@@ -1,6 +1,6 @@
 //! The execution of decided commands.
 
-ghost use Rattle.std.specs.Prelude.{◌≡◌, ◌<◌, ℕ, vec_len, vec_capacity, option_to_list, true, false, [], ◌∷◌, ◌++◌, take, length, reverse, option_map, IfOk, OnOk, OnErr};
+ghost use Rattle.std.specs.Prelude.{◌≡◌, ◌==◌, ◌<◌, ℕ, vec_len, vec_capacity, option_to_list, true, false, [], ◌∷◌, ◌++◌, take, length, reverse, option_map, IfOk, OnOk, OnErr};
 ghost use Rattle.definitions.specs.Histories.{entry_of, is_fresh, last_seq, answer_in, answer_to};
 ghost use Rattle.frames_view.specs.Views.{command_of, commands_left};
 ghost use Rattle.executor.specs.State.{answer_at, with_commands, new_answers};
@@ -69,6 +69,13 @@ impl Executor {
         ensures { result ≡ length self.now }
     {
         self.entries.len()
+    }
+
+    /// Whether none was executed.
+    pub fn is_empty(&self) -> bool
+        ensures { result ≡ (length self.now == 0) }
+    {
+        self.entries.is_empty()
     }
 
     /// What was executed, oldest first.
@@ -147,7 +154,9 @@ impl Executor {
     pub fn run_block(&mut self, commands: Commands<'_>) -> Result<Vec<Answer>, Fault>
         ensures executed { OnOk result (self.new ≡ with_commands (commands_left commands.entry) self.old) }
         ensures answered { IfOk result (λ v. v.items ≡ new_answers self.old self.new) }
-        ensures cut { OnErr result ((k : ℕ) × (self.new ≡ with_commands (take k (commands_left commands.entry)) self.old)) }
+        ensures cut { OnErr result (
+            let all = commands_left commands.entry in
+            (k : ℕ) × (k < length all) × (self.new ≡ with_commands (take k all) self.old)) }
         ensures memory { OnErr result (result ≡ Err Fault.Memory) }
     {
         let mut answers = Vec::new(self.alloc);
