@@ -1,5 +1,5 @@
 -- Executing a block, command by command.
-use Rattle.std.proofs.Common.{ℕ, ◌≡◌, ◌+◌, ◌-◌, ◌<◌, Bool, true, false, List, [], ◌∷◌, ◌++◌, cond, length, length-append, take, reverse, map, refl, sym, ap, ◌∙◌, arith, append_assoc, Option, Some, None, option_to_list}
+use Rattle.std.proofs.Common.{ℕ, ◌≡◌, ◌-◌, ◌<◌, Bool, true, false, List, [], ◌∷◌, ◌++◌, cond, length, length-append, take, reverse, map, refl, sym, ap, ◌∙◌, arith, append_assoc, Option, Some, None, option_to_list}
 use Rattle.std.proofs.lemmas.List.{reverse-append, map-append, append-nil}
 use Rattle.std.proofs.Math.Seq.{take-append_seam}
 use Rattle.definitions.specs.Frames.{Command}

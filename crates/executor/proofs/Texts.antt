@@ -1,5 +1,5 @@
 -- How long the texts of replies are that come with a change of the cache.
-use Rattle.std.proofs.Common.{ℕ, ◌≡◌, ◌⊎◌, ◌≤◌, ◌<◌, ◌+◌, ◌-◌, ◌%◌, ◌^◌, ◌==◌, ◌&&◌, ◌||◌, ◌++◌, Bool, true, false, List, [], ◌∷◌, length, length-append, refl, sym, ap, ◌∙◌, arith, Result, Ok, Err, OnErr, inl, inr, Option, Some, None, nat_lt, nat_le, bytes_eq, decimal}
+use Rattle.std.proofs.Common.{ℕ, ◌≡◌, ◌⊎◌, ◌≤◌, ◌<◌, ◌+◌, ◌-◌, ◌%◌, ◌^◌, ◌==◌, ◌&&◌, ◌||◌, ◌++◌, [], ◌∷◌, length, length-append, refl, ap, ◌∙◌, arith, Result, Ok, Err, OnErr, inl, inr, Option, Some, None, nat_lt, nat_le, bytes_eq, decimal}
 use Rattle.std.specs.Option.{option_map_or}
 use Rattle.std.specs.Str.Parse.{digits_value}
 use Rattle.std.proofs.lemmas.Fmt.{length-decimal-le}
@@ -11,7 +11,7 @@ use Rattle.definitions.specs.Requests.{Asked, Verb, set, add, replace, append, p
 use Rattle.definitions.specs.Canonical.{request_of}
 use Rattle.definitions.specs.Replies.{Reply, reply_text}
 use Rattle.definitions.specs.Replies as reply
-use Rattle.definitions.specs.Cache.{Cache, Entry, Outcome, find, has, change, most_changes, number_in, if_present, store_it, count_it, values_of, apply, apply_payload}
+use Rattle.definitions.specs.Cache.{Cache, Entry, Outcome, find, has, change, most_changes, number_in, if_present, store_it, count_it, apply, apply_payload}
 
 -- the text is short, or the cache is left as it was
 abbrev pub IsShortOrSame : Cache → Outcome → Type 0

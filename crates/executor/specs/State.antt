@@ -1,5 +1,5 @@
 -- What an executor keeps beside its history.
-use Rattle.std.specs.Prelude.{ℕ, ◌≡◌, ◌++◌, ◌-◌, Bool, List, Option, Some, None, map, reverse, take, length, if◌then◌else◌}
+use Rattle.std.specs.Prelude.{ℕ, ◌≡◌, ◌++◌, ◌-◌, List, Option, Some, None, map, reverse, take, length, if◌then◌else◌}
 use Rattle.definitions.specs.Frames.{Command}
 use Rattle.definitions.specs.Histories.{Entry, entry_of, History, Answer, is_fresh, answer_in, answers, last_answer, cache_after, most_keys}
 use Rattle.cache.specs.Bounded.{Bounded}

@@ -1,4 +1,4 @@
-use Rattle.std.proofs.Common.{◌≡◌, ◌<◌, [], length, length-append, vec_len, vec_capacity, ap, arith}
+use Rattle.std.proofs.Common.{◌<◌, [], length, length-append, ap, arith}
 use Rattle.std.proofs.lemmas.Result.{IfErr-at_err, MatchResult-at_ok}
 use Rattle.mc_lines.specs.Meaning.{reply_of}
 use Rattle.definitions.specs.Replies.{Reply, reply_text}

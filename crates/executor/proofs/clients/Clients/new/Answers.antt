@@ -1,4 +1,4 @@
-use Rattle.std.proofs.Common.{ℕ, ◌≡◌, ◌+◌, None, [], ◌∷◌, ◌++◌, length, length-append, ap, sym, subst, ◌∙◌, arith, List, Option, refl}
+use Rattle.std.proofs.Common.{ℕ, ◌≡◌, ◌+◌, None, [], ◌∷◌, ◌++◌, length, length-append, ap, ◌∙◌, arith, List, Option}
 use Rattle.definitions.specs.Histories.{Answer}
 use Rattle.executor.specs.Rows.{row}
 use Rattle.executor.proofs.State.{rows-more}
@@ -9,9 +9,10 @@ nothing rows e = (ap length e, λ client. ap (λ (l : List (Option Answer)). row
 
 more : (n : ℕ) (old new : List (Option Answer)) → new ≡ old ++ None ∷ [] → (length old ≡ n) × ((client : ℕ) → row old client ≡ None)
     → (length new ≡ n + 1) × ((client : ℕ) → row new client ≡ None)
-more n old new e h =
-    ((let k = length-append old (None ∷ []) in let l = h.0 in ap length e ∙ omega (arith, k, l)),
-      λ client. ap (λ (l : List (Option Answer)). row l client) e ∙ rows-more old h.1 client)
+more n old new e h = (
+  (let k = length-append old (None ∷ []) in let l = h.0 in ap length e ∙ omega (arith, k, l)),
+  λ client. ap (λ (l : List (Option Answer)). row l client) e ∙ rows-more old h.1 client,
+)
 
 pub loop-client-init : goal.loop-client-init
 loop-client-init c = nothing c.in_ok-rows.rows.items c.in_ok-rows.ensures.items

@@ -1,4 +1,4 @@
-use Rattle.std.proofs.Common.{ℕ, ◌≡◌, ◌+◌, suc, Ok, List, [], ◌∷◌, ◌++◌, sym, ap, subst, ◌∙◌, reverse, length, vec_len, is_ok, if◌then◌else◌, Option, Result, Some, arith, add-one}
+use Rattle.std.proofs.Common.{ℕ, ◌≡◌, ◌+◌, suc, Ok, List, [], ◌∷◌, ◌++◌, sym, ap, subst, ◌∙◌, reverse, length, is_ok, if◌then◌else◌, Result, Some, arith}
 use Rattle.std.proofs.lemmas.List.{length-reverse}
 use Rattle.definitions.specs.Replies.{reply_text}
 use Rattle.definitions.specs.Cache.{apply_payload}
@@ -25,10 +25,10 @@ invariant_of-self-2 c =
     let text = c.in_ok-texts.ensures.kept ∙ ap (λ (p : List ℕ). reply_text (apply_payload x.cache.most x.cache.cache p).1) payload ∙ fresh-reply h x.cache x.clients c.self.invariant e in
     let kept = answer-is e h c.to.result _ _ c.to.ensures place text in
     let cache : c.apply.new.cache ≡ record x.cache { cache = (apply_payload x.cache.most x.cache.cache e.payload).0 } =
-        c.in_ok-texts.ensures.left ∙ ap (λ (p : List ℕ). record x.cache { cache = (apply_payload x.cache.most x.cache.cache p).0 }) payload in
+    c.in_ok-texts.ensures.left ∙ ap (λ (p : List ℕ). record x.cache { cache = (apply_payload x.cache.most x.cache.cache p).0 }) payload in
     let items = pushed c.push.result c.unwrap.result c.reserve.new.self.items x.entries.items c.push.new.self.items e c.unwrap.ensures c.in_ok-reserve.ensures.items c.push.ensures.items in
     let own : row c.set.new.self e.client ≡ Some (answer_in e h) =
-        ap (λ (a : Answer). row c.set.new.self a.client) (sym c.to.ensures) ∙ c.set.ensures.kept ∙ ap (λ (a : Answer). Some a) kept in
+    ap (λ (a : Answer). row c.set.new.self a.client) (sym c.to.ensures) ∙ c.set.ensures.kept ∙ ap (λ (a : Answer). Some a) kept in
     let client : c.to.result.client ≡ e.client = ap (λ (a : Answer). a.client) c.to.ensures in
     subst (λ (l : History). IsStateOf l c.apply.new.cache c.set.new.self) (sym (ap reverse items ∙ entered x.entries.items e))
     (subst (λ (b : Bounded). IsStateOf (e ∷ h) b c.set.new.self) (sym cache)

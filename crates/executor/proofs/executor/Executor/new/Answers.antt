@@ -1,4 +1,4 @@
-use Rattle.std.proofs.Common.{sym, ap, subst, reverse, ◌∙◌, []}
+use Rattle.std.proofs.Common.{sym, ap, subst, reverse, []}
 use Rattle.cache.specs.Bounded.{Bounded}
 use Rattle.definitions.specs.Histories.{History}
 use Rattle.executor.specs.State.{IsStateOf}

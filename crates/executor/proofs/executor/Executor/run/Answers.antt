@@ -1,5 +1,5 @@
-use Rattle.std.proofs.Common.{ℕ, ◌≡◌, Bool, List, Option, true, false, Some, None, sym, ap, ◌∙◌}
-use Rattle.definitions.specs.Histories.{Entry, History, Answer, is_fresh, answer_in}
+use Rattle.std.proofs.Common.{ℕ, ◌≡◌, Bool, List, Option, true, false, Some, sym, ap, ◌∙◌}
+use Rattle.definitions.specs.Histories.{Entry, History, Answer, is_fresh}
 use Rattle.executor.specs.Rows.{row, numbered_after}
 use Rattle.cache.specs.Bounded.{Bounded}
 use Rattle.executor.specs.State.{IsStateOf, answer_at}

@@ -1,9 +1,8 @@
-use Rattle.std.proofs.Common.{◌≡◌, ◌++◌, List, Option, option_to_list, refl, ap, ◌∙◌}
-use Rattle.definitions.specs.Histories.{History, Answer, entry_of}
+use Rattle.std.proofs.Common.{◌++◌, List, Option, option_to_list, refl, ap, ◌∙◌}
+use Rattle.definitions.specs.Histories.{Answer}
 use Rattle.frames_view.specs.Views.{command_of, commands_left}
-use Rattle.executor.specs.State.{answer_at}
 use Rattle.executor.proofs.Texts.{on_err}
-use Rattle.executor.proofs.Blocks.{run-starts, run-goes_on, run-ends, run-tells, run-stops, IsRun}
+use Rattle.executor.proofs.Blocks.{run-starts, run-goes_on, run-stops}
 use Rattle.executor.proofs.executor.Executor.run_block.Goals as goal
 
 pub loop-command-init : goal.loop-command-init
@@ -20,4 +19,4 @@ pub loop-command-preserved : goal.loop-command-preserved
 loop-command-preserved c =
     run-goes_on _ _ _ _ _ _ _ _ (command_of c.in-Some.command) c.loop-command.invariant c.in-Some.ensures.steps c.in_ok-answer.ensures.executed
     (c.put.ensures ∙ ap (λ (l : List Answer). l ++ option_to_list c.in_ok-answer.answer) c.in_ok-reserve.ensures.items
-      ∙ ap (λ (o : Option Answer). c.loop-command.answers.items ++ option_to_list o) c.in_ok-answer.ensures.answered)
+    ∙ ap (λ (o : Option Answer). c.loop-command.answers.items ++ option_to_list o) c.in_ok-answer.ensures.answered)
