@@ -10,7 +10,7 @@
 
 use anyhow::{Result, bail};
 use executor::{Answer, Executor};
-use frames_view::{Frame, read};
+use frames_view::{CommandView, Commands, Frame, read};
 use ids::{ClientId, Config, Seq};
 use sha2::{Digest, Sha256};
 use std::alloc::Global;
@@ -26,31 +26,52 @@ fn answer_text(alloc: Global, answer: &Answer) -> Result<String> {
     )?)
 }
 
+/// Executes the commands of a block, and tells the answers.
+fn tell_block(alloc: Global, executor: &mut Executor, commands: Commands<'_>) -> Result<String> {
+    let mut told = String::new(alloc);
+    let answers = executor.run_block(commands)?;
+    for answer in &answers {
+        told.push_str("; ")?;
+        told.push_str(&answer_text(alloc, answer)?)?;
+    }
+    Ok(told)
+}
+
+/// Executes a command, and tells the answer.
+fn tell_command(
+    alloc: Global,
+    executor: &mut Executor,
+    command: &CommandView<'_>,
+) -> Result<String> {
+    match executor.run(command)? {
+        Some(answer) => Ok(format!(in alloc; "; {}", answer_text(alloc, &answer)?)?),
+        None => Ok(String::new(alloc)),
+    }
+}
+
 /// Executes what a frame brings, and tells the answers.
 fn execute(
+    alloc: Global,
+    config: &Config,
+    executor: &mut Executor,
+    bytes: &[u8],
+) -> Result<String> {
+    match read(config, bytes) {
+        Ok(Frame::Block(frame)) => tell_block(alloc, executor, frame.core().commands()),
+        Ok(Frame::Request(command)) => tell_command(alloc, executor, &command),
+        _ => bail!("no block and no request"),
+    }
+}
+
+/// What is executed of a frame, and how long the history is then.
+fn tell_frame(
     alloc: Global,
     config: &Config,
     executor: &mut Executor,
     digits: &str,
 ) -> Result<String> {
     let bytes = hex::decode(alloc, digits)?;
-    let mut told = String::new(alloc);
-    match read(config, &bytes) {
-        Ok(Frame::Block(frame)) => {
-            for answer in &executor.run_block(frame.core().commands())? {
-                told.push_str("; ")?;
-                told.push_str(&answer_text(alloc, answer)?)?;
-            }
-        }
-        Ok(Frame::Request(command)) => {
-            if let Some(answer) = executor.run(&command)? {
-                told.push_str("; ")?;
-                told.push_str(&answer_text(alloc, &answer)?)?;
-            }
-        }
-        Ok(_) => bail!("a frame of another kind"),
-        Err(_) => bail!("no frame"),
-    }
+    let told = execute(alloc, config, executor, &bytes)?;
     Ok(format!(in alloc; "{}{told}", executor.len())?)
 }
 
@@ -79,21 +100,23 @@ fn tell_history(alloc: Global, executor: &Executor) -> Result<String> {
     Ok(format!(in alloc; "{} {digest}", executor.len())?)
 }
 
+/// A client's last number.
+fn tell_last(alloc: Global, executor: &Executor, digits: &str) -> Result<String> {
+    let client = ClientId(digits.parse::<u8>()?);
+    Ok(format!(in alloc; "{}", executor.last_seq(client))?)
+}
+
 /// What is told of a line.
 fn tell(alloc: Global, config: &Config, executor: &mut Executor, line: &str) -> Result<String> {
-    if line == "history" {
-        return tell_history(alloc, executor);
-    }
-    if line == "new" {
-        *executor = Executor::new(alloc)?;
-        return Ok(String::from_str(alloc, "new")?);
-    }
-    match line.split_once(' ') {
-        Some(("block" | "request", digits)) => execute(alloc, config, executor, digits),
-        Some(("reply", words)) => tell_reply(alloc, executor, words),
-        Some(("last", client)) => {
-            let client = ClientId(client.parse::<u8>()?);
-            Ok(format!(in alloc; "{}", executor.last_seq(client))?)
+    let (word, rest) = line.split_once(' ').unwrap_or((line, ""));
+    match word {
+        "block" | "request" => tell_frame(alloc, config, executor, rest),
+        "reply" => tell_reply(alloc, executor, rest),
+        "last" => tell_last(alloc, executor, rest),
+        "history" => tell_history(alloc, executor),
+        "new" => {
+            *executor = Executor::new(alloc)?;
+            Ok(String::from_str(alloc, "new")?)
         }
         _ => bail!("no such case"),
     }
