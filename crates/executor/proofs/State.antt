@@ -15,23 +15,33 @@ pub entered : (es : List Entry) (e : Entry) → reverse (es ++ e ∷ []) ≡ e �
 entered es e = reverse-append es (e ∷ [])
 
 -- a row more that nothing stands in
-pub rows-more : (rows : List (Option Answer)) → ((client : ℕ) → row rows client ≡ None) → (client : ℕ) → row (rows ++ None ∷ []) client ≡ None
+pub rows-more : (rows : List (Option Answer)) → ((client : ℕ) → row rows client ≡ None) → (client : ℕ)
+    → row (rows ++ None ∷ []) client ≡ None
 rows-more [] h zero = refl
 rows-more [] h (suc client) = refl
 rows-more (r ∷ rows) h zero = h zero
 rows-more (r ∷ rows) h (suc client) = rows-more rows (λ c. h (suc c)) client
 
 -- an entry's answer, made of its parts
-pub answer-is : (e : Entry) (h : History) (a : Answer) (place : ℕ) (text : List ℕ) → a ≡ record { client = e.client; seq = e.seq; place = place; text = text }
-    → place ≡ suc (length h) → text ≡ reply_text (apply_payload most_keys (cache_after h) e.payload).1 → a ≡ answer_in e h
-answer-is e h a place text i p t = i ∙ (λ j. record { client = e.client; seq = e.seq; place = p j; text = t j })
+pub answer-is : (e : Entry) (h : History) (a : Answer) (place : ℕ) (text : List ℕ)
+    → a ≡ record { client = e.client; seq = e.seq; place = place; text = text }
+    → place ≡ suc (length h) → text ≡ reply_text (apply_payload most_keys (cache_after h) e.payload).1
+    → a ≡ answer_in e h
+answer-is e h a place text i p t = i
+    ∙ (λ j. record { client = e.client; seq = e.seq; place = p j; text = t j })
+
+-- the last answer is the one in the row
+pub last-is : (h value : History) (cache : Bounded) (rows : List (Option Answer)) (client : ℕ) (o : Option Answer)
+    → IsStateOf h cache rows → h ≡ value → o ≡ row rows client → last_answer client value ≡ o
+last-is h value cache rows client o s e r = ap (last_answer client) (sym e) ∙ sym (s.rows_are client) ∙ sym r
 
 -- what is answered again
 pub answer-none : (client seq : ℕ) (h : History) → last_answer client h ≡ None → answer_to client seq h ≡ None
 unfolding answer_to
 answer-none client seq h e = ap (if_numbered seq) e
 
-pub answer-some : (client seq : ℕ) (h : History) (a : Answer) (b : Bool) → last_answer client h ≡ Some a → (a.seq == seq) ≡ b → answer_to client seq h ≡ cond b (Some a) None
+pub answer-some : (client seq : ℕ) (h : History) (a : Answer) (b : Bool) → last_answer client h ≡ Some a
+    → (a.seq == seq) ≡ b → answer_to client seq h ≡ cond b (Some a) None
 unfolding answer_to
 answer-some client seq h a b e k = ap (if_numbered seq) e ∙ ap (λ (t : Bool). cond t (Some a) None) k
 
@@ -43,9 +53,14 @@ pub answered-stale : (e : Entry) (h : History) → is_fresh e h ≡ false → No
 answered-stale e h k = sym (cond-false _ _ _ k)
 
 -- at the start
-pub first-state : (rows : List (Option Answer)) → ((client : ℕ) → row rows client ≡ None) → IsStateOf [] (record { most = most_keys; cache = empty_cache }) rows
+pub first-state : (rows : List (Option Answer)) → ((client : ℕ) → row rows client ≡ None)
+    → IsStateOf [] (record { most = most_keys; cache = empty_cache }) rows
 unfolding cache_after
-first-state rows none = record { cache_is = refl; rows_are = λ client. none client ∙ sym (first-answer client) }
+first-state rows none = record {
+  cache_is = refl;
+  rows_are = λ client. none client
+      ∙ sym (first-answer client);
+}
 
 module _ (h : History) (cache : Bounded) (rows : List (Option Answer)) (s : IsStateOf h cache rows) where
   -- the row tells which entries are fresh
@@ -59,27 +74,34 @@ module _ (h : History) (cache : Bounded) (rows : List (Option Answer)) (s : IsSt
   pub stale-state : (e : Entry) → is_fresh e h ≡ false → IsStateOf (e ∷ h) cache rows
   unfolding cache_after
   stale-state e k = record {
-    cache_is = s.cache_is ∙ ap (λ (c : Cache). record { most = most_keys; cache = c }) (sym (cond-false _ _ _ k));
+    cache_is = s.cache_is
+        ∙ ap (λ (c : Cache). record { most = most_keys; cache = c }) (sym (cond-false _ _ _ k));
     rows_are = λ client. s.rows_are client ∙ sym (stale-answer client e h k);
   }
 
   -- what the payload does, and its reply
-  pub fresh-reply : (e : Entry) → reply_text (apply_payload cache.most cache.cache e.payload).1 ≡ reply_text (apply_payload most_keys (cache_after h) e.payload).1
+  pub fresh-reply : (e : Entry)
+      → reply_text (apply_payload cache.most cache.cache e.payload).1 ≡ reply_text (apply_payload most_keys (cache_after h) e.payload).1
   fresh-reply e = ap (λ (b : Bounded). reply_text (apply_payload b.most b.cache e.payload).1) s.cache_is
 
   -- a fresh entry
   pub fresh-state : (e : Entry) (rows' : List (Option Answer)) → is_fresh e h ≡ true
-      → row rows' e.client ≡ Some (answer_in e h) → ((client : ℕ) → client ≢ e.client → row rows' client ≡ row rows client)
+      → row rows' e.client ≡ Some (answer_in e h) → ((client : ℕ) → client ≢ e.client
+      → row rows' client ≡ row rows client)
       → IsStateOf (e ∷ h) (record cache { cache = (apply_payload cache.most cache.cache e.payload).0 }) rows'
   unfolding cache_after
   fresh-state e rows' k own others = record {
-    cache_is = ap (λ (b : Bounded). record b { cache = (apply_payload b.most b.cache e.payload).0 }) s.cache_is
+    cache_is = ap (λ (b : Bounded). record b {
+      cache =
+          (apply_payload b.most b.cache e.payload).0;
+    }) s.cache_is
         ∙ ap (λ (c : Cache). record { most = most_keys; cache = c }) (sym (cond-true _ _ _ k));
     rows_are = λ client. by client (client == e.client) refl;
   }
     where
       by : (client : ℕ) (b : Bool) → (client == e.client) ≡ b → row rows' client ≡ last_answer client (e ∷ h)
-      by client true i = let j = eqb-true client e.client i in ap (row rows') j ∙ own ∙ sym (fresh-answer e h k) ∙ ap (λ c. last_answer c (e ∷ h)) (sym j)
+      by client true i = let j = eqb-true client e.client i in ap (row rows') j ∙ own
+          ∙ sym (fresh-answer e h k) ∙ ap (λ c. last_answer c (e ∷ h)) (sym j)
       by client false i =
           let j = eqb-false client e.client i in
           others client j ∙ s.rows_are client ∙ sym (others-answer client e h j)

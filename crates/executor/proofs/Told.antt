@@ -32,11 +32,13 @@ after-one : (e s : ℕ) (o : Option Answer) (new : Answer) → new.seq ≡ e →
     → (nat_lt e s && numbered_after s o) ≡ numbered_after s (cond t (Some new) o)
 after-one e s None new i true h = and-true (nat_lt e s) ∙ ap (λ n. nat_lt n s) (sym i)
 after-one e s None new i false h = cc
-after-one e s (Some a) new i true h = both-higher e s a.seq (ltb-true a.seq e h) ∙ ap (λ n. nat_lt n s) (sym i)
+after-one e s (Some a) new i true h = both-higher e s a.seq (ltb-true a.seq e h)
+    ∙ ap (λ n. nat_lt n s) (sym i)
 after-one e s (Some a) new i false h = both-lower e s a.seq (ltb-false a.seq e h)
 
 -- the number of the new last answer
-number-one : (e : ℕ) (o : Option Answer) (new : Answer) → new.seq ≡ e → (t : Bool) → numbered_after e o ≡ t → max e (number_in o) ≡ number_in (cond t (Some new) o)
+number-one : (e : ℕ) (o : Option Answer) (new : Answer) → new.seq ≡ e → (t : Bool) → numbered_after e o ≡ t
+    → max e (number_in o) ≡ number_in (cond t (Some new) o)
 number-one e None new i true h = omega (arith, i)
 number-one e None new i false h = cc
 number-one e (Some a) new i true h = let l = ltb-true a.seq e h in omega (arith, i, l)
@@ -45,7 +47,8 @@ number-one e (Some a) new i false h = let l = ltb-false a.seq e h in omega (arit
 -- ---- the last answer
 
 -- of an entry of another client
-other-answer : (client : ℕ) (e : Entry) (h : History) → (e.client == client) ≡ false → last_answer client (e ∷ h) ≡ last_answer client h
+other-answer : (client : ℕ) (e : Entry) (h : History) → (e.client == client) ≡ false
+    → last_answer client (e ∷ h) ≡ last_answer client h
 unfolding last_answer answers
 other-answer client e h k = by (is_fresh e h)
   where
@@ -54,7 +57,8 @@ other-answer client e h k = by (is_fresh e h)
     by false = refl
 
 -- of an entry of the client
-own-answer : (client : ℕ) (e : Entry) (h : History) → (e.client == client) ≡ true → last_answer client (e ∷ h) ≡ cond (is_fresh e h) (Some (answer_in e h)) (last_answer client h)
+own-answer : (client : ℕ) (e : Entry) (h : History) → (e.client == client) ≡ true
+    → last_answer client (e ∷ h) ≡ cond (is_fresh e h) (Some (answer_in e h)) (last_answer client h)
 unfolding last_answer answers
 own-answer client e h k = by (is_fresh e h)
   where
@@ -76,15 +80,18 @@ record IsTold (client : ℕ) (h : History) : Type 0 where
   fresh : (seq : ℕ) → is_after client seq h ≡ numbered_after seq (last_answer client h)
   number : greatest (numbers client h) ≡ number_in (last_answer client h)
 
-told-other : (client : ℕ) (e : Entry) (h : History) → (e.client == client) ≡ false → IsTold client h → IsTold client (e ∷ h)
+told-other : (client : ℕ) (e : Entry) (h : History) → (e.client == client) ≡ false → IsTold client h
+    → IsTold client (e ∷ h)
 unfolding greatest
 told-other client e h k t = record {
-  fresh = λ seq. ap (λ b. (not b || nat_lt e.seq seq) && is_after client seq h) k ∙ t.fresh seq ∙ ap (numbered_after seq) (sym (other-answer client e h k));
+  fresh = λ seq. ap (λ b. (not b || nat_lt e.seq seq) && is_after client seq h) k ∙ t.fresh seq
+      ∙ ap (numbered_after seq) (sym (other-answer client e h k));
   number = ap (λ b. greatest (map (λ x. x.seq) (cond b (e ∷ filter (λ x. x.client == client) h) (filter (λ x. x.client == client) h)))) k
       ∙ t.number ∙ ap number_in (sym (other-answer client e h k));
 }
 
-told-own : (client : ℕ) (e : Entry) (h : History) → (e.client == client) ≡ true → is_fresh e h ≡ numbered_after e.seq (last_answer client h) → IsTold client h → IsTold client (e ∷ h)
+told-own : (client : ℕ) (e : Entry) (h : History) → (e.client == client) ≡ true
+    → is_fresh e h ≡ numbered_after e.seq (last_answer client h) → IsTold client h → IsTold client (e ∷ h)
 unfolding greatest
 told-own client e h k f t = record {
   fresh = λ seq. ap (λ b. (not b || nat_lt e.seq seq) && is_after client seq h) k
@@ -132,14 +139,17 @@ first-answer client = refl
 -- ---- the last answers after one more entry
 
 -- after one that isn't fresh
-pub stale-answer : (client : ℕ) (e : Entry) (h : History) → is_fresh e h ≡ false → last_answer client (e ∷ h) ≡ last_answer client h
+pub stale-answer : (client : ℕ) (e : Entry) (h : History) → is_fresh e h ≡ false
+    → last_answer client (e ∷ h) ≡ last_answer client h
 unfolding last_answer answers
 stale-answer client e h k = ap (find (λ a. a.client == client)) (cond-false _ _ _ k)
 
 -- after a fresh one, of its client
-pub fresh-answer : (e : Entry) (h : History) → is_fresh e h ≡ true → last_answer e.client (e ∷ h) ≡ Some (answer_in e h)
+pub fresh-answer : (e : Entry) (h : History) → is_fresh e h ≡ true
+    → last_answer e.client (e ∷ h) ≡ Some (answer_in e h)
 fresh-answer e h k = own-answer e.client e h (eq-eqb e.client e.client refl) ∙ cond-true _ _ _ k
 
 -- and of the others
-pub others-answer : (client : ℕ) (e : Entry) (h : History) → client ≢ e.client → last_answer client (e ∷ h) ≡ last_answer client h
+pub others-answer : (client : ℕ) (e : Entry) (h : History) → client ≢ e.client
+    → last_answer client (e ∷ h) ≡ last_answer client h
 others-answer client e h k = other-answer client e h (ne_eqb e.client client (λ i. k (sym i)))

@@ -8,7 +8,8 @@ use Rattle.executor.proofs.executor.Executor.run.Goals as goal
 
 -- the test is that of a fresh entry
 tested : (e : Entry) (h value : History) (cache : Bounded) (rows : List (Option Answer)) (client seq : ℕ) (t b : Bool) → IsStateOf h cache rows → h ≡ value
-    → client ≡ e.client → seq ≡ e.seq → t ≡ numbered_after seq (row rows client) → t ≡ b → is_fresh e value ≡ b
+    → client ≡ e.client → seq ≡ e.seq → t ≡ numbered_after seq (row rows client) → t ≡ b
+    → is_fresh e value ≡ b
 tested e h value cache rows client seq t b s i j k l m =
     ap (is_fresh e) (sym i) ∙ fresh-by_row h cache rows s e
     ∙ sym (ap (λ n. numbered_after n (row rows e.client)) k)

@@ -10,10 +10,12 @@ loop-command-init c =
     rw c.into_iter-command-iterator.ensures.into_iter_gives (run-starts (commands_left c.args.commands) c.args.self.now c.new-answers.result.items c.new-answers.ensures.items)
 
 pub returns-in_err-reserve-clause-cut : goal.returns-in_err-reserve-clause-cut
-returns-in_err-reserve-clause-cut c = on_err _ (run-stops _ _ _ _ _ _ _ _ c.loop-command.invariant c.in-Some.ensures.steps refl)
+returns-in_err-reserve-clause-cut c =
+    on_err _ (run-stops _ _ _ _ _ _ _ _ c.loop-command.invariant c.in-Some.ensures.steps refl)
 
 pub returns-in_err-answer-clause-cut : goal.returns-in_err-answer-clause-cut
-returns-in_err-answer-clause-cut c = on_err _ (run-stops _ _ _ _ _ _ _ _ c.loop-command.invariant c.in-Some.ensures.steps c.in_err-answer.ensures.unchanged)
+returns-in_err-answer-clause-cut c =
+    on_err _ (run-stops _ _ _ _ _ _ _ _ c.loop-command.invariant c.in-Some.ensures.steps c.in_err-answer.ensures.unchanged)
 
 pub loop-command-preserved : goal.loop-command-preserved
 loop-command-preserved c =
