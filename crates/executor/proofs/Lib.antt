@@ -1,0 +1,4 @@
+pub mod Told
+pub mod Texts
+pub mod State
+pub mod Blocks

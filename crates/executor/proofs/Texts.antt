@@ -1,0 +1,138 @@
+-- How long the texts of replies are that come with a change of the cache.
+use Rattle.std.proofs.Common.{ℕ, ◌≡◌, ◌⊎◌, ◌≤◌, ◌<◌, ◌+◌, ◌-◌, ◌%◌, ◌^◌, ◌==◌, ◌&&◌, ◌||◌, ◌++◌, [], ◌∷◌, length, length-append, refl, ap, ◌∙◌, arith, Result, Ok, Err, OnErr, inl, inr, Option, Some, None, nat_lt, nat_le, bytes_eq, decimal}
+use Rattle.std.specs.Option.{option_map_or}
+use Rattle.std.specs.Str.Parse.{digits_value}
+use Rattle.std.proofs.lemmas.Fmt.{length-decimal-le}
+use Rattle.std.proofs.lemmas.Bool.{cond_both, ltb-true, and_parts}
+use Rattle.std.specs.FinMap as map
+use Rattle.cache.specs.Bounded.{Bounded}
+use Rattle.definitions.specs.Bytes.{Bytes}
+use Rattle.definitions.specs.Requests.{Asked, Verb, set, add, replace, append, prepend, store, cas, get, gets, delete, incr, decr, most_data}
+use Rattle.definitions.specs.Canonical.{request_of}
+use Rattle.definitions.specs.Replies.{Reply, reply_text}
+use Rattle.definitions.specs.Replies as reply
+use Rattle.definitions.specs.Cache.{Cache, Entry, Outcome, find, has, change, most_changes, number_in, if_present, store_it, count_it, apply, apply_payload}
+
+-- the text is short, or the cache is left as it was
+abbrev pub IsShortOrSame : Cache → Outcome → Type 0
+IsShortOrSame cache o = (length (reply_text o.1) ≤ 22) ⊎ (o.0 ≡ cache)
+
+-- a change with a short text
+changed-short : (cache : Cache) (key : Bytes) (flags : ℕ) (stored : Bytes) (told : Reply)
+    → length (reply_text told) ≤ 22 → IsShortOrSame cache (change cache key flags stored told)
+changed-short cache key flags stored told h =
+    cond_both (cache.changes == most_changes) _ _ (IsShortOrSame cache) (λ e. inr refl) (λ e. inl h)
+
+-- data was stored
+stored-short : (cache : Cache) (key : Bytes) (flags : ℕ) (stored : Bytes)
+    → IsShortOrSame cache (change cache key flags stored reply.stored)
+stored-short cache key flags stored = changed-short cache key flags stored reply.stored (omega arith)
+
+-- what is done with an entry that is there
+present-short : (cache : Cache) (key : Bytes) (r : Reply) (present : Entry → Outcome) → ((e : Entry)
+    → IsShortOrSame cache (present e)) → IsShortOrSame cache (if_present cache key (cache, r) present)
+present-short cache key r present p = by (find cache key)
+  where
+    by : (o : Option Entry) → IsShortOrSame cache (option_map_or present o (cache, r))
+    by None = inr refl
+    by (Some e) = p e
+
+-- a storage command
+store-short : (most : ℕ) (cache : Cache) (verb : Verb) (key : Bytes) (flags : ℕ) (stored : Bytes)
+    → IsShortOrSame cache (store_it most cache verb key flags stored)
+store-short most cache set key flags stored =
+    cond_both (has cache key || nat_lt (map.len cache.entries) most) _ _ (IsShortOrSame cache) (λ e. stored-short cache key flags stored) (λ e. inr refl)
+store-short most cache add key flags stored =
+    cond_both (has cache key) _ _ (IsShortOrSame cache) (λ e. inr refl)
+    (λ e. cond_both (nat_lt (map.len cache.entries) most) _ _ (IsShortOrSame cache) (λ k. stored-short cache key flags stored) (λ k. inr refl))
+store-short most cache replace key flags stored =
+    cond_both (has cache key) _ _ (IsShortOrSame cache) (λ e. stored-short cache key flags stored) (λ e. inr refl)
+store-short most cache append key flags stored = present-short cache key reply.not_stored _ (λ x.
+    cond_both (nat_le (length (x.stored ++ stored)) most_data) _ _ (IsShortOrSame cache) (λ e. stored-short cache key x.flags (x.stored ++ stored)) (λ e. inr refl))
+store-short most cache prepend key flags stored = present-short cache key reply.not_stored _ (λ x.
+    cond_both (nat_le (length (stored ++ x.stored)) most_data) _ _ (IsShortOrSame cache) (λ e. stored-short cache key x.flags (stored ++ x.stored)) (λ e. inr refl))
+
+-- the number that data writes is below 2 ^ 64
+number_in-small : (text : Bytes) (n : ℕ) → number_in text ≡ Some n → n < 2 ^ 64
+number_in-small text n =
+    cond_both (nat_lt (digits_value 10 text) (2 ^ 64) && bytes_eq text (decimal (digits_value 10 text))) _ _ (λ (o : Option ℕ). o ≡ Some n → n < 2 ^ 64)
+    (λ t e. (let k : digits_value 10 text ≡ n = cc in
+    let l = ltb-true (digits_value 10 text) (2 ^ 64) (and_parts _ _ t).0 in omega (arith, k, l)))
+    (λ t e. absurd (none e))
+  where
+    none : None ≡ Some n → ⊥
+    none j = cc
+
+-- the reply of a number below 2 ^ 64
+number-short : (n : ℕ) → n < 2 ^ 64 → length (reply_text (reply.number n)) ≤ 22
+number-short n l = let k = length-decimal-le 20 n (omega arith) (omega (arith, l)) l in
+    let a = length-append (decimal n) (13 ∷ 10 ∷ []) in omega (arith, k, a)
+
+-- a count whose numbers stay below 2 ^ 64
+count-short : (cache : Cache) (key : Bytes) (f : ℕ → ℕ) → ((n : ℕ) → n < 2 ^ 64 → f n < 2 ^ 64)
+    → IsShortOrSame cache (count_it cache key f)
+count-short cache key f small =
+    present-short cache key reply.not_found _ (λ e. by e (number_in e.stored) refl)
+  where
+    by : (e : Entry) → (o : Option ℕ) → number_in e.stored ≡ o
+        → IsShortOrSame cache (option_map_or (λ n. change cache key e.flags (decimal (f n)) (reply.number (f n))) o (cache, reply.no_number))
+    by e None i = inr refl
+    by e (Some n) i = changed-short cache key e.flags (decimal (f n)) (reply.number (f n)) (number-short (f n) (small n (number_in-small e.stored n i)))
+
+-- what a request does
+apply-short : (most : ℕ) (cache : Cache) (r : Asked) → IsShortOrSame cache (apply most cache r)
+apply-short most cache (store verb key flags stored) = store-short most cache verb key flags stored
+apply-short most cache (cas key flags stored unique) = present-short cache key reply.not_found _ (λ x.
+    cond_both (x.unique == unique) _ _ (IsShortOrSame cache) (λ e. stored-short cache key flags stored) (λ e. inr refl))
+apply-short most cache (incr key value) =
+    count-short cache key (λ n. (n + value) % 2 ^ 64) (λ n l. omega arith)
+apply-short most cache (decr key value) = count-short cache key (λ n. n - value) (λ n l. omega (arith, l))
+apply-short most cache (delete key) =
+    cond_both (has cache key) _ _ (IsShortOrSame cache) (λ e. inl (omega arith)) (λ e. inr refl)
+apply-short most cache (get keys) = inr refl
+apply-short most cache (gets keys) = inr refl
+
+-- what a payload does
+pub payload-short : (most : ℕ) (cache : Cache) (payload : Bytes)
+    → IsShortOrSame cache (apply_payload most cache payload)
+unfolding apply_payload
+payload-short most cache payload = by (request_of payload)
+  where
+    by : (o : Option Asked)
+        → IsShortOrSame cache (option_map_or (apply most cache) o (cache, reply.no_request))
+    by None = inr refl
+    by (Some r) = apply-short most cache r
+
+-- where the text is long, the cache is left
+payload-same : (most : ℕ) (cache : Cache) (payload : Bytes)
+    → 22 < length (reply_text (apply_payload most cache payload).1)
+    → (apply_payload most cache payload).0 ≡ cache
+payload-same most cache payload long = by (payload-short most cache payload)
+  where
+    by : IsShortOrSame cache (apply_payload most cache payload) → (apply_payload most cache payload).0 ≡ cache
+    by (inl s) = absurd (omega (arith, s, long))
+    by (inr e) = e
+
+pub left-same : (old new : Bounded) (payload : Bytes)
+    → new ≡ record old { cache = (apply_payload old.most old.cache payload).0 }
+    → 22 < length (reply_text (apply_payload old.most old.cache payload).1) → new ≡ old
+left-same old new payload e long = e
+    ∙ ap (λ (c : Cache). record old { cache = c }) (payload-same old.most old.cache payload long)
+
+-- what a payload does that is a request, and one that isn't
+pub payload-asks : (most : ℕ) (cache : Cache) (payload : Bytes) (r : Asked) → request_of payload ≡ Some r
+    → apply_payload most cache payload ≡ apply most cache r
+unfolding apply_payload
+payload-asks most cache payload r e =
+    ap (λ (o : Option Asked). option_map_or (apply most cache) o (cache, reply.no_request)) e
+
+pub payload-asks_nothing : (most : ℕ) (cache : Cache) (payload : Bytes) → request_of payload ≡ None
+    → apply_payload most cache payload ≡ (cache, reply.no_request)
+unfolding apply_payload
+payload-asks_nothing most cache payload e =
+    ap (λ (o : Option Asked). option_map_or (apply most cache) o (cache, reply.no_request)) e
+
+-- at a refusal
+pub on_err : {T E P : Type 0} (r : Result T E) → P → OnErr r P
+on_err (Ok x) p = tt
+on_err (Err e) p = p

@@ -1,0 +1,7 @@
+use Rattle.frames_view.specs.Views.{commands_left}
+use Rattle.executor.proofs.Blocks.{IsRun}
+use Rattle.executor.proofs.executor.Executor.run_block.Given as goal
+
+abbrev pub invariant-loop-command : goal.invariant-loop-command
+invariant-loop-command l =
+    IsRun (commands_left l.fn.commands) (commands_left l.command-iterator) l.fn.self l.self l.answers.items

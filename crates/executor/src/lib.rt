@@ -1,0 +1,12 @@
+//! What a replica executes: the decided commands in their order, each that is fresh applied to the one cache.
+#![tactic(auto)]
+
+mod answer;
+mod apply;
+mod clients;
+mod entry;
+mod executor;
+
+pub use answer::Answer;
+pub use entry::Entry;
+pub use executor::Executor;
