@@ -1,5 +1,5 @@
 -- What a session does, by what it finds first.
-use Rattle.std.proofs.Common.{◌≡◌, ◌∙◌, ◌≤◌, ◌<◌, ◌==◌, ◌&&◌, ℕ, suc, Bool, true, false, not, cond, List, [], ◌∷◌, length, refl, ap, sym, subst, arith, eq-eqb}
+use Rattle.std.proofs.Common.{◌≡◌, ◌∙◌, ◌==◌, ◌&&◌, ℕ, suc, Bool, true, false, not, cond, [], ◌∷◌, length, refl, ap, sym, subst, arith, eq-eqb}
 use Rattle.std.specs.Prelude.{◌-◌, ◌^◌, Option, Some, None, Result, Ok, Err, IfOk, OnErr, Vec, is_none, nat_lt, nat_le, filter}
 use Rattle.std.specs.declared.alloc.Global.{Global}
 use Rattle.std.specs.Str.{bytes_eq}
@@ -52,20 +52,20 @@ module _ (me : Client) (payload : Bytes) (s : Session) where
   unfolding submission
   submission-refused m n e =
       test-refuses s.waiting fault.Busy _ (unsent s) _ n e
-        (λ e'. test-refuses (s.used == (2 ^ 64 - 1)) fault.Spent (Ok (suc s.used)) (unsent s) _ n e' (λ e''. absurd cc))
+      (λ e'. test-refuses (s.used == (2 ^ 64 - 1)) fault.Spent (Ok (suc s.used)) (unsent s) _ n e' (λ e''. absurd cc))
 
   pub submission-no_memory : (seq : ℕ) → next_seq s ≡ Ok seq → submission me refused_at_once payload s ≡ (s, not_sent fault.Memory)
   unfolding submission
   submission-no_memory seq e =
       test-passes s.waiting fault.Busy _ (unsent s) _ seq _ e
-        (λ e'. test-passes (s.used == (2 ^ 64 - 1)) fault.Spent (Ok (suc s.used)) (unsent s) _ seq _ e' (λ e''. refl))
+      (λ e'. test-passes (s.used == (2 ^ 64 - 1)) fault.Spent (Ok (suc s.used)) (unsent s) _ seq _ e' (λ e''. refl))
 
   pub submission-next : (seq : ℕ) → next_seq s ≡ Ok seq → submission me ample payload s ≡ (begun seq, sent_request (request_frame me seq payload))
   unfolding submission
   submission-next seq e =
       test-passes s.waiting fault.Busy _ (unsent s) _ seq _ e
-        (λ e'. test-passes (s.used == (2 ^ 64 - 1)) fault.Spent (Ok (suc s.used)) (unsent s) _ seq _ e'
-          (λ e''. let same : suc s.used ≡ seq = cc in ap (λ (k : ℕ). (begun k, sent_request (request_frame me k payload))) same))
+      (λ e'. test-passes (s.used == (2 ^ 64 - 1)) fault.Spent (Ok (suc s.used)) (unsent s) _ seq _ e'
+      (λ e''. let same : suc s.used ≡ seq = cc in ap (λ (k : ℕ). (begun k, sent_request (request_frame me k payload))) same))
 
 -- ---- replies
 
@@ -89,7 +89,7 @@ module _ {Y : Type 0} (h : Fault → Y) (a b c d : Bool) (y : Y) where
       let y2 : Y = cond c (h fault.WrongSeq) y3 in
       let y1 : Y = cond b (h fault.BadTag) y2 in
       test-refuses a fault.NotMine r1 h y1 n e (λ e1. test-refuses b fault.BadTag r2 h y2 n e1 (λ e2. test-refuses c fault.WrongSeq r3 h y3 n e2
-        (λ e3. test-refuses d fault.Doubled (Ok tt) h y n e3 (λ e4. absurd (no_error n e4)))))
+      (λ e3. test-refuses d fault.Doubled (Ok tt) h y n e3 (λ e4. absurd (no_error n e4)))))
     where
       no_error : (n : Fault) → ◌≡◌ {A = Result (Unit {0}) Fault} (Ok tt) (Err n) → ⊥
       no_error n e = cc
@@ -103,7 +103,7 @@ module _ {Y : Type 0} (h : Fault → Y) (a b c d : Bool) (y : Y) where
       let y2 : Y = cond c (h fault.WrongSeq) y3 in
       let y1 : Y = cond b (h fault.BadTag) y2 in
       test-passes a fault.NotMine r1 h y1 tt y e (λ e1. test-passes b fault.BadTag r2 h y2 tt y e1 (λ e2. test-passes c fault.WrongSeq r3 h y3 tt y e2
-        (λ e3. test-passes d fault.Doubled (Ok tt) h y tt y e3 (λ e4. refl))))
+      (λ e3. test-passes d fault.Doubled (Ok tt) h y tt y e3 (λ e4. refl))))
 
 -- a place and a text agree with themselves
 agrees-itself : (replica place : ℕ) (text : Bytes) → agrees place text (record { replica = replica; place = place; text = text }) ≡ true
@@ -187,24 +187,27 @@ pub submitted : (me : Client) (payload : Bytes) (h new : Held) (seq : ℕ) (resu
     → (new ≡ record h { session = (submission me (memory_of result) payload h.session).0; frame = frame_after h.frame result })
     × IsSubmitted (submission me (memory_of result) payload h.session).1 result
 submitted me payload h new seq (Ok f) next made state same memory =
-    let whole = submission-next me payload h.session seq next in
-    (state ∙ ap (λ (x : Session × Submitted). record h { session = x.0; frame = f.items }) (sym whole),
-     subst (λ (x : Session × Submitted). IsSubmitted x.1 (Ok f)) (sym whole) made)
+    let whole = submission-next me payload h.session seq next in (
+      state ∙ ap (λ (x : Session × Submitted). record h { session = x.0; frame = f.items }) (sym whole),
+      subst (λ (x : Session × Submitted). IsSubmitted x.1 (Ok f)) (sym whole) made,
+    )
 submitted me payload h new seq (Err n) next made state same memory =
     let none = submission-no_memory me payload h.session seq next in
     let is_memory : n ≡ fault.Memory = cc in
-    subst (λ (k : Fault). (new ≡ record h { session = (submission me (memory_of {T = Vec ℕ Global} (Err k)) payload h.session).0 }) × IsSubmitted (submission me (memory_of {T = Vec ℕ Global} (Err k)) payload h.session).1 (Err k)) (sym is_memory)
-      (same ∙ ap (λ (x : Session × Submitted). record h { session = x.0 }) (sym none),
-       subst (λ (x : Session × Submitted). IsSubmitted x.1 (Err fault.Memory)) (sym none) refl)
+    subst (λ (k : Fault). (new ≡ record h { session = (submission me (memory_of {T = Vec ℕ Global} (Err k)) payload h.session).0 }) × IsSubmitted (submission me (memory_of {T = Vec ℕ Global} (Err k)) payload h.session).1 (Err k)) (sym is_memory) (
+      same ∙ ap (λ (x : Session × Submitted). record h { session = x.0 }) (sym none),
+      subst (λ (x : Session × Submitted). IsSubmitted x.1 (Err fault.Memory)) (sym none) refl,
+    )
 
 -- a submission that is refused at first
 pub not_submitted : (me : Client) (payload : Bytes) (h : Held) (n : Fault) → next_seq h.session ≡ Err n
     → (h ≡ record h { session = (submission me (memory_of {T = Vec ℕ Global} (Err n)) payload h.session).0 })
     × IsSubmitted (submission me (memory_of {T = Vec ℕ Global} (Err n)) payload h.session).1 (Err n)
 not_submitted me payload h n next =
-    let none = submission-refused me payload h.session (memory_of {T = Vec ℕ Global} (Err n)) n next in
-    (ap (λ (x : Session × Submitted). record h { session = x.0 }) (sym none),
-     subst (λ (x : Session × Submitted). IsSubmitted x.1 (Err n)) (sym none) refl)
+    let none = submission-refused me payload h.session (memory_of {T = Vec ℕ Global} (Err n)) n next in (
+      ap (λ (x : Session × Submitted). record h { session = x.0 }) (sym none),
+      subst (λ (x : Session × Submitted). IsSubmitted x.1 (Err n)) (sym none) refl,
+    )
 
 module _ (me : Client) (h : Held) (replica client seq place : ℕ) (text t : Bytes) where
   -- the last step of a reply
@@ -216,15 +219,15 @@ module _ (me : Client) (h : Held) (replica client seq place : ℕ) (text t : Byt
       × (heard_of result ≡ (on_reply me (memory_of result) (frame.reply replica client seq place text t) h.session).1)
   heard new (Ok r) admitted made state same memory =
       let whole : on_reply me ample (frame.reply replica client seq place text t) h.session ≡ outcome me h.session replica client seq place text t r =
-          reply-counted me h.session replica client seq place text t admitted ∙ reply-told me h.session replica client seq place text t
-          ∙ ap (outcome me h.session replica client seq place text t) (sym made) in
+      reply-counted me h.session replica client seq place text t admitted ∙ reply-told me h.session replica client seq place text t
+      ∙ ap (outcome me h.session replica client seq place text t) (sym made) in
       (state ∙ ap (λ (x : Session × Heard). record h { session = x.0 }) (sym whole), ap (λ (x : Session × Heard). x.1) (sym whole))
   heard new (Err n) admitted made state same memory =
       let none = reply-no_memory me h.session replica client seq place text t admitted in
       let is_memory : n ≡ fault.Memory = cc in
       subst (λ (k : Fault). (new ≡ record h { session = (on_reply me (memory_of {T = Option Receipt} (Err k)) (frame.reply replica client seq place text t) h.session).0 })
-          × (heard_of (Err k) ≡ (on_reply me (memory_of {T = Option Receipt} (Err k)) (frame.reply replica client seq place text t) h.session).1)) (sym is_memory)
-        (same ∙ ap (λ (x : Session × Heard). record h { session = x.0 }) (sym none), ap (λ (x : Session × Heard). x.1) (sym none))
+      × (heard_of (Err k) ≡ (on_reply me (memory_of {T = Option Receipt} (Err k)) (frame.reply replica client seq place text t) h.session).1)) (sym is_memory)
+      (same ∙ ap (λ (x : Session × Heard). record h { session = x.0 }) (sym none), ap (λ (x : Session × Heard). x.1) (sym none))
 
   -- a reply that is refused at first
   pub not_heard : (n : Fault) → admission me (frame.reply replica client seq place text t) h.session ≡ Err n

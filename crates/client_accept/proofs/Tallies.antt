@@ -1,7 +1,7 @@
 -- Answers that come behind others change nothing that was told.
-use Rattle.std.proofs.Common.{◌≡◌, ◌∙◌, ◌<◌, ◌≤◌, ◌+◌, ◌==◌, ◌&&◌, ◌||◌, ℕ, zero, suc, List, [], ◌∷◌, ◌++◌, Bool, true, false, Option, Some, None, cond, length, take, get_or, refl, ap, sym, subst, arith}
-use Rattle.std.specs.Prelude.{map, filter}
-use Rattle.std.specs.List.{AllByRecursion, list_any, position}
+use Rattle.std.proofs.Common.{◌≡◌, ◌∙◌, ◌<◌, ◌≤◌, ◌+◌, ◌==◌, ◌&&◌, ◌||◌, ℕ, zero, suc, List, [], ◌∷◌, ◌++◌, Bool, true, false, Some, cond, length, take, get_or, refl, ap, sym, subst, arith}
+use Rattle.std.specs.Prelude.{filter}
+use Rattle.std.specs.List.{list_any, position}
 use Rattle.std.specs.Str.{bytes_eq}
 use Rattle.std.proofs.lemmas.Bool.{eqb-true}
 use Rattle.std.proofs.lemmas.List.{get_or-map, get_or_append_left, length-map, length-append, map_more}
@@ -30,7 +30,7 @@ pub tally-longer : (answers more : List Answer) (counted : List Counted) → Are
 tally-longer answers more [] among = refl
 tally-longer answers more (c ∷ counted) among =
     let head : told_in (answers ++ more) c ≡ told_in answers c =
-        ap (λ (s : Said). record { replica = c.replica; place = s.0; text = s.1 }) (said-longer answers more c.answer among.0) in
+    ap (λ (s : Said). record { replica = c.replica; place = s.0; text = s.1 }) (said-longer answers more c.answer among.0) in
     ap (λ (t : Told). t ∷ tally_of (answers ++ more) counted) head ∙ ap (λ (ts : List Told). told_in answers c ∷ ts) (tally-longer answers more counted among.1)
 
 pub among-longer : (answers more : List Answer) (counted : List Counted) → AreAmong answers counted → AreAmong (answers ++ more) counted
@@ -113,6 +113,6 @@ pub agreeing-step : (answers : List Answer) (counted : List Counted) (i : ℕ) (
 agreeing-step answers counted i k a place text count new b among below told found tested so_far next =
     let there : k.answer < length answers = subst (λ (x : Counted). x.answer < length answers) (sym told) (among-at answers counted i k among below) in
     let agree : agrees place text (told_in answers (get_or counted i k)) ≡ b =
-        ap (λ (x : Counted). agrees place text (told_in answers x)) (sym told) ∙ agrees-is answers k a place text there found ∙ sym tested in
+    ap (λ (x : Counted). agrees place text (told_in answers x)) (sym told) ∙ agrees-is answers k a place text there found ∙ sym tested in
     let more = agreeing-more answers counted i k place text below in
     omega (arith, more, ap {B = ℕ} (λ (t : Bool). cond t 1 0) agree, so_far, next)

@@ -5,7 +5,7 @@ use Rattle.ids.specs.declared.kind.Kind.TheVariants as kind
 use Rattle.std.specs.Prelude.{◌≡◌, ℕ, suc, ◌-◌, ◌^◌, ◌==◌, ◌&&◌, not, if◌then◌else◌, nat_le, Option, Some, None, Result, Ok, Err, Vec}
 use Rattle.std.specs.declared.alloc.Global.{Global}
 use Rattle.definitions.specs.Bytes.{Bytes}
-use Rattle.definitions.specs.Tally.{Told, is_counted, agreeing}
+use Rattle.definitions.specs.Tally.{is_counted, agreeing}
 use Rattle.definitions.specs.Frames.{Frame, spelling, reply_content}
 use Rattle.definitions.specs.Frames as frame
 use Rattle.definitions.specs.Keyrings.{Keys, verify}

@@ -157,8 +157,9 @@ impl Session {
     pub fn submit(&mut self, request: &Request<'_>) -> Result<Vec<u8>, Fault>
         requires { IsRequest (asked_of request.now) false }
         ensures state { self.new ≡ record self.old {
-            session = (submission (client_of self.old.keys) (memory_of result) (canonical (asked_of request.now)) self.old.session).0;
-            frame = frame_after self.old.frame result } }
+          session = (submission (client_of self.old.keys) (memory_of result) (canonical (asked_of request.now)) self.old.session).0;
+          frame = frame_after self.old.frame result;
+        } }
         ensures answer { IsSubmitted (submission (client_of self.old.keys) (memory_of result) (canonical (asked_of request.now)) self.old.session).1 result }
     {
         match self.next_seq() {
@@ -173,7 +174,8 @@ impl Session {
         ensures { result ≡ own_tag_verifies (identity_of self.now.keys) (reply_of reply.now) }
     {
         let sender = PartyId::from(reply.replica());
-        self.keyring.verify(Kind::Reply, sender, reply.content(), reply.tag())
+        self.keyring
+            .verify(Kind::Reply, sender, reply.content(), reply.tag())
     }
 
     /// Whether the reply is counted.
@@ -216,15 +218,19 @@ impl Session {
     /// Counts a reply. All memory is taken first.
     fn count(&mut self, reply: &ReplyView<'_>) -> Result<Option<Receipt>, Fault>
         ensures receipt { IfOk result (λ r. r ≡ receipt_at self.old.keys.sizes.faults (frame_place (reply_of reply.now)) (frame_text (reply_of reply.now)) self.old.session) }
-        ensures counted { IfOk result (λ r. self.new ≡ record self.old { session = record {
+        ensures counted { IfOk result (λ r. self.new ≡ record self.old {
+          session = record {
             used = self.old.session.used;
             waiting = is_none r;
-            tally = record { replica = frame_replica (reply_of reply.now); place = frame_place (reply_of reply.now); text = frame_text (reply_of reply.now) } ∷ self.old.session.tally } }) }
+            tally = record { replica = frame_replica (reply_of reply.now); place = frame_place (reply_of reply.now); text = frame_text (reply_of reply.now) } ∷ self.old.session.tally;
+          };
+        }) }
         ensures unchanged { OnErr result (self.new ≡ self.old) }
         ensures memory { OnErr result (result ≡ Err Fault.Memory) }
     {
         let receipt = self.receipt_for(reply)?;
-        self.tally.count(reply.replica(), reply.place(), reply.text())?;
+        self.tally
+            .count(reply.replica(), reply.place(), reply.text())?;
         self.waiting = receipt.is_none();
         Ok(receipt)
     }
@@ -238,7 +244,8 @@ impl Session {
     pub fn on_reply(&mut self, reply: &ReplyView<'_>) -> Result<Option<Receipt>, Fault>
         requires { IsFrame self.old.keys.sizes (reply_of reply.now) }
         ensures state { self.new ≡ record self.old {
-            session = (on_reply (client_of self.old.keys) (memory_of result) (reply_of reply.now) self.old.session).0 } }
+          session = (on_reply (client_of self.old.keys) (memory_of result) (reply_of reply.now) self.old.session).0;
+        } }
         ensures answer { heard_of result ≡ (on_reply (client_of self.old.keys) (memory_of result) (reply_of reply.now) self.old.session).1 }
     {
         match self.admit(reply) {

@@ -82,7 +82,12 @@ impl Tally {
     pub(crate) fn agreeing(&self, place: Place, text: &[u8]) -> usize
         ensures { result ≡ agreeing self.now place text.now }
     {
-        agreeing_of(self.answers.as_slice(), self.counted.as_slice(), place, text)
+        agreeing_of(
+            self.answers.as_slice(),
+            self.counted.as_slice(),
+            place,
+            text,
+        )
     }
 
     /// Counts what a replica told. At `Memory` nothing is counted.

@@ -21,6 +21,13 @@ pub(crate) fn reply(alloc: Global, config: Config, replica: u8, rest: &str) -> R
         bail!("no such party");
     }
     let ring = keyring_of(alloc, config, PartyId::from(ReplicaId(replica)))?;
-    let frame = reply_frame(alloc, &ring, ClientId(client), Seq(seq), Place(place), &text)?;
+    let frame = reply_frame(
+        alloc,
+        &ring,
+        ClientId(client),
+        Seq(seq),
+        Place(place),
+        &text,
+    )?;
     Ok(hex::encode(alloc, &frame)?)
 }

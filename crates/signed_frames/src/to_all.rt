@@ -82,5 +82,10 @@ pub fn request_frame(
     let seq = seq.0.to_be_bytes();
     let text = payload.as_slice();
     let length = (text.len() as u16).to_be_bytes();
-    signed_for_all(alloc, keyring, Kind::Request, &[&client, &seq, &length, text])
+    signed_for_all(
+        alloc,
+        keyring,
+        Kind::Request,
+        &[&client, &seq, &length, text],
+    )
 }
