@@ -1,19 +1,17 @@
 -- What a vote changes is what its step changes.
 use Rattle.ids.specs.declared.fault.Fault.{Fault}
-use Rattle.ids.specs.declared.fault.Fault.TheVariants as fault
-use Rattle.std.proofs.Common.{ℕ, ◌≡◌, ◌<◌, ◌≤◌, Bool, true, false, true≢false, List, [], ◌∷◌, length, cond, nat_lt, refl, sym, ap, ◌∙◌, arith, subst, Option, Some, None, Result, Ok, Err}
-use Rattle.std.proofs.lemmas.Bool.{cond_both, ltb-true, ltb-false}
+use Rattle.std.proofs.Common.{◌≡◌, ◌<◌, ◌≤◌, Bool, true, false, ◌∷◌, length, cond, nat_lt, refl, sym, ap, ◌∙◌, arith, subst, Option, Some, None, Result, Ok, Err}
+use Rattle.std.proofs.lemmas.Bool.{ltb-true, ltb-false}
 use Rattle.ids.specs.Sizes.{Sizes, quorum}
 use Rattle.definitions.specs.Bytes.{Bytes}
 use Rattle.definitions.specs.Lists.{Among}
 use Rattle.definitions.specs.Frames.{Vote}
 use Rattle.definitions.specs.Branches.{Branch}
-use Rattle.definitions.specs.Digests.{digest_of}
 use Rattle.definitions.specs.Keyrings.{Keys}
 use Rattle.definitions.specs.Checks.{identity_of}
 use Rattle.definitions.specs.Trees.{blocks, find_in}
 use Rattle.definitions.specs.Chronicles.{Note, Step.noted, Note.got_vote, Chronicle, stored, tree, IsSound}
-use Rattle.definitions.specs.States.{Justified, qc_high, votes, find_block, raised, leaf}
+use Rattle.definitions.specs.States.{Justified, qc_high, find_block, raised, leaf}
 use Rattle.definitions.specs.Rulings.{Input.vote_in, ruling, conflicts, with_block}
 use Rattle.definitions.specs.Rulings as rulings
 use Rattle.definitions.specs.Sendings.{sendings}
@@ -22,17 +20,15 @@ use Rattle.definitions.proofs.Sound.{OnStands, ruling-sound}
 use Rattle.definitions.proofs.Trees.{found-in}
 use Rattle.vote_collector.specs.declared.added.Added.{Added}
 use Rattle.vote_collector.specs.declared.added.Added.TheVariants.{First, Doubled, Complete}
-use Rattle.vote_collector.specs.Collecting.{Collected, votes_for, judged}
+use Rattle.vote_collector.specs.Collecting.{votes_for, judged}
 use Rattle.vote_collector.specs.Following.{IsVotesOf, certified}
-use Rattle.vote_collector.specs.Lawful.{made_with, Leaves, FollowsVote}
+use Rattle.vote_collector.specs.Lawful.{made_with, FollowsVote}
 use Rattle.vote_collector.proofs.Steps.{followed-vote}
 use Rattle.replica_rules.specs.declared.block_ref.BlockRef.{BlockRef}
 use Rattle.replica_rules.specs.Ruled.{ref_of}
 use Rattle.replica.specs.declared.change.Change.{Change}
-use Rattle.replica.specs.declared.state.High.{High}
 use Rattle.replica.specs.Replay.{or_genesis}
-use Rattle.replica.specs.Steps.{shown}
-use Rattle.replica.specs.Kept.{Variables, Kept, high_of, variables_of, IsStateOf}
+use Rattle.replica.specs.Kept.{Variables, Kept, variables_of, IsStateOf}
 use Rattle.replica.specs.Changes.{changed, changed_variables, votes_after, IsStep}
 use Rattle.replica.specs.Ballots.{vote_noted, vote_counted, vote_change, IsVoteAt, IsVoteDecided}
 use Rattle.replica.specs.StepsTo.{Follows, StepsTo, answer, after}

@@ -10,7 +10,6 @@ use Rattle.definitions.specs.Trees.{TreeState, Stored, blocks, find_in, clear_ab
 use Rattle.definitions.proofs.Trees.{found-itself}
 use Rattle.definitions.proofs.Held.{lock-tree, executed-tree}
 use Rattle.block_tree.specs.Finding.{extends_in, clear_above_in}
-use Rattle.replica_rules.specs.Ruled.{HasMarks}
 
 -- what is stored makes a tree, in which lock and last executed block stand
 pub record Holds (all : List Stored) (c : Chronicle) : Type 0 where
@@ -26,9 +25,6 @@ sound-holds sizes c s = record {
   lock = lock-tree c s.is_tree;
   executed = executed-tree c s.is_tree;
 }
-
-pub marks-hold : (t : TreeState) (c : Chronicle) → HasMarks t c → Holds t.stored c
-marks-hold t c m = record { is_tree = m.is_tree; lock = m.lock; executed = m.executed }
 
 pub lock-found : (all : List Stored) (c : Chronicle) → Holds all c
     → find_in (digest_of (lock c)) (blocks all) ≡ Some (lock c)

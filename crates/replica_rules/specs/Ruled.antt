@@ -26,14 +26,3 @@ ruled_by c = record { vheight = vheight c; lock = ref_of (lock c); executed = re
 -- after a vote for a block of this height, if one was given
 abbrev pub with_vote : Bool → ℕ → Ruled → Ruled
 with_vote given height r = record r { vheight = if given then max height r.vheight else r.vheight }
-
--- lock and last executed block of the chronicle stand in the tree
-pub record HasMarks (t : TreeState) (c : Chronicle) : Type 0 where
-  pub is_tree : IsTree (blocks t.stored)
-  pub lock : Among (lock c) (blocks t.stored)
-  pub executed : Among (executed c) (blocks t.stored)
-
--- a new block was taken, unless what it decides conflicts with what was executed
-abbrev pub Took : Chronicle → Admitted → ℕ → Result (Unit {0}) Fault → Ruled → Type 0
-Took c a voted (Ok _) new = (conflicts (took_block a) c ≡ false) × (new ≡ record (ruled_by (took_block a ∷ c)) { vheight = voted })
-Took c a voted (Err _) new = conflicts (took_block a) c ≡ true

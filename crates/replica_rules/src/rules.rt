@@ -3,7 +3,7 @@
 ghost use Rattle.std.specs.Prelude.{◌≡◌, [], true, max, Some, OnErr};
 ghost use Rattle.definitions.specs.Trees.{blocks, find_in};
 ghost use Rattle.definitions.specs.Chronicles.{Chronicle, Admitted};
-ghost use Rattle.replica_rules.specs.Ruled.{HasMarks, ref_of, ruled_by, Took};
+ghost use Rattle.replica_rules.specs.Ruled.{ref_of, ruled_by};
 ghost use Rattle.replica_rules.specs.Votes.{is_safe_in, may_vote_at, may_vote_in, may_vote_over};
 ghost use Rattle.replica_rules.specs.Chains.{decides_against_in, executed_after, higher_of, ruled_after, decided_in};
 
@@ -152,23 +152,6 @@ impl Rules {
             lock: higher(self.lock, chain.second),
             executed: last_executed(self.executed, &chain),
         })
-    }
-
-    /// Takes the block of this digest, which stands in the tree and is new: the lock rises, and the block that
-    /// is decided becomes the last executed one where it is higher.
-    ///
-    /// `Conflict` comes where the decided block conflicts with the last executed one; nothing changed then.
-    pub fn took(&mut self, tree: &Tree, block: &Digest) -> Result<(), Fault>
-        ensures taken { (c : Chronicle) (a : Admitted) → self.old ≡ ruled_by c → HasMarks tree.now c → find_in block.now (blocks tree.now.stored) ≡ Some a.branch
-            → a.new ≡ true → Took c a self.old.vheight result self.new }
-        ensures conflict { OnErr result (result ≡ Err Fault.Conflict) }
-        ensures unchanged { OnErr result (self.new ≡ self.old) }
-    {
-        let Some(justified) = justified(tree, block) else {
-            return Ok(());
-        };
-        *self = self.taking(tree, justified)?;
-        Ok(())
     }
 
     /// The block that the one of this digest decides, if it stands in the tree: three blocks in direct

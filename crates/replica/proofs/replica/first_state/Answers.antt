@@ -1,8 +1,6 @@
 use Rattle.std.proofs.Common.{List, ℕ, [], reverse, None, ap, sym, ◌∙◌}
 use Rattle.ids.specs.Sizes.{Sizes}
 use Rattle.vote_collector.specs.Collecting.{Collected}
-use Rattle.definitions.specs.Keyrings.{Keys}
-use Rattle.replica.specs.declared.stored.StoredStep.{StoredStep}
 use Rattle.replica.specs.Replay.{replay}
 use Rattle.replica.proofs.First.{first}
 use Rattle.replica.proofs.replica.first_state.Goals as goal
