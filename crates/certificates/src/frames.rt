@@ -16,7 +16,7 @@ use crate::checked::{Authenticated, CarriesBlock, Certified, Checked};
 use crate::claims::{Claims, OwnTag};
 use authenticators::Keyring;
 use frames_view::{BlockView, CommandView, FetchView, NewViewView, ProposalView, VoteFrameView};
-use ids::{Config, Fault, Kind};
+use ids::{Config, Fault, Kind, PartyId};
 
 impl<'a> Authenticated for ProposalView<'a> {
     ghost shows = { λ f. frame (proposal_of f) };
@@ -127,7 +127,7 @@ impl<'a> Authenticated for FetchView<'a> {
     fn claims(&self, _keyring: &Keyring) -> Claims<'_> {
         let own = OwnTag {
             kind: Kind::Fetch,
-            sender: self.sender().into(),
+            sender: PartyId::from(self.sender()),
             content: self.content(),
             tag: self.tag(),
         };
