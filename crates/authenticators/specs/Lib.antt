@@ -1,2 +1,3 @@
 pub use Rattle.definitions.specs.Tags
 pub use Rattle.definitions.specs.Keyrings
+pub mod Keyed

@@ -4,7 +4,7 @@ ghost use Rattle.ids.specs.Sizes.{replicas};
 ghost use Rattle.definitions.specs.Tags.{tag_text};
 ghost use Rattle.definitions.specs.Keyrings.{keys_due, is_peer, place_of, keyring_of, tag_for, verify, vector_for};
 
-use crate::mac::hmac_of_parts;
+use crate::shared_key::SharedKey;
 use ids::{Config, Fault, Kind, PartyId, ReplicaId};
 use std::marker::Model;
 
@@ -15,7 +15,7 @@ use std::marker::Model;
 pub struct Keyring {
     config: Config,
     party: PartyId,
-    keys: Vec<[u8; 32]>,
+    keys: Vec<SharedKey>,
 }
 
 impl Model for Keyring {
@@ -32,7 +32,7 @@ impl Model for Keyring {
 impl Keyring {
     /// The keyring of a party, of its key with each replica in order, and then, where it is a replica, with each
     /// client.
-    pub fn new(config: Config, party: PartyId, keys: Vec<[u8; 32]>) -> Keyring
+    pub fn new(config: Config, party: PartyId, keys: Vec<SharedKey>) -> Keyring
         requires { length keys.items ≡ keys_due config party }
         ensures { result ≡ record { sizes = config; party = party; keys = keys.items } }
     {
@@ -73,7 +73,7 @@ impl Keyring {
         ensures { result ≡ tag_for (keyring_of self.now) label to content.now }
     {
         let head = head(label, self.party, to);
-        hmac_of_parts(self.key(to), &head, content)
+        self.key(to).hmac_of_parts(&head, content)
     }
 
     /// Whether this is the tag of a content from a sender. All 32 bytes are compared, wherever
@@ -84,7 +84,7 @@ impl Keyring {
         ensures { result ≡ verify (keyring_of self.now) label from content.now tag.now }
     {
         let head = head(label, from, self.party);
-        let right = hmac_of_parts(self.key(from), &head, content);
+        let right = self.key(from).hmac_of_parts(&head, content);
         are_equal(tag, &right)
     }
 
@@ -104,7 +104,7 @@ impl Keyring {
     }
 
     /// The key that is shared with a peer.
-    fn key(&self, peer: PartyId) -> &[u8; 32]
+    fn key(&self, peer: PartyId) -> &SharedKey
         requires { IsTrue (is_peer self.now peer) }
         ensures { result.now ≡ (keyring_of self.now).key peer }
     {

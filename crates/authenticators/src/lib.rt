@@ -6,6 +6,8 @@
 
 mod keyring;
 mod mac;
+mod shared_key;
 
 pub use keyring::Keyring;
 pub use mac::hmac;
+pub use shared_key::SharedKey;

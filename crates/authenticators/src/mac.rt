@@ -1,5 +1,7 @@
 ghost use Rattle.std.specs.Prelude.{◌≡◌, ◌-◌, ◌≤◌, ◌++◌, length, map, bit_xor, replicate};
+ghost use Rattle.definitions.specs.Bytes.{Bytes};
 ghost use Rattle.definitions.specs.Tags.{hmac, block_key};
+ghost use Rattle.authenticators.specs.Keyed.{IsKeyed};
 
 use sha2::{Digest, Sha256};
 
@@ -10,26 +12,55 @@ const BLOCK: usize = 64;
 pub fn hmac(key: &[u8], text: &[u8]) -> [u8; 32]
     ensures { result ≡ hmac key.now text.now }
 {
-    hmac_of_parts(key, &[], text)
+    KeyedHashers::new(key).hmac_of_parts(&[], text)
 }
 
-/// The same of a text that is given in two parts, so that nothing is copied.
-#[tactic(auto, unfolding(definitions::specs::Tags::hmac))]
-pub(crate) fn hmac_of_parts(key: &[u8], head: &[u8], rest: &[u8]) -> [u8; 32]
-    ensures { result ≡ hmac key.now (head.now ++ rest.now) }
-{
-    let block = block_of_key(key);
-    let inner_key = masked(&block, 0x36);
-    let mut inner = Sha256::new();
-    inner.update(inner_key.as_slice());
-    inner.update(head);
-    inner.update(rest);
-    let digest = inner.finalize();
-    let outer_key = masked(&block, 0x5c);
-    let mut outer = Sha256::new();
-    outer.update(outer_key.as_slice());
-    outer.update(digest.as_slice());
-    outer.finalize()
+/// The two hashers of an HMAC that have taken the two blocks which are made of the key, and nothing else.
+#[derive(Drop)]
+pub(crate) struct KeyedHashers {
+    inner: Sha256,
+    outer: Sha256,
+}
+
+impl KeyedHashers {
+    /// Those of a key of any length.
+    pub(crate) fn new(key: &[u8]) -> KeyedHashers
+        ensures { IsKeyed key.now result }
+    {
+        let block = block_of_key(key);
+        let inner_key = masked(&block, 0x36);
+        let outer_key = masked(&block, 0x5c);
+        KeyedHashers {
+            inner: Sha256::new_with_prefix(inner_key.as_slice()),
+            outer: Sha256::new_with_prefix(outer_key.as_slice()),
+        }
+    }
+
+    /// The same ones again, since an HMAC uses them up. No memory is taken.
+    pub(crate) fn copied(&self) -> KeyedHashers
+        ensures { result ≡ self.now }
+    {
+        KeyedHashers {
+            inner: self.inner.clone().unwrap(),
+            outer: self.outer.clone().unwrap(),
+        }
+    }
+
+    /// The HMAC under their key of a text that is given in two parts, so that nothing is copied.
+    #[tactic(auto, unfolding(definitions::specs::Tags::hmac))]
+    pub(crate) fn hmac_of_parts(self, head: &[u8], rest: &[u8]) -> [u8; 32]
+        ensures { (key : Bytes) → IsKeyed key self → result ≡ hmac key (head.now ++ rest.now) }
+    {
+        let KeyedHashers {
+            mut inner,
+            mut outer,
+        } = self;
+        inner.update(head);
+        inner.update(rest);
+        let digest = inner.finalize();
+        outer.update(digest.as_slice());
+        outer.finalize()
+    }
 }
 
 /// The key as one block: zero bytes behind it, and a longer one hashed first.

@@ -4,8 +4,8 @@ ghost use Rattle.mc_lines.specs.Meaning.{reply_of};
 ghost use Rattle.cache.specs.Steps.{counted};
 
 use crate::cache::Cache;
-use crate::number::{number, numeral};
-use mc_lines::Reply;
+use crate::number::numeral;
+use mc_lines::{Reply, read_number};
 use std::alloc::AllocError;
 
 /// How far a number is moved.
@@ -39,7 +39,7 @@ impl Cache {
         let Some(entry) = self.table.get(key) else {
             return Ok(Reply::NotFound);
         };
-        let Some(n) = number(&entry.stored) else {
+        let Some(n) = read_number(&entry.stored) else {
             return Ok(Reply::NoNumber);
         };
         let flags = entry.flags;

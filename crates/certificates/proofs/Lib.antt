@@ -1,2 +1,4 @@
 pub mod Clearing
 pub mod Counting
+pub mod Passing
+pub mod Genesis

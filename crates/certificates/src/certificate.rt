@@ -2,20 +2,28 @@
 
 ghost use Rattle.std.specs.Prelude.{◌≡◌, ◌<◌, ◌↔◌, IsTrue, IsOk, IfOk, OnErr};
 ghost use Rattle.ids.specs.Sizes.{replicas};
-ghost use Rattle.definitions.specs.Frames.{genesis_core};
 ghost use Rattle.definitions.specs.FrameLimits.{IsVote, IsCertificate};
 ghost use Rattle.definitions.specs.Checks.{identity_of, vote_verifies, counted, is_genesis, is_good};
 ghost use Rattle.frames_view.specs.Views.{vote_of, certificate_of};
+ghost use Rattle.certificates.specs.Shown as shown;
 ghost use Rattle.certificates.specs.Outcomes.{IsGivenIf};
 
+use crate::check::check;
 use crate::checked::{Authenticated, Certified, Checked};
+use crate::claims::Claims;
 use crate::voters::Voters;
 use authenticators::Keyring;
-use frames_view::{CertificateView, VoteView, genesis_digest};
-use ids::{Config, Digest, Fault, Kind, PartyId};
+use frames_view::{CertificateView, VoteView};
+use ids::{Config, Fault, Kind, PartyId};
+
+/// The digest of genesis, SHA-256 of its 49 zero bytes. It is proved to be that, so that no check computes it.
+const GENESIS: [u8; 32] = [
+    0x78, 0x87, 0x7f, 0xa8, 0x98, 0xf0, 0xb4, 0xc4, 0x5c, 0x9c, 0x33, 0xae, 0x94, 0x1e, 0x40, 0x61,
+    0x7a, 0xd7, 0xc8, 0x65, 0x7a, 0x30, 0x7d, 0xb6, 0x2b, 0xc5, 0x69, 0x1f, 0x92, 0xf4, 0xf6, 0x0e,
+];
 
 /// Whether the vote's tag for the keyring's own replica verifies.
-pub(crate) fn vote_verifies(keyring: &Keyring, digest: &[u8; 32], vote: &VoteView) -> bool
+fn vote_verifies(keyring: &Keyring, digest: &[u8; 32], vote: &VoteView) -> bool
     requires replica { keyring.now.party < replicas keyring.now.sizes }
     requires vote { IsVote keyring.now.sizes (vote_of vote.now) }
     ensures { result ≡ vote_verifies (identity_of keyring.now) digest.now (vote_of vote.now) }
@@ -41,10 +49,11 @@ fn counted(keyring: &Keyring, certificate: &CertificateView) -> Voters
 }
 
 /// Whether the digest is that of genesis.
+#[tactic(auto, using(crate::proofs::Genesis::digest_of_genesis))]
 fn is_genesis(digest: &[u8; 32]) -> bool
     ensures { result ≡ is_genesis digest.now }
 {
-    Digest(*digest) == genesis_digest()
+    digest.as_slice() == GENESIS.as_slice()
 }
 
 /// Whether the certificate is good, where these are its counted voters: that of genesis has no votes, and any other
@@ -77,24 +86,21 @@ pub(crate) fn good_voters(keyring: &Keyring, certificate: &CertificateView) -> R
 }
 
 impl<'a> Authenticated for CertificateView<'a> {
-    ghost use Rattle.definitions.specs.FrameLimits.{IsCertificate};
-    ghost use Rattle.definitions.specs.Checks.{is_good};
-    ghost use Rattle.frames_view.specs.Views.{certificate_of};
-    ghost use Rattle.definitions.specs.Frames.{genesis_core};
+    ghost shows = { λ q. shown.certificate (certificate_of q) };
 
-    ghost fits = { λ sizes q. IsCertificate sizes (certificate_of q) };
-
-    ghost passes = { λ self q. is_good self (certificate_of q) };
-
-    ghost certificate = { certificate_of };
-
-    ghost core = { λ _. genesis_core };
+    #[tactic(auto, unfolding(definitions::specs::Checks::is_clear_core))]
+    fn claims(&self, _keyring: &Keyring) -> Claims<'_> {
+        Claims {
+            own: None,
+            certificate: Some(*self),
+            core: None,
+        }
+    }
 }
 
 impl<'a> Certified for CertificateView<'a> {}
 
 /// The certificate, if it is good; else `BadTag`.
-#[tactic(auto, unfolding(definitions::specs::Checks::is_clear_core))]
 pub fn check_cert<'a>(
     keyring: &'a Keyring,
     config: &Config,
@@ -105,6 +111,5 @@ pub fn check_cert<'a>(
     requires certificate { IsCertificate config.now (certificate_of view.now) }
     ensures { IsGivenIf (is_good (identity_of keyring.now) (certificate_of view.now)) keyring.now view.now result }
 {
-    let voters = good_voters(keyring, view)?;
-    Ok(Checked::new(keyring, *config, *view, voters, true))
+    check(keyring, config, view)
 }

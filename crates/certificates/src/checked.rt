@@ -1,10 +1,11 @@
 //! What a check has found.
 
-ghost use Rattle.std.specs.Prelude.{◌≡◌, ◌<◌, Bool, IsTrue};
-ghost use Rattle.ids.specs.Sizes.{Sizes, replicas};
-ghost use Rattle.definitions.specs.Frames.{Core, Certificate};
-ghost use Rattle.definitions.specs.Checks.{Identity, identity_of, counted, is_clear_core};
+ghost use Rattle.std.specs.Prelude.{◌≡◌, ◌<◌, IsTrue};
+ghost use Rattle.ids.specs.Sizes.{replicas};
+ghost use Rattle.definitions.specs.Checks.{identity_of, counted, is_clear_core};
+ghost use Rattle.certificates.specs.Shown.{Shown, Fits, passes, certificate_in, core_in, AreClaims};
 
+use crate::claims::Claims;
 use crate::voters::Voters;
 use authenticators::Keyring;
 use ids::{Config, ReplicaId};
@@ -12,17 +13,14 @@ use std::marker::Model;
 
 /// A view that can be checked.
 pub trait Authenticated {
-    // it is one at these sizes
-    ghost fits: { Sizes → Self → Type 0 };
+    // what it shows
+    ghost shows: { Self → Shown };
 
-    // it passes the check of the replica that has this identity
-    ghost passes: { Identity → Self → Bool };
-
-    // the certificate in it
-    ghost certificate: { Self → Certificate };
-
-    // the core in it
-    ghost core: { Self → Core };
+    /// What it claims to the keyring's replica.
+    fn claims(&self, keyring: &Keyring) -> Claims<'_>
+        requires replica { keyring.now.party < replicas keyring.now.sizes }
+        requires fits { Fits keyring.now.sizes (shows self.now) }
+        ensures { AreClaims keyring.now (shows self.now) result };
 }
 
 /// A view with a certificate in it.
@@ -46,6 +44,7 @@ impl<'a, V: Authenticated> Model for Checked<'a, V> {
     ghost use Rattle.ids.specs.Sizes.{replicas};
     ghost use Rattle.definitions.specs.Checks.{identity_of, counted, is_clear_core};
     ghost use Rattle.certificates.specs.Outcomes.{CheckedView};
+    ghost use Rattle.certificates.specs.Shown.{Fits, passes, certificate_in, core_in};
 
     ghost Value = { CheckedView V };
 
@@ -53,10 +52,10 @@ impl<'a, V: Authenticated> Model for Checked<'a, V> {
 
     ghost invariant = { λ c. (c.config ≡ c.keyring.now.sizes)
         × (c.keyring.now.party < replicas c.keyring.now.sizes)
-        × V.fits c.keyring.now.sizes c.view
-        × IsTrue (V.passes (identity_of c.keyring.now) c.view)
-        × (c.voters ≡ counted (identity_of c.keyring.now) (V.certificate c.view))
-        × (c.clear ≡ is_clear_core (identity_of c.keyring.now) (V.core c.view)) };
+        × Fits c.keyring.now.sizes (V.shows c.view)
+        × IsTrue (passes (identity_of c.keyring.now) (V.shows c.view))
+        × (c.voters ≡ counted (identity_of c.keyring.now) (certificate_in (V.shows c.view)))
+        × (c.clear ≡ is_clear_core (identity_of c.keyring.now) (core_in (V.shows c.view))) };
 }
 
 impl<'a, V: Authenticated> Checked<'a, V> {
@@ -70,10 +69,10 @@ impl<'a, V: Authenticated> Checked<'a, V> {
     ) -> Checked<'a, V>
         requires sizes { config ≡ keyring.now.sizes }
         requires replica { keyring.now.party < replicas config }
-        requires fits { V.fits config view }
-        requires passed { IsTrue (V.passes (identity_of keyring.now) view) }
-        requires voters { voters ≡ counted (identity_of keyring.now) (V.certificate view) }
-        requires clear { clear ≡ is_clear_core (identity_of keyring.now) (V.core view) }
+        requires fits { Fits config (V.shows view) }
+        requires passed { IsTrue (passes (identity_of keyring.now) (V.shows view)) }
+        requires voters { voters ≡ counted (identity_of keyring.now) (certificate_in (V.shows view)) }
+        requires clear { clear ≡ is_clear_core (identity_of keyring.now) (core_in (V.shows view)) }
         ensures { result ≡ record { keys = keyring.entry.now; view = view } }
     {
         Checked {
@@ -103,8 +102,8 @@ impl<'a, V: Authenticated> Checked<'a, V> {
     /// The view, which is one at these sizes and passes.
     pub fn view(&self) -> &V
         ensures view { result.now ≡ self.now.view }
-        ensures fits { V.fits self.now.keys.sizes self.now.view }
-        ensures passed { IsTrue (V.passes (identity_of self.now.keys) self.now.view) }
+        ensures fits { Fits self.now.keys.sizes (V.shows self.now.view) }
+        ensures passed { IsTrue (passes (identity_of self.now.keys) (V.shows self.now.view)) }
     {
         &self.view
     }
@@ -113,7 +112,7 @@ impl<'a, V: Authenticated> Checked<'a, V> {
 impl<'a, V: Certified> Checked<'a, V> {
     /// The voters of its certificate whose tags verify.
     pub fn counted(&self) -> &[ReplicaId]
-        ensures { result.now ≡ counted (identity_of self.now.keys) (V.certificate self.now.view) }
+        ensures { result.now ≡ counted (identity_of self.now.keys) (certificate_in (V.shows self.now.view)) }
     {
         self.voters.as_slice()
     }
@@ -122,7 +121,7 @@ impl<'a, V: Certified> Checked<'a, V> {
 impl<'a, V: CarriesBlock> Checked<'a, V> {
     /// Whether the tag of each command in its block verifies.
     pub fn is_clear(&self) -> bool
-        ensures { result ≡ is_clear_core (identity_of self.now.keys) (V.core self.now.view) }
+        ensures { result ≡ is_clear_core (identity_of self.now.keys) (core_in (V.shows self.now.view)) }
     {
         self.clear
     }

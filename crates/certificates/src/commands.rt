@@ -11,7 +11,7 @@ use frames_view::{CommandView, CoreView};
 use ids::{Kind, PartyId};
 
 /// Whether the command's tag for the keyring's own replica verifies.
-pub(crate) fn command_verifies(keyring: &Keyring, command: &CommandView) -> bool
+fn command_verifies(keyring: &Keyring, command: &CommandView) -> bool
     requires replica { keyring.now.party < replicas keyring.now.sizes }
     requires command { IsCommand keyring.now.sizes (command_of command.now) }
     ensures { result ≡ command_verifies (identity_of keyring.now) (command_of command.now) }

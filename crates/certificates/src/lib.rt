@@ -4,22 +4,16 @@
 //! certificate in it has to be good. No check takes memory.
 #![tactic(auto)]
 
-mod block;
 mod certificate;
+mod check;
 mod checked;
+mod claims;
 mod commands;
-mod fetch;
-mod new_view;
-mod proposal;
-mod request;
-mod vote;
+mod frames;
 mod voters;
 
-pub use block::check_block;
 pub use certificate::check_cert;
 pub use checked::{Authenticated, CarriesBlock, Certified, Checked};
-pub use fetch::check_fetch;
-pub use new_view::check_new_view;
-pub use proposal::check_proposal;
-pub use request::check_request;
-pub use vote::check_vote;
+pub use frames::{
+    check_block, check_fetch, check_new_view, check_proposal, check_request, check_vote,
+};

@@ -1,5 +1,6 @@
 pub mod Parts
 pub mod Numbers
+pub mod Decimals
 pub mod Places
 pub mod Ends
 pub mod LineLaws

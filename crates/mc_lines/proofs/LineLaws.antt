@@ -1,14 +1,14 @@
 -- What a line says is what its text spells, and the other way round.
-use Rattle.std.proofs.Common.{◌≡◌, ℕ, zero, suc, ◌+◌, ◌^◌, ◌<◌, ◌≤◌, Bool, true, false, cond, not, List, [], ◌∷◌, ◌++◌, length, get_or, Option, Some, None, refl, sym, ap, subst, ◌∙◌, inl, inr, arith, rules}
-use Rattle.std.specs.Prelude.{◌==◌, ◌||◌, nat_le, nat_lt, codes, decimal, bytes_eq, option_map, slice_index_or, Contains}
-use Rattle.std.specs.List.{list_all, AllByRecursion, join_with_byte}
+use Rattle.std.proofs.Common.{◌≡◌, ℕ, zero, suc, ◌+◌, ◌^◌, ◌<◌, ◌≤◌, Bool, true, false, cond, ◌&&◌, List, [], ◌∷◌, ◌++◌, length, Option, Some, None, refl, sym, ap, subst, ◌∙◌, arith}
+use Rattle.std.specs.Prelude.{nat_lt, codes, decimal, bytes_eq, option_map, slice_index_or, Contains}
+use Rattle.std.specs.List.{AllByRecursion, join_with_byte}
 use Rattle.std.specs.Str.Parse.{digits_value}
-use Rattle.std.proofs.lemmas.Bool.{and_parts, and_from, leb-true, le-leb, eqb-false, ltb-true, lt-ltb, ne_eqb, cases_eq, not-true, or_cases}
+use Rattle.std.proofs.lemmas.Bool.{and_parts, and_from, ltb-true, lt-ltb}
 use Rattle.std.proofs.lemmas.Option.{same_Some, cond_some}
 use Rattle.std.proofs.lemmas.List.{append-nil}
-use Rattle.std.proofs.lemmas.Str.Parse.{IsNumeralModel, numerals_by_value}
-use Rattle.std.proofs.lemmas.Fmt.{decimal-digits_value, digits_decimal, digits_value-decimal, decimal_nonempty, first_decimal, decimal_digit}
+use Rattle.std.proofs.lemmas.Slice.Eq.{bytes_eq-Decides}
 use Rattle.definitions.specs.Bytes.{Bytes}
+use Rattle.definitions.specs.Cache.{number_in}
 use Rattle.definitions.specs.Requests.{Verb, set, add, replace, append, prepend, Head, store, cas, get, gets, delete, incr, decr, space, verb_name, fields, noreply_field, IsKey, AreKeys, HasForm, MayHave}
 use Rattle.definitions.specs.Items.{names, name_of, IsLineOf}
 use Rattle.definitions.proofs.Lines.{parts-line, key_passes, is_key-passes}
@@ -18,10 +18,11 @@ use Rattle.mc_lines.specs.declared.line.Head as heads
 use Rattle.mc_lines.specs.declared.line.Head.TheVariants as lines
 use Rattle.mc_lines.specs.declared.line.Name.{Name}
 use Rattle.mc_lines.specs.declared.line.Name.TheVariants as named
-use Rattle.mc_lines.specs.Fields.{parts, keys_pass, is_digit, is_numeral, value_in, number_in, ◌>>=◌, key_first, number_first, flags_first, expiry_first, noreply_in}
+use Rattle.mc_lines.specs.Fields.{parts, keys_pass, ◌>>=◌, key_first, number_first, flags_first, expiry_first, noreply_in}
 use Rattle.mc_lines.specs.Meaning.{verb_of}
 use Rattle.mc_lines.specs.Heads.{head_of, head_place, name_in, store_in, cas_in, delete_in, counted_in, keys_in, head_for}
 use Rattle.mc_lines.proofs.Parts.{bytes_same, parts_joined}
+use Rattle.mc_lines.proofs.Decimals.{number-decimal}
 
 -- ---- steps that gave something
 
@@ -47,47 +48,18 @@ map_some f None y e = absurd cc
 
 -- ---- numbers
 
--- a number by its digits
-own : IsNumeralModel (λ ds. list_all is_digit ds ≡ true) (digits_value 10)
-own = numerals_by_value _ (search rules)
-
--- where a numeral begins with 0, it is no longer
-leads : (t : Bytes) → (not (get_or t 0 0 == 48) || nat_le (length t) 1) ≡ true → 1 ≤ length t → get_or t 0 0 ≡ 48 → length t ≡ 1
-leads t e long z =
-    elim (or_cases _ _ e) [
-      | inl p ↦ absurd (eqb-false _ _ (not-true _ p) z)
-      | inr p ↦ let short : length t ≤ 1 = leb-true _ _ p in omega arith
-    ]
-
 -- what is read as a number is its decimal
 number_in-some : (t : Bytes) (n : ℕ) → number_in t ≡ Some n → (t ≡ decimal n) × (n < 2 ^ 64)
 number_in-some t n e =
-    let a = passed (is_numeral t) (value_in t) n e in
-    let b = cond_some (nat_lt (digits_value 10 t) (2 ^ 64)) (digits_value 10 t) n a.1 in
-    let last = and_parts _ _ a.0 in
-    let front = and_parts _ _ last.0 in
-    let long : 1 ≤ length t = leb-true _ _ front.0 in
-    let below : digits_value 10 t < 2 ^ 64 = ltb-true _ _ b.0 in
-    let same : decimal (digits_value 10 t) ≡ t = decimal-digits_value own t last.1 (omega arith) (leads t front.1 long) below in
-    (sym same ∙ ap decimal b.1, omega (arith, b.1, below))
-
--- a decimal begins with 0 only where it is no longer
-leading : (n : ℕ) → n < 2 ^ 64 → (not (get_or (decimal n) 0 0 == 48) || nat_le (length (decimal n)) 1) ≡ true
-leading n lt =
-    elim (cases_eq n 0) [
-      | inl z ↦ rw z (rw (decimal_digit 0 (omega arith)) refl)
-      | inr nz ↦ let high : 48 < get_or (decimal n) 0 0 = first_decimal n (omega arith) lt in rw (ne_eqb (get_or (decimal n) 0 0) 48 (λ e. omega arith)) refl
-    ]
+    let m = digits_value 10 t in
+    let a = cond_some (nat_lt m (2 ^ 64) && bytes_eq t (decimal m)) m n e in
+    let both = and_parts _ _ a.0 in
+    let below : m < 2 ^ 64 = ltb-true _ _ both.0 in
+    ((bytes_eq-Decides t (decimal m)).0 both.1 ∙ ap decimal a.1, omega (arith, a.1, below))
 
 -- a decimal is read as its number
 number_in-decimal : (n : ℕ) → n < 2 ^ 64 → number_in (decimal n) ≡ Some n
-number_in-decimal n lt =
-    let some : 0 < length (decimal n) = decimal_nonempty n lt in
-    let long : nat_le 1 (length (decimal n)) ≡ true = le-leb _ _ (omega arith) in
-    let test : is_numeral (decimal n) ≡ true = and_from _ _ (and_from _ _ long (leading n lt)) (digits_decimal own n lt) in
-    let value : digits_value 10 (decimal n) ≡ n = digits_value-decimal own n lt in
-    let whole : value_in (decimal n) ≡ Some n = ap (λ (m : ℕ). cond (nat_lt m (2 ^ 64)) (Some m) None) value ∙ rw (lt-ltb n (2 ^ 64) lt) refl in
-    rw (test, whole) refl
+number_in-decimal n lt = sym (number-decimal (decimal n) n lt refl)
 
 -- ---- the steps, from what they gave
 

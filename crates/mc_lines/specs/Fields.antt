@@ -1,11 +1,12 @@
 -- The fields of a line, read one after the other: what the steps of the reader give.
-use Rattle.std.specs.Prelude.{ℕ, zero, suc, ◌^◌, Bool, true, false, ◌&&◌, ◌||◌, not, List, [], ◌∷◌, length, nat_lt, nat_le, ◌==◌, codes, bytes_eq, Option, Some, None, if◌then◌else◌, option_and_then, slice_index}
-use Rattle.std.specs.List.{slice_split, list_all}
+use Rattle.std.specs.Prelude.{ℕ, zero, suc, ◌^◌, Bool, true, false, ◌&&◌, not, List, [], ◌∷◌, nat_lt, nat_le, ◌==◌, codes, bytes_eq, Option, Some, None, if◌then◌else◌, option_and_then}
+use Rattle.std.specs.List.{slice_split}
 use Rattle.std.specs.Borrow.{Bor}
 use Rattle.std.specs.Str.Parse.{digits_value}
 use Rattle.definitions.specs.Bytes.{Bytes}
 use Rattle.definitions.specs.Requests.{space}
 use Rattle.definitions.specs.Canonical.{is_key}
+use Rattle.definitions.specs.Cache.{number_in}
 
 -- the fields that a text has between its spaces
 abbrev pub parts : Bytes → List Bytes
@@ -31,17 +32,9 @@ keys_pass (suc most) (key ∷ next ∷ keys) = is_key key && keys_pass most (nex
 abbrev pub is_digit : ℕ → Bool
 is_digit b = nat_le 48 b && nat_le b 57
 
--- digits alone, with no zero before others
-abbrev pub is_numeral : Bytes → Bool
-is_numeral text = nat_le 1 (length text) && (not (slice_index text 0 == 48) || nat_le (length text) 1) && list_all is_digit text
-
 -- the number that digits write, where it is below 2^64
 abbrev pub value_in : Bytes → Option ℕ
 value_in text = if nat_lt (digits_value 10 text) (2 ^ 64) then Some (digits_value 10 text) else None
-
--- the number that a field writes
-abbrev pub number_in : Bytes → Option ℕ
-number_in text = if is_numeral text then value_in text else None
 
 -- one step after another, each of which may fail
 infixl 10 ◌>>=◌

@@ -4,7 +4,7 @@ ghost use Rattle.mc_lines.specs.Fields.{parts, parts_after, key_first, number_fi
 ghost use Rattle.mc_lines.specs.Meaning.{LentIn};
 
 use crate::keys::is_key;
-use crate::number::number;
+use crate::number::read_number;
 
 /// Where the first space stands.
 fn space_in(line: &[u8]) -> Option<usize>
@@ -39,7 +39,7 @@ pub(crate) fn value(rest: Option<&[u8]>) -> Option<(u64, Option<&[u8]>)>
     ensures { option_map (λ x. (x.0, parts_after x.1)) result ≡ number_first (parts_after rest.entry) }
 {
     let (field, rest) = cut(rest?);
-    let n = number(field)?;
+    let n = read_number(field)?;
     Some((n, rest))
 }
 

@@ -17,6 +17,7 @@ mod write;
 
 pub use ids::LineFault;
 pub use keys::{KeyIter, Keys};
+pub use number::read_number;
 pub use read::{Read, read_canonical, read_request};
 pub use reply::{Reply, Value, fault_text};
 pub use request::{Request, Verb};

@@ -1,6 +1,7 @@
 ghost use Rattle.std.specs.Prelude.{◌≡◌, IsTrue};
 ghost use Rattle.std.specs.List.{list_all};
-ghost use Rattle.mc_lines.specs.Fields.{is_digit, value_in, number_in};
+ghost use Rattle.definitions.specs.Cache.{number_in};
+ghost use Rattle.mc_lines.specs.Fields.{is_digit, value_in};
 
 /// Whether all bytes are digits.
 fn are_digits(field: &[u8]) -> bool
@@ -25,8 +26,9 @@ fn value(field: &[u8]) -> Option<u64>
     Some(n)
 }
 
-/// The number that the field writes, where it is below 2^64: digits, and no 0 before another one.
-pub(crate) fn number(field: &[u8]) -> Option<u64>
+/// The number that the field writes, where it is below 2^64: digits alone, and no 0 before another one.
+#[tactic(auto, using(crate::proofs::Decimals::number_in_tested, crate::proofs::Decimals::number_in_untested))]
+pub fn read_number(field: &[u8]) -> Option<u64>
     ensures { result ≡ number_in field.now }
 {
     if field.is_empty() || (field[0] == b'0' && field.len() > 1) || !are_digits(field) {

@@ -1,5 +1,5 @@
 -- The text of a schedule.
-use Rattle.std.specs.Prelude.{◌≡◌, ◌≢◌, ℕ, ◌-◌, ◌<◌, ◌⊎◌, slice_index, length, ◌++◌, codes, decimal, nat_lt, if◌then◌else◌, Option, Some, None}
+use Rattle.std.specs.Prelude.{◌≡◌, ◌≢◌, ℕ, ◌-◌, ◌<◌, ◌++◌, codes, decimal, nat_lt, if◌then◌else◌, Option, Some, None}
 use Rattle.definitions.specs.Bytes.{Bytes}
 
 -- what is read of a text: the value that it spells, and nothing where it spells none
@@ -21,7 +21,3 @@ client_text client = codes "c" ++ decimal client
 -- a party: replica i is i, client c is 256 + c
 abbrev pub party_text : ℕ → Bytes
 party_text party = if nat_lt party 256 then replica_text party else client_text (party - 256)
-
--- a word begins with a sign, or with a zero before more
-abbrev pub IsPadded : Bytes → Type 0
-IsPadded word = (slice_index word 0 ≡ 43) ⊎ ((slice_index word 0 ≡ 48) × (1 < length word))

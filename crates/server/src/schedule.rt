@@ -7,7 +7,7 @@
 
 ghost use Rattle.std.specs.Prelude.{◌≡◌, ◌^◌, ◌↔◌, ◌<◌, decimal, length, IsTrue, IsNone, IsOk, IfSome, IfOk, IfErr, OnErr, MatchOption, position};
 ghost use Rattle.ids.specs.Sizes.{AreSizes};
-ghost use Rattle.server.specs.Texts.{IsReadOf, IsBelow, IsPadded, replica_text, party_text};
+ghost use Rattle.server.specs.Texts.{IsReadOf, IsBelow, replica_text, party_text};
 ghost use Rattle.definitions.specs.Bytes.{Bytes};
 ghost use Rattle.server.specs.Schedules.{BeginsWith, IsPlain, is_lf, IsTextOf, HasNoSizes, HasNoEvent};
 ghost use Rattle.server.specs.Faults.{IsWhyNot};
@@ -15,6 +15,7 @@ ghost use Rattle.server.specs.Lines.{AreNumbers, numbers_text, sizes_text, IsDel
 
 use crate::sim_fault::SimFault;
 use ids::{ClientId, Config, Fault, PartyId, ReplicaId};
+use mc_lines::read_number;
 use std::alloc::Global;
 
 /// One event of a run.
@@ -174,18 +175,9 @@ fn small_number_of(word: &str) -> Option<u8>
 }
 
 /// The number that a decimal without a sign and leading zeros writes.
+#[tactic(auto, using(crate::proofs::Numbers::number_is_read))]
 fn number_of(word: &str) -> Option<u64>
     ensures { IsReadOf decimal (IsBelow (2 ^ 64)) word.now result }
 {
-    if is_padded(word.as_bytes()) {
-        return None;
-    }
-    word.parse().ok()
-}
-
-/// Whether a word begins with a sign, or with a zero before more.
-fn is_padded(word: &[u8]) -> bool
-    ensures { IsTrue result ↔ IsPadded word.now }
-{
-    !word.is_empty() && (word[0] == b'+' || (word[0] == b'0' && word.len() > 1))
+    read_number(word.as_bytes())
 }

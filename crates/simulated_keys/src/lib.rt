@@ -5,7 +5,7 @@
 ghost use Rattle.std.specs.Prelude.{◌≡◌, ◌+◌, ◌≤◌, ◌^◌, ◌++◌, IfOk, OnOk, OnErr};
 ghost use Rattle.simulated_keys.specs.Keys.{simulated_key, keys_with, simulated_keys};
 
-use authenticators::Keyring;
+use authenticators::{Keyring, SharedKey};
 use ids::{ClientId, Config, Fault, PartyId, ReplicaId};
 use sha2::{Digest, Sha256};
 use std::alloc::Global;
@@ -26,7 +26,7 @@ pub fn keyring_of(alloc: Global, config: Config, party: PartyId) -> Result<Keyri
 
 /// Appends a party's keys with so many parties from one on.
 fn push_keys(
-    keys: &mut Vec<[u8; 32]>,
+    keys: &mut Vec<SharedKey>,
     party: PartyId,
     first: PartyId,
     count: u8,
@@ -43,10 +43,10 @@ fn push_keys(
 
 /// The key of two parties.
 #[tactic(auto, unfolding(crate::specs::Keys::simulated_key))]
-fn key_of(one: PartyId, other: PartyId) -> [u8; 32]
+fn key_of(one: PartyId, other: PartyId) -> SharedKey
     ensures { result ≡ simulated_key one other }
 {
     let [l0, l1] = one.0.min(other.0).to_be_bytes();
     let [h0, h1] = one.0.max(other.0).to_be_bytes();
-    Sha256::digest(&[b'h', b's', b'i', b'm', l0, l1, h0, h1])
+    SharedKey::new(Sha256::digest(&[b'h', b's', b'i', b'm', l0, l1, h0, h1]))
 }

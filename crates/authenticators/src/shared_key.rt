@@ -1,0 +1,41 @@
+ghost use Rattle.std.specs.Prelude.{◌≡◌, ◌++◌};
+ghost use Rattle.definitions.specs.Tags.{hmac};
+
+use crate::mac::KeyedHashers;
+use std::marker::Model;
+
+/// The key of two parties, made ready for tags: with it stand the hashers that have taken its blocks, so that no tag
+/// hashes these again. Contracts see the 32 bytes of the key.
+#[derive(Drop)]
+pub struct SharedKey {
+    bytes: [u8; 32],
+    hashers: KeyedHashers,
+}
+
+impl Model for SharedKey {
+    ghost use Rattle.definitions.specs.Bytes.{Bytes};
+    ghost use Rattle.authenticators.specs.Keyed.{IsKeyed};
+
+    ghost Value = { Bytes };
+
+    ghost view = { λ k. k.bytes };
+
+    ghost invariant = { λ k. IsKeyed k.bytes k.hashers };
+}
+
+impl SharedKey {
+    /// The key of these bytes. It takes no memory.
+    pub fn new(bytes: [u8; 32]) -> SharedKey
+        ensures { result ≡ bytes }
+    {
+        let hashers = KeyedHashers::new(&bytes);
+        SharedKey { bytes, hashers }
+    }
+
+    /// The HMAC under this key of a text that is given in two parts.
+    pub(crate) fn hmac_of_parts(&self, head: &[u8], rest: &[u8]) -> [u8; 32]
+        ensures { result ≡ hmac self.now (head.now ++ rest.now) }
+    {
+        self.hashers.copied().hmac_of_parts(head, rest)
+    }
+}
