@@ -26,7 +26,7 @@ use Rattle.replica.specs.Kept.{Kept, own_of, variables_of, IsStateOf}
 use Rattle.replica.specs.Changes.{noting, changed_variables, IsStep}
 use Rattle.replica.specs.Beats.{child_height, child_of, child_ref, proposal_sent, own_sent, proposing, beat_change}
 use Rattle.replica.specs.StepsTo.{StepsTo, answer, after}
-use Rattle.replica.proofs.Steps.{BringsKnown, refused-for-memory, stands}
+use Rattle.replica.proofs.Steps.{brings_vote, BringsKnown, refused-for-memory, stands}
 use Rattle.replica.proofs.Stays.{calm, pace-same}
 
 -- ---- the child
@@ -87,12 +87,13 @@ proposed-beat keys c x e = rw e refl
 
 -- what is kept where this chronicle stands, with this pace
 abbrev state : Keys → Chronicle → Pace → Kept
-state keys c p = record { variables = variables_of keys c; pace = p }
+state keys c p = record { variables = variables_of keys c; pace = p; votes = record { sizes = keys.sizes; kept = [] } }
 
 -- the variables and what is sent
 record IsBeat (keys : Keys) (c : Chronicle) (d : Change) : Type 0 where
   variables : changed_variables d (variables_of keys c) ≡ variables_of keys (noted beat ∷ c)
   pace : d.pace ≡ None
+  growth : brings_vote d.growth ≡ false
   out : d.out ≡ shown (sendings (identity_of keys) (noted beat) c)
 
 -- by whether it leads, and whether its leaf is known
@@ -108,6 +109,7 @@ by-child keys c p none high at true true l k =
     record {
       variables = (λ i. record (variables_of keys c) { chronicle = noted beat ∷ c; leaf = ref-is keys c high i; own = Some (own i) }) ∙ sym (variables-beat keys c (Some (made keys c)) is);
       pace = refl;
+      growth = refl;
       out = (λ i. proposal_sent keys (at i) (own i) ∷ []) ∙ sent-led keys c _ l (proposed-beat keys c (Some (made keys c)) is);
     }
 by-child keys c p none high at true false l k =
@@ -115,9 +117,10 @@ by-child keys c p none high at true false l k =
     record {
       variables = sym (variables-beat keys c None no);
       pace = refl;
+      growth = refl;
       out = ap (λ (w : ℕ). own_sent keys w (option_map own_of (proposed (identity_of keys) c))) at ∙ sent-led keys c _ l (proposed-beat keys c None no);
     }
-by-child keys c p none high at false k l e = record { variables = sym (variables-beat keys c None (rw l refl)); pace = refl; out = sent-unled keys c l }
+by-child keys c p none high at false k l e = record { variables = sym (variables-beat keys c None (rw l refl)); pace = refl; growth = refl; out = sent-unled keys c l }
 
 known-found : (keys : Keys) (c : Chronicle) → is_known (digest_of (leaf (identity_of keys) c)) c ≡ is_some (find_in (digest_of (leaf (identity_of keys) c)) (blocks (stored c)))
 unfolding is_known find_block tree
@@ -154,7 +157,7 @@ unfolding ruling conflicts
 beat-decided keys c s (Ok d) few made memory o =
     let high = height-fits keys c o.leaf_low few in
     let at : s.pace.view ≡ view keys.sizes c = o.pace.view ∙ ap (λ (z : Sizes). view z c) o.sizes in
-    let is : IsBeat keys c d = subst (IsBeat keys c) (sym (made ∙ (λ i. beat_change keys (record { variables = o.same i; pace = s.pace })))) (beat-is keys c s.pace o.none_pending high at) in
-    stands keys _ c (noted beat) d s refl refl (ruling-sound (identity_of keys) beat_in c tt o.sound) (brings-none keys c) (calm (noted beat) c refl o.none_pending) o (step-is keys c s d o is)
+    let is : IsBeat keys c d = subst (IsBeat keys c) (sym (made ∙ (λ i. beat_change keys (record { variables = o.same i; pace = s.pace; votes = s.votes })))) (beat-is keys c s.pace o.none_pending high at) in
+    stands keys _ c (noted beat) d s refl refl (ruling-sound (identity_of keys) beat_in c tt o.sound) (brings-none keys c) (calm (noted beat) c refl o.none_pending) o (step-is keys c s d o is) tt is.growth
 beat-decided keys c s (Err n) few made memory o =
     subst (λ (x : Result (List Sent) Fault). StepsTo keys beat_in c x s) (sym (ap answer memory)) (refused-for-memory keys _ c (noted beat) s refl o)

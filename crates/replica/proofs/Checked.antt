@@ -1,9 +1,9 @@
 -- What is known of what was checked.
-use Rattle.std.proofs.Common.{ℕ, ◌≡◌, Bool, true, false, true≢false, refl, sym, subst}
+use Rattle.std.proofs.Common.{ℕ, ◌≡◌, ◌∙◌, Bool, true, false, true≢false, refl, sym, subst}
 use Rattle.std.proofs.lemmas.Bool.{and_parts, eqb-true}
 use Rattle.ids.specs.Sizes.{Sizes}
 use Rattle.definitions.specs.Frames as frame
-use Rattle.definitions.specs.FrameLimits.{IsFrame}
+use Rattle.definitions.specs.FrameLimits.{IsFrame, IsVote}
 use Rattle.definitions.specs.Keyrings.{Keys}
 use Rattle.definitions.specs.Checks.{Identity, identity_of, findings}
 use Rattle.definitions.specs.Frames.{Core, Certificate}
@@ -15,7 +15,9 @@ use Rattle.definitions.proofs.Sound.{IsChecked}
 use Rattle.certificates.specs.Outcomes.{CheckedView}
 use Rattle.frames_view.specs.declared.frame_views.ProposalView.{ProposalView}
 use Rattle.frames_view.specs.declared.frame_views.BlockView.{BlockView}
-use Rattle.frames_view.specs.Views.{proposal_of, block_of}
+use Rattle.frames_view.specs.declared.frame_views.VoteFrameView.{VoteFrameView}
+use Rattle.frames_view.specs.Fields.{frame_vote}
+use Rattle.frames_view.specs.Views.{proposal_of, block_of, vote_frame_of}
 use Rattle.replica.specs.Inputs.{proposal_offered, block_offered, same_sizes, same_replica}
 
 -- the same sizes
@@ -54,3 +56,9 @@ pub checked-block : (b : CheckedView BlockView) (keys : Keys) → same_replica b
 checked-block b keys a fr h =
     subst (λ (s : Sizes). IsChecked s (block_offered b).core (block_offered b).certificate (block_offered b).found) (addressed-sizes b.keys keys a)
     (checked-block-frame (identity_of b.keys) _ _ _ _ fr h)
+
+-- a vote that passed
+pub checked-vote : (v : CheckedView VoteFrameView) (keys : Keys) (x : VoteFrameView) (z : Sizes) → same_replica v.keys keys ≡ true → IsFrame v.keys.sizes (vote_frame_of v.view) → x ≡ v.view → z ≡ keys.sizes → IsVote z (frame_vote (vote_frame_of x))
+checked-vote v keys x z a fr ex ez =
+    subst (λ (y : VoteFrameView). IsVote z (frame_vote (vote_frame_of y))) (sym ex)
+    (subst (λ (s : Sizes). IsVote s (frame_vote (vote_frame_of v.view))) (addressed-sizes v.keys keys a ∙ sym ez) fr.1)

@@ -26,7 +26,7 @@ use Rattle.replica.specs.Kept.{Variables, Kept, variables_of, IsStateOf}
 use Rattle.replica.specs.Changes.{changed_variables, IsStep}
 use Rattle.replica.specs.Fetches.{supplied, fetch_change}
 use Rattle.replica.specs.StepsTo.{StepsTo, answer, after}
-use Rattle.replica.proofs.Steps.{BringsKnown, refused-for-memory, stands}
+use Rattle.replica.proofs.Steps.{brings_vote, BringsKnown, refused-for-memory, stands}
 use Rattle.replica.proofs.Stays.{calm, pace-same, variables-calm}
 
 -- ---- the block that is asked for
@@ -101,6 +101,6 @@ unfolding ruling conflicts
 fetch-decided keys c s f (Ok d) made memory o =
     let st = got_fetch f.sender (find_block f.block c) in
     stands keys _ c (noted st) d s refl refl (ruling-sound (identity_of keys) (fetch_in f.sender f.block) c tt o.sound) (brings-none keys c f.sender (find_block f.block c)) (calm (noted st) c refl o.none_pending) o
-    (subst (IsStep keys c (noted st) s.pace) (sym made) (fetch-step keys c s f o))
+    (subst (IsStep keys c (noted st) s.pace) (sym made) (fetch-step keys c s f o)) tt (ap (λ (x : Change). brings_vote x.growth) made)
 fetch-decided keys c s f (Err n) made memory o =
     subst (λ (x : Result (List Sent) Fault). StepsTo keys (fetch_in f.sender f.block) c x s) (sym (ap answer memory)) (refused-for-memory keys _ c (noted (got_fetch f.sender (find_block f.block c))) s refl o)

@@ -11,6 +11,9 @@ use Rattle.definitions.specs.Chronicles.{taken, stored, tree, IsSound}
 use Rattle.definitions.specs.States.{qc_high, leaf, pending, proposed}
 use Rattle.pacemaker.specs.Pacing.{IsPaceOf}
 use Rattle.replica_rules.specs.Ruled.{ref_of, ruled_by}
+use Rattle.vote_collector.specs.Collecting.{Collected}
+use Rattle.vote_collector.specs.Following.{IsVotesOf}
+use Rattle.vote_collector.proofs.Steps.{begins-empty}
 use Rattle.replica.specs.Kept.{Kept, IsStateOf}
 
 only-genesis : (x : Branch) → Among x ([] ∷ []) → x ≡ []
@@ -39,12 +42,14 @@ first-sound s = record {
 
 -- the state at the start
 pub first : (keys : Keys) (s : Kept) → s.variables ≡ record { chronicle = []; most = most_blocks; stored = []; rules = ruled_by []; high = record { block = ref_of []; certificate = record { digest = digest genesis_core; votes = [] } }; leaf = ref_of []; own = None }
-    → s.pace.sizes ≡ keys.sizes → IsPaceOf [] s.pace → IsStateOf keys [] s
+    → s.pace.sizes ≡ keys.sizes → IsPaceOf [] s.pace → s.votes ≡ record { sizes = keys.sizes; kept = [] } → IsStateOf keys [] s
 unfolding qc_high leaf proposed pending stored taken tree
-first keys s e z p = record {
+first keys s e z p v = record {
   same = e;
   sizes = z;
   pace = p;
+  vote_sizes = ap (λ (x : Collected). x.sizes) v;
+  votes = subst (λ (x : Collected). IsVotesOf keys.sizes [] x.kept) (sym v) (begins-empty keys.sizes);
   sound = first-sound keys.sizes;
   certified = inl refl;
   leaf_low = omega arith;

@@ -5,6 +5,7 @@ pub mod Beats
 pub mod Offers
 pub mod Announcements
 pub mod Fetches
+pub mod Ballots
 pub mod Checked
 pub mod Fits
 pub mod First

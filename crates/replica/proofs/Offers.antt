@@ -38,7 +38,7 @@ use Rattle.replica.specs.Kept.{Variables, Kept, high_of, own_of, variables_of, I
 use Rattle.replica.specs.Changes.{tree_of, raise_of, leaf_after, changed, changed_variables, IsStep}
 use Rattle.replica.specs.Offers.{Offered, is_for, justified_of, high_in, votes_sent, with_vote_in, again_change, new_change, IsTaken, IsDecidedAt, IsDecided}
 use Rattle.replica.specs.StepsTo.{Follows, halts, answer, after}
-use Rattle.replica.proofs.Steps.{is_beat, BringsKnown, refused-for-memory, refused-for-conflict, stands as stood, asks}
+use Rattle.replica.proofs.Steps.{is_beat, brings_vote, BringsKnown, refused-for-memory, refused-for-conflict, stands as stood, asks}
 use Rattle.replica.proofs.Stays.{same-some, qc-same, AreHigh, raise-is, unraised, proposed-same, calm, pace-same}
 
 -- ---- the step that takes a block
@@ -130,7 +130,7 @@ module _ (keys : Keys) (c : Chronicle) (s : Kept) (o : Offered) (is : IsStateOf 
         let rules = (λ i. with_vote_in (here i) (digest o.core) (stored c) (ruled_by c)) ∙ rules-again in
         let block : Bool → Branch → Admitted = λ t x. record { branch = x; core = o.core; certificate = o.certificate; counted = o.found.counted; clear = o.found.clear; new = false; voted = t } in
         record {
-          variables = (λ i. changed_variables (again_change keys (record { variables = is.same i; pace = s.pace }) o) v)
+          variables = (λ i. changed_variables (again_change keys (record { variables = is.same i; pace = s.pace; votes = s.votes }) o) v)
               ∙ (λ i. record v { chronicle = took_block (block (here i) (or_genesis (found-here i))) ∷ c; stored = sym (stored-known again c refl) i; rules = rules i })
               ∙ sym (variables-took keys again c None high-again);
           sizes = is.sizes;
@@ -216,7 +216,7 @@ module _ (keys : Keys) (c : Chronicle) (s : Kept) (o : Offered) (is : IsStateOf 
         let node = node-is t.node t.its_node in (
           subst (IsStep keys c (took_block new) s.pace) (sym t.change)
               (record {
-                variables = (λ i. changed_variables (new_change keys (record { variables = is.same i; pace = s.pace }) o t.node t.rules) v)
+                variables = (λ i. changed_variables (new_change keys (record { variables = is.same i; pace = s.pace; votes = s.votes }) o t.node t.rules) v)
                     ∙ (λ i. record v {
                       chronicle = took_block (block (here i) (node i) ((ap (λ (x : Stored). core_of x.branch) node ∙ core-is) i)) ∷ c;
                       stored = (ap (λ (x : Stored). x ∷ stored c) node ∙ sym (stored-new new c refl)) i;
@@ -264,9 +264,9 @@ due-sound : (keys : Keys) (c : Chronicle) (o : Offered) (new : Bool) (b : Branch
     → ((sender : ℕ) → on_block (identity_of keys) w sender o.core o.certificate o.found c ≡ take_block (identity_of keys) w (admitted b o.core o.certificate o.found new) c)
     → IsSound keys.sizes (took_block (record (admitted b o.core o.certificate o.found new) { voted = votes_for keys.sizes w (admitted b o.core o.certificate o.found new) c }) ∷ c)
 unfolding ruling
-due-sound keys c o new b None ch so e =
+due-sound keys c o fresh b None ch so e =
     subst (OnStands (λ st. IsSound keys.sizes (st ∷ c))) (e 0) (ruling-sound (identity_of keys) (block_in 0 o.core o.certificate o.found) c ch so)
-due-sound keys c o new b (Some w) ch so e =
+due-sound keys c o fresh b (Some w) ch so e =
     subst (OnStands (λ st. IsSound keys.sizes (st ∷ c))) (e (leader keys.sizes w)) (ruling-sound (identity_of keys) (proposal_in w o.core o.certificate o.found) c ch so)
 
 -- a refused block leaves all as it was
@@ -290,7 +290,7 @@ unfolding conflicts admitted
 known-ends keys c s o b d is so found e =
     let a = given keys c o false b in
     stood keys _ c (took_block a) d s refl refl so (known-brings keys c o b) (calm (took_block a) c refl is.none_pending) is
-    (subst (IsStep keys c (took_block a) s.pace) (sym e) (again-is keys c s o is b found))
+    (subst (IsStep keys c (took_block a) s.pace) (sym e) (again-is keys c s o is b found)) tt (ap (λ (x : Change). brings_vote x.growth) e)
 
 -- a new one
 new-ends : (keys : Keys) (c : Chronicle) (s : Kept) (o : Offered) (b : Branch) (d : Change) → IsStateOf keys c s → IsSound keys.sizes (took_block (given keys c o true b) ∷ c) → o.core.justify_height < o.core.height
@@ -298,7 +298,7 @@ new-ends : (keys : Keys) (c : Chronicle) (s : Kept) (o : Offered) (b : Branch) (
 new-ends keys c s o b d is so below e t =
     let a = given keys c o true b in
     let step = new-is keys c s o is b below e d t in
-    stood keys _ c (took_block a) d s refl step.1 so (new-brings keys c o b so) (calm (took_block a) c refl is.none_pending) is step.0
+    stood keys _ c (took_block a) d s refl step.1 so (new-brings keys c o b so) (calm (took_block a) c refl is.none_pending) is step.0 tt (ap (λ (x : Change). brings_vote x.growth) t.change)
 
 -- by the place of the block
 place-by : (keys : Keys) (c : Chronicle) (s : Kept) (o : Offered) (sender : ℕ) (result : Result Change Fault) → IsStateOf keys c s → IsChecked keys.sizes o.core o.certificate o.found

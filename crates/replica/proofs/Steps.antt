@@ -17,10 +17,19 @@ use Rattle.definitions.specs.Rulings.{Ruling, Ruling.due, Ruling.missing, Ruling
 use Rattle.definitions.specs.Sendings.{sendings}
 use Rattle.definitions.specs.Replicas.{ample, refused_at_once, running, stopped_at, sends_out, fails, on_step, on_ruling}
 use Rattle.definitions.proofs.Chronicles.{tree-grows}
+use Rattle.std.specs.Option.{unwrap_or}
+use Rattle.definitions.specs.Trees.{IsTree}
+use Rattle.vote_collector.specs.Collecting.{Entry, kept_above}
+use Rattle.vote_collector.specs.Following.{IsVotesOf, certified}
+use Rattle.vote_collector.specs.Lawful.{BringsNoVote}
+use Rattle.vote_collector.proofs.Steps.{followed-else, none-low}
+use Rattle.replica.specs.declared.state.High.{High}
+use Rattle.replica.specs.declared.change.Growth.{Growth}
+use Rattle.replica.specs.declared.change.Growth.TheVariants.{Nothing, Block, Vote}
 use Rattle.replica.specs.declared.change.Change.{Change}
 use Rattle.replica.specs.Steps.{Sent}
-use Rattle.replica.specs.Kept.{Kept, IsStateOf}
-use Rattle.replica.specs.Changes.{changed, changed_variables, IsStep}
+use Rattle.replica.specs.Kept.{Variables, Kept, high_of, IsStateOf}
+use Rattle.replica.specs.Changes.{collected, left_above, votes_after, changed, changed_variables, IsStep}
 use Rattle.replica.specs.StepsTo.{Leaves, Follows}
 
 -- ---- the highest certificate and the leaf
@@ -113,12 +122,41 @@ memory-instead keys v c out s new t o = go v refl t.leaves
     go (missing sender d) e l = absurd l.answer
     go (refusing n) e l = absurd l.answer
 
+-- ---- the collected votes
+
+-- a vote is added
+abbrev pub brings_vote : Growth → Bool
+brings_vote Nothing = false
+brings_vote (Block n) = false
+brings_vote (Vote b v) = true
+
+collected-quiet : (g : Growth) (kept : List (Bytes × Entry)) → brings_vote g ≡ false → collected g kept ≡ kept
+collected-quiet Nothing kept e = refl
+collected-quiet (Block n) kept e = refl
+collected-quiet (Vote b v) kept e = absurd (true≢false e)
+
+-- after a step that brings no vote, by what is raised
+left-above-is : (s : Sizes) (st : Step) (c : Chronicle) (kept : List (Bytes × Entry)) (r : Option High) → BringsNoVote st → IsTree (tree (st ∷ c)) → IsVotesOf s c kept → unwrap_or r (high_of (qc_high s c)) ≡ high_of (qc_high s (st ∷ c))
+    → IsVotesOf s (st ∷ c) (left_above r kept)
+left-above-is s st c kept None b tr is e =
+    let h : certified s c ≡ certified s (st ∷ c) = ap (λ (x : High). x.block.height) e in
+    subst (IsVotesOf s (st ∷ c)) (none-low s c kept (certified s (st ∷ c)) is (omega (arith, h))) (followed-else s c kept st b tr is)
+left-above-is s st c kept (Some r) b tr is e =
+    let h : r.block.height ≡ certified s (st ∷ c) = ap (λ (x : High). x.block.height) e in
+    subst (λ (n : ℕ). IsVotesOf s (st ∷ c) (kept_above n kept)) (sym h) (followed-else s c kept st b tr is)
+
+votes-else : (keys : Keys) (st : Step) (c : Chronicle) (d : Change) (s : Kept) → BringsNoVote st → brings_vote d.growth ≡ false → IsTree (tree (st ∷ c)) → IsVotesOf keys.sizes c s.votes.kept → IsStep keys c st s.pace d
+    → IsVotesOf keys.sizes (st ∷ c) (votes_after d s.votes.kept)
+votes-else keys st c d s b q tr is x =
+    subst (λ (k : List (Bytes × Entry)). IsVotesOf keys.sizes (st ∷ c) (left_above d.high k)) (sym (collected-quiet d.growth s.votes.kept q))
+    (left-above-is keys.sizes st c s.votes.kept d.high b tr is (ap (λ (v : Variables). v.high) x.variables))
+
 -- a step that stands
-pub stands : (keys : Keys) (v : Ruling) (c : Chronicle) (st : Step) (d : Change) (s : Kept) → v ≡ due st → conflicts st c ≡ false → IsSound keys.sizes (st ∷ c) → BringsKnown keys.sizes st c → pending (st ∷ c) ≡ []
-    → IsStateOf keys c s → IsStep keys c st s.pace d → Follows keys v c (Ok d.out) (changed d s)
+pub stands-with : (keys : Keys) (v : Ruling) (c : Chronicle) (st : Step) (d : Change) (s : Kept) → v ≡ due st → conflicts st c ≡ false → IsSound keys.sizes (st ∷ c) → BringsKnown keys.sizes st c → pending (st ∷ c) ≡ []
+    → IsStateOf keys c s → IsStep keys c st s.pace d → IsVotesOf keys.sizes (st ∷ c) (votes_after d s.votes.kept) → Follows keys v c (Ok d.out) (changed d s)
 unfolding on_ruling on_step
-stands keys v c st d s e k so known p o x =
-    let certified = certified-step keys.sizes st c o.certified known in
+stands-with keys v c st d s e k so known p o x votes =
+    let block = certified-step keys.sizes st c o.certified known in
     record {
       memory = ample;
       leaves = subst (λ (x : Ruling). Leaves keys (on_ruling (identity_of keys) ample x c) (Ok d.out) (changed d s)) (sym e)
@@ -128,15 +166,22 @@ stands keys v c st d s e k so known p o x =
               same = ap (changed_variables d) o.same ∙ x.variables;
               sizes = x.sizes;
               pace = x.pace;
+              vote_sizes = o.vote_sizes;
+              votes = votes;
               sound = so;
-              certified = certified;
-              leaf_low = leaf-low-step (identity_of keys) st c o.leaf_low so certified;
+              certified = block;
+              leaf_low = leaf-low-step (identity_of keys) st c o.leaf_low so block;
               none_pending = p;
             };
             standing = refl;
             answer = x.out;
           }));
     }
+
+-- one that brings no vote
+pub stands : (keys : Keys) (v : Ruling) (c : Chronicle) (st : Step) (d : Change) (s : Kept) → v ≡ due st → conflicts st c ≡ false → IsSound keys.sizes (st ∷ c) → BringsKnown keys.sizes st c → pending (st ∷ c) ≡ []
+    → IsStateOf keys c s → IsStep keys c st s.pace d → BringsNoVote st → brings_vote d.growth ≡ false → Follows keys v c (Ok d.out) (changed d s)
+stands keys v c st d s e k so known p o x b q = stands-with keys v c st d s e k so known p o x (votes-else keys st c d s b q so.is_tree o.votes x)
 
 -- a step that decides against what was executed
 pub refused-for-conflict : (keys : Keys) (v : Ruling) (c : Chronicle) (st : Step) (s : Kept) → v ≡ due st → conflicts st c ≡ true → IsStateOf keys c s → Follows keys v c (Err fault.Conflict) s

@@ -1,6 +1,10 @@
 -- What a step changes, as functions of what is kept.
 use Rattle.std.specs.Prelude.{◌≡◌, Bool, true, false, List, ◌∷◌, nat_lt, if◌then◌else◌, Option, Some, None, ⊤}
 use Rattle.std.specs.Option.{option_or, unwrap_or}
+use Rattle.ids.specs.Sizes.{Sizes}
+use Rattle.definitions.specs.Bytes.{Bytes}
+use Rattle.definitions.specs.FrameLimits.{IsVote}
+use Rattle.vote_collector.specs.Collecting.{Entry, with_vote, kept_above}
 use Rattle.definitions.specs.Trees.{Stored, TreeState, blocks}
 use Rattle.block_tree.specs.Nodes.{stored_as}
 use Rattle.block_tree.specs.Insertions.{MayStand}
@@ -14,7 +18,7 @@ use Rattle.replica.specs.declared.state.High.{High}
 use Rattle.replica.specs.declared.stored.StoredStep.{StoredStep}
 use Rattle.replica.specs.declared.change.Change.{Change}
 use Rattle.replica.specs.declared.change.Growth.{Growth}
-use Rattle.replica.specs.declared.change.Growth.TheVariants.{Nothing, Block}
+use Rattle.replica.specs.declared.change.Growth.TheVariants.{Nothing, Block, Vote}
 use Rattle.replica.specs.Replay.{is_new, step_of}
 use Rattle.replica.specs.Steps.{Sent, shown}
 use Rattle.replica.specs.Kept.{Variables, Kept, variables_of}
@@ -23,24 +27,41 @@ use Rattle.replica.specs.Kept.{Variables, Kept, variables_of}
 abbrev pub grown : Growth → List Stored → List Stored
 grown Nothing stored = stored
 grown (Block n) stored = stored_as n (blocks stored) ∷ stored
+grown (Vote b v) stored = stored
+
+-- the collected votes with what is added
+abbrev pub collected : Growth → List (Bytes × Entry) → List (Bytes × Entry)
+collected Nothing kept = kept
+collected (Block n) kept = kept
+collected (Vote b v) kept = with_vote b.digest b.height v kept
+
+-- without those that no higher certificate can need
+abbrev pub left_above : Option High → List (Bytes × Entry) → List (Bytes × Entry)
+left_above None kept = kept
+left_above (Some h) kept = kept_above h.block.height kept
+
+abbrev pub votes_after : Change → List (Bytes × Entry) → List (Bytes × Entry)
+votes_after d kept = left_above d.high (collected d.growth kept)
 
 -- whether a block is added
 abbrev pub adds : Growth → Bool
 adds Nothing = false
 adds (Block n) = true
+adds (Vote b v) = false
 
 -- what is added may be added
-abbrev pub MayGrow : TreeState → Growth → Type 0
-MayGrow t Nothing = ⊤
-MayGrow t (Block n) = MayStand t n
+abbrev pub MayGrow : TreeState → Sizes → Growth → Type 0
+MayGrow t s Nothing = ⊤
+MayGrow t s (Block n) = MayStand t n
+MayGrow t s (Vote b v) = IsVote s v
 
 -- the tree of these variables
 abbrev pub tree_of : Variables → TreeState
 tree_of v = record { most = v.most; stored = v.stored }
 
 -- the change can be made: what is added may be, and the step says so
-pub record Fits (v : Variables) (d : Change) : Type 0 where
-  pub growth : MayGrow (tree_of v) d.growth
+pub record Fits (s : Kept) (d : Change) : Type 0 where
+  pub growth : MayGrow (tree_of s.variables) s.votes.sizes d.growth
   pub step : is_new d.step ≡ adds d.growth
 
 -- the variables after a change
@@ -57,7 +78,11 @@ changed_variables d v = record {
 
 -- what is kept after it
 abbrev pub changed : Change → Kept → Kept
-changed d s = record { variables = changed_variables d s.variables; pace = unwrap_or d.pace s.pace }
+changed d s = record {
+  variables = changed_variables d s.variables;
+  pace = unwrap_or d.pace s.pace;
+  votes = record { sizes = s.votes.sizes; kept = votes_after d s.votes.kept };
+}
 
 -- a step that changes nothing beside the chronicle
 abbrev pub noting : Variables → StoredStep → List Sent → Change

@@ -10,12 +10,12 @@ use Rattle.frames_view.specs.declared.frame_views.ProposalView.{ProposalView}
 use Rattle.frames_view.specs.declared.frame_views.BlockView.{BlockView}
 use Rattle.frames_view.specs.declared.frame_views.NewViewView.{NewViewView}
 use Rattle.frames_view.specs.declared.frame_views.FetchView.{FetchView}
-use Rattle.frames_view.specs.Fields.{frame_view, frame_replica, frame_core, frame_certificate, frame_digest}
-use Rattle.frames_view.specs.Views.{proposal_of, block_of, new_view_of, fetch_of}
+use Rattle.frames_view.specs.Fields.{frame_view, frame_replica, frame_core, frame_certificate, frame_digest, frame_vote}
+use Rattle.frames_view.specs.Views.{proposal_of, block_of, vote_frame_of, new_view_of, fetch_of}
 use Rattle.replica.specs.declared.stored.GotNewView.{GotNewView}
 use Rattle.replica.specs.declared.stored.GotFetch.{GotFetch}
 use Rattle.replica.specs.declared.input.Input.{Input}
-use Rattle.replica.specs.declared.input.Input.TheVariants.{Proposal, Block, NewView, Fetch, Timeout, Beat}
+use Rattle.replica.specs.declared.input.Input.TheVariants.{Proposal, Block, Vote as AVote, NewView, Fetch, Timeout, Beat}
 use Rattle.replica.specs.Offers.{Offered}
 
 -- a proposed block, with what its check found
@@ -56,6 +56,7 @@ block_input b =
 abbrev pub input_of : Input → rulings.Input
 input_of (Proposal p) = proposal_input p
 input_of (Block b) = block_input b
+input_of (AVote b) = rulings.vote_in (frame_digest (vote_frame_of b.view)) (frame_vote (vote_frame_of b.view))
 input_of (NewView n) = let a = announced_by n.view in rulings.new_view_in a.view a.sender a.certificate
 input_of (Fetch f) = let a = asked_by f.view in rulings.fetch_in a.sender a.block
 input_of Timeout = rulings.timeout_in
@@ -73,6 +74,7 @@ same_replica a b = (a.party == b.party) && same_sizes a.sizes b.sizes
 abbrev pub is_addressed : Keys → Input → Bool
 is_addressed keys (Proposal p) = same_replica p.keys keys
 is_addressed keys (Block b) = same_replica b.keys keys
+is_addressed keys (AVote b) = same_replica b.keys keys
 is_addressed keys (NewView n) = same_replica n.keys keys
 is_addressed keys (Fetch f) = same_replica f.keys keys
 is_addressed keys Timeout = true

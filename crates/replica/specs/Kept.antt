@@ -10,6 +10,8 @@ use Rattle.definitions.specs.Trees.{Stored, most_blocks}
 use Rattle.definitions.specs.Chronicles.{Chronicle, stored, tree, IsSound}
 use Rattle.definitions.specs.States.{Justified, qc_high, leaf, pending, proposed}
 use Rattle.pacemaker.specs.Pacing.{Pace, IsPaceOf}
+use Rattle.vote_collector.specs.Collecting.{Collected}
+use Rattle.vote_collector.specs.Following.{IsVotesOf}
 use Rattle.replica_rules.specs.declared.block_ref.BlockRef.{BlockRef}
 use Rattle.replica_rules.specs.Ruled.{Ruled, ref_of, ruled_by}
 use Rattle.replica.specs.declared.state.High.{High}
@@ -33,6 +35,7 @@ pub record Variables : Type 0 where
 pub record Kept : Type 0 where
   pub variables : Variables
   pub pace : Pace
+  pub votes : Collected
 
 -- a certificate with its block, and a proposal, as they are kept
 abbrev pub high_of : Justified → High
@@ -58,6 +61,8 @@ pub record IsStateOf (keys : Keys) (c : Chronicle) (s : Kept) : Type 0 where
   pub same : s.variables ≡ variables_of keys c
   pub sizes : s.pace.sizes ≡ keys.sizes
   pub pace : IsPaceOf c s.pace
+  pub vote_sizes : s.votes.sizes ≡ keys.sizes
+  pub votes : IsVotesOf keys.sizes c s.votes.kept
   pub sound : IsSound keys.sizes c
   pub certified : Among (qc_high keys.sizes c).block (tree c)
   pub leaf_low : length (leaf (identity_of keys) c) ≤ length c + most_blocks

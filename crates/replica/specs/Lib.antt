@@ -9,4 +9,5 @@ pub mod Beats
 pub mod Offers
 pub mod Announcements
 pub mod Fetches
+pub mod Ballots
 pub mod Inputs

@@ -9,6 +9,7 @@ use crate::stored::StoredStep;
 use block_tree::Node;
 use pacemaker::Pacemaker;
 use replica_rules::{BlockRef, Rules};
+use vote_collector::KeptVote;
 
 /// What is added.
 #[derive(Drop)]
@@ -16,6 +17,8 @@ pub(crate) enum Growth {
     Nothing,
     /// A new block of the tree.
     Block(Node),
+    /// A vote that is collected, for this block.
+    Vote(BlockRef, KeptVote),
 }
 
 /// A step that is to stand: what it changes, and what it sends.

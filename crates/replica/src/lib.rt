@@ -12,6 +12,7 @@ mod out;
 mod replica;
 mod state;
 mod stored;
+mod vote;
 
 pub use input::Input;
 pub use out::{Out, Sending, To};

@@ -24,6 +24,7 @@ use crate::input::Input;
 use crate::offer::Offer;
 use crate::out::Out;
 use crate::state::{High, State};
+use crate::vote::decide_vote;
 use authenticators::Keyring;
 use block_tree::Tree;
 use frames_view::{CertificateBuf, genesis_digest};
@@ -33,6 +34,7 @@ use replica_rules::{BlockRef, Rules};
 use signed_frames::fetch_frame;
 use std::alloc::Global;
 use std::marker::Model;
+use vote_collector::Collector;
 
 /// The most blocks of a replica's tree, genesis counted.
 const MOST_BLOCKS: usize = 1_048_576;
@@ -71,12 +73,14 @@ fn decide(state: &State, keyring: &Keyring, input: Input<'_>) -> Result<Change, 
     requires own { IsTrue (is_addressed keyring.now input) }
     requires replica { keyring.now.party < replicas keyring.now.sizes }
     requires sizes { state.now.pace.sizes ≡ keyring.now.sizes }
+    requires votes { state.now.votes.sizes ≡ keyring.now.sizes }
     ensures decided { (c : Chronicle) → IsStateOf keyring.now c state.now → StepsTo keyring.now (input_of input.entry) c (answer result) (after result state.now) }
-    ensures fits { IfOk result (λ d. Fits state.now.variables d) }
+    ensures fits { IfOk result (λ d. Fits state.now d) }
 {
     match input {
         Input::Proposal(proposal) => decide_block(state, keyring, &Offer::of_proposal(&proposal)),
         Input::Block(block) => decide_block(state, keyring, &Offer::of_block(&block)),
+        Input::Vote(vote) => decide_vote(state, vote.view()),
         Input::NewView(announced) => decide_new_view(state, keyring, announced.view()),
         Input::Fetch(asked) => decide_fetch(state, keyring, asked.view()),
         Input::Timeout => decide_timeout(state, keyring),
@@ -93,6 +97,7 @@ fn take(state: &mut State, keyring: &Keyring, input: Input<'_>) -> Result<Out, F
     requires own { IsTrue (is_addressed keyring.now input) }
     requires replica { keyring.now.party < replicas keyring.now.sizes }
     requires sizes { state.old.pace.sizes ≡ keyring.now.sizes }
+    requires votes { state.old.votes.sizes ≡ keyring.now.sizes }
     ensures { (c : Chronicle) → IsStateOf keyring.now c state.old → StepsTo keyring.now (input_of input.entry) c result state.new }
 {
     let change = decide(state, keyring, input)?;
@@ -115,6 +120,7 @@ fn first_state(alloc: Global, config: Config) -> State
         leaf: BlockRef::genesis(),
         own: None,
         pace: Pacemaker::new(config),
+        votes: Collector::new(alloc, config),
         steps: Vec::new(alloc),
     }
 }

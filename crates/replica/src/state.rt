@@ -3,7 +3,7 @@
 ghost use Rattle.std.specs.Prelude.{◌≡◌, length, IfOk, OnOk, OnErr};
 ghost use Rattle.std.specs.Option.{unwrap_or};
 ghost use Rattle.definitions.specs.Trees.{Stored};
-ghost use Rattle.replica.specs.Changes.{changed, grown, MayGrow, Fits};
+ghost use Rattle.replica.specs.Changes.{changed, grown, collected, left_above, MayGrow, Fits};
 
 use crate::change::{Change, Growth};
 use crate::out::Out;
@@ -15,6 +15,7 @@ use pacemaker::Pacemaker;
 use replica_rules::{BlockRef, Rules};
 use std::alloc::Global;
 use std::marker::Model;
+use vote_collector::Collector;
 
 /// The highest certificate, with the block that it is for.
 #[derive(Drop)]
@@ -49,6 +50,8 @@ pub(crate) struct State {
     pub(crate) leaf: BlockRef,
     pub(crate) own: Option<OwnProposal>,
     pub(crate) pace: Pacemaker,
+    /// Votes for blocks above that of the highest certificate.
+    pub(crate) votes: Collector,
     /// The steps that stand, oldest first.
     pub(crate) steps: Vec<StoredStep>,
 }
@@ -71,28 +74,41 @@ impl Model for State {
         own = s.own;
       };
       pace = s.pace;
+      votes = s.votes;
     } };
 }
 
-/// What is new takes the place of what was.
-fn renew<T: Drop>(place: &mut T, new: Option<T>)
-    ensures { place.new ≡ unwrap_or new place.old }
-{
-    if let Some(new) = new {
-        *place = new;
-    }
-}
-
 /// What is added takes its place. Its memory is taken first.
-fn grow(tree: &mut Tree, growth: Growth) -> Result<(), Fault>
-    requires { MayGrow tree.old growth }
+fn grow(tree: &mut Tree, votes: &mut Collector, growth: Growth) -> Result<(), Fault>
+    requires { MayGrow tree.old votes.old.sizes growth }
     ensures grown { OnOk result (tree.new ≡ record tree.old { stored = grown growth tree.old.stored }) }
-    ensures unchanged { OnErr result (tree.new ≡ tree.old) }
+    ensures collected { OnOk result (votes.new ≡ record votes.old { kept = collected growth votes.old.kept }) }
+    ensures same_tree { OnErr result (tree.new ≡ tree.old) }
+    ensures same_votes { OnErr result (votes.new ≡ votes.old) }
     ensures memory { OnErr result (result ≡ Err Fault.Memory) }
 {
     match growth {
         Growth::Nothing => Ok(()),
         Growth::Block(node) => tree.add(node),
+        Growth::Vote(block, vote) => votes.add(block.digest, block.height, vote),
+    }
+}
+
+/// A higher certificate takes the place of the highest one.
+fn raise(high: &mut High, raised: Option<High>)
+    ensures { high.new ≡ unwrap_or raised high.old }
+{
+    if let Some(raised) = raised {
+        *high = raised;
+    }
+}
+
+/// The votes that are needed no more under a higher certificate go.
+fn forget(votes: &mut Collector, raised: &Option<High>)
+    ensures { votes.new ≡ record votes.old { kept = left_above raised.now votes.old.kept } }
+{
+    if let Some(raised) = raised {
+        votes.drop_up_to(raised.block.height);
     }
 }
 
@@ -106,7 +122,7 @@ impl State {
 
     /// Makes a change. Its memory is taken first: where that is refused, nothing changed.
     pub(crate) fn commit(&mut self, change: Change) -> Result<Out, Fault>
-        requires { Fits self.old.variables change }
+        requires { Fits self.old change }
         ensures made { OnOk result (self.new ≡ changed change self.old) }
         ensures out { IfOk result (λ out. out ≡ change.out) }
         ensures unchanged { OnErr result (self.new ≡ self.old) }
@@ -123,13 +139,14 @@ impl State {
             pace,
         } = change;
         self.steps.reserve(1)?;
-        grow(&mut self.tree, growth)?;
+        grow(&mut self.tree, &mut self.votes, growth)?;
         self.steps.push(step).unwrap();
         self.rules = rules;
         self.leaf = leaf;
-        renew(&mut self.high, high);
+        forget(&mut self.votes, &high);
+        raise(&mut self.high, high);
         self.own = own.or(self.own.take());
-        renew(&mut self.pace, pace);
+        self.pace = pace.unwrap_or(self.pace);
         Ok(out)
     }
 }

@@ -1,16 +1,18 @@
 //! Frames to all replicas, and votes, whose tags are for all.
 
-ghost use Rattle.std.specs.Prelude.{◌≡◌, ◌<◌, IfOk, OnErr};
+ghost use Rattle.std.specs.Prelude.{◌≡◌, ◌<◌, IfOk, OnErr, IsTrue};
 ghost use Rattle.ids.specs.Sizes.{replicas};
 ghost use Rattle.ids.specs.Numbers.{kind_number};
 ghost use Rattle.ids.specs.declared.kind.Kind.TheVariants as kind;
 ghost use Rattle.definitions.specs.Frames.{vote, frame_text, proposal_text, new_view_text, spelling};
-ghost use Rattle.definitions.specs.Keyrings.{keyring_of, vector_for};
+ghost use Rattle.definitions.specs.Keyrings.{keyring_of, vector_for, is_client_of};
+ghost use Rattle.definitions.specs.Sessions.{request_frame};
+ghost use Rattle.signed_frames.specs.Clients.{client_of};
 
 use crate::signed::signed_for_all;
 use authenticators::Keyring;
-use frame_writers::write_vote;
-use ids::{Digest, Fault, Kind, View};
+use frame_writers::{Payload, write_vote};
+use ids::{Digest, Fault, Kind, Seq, View};
 use std::alloc::Global;
 
 /// The vote for a block. Its tags speak of the block's digest alone, so that they stand in a certificate as they are.
@@ -61,5 +63,29 @@ pub fn new_view_frame(
         keyring,
         Kind::NewView,
         &[&view, &sender, certificate],
+    )
+}
+
+/// A client's request of this number: the payload is the canonical text of a request of the cache.
+#[tactic(auto, unfolding(definitions::specs::Sessions::request_frame))]
+pub fn request_frame(
+    alloc: Global,
+    keyring: &Keyring,
+    seq: Seq,
+    payload: &Payload<'_>,
+) -> Result<Vec<u8>, Fault>
+    requires { IsTrue (is_client_of keyring.now.sizes keyring.now.party) }
+    ensures made { IfOk result (λ frame. frame.items ≡ spelling (request_frame (client_of keyring.now) seq payload.now)) }
+    ensures memory { OnErr result (result ≡ Err Fault.Memory) }
+{
+    let client = (keyring.party().0 - 256).to_be_bytes();
+    let seq = seq.0.to_be_bytes();
+    let text = payload.as_slice();
+    let length = (text.len() as u16).to_be_bytes();
+    signed_for_all(
+        alloc,
+        keyring,
+        Kind::Request,
+        &[&client, &seq, &length, text],
     )
 }

@@ -1,15 +1,18 @@
-//! Frames to one replica.
+//! Frames to one party.
 
 ghost use Rattle.std.specs.Prelude.{◌≡◌, ◌<◌, ◌++◌, IfOk, OnErr};
 ghost use Rattle.ids.specs.Sizes.{replicas};
 ghost use Rattle.ids.specs.Numbers.{kind_number};
 ghost use Rattle.ids.specs.declared.kind.Kind.TheVariants as kind;
-ghost use Rattle.definitions.specs.Frames.{frame_text, fetch_content, block_text};
+ghost use Rattle.definitions.specs.Frames.{frame_text, fetch_content, block_text, spelling};
 ghost use Rattle.definitions.specs.Keyrings.{keyring_of, tag_for};
+ghost use Rattle.definitions.specs.Checks.{identity_of};
+ghost use Rattle.definitions.specs.Sendings.{reply_to};
 
 use crate::signed::signed_for;
 use authenticators::Keyring;
-use ids::{Digest, Fault, Kind, ReplicaId};
+use frame_writers::ReplyText;
+use ids::{ClientId, Digest, Fault, Kind, Place, ReplicaId, Seq};
 use std::alloc::Global;
 
 /// The question to a replica for the block of a digest.
@@ -50,5 +53,36 @@ pub fn block_frame<'a>(
         Kind::Block,
         to.into(),
         &[&sender, core, certificate],
+    )
+}
+
+/// The reply to a client's command: its number, its place in the history and what the cache answers.
+#[tactic(auto, unfolding(definitions::specs::Sendings::reply_to))]
+pub fn reply_frame(
+    alloc: Global,
+    keyring: &Keyring,
+    client: ClientId,
+    seq: Seq,
+    place: Place,
+    text: &ReplyText<'_>,
+) -> Result<Vec<u8>, Fault>
+    requires own { keyring.now.party < replicas keyring.now.sizes }
+    requires other { client < keyring.now.sizes.clients }
+    ensures made { IfOk result (λ frame. frame.items ≡ spelling (reply_to (identity_of keyring.now)
+        (record { client = client; seq = seq; place = place; text = text.now })).1) }
+    ensures memory { OnErr result (result ≡ Err Fault.Memory) }
+{
+    let sender = u16::from(keyring.replica().0).to_be_bytes();
+    let number = u16::from(client.0).to_be_bytes();
+    let seq = seq.0.to_be_bytes();
+    let place = place.0.to_be_bytes();
+    let text = text.as_slice();
+    let length = (text.len() as u32).to_be_bytes();
+    signed_for(
+        alloc,
+        keyring,
+        Kind::Reply,
+        client.into(),
+        &[&sender, &number, &seq, &place, &length, text],
     )
 }

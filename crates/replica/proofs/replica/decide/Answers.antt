@@ -2,8 +2,8 @@ use Rattle.std.proofs.Common.{◌≡◌, ◌<◌, true, ◌^◌, IfOk, length, r
 use Rattle.std.proofs.lemmas.List.{length-reverse}
 use Rattle.ids.specs.Sizes.{leader}
 use Rattle.definitions.specs.Rulings.{ruling}
-use Rattle.frames_view.specs.Fields.{frame_view, frame_replica}
-use Rattle.frames_view.specs.Views.{proposal_of, block_of}
+use Rattle.frames_view.specs.Fields.{frame_view, frame_replica, frame_digest, frame_vote}
+use Rattle.frames_view.specs.Views.{proposal_of, block_of, vote_frame_of}
 use Rattle.frames_view.specs.declared.frame_views.NewViewView.{NewViewView}
 use Rattle.frames_view.specs.declared.frame_views.FetchView.{FetchView}
 use Rattle.replica.specs.Kept.{Variables, Kept}
@@ -16,8 +16,11 @@ use Rattle.replica.proofs.Beats.{beat-decided}
 use Rattle.replica.proofs.Offers.{block-decided}
 use Rattle.replica.proofs.Announcements.{timeout-decided, new-view-decided}
 use Rattle.replica.proofs.Fetches.{fetch-decided}
-use Rattle.replica.proofs.Checked.{checked-proposal, checked-block}
-use Rattle.replica.proofs.Fits.{fits-timeout, fits-new-view, fits-block}
+use Rattle.replica.proofs.Ballots.{vote-decided}
+use Rattle.replica.specs.Ballots.{IsVoteDecided}
+use Rattle.frames_view.specs.declared.frame_views.VoteFrameView.{VoteFrameView}
+use Rattle.replica.proofs.Checked.{checked-proposal, checked-block, checked-vote}
+use Rattle.replica.proofs.Fits.{fits-timeout, fits-new-view, fits-block, fits-vote}
 use Rattle.replica.proofs.replica.decide.Goals as goal
 
 pub returns-in-Proposal-clause-decided : goal.returns-in-Proposal-clause-decided
@@ -42,7 +45,7 @@ pub returns-in-NewView-clause-decided : goal.returns-in-NewView-clause-decided
 returns-in-NewView-clause-decided c c' o =
     let keys = c.args.keyring.now in
     let n = c.in-NewView.announced in
-    let decided = subst (λ (x : NewViewView). IsNewView keys c.args.state.now (announced_by x) c.decide_new_view.result) c.view.ensures.view c.decide_new_view.ensures in
+    let decided = subst (λ (x : NewViewView). IsNewView keys c.args.state.now (announced_by x) c.decide_new_view.result) c.view-in-NewView.ensures.view c.decide_new_view.ensures in
     rw c.in-NewView.is (new-view-decided keys c' c.args.state.now (announced_by n.view) c.decide_new_view.result decided o)
 
 pub returns-in-Fetch-clause-decided : goal.returns-in-Fetch-clause-decided
@@ -71,7 +74,22 @@ pub returns-in-Block-clause-fits : goal.returns-in-Block-clause-fits
 returns-in-Block-clause-fits c = fits-block c.args.keyring.now c.args.state.now c.of_block.result c.decide_block-in-Block.result c.decide_block-in-Block.ensures
 
 pub returns-in-NewView-clause-fits : goal.returns-in-NewView-clause-fits
-returns-in-NewView-clause-fits c = fits-new-view c.args.keyring.now c.args.state.now (announced_by c.view.result.now) c.decide_new_view.result c.decide_new_view.ensures
+returns-in-NewView-clause-fits c = fits-new-view c.args.keyring.now c.args.state.now (announced_by c.view-in-NewView.result.now) c.decide_new_view.result c.decide_new_view.ensures
 
 pub returns-in-Timeout-clause-fits : goal.returns-in-Timeout-clause-fits
 returns-in-Timeout-clause-fits c = fits-timeout c.args.keyring.now c.args.state.now c.decide_timeout.result c.decide_timeout.ensures.made
+
+pub returns-in-Vote-clause-decided : goal.returns-in-Vote-clause-decided
+returns-in-Vote-clause-decided c c' o =
+    let v = c.in-Vote.vote in
+    let decided = subst (λ (x : VoteFrameView). IsVoteDecided c.args.state.now (frame_digest (vote_frame_of x)) (frame_vote (vote_frame_of x)) c.decide_vote.result) c.view.ensures.view c.decide_vote.ensures in
+    rw c.in-Vote.is (vote-decided c.args.keyring.now c' c.args.state.now (frame_digest (vote_frame_of v.view)) (frame_vote (vote_frame_of v.view)) c.decide_vote.result decided o)
+
+pub returns-in-Vote-clause-fits : goal.returns-in-Vote-clause-fits
+returns-in-Vote-clause-fits c =
+    fits-vote c.args.state.now (frame_digest (vote_frame_of c.view.result.now)) (frame_vote (vote_frame_of c.view.result.now)) c.decide_vote.result
+    (checked-vote c.in-Vote.vote c.args.keyring.now c.view.result.now c.args.state.now.votes.sizes (rw c.in-Vote.is at c.requires.own) c.view.ensures.fits c.view.ensures.view c.requires.votes) c.decide_vote.ensures
+
+pub decide_vote-requires : goal.decide_vote-requires
+decide_vote-requires c =
+    checked-vote c.in-Vote.vote c.args.keyring.now c.view.result.now c.args.state.now.votes.sizes (rw c.in-Vote.is at c.requires.own) c.view.ensures.fits c.view.ensures.view c.requires.votes

@@ -3,8 +3,9 @@ use Rattle.std.specs.Option.{option_or}
 use Rattle.definitions.specs.Trees.{Stored}
 use Rattle.replica.specs.declared.stored.StoredStep.{StoredStep}
 use Rattle.replica.specs.Replay.{step_of, replay}
+use Rattle.vote_collector.specs.Collecting.{Collected}
 use Rattle.replica.specs.Kept.{Kept}
-use Rattle.replica.specs.Changes.{grown, changed}
+use Rattle.replica.specs.Changes.{grown, left_above, changed}
 use Rattle.replica.proofs.Replaying.{replay-push, before-grown}
 use Rattle.replica.proofs.state.State.commit.Goals as goal
 
@@ -17,15 +18,17 @@ returns-clause-made c =
     let more : List Stored = grown d.growth old.tree.stored in
     let chronicle = (λ i. replay (reverse (items i)) (tree i).stored) ∙ replay-push old.steps.items d.step more
     ∙ ap (λ (l : List Stored). step_of d.step more ∷ replay (reverse old.steps.items) l) (before-grown d.step d.growth old.tree.stored c.requires.step) in
+    let votes = c.forget.ensures ∙ ap (λ (v : Collected). record v { kept = left_above d.high v.kept }) c.in_ok-grow.ensures.collected in
     (λ i. record {
       variables = record {
         chronicle = chronicle i;
         most = (tree i).most;
         stored = (tree i).stored;
         rules = d.rules;
-        high = c.renew.ensures i;
+        high = c.raise.ensures i;
         leaf = d.leaf;
         own = (c.or.ensures ∙ ap (option_or d.own) c.take.ensures.value) i;
       };
-      pace = c.renew-2.ensures i;
+      pace = c.unwrap_or-self-inside.ensures i;
+      votes = votes i;
     }) ∙ ap (λ (k : Kept). changed d k) c.self.view_is

@@ -1,0 +1,160 @@
+-- What a vote changes is what its step changes.
+use Rattle.ids.specs.declared.fault.Fault.{Fault}
+use Rattle.ids.specs.declared.fault.Fault.TheVariants as fault
+use Rattle.std.proofs.Common.{ℕ, ◌≡◌, ◌<◌, ◌≤◌, Bool, true, false, true≢false, List, [], ◌∷◌, length, cond, nat_lt, refl, sym, ap, ◌∙◌, arith, subst, Option, Some, None, Result, Ok, Err}
+use Rattle.std.proofs.lemmas.Bool.{cond_both, ltb-true, ltb-false}
+use Rattle.ids.specs.Sizes.{Sizes, quorum}
+use Rattle.definitions.specs.Bytes.{Bytes}
+use Rattle.definitions.specs.Lists.{Among}
+use Rattle.definitions.specs.Frames.{Vote}
+use Rattle.definitions.specs.Branches.{Branch}
+use Rattle.definitions.specs.Digests.{digest_of}
+use Rattle.definitions.specs.Keyrings.{Keys}
+use Rattle.definitions.specs.Checks.{identity_of}
+use Rattle.definitions.specs.Trees.{blocks, find_in}
+use Rattle.definitions.specs.Chronicles.{Note, Step.noted, Note.got_vote, Chronicle, stored, tree, IsSound}
+use Rattle.definitions.specs.States.{Justified, qc_high, votes, find_block, raised, leaf}
+use Rattle.definitions.specs.Rulings.{Input.vote_in, ruling, conflicts, with_block}
+use Rattle.definitions.specs.Rulings as rulings
+use Rattle.definitions.specs.Sendings.{sendings}
+use Rattle.definitions.proofs.Chronicles.{tree-grows}
+use Rattle.definitions.proofs.Sound.{OnStands, ruling-sound}
+use Rattle.definitions.proofs.Trees.{found-in}
+use Rattle.vote_collector.specs.declared.added.Added.{Added}
+use Rattle.vote_collector.specs.declared.added.Added.TheVariants.{First, Doubled, Complete}
+use Rattle.vote_collector.specs.Collecting.{Collected, votes_for, judged}
+use Rattle.vote_collector.specs.Following.{IsVotesOf, certified}
+use Rattle.vote_collector.specs.Lawful.{made_with, Leaves, FollowsVote}
+use Rattle.vote_collector.proofs.Steps.{followed-vote}
+use Rattle.replica_rules.specs.declared.block_ref.BlockRef.{BlockRef}
+use Rattle.replica_rules.specs.Ruled.{ref_of}
+use Rattle.replica.specs.declared.change.Change.{Change}
+use Rattle.replica.specs.declared.state.High.{High}
+use Rattle.replica.specs.Replay.{or_genesis}
+use Rattle.replica.specs.Steps.{shown}
+use Rattle.replica.specs.Kept.{Variables, Kept, high_of, variables_of, IsStateOf}
+use Rattle.replica.specs.Changes.{changed, changed_variables, votes_after, IsStep}
+use Rattle.replica.specs.Ballots.{vote_noted, vote_counted, vote_change, IsVoteAt, IsVoteDecided}
+use Rattle.replica.specs.StepsTo.{Follows, StepsTo, answer, after}
+use Rattle.replica.proofs.Steps.{is_beat, BringsKnown, refused-for-memory, stands-with, asks}
+use Rattle.replica.proofs.Stays.{calm, same-some, leaf-same, leaf-raised, variables-noted, pace-same}
+
+made-by : (t : Bool) (p q : Justified) → cond t (Some p) None ≡ Some q → p ≡ q
+made-by true p q e = same-some p q e
+made-by false p q e = absurd (let k : None ≡ Some q = e in cc)
+
+module _ (keys : Keys) (c : Chronicle) (s : Kept) (is : IsStateOf keys c s) (d : Bytes) (vote : Vote) (b : Branch) (found : find_in d (tree c) ≡ Some b) where
+  note : Note
+  note = got_vote vote.voter vote.vector b
+
+  block : BlockRef
+  block = record { digest = d; height = length b }
+
+  block-is : block ≡ ref_of b
+  unfolding block
+  block-is = λ i. record { digest = sym (found-in d (tree c) b found).1 i; height = length b }
+
+  is-note : is_beat (noted note) ≡ false
+  unfolding note Rattle.replica.proofs.Steps.is_beat
+  is-note = refl
+
+  -- the vote as it is stored
+  note-is : noted (got_vote vote.voter vote.vector (or_genesis (find_in d (blocks (stored c))))) ≡ noted note
+  unfolding note tree
+  note-is = ap (λ (o : Option Branch). noted (got_vote vote.voter vote.vector (or_genesis o))) found
+
+  follows : FollowsVote keys.sizes c s.votes.kept d b vote
+  follows = followed-vote keys.sizes c s.votes.kept d b vote is.sound.is_tree found is.votes
+
+  -- what comes of it: the step, and the votes that are kept
+  record Comes (x : Change) : Type 0 where
+    step : IsStep keys c (noted note) s.pace x
+    votes : IsVotesOf keys.sizes (noted note ∷ c) (votes_after x s.votes.kept)
+
+  -- where the highest certificate stays
+  noted-step : qc_high keys.sizes (noted note ∷ c) ≡ qc_high keys.sizes c → IsStep keys c (noted note) s.pace (vote_noted s block vote)
+  unfolding block sendings note Rattle.replica.proofs.Stays.keeps_pace
+  noted-step q = record {
+    variables = (λ i. changed_variables (vote_noted (record { variables = is.same i; pace = s.pace; votes = s.votes }) block vote) (variables_of keys c))
+        ∙ (λ i. record (variables_of keys c) { chronicle = note-is i ∷ c })
+        ∙ sym (variables-noted keys note c (qc_high keys.sizes c) (leaf (identity_of keys) c) is-note q (leaf-same (identity_of keys) (noted note) c is-note q));
+    sizes = is.sizes;
+    pace = pace-same (noted note) c s.pace refl is.pace;
+    out = refl;
+  }
+
+  -- the first vote of a voter
+  first-step : qc_high keys.sizes (noted note ∷ c) ≡ qc_high keys.sizes c → IsStep keys c (noted note) s.pace (vote_counted s block vote First)
+  first-step q = let x = noted-step q in record { variables = x.variables; sizes = x.sizes; pace = x.pace; out = x.out }
+
+  -- the one that completes a quorum
+  complete-step : certified keys.sizes c < length b → qc_high keys.sizes (noted note ∷ c) ≡ record { block = b; certificate = made_with d vote s.votes.kept } → IsStep keys c (noted note) s.pace (vote_counted s block vote Complete)
+  unfolding block sendings note Rattle.replica.proofs.Stays.keeps_pace
+  complete-step lt q =
+      let made : Justified = record { block = b; certificate = made_with d vote s.votes.kept } in
+      record {
+        variables = (λ i. changed_variables (vote_counted (record { variables = is.same i; pace = s.pace; votes = s.votes }) block vote Complete) (variables_of keys c))
+            ∙ (λ i. record (variables_of keys c) { chronicle = note-is i ∷ c; high = record { block = block-is i; certificate = made.certificate }; leaf = block-is i })
+            ∙ sym (variables-noted keys note c made b is-note q (leaf-raised (identity_of keys) (noted note) c made is-note q lt));
+        sizes = is.sizes;
+        pace = pace-same (noted note) c s.pace refl is.pace;
+        out = refl;
+      }
+
+  -- by what the vote is to those that are kept
+  counted-comes : certified keys.sizes c < length b → (a : Added) → judged (quorum keys.sizes) vote.voter (votes_for d s.votes.kept) ≡ a → Comes (vote_counted s block vote a)
+  unfolding block note
+  counted-comes lt Doubled e = let l = follows.doubled lt e in record { step = noted-step l.1; votes = l.0 }
+  counted-comes lt First e = let l = follows.first lt e in record { step = first-step l.1; votes = l.0 }
+  counted-comes lt Complete e = let l = follows.complete lt e in record { step = complete-step lt l.1; votes = l.0 }
+
+  low-comes : length b ≤ certified keys.sizes c → Comes (vote_noted s block vote)
+  unfolding block note
+  low-comes le = let l = follows.low le in record { step = noted-step l.1; votes = l.0 }
+
+  change-comes : Comes (vote_change s block vote)
+  unfolding block
+  change-comes = by (nat_lt s.variables.high.block.height (length b)) refl
+    where
+      height : s.variables.high.block.height ≡ certified keys.sizes c
+      height = ap (λ (v : Variables). v.high.block.height) is.same
+
+      judgement : Added
+      judgement = judged (quorum s.votes.sizes) vote.voter (votes_for d s.votes.kept)
+
+      same-judgement : judged (quorum keys.sizes) vote.voter (votes_for d s.votes.kept) ≡ judgement
+      same-judgement = ap (λ (z : Sizes). judged (quorum z) vote.voter (votes_for d s.votes.kept)) (sym is.vote_sizes)
+
+      by : (t : Bool) → nat_lt s.variables.high.block.height (length b) ≡ t → Comes (cond t (vote_counted s block vote judgement) (vote_noted s block vote))
+      by true t = counted-comes (let k = ltb-true s.variables.high.block.height (length b) t in omega (arith, k, height)) judgement same-judgement
+      by false t = low-comes (let k = ltb-false s.variables.high.block.height (length b) t in omega (arith, k, height))
+
+  vote-brings : BringsKnown keys.sizes (noted note) c
+  unfolding raised note
+  vote-brings q e = subst (λ (j : Justified). Among j.block (tree (noted note ∷ c))) (made-by _ _ q e) (tree-grows (noted note) c b (found-in d (tree c) b found).0)
+
+  vote-sound : IsSound keys.sizes (noted note ∷ c)
+  unfolding note ruling find_block
+  vote-sound = subst (OnStands (λ st. IsSound keys.sizes (st ∷ c))) (ap (λ (o : Option Branch). with_block o vote.voter d (λ x. rulings.due (noted (got_vote vote.voter vote.vector x)))) found)
+      (ruling-sound (identity_of keys) (vote_in d vote) c tt is.sound)
+
+-- by what is found
+vote-by : (keys : Keys) (c : Chronicle) (s : Kept) (d : Bytes) (vote : Vote) (result : Result Change Fault) → IsStateOf keys c s → (o : Option Branch) → find_in d (tree c) ≡ o → IsVoteAt s d vote result o
+    → Follows keys (with_block o vote.voter d (λ x. rulings.due (noted (got_vote vote.voter vote.vector x)))) c (answer result) (after result s)
+unfolding note block conflicts
+vote-by keys c s d vote result is None e h =
+    subst (λ (r : Result Change Fault). Follows keys (rulings.missing vote.voter d) c (answer r) (after r s)) (sym h) (asks keys _ c vote.voter d s refl is)
+vote-by keys c s d vote (Ok x) is (Some b) e h =
+    let st = noted (note keys c s is d vote b e) in
+    let comes = change-comes keys c s is d vote b e in
+    subst (λ (y : Change). Follows keys (rulings.due st) c (Ok y.out) (changed y s)) (sym h)
+    (stands-with keys (rulings.due st) c st (vote_change s (record { digest = d; height = length b }) vote) s refl refl (vote-sound keys c s is d vote b e) (vote-brings keys c s is d vote b e) (calm st c refl is.none_pending) is comes.step comes.votes)
+vote-by keys c s d vote (Err f) is (Some b) e h =
+    subst (λ (m : Fault). Follows keys (rulings.due (noted (got_vote vote.voter vote.vector b))) c (Err m) s) (sym h) (refused-for-memory keys _ c (noted (got_vote vote.voter vote.vector b)) s refl is)
+
+-- what a vote comes to
+pub vote-decided : (keys : Keys) (c : Chronicle) (s : Kept) (d : Bytes) (vote : Vote) (result : Result Change Fault) → IsVoteDecided s d vote result → IsStateOf keys c s → StepsTo keys (vote_in d vote) c (answer result) (after result s)
+unfolding ruling find_block tree
+vote-decided keys c s d vote result h is =
+    let same = ap (λ (v : Variables). find_in d (blocks v.stored)) is.same in
+    vote-by keys c s d vote result is (find_in d (blocks (stored c))) refl (subst (IsVoteAt s d vote result) same h)

@@ -1,0 +1,81 @@
+//! Votes.
+
+ghost use Rattle.std.specs.Prelude.{◌≡◌, IfOk, OnErr};
+ghost use Rattle.definitions.specs.FrameLimits.{IsVote};
+ghost use Rattle.frames_view.specs.Fields.{frame_digest, frame_vote};
+ghost use Rattle.frames_view.specs.Views.{vote_of, vote_frame_of};
+ghost use Rattle.replica.specs.Ballots.{vote_noted, vote_counted, vote_change, IsVoteDecided};
+ghost use Rattle.ids.specs.Sizes.{quorum};
+ghost use Rattle.vote_collector.specs.Collecting.{votes_for, judged};
+
+use crate::change::{Change, Growth};
+use crate::out::Out;
+use crate::state::{High, State};
+use crate::stored::{GotVote, StoredStep};
+use frames_view::{VoteFrameView, VoteView};
+use ids::{Digest, Fault};
+use replica_rules::BlockRef;
+use vote_collector::Added;
+
+/// A vote that is stored, and changes nothing else.
+fn note(state: &State, block: BlockRef, vote: &VoteView) -> Result<Change, Fault>
+    ensures made { IfOk result (λ d. d ≡ vote_noted state.now block (vote_of vote.now)) }
+    ensures memory { OnErr result (result ≡ Err Fault.Memory) }
+{
+    let step = StoredStep::GotVote(GotVote {
+        block: block.digest,
+        vote: state.votes.keep(vote)?,
+    });
+    Ok(Change::noting(state, step, Out::none(state.alloc)))
+}
+
+/// A vote for a block that is higher than that of the highest certificate: each voter's first one is collected, and
+/// the one that completes a quorum makes the certificate.
+fn count(state: &State, block: BlockRef, vote: &VoteView) -> Result<Change, Fault>
+    requires { IsVote state.now.votes.sizes (vote_of vote.now) }
+    ensures made { IfOk result (λ d. d ≡ vote_counted state.now block (vote_of vote.now)
+        (judged (quorum state.now.votes.sizes) (vote_of vote.now).voter (votes_for block.digest state.now.votes.kept))) }
+    ensures memory { OnErr result (result ≡ Err Fault.Memory) }
+{
+    let noted = note(state, block, vote)?;
+    match state.votes.judge(&block.digest, vote.voter()) {
+        Added::Doubled => Ok(noted),
+        Added::First => Ok(Change {
+            growth: Growth::Vote(block, state.votes.keep(vote)?),
+            ..noted
+        }),
+        Added::Complete => {
+            let certificate = state.votes.completed(&block.digest, vote)?;
+            Ok(Change {
+                high: Some(High { block, certificate }),
+                leaf: block,
+                ..noted
+            })
+        }
+    }
+}
+
+/// A vote for a block of the tree.
+fn take_vote(state: &State, block: BlockRef, vote: &VoteView) -> Result<Change, Fault>
+    requires { IsVote state.now.votes.sizes (vote_of vote.now) }
+    ensures made { IfOk result (λ d. d ≡ vote_change state.now block (vote_of vote.now)) }
+    ensures memory { OnErr result (result ≡ Err Fault.Memory) }
+{
+    if block.height > state.high.block.height {
+        count(state, block, vote)
+    } else {
+        note(state, block, vote)
+    }
+}
+
+/// What a vote comes to: `UnknownParent` where its block isn't in the tree.
+pub(crate) fn decide_vote(state: &State, vote: &VoteFrameView) -> Result<Change, Fault>
+    requires { IsVote state.now.votes.sizes (frame_vote (vote_frame_of vote.now)) }
+    ensures { IsVoteDecided state.now (frame_digest (vote_frame_of vote.now)) (frame_vote (vote_frame_of vote.now)) result }
+{
+    let digest = Digest(*vote.digest());
+    let Some(height) = state.tree.height(&digest) else {
+        return Err(Fault::UnknownParent);
+    };
+    take_vote(state, BlockRef { digest, height }, &vote.vote())
+}
