@@ -113,6 +113,7 @@ impl Kept {
         match input {
             Input::Proposal(proposal) => self.is_mine(proposal),
             Input::Block(block) => self.is_mine(block),
+            Input::Vote(vote) => self.is_mine(vote),
             Input::NewView(announced) => self.is_mine(announced),
             Input::Fetch(asked) => self.is_mine(asked),
             Input::Timeout => true,

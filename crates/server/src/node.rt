@@ -6,7 +6,7 @@ ghost use Rattle.simulated_keys.specs.Keys.{simulated_keys};
 ghost use Rattle.definitions.specs.Keyrings.{is_replica_of};
 
 use authenticators::Keyring;
-use certificates::{check_block, check_fetch, check_new_view, check_proposal};
+use certificates::{check_block, check_fetch, check_new_view, check_proposal, check_vote};
 use frames_view::{Frame, read};
 use ids::{Config, Digest, Fault, ReplicaId};
 use locked_replica::{Kept, Share};
@@ -57,14 +57,6 @@ impl Node {
         })
     }
 
-    /// Which replica it is.
-    fn number(&self) -> ReplicaId
-        ensures value { result ≡ self.now.keyring.party }
-        ensures replica { result < replicas self.now.keyring.sizes }
-    {
-        self.keyring.replica()
-    }
-
     /// Brings bytes to the replica, checked with its keys. No replica takes requests yet, and none takes replies.
     fn take(&mut self, bytes: &[u8]) -> Result<Out, Fault>
         ensures { self.new.keyring ≡ self.old.keyring }
@@ -73,18 +65,19 @@ impl Node {
         let input = match read(&config, bytes)? {
             Frame::Proposal(view) => Input::Proposal(check_proposal(ring, &config, &view)?),
             Frame::Block(view) => Input::Block(check_block(ring, &config, &view)?),
+            Frame::Vote(view) => Input::Vote(check_vote(ring, &config, &view)?),
             Frame::NewView(view) => Input::NewView(check_new_view(ring, &config, &view)?),
             Frame::Fetch(view) => Input::Fetch(check_fetch(ring, &config, &view)?),
-            Frame::Request(_) | Frame::Vote(_) | Frame::Reply(_) => return Err(Fault::NotMine),
+            Frame::Request(_) | Frame::Reply(_) => return Err(Fault::NotMine),
         };
         self.kept.step(&mut self.share, input)
     }
 
-    /// The question for the block that these bytes lack, to their sender, unless that is the replica itself. Where memory is
-    /// refused there is none.
+    /// The question for the block that these bytes lack, to their sender, unless that is the replica itself. Where
+    /// memory is refused there is none.
     fn question(&self, bytes: &[u8]) -> Option<Sending> {
         let (to, block) = missing(&self.keyring.config(), bytes)?;
-        if to == self.number() {
+        if to == self.kept.number() {
             return None;
         }
         let frame = self.kept.replica().write_fetch(to, &block).ok()?;
