@@ -5,13 +5,14 @@ ghost use Rattle.std.specs.Bool.{OnTrue, OnFalse};
 ghost use Rattle.definitions.specs.Checks.{identity_of};
 ghost use Rattle.definitions.specs.Chronicles.{IsLawful};
 ghost use Rattle.replica.specs.Steps.{Stepped};
-ghost use Rattle.replica.specs.Inputs.{input_of, is_addressed};
+ghost use Rattle.replica.specs.Inputs.{input_of, same_replica, is_addressed};
 ghost use Rattle.locked_replica.specs.Kept.{is_own, AreAll, counted, gained};
 ghost use Rattle.locked_replica.specs.Addressed.{may_step};
 
 use crate::closed::{Closed, NotAll};
 use crate::once::each_once;
 use crate::share::Share;
+use certificates::{Authenticated, Checked};
 use ids::{Fault, PartyId, ReplicaId};
 use replica::{Input, Out, Replica};
 use std::alloc::Global;
@@ -97,15 +98,25 @@ impl Kept {
             && self.shares[share.number] == share.count
     }
 
-    /// Whether the input was checked for this replica, at its sizes. A beat is for anyone.
+    /// Whether a frame was checked for this replica, at its sizes.
+    fn is_mine<V: Authenticated>(&self, checked: &Checked<'_, V>) -> bool
+        ensures { result ≡ same_replica checked.now.keys self.now.keys }
+    {
+        checked.keyring().party() == PartyId::from(self.number())
+            && checked.config() == self.replica.config()
+    }
+
+    /// Whether the input was checked for this replica, at its sizes. Timeouts and beats are for anyone.
     pub fn is_addressed(&self, input: &Input) -> bool
         ensures { result ≡ is_addressed self.now.keys input.now }
     {
         match input {
-            Input::Proposal(checked) => {
-                checked.keyring().party() == PartyId::from(self.number())
-                    && checked.config() == self.replica.config()
-            }
+            Input::Proposal(proposal) => self.is_mine(proposal),
+            Input::Block(block) => self.is_mine(block),
+            Input::Vote(vote) => self.is_mine(vote),
+            Input::NewView(announced) => self.is_mine(announced),
+            Input::Fetch(asked) => self.is_mine(asked),
+            Input::Timeout => true,
             Input::Beat => true,
         }
     }

@@ -4,7 +4,10 @@ ghost use Rattle.std.specs.Prelude.{◌≡◌, ◌<◌, ◌⊎◌, [], length, s
 ghost use Rattle.ids.specs.Sizes.{replicas};
 ghost use Rattle.definitions.specs.Checks.{identity_of};
 ghost use Rattle.definitions.specs.Chronicles.{Chronicle, IsLawful};
+ghost use Rattle.definitions.specs.Frames.{spelling};
 ghost use Rattle.definitions.specs.Replicas.{running};
+ghost use Rattle.definitions.specs.Sendings.{fetch_frame};
+ghost use Rattle.definitions.specs.States.{view};
 ghost use Rattle.replica.specs.Steps.{Stepped};
 ghost use Rattle.definitions.specs.Keyrings.{Keys};
 ghost use Rattle.replica.specs.Kept.{IsStateOf};
@@ -25,9 +28,10 @@ use crate::vote::decide_vote;
 use authenticators::Keyring;
 use block_tree::Tree;
 use frames_view::{CertificateBuf, genesis_digest};
-use ids::{Config, Fault, ReplicaId};
+use ids::{Config, Digest, Fault, ReplicaId, View};
 use pacemaker::Pacemaker;
 use replica_rules::{BlockRef, Rules};
+use signed_frames::fetch_frame;
 use std::alloc::Global;
 use std::marker::Model;
 use vote_collector::Collector;
@@ -162,6 +166,25 @@ impl Replica {
         ensures lawful { IsLawful self.now.keys.sizes self.now.replica.chronicle }
     {
         self.state.count()
+    }
+
+    /// The view that it is in.
+    pub fn view(&self) -> View
+        ensures { result ≡ view self.now.keys.sizes self.now.replica.chronicle }
+    {
+        self.state.pace.view()
+    }
+
+    /// Its question to a replica for the block of a digest: a Fetch frame.
+    ///
+    /// After `UnknownParent` it is for the replica that sent what was refused, unless that is this one.
+    #[tactic(auto, unfolding(definitions::specs::Sendings::fetch_frame))]
+    pub fn write_fetch(&self, to: ReplicaId, block: &Digest) -> Result<Vec<u8>, Fault>
+        requires { to < replicas self.now.keys.sizes }
+        ensures made { IfOk result (λ frame. frame.items ≡ spelling (fetch_frame (identity_of self.now.keys) to block.now)) }
+        ensures memory { OnErr result (result ≡ Err Fault.Memory) }
+    {
+        fetch_frame(self.state.alloc, &self.keyring, to, block)
     }
 
     /// Takes an input: one step, which answers what goes out but for replies.

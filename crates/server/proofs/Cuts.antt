@@ -16,7 +16,7 @@ use Rattle.server.specs.Texts.{replica_text, client_text, party_text}
 use Rattle.server.specs.Lines.{spaced, AreNumbers, sizes_text, delivery_text, IsEvent, event_text}
 use Rattle.server.specs.Schedules.{BeginsWith, IsPrintable, IsPlain, is_lf}
 use Rattle.server.specs.declared.schedule.Event.{Event}
-use Rattle.server.specs.declared.schedule.Event.TheVariants.{Relay, Beat}
+use Rattle.server.specs.declared.schedule.Event.TheVariants.{Relay, Timeout, Beat}
 
 -- ---- what schedules are written with is printable
 
@@ -44,6 +44,8 @@ pub plain_event : (e : Event) → IsEvent e → IsPlain (event_text e)
 plain_event (Relay frame to) fits =
     All-append IsPrintable (codes "relay ") (delivery_text (frame, to)) (All-from_recursion IsPrintable (codes "relay ") (search rules))
     (plain_spaced (decimal frame) (party_text to) (plain_decimal frame fits.0) (plain_party to fits.1 (nat_lt to 256) refl))
+plain_event (Timeout replica) fits =
+    All-append IsPrintable (codes "timeout ") (replica_text replica) (All-from_recursion IsPrintable (codes "timeout ") (search rules)) (plain_replica replica fits)
 plain_event (Beat replica) fits =
     All-append IsPrintable (codes "beat ") (replica_text replica) (All-from_recursion IsPrintable (codes "beat ") (search rules)) (plain_replica replica fits)
 

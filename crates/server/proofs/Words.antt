@@ -5,7 +5,7 @@ use Rattle.std.proofs.lemmas.Str.Pattern.{IsSplitOnceResult, split_after}
 use Rattle.definitions.specs.Bytes.{Bytes}
 use Rattle.server.specs.Lines.{spaced, IsDelivery, delivery_text, IsEvent, event_text}
 use Rattle.server.specs.declared.schedule.Event.{Event}
-use Rattle.server.specs.declared.schedule.Event.TheVariants.{Relay, Beat}
+use Rattle.server.specs.declared.schedule.Event.TheVariants.{Relay, Timeout, Beat}
 use Rattle.server.proofs.Numbers.{no_space}
 use Rattle.server.specs.Texts.{IsReadOf, IsBelow, replica_text, client_text, party_text}
 
@@ -40,4 +40,5 @@ no_delivery bs rest whole none = λ e fits spelled. by e fits (spelled ∙ whole
   where
     by : (e : Event) → IsEvent e → event_text e ≡ codes "relay " ++ rest → ⊥
     by (Relay frame to) fits same = none (frame, to) fits (cc)
+    by (Timeout replica) fits same = absurd (omega (arith, ap first_byte same))
     by (Beat replica) fits same = absurd (omega (arith, ap first_byte same))

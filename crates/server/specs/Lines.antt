@@ -3,7 +3,7 @@ use Rattle.std.specs.Prelude.{ℕ, ◌^◌, ◌<◌, ◌++◌, codes, decimal}
 use Rattle.definitions.specs.Bytes.{Bytes}
 use Rattle.server.specs.Texts.{replica_text, party_text}
 use Rattle.server.specs.declared.schedule.Event.{Event}
-use Rattle.server.specs.declared.schedule.Event.TheVariants.{Relay, Beat}
+use Rattle.server.specs.declared.schedule.Event.TheVariants.{Relay, Timeout, Beat}
 
 -- two fields
 abbrev pub spaced : Bytes → Bytes → Bytes
@@ -26,11 +26,19 @@ IsDelivery d = (d.0 < 2 ^ 64) × (d.1 < 512)
 abbrev pub delivery_text : ℕ × ℕ → Bytes
 delivery_text d = spaced (decimal d.0) (party_text d.1)
 
+-- a timeout or a beat
+abbrev pub IsTimer : Event → Type 0
+IsTimer (Relay frame to) = ⊥
+IsTimer (Timeout replica) = replica < 256
+IsTimer (Beat replica) = replica < 256
+
 -- another line: an event
 abbrev pub IsEvent : Event → Type 0
 IsEvent (Relay frame to) = IsDelivery (frame, to)
+IsEvent (Timeout replica) = replica < 256
 IsEvent (Beat replica) = replica < 256
 
 abbrev pub event_text : Event → Bytes
 event_text (Relay frame to) = codes "relay " ++ delivery_text (frame, to)
+event_text (Timeout replica) = codes "timeout " ++ replica_text replica
 event_text (Beat replica) = codes "beat " ++ replica_text replica

@@ -1,9 +1,9 @@
 //! The text of a schedule, read.
 //!
 //! Its first line is `world F C`: F faulty replicas are tolerated, and there are C clients. Each other line is an event:
-//! `relay K PARTY` brings frame K of the record to a party, and `beat rN` is a beat of replica N. A party is `r` or
-//! `c` and its number. Each line ends by LF, and one space stands between fields. Numbers are decimals without
-//! leading zeros, below 2^64, and a party's below 256.
+//! `relay K PARTY` brings frame K of the record to a party, `timeout rN` and `beat rN` are a timeout and a beat of
+//! replica N. A party is `r` or `c` and its number. Each line ends by LF, and one space stands between fields.
+//! Numbers are decimals without leading zeros, below 2^64, and a party's below 256.
 
 ghost use Rattle.std.specs.Prelude.{◌≡◌, ◌^◌, ◌↔◌, ◌<◌, decimal, length, IsTrue, IsNone, IsOk, IfSome, IfOk, IfErr, OnErr, MatchOption, position};
 ghost use Rattle.ids.specs.Sizes.{AreSizes};
@@ -11,7 +11,7 @@ ghost use Rattle.server.specs.Texts.{IsReadOf, IsBelow, replica_text, party_text
 ghost use Rattle.definitions.specs.Bytes.{Bytes};
 ghost use Rattle.server.specs.Schedules.{BeginsWith, IsPlain, is_lf, IsTextOf, HasNoSizes, HasNoEvent};
 ghost use Rattle.server.specs.Faults.{IsWhyNot};
-ghost use Rattle.server.specs.Lines.{AreNumbers, numbers_text, sizes_text, IsDelivery, delivery_text, IsEvent, event_text};
+ghost use Rattle.server.specs.Lines.{AreNumbers, numbers_text, sizes_text, IsDelivery, delivery_text, IsTimer, IsEvent, event_text};
 
 use crate::sim_fault::SimFault;
 use ids::{ClientId, Config, Fault, PartyId, ReplicaId};
@@ -23,6 +23,8 @@ use std::alloc::Global;
 pub(crate) enum Event {
     /// A sent frame, by its number in the record, is brought to a party.
     Relay { frame: u64, to: PartyId },
+    /// A replica's view has lasted too long.
+    Timeout(ReplicaId),
     /// A replica is told to propose, if it leads.
     Beat(ReplicaId),
 }
@@ -141,6 +143,16 @@ fn event_of(words: &str) -> Option<Event>
             let (frame, to) = delivery_of(fields)?;
             Some(Event::Relay { frame, to })
         }
+        None => timer_of(words),
+    }
+}
+
+/// A timeout or a beat.
+fn timer_of(words: &str) -> Option<Event>
+    ensures { IsReadOf event_text IsTimer words.now result }
+{
+    match words.strip_prefix("timeout ") {
+        Some(word) => Some(Event::Timeout(replica_of(word)?)),
         None => Some(Event::Beat(replica_of(words.strip_prefix("beat ")?)?)),
     }
 }

@@ -77,6 +77,7 @@ impl World {
     {
         match event {
             Event::Relay { frame, to } => self.relay(frame, to),
+            Event::Timeout(replica) => self.timeout(replica),
             Event::Beat(replica) => self.beat(replica),
         }
     }
@@ -91,11 +92,23 @@ impl World {
             return Err(Fault::NoSuchParty);
         }
         let sending = self.sent.get(frame as usize).ok_or(Fault::NoSuchFrame)?;
-        let answer = match self.nodes.get_mut(usize::from(to.0)) {
+        let (answer, question) = match self.nodes.get_mut(usize::from(to.0)) {
             Some(node) => node.receive(&sending.frame),
             // Clients take nothing yet.
-            None => Err(Fault::NotMine),
+            None => (Err(Fault::NotMine), None),
         };
+        self.ask(question);
+        self.note(answer)
+    }
+
+    fn timeout(&mut self, replica: ReplicaId) -> Result<Answer, Fault>
+        ensures config { self.new.config ≡ self.old.config }
+        ensures kept { take (vec_len self.old.sent) self.new.sent.items ≡ self.old.sent.items }
+        ensures absent { IsErrOf result Fault.NoSuchParty ↔ IsFalse (is_party_of self.old.config replica) }
+        ensures sent { IsErrOf result Fault.NoSuchFrame → ⊥ }
+    {
+        let node = self.nodes.get_mut(usize::from(replica.0));
+        let answer = node.ok_or(Fault::NoSuchParty)?.timeout();
         self.note(answer)
     }
 
@@ -108,6 +121,16 @@ impl World {
         let node = self.nodes.get_mut(usize::from(replica.0));
         let answer = node.ok_or(Fault::NoSuchParty)?.beat();
         self.note(answer)
+    }
+
+    /// A question is appended to the record, where there is memory for it.
+    fn ask(&mut self, question: Option<Sending>)
+        ensures config { self.new.config ≡ self.old.config }
+        ensures kept { take (vec_len self.old.sent) self.new.sent.items ≡ self.old.sent.items }
+    {
+        if let Some(question) = question {
+            let _ = self.sent.push(question);
+        }
     }
 
     /// The answer of a replica. What it sent is appended to the record.
