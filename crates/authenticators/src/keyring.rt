@@ -1,4 +1,4 @@
-ghost use Rattle.std.specs.Prelude.{◌≡◌, ◌+◌, ◌*◌, ◌<◌, ◌↔◌, [], length, IsTrue};
+ghost use Rattle.std.specs.Prelude.{◌≡◌, ◌+◌, ◌*◌, ◌<◌, ◌↔◌, [], length, IsTrue, IfOk, OnErr};
 ghost use Rattle.definitions.specs.Writing.{IsAppended};
 ghost use Rattle.ids.specs.Sizes.{replicas};
 ghost use Rattle.definitions.specs.Tags.{tag_text};
@@ -6,6 +6,7 @@ ghost use Rattle.definitions.specs.Keyrings.{keys_due, is_peer, place_of, keyrin
 
 use crate::shared_key::SharedKey;
 use ids::{Config, Fault, Kind, PartyId, ReplicaId};
+use std::alloc::Global;
 use std::marker::Model;
 
 /// The keys of one party. It makes tags for its peers and verifies theirs.
@@ -41,6 +42,18 @@ impl Keyring {
             party,
             keys,
         }
+    }
+
+    /// A second keyring of the same keys, for a party whose keys are wanted in two places.
+    pub fn duplicate(&self, alloc: Global) -> Result<Keyring, Fault>
+        ensures made { IfOk result (λ k. k ≡ self.now) }
+        ensures memory { OnErr result (result ≡ Err Fault.Memory) }
+    {
+        Ok(Keyring {
+            config: self.config,
+            party: self.party,
+            keys: copied(alloc, self.keys.as_slice())?,
+        })
     }
 
     /// The party whose keys these are.
@@ -115,6 +128,18 @@ impl Keyring {
         };
         &self.keys[place]
     }
+}
+
+/// The same keys again.
+fn copied(alloc: Global, keys: &[SharedKey]) -> Result<Vec<SharedKey>, Fault>
+    ensures made { IfOk result (λ copy. copy.items ≡ keys.now) }
+    ensures memory { OnErr result (result ≡ Err Fault.Memory) }
+{
+    let mut copy = Vec::with_capacity(alloc, keys.len())?;
+    for key in keys {
+        copy.push(key.copied())?;
+    }
+    Ok(copy)
 }
 
 /// What stands before the content under a tag: the label, the sender and the receiver.

@@ -32,6 +32,16 @@ impl SharedKey {
         SharedKey { bytes, hashers }
     }
 
+    /// The same key again. It takes no memory.
+    pub(crate) fn copied(&self) -> SharedKey
+        ensures { result ≡ self.now }
+    {
+        SharedKey {
+            bytes: self.bytes,
+            hashers: self.hashers.copied(),
+        }
+    }
+
     /// The HMAC under this key of a text that is given in two parts.
     pub(crate) fn hmac_of_parts(&self, head: &[u8], rest: &[u8]) -> [u8; 32]
         ensures { result ≡ hmac self.now (head.now ++ rest.now) }

@@ -34,3 +34,4 @@ pub mod Premises
 pub mod Linearity
 pub mod Agreement
 pub mod Audit
+pub mod Marks

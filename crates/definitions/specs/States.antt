@@ -119,17 +119,21 @@ is_known d c = is_some (find_block d c)
 unfoldable pub picks : Chronicle → Branch → List Command
 picks c on = take most_commands (filter (λ r. not (list_any (λ e. (e.client == r.client) && (e.seq == r.seq)) (history_of on))) (pending c))
 
--- the child that a beat makes on this leaf
-unfoldable pub child : Identity → Chronicle → Branch → Option Branch
-child self c leaf =
-    if leads self c && is_known (digest_of leaf) c
-    then Some (record { commands = picks c leaf; justify = length (qc_high self.sizes c).block } ∷ leaf)
-    else None
-
 -- the first, where there is one
 abbrev pub or_else : {A : Type 0} → Option A → A → A
 or_else None x = x
 or_else (Some y) x = y
+
+-- the block of the tree that has the digest of this leaf, by whose branch commands are picked
+abbrev pub known_as : Branch → Chronicle → Branch
+known_as leaf c = or_else (find_block (digest_of leaf) c) leaf
+
+-- the child that a beat makes on this leaf
+unfoldable pub child : Identity → Chronicle → Branch → Option Branch
+child self c leaf =
+    if leads self c && is_known (digest_of leaf) c
+    then Some (record { commands = picks c (known_as leaf c); justify = length (qc_high self.sizes c).block } ∷ leaf)
+    else None
 
 -- the block that the next proposal stands on (HotStuff, PODC 2019, b_leaf)
 unfoldable pub leaf : Identity → Chronicle → Branch

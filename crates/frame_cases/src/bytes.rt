@@ -1,7 +1,14 @@
 //! The bytes of a line.
 
 use anyhow::Result;
+use hex::FromHex;
 use std::alloc::Global;
+
+/// The byte that two digits spell.
+pub(crate) fn parse_byte(digits: &str) -> Result<u8> {
+    let [byte] = <[u8; 1] as FromHex>::from_hex(digits)?;
+    Ok(byte)
+}
 
 /// The bytes that a field spells: hexadecimal, or parts with `+` between them, of which a part `HH*COUNT` is one byte
 /// so many times.
@@ -10,8 +17,7 @@ pub(crate) fn parse_bytes(alloc: Global, field: &str) -> Result<Vec<u8>> {
     for part in field.split('+') {
         match part.split_once('*') {
             Some((digits, count)) => {
-                let byte = u8::from_str_radix(digits, 16)?;
-                let many = vec![in alloc; byte; count.parse::<usize>()?]?;
+                let many = vec![in alloc; parse_byte(digits)?; count.parse::<usize>()?]?;
                 bytes.extend_from_slice(&many)?;
             }
             None => bytes.extend_from_slice(&hex::decode(alloc, part)?)?,

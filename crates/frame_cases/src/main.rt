@@ -17,7 +17,7 @@ mod row;
 mod show;
 
 use crate::again::is_written_again;
-use crate::bytes::parse_bytes;
+use crate::bytes::{parse_byte, parse_bytes};
 use crate::row::Row;
 use crate::show::Line;
 use anyhow::{Result, bail};
@@ -96,10 +96,7 @@ fn answer(alloc: Global, config: &Config, ask: &str, fields: [&str; 2]) -> Resul
             Ok(line.into_text())
         }
         "cuts" => cuts(alloc, config, &bytes)?.told(alloc),
-        "changes" => {
-            let mask = u8::from_str_radix(mask, 16)?;
-            changes(alloc, config, &mut bytes, mask)?.told(alloc)
-        }
+        "changes" => { changes(alloc, config, &mut bytes, parse_byte(mask)?)?.told(alloc) }
         _ => bail!("no such case: {ask}"),
     }
 }

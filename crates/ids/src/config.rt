@@ -42,6 +42,13 @@ impl Config {
         }
     }
 
+    /// What holds of all sizes: they are within their limits.
+    pub fn holds(&self)
+        ensures { AreSizes self.now }
+    {
+        let _faults = self.faults;
+    }
+
     /// The number f of faulty replicas that are tolerated.
     pub fn faults(&self) -> u8
         ensures { result ≡ self.now.faults }

@@ -72,10 +72,10 @@ pub record KeepsSessions (w : World) (e : Event) (f : Effect) : Type 0 where
   pub requests : (o : Sending) → Among o f.out → (c : Command) → o.1 ≡ frame.request c → (cl : ℕ) × (party_of e ≡ client_party cl) × (c.seq ≡ suc (w.session cl).used) × (c.seq ≤ (f.session cl).used) × (c.client ≡ cl)
   pub room : ((cl : ℕ) → (w.session cl).used < 2 ^ 64) → (cl : ℕ) → (f.session cl).used < 2 ^ 64
 
-put-session : (c : ℕ) (x : Session) (row : ℕ → Session) (P : Session → Type 0) (i : ℕ) → (i ≡ c → P x) → P (row i) → P (put c x row i)
+pub put-session : (c : ℕ) (x : Session) (row : ℕ → Session) (P : Session → Type 0) (i : ℕ) → (i ≡ c → P x) → P (row i) → P (put c x row i)
 put-session c x row P i here there = cond_both (i == c) x (row i) P (λ e. here (eqb-true i c e)) (λ e. there)
 
-on_reply-used : (me : Client) (m : Memory) (f : Frame) (s : Session) → (on_reply me m f s).0.used ≡ s.used
+pub on_reply-used : (me : Client) (m : Memory) (f : Frame) (s : Session) → (on_reply me m f s).0.used ≡ s.used
 unfolding on_reply count_reply
 on_reply-used me m (frame.reply r cl q pl tx g) s =
     cond_both (not (cl == me.number)) _ _ P (λ k. refl) (λ mine.
@@ -129,7 +129,7 @@ request-client me s payload to o (inl i) c h = same (sym (ap (λ (x : Sending). 
 request-client me s payload to o (inr m) c h = absurd m
 
 -- the next number still fits, where the last isn't reached
-next-fits : (n : ℕ) → (n == (2 ^ 64 - 1)) ≡ false → n < 2 ^ 64 → suc n < 2 ^ 64
+pub next-fits : (n : ℕ) → (n == (2 ^ 64 - 1)) ≡ false → n < 2 ^ 64 → suc n < 2 ^ 64
 next-fits n e h = elim (cases_lt n (2 ^ 64 - 1)) [ inl l ↦ omega (arith, l) | inr g ↦ absurd (true≢false (sym (eq-eqb n (2 ^ 64 - 1) (omega (arith, g, h))) ∙ e)) ]
 
 submit-well : (w : World) (cl : ℕ) (me : Client) (m : Memory) (payload : Bytes) (s : Session) → SubmittedWell w cl me.number s (submission me m payload s)

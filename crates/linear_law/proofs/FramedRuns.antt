@@ -56,7 +56,7 @@ on_step-asks self refused_at_once st c = tt
 on_step-asks self (refused_after k) st c = cond_both (conflicts st c) _ _ (λ (r : Replica × Reaction). AsksRightly r.1) (λ e. tt) (λ e. cond_both (executes st c) _ _ (λ (r : Replica × Reaction). AsksRightly r.1) (λ x. tt) (λ x. tt))
 
 -- the whole step
-step-asks : (self : Identity) (m : Memory) (i : Input) (r : Replica) → IsStoredRuling self r.chronicle (ruling self i r.chronicle) → AsksRightly (step self m i r).1
+pub step-asks : (self : Identity) (m : Memory) (i : Input) (r : Replica) → IsStoredRuling self r.chronicle (ruling self i r.chronicle) → AsksRightly (step self m i r).1
 unfolding step on_ruling
 step-asks self m i r h = by r.standing
   where
@@ -83,7 +83,7 @@ record IsFramedAfter (Known : Core → Type 0) (self : Identity) (m : Memory) (r
   out : (o : Sending) → Among o (out_of self m r.1) → IsFrame self.sizes o.1
 
 -- the question for a block that was lacking
-lacks-fit : (self : Identity) (m : Memory) (sender : ℕ) (d : Bytes) (o : Sending) → me self < replicas self.sizes → IsDigest d → Among o (out_of self m (asks_for sender d)) → IsFrame self.sizes o.1
+pub lacks-fit : (self : Identity) (m : Memory) (sender : ℕ) (d : Bytes) (o : Sending) → me self < replicas self.sizes → IsDigest d → Among o (out_of self m (asks_for sender d)) → IsFrame self.sizes o.1
 lacks-fit self m sender d o number h =
     cond_both (is_ample m && not (sender == self.ring.party)) ((to_party sender, fetch_frame self sender d) ∷ []) [] (λ (l : List Sending). Among o l → IsFrame self.sizes o.1)
     (λ e k. elim k [ inl i ↦ subst (λ (x : Sending). IsFrame self.sizes x.1) (sym i) (fetch-fits self number sender d h) | inr n ↦ absurd n ])
@@ -124,7 +124,7 @@ module _ (Known : Core → Type 0) (apart : NoCollision Known) (genesis : Known 
 -- ---- a submission
 
 -- a canonical payload is short
-payload-short : (payload : Bytes) → is_canonical payload ≡ true → length payload ≤ most_payload
+pub payload-short : (payload : Bytes) → is_canonical payload ≡ true → length payload ≤ most_payload
 payload-short payload h = by (request_of payload) refl h
   where
     by : (o : Option Asked) → request_of payload ≡ o → is_some o ≡ true → length payload ≤ most_payload
@@ -132,7 +132,7 @@ payload-short payload h = by (request_of payload) refl h
     by (Some r) e t = let k = request_of_some payload r e in let l = length-canonical r k.0 in let n = ap (λ (b : Bytes). length b) k.1 in omega (arith, l, n)
 
 -- the request that goes out
-submission-fits : (c : Client) (m : Memory) (payload : Bytes) (s : Session) (o : Sending) → c.number < c.sizes.clients → s.used < 2 ^ 64 → length payload ≤ most_payload → Among o (submitted_out (submission c m payload s).1) → IsFrame c.sizes o.1
+pub submission-fits : (c : Client) (m : Memory) (payload : Bytes) (s : Session) (o : Sending) → c.number < c.sizes.clients → s.used < 2 ^ 64 → length payload ≤ most_payload → Among o (submitted_out (submission c m payload s).1) → IsFrame c.sizes o.1
 unfolding submission request_frame
 submission-fits c m payload s o client room short =
     cond_both s.waiting _ _ P (λ e k. absurd k) (λ e.
@@ -147,7 +147,7 @@ submission-fits c m payload s o client room short =
     P x = Among o (submitted_out x.1) → IsFrame c.sizes o.1
 
 -- what a run does not refuse to submit is a request
-requested : (w : World) (c : ℕ) (payload : Bytes) → refusal w (submit c payload) ≡ None → is_canonical payload ≡ true
+pub requested : (w : World) (c : ℕ) (payload : Bytes) → refusal w (submit c payload) ≡ None → is_canonical payload ≡ true
 unfolding refusal
 requested w c payload =
     cond_both (not (names_party w (submit c payload))) _ _ P (λ e k. absurd (some fault.NoSuchParty k)) (λ e.
@@ -174,7 +174,7 @@ record IsFramedEffect (Known : Core → Type 0) (w : World) (f : Effect) : Type 
   out : (o : Sending) → Among o f.out → IsFrame w.sizes o.1
 
 -- one replica is put in its place
-put-both : (P : Replica → Type 0) (p : ℕ) (r : Replica) (row : ℕ → Replica) (j : ℕ) → (j ≡ p → P r) → P (row j) → P (put p r row j)
+pub put-both : (P : Replica → Type 0) (p : ℕ) (r : Replica) (row : ℕ → Replica) (j : ℕ) → (j ≡ p → P r) → P (row j) → P (put p r row j)
 put-both P p r row j here there = cond_both (j == p) r (row j) P (λ e. here (eqb-true j p e)) (λ e. there)
 
 -- it stands in its own place

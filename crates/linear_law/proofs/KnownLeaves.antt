@@ -61,7 +61,7 @@ module _ (Known : Core → Type 0) (apart : NoCollision Known) (genesis : Known 
 
   -- the core of a child is one of a frame
   made-core : (self : Identity) (c : Chronicle) (b : Branch) → IsGrown Known self c → IsLeafKnown Known self c → child self c (leaf self c) ≡ Some b → IsCore self.sizes (core_of b)
-  made-core self c b g k e = let ch = child-is self c (leaf self c) b e in child-core self c b g.stored (leaf-low self c b g k ch) ch
+  made-core self c b g k e = let ch = child-is self c (leaf self c) b e in child-core self c b g.stored (let l = leaf-low self c b g k ch in omega (arith, l)) ch
 
   -- the proposal after a step
   pub proposal-now : (self : Identity) (st : Step) (c : Chronicle) → IsGrown Known self c → IsLeafKnown Known self c → (j : Justified) → proposed self (st ∷ c) ≡ Some j → IsFitProposal self.sizes j

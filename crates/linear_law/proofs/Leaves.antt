@@ -13,7 +13,7 @@ use Rattle.definitions.specs.Digests.{digest_of, core_of, core_over}
 use Rattle.definitions.specs.Histories.{history_of}
 use Rattle.definitions.specs.Chronicles.{Step, Step.took_block, Step.noted, Note.got_new_view, Note.got_request, Note.timed_out, Note.beat, Chronicle, tree, history}
 use Rattle.definitions.specs.Checks.{Identity}
-use Rattle.definitions.specs.States.{announcements, announced, reached, view, raised, qc_high, is_same_request, is_due, with_request, pending, leads, find_block, is_known, picks, child, leaf, or_else}
+use Rattle.definitions.specs.States.{known_as, announcements, announced, reached, view, raised, qc_high, is_same_request, is_due, with_request, pending, leads, find_block, is_known, picks, child, leaf, or_else}
 use Rattle.std.proofs.lemmas.Option.{same_Some}
 use Rattle.definitions.proofs.Sound.{found}
 use Rattle.definitions.proofs.Certificates.{IsDigest-digest_of, all-filter}
@@ -89,7 +89,7 @@ picks-fit self c on h =
 
 -- a block that a beat makes
 pub record IsChild (self : Identity) (c : Chronicle) (on b : Branch) : Type 0 where
-  pub is : b ≡ record { commands = picks c on; justify = length (qc_high self.sizes c).block } ∷ on
+  pub is : b ≡ record { commands = picks c (known_as on c); justify = length (qc_high self.sizes c).block } ∷ on
   pub leads_view : leads self c ≡ true
   pub known : is_known (digest_of on) c ≡ true
 
@@ -164,13 +164,13 @@ known-block d c h = by (find_block d c) refl h
     by (Some x) e t = (let r = found d c x e in (x, r.0, r.1))
 
 -- the core of a block that a beat makes on a leaf of this height is one of a frame
-pub child-core : (self : Identity) (c : Chronicle) (b : Branch) → AreStored self c → length (leaf self c) < 1048576 → IsChild self c (leaf self c) b → IsCore self.sizes (core_of b)
+pub child-core : (self : Identity) (c : Chronicle) (b : Branch) → AreStored self c → suc (length (leaf self c)) < 2 ^ 64 → IsChild self c (leaf self c) b → IsCore self.sizes (core_of b)
 unfolding core_of core_over
 child-core self c b h low ch =
     subst (λ (x : Branch). IsCore self.sizes (core_of x)) (sym ch.is) (record {
       parent = IsDigest-digest_of (leaf self c);
       height = (omega arith, omega (arith, low));
       justify_height = (let l = leaf-above self c in omega (arith, l));
-      count = (picks-fit self c (leaf self c) h).1;
-      commands = (picks-fit self c (leaf self c) h).0;
+      count = (picks-fit self c (known_as (leaf self c) c) h).1;
+      commands = (picks-fit self c (known_as (leaf self c) c) h).0;
     })

@@ -20,3 +20,4 @@ pub mod Accounts
 pub mod Final
 pub mod FramedRuns
 pub mod WholeRuns
+pub mod AnyRuns

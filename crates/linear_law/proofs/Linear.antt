@@ -66,7 +66,7 @@ module _ (Known : Core → Type 0) (apart : NoCollision Known) (genesis : Known 
 
 -- ---- the world at its start
 
-new-row : (Known : Core → Type 0) (sizes : Sizes) (is_member : ℕ → Bool) → IsRow Known sizes is_member (λ i. [])
+pub new-row : (Known : Core → Type 0) (sizes : Sizes) (is_member : ℕ → Bool) → IsRow Known sizes is_member (λ i. [])
 unfolding tree stored taken steps_of
 new-row Known sizes is_member = record {
   sound = λ p m. record {

@@ -48,12 +48,12 @@ all_known-below Known [] x h (c ∷ added, e) = absurd (nil (sym e))
 all_known-below Known (b ∷ parent) x h (c ∷ added, e) = all_known-below Known parent x h.1 (added, (cc))
 
 -- a block put on a known one
-taken-known : (Known : Core → Type 0) (need : Sizes) (a : Admitted) (c : Chronicle) → IsLawfulTake need a c → ((b : Branch) → Among b (tree c) → AllKnown Known b) → Known (core_of a.branch) → AllKnown Known a.branch
+pub taken-known : (Known : Core → Type 0) (need : Sizes) (a : Admitted) (c : Chronicle) → IsLawfulTake need a c → ((b : Branch) → Among b (tree c) → AllKnown Known b) → Known (core_of a.branch) → AllKnown Known a.branch
 taken-known Known need a c l old k =
     let p = l.parent in
     subst (AllKnown Known) (sym p.2) (subst (λ (b : Branch). Known (core_of b)) p.2 k, old p.1 p.4)
 
-step-known : (Known : Core → Type 0) (a : Admitted) (c : Chronicle) (t : Bool) → a.new ≡ t → (a.new ≡ true → AllKnown Known a.branch) → ((b : Branch) → Among b (blocks (map stored_of (taken c))) → AllKnown Known b) → (b : Branch) → Among b (blocks (map stored_of (cond t (a ∷ taken c) (taken c)))) → AllKnown Known b
+pub step-known : (Known : Core → Type 0) (a : Admitted) (c : Chronicle) (t : Bool) → a.new ≡ t → (a.new ≡ true → AllKnown Known a.branch) → ((b : Branch) → Among b (blocks (map stored_of (taken c))) → AllKnown Known b) → (b : Branch) → Among b (blocks (map stored_of (cond t (a ∷ taken c) (taken c)))) → AllKnown Known b
 step-known Known a c true e here old b (inl i) = subst (AllKnown Known) (sym i) (here e)
 step-known Known a c true e here old b (inr m) = old b m
 step-known Known a c false e here old b m = old b m

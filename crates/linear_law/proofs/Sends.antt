@@ -30,7 +30,7 @@ as_taken-among None c a e = absurd (none e)
 as_taken-among (Some b) c a e = (find_some (λ a. branch_eq a.branch b) (taken c) a e).0
 
 -- a reply that is given again is one of the answers
-answer_to-among : (client seq : ℕ) (h : History) (a : Answer) → answer_to client seq h ≡ Some a → Among a (answers h)
+pub answer_to-among : (client seq : ℕ) (h : History) (a : Answer) → answer_to client seq h ≡ Some a → Among a (answers h)
 unfolding answer_to last_answer
 answer_to-among client seq h a e = (find_some (λ a. a.client == client) (answers h) a (numbered-is seq (last_answer client h) a e)).0
 

@@ -46,7 +46,7 @@ recorded-framed sizes xs k f sent e = by (slice_get xs k) refl e
     by (Some s) i j = let here : s.frame ≡ f = cc in subst (IsFrame sizes) here (sent s (slice_get-among xs k s i))
 
 -- what comes is a frame, where each frame that was sent is one
-comes-framed : (w : World) (e : Event) → IsReadIn w.sizes e → SentAreFrames w → ComesFramed w e
+pub comes-framed : (w : World) (e : Event) → IsReadIn w.sizes e → SentAreFrames w → ComesFramed w e
 unfolding brought
 comes-framed w (submit c payload) rd sent f b = absurd (let k : None ≡ Some f = b in cc)
 comes-framed w (relay k to) rd sent f b = recorded-framed w.sizes w.sent k f sent b

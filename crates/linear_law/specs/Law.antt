@@ -1,5 +1,5 @@
 -- The laws of every run, as clauses.
-use Rattle.std.specs.Prelude.{ℕ, ◌≡◌, ◌≢◌, ◌<◌, Bool, true, List, ◌∷◌, length, Option, Some, Ok}
+use Rattle.std.specs.Prelude.{ℕ, ◌≡◌, ◌≢◌, ◌<◌, ◌^◌, Bool, true, List, ◌∷◌, length, Option, Some, Ok}
 use Rattle.std.specs.List.{AllByRecursion}
 use Rattle.ids.specs.declared.fault.Fault.TheVariants as fault
 use Rattle.ids.specs.Sizes.{Sizes, AreSizes}
@@ -14,7 +14,7 @@ use Rattle.definitions.specs.Agreement.{Family, IsLawfulFamily}
 use Rattle.definitions.specs.Worlds.{World, Sent, Happening, new_world, is_correct, self_of}
 use Rattle.definitions.specs.Frames.{Frame, spelling}
 use Rattle.definitions.specs.Runs.{run}
-use Rattle.definitions.specs.Premises.{ArePremises}
+use Rattle.definitions.specs.Premises.{AllRead, ArePremises}
 use Rattle.definitions.specs.Linearity.{IsLinear}
 
 -- P holds at the end of each run whose premises hold and that refuses no event
@@ -57,6 +57,15 @@ SentAreFrames w = (s : Sent) → Among s w.sent → IsFrame w.sizes s.frame
 -- so is each frame of each such run
 abbrev pub SentFramesAreFrames : Type 0
 SentFramesAreFrames = AfterEachRun SentAreFrames
+
+-- each correct replica has its own keys
+abbrev pub HaveOwnKeys : World → Type 0
+HaveOwnKeys w = (p : ℕ) → is_correct w p ≡ true → (w.ring p).party ≡ p
+
+-- so is each frame of each run of fewer than 2^63 events, whatever tags are forged and whatever cores collide in it
+abbrev pub AnySentFramesAreFrames : Type 0
+AnySentFramesAreFrames = (sizes : Sizes) (is_faulty : ℕ → Bool) (ring : ℕ → Keyring) (hs : List Happening) (last : World) → length hs < 2 ^ 63 →
+    HaveOwnKeys (new_world sizes is_faulty ring) → AllRead sizes hs → run (new_world sizes is_faulty ring) hs ≡ Ok last → SentAreFrames last
 
 -- the bytes of each frame that a correct party sent are read as that frame
 abbrev pub AreReadAsSent : World → Type 0

@@ -3,7 +3,7 @@
 //! invented frames; refused memory is its one free choice.
 #![tactic(auto)]
 
-ghost use Rattle.linear_law.specs.Law.{EveryRunIsLinear, ChroniclesAreLawful, ChroniclesAreAFamily, NoEventConflicts, SentFramesAreFrames, SentFramesAreRead, MadeCertificatesAreCertificates};
+ghost use Rattle.linear_law.specs.Law.{EveryRunIsLinear, ChroniclesAreLawful, ChroniclesAreAFamily, NoEventConflicts, SentFramesAreFrames, AnySentFramesAreFrames, SentFramesAreRead, MadeCertificatesAreCertificates};
 
 /// Every run is linear.
 pub fn every_run_is_linear()
@@ -28,6 +28,11 @@ pub fn no_event_conflicts()
 /// Each frame that a correct party sends is a frame at the run's sizes.
 pub fn sent_frames_are_frames()
     ensures { SentFramesAreFrames }
+{}
+
+/// So is each frame of a run of fewer than 2^63 events, whatever tags are forged in it and whatever cores collide.
+pub fn any_sent_frames_are_frames()
+    ensures { AnySentFramesAreFrames }
 {}
 
 /// A frame that a correct party sent is read as it was sent, wherever it comes.

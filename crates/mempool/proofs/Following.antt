@@ -13,7 +13,7 @@ use Rattle.definitions.specs.States.{is_due, is_same_request, pending, picks, wi
 use Rattle.mempool.specs.Laws.{FollowsRequest, IsLeftBy, IsPicked}
 use Rattle.mempool.specs.Pool.{is_up_to, left_after, first_beside}
 
-filter-alike : {A : Type 0} (p q : A → Bool) → ((x : A) → p x ≡ q x) → (xs : List A) → filter p xs ≡ filter q xs
+pub filter-alike : {A : Type 0} (p q : A → Bool) → ((x : A) → p x ≡ q x) → (xs : List A) → filter p xs ≡ filter q xs
 filter-alike p q h [] = refl
 filter-alike p q h (x ∷ xs) = λ i. cond (h x i) (x ∷ filter-alike p q h xs i) (filter-alike p q h xs i)
 
@@ -61,7 +61,7 @@ filter-both p q (x ∷ xs) = by (p x) (filter-both p q xs)
     by false rest = rest
 
 -- what is due after more entries
-due-left : (new h : History) (rs : List Command) → filter (is_due (new ++ h)) rs ≡ left_after new (filter (is_due h) rs)
+pub due-left : (new h : History) (rs : List Command) → filter (is_due (new ++ h)) rs ≡ left_after new (filter (is_due h) rs)
 unfolding left_after
 due-left [] h rs = refl
 due-left (e ∷ earlier) h rs =
@@ -76,7 +76,7 @@ left_by c s new w h =
     ∙ ap (left_after new) (pending-due c)
 
 -- a request changes no history
-request-history : (c : Chronicle) (r : Command) → history (noted (got_request r) ∷ c) ≡ history c
+pub request-history : (c : Chronicle) (r : Command) → history (noted (got_request r) ∷ c) ≡ history c
 unfolding history executed decided taken
 request-history c r = refl
 

@@ -1,3 +1,3 @@
-mod Following
+pub mod Following
 mod Keyed
 mod Picking

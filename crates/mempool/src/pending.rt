@@ -35,7 +35,7 @@ impl Model for Pending {
 
 impl Pending {
     /// Keeps a copy of a request's bytes.
-    pub(crate) fn new(alloc: Global, request: &CommandView<'_>) -> Result<Pending, Fault>
+    pub fn new(alloc: Global, request: &CommandView<'_>) -> Result<Pending, Fault>
         ensures kept { IfOk result (λ p. p ≡ command_of request.now) }
         ensures memory { OnErr result (result ≡ Err Fault.Memory) }
     {

@@ -1,0 +1,2 @@
+pub mod KeyFile
+pub mod Reading
