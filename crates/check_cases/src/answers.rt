@@ -10,7 +10,6 @@ ghost use Rattle.ids.specs.Sizes.{replicas};
 ghost use Rattle.definitions.specs.FrameLimits.{IsCertificate};
 ghost use Rattle.frames_view.specs.Views.{certificate_of};
 
-use anyhow::Result;
 use authenticators::Keyring;
 use certificates::{
     Authenticated, CarriesBlock, Certified, Checked, check_block, check_cert, check_fetch,
@@ -22,7 +21,7 @@ use simulated_keys::keyring_of;
 use std::alloc::Global;
 
 /// The voters, in brackets.
-fn tell_voters(voters: &[ReplicaId], text: &mut String) -> Result<()> {
+fn tell_voters(voters: &[ReplicaId], text: &mut String) -> Result<(), Fault> {
     text.push_str(" [")?;
     for voter in voters {
         write!(text, " {}", voter.0)?;
@@ -35,7 +34,7 @@ fn tell_voters(voters: &[ReplicaId], text: &mut String) -> Result<()> {
 fn tell_plain<V: Authenticated + Drop>(
     checked: Result<Checked<V>, Fault>,
     text: &mut String,
-) -> Result<()> {
+) -> Result<(), Fault> {
     match checked {
         Ok(_) => text.push_str("ok")?,
         Err(fault) => write!(text, "{}", fault.number())?,
@@ -47,7 +46,7 @@ fn tell_plain<V: Authenticated + Drop>(
 fn tell_certified<V: Certified + Drop>(
     checked: Result<Checked<V>, Fault>,
     text: &mut String,
-) -> Result<()> {
+) -> Result<(), Fault> {
     match checked {
         Ok(checked) => {
             text.push_str("ok")?;
@@ -64,7 +63,7 @@ fn tell_certified<V: Certified + Drop>(
 fn tell_block<V: CarriesBlock + Drop>(
     checked: Result<Checked<V>, Fault>,
     text: &mut String,
-) -> Result<()> {
+) -> Result<(), Fault> {
     match checked {
         Ok(checked) => {
             text.push_str("ok")?;
@@ -81,7 +80,7 @@ fn tell_block<V: CarriesBlock + Drop>(
 }
 
 /// A certificate alone.
-fn tell_alone(ring: &Keyring, certificate: &CertificateView, text: &mut String) -> Result<()>
+fn tell_alone(ring: &Keyring, certificate: &CertificateView, text: &mut String) -> Result<(), Fault>
     requires replica { ring.now.party < replicas ring.now.sizes }
     requires certificate { IsCertificate ring.now.sizes (certificate_of certificate.now) }
 {
@@ -90,7 +89,7 @@ fn tell_alone(ring: &Keyring, certificate: &CertificateView, text: &mut String) 
 }
 
 /// What the check of bytes says, under the keys of a replica.
-pub(crate) fn tell(ring: &Keyring, bytes: &[u8], text: &mut String) -> Result<()>
+pub(crate) fn tell(ring: &Keyring, bytes: &[u8], text: &mut String) -> Result<(), Fault>
     requires { ring.now.party < replicas ring.now.sizes }
 {
     let config = ring.config();
@@ -131,7 +130,7 @@ pub(crate) fn check(
     config: Config,
     receiver: ReplicaId,
     bytes: &[u8],
-) -> Result<String>
+) -> Result<String, Fault>
     requires { receiver < replicas config }
 {
     let ring = keyring_of(alloc, config, PartyId::from(receiver))?;

@@ -1,5 +1,5 @@
-//! Checks frames, collects votes and steps a replica, with the keys of a simulated world: each line of standard input is
-//! a case, or a whole row of them. What is wanted of each was computed by an independent program.
+//! Checks frames and collects votes with the keys of a simulated world: each line of standard input is a case, or a whole
+//! row of them. What is wanted of each was computed by an independent program.
 //!
 //! A line begins with the sizes, the number of the replica that receives, and what is asked; bytes are hexadecimal. A line
 //! `hmac KEY TEXT` alone asks for HMAC-SHA-256 of a text: these are the test cases of RFC 4231.
@@ -10,28 +10,39 @@
 //!   printed, line by line.
 //! - `FAULTS CLIENTS RECEIVER votes FRAME ..`: votes, checked and collected one after the other, as `votes` tells it.
 //! - `FAULTS CLIENTS PARTY vector LABEL CONTENT`: the tags of any party for all replicas.
-//! - `FAULTS CLIENTS RECEIVER steps INPUT ..`: what a replica does with one input after the other, each a frame or
-//!   `beat`, as `steps` tells it.
 #![tactic(auto)]
 
 mod answers;
 mod row;
-mod steps;
 mod votes;
 
 use crate::answers::check;
 use crate::row::changes;
-use crate::steps::steps;
 use crate::votes::votes;
-use anyhow::{Result, bail};
+use anyhow::Result;
 use authenticators::hmac;
-use ids::{Config, Kind, PartyId, ReplicaId};
+use ids::{Config, Fault, Kind, PartyId, ReplicaId};
 use simulated_keys::keyring_of;
 use std::alloc::Global;
 use std::io::{BufRead as _, BufReader, BufWriter, Write as _};
 
+/// Bytes in hexadecimal.
+pub(crate) fn bytes_of(alloc: Global, digits: &str) -> Result<Vec<u8>, Fault> {
+    hex::decode(alloc, digits).ok().ok_or(Fault::BadFields)
+}
+
+/// A number of a line.
+fn number(digits: Option<&str>) -> Result<u16, Fault> {
+    digits.unwrap_or("").parse().ok().ok_or(Fault::BadFields)
+}
+
+/// A number below 256.
+fn small(digits: Option<&str>) -> Result<u8, Fault> {
+    u8::try_from(number(digits)?).ok().ok_or(Fault::BadFields)
+}
+
 /// The kind of frame whose number this is.
-fn kind_of(number: &str) -> Result<Kind> {
+fn kind_of(number: &str) -> Result<Kind, Fault> {
     Ok(match number {
         "1" => Kind::Request,
         "2" => Kind::Proposal,
@@ -40,58 +51,62 @@ fn kind_of(number: &str) -> Result<Kind> {
         "5" => Kind::Reply,
         "6" => Kind::Fetch,
         "7" => Kind::Block,
-        _ => bail!("no such kind: {number}"),
+        _ => return Err(Fault::BadFields),
     })
 }
 
 /// A party's tags for all replicas.
-fn vector(alloc: Global, config: Config, party: PartyId, rest: &str) -> Result<String> {
+fn vector(alloc: Global, config: Config, party: PartyId, rest: &str) -> Result<String, Fault> {
     let Some((label, digits)) = rest.split_once(' ') else {
-        bail!("no content");
+        return Err(Fault::BadFields);
     };
     let ring = keyring_of(alloc, config, party)?;
     let mut tags = Vec::new(alloc);
-    ring.vector(kind_of(label)?, &hex::decode(alloc, digits)?, &mut tags)?;
+    ring.vector(kind_of(label)?, &bytes_of(alloc, digits)?, &mut tags)?;
     Ok(hex::encode(alloc, &tags)?)
 }
 
 /// What is asked of a party.
-fn answer(alloc: Global, config: Config, party: u16, ask: &str, rest: &str) -> Result<String> {
+fn answer(
+    alloc: Global,
+    config: Config,
+    party: u16,
+    ask: &str,
+    rest: &str,
+) -> Result<String, Fault> {
     if ask == "vector" {
         return vector(alloc, config, PartyId(party), rest);
     }
-    let receiver = u8::try_from(party)?;
-    if receiver >= config.n() {
-        bail!("no such replica: {receiver}");
+    if party >= u16::from(config.n()) {
+        return Err(Fault::NoSuchParty);
     }
-    let receiver = ReplicaId(receiver);
+    let receiver = ReplicaId(party as u8);
     match ask {
-        "check" => check(alloc, config, receiver, &hex::decode(alloc, rest)?),
+        "check" => check(alloc, config, receiver, &bytes_of(alloc, rest)?),
         "changes" => changes(alloc, config, receiver, rest),
         "votes" => votes(alloc, config, receiver, rest),
-        "steps" => steps(alloc, config, receiver, rest),
-        _ => bail!("no such case: {ask}"),
+        _ => Err(Fault::BadFields),
     }
 }
 
 /// HMAC of a text under the key that stands before it.
-fn hmac_of(alloc: Global, fields: &str) -> Result<String> {
+fn hmac_of(alloc: Global, fields: &str) -> Result<String, Fault> {
     let Some((key, text)) = fields.split_once(' ') else {
-        bail!("no text");
+        return Err(Fault::BadFields);
     };
-    let digest = hmac(&hex::decode(alloc, key)?, &hex::decode(alloc, text)?);
+    let digest = hmac(&bytes_of(alloc, key)?, &bytes_of(alloc, text)?);
     Ok(hex::encode(alloc, &digest)?)
 }
 
 /// The line for a line of the input.
-fn tell(alloc: Global, input: &str) -> Result<String> {
+fn tell(alloc: Global, input: &str) -> Result<String, Fault> {
     if let Some(fields) = input.strip_prefix("hmac ") {
         return hmac_of(alloc, fields);
     }
     let mut fields = input.splitn(5, ' ');
-    let faults: u8 = fields.next().unwrap_or("").parse()?;
-    let clients: u8 = fields.next().unwrap_or("").parse()?;
-    let party: u16 = fields.next().unwrap_or("").parse()?;
+    let faults = small(fields.next())?;
+    let clients = small(fields.next())?;
+    let party = number(fields.next())?;
     let ask = fields.next().unwrap_or("");
     let rest = fields.next().unwrap_or("");
     match Config::new(faults, clients) {

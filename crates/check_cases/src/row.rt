@@ -4,8 +4,8 @@ ghost use Rattle.std.specs.Prelude.{◌<◌};
 ghost use Rattle.ids.specs.Sizes.{replicas};
 
 use crate::answers::tell;
-use anyhow::{Result, bail};
-use ids::{Config, PartyId, ReplicaId};
+use crate::bytes_of;
+use ids::{Config, Fault, PartyId, ReplicaId};
 use sha2::{Digest, Sha256};
 use simulated_keys::keyring_of;
 use std::alloc::Global;
@@ -43,7 +43,7 @@ impl Row {
         *count = count.wrapping_add(1);
     }
 
-    fn into_text(self, alloc: Global) -> Result<String> {
+    fn into_text(self, alloc: Global) -> Result<String, Fault> {
         let Row {
             told,
             passed,
@@ -64,14 +64,14 @@ pub(crate) fn changes(
     config: Config,
     receiver: ReplicaId,
     rest: &str,
-) -> Result<String>
+) -> Result<String, Fault>
     requires { receiver < replicas config }
 {
     let Some((mask, digits)) = rest.split_once(' ') else {
-        bail!("no mask");
+        return Err(Fault::BadFields);
     };
-    let mask = u8::from_str_radix(mask, 16)?;
-    let mut bytes = hex::decode(alloc, digits)?;
+    let mask = bytes_of(alloc, mask)?.first().copied().unwrap_or(0);
+    let mut bytes = bytes_of(alloc, digits)?;
     let ring = keyring_of(alloc, config, PartyId::from(receiver))?;
     let mut row = Row::new();
     for place in 0..bytes.len() {

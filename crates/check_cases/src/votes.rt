@@ -7,7 +7,7 @@
 ghost use Rattle.std.specs.Prelude.{◌≡◌, ◌<◌};
 ghost use Rattle.ids.specs.Sizes.{replicas};
 
-use anyhow::Result;
+use crate::bytes_of;
 use authenticators::Keyring;
 use certificates::check_vote;
 use frames_view::{CertificateBuf, Frame, read};
@@ -46,7 +46,7 @@ impl Poll {
         };
         let checked = check_vote(&self.ring, &config, &view)?;
         let (digest, vote) = (Digest(*view.digest()), checked.view().vote());
-        if self.certified.iter().any(|certified| *certified == digest) {
+        if self.certified.contains(&digest) {
             return Ok(Fate::Past);
         }
         match self.collector.judge(&digest, vote.voter()) {
@@ -64,7 +64,7 @@ impl Poll {
         }
     }
 
-    fn tell(&mut self, bytes: &[u8], text: &mut String) -> Result<()> {
+    fn tell(&mut self, bytes: &[u8], text: &mut String) -> Result<(), Fault> {
         match self.add(bytes) {
             Ok(Fate::First) => text.push_str("First")?,
             Ok(Fate::Doubled) => text.push_str("Doubled")?,
@@ -76,7 +76,11 @@ impl Poll {
     }
 }
 
-fn tell_certificate(alloc: Global, certificate: &CertificateBuf, text: &mut String) -> Result<()> {
+fn tell_certificate(
+    alloc: Global,
+    certificate: &CertificateBuf,
+    text: &mut String,
+) -> Result<(), Fault> {
     let mut bytes = Vec::new(alloc);
     certificate.view().write(&mut bytes)?;
     let digest = <Sha256 as sha2::Digest>::digest(&bytes);
@@ -95,7 +99,7 @@ pub(crate) fn votes(
     config: Config,
     receiver: ReplicaId,
     rest: &str,
-) -> Result<String>
+) -> Result<String, Fault>
     requires { receiver < replicas config }
 {
     let ring = keyring_of(alloc, config, PartyId::from(receiver))?;
@@ -111,7 +115,7 @@ pub(crate) fn votes(
         if !text.is_empty() {
             text.push_str(", ")?;
         }
-        poll.tell(&hex::decode(alloc, digits)?, &mut text)?;
+        poll.tell(&bytes_of(alloc, digits)?, &mut text)?;
     }
     Ok(text)
 }

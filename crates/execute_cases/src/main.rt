@@ -1,22 +1,30 @@
-//! Executes commands and prints what they are answered: each line of standard input is a case, after the lines before
-//! it. What is wanted of each was computed by an independent program.
+//! Executes commands and prints what they are answered, and keeps pending requests: each line of standard input is a
+//! case, after the lines before it. What is wanted of each was computed by an independent program.
 //!
 //! `block BYTES` executes the commands of a Block frame, and `request BYTES` that of a Request frame, at one fault and
 //! eight clients. Printed are the length of the history and the answers, each with its client, number, place and text.
 //! `reply CLIENT SEQ` prints the answer that is kept for this number, or `none`; `last CLIENT` the client's last number;
-//! `history` the length and the first 16 bytes of the SHA-256 digest of all entries, one a line; and `new` begins anew.
-//! Bytes and texts are hexadecimal.
+//! `history` the length and the first 16 bytes of the SHA-256 digest of all entries, one a line.
+//!
+//! `ask BYTES` adds the request of a Request frame to the pending ones, and says whether it is new; `pick CLIENT SEQ`
+//! prints how many of them a block takes on whose branch this request stands, and these, each with its length;
+//! `drop CLIENT SEQ` drops those of a client up to a number, and says how many are left. `new` begins anew. Bytes and
+//! texts are hexadecimal. A line that is refused prints `refused` and the number of the refusal.
 #![tactic(auto)]
 
-use anyhow::{Result, bail};
+mod pending;
+
+use crate::pending::{ask, bytes_of, client, drop_executed, key_of, pick};
+use anyhow::Result;
 use executor::{Answer, Executor};
 use frames_view::{CommandView, Commands, Frame, read};
-use ids::{ClientId, Config, Seq};
+use ids::{Config, Fault};
+use mempool::Mempool;
 use sha2::{Digest, Sha256};
 use std::alloc::Global;
 
 /// What an answer says.
-fn answer_text(alloc: Global, answer: &Answer) -> Result<String> {
+fn answer_text(alloc: Global, answer: &Answer) -> Result<String, Fault> {
     let text = hex::encode(alloc, answer.text())?;
     Ok(format!(in alloc;
         "{} {} at {} {text}",
@@ -27,7 +35,11 @@ fn answer_text(alloc: Global, answer: &Answer) -> Result<String> {
 }
 
 /// Executes the commands of a block, and tells the answers.
-fn tell_block(alloc: Global, executor: &mut Executor, commands: Commands<'_>) -> Result<String> {
+fn tell_block(
+    alloc: Global,
+    executor: &mut Executor,
+    commands: Commands<'_>,
+) -> Result<String, Fault> {
     let mut told = String::new(alloc);
     let answers = executor.run_block(commands)?;
     for answer in &answers {
@@ -42,7 +54,7 @@ fn tell_command(
     alloc: Global,
     executor: &mut Executor,
     command: &CommandView<'_>,
-) -> Result<String> {
+) -> Result<String, Fault> {
     match executor.run(command)? {
         Some(answer) => Ok(format!(in alloc; "; {}", answer_text(alloc, &answer)?)?),
         None => Ok(String::new(alloc)),
@@ -55,11 +67,11 @@ fn execute(
     config: &Config,
     executor: &mut Executor,
     bytes: &[u8],
-) -> Result<String> {
+) -> Result<String, Fault> {
     match read(config, bytes) {
         Ok(Frame::Block(frame)) => tell_block(alloc, executor, frame.core().commands()),
         Ok(Frame::Request(command)) => tell_command(alloc, executor, &command),
-        _ => bail!("no block and no request"),
+        _ => Err(Fault::NotMine),
     }
 }
 
@@ -69,19 +81,15 @@ fn tell_frame(
     config: &Config,
     executor: &mut Executor,
     digits: &str,
-) -> Result<String> {
-    let bytes = hex::decode(alloc, digits)?;
+) -> Result<String, Fault> {
+    let bytes = bytes_of(alloc, digits)?;
     let told = execute(alloc, config, executor, &bytes)?;
     Ok(format!(in alloc; "{}{told}", executor.len())?)
 }
 
 /// The answer that is kept for a client's number.
-fn tell_reply(alloc: Global, executor: &Executor, words: &str) -> Result<String> {
-    let Some((client, seq)) = words.split_once(' ') else {
-        bail!("no number");
-    };
-    let client = ClientId(client.parse::<u8>()?);
-    let seq = Seq(seq.parse::<u64>()?);
+fn tell_reply(alloc: Global, executor: &Executor, words: &str) -> Result<String, Fault> {
+    let (client, seq) = key_of(words)?;
     match executor.reply_of(client, seq) {
         Some(answer) => answer_text(alloc, answer),
         None => Ok(String::from_str(alloc, "none")?),
@@ -89,7 +97,7 @@ fn tell_reply(alloc: Global, executor: &Executor, words: &str) -> Result<String>
 }
 
 /// How many entries there are, and a digest of them.
-fn tell_history(alloc: Global, executor: &Executor) -> Result<String> {
+fn tell_history(alloc: Global, executor: &Executor) -> Result<String, Fault> {
     let mut told = Sha256::new();
     for entry in executor.history() {
         let payload = hex::encode(alloc, entry.payload())?;
@@ -101,35 +109,70 @@ fn tell_history(alloc: Global, executor: &Executor) -> Result<String> {
 }
 
 /// A client's last number.
-fn tell_last(alloc: Global, executor: &Executor, digits: &str) -> Result<String> {
-    let client = ClientId(digits.parse::<u8>()?);
-    Ok(format!(in alloc; "{}", executor.last_seq(client))?)
+fn tell_last(alloc: Global, executor: &Executor, digits: &str) -> Result<String, Fault> {
+    let last = executor.last_seq(client(digits)?);
+    Ok(format!(in alloc; "{last}")?)
+}
+
+/// The executor and the pending requests.
+#[derive(Drop)]
+struct Parts {
+    executor: Executor,
+    pool: Mempool,
+}
+
+impl Parts {
+    fn new(alloc: Global) -> Result<Parts, Fault> {
+        Ok(Parts {
+            executor: Executor::new(alloc)?,
+            pool: Mempool::new(alloc),
+        })
+    }
+}
+
+/// What is told of a line that is about pending requests.
+fn tell_pending(
+    alloc: Global,
+    config: &Config,
+    pool: &mut Mempool,
+    line: [&str; 2],
+) -> Result<String, Fault> {
+    let [word, rest] = line;
+    match word {
+        "ask" => Ok(String::from_str(alloc, ask(alloc, config, pool, rest)?)?),
+        "pick" => pick(alloc, pool, rest),
+        "drop" => Ok(format!(in alloc; "{}", drop_executed(pool, rest)?)?),
+        _ => Err(Fault::BadFields),
+    }
 }
 
 /// What is told of a line.
-fn tell(alloc: Global, config: &Config, executor: &mut Executor, line: &str) -> Result<String> {
+fn tell(alloc: Global, config: &Config, parts: &mut Parts, line: &str) -> Result<String, Fault> {
     let (word, rest) = line.split_once(' ').unwrap_or((line, ""));
+    let executor = &mut parts.executor;
     match word {
         "block" | "request" => tell_frame(alloc, config, executor, rest),
         "reply" => tell_reply(alloc, executor, rest),
         "last" => tell_last(alloc, executor, rest),
         "history" => tell_history(alloc, executor),
         "new" => {
-            *executor = Executor::new(alloc)?;
+            *parts = Parts::new(alloc)?;
             Ok(String::from_str(alloc, "new")?)
         }
-        _ => bail!("no such case"),
+        _ => tell_pending(alloc, config, &mut parts.pool, [word, rest]),
     }
 }
 
 fn main(rt: HostRuntime) -> Result<()> {
     let alloc = rt.alloc();
     let config = Config::new(1, 8)?;
-    let mut executor = Executor::new(alloc)?;
+    let mut parts = Parts::new(alloc)?;
     for line in rt.lines(alloc) {
         let line = line?;
-        let told = tell(alloc, &config, &mut executor, &line)?;
-        println!(rt; "{told}")?;
+        match tell(alloc, &config, &mut parts, &line) {
+            Ok(told) => println!(rt; "{told}")?,
+            Err(fault) => println!(rt; "refused {}", fault.number())?,
+        }
     }
     Ok(())
 }

@@ -7,7 +7,6 @@ use Rattle.std.specs.Prelude.{IsTrue, ◌↔◌}
 use Rattle.std.proofs.lemmas.Bool.{lt-ltb, ltb-true, false_from_ne_true}
 use Rattle.ids.specs.Sizes.{Sizes}
 use Rattle.definitions.specs.Lists.{Among}
-use Rattle.definitions.specs.Frames.{spelling}
 use Rattle.definitions.specs.Branches.{Branch}
 use Rattle.definitions.specs.Keyrings.{Keys}
 use Rattle.definitions.specs.Checks.{identity_of}
@@ -27,12 +26,12 @@ use Rattle.replica.specs.declared.change.Change.{Change}
 use Rattle.replica.specs.declared.state.High.{High}
 use Rattle.replica.specs.declared.stored.GotNewView.{GotNewView}
 use Rattle.replica.specs.Replay.{or_genesis}
-use Rattle.replica.specs.Steps.{Sent, is_no_reply, shown}
+use Rattle.replica.specs.Steps.{Sent, shown}
 use Rattle.replica.specs.Kept.{Variables, Kept, high_of, variables_of, IsStateOf}
 use Rattle.replica.specs.Changes.{changed_variables, raise_of, IsStep}
 use Rattle.replica.specs.Announcements.{new_view_sent, timeout_change, IsTimeout, new_view_change, IsAnnounced, IsNewViewAt, IsNewView}
 use Rattle.replica.specs.StepsTo.{Follows, StepsTo, answer, after}
-use Rattle.replica.proofs.Steps.{is_beat, brings_vote, BringsKnown, refused-for-memory, stands, asks}
+use Rattle.replica.proofs.Steps.{shown-if, is_beat, collects, BringsKnown, refused-for-memory, stands, asks}
 use Rattle.replica.proofs.Stays.{calm, same-some, AreHigh, raise-is, variables-calm, variables-noted}
 
 -- ---- a timeout
@@ -58,7 +57,7 @@ timeout-step keys c s d o t =
     let q : s.variables.high.certificate ≡ (qc_high keys.sizes (noted timed_out ∷ c)).certificate = ap (λ (v : Variables). v.high.certificate) o.same ∙ ap (λ (j : Justified). j.certificate) (sym (qc-timeout keys.sizes c)) in
     subst (IsStep keys c (noted timed_out) s.pace) (sym t.change)
     (record {
-      variables = (λ i. changed_variables (timeout_change keys (record { variables = o.same i; pace = s.pace; votes = s.votes }) t.pace) (variables_of keys c)) ∙ sym (variables-calm keys timed_out c refl refl);
+      variables = (λ i. changed_variables (timeout_change keys (record s { variables = o.same i }) t.pace) (variables_of keys c)) ∙ sym (variables-calm keys timed_out c refl refl);
       sizes = sizes;
       pace = pace;
       out = (λ i. new_view_sent keys (at i) (q i) ∷ []) ∙ timeout-sent keys c;
@@ -71,15 +70,11 @@ timeout-brings keys c q e = absurd (let k : None ≡ Some q = e in cc)
 pub timeout-decided : (keys : Keys) (c : Chronicle) (s : Kept) (result : Result Change Fault) → IfOk result (IsTimeout keys s) → OnErr result (result ≡ Err fault.Memory) → IsStateOf keys c s → StepsTo keys timeout_in c (answer result) (after result s)
 unfolding ruling conflicts
 timeout-decided keys c s (Ok d) made memory o =
-    stands keys _ c (noted timed_out) d s refl refl (ruling-sound (identity_of keys) timeout_in c tt o.sound) (timeout-brings keys c) (calm (noted timed_out) c refl o.none_pending) o (timeout-step keys c s d o made) tt (ap (λ (x : Change). brings_vote x.growth) made.change)
+    stands keys _ c (noted timed_out) d s refl refl (ruling-sound (identity_of keys) timeout_in c tt o.sound) (timeout-brings keys c) (calm (noted timed_out) c s.pending refl o.waits) o (timeout-step keys c s d o made) tt (ap (λ (x : Change). collects x.growth) made.change)
 timeout-decided keys c s (Err n) made memory o =
     subst (λ (x : Result (List Sent) Fault). StepsTo keys timeout_in c x s) (sym (ap answer memory)) (refused-for-memory keys _ c (noted timed_out) s refl o)
 
 -- ---- an announced view
-
-shown-if : (t : Bool) (x : Sending) → is_no_reply x ≡ true → shown (cond t (x ∷ []) []) ≡ cond t ((x.0, spelling x.1) ∷ []) []
-shown-if true x e = rw e refl
-shown-if false x e = refl
 
 module _ (keys : Keys) (c : Chronicle) (n : GotNewView) (b : Branch) (found : find_in n.certificate.digest (tree c) ≡ Some b) where
   note : Note
@@ -109,7 +104,7 @@ module _ (keys : Keys) (c : Chronicle) (n : GotNewView) (b : Branch) (found : fi
 
   sent-is : cond (nat_lt (view keys.sizes c) (view keys.sizes (noted note ∷ c))) (new_view_sent keys (view keys.sizes (noted note ∷ c)) (qc_high keys.sizes (noted note ∷ c)).certificate ∷ []) [] ≡ shown (sendings (identity_of keys) (noted note) c)
   unfolding note sendings Rattle.definitions.specs.Sendings.new_view_frame
-  sent-is = sym (shown-if (nat_lt (view keys.sizes c) (view keys.sizes (noted note ∷ c))) (to_all, new_view_frame (identity_of keys) (noted note ∷ c)) refl)
+  sent-is = sym (shown-if (nat_lt (view keys.sizes c) (view keys.sizes (noted note ∷ c))) (to_all, new_view_frame (identity_of keys) (noted note ∷ c)))
 
   -- the announcement as it is stored
   note-is : noted (got_new_view n.view n.sender n.certificate (or_genesis (find_in n.certificate.digest (blocks (stored c))))) ≡ noted note
@@ -128,7 +123,7 @@ module _ (keys : Keys) (c : Chronicle) (n : GotNewView) (b : Branch) (found : fi
       ap (λ (v : Variables). (unwrap_or (r v.high) v.high).certificate) o.same ∙ ap (λ (h : High). h.certificate) high-is.high in
       subst (IsStep keys c (noted note) s.pace) (sym t.change)
       (record {
-        variables = (λ i. changed_variables (new_view_change keys (record { variables = o.same i; pace = s.pace; votes = s.votes }) block n t.pace) (variables_of keys c))
+        variables = (λ i. changed_variables (new_view_change keys (record s { variables = o.same i }) block n t.pace) (variables_of keys c))
             ∙ (λ i. record (variables_of keys c) { chronicle = note-is i ∷ c; high = high-is.high i; leaf = high-is.its_leaf i })
             ∙ sym (variables-noted keys note c (qc_high keys.sizes (noted note ∷ c)) (leaf (identity_of keys) (noted note ∷ c)) is-note refl refl);
         sizes = sizes;
@@ -158,7 +153,7 @@ new-view-by keys c s n result o None e h =
     subst (λ (r : Result Change Fault). Follows keys (rulings.missing n.sender n.certificate.digest) c (answer r) (after r s)) (sym h) (asks keys _ c n.sender n.certificate.digest s refl o)
 new-view-by keys c s n (Ok d) o (Some b) e h =
     let st = noted (note keys c n b e) in
-    stands keys (rulings.due st) c st d s refl refl (note-sound keys c n b e o.sound) (new-view-brings keys c n b e) (calm st c refl o.none_pending) o (announced-step keys c n b e s d o (announced-block keys c n b e s d h)) tt (ap (λ (x : Change). brings_vote x.growth) h.change)
+    stands keys (rulings.due st) c st d s refl refl (note-sound keys c n b e o.sound) (new-view-brings keys c n b e) (calm st c s.pending refl o.waits) o (announced-step keys c n b e s d o (announced-block keys c n b e s d h)) tt (ap (λ (x : Change). collects x.growth) h.change)
 new-view-by keys c s n (Err f) o (Some b) e h =
     subst (λ (m : Fault). Follows keys (rulings.due (noted (got_new_view n.view n.sender n.certificate b))) c (Err m) s) (sym h) (refused-for-memory keys _ c (noted (got_new_view n.view n.sender n.certificate b)) s refl o)
 

@@ -1,7 +1,7 @@
 -- What a vote changes is what its step changes.
 use Rattle.ids.specs.declared.fault.Fault.{Fault}
 use Rattle.std.proofs.Common.{◌≡◌, ◌<◌, ◌≤◌, Bool, true, false, ◌∷◌, length, cond, nat_lt, refl, sym, ap, ◌∙◌, arith, subst, Option, Some, None, Result, Ok, Err}
-use Rattle.std.proofs.lemmas.Bool.{ltb-true, ltb-false}
+use Rattle.std.proofs.lemmas.Bool.{cond_both, ltb-true, ltb-false}
 use Rattle.ids.specs.Sizes.{Sizes, quorum}
 use Rattle.definitions.specs.Bytes.{Bytes}
 use Rattle.definitions.specs.Lists.{Among}
@@ -29,11 +29,12 @@ use Rattle.replica_rules.specs.Ruled.{ref_of}
 use Rattle.replica.specs.declared.change.Change.{Change}
 use Rattle.replica.specs.Replay.{or_genesis}
 use Rattle.replica.specs.Kept.{Variables, Kept, variables_of, IsStateOf}
-use Rattle.replica.specs.Changes.{changed, changed_variables, votes_after, IsStep}
+use Rattle.replica.specs.Changes.{pended, changed, changed_variables, votes_after, IsStep}
 use Rattle.replica.specs.Ballots.{vote_noted, vote_counted, vote_change, IsVoteAt, IsVoteDecided}
 use Rattle.replica.specs.StepsTo.{Follows, StepsTo, answer, after}
+use Rattle.pacemaker.proofs.Reached.{paced-still}
 use Rattle.replica.proofs.Steps.{is_beat, BringsKnown, refused-for-memory, stands-with, asks}
-use Rattle.replica.proofs.Stays.{calm, same-some, leaf-same, leaf-raised, variables-noted, pace-same}
+use Rattle.replica.proofs.Stays.{calm, same-some, leaf-same, leaf-raised, variables-noted}
 
 made-by : (t : Bool) (p q : Justified) → cond t (Some p) None ≡ Some q → p ≡ q
 made-by true p q e = same-some p q e
@@ -69,13 +70,13 @@ module _ (keys : Keys) (c : Chronicle) (s : Kept) (is : IsStateOf keys c s) (d :
 
   -- where the highest certificate stays
   noted-step : qc_high keys.sizes (noted note ∷ c) ≡ qc_high keys.sizes c → IsStep keys c (noted note) s.pace (vote_noted s block vote)
-  unfolding block sendings note Rattle.replica.proofs.Stays.keeps_pace
+  unfolding block sendings note
   noted-step q = record {
-    variables = (λ i. changed_variables (vote_noted (record { variables = is.same i; pace = s.pace; votes = s.votes }) block vote) (variables_of keys c))
+    variables = (λ i. changed_variables (vote_noted (record s { variables = is.same i }) block vote) (variables_of keys c))
         ∙ (λ i. record (variables_of keys c) { chronicle = note-is i ∷ c })
         ∙ sym (variables-noted keys note c (qc_high keys.sizes c) (leaf (identity_of keys) c) is-note q (leaf-same (identity_of keys) (noted note) c is-note q));
     sizes = is.sizes;
-    pace = pace-same (noted note) c s.pace refl is.pace;
+    pace = paced-still (noted note) c s.pace tt is.pace;
     out = refl;
   }
 
@@ -85,15 +86,15 @@ module _ (keys : Keys) (c : Chronicle) (s : Kept) (is : IsStateOf keys c s) (d :
 
   -- the one that completes a quorum
   complete-step : certified keys.sizes c < length b → qc_high keys.sizes (noted note ∷ c) ≡ record { block = b; certificate = made_with d vote s.votes.kept } → IsStep keys c (noted note) s.pace (vote_counted s block vote Complete)
-  unfolding block sendings note Rattle.replica.proofs.Stays.keeps_pace
+  unfolding block sendings note
   complete-step lt q =
       let made : Justified = record { block = b; certificate = made_with d vote s.votes.kept } in
       record {
-        variables = (λ i. changed_variables (vote_counted (record { variables = is.same i; pace = s.pace; votes = s.votes }) block vote Complete) (variables_of keys c))
+        variables = (λ i. changed_variables (vote_counted (record s { variables = is.same i }) block vote Complete) (variables_of keys c))
             ∙ (λ i. record (variables_of keys c) { chronicle = note-is i ∷ c; high = record { block = block-is i; certificate = made.certificate }; leaf = block-is i })
             ∙ sym (variables-noted keys note c made b is-note q (leaf-raised (identity_of keys) (noted note) c made is-note q lt));
         sizes = is.sizes;
-        pace = pace-same (noted note) c s.pace refl is.pace;
+        pace = paced-still (noted note) c s.pace tt is.pace;
         out = refl;
       }
 
@@ -134,6 +135,20 @@ module _ (keys : Keys) (c : Chronicle) (s : Kept) (is : IsStateOf keys c s) (d :
   vote-sound = subst (OnStands (λ st. IsSound keys.sizes (st ∷ c))) (ap (λ (o : Option Branch). with_block o vote.voter d (λ x. rulings.due (noted (got_vote vote.voter vote.vector x)))) found)
       (ruling-sound (identity_of keys) (vote_in d vote) c tt is.sound)
 
+-- it leaves the requests that wait
+counted-waits : (s : Kept) (block : BlockRef) (vote : Vote) → pended (vote_change s block vote).growth s.pending ≡ s.pending
+counted-waits s block vote =
+    cond_both (nat_lt s.variables.high.block.height block.height) _ (vote_noted s block vote) P
+    (λ t. by (judged (quorum s.votes.sizes) vote.voter (votes_for block.digest s.votes.kept))) (λ t. refl)
+  where
+    P : Change → Type 0
+    P d = pended d.growth s.pending ≡ s.pending
+
+    by : (a : Added) → P (vote_counted s block vote a)
+    by First = refl
+    by Doubled = refl
+    by Complete = refl
+
 -- by what is found
 vote-by : (keys : Keys) (c : Chronicle) (s : Kept) (d : Bytes) (vote : Vote) (result : Result Change Fault) → IsStateOf keys c s → (o : Option Branch) → find_in d (tree c) ≡ o → IsVoteAt s d vote result o
     → Follows keys (with_block o vote.voter d (λ x. rulings.due (noted (got_vote vote.voter vote.vector x)))) c (answer result) (after result s)
@@ -144,7 +159,7 @@ vote-by keys c s d vote (Ok x) is (Some b) e h =
     let st = noted (note keys c s is d vote b e) in
     let comes = change-comes keys c s is d vote b e in
     subst (λ (y : Change). Follows keys (rulings.due st) c (Ok y.out) (changed y s)) (sym h)
-    (stands-with keys (rulings.due st) c st (vote_change s (record { digest = d; height = length b }) vote) s refl refl (vote-sound keys c s is d vote b e) (vote-brings keys c s is d vote b e) (calm st c refl is.none_pending) is comes.step comes.votes)
+    (stands-with keys (rulings.due st) c st (vote_change s (record { digest = d; height = length b }) vote) s refl refl (vote-sound keys c s is d vote b e) (vote-brings keys c s is d vote b e) (counted-waits s (record { digest = d; height = length b }) vote ∙ calm st c s.pending refl is.waits) is comes.step comes.votes)
 vote-by keys c s d vote (Err f) is (Some b) e h =
     subst (λ (m : Fault). Follows keys (rulings.due (noted (got_vote vote.voter vote.vector b))) c (Err m) s) (sym h) (refused-for-memory keys _ c (noted (got_vote vote.voter vote.vector b)) s refl is)
 

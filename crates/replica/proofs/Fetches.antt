@@ -26,8 +26,9 @@ use Rattle.replica.specs.Kept.{Variables, Kept, variables_of, IsStateOf}
 use Rattle.replica.specs.Changes.{changed_variables, IsStep}
 use Rattle.replica.specs.Fetches.{supplied, fetch_change}
 use Rattle.replica.specs.StepsTo.{StepsTo, answer, after}
-use Rattle.replica.proofs.Steps.{brings_vote, BringsKnown, refused-for-memory, stands}
-use Rattle.replica.proofs.Stays.{calm, pace-same, variables-calm}
+use Rattle.pacemaker.proofs.Reached.{paced-still}
+use Rattle.replica.proofs.Steps.{collects, BringsKnown, refused-for-memory, stands}
+use Rattle.replica.proofs.Stays.{calm, variables-calm}
 
 -- ---- the block that is asked for
 
@@ -80,13 +81,13 @@ shown-supplied keys to (Some a) = refl
 -- ---- the step
 
 fetch-step : (keys : Keys) (c : Chronicle) (s : Kept) (f : GotFetch) → IsStateOf keys c s → IsStep keys c (noted (got_fetch f.sender (find_block f.block c))) s.pace (fetch_change keys s.variables f)
-unfolding sendings find_block tree Rattle.replica.proofs.Steps.is_beat Rattle.replica.proofs.Stays.keeps_pace raised
+unfolding sendings find_block tree Rattle.replica.proofs.Steps.is_beat raised
 fetch-step keys c s f o =
     let st = got_fetch f.sender (find_block f.block c) in
     record {
       variables = (λ i. changed_variables (fetch_change keys (o.same i) f) (variables_of keys c)) ∙ sym (variables-calm keys st c refl refl);
       sizes = o.sizes;
-      pace = pace-same (noted st) c s.pace refl o.pace;
+      pace = paced-still (noted st) c s.pace tt o.pace;
       out = ap (λ (v : Variables). supplied keys f.sender (stored_in f.block v.stored)) o.same ∙ ap (supplied keys f.sender) (sym (taken-stored f.block c)) ∙ sym (shown-supplied keys f.sender (as_taken (find_block f.block c) c));
     }
 
@@ -100,7 +101,7 @@ pub fetch-decided : (keys : Keys) (c : Chronicle) (s : Kept) (f : GotFetch) (res
 unfolding ruling conflicts
 fetch-decided keys c s f (Ok d) made memory o =
     let st = got_fetch f.sender (find_block f.block c) in
-    stands keys _ c (noted st) d s refl refl (ruling-sound (identity_of keys) (fetch_in f.sender f.block) c tt o.sound) (brings-none keys c f.sender (find_block f.block c)) (calm (noted st) c refl o.none_pending) o
-    (subst (IsStep keys c (noted st) s.pace) (sym made) (fetch-step keys c s f o)) tt (ap (λ (x : Change). brings_vote x.growth) made)
+    stands keys _ c (noted st) d s refl refl (ruling-sound (identity_of keys) (fetch_in f.sender f.block) c tt o.sound) (brings-none keys c f.sender (find_block f.block c)) (calm (noted st) c s.pending refl o.waits) o
+    (subst (IsStep keys c (noted st) s.pace) (sym made) (fetch-step keys c s f o)) tt (ap (λ (x : Change). collects x.growth) made)
 fetch-decided keys c s f (Err n) made memory o =
     subst (λ (x : Result (List Sent) Fault). StepsTo keys (fetch_in f.sender f.block) c x s) (sym (ap answer memory)) (refused-for-memory keys _ c (noted (got_fetch f.sender (find_block f.block c))) s refl o)

@@ -1,5 +1,5 @@
 -- A replica that has made no step.
-use Rattle.std.proofs.Common.{◌≡◌, [], ◌∷◌, length, refl, sym, ap, ◌∙◌, arith, subst, inl, inr, None}
+use Rattle.std.proofs.Common.{List, ◌≡◌, [], ◌∷◌, length, refl, sym, ap, ◌∙◌, arith, subst, inl, inr, None}
 use Rattle.ids.specs.Sizes.{Sizes}
 use Rattle.definitions.specs.Lists.{Among}
 use Rattle.definitions.specs.Frames.{genesis_core}
@@ -7,7 +7,14 @@ use Rattle.definitions.specs.Keyrings.{Keys}
 use Rattle.definitions.specs.Branches.{Block, Branch, IsBranch}
 use Rattle.definitions.specs.Digests.{digest}
 use Rattle.definitions.specs.Trees.{most_blocks, IsTree}
-use Rattle.definitions.specs.Chronicles.{taken, stored, tree, IsSound}
+use Rattle.definitions.specs.Chronicles.{taken, stored, tree, decided, decided_by, executed, history, IsSound}
+use Rattle.definitions.specs.Branches.{highest}
+use Rattle.definitions.specs.FrameLimits.{IsCore}
+use Rattle.definitions.specs.Digests.{AllKnown}
+use Rattle.definitions.specs.Histories.{History, history_of}
+use Rattle.definitions.specs.Replicas.{running, held_history, held_pending}
+use Rattle.definitions.specs.Frames.{Command}
+use Rattle.replica.specs.StepsTo.{IsWholeOf}
 use Rattle.definitions.specs.States.{qc_high, leaf, pending, proposed}
 use Rattle.pacemaker.specs.Pacing.{IsPaceOf}
 use Rattle.replica_rules.specs.Ruled.{ref_of, ruled_by}
@@ -42,9 +49,9 @@ first-sound s = record {
 
 -- the state at the start
 pub first : (keys : Keys) (s : Kept) → s.variables ≡ record { chronicle = []; most = most_blocks; stored = []; rules = ruled_by []; high = record { block = ref_of []; certificate = record { digest = digest genesis_core; votes = [] } }; leaf = ref_of []; own = None }
-    → s.pace.sizes ≡ keys.sizes → IsPaceOf [] s.pace → s.votes ≡ record { sizes = keys.sizes; kept = [] } → IsStateOf keys [] s
+    → s.pace.sizes ≡ keys.sizes → IsPaceOf [] s.pace → s.votes ≡ record { sizes = keys.sizes; kept = [] } → s.pending ≡ [] → IsStateOf keys [] s
 unfolding qc_high leaf proposed pending stored taken tree
-first keys s e z p v = record {
+first keys s e z p v w = record {
   same = e;
   sizes = z;
   pace = p;
@@ -53,5 +60,10 @@ first keys s e z p v = record {
   sound = first-sound keys.sizes;
   certified = inl refl;
   leaf_low = omega arith;
-  none_pending = refl;
+  waits = w;
 }
+
+-- with nothing executed
+pub first-whole : (keys : Keys) (s : Kept) (h : History) → IsStateOf keys [] s → h ≡ [] → IsWholeOf keys (record { chronicle = []; standing = running }) s h
+unfolding held_history held_pending history history_of executed decided highest decided_by tree stored taken
+first-whole keys s h is e = record { state = subst (λ (l : List Command). IsStateOf keys [] (record s { pending = l })) is.waits is; waits = is.waits; history = e; fit = λ x m. subst (AllKnown (IsCore keys.sizes)) (sym (only-genesis x m)) tt; stored = λ a m. absurd m }

@@ -1,22 +1,21 @@
 -- What taking a block in changes is what its step changes.
 use Rattle.ids.specs.declared.fault.Fault.{Fault}
 use Rattle.ids.specs.declared.fault.Fault.TheVariants as fault
-use Rattle.std.proofs.Common.{ℕ, ◌≡◌, ◌<◌, ◌==◌, ◌&&◌, ◌++◌, Bool, true, false, List, [], ◌∷◌, length, map, filter, unwrap_or, cond, refl, sym, ap, ◌∙◌, subst, inl, inr, Option, Some, None, Result, Ok, Err}
+use Rattle.std.proofs.Common.{ℕ, ◌≡◌, ◌<◌, ◌==◌, ◌&&◌, Bool, true, false, [], ◌∷◌, length, unwrap_or, cond, refl, sym, ap, ◌∙◌, subst, inl, inr, Option, Some, None, Result, Ok, Err}
 use Rattle.std.specs.Prelude.{option_map}
 use Rattle.ids.specs.Sizes.{Sizes, leader}
 use Rattle.definitions.specs.Lists.{Among}
-use Rattle.definitions.specs.Frames.{Core, spelling}
+use Rattle.definitions.specs.Frames.{Core}
 use Rattle.definitions.specs.Branches.{Branch, just1}
 use Rattle.definitions.specs.Digests.{digest, digest_of, core_of}
-use Rattle.definitions.specs.Histories.{Answer}
 use Rattle.definitions.specs.Keyrings.{Keys}
-use Rattle.definitions.specs.Checks.{Identity, identity_of}
+use Rattle.definitions.specs.Checks.{identity_of}
 use Rattle.definitions.specs.Trees.{Stored, blocks, find_in, block_of, most_blocks, Placing, Placing.grows, Placing.lacks_parent, Placing.unfit, placing}
 use Rattle.definitions.specs.Chronicles.{Admitted, Step, Step.took_block, Chronicle, stored, stored_of, tree, vheight, IsSound}
 use Rattle.definitions.specs.States.{Justified, view, qc_high, raised, leaf}
 use Rattle.definitions.specs.Rulings.{Input.proposal_in, Input.block_in, Ruling, ruling, admitted, votes_for, take_block, on_placing, on_block, conflicts}
 use Rattle.definitions.specs.Rulings as rulings
-use Rattle.definitions.specs.Sendings.{to_party, Sending, vote_frame, reply_to, new_replies, sendings}
+use Rattle.definitions.specs.Sendings.{to_party, vote_frame}
 use Rattle.definitions.specs.Replicas.{ample, running, stopped, stops, on_ruling}
 use Rattle.definitions.proofs.Branches.{just1-extends}
 use Rattle.definitions.proofs.Sound.{IsChecked, OnStands, ruling-sound}
@@ -33,13 +32,14 @@ use Rattle.replica_rules.proofs.Takes.{taking-new, taking-stands, taking-refused
 use Rattle.replica.specs.declared.change.Change.{Change}
 use Rattle.replica.specs.declared.state.High.{High}
 use Rattle.replica.specs.Replay.{or_genesis}
-use Rattle.replica.specs.Steps.{is_no_reply, shown}
+use Rattle.replica.specs.Steps.{shown}
 use Rattle.replica.specs.Kept.{Variables, Kept, high_of, own_of, variables_of, IsStateOf}
-use Rattle.replica.specs.Changes.{tree_of, raise_of, leaf_after, changed, changed_variables, IsStep}
+use Rattle.replica.specs.Changes.{sent_first, tree_of, raise_of, leaf_after, changed, changed_variables, IsStep}
 use Rattle.replica.specs.Offers.{Offered, is_for, justified_of, high_in, votes_sent, with_vote_in, again_change, new_change, IsTaken, IsDecidedAt, IsDecided}
 use Rattle.replica.specs.StepsTo.{Follows, halts, answer, after}
-use Rattle.replica.proofs.Steps.{is_beat, brings_vote, BringsKnown, refused-for-memory, refused-for-conflict, stands as stood, asks}
-use Rattle.replica.proofs.Stays.{same-some, qc-same, AreHigh, raise-is, unraised, proposed-same, calm, pace-same}
+use Rattle.pacemaker.proofs.Reached.{paced-still}
+use Rattle.replica.proofs.Steps.{shown-if, is_beat, collects, BringsKnown, refused-for-memory, refused-for-conflict, stands as stood, asks}
+use Rattle.replica.proofs.Stays.{same-some, qc-same, AreHigh, raise-is, unraised, proposed-same, calm}
 
 -- ---- the step that takes a block
 
@@ -72,22 +72,9 @@ variables-took keys a c r h = λ i. record {
 
 -- ---- what is sent
 
-no-replies : (self : Identity) (xs : List Answer) → filter is_no_reply (map (reply_to self) xs) ≡ []
-unfolding reply_to
-no-replies self [] = refl
-no-replies self (x ∷ xs) = no-replies self xs
-
-none-new : (self : Identity) (a : Admitted) (c : Chronicle) → filter is_no_reply (new_replies self (took_block a) c) ≡ []
-unfolding new_replies
-none-new self a c = no-replies self _
-
-sent-by : (t : Bool) (x : Sending) (rs : List Sending) → is_no_reply x ≡ true → filter is_no_reply rs ≡ [] → shown (cond t (x ∷ []) [] ++ rs) ≡ cond t ((x.0, spelling x.1) ∷ []) []
-sent-by true x rs v e = rw (v, e) refl
-sent-by false x rs v e = rw e refl
-
-sent-took : (keys : Keys) (a : Admitted) (c : Chronicle) → shown (sendings (identity_of keys) (took_block a) c) ≡ votes_sent keys (view keys.sizes c) (digest_of a.branch) a.voted
-unfolding sendings vote_frame
-sent-took keys a c = sent-by a.voted (to_party (leader keys.sizes (view keys.sizes c)), vote_frame (identity_of keys) a.branch) (new_replies (identity_of keys) (took_block a) c) refl (none-new (identity_of keys) a c)
+sent-took : (keys : Keys) (a : Admitted) (c : Chronicle) → shown (sent_first (identity_of keys) (took_block a) c) ≡ votes_sent keys (view keys.sizes c) (digest_of a.branch) a.voted
+unfolding vote_frame
+sent-took keys a c = shown-if a.voted (to_party (leader keys.sizes (view keys.sizes c)), vote_frame (identity_of keys) a.branch)
 
 -- ---- a block that stood in the tree
 
@@ -121,7 +108,7 @@ module _ (keys : Keys) (c : Chronicle) (s : Kept) (o : Offered) (is : IsStateOf 
     high-again = unraised keys (took_block again) c (no-beat again) (qc-same keys.sizes (took_block again) c refl)
 
     again-step : IsStep keys c (took_block again) s.pace (again_change keys s o)
-    unfolding again admitted Rattle.replica.proofs.Stays.keeps_pace
+    unfolding again admitted
     again-step =
         let voted = voted-again o.view in
         let v : Variables = variables_of keys c in
@@ -130,11 +117,11 @@ module _ (keys : Keys) (c : Chronicle) (s : Kept) (o : Offered) (is : IsStateOf 
         let rules = (λ i. with_vote_in (here i) (digest o.core) (stored c) (ruled_by c)) ∙ rules-again in
         let block : Bool → Branch → Admitted = λ t x. record { branch = x; core = o.core; certificate = o.certificate; counted = o.found.counted; clear = o.found.clear; new = false; voted = t } in
         record {
-          variables = (λ i. changed_variables (again_change keys (record { variables = is.same i; pace = s.pace; votes = s.votes }) o) v)
+          variables = (λ i. changed_variables (again_change keys (record s { variables = is.same i }) o) v)
               ∙ (λ i. record v { chronicle = took_block (block (here i) (or_genesis (found-here i))) ∷ c; stored = sym (stored-known again c refl) i; rules = rules i })
               ∙ sym (variables-took keys again c None high-again);
           sizes = is.sizes;
-          pace = pace-same (took_block again) c s.pace refl is.pace;
+          pace = paced-still (took_block again) c s.pace tt is.pace;
           out = (λ i. votes_sent keys (at i) (sym (found-in (digest o.core) (tree c) b found).1 i) (voted i)) ∙ sym (sent-took keys again c);
         }
 
@@ -204,7 +191,7 @@ module _ (keys : Keys) (c : Chronicle) (s : Kept) (o : Offered) (is : IsStateOf 
     }
 
     new-step : (d : Change) → IsTaken keys s o d → IsStep keys c (took_block new) s.pace d × (conflicts (took_block new) c ≡ false)
-    unfolding new admitted Rattle.replica.proofs.Stays.keeps_pace
+    unfolding new admitted
     new-step d t =
         let voted = voted-new o.view in
         let v : Variables = variables_of keys c in
@@ -216,7 +203,7 @@ module _ (keys : Keys) (c : Chronicle) (s : Kept) (o : Offered) (is : IsStateOf 
         let node = node-is t.node t.its_node in (
           subst (IsStep keys c (took_block new) s.pace) (sym t.change)
               (record {
-                variables = (λ i. changed_variables (new_change keys (record { variables = is.same i; pace = s.pace; votes = s.votes }) o t.node t.rules) v)
+                variables = (λ i. changed_variables (new_change keys (record s { variables = is.same i }) o t.node t.rules) v)
                     ∙ (λ i. record v {
                       chronicle = took_block (block (here i) (node i) ((ap (λ (x : Stored). core_of x.branch) node ∙ core-is) i)) ∷ c;
                       stored = (ap (λ (x : Stored). x ∷ stored c) node ∙ sym (stored-new new c refl)) i;
@@ -226,7 +213,7 @@ module _ (keys : Keys) (c : Chronicle) (s : Kept) (o : Offered) (is : IsStateOf 
                     })
                     ∙ sym (variables-took keys new c (raise_of (high_in o) v.high) high-new);
                 sizes = is.sizes;
-                pace = pace-same (took_block new) c s.pace refl is.pace;
+                pace = paced-still (took_block new) c s.pace tt is.pace;
                 out = (λ i. votes_sent keys (at i) (sym digest-is i) (voted i)) ∙ sym (sent-took keys new c);
               }),
           r.0,
@@ -270,7 +257,7 @@ due-sound keys c o fresh b (Some w) ch so e =
     subst (OnStands (λ st. IsSound keys.sizes (st ∷ c))) (e (leader keys.sizes w)) (ruling-sound (identity_of keys) (proposal_in w o.core o.certificate o.found) c ch so)
 
 -- a refused block leaves all as it was
-unfit-stops : (n : Fault) → IsUnfit n → stops n ≡ halts (Err n)
+unfit-stops : (n : Fault) → IsUnfit n → stops n ≡ halts n
 unfit-stops n (inl e) = rw e refl
 unfit-stops n (inr (inl e)) = rw e refl
 unfit-stops n (inr (inr (inl e))) = rw e refl
@@ -280,7 +267,9 @@ unfit-ends : (keys : Keys) (c : Chronicle) (s : Kept) (n : Fault) → IsUnfit n 
 unfolding on_ruling
 unfit-ends keys c s n u is = record {
   memory = ample;
-  leaves = record { state = is; standing = ap (λ (b : Bool). cond b stopped running) (unfit-stops n u); answer = refl };
+  state = is;
+  left = ap (λ (b : Bool). record { chronicle = c; standing = cond b stopped running }) (unfit-stops n u);
+  answer = refl;
 }
 
 -- a block that stands
@@ -289,8 +278,8 @@ known-ends : (keys : Keys) (c : Chronicle) (s : Kept) (o : Offered) (b : Branch)
 unfolding conflicts admitted
 known-ends keys c s o b d is so found e =
     let a = given keys c o false b in
-    stood keys _ c (took_block a) d s refl refl so (known-brings keys c o b) (calm (took_block a) c refl is.none_pending) is
-    (subst (IsStep keys c (took_block a) s.pace) (sym e) (again-is keys c s o is b found)) tt (ap (λ (x : Change). brings_vote x.growth) e)
+    stood keys _ c (took_block a) d s refl refl so (known-brings keys c o b) (calm (took_block a) c s.pending refl is.waits) is
+    (subst (IsStep keys c (took_block a) s.pace) (sym e) (again-is keys c s o is b found)) tt (ap (λ (x : Change). collects x.growth) e)
 
 -- a new one
 new-ends : (keys : Keys) (c : Chronicle) (s : Kept) (o : Offered) (b : Branch) (d : Change) → IsStateOf keys c s → IsSound keys.sizes (took_block (given keys c o true b) ∷ c) → o.core.justify_height < o.core.height
@@ -298,7 +287,7 @@ new-ends : (keys : Keys) (c : Chronicle) (s : Kept) (o : Offered) (b : Branch) (
 new-ends keys c s o b d is so below e t =
     let a = given keys c o true b in
     let step = new-is keys c s o is b below e d t in
-    stood keys _ c (took_block a) d s refl step.1 so (new-brings keys c o b so) (calm (took_block a) c refl is.none_pending) is step.0 tt (ap (λ (x : Change). brings_vote x.growth) t.change)
+    stood keys _ c (took_block a) d s refl step.1 so (new-brings keys c o b so) (calm (took_block a) c s.pending refl is.waits) is step.0 tt (ap (λ (x : Change). collects x.growth) t.change)
 
 -- by the place of the block
 place-by : (keys : Keys) (c : Chronicle) (s : Kept) (o : Offered) (sender : ℕ) (result : Result Change Fault) → IsStateOf keys c s → IsChecked keys.sizes o.core o.certificate o.found

@@ -4,7 +4,7 @@ use Rattle.std.proofs.lemmas.List.{reverse-append}
 use Rattle.definitions.specs.Trees.{Stored}
 use Rattle.replica.specs.declared.stored.StoredStep.{StoredStep}
 use Rattle.replica.specs.declared.change.Growth.{Growth}
-use Rattle.replica.specs.declared.change.Growth.TheVariants.{Nothing, Block, Vote}
+use Rattle.replica.specs.declared.change.Growth.TheVariants.{Nothing, Block, Vote, Request}
 use Rattle.replica.specs.Replay.{is_new, step_of, before, replay}
 use Rattle.replica.specs.Changes.{adds, grown}
 
@@ -17,6 +17,7 @@ pub before-grown : (s : StoredStep) (g : Growth) (stored : List Stored) → is_n
 before-grown s Nothing stored e = rw e refl
 before-grown s (Block n) stored e = rw e refl
 before-grown s (Vote b v) stored e = rw e refl
+before-grown s (Request r) stored e = rw e refl
 
 -- as many steps as are stored
 pub length-replay : (xs : List StoredStep) (stored : List Stored) → length (replay xs stored) ≡ length xs

@@ -1,22 +1,23 @@
 -- What steps leave as it was.
-use Rattle.std.proofs.Common.{ℕ, ◌≡◌, ◌<◌, ◌≤◌, Bool, true, false, true≢false, [], ◌∷◌, length, cond, refl, sym, ap, ◌∙◌, arith, nat_lt, Option, Some, None}
+use Rattle.std.proofs.Common.{◌≡◌, ◌<◌, ◌≤◌, Bool, true, false, true≢false, List, ◌∷◌, filter, length, cond, refl, sym, ap, ◌∙◌, arith, nat_lt, Option, Some, None}
 use Rattle.std.specs.Prelude.{option_map}
 use Rattle.std.proofs.lemmas.Bool.{lt-ltb, le-ltb, ltb-true, ltb-false}
 use Rattle.ids.specs.Sizes.{Sizes}
 use Rattle.definitions.specs.Branches.{Branch}
 use Rattle.definitions.specs.Keyrings.{Keys}
 use Rattle.definitions.specs.Checks.{Identity, identity_of}
-use Rattle.definitions.specs.Chronicles.{Note, Step, Step.took_block, Step.noted, Note.got_vote, Note.got_new_view, Note.got_request, Note.got_fetch, Note.timed_out, Note.beat, Chronicle, taken, stored}
-use Rattle.definitions.specs.States.{Justified, view, announced, announcements, raised, higher, qc_high, leaf, proposed, pending, with_request}
+use Rattle.definitions.specs.Chronicles.{Note, Step, Step.took_block, Step.noted, Note.got_vote, Note.got_new_view, Note.got_request, Note.got_fetch, Note.timed_out, Note.beat, Chronicle, taken, stored, history}
+use Rattle.definitions.specs.States.{Justified, raised, higher, qc_high, leaf, proposed, is_due, pending, with_request}
+use Rattle.definitions.specs.Frames.{Command}
 use Rattle.definitions.specs.Trees.{most_blocks}
 use Rattle.replica_rules.specs.Ruled.{ref_of}
 use Rattle.replica_rules.proofs.Takes.{ruled-noted}
 use Rattle.replica_rules.specs.declared.block_ref.BlockRef.{BlockRef}
 use Rattle.replica.specs.declared.state.High.{High}
-use Rattle.replica.specs.Changes.{raise_of, leaf_after}
+use Rattle.mempool.proofs.Following.{pending-due}
+use Rattle.replica.specs.Changes.{asked, raise_of, leaf_after}
 use Rattle.std.specs.Option.{unwrap_or}
 use Rattle.replica.specs.Kept.{high_of, own_of, variables_of}
-use Rattle.pacemaker.specs.Pacing.{Pace, IsPaceOf}
 use Rattle.replica.proofs.Steps.{is_beat, leaf-other}
 
 -- ---- the highest certificate
@@ -116,40 +117,6 @@ variables-calm keys n c e r =
     let q = qc-same keys.sizes (noted n) c r in
     variables-noted keys n c (qc_high keys.sizes c) (leaf (identity_of keys) c) e q (leaf-same (identity_of keys) (noted n) c e q)
 
--- no request waits, where none came
-pub calm : (st : Step) (c : Chronicle) → with_request st [] ≡ [] → pending c ≡ [] → pending (st ∷ c) ≡ []
-unfolding pending
-calm st c e p = rw (p, e) refl
-
--- a step that is no announcement and no timeout keeps the pace
-unfoldable pub keeps_pace : Step → Bool
-keeps_pace (noted (got_new_view w sender q b)) = false
-keeps_pace (noted timed_out) = false
-keeps_pace st = true
-
-view-same : (s : Sizes) (st : Step) (c : Chronicle) → keeps_pace st ≡ true → view s (st ∷ c) ≡ view s c
-unfolding view keeps_pace
-view-same s (took_block a) c e = refl
-view-same s (noted (got_vote voter v b)) c e = refl
-view-same s (noted (got_new_view w sender q b)) c e = absurd (true≢false (sym e))
-view-same s (noted (got_request r)) c e = refl
-view-same s (noted (got_fetch to b)) c e = refl
-view-same s (noted timed_out) c e = absurd (true≢false (sym e))
-view-same s (noted beat) c e = refl
-
-announced-same : (i : ℕ) (st : Step) (c : Chronicle) → keeps_pace st ≡ true → announced i (st ∷ c) ≡ announced i c
-unfolding announced announcements keeps_pace
-announced-same i (took_block a) c e = refl
-announced-same i (noted (got_vote voter v b)) c e = refl
-announced-same i (noted (got_new_view w sender q b)) c e = absurd (true≢false (sym e))
-announced-same i (noted (got_request r)) c e = refl
-announced-same i (noted (got_fetch to b)) c e = refl
-announced-same i (noted timed_out) c e = absurd (true≢false (sym e))
-announced-same i (noted beat) c e = refl
-
-pub pace-same : (st : Step) (c : Chronicle) (p : Pace) → keeps_pace st ≡ true → IsPaceOf c p → IsPaceOf (st ∷ c) p
-pace-same st c p k h = record {
-  row = h.row;
-  view = h.view ∙ sym (view-same p.sizes st c k);
-  announced = λ i l. h.announced i l ∙ sym (announced-same i st c k);
-}
+-- the requests that wait, where none came
+pub calm : (st : Step) (c : Chronicle) (waits : List Command) → with_request st (pending c) ≡ pending c → waits ≡ pending c → waits ≡ asked st c
+calm st c waits e w = w ∙ sym (ap (filter (is_due (history c))) e ∙ pending-due c)

@@ -11,11 +11,12 @@ use Rattle.definitions.specs.Keyrings.{Keys}
 use Rattle.definitions.specs.Checks.{Identity, identity_of}
 use Rattle.definitions.specs.Trees.{most_blocks}
 use Rattle.definitions.specs.Chronicles.{Step, Step.took_block, Step.noted, Note.got_vote, Note.got_new_view, Note.got_request, Note.got_fetch, Note.timed_out, Note.beat, Chronicle, tree, IsSound}
-use Rattle.definitions.specs.States.{Justified, raised, higher, qc_high, leaf, child, or_else, is_known, leads, pending}
+use Rattle.definitions.specs.States.{Justified, raised, higher, qc_high, leaf, child, or_else, is_known, leads}
+use Rattle.definitions.specs.Frames.{Command}
 use Rattle.definitions.specs.Digests.{digest_of}
-use Rattle.definitions.specs.Rulings.{Ruling, Ruling.due, Ruling.missing, Ruling.refusing, conflicts}
-use Rattle.definitions.specs.Sendings.{sendings}
-use Rattle.definitions.specs.Replicas.{ample, refused_at_once, running, stopped_at, sends_out, fails, on_step, on_ruling}
+use Rattle.definitions.specs.Rulings.{Ruling, Ruling.due, Ruling.missing, conflicts}
+use Rattle.definitions.specs.Sendings.{Sending, sendings}
+use Rattle.definitions.specs.Replicas.{ample, refused_at_once, running, stopped_at, Replica, Reaction, sends_out, fails, on_step, on_ruling}
 use Rattle.definitions.proofs.Chronicles.{tree-grows}
 use Rattle.std.specs.Option.{unwrap_or}
 use Rattle.definitions.specs.Trees.{IsTree}
@@ -25,12 +26,12 @@ use Rattle.vote_collector.specs.Lawful.{BringsNoVote}
 use Rattle.vote_collector.proofs.Steps.{followed-else, none-low}
 use Rattle.replica.specs.declared.state.High.{High}
 use Rattle.replica.specs.declared.change.Growth.{Growth}
-use Rattle.replica.specs.declared.change.Growth.TheVariants.{Nothing, Block, Vote}
+use Rattle.replica.specs.declared.change.Growth.TheVariants.{Nothing, Block, Vote, Request}
 use Rattle.replica.specs.declared.change.Change.{Change}
-use Rattle.replica.specs.Steps.{Sent}
+use Rattle.replica.specs.Steps.{Sent, bytes_of, shown, Shows}
 use Rattle.replica.specs.Kept.{Variables, Kept, high_of, IsStateOf}
-use Rattle.replica.specs.Changes.{collected, left_above, votes_after, changed, changed_variables, IsStep}
-use Rattle.replica.specs.StepsTo.{Leaves, Follows}
+use Rattle.replica.specs.Changes.{asked, pended, collected, left_above, votes_after, changed, changed_variables, IsStep}
+use Rattle.replica.specs.StepsTo.{IsRefused, Follows}
 
 -- ---- the highest certificate and the leaf
 
@@ -104,36 +105,40 @@ leaf-low-step self st c l so m = go (is_beat st) refl
 
 -- ---- what a ruling comes to
 
+-- one frame or none
+pub shown-if : (t : Bool) (x : Sending) → shown (cond t (x ∷ []) []) ≡ cond t (bytes_of x ∷ []) []
+shown-if true x = refl
+shown-if false x = refl
+
 -- want of memory, where a step was due
 pub refused-for-memory : (keys : Keys) (v : Ruling) (c : Chronicle) (st : Step) (s : Kept) → v ≡ due st → IsStateOf keys c s → Follows keys v c (Err fault.Memory) s
 unfolding on_ruling on_step
-refused-for-memory keys v c st s e o = record {
-  memory = refused_at_once;
-  leaves = subst (λ (x : Ruling). Leaves keys (on_ruling (identity_of keys) refused_at_once x c) (Err fault.Memory) s) (sym e) (record { state = o; standing = refl; answer = refl });
-}
+refused-for-memory keys v c st s e o = subst (λ (x : Ruling). IsRefused keys x c fault.Memory s) (sym e) (record { memory = refused_at_once; state = o; left = refl; answer = refl })
 
 -- want of memory in place of a step that would stand
 pub memory-instead : (keys : Keys) (v : Ruling) (c : Chronicle) (out : List Sent) (s new : Kept) → Follows keys v c (Ok out) new → IsStateOf keys c s → Follows keys v c (Err fault.Memory) s
-unfolding on_ruling
-memory-instead keys v c out s new t o = go v refl t.leaves
-  where
-    go : (x : Ruling) → v ≡ x → Leaves keys (on_ruling (identity_of keys) t.memory x c) (Ok out) new → Follows keys v c (Err fault.Memory) s
-    go (due st) e l = refused-for-memory keys v c st s e o
-    go (missing sender d) e l = absurd l.answer
-    go (refusing n) e l = absurd l.answer
+memory-instead keys v c out s new t o = refused-for-memory keys v c t.step s t.is_due o
 
 -- ---- the collected votes
 
--- a vote is added
-abbrev pub brings_vote : Growth → Bool
-brings_vote Nothing = false
-brings_vote (Block n) = false
-brings_vote (Vote b v) = true
+-- a vote or a request is added
+abbrev pub collects : Growth → Bool
+collects Nothing = false
+collects (Block n) = false
+collects (Vote b v) = true
+collects (Request r) = true
 
-collected-quiet : (g : Growth) (kept : List (Bytes × Entry)) → brings_vote g ≡ false → collected g kept ≡ kept
+collected-quiet : (g : Growth) (kept : List (Bytes × Entry)) → collects g ≡ false → collected g kept ≡ kept
 collected-quiet Nothing kept e = refl
 collected-quiet (Block n) kept e = refl
 collected-quiet (Vote b v) kept e = absurd (true≢false e)
+collected-quiet (Request r) kept e = refl
+
+pended-quiet : (g : Growth) (waits : List Command) → collects g ≡ false → pended g waits ≡ waits
+pended-quiet Nothing waits e = refl
+pended-quiet (Block n) waits e = refl
+pended-quiet (Vote b v) waits e = refl
+pended-quiet (Request r) waits e = absurd (true≢false e)
 
 -- after a step that brings no vote, by what is raised
 left-above-is : (s : Sizes) (st : Step) (c : Chronicle) (kept : List (Bytes × Entry)) (r : Option High) → BringsNoVote st → IsTree (tree (st ∷ c)) → IsVotesOf s c kept → unwrap_or r (high_of (qc_high s c)) ≡ high_of (qc_high s (st ∷ c))
@@ -145,61 +150,53 @@ left-above-is s st c kept (Some r) b tr is e =
     let h : r.block.height ≡ certified s (st ∷ c) = ap (λ (x : High). x.block.height) e in
     subst (λ (n : ℕ). IsVotesOf s (st ∷ c) (kept_above n kept)) (sym h) (followed-else s c kept st b tr is)
 
-votes-else : (keys : Keys) (st : Step) (c : Chronicle) (d : Change) (s : Kept) → BringsNoVote st → brings_vote d.growth ≡ false → IsTree (tree (st ∷ c)) → IsVotesOf keys.sizes c s.votes.kept → IsStep keys c st s.pace d
+pub votes-else : (keys : Keys) (st : Step) (c : Chronicle) (d : Change) (s : Kept) → BringsNoVote st → collected d.growth s.votes.kept ≡ s.votes.kept → IsTree (tree (st ∷ c)) → IsVotesOf keys.sizes c s.votes.kept → IsStep keys c st s.pace d
     → IsVotesOf keys.sizes (st ∷ c) (votes_after d s.votes.kept)
 votes-else keys st c d s b q tr is x =
-    subst (λ (k : List (Bytes × Entry)). IsVotesOf keys.sizes (st ∷ c) (left_above d.high k)) (sym (collected-quiet d.growth s.votes.kept q))
+    subst (λ (k : List (Bytes × Entry)). IsVotesOf keys.sizes (st ∷ c) (left_above d.high k)) (sym q)
     (left-above-is keys.sizes st c s.votes.kept d.high b tr is (ap (λ (v : Variables). v.high) x.variables))
 
 -- a step that stands
-pub stands-with : (keys : Keys) (v : Ruling) (c : Chronicle) (st : Step) (d : Change) (s : Kept) → v ≡ due st → conflicts st c ≡ false → IsSound keys.sizes (st ∷ c) → BringsKnown keys.sizes st c → pending (st ∷ c) ≡ []
+pub stands-with : (keys : Keys) (v : Ruling) (c : Chronicle) (st : Step) (d : Change) (s : Kept) → v ≡ due st → conflicts st c ≡ false → IsSound keys.sizes (st ∷ c) → BringsKnown keys.sizes st c → pended d.growth s.pending ≡ asked st c
     → IsStateOf keys c s → IsStep keys c st s.pace d → IsVotesOf keys.sizes (st ∷ c) (votes_after d s.votes.kept) → Follows keys v c (Ok d.out) (changed d s)
-unfolding on_ruling on_step
 stands-with keys v c st d s e k so known p o x votes =
     let block = certified-step keys.sizes st c o.certified known in
     record {
-      memory = ample;
-      leaves = subst (λ (x : Ruling). Leaves keys (on_ruling (identity_of keys) ample x c) (Ok d.out) (changed d s)) (sym e)
-          (subst (λ (b : Bool). Leaves keys (cond b (stopped_at c, fails fault.Conflict) (record { chronicle = st ∷ c; standing = running }, sends_out (sendings (identity_of keys) st c))) (Ok d.out) (changed d s)) (sym k)
-          (record {
-            state = record {
-              same = ap (changed_variables d) o.same ∙ x.variables;
-              sizes = x.sizes;
-              pace = x.pace;
-              vote_sizes = o.vote_sizes;
-              votes = votes;
-              sound = so;
-              certified = block;
-              leaf_low = leaf-low-step (identity_of keys) st c o.leaf_low so block;
-              none_pending = p;
-            };
-            standing = refl;
-            answer = x.out;
-          }));
+      step = st;
+      is_due = e;
+      calm = k;
+      state = record {
+        same = ap (changed_variables d) o.same ∙ x.variables;
+        sizes = x.sizes;
+        pace = x.pace;
+        vote_sizes = o.vote_sizes;
+        votes = votes;
+        sound = so;
+        certified = block;
+        leaf_low = leaf-low-step (identity_of keys) st c o.leaf_low so block;
+        waits = refl;
+      };
+      waits = p;
+      sent = x.out;
     }
 
 -- one that brings no vote
-pub stands : (keys : Keys) (v : Ruling) (c : Chronicle) (st : Step) (d : Change) (s : Kept) → v ≡ due st → conflicts st c ≡ false → IsSound keys.sizes (st ∷ c) → BringsKnown keys.sizes st c → pending (st ∷ c) ≡ []
-    → IsStateOf keys c s → IsStep keys c st s.pace d → BringsNoVote st → brings_vote d.growth ≡ false → Follows keys v c (Ok d.out) (changed d s)
-stands keys v c st d s e k so known p o x b q = stands-with keys v c st d s e k so known p o x (votes-else keys st c d s b q so.is_tree o.votes x)
+pub stands : (keys : Keys) (v : Ruling) (c : Chronicle) (st : Step) (d : Change) (s : Kept) → v ≡ due st → conflicts st c ≡ false → IsSound keys.sizes (st ∷ c) → BringsKnown keys.sizes st c → s.pending ≡ asked st c
+    → IsStateOf keys c s → IsStep keys c st s.pace d → BringsNoVote st → collects d.growth ≡ false → Follows keys v c (Ok d.out) (changed d s)
+stands keys v c st d s e k so known p o x b q = stands-with keys v c st d s e k so known (pended-quiet d.growth s.pending q ∙ p) o x (votes-else keys st c d s b (collected-quiet d.growth s.votes.kept q) so.is_tree o.votes x)
 
 -- a step that decides against what was executed
 pub refused-for-conflict : (keys : Keys) (v : Ruling) (c : Chronicle) (st : Step) (s : Kept) → v ≡ due st → conflicts st c ≡ true → IsStateOf keys c s → Follows keys v c (Err fault.Conflict) s
 unfolding on_ruling on_step
-refused-for-conflict keys v c st s e k o = record {
-  memory = ample;
-  leaves = subst (λ (x : Ruling). Leaves keys (on_ruling (identity_of keys) ample x c) (Err fault.Conflict) s) (sym e)
-      (subst (λ (b : Bool). Leaves keys (cond b (stopped_at c, fails fault.Conflict) (record { chronicle = st ∷ c; standing = running }, sends_out (sendings (identity_of keys) st c))) (Err fault.Conflict) s) (sym k)
-      (record { state = o; standing = refl; answer = refl }));
-}
+refused-for-conflict keys v c st s e k o =
+    let both : Bool → Replica × Reaction = λ b. cond b (stopped_at c, fails fault.Conflict) (record { chronicle = st ∷ c; standing = running }, sends_out (sendings (identity_of keys) st c)) in
+    subst (λ (x : Ruling). IsRefused keys x c fault.Conflict s) (sym e)
+    (record { memory = ample; state = o; left = ap (λ (b : Bool). (both b).0) k; answer = subst (λ (b : Bool). Shows (both b).1 (Err fault.Conflict)) (sym k) refl })
 
 -- a block that isn't in the tree
 pub asks : (keys : Keys) (v : Ruling) (c : Chronicle) (sender : ℕ) (d : Bytes) (s : Kept) → v ≡ missing sender d → IsStateOf keys c s → Follows keys v c (Err fault.UnknownParent) s
 unfolding on_ruling
-asks keys v c sender d s e o = record {
-  memory = ample;
-  leaves = subst (λ (x : Ruling). Leaves keys (on_ruling (identity_of keys) ample x c) (Err fault.UnknownParent) s) (sym e) (record { state = o; standing = refl; answer = refl });
-}
+asks keys v c sender d s e o = subst (λ (x : Ruling). IsRefused keys x c fault.UnknownParent s) (sym e) (record { memory = ample; state = o; left = refl; answer = refl })
 
 -- a change that was decided is made, or memory is refused and all is as before
 pub committed : (keys : Keys) (v : Ruling) (c : Chronicle) (d : Change) (s new : Kept) (result : Result (List Sent) Fault) → Follows keys v c (Ok d.out) (changed d s) → IsStateOf keys c s

@@ -1,7 +1,7 @@
 -- What a step changes, as functions of what is kept.
-use Rattle.std.specs.Prelude.{◌≡◌, Bool, true, false, List, ◌∷◌, nat_lt, if◌then◌else◌, Option, Some, None, ⊤}
+use Rattle.std.specs.Prelude.{◌≡◌, Bool, true, false, List, [], ◌∷◌, filter, nat_lt, if◌then◌else◌, Option, Some, None, ⊤}
 use Rattle.std.specs.Option.{option_or, unwrap_or}
-use Rattle.ids.specs.Sizes.{Sizes}
+use Rattle.ids.specs.Sizes.{Sizes, leader}
 use Rattle.definitions.specs.Bytes.{Bytes}
 use Rattle.definitions.specs.FrameLimits.{IsVote}
 use Rattle.vote_collector.specs.Collecting.{Entry, with_vote, kept_above}
@@ -9,16 +9,18 @@ use Rattle.definitions.specs.Trees.{Stored, TreeState, blocks}
 use Rattle.block_tree.specs.Nodes.{stored_as}
 use Rattle.block_tree.specs.Insertions.{MayStand}
 use Rattle.definitions.specs.Keyrings.{Keys}
-use Rattle.definitions.specs.Checks.{identity_of}
-use Rattle.definitions.specs.Chronicles.{Step, Chronicle}
-use Rattle.definitions.specs.Sendings.{sendings}
+use Rattle.definitions.specs.Checks.{Identity, identity_of}
+use Rattle.definitions.specs.Chronicles.{Step, Step.took_block, Step.noted, Note.got_request, Chronicle, history}
+use Rattle.definitions.specs.Sendings.{to_party, Sending, vote_frame, sendings}
+use Rattle.definitions.specs.States.{view, is_due, pending, with_request}
+use Rattle.definitions.specs.Frames.{Command}
 use Rattle.pacemaker.specs.Pacing.{Pace, IsPaceOf}
 use Rattle.replica_rules.specs.declared.block_ref.BlockRef.{BlockRef}
 use Rattle.replica.specs.declared.state.High.{High}
 use Rattle.replica.specs.declared.stored.StoredStep.{StoredStep}
 use Rattle.replica.specs.declared.change.Change.{Change}
 use Rattle.replica.specs.declared.change.Growth.{Growth}
-use Rattle.replica.specs.declared.change.Growth.TheVariants.{Nothing, Block, Vote}
+use Rattle.replica.specs.declared.change.Growth.TheVariants.{Nothing, Block, Vote, Request}
 use Rattle.replica.specs.Replay.{is_new, step_of}
 use Rattle.replica.specs.Steps.{Sent, shown}
 use Rattle.replica.specs.Kept.{Variables, Kept, variables_of}
@@ -28,12 +30,21 @@ abbrev pub grown : Growth → List Stored → List Stored
 grown Nothing stored = stored
 grown (Block n) stored = stored_as n (blocks stored) ∷ stored
 grown (Vote b v) stored = stored
+grown (Request r) stored = stored
 
 -- the collected votes with what is added
 abbrev pub collected : Growth → List (Bytes × Entry) → List (Bytes × Entry)
 collected Nothing kept = kept
 collected (Block n) kept = kept
 collected (Vote b v) kept = with_vote b.digest b.height v kept
+collected (Request r) kept = kept
+
+-- the requests that wait, with what is added
+abbrev pub pended : Growth → List Command → List Command
+pended Nothing waits = waits
+pended (Block n) waits = waits
+pended (Vote b v) waits = waits
+pended (Request r) waits = with_request (noted (got_request r)) waits
 
 -- without those that no higher certificate can need
 abbrev pub left_above : Option High → List (Bytes × Entry) → List (Bytes × Entry)
@@ -48,12 +59,14 @@ abbrev pub adds : Growth → Bool
 adds Nothing = false
 adds (Block n) = true
 adds (Vote b v) = false
+adds (Request r) = false
 
 -- what is added may be added
 abbrev pub MayGrow : TreeState → Sizes → Growth → Type 0
 MayGrow t s Nothing = ⊤
 MayGrow t s (Block n) = MayStand t n
 MayGrow t s (Vote b v) = IsVote s v
+MayGrow t s (Request r) = ⊤
 
 -- the tree of these variables
 abbrev pub tree_of : Variables → TreeState
@@ -82,6 +95,7 @@ changed d s = record {
   variables = changed_variables d s.variables;
   pace = unwrap_or d.pace s.pace;
   votes = record { sizes = s.votes.sizes; kept = votes_after d s.votes.kept };
+  pending = pended d.growth s.pending;
 }
 
 -- a step that changes nothing beside the chronicle
@@ -106,9 +120,18 @@ abbrev pub leaf_after : Option High → BlockRef → BlockRef
 leaf_after (Some h) leaf = h.block
 leaf_after None leaf = leaf
 
--- the change makes what is kept that of one step more, and sends what the step sends
+-- what a step sends before anything is executed
+abbrev pub sent_first : Identity → Step → Chronicle → List Sending
+sent_first self (took_block a) c = if a.voted then (to_party (leader self.sizes (view self.sizes c)), vote_frame self a.branch) ∷ [] else []
+sent_first self (noted n) c = sendings self (noted n) c
+
+-- the requests that wait after a step and before anything is executed
+abbrev pub asked : Step → Chronicle → List Command
+asked st c = filter (is_due (history c)) (with_request st (pending c))
+
+-- the change makes what is kept that of one step more, and sends what is sent first
 pub record IsStep (keys : Keys) (c : Chronicle) (st : Step) (p : Pace) (d : Change) : Type 0 where
   pub variables : changed_variables d (variables_of keys c) ≡ variables_of keys (st ∷ c)
   pub sizes : (unwrap_or d.pace p).sizes ≡ keys.sizes
   pub pace : IsPaceOf (st ∷ c) (unwrap_or d.pace p)
-  pub out : d.out ≡ shown (sendings (identity_of keys) st c)
+  pub out : d.out ≡ shown (sent_first (identity_of keys) st c)

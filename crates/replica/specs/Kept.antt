@@ -1,14 +1,18 @@
 -- What a replica keeps, as plain data, and what that is: functions of its chronicle.
-use Rattle.std.specs.Prelude.{ℕ, ◌≡◌, ◌+◌, ◌≤◌, [], length, List, Option, option_map}
+use Rattle.std.specs.Prelude.{ℕ, ◌≡◌, ◌+◌, ◌≤◌, length, List, Option, option_map}
 use Rattle.definitions.specs.Bytes.{Bytes}
 use Rattle.definitions.specs.Lists.{Among}
-use Rattle.definitions.specs.Frames.{core_bytes, certificate_bytes}
+use Rattle.definitions.specs.Frames.{Command, core_bytes, certificate_bytes}
 use Rattle.definitions.specs.Keyrings.{Keys}
 use Rattle.definitions.specs.Checks.{identity_of}
-use Rattle.definitions.specs.Digests.{core_of}
+use Rattle.ids.specs.Sizes.{Sizes}
+use Rattle.definitions.specs.Branches.{Branch}
+use Rattle.definitions.specs.FrameLimits.{IsCore}
+use Rattle.definitions.specs.Digests.{core_of, AllKnown}
 use Rattle.definitions.specs.Trees.{Stored, most_blocks}
-use Rattle.definitions.specs.Chronicles.{Chronicle, stored, tree, IsSound}
+use Rattle.definitions.specs.Chronicles.{Admitted, Step.took_block, Chronicle, stored, tree, IsSound}
 use Rattle.definitions.specs.States.{Justified, qc_high, leaf, pending, proposed}
+use Rattle.audit_ground.specs.Law.{IsStored}
 use Rattle.pacemaker.specs.Pacing.{Pace, IsPaceOf}
 use Rattle.vote_collector.specs.Collecting.{Collected}
 use Rattle.vote_collector.specs.Following.{IsVotesOf}
@@ -36,6 +40,11 @@ pub record Kept : Type 0 where
   pub variables : Variables
   pub pace : Pace
   pub votes : Collected
+  pub pending : List Command
+
+-- with these requests waiting
+abbrev pub waiting : List Command → Kept → Kept
+waiting pending s = record s { pending = pending }
 
 -- a certificate with its block, and a proposal, as they are kept
 abbrev pub high_of : Justified → High
@@ -56,6 +65,14 @@ variables_of keys c = record {
   own = option_map own_of (proposed (identity_of keys) c);
 }
 
+-- the cores of its blocks are those of frames at these sizes
+abbrev pub AreFit : Sizes → Chronicle → Type 0
+AreFit sizes c = (x : Branch) → Among x (tree c) → AllKnown (IsCore sizes) x
+
+-- each block that was taken stands in the tree under its own digest, with a certificate of the block that it justifies
+abbrev pub AreStored : Chronicle → Type 0
+AreStored c = (a : Admitted) → Among (took_block a) c → IsStored c a
+
 -- what is kept is that of this chronicle, which is a sound one
 pub record IsStateOf (keys : Keys) (c : Chronicle) (s : Kept) : Type 0 where
   pub same : s.variables ≡ variables_of keys c
@@ -66,4 +83,4 @@ pub record IsStateOf (keys : Keys) (c : Chronicle) (s : Kept) : Type 0 where
   pub sound : IsSound keys.sizes c
   pub certified : Among (qc_high keys.sizes c).block (tree c)
   pub leaf_low : length (leaf (identity_of keys) c) ≤ length c + most_blocks
-  pub none_pending : pending c ≡ []
+  pub waits : s.pending ≡ pending c

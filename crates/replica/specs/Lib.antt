@@ -5,9 +5,12 @@ pub mod Replay
 pub mod Kept
 pub mod Changes
 pub mod StepsTo
+pub mod Execution
 pub mod Beats
 pub mod Offers
 pub mod Announcements
 pub mod Fetches
+pub mod Requests
 pub mod Ballots
 pub mod Inputs
+pub mod Wanting

@@ -1,16 +1,21 @@
 //! Proposing at a beat.
 
-ghost use Rattle.std.specs.Prelude.{◌≡◌, ◌<◌, ◌==◌, [], ◌∷◌, IfOk, OnErr};
+ghost use Rattle.std.specs.Prelude.{◌≡◌, ◌<◌, ◌≤◌, ◌==◌, [], ◌∷◌, length, map, reverse, IfOk, OnErr};
+ghost use Rattle.std.specs.List.{flat_map};
+ghost use Rattle.definitions.specs.Frames.{command_bytes};
 ghost use Rattle.ids.specs.Sizes.{replicas, leader};
-ghost use Rattle.replica.specs.Beats.{beat_change, child_height, child_of, child_ref, own_sent, proposal_sent, proposing};
+ghost use Rattle.replica.specs.Beats.{beat_change, executed_below, proposed_above, child_height, child_of, child_ref, own_sent, proposal_sent, proposing};
 
+use crate::branch::keys_between;
 use crate::change::Change;
 use crate::out::{Out, To};
 use crate::state::{OwnProposal, State};
 use crate::stored::StoredStep;
+use appending::append;
 use authenticators::Keyring;
 use frames_view::write_core;
-use ids::{Digest, Fault, Height, View};
+use ids::{ClientId, Digest, Fault, Height, Seq, View};
+use mempool::Pending;
 use replica_rules::BlockRef;
 use sha2::Sha256;
 use signed_frames::proposal_frame;
@@ -23,17 +28,79 @@ fn child_height(leaf: BlockRef) -> Height
     Height(leaf.height.0.saturating_add(1))
 }
 
-/// The proposal of a child of the leaf.
-fn child_of(state: &State) -> Result<OwnProposal, Fault>
-    ensures made { IfOk result (λ own. own ≡ child_of state.now.variables) }
+/// The height above which requests that wait may stand on the leaf's branch: nothing that was executed waits.
+fn executed_below(state: &State) -> Height
+    ensures { result ≡ executed_below state.now.variables }
+{
+    let executed = state.rules.executed();
+    if state.tree.extends(&state.leaf.digest, &executed.digest) {
+        executed.height
+    } else {
+        Height(0)
+    }
+}
+
+/// The clients and numbers of what stands above it on the leaf's branch, in any order.
+fn proposed_above(state: &State) -> Result<Vec<(ClientId, Seq)>, Fault>
+    ensures found { IfOk result (λ keys. keys.items ≡ reverse (proposed_above state.now.variables)) }
     ensures memory { OnErr result (result ≡ Err Fault.Memory) }
 {
+    let (tree, leaf) = (&state.tree, &state.leaf.digest);
+    let height = tree.height(leaf).unwrap_or(Height(0));
+    let from = executed_below(state);
+    keys_between(state.alloc, tree, leaf, from.0, height.0)
+}
+
+/// The bytes of requests, one behind the other.
+fn bytes_of(alloc: Global, requests: &[&Pending]) -> Result<Vec<u8>, Fault>
+    ensures joined { IfOk result (λ bytes. bytes.items ≡ flat_map command_bytes (map (λ r. r.now) requests.now)) }
+    ensures memory { OnErr result (result ≡ Err Fault.Memory) }
+{
+    let mut bytes = Vec::new(alloc);
+    for request in requests {
+        append(&mut bytes, &[request.bytes()])?;
+    }
+    Ok(bytes)
+}
+
+/// How many requests were picked.
+fn count_of(picked: &[&Pending]) -> u8
+    requires { length picked.now ≤ 16 }
+    ensures { result ≡ length picked.now }
+{
+    picked.len() as u8
+}
+
+/// The core of a child of the leaf, with the first requests that wait and don't stand on the leaf's branch.
+fn core_of(state: &State) -> Result<Vec<u8>, Fault>
+    ensures made { IfOk result (λ core. core.items ≡ (child_of state.now).core) }
+    ensures memory { OnErr result (result ≡ Err Fault.Memory) }
+{
+    let on_branch = proposed_above(state)?;
+    let picked = state.pool.pick(&on_branch)?;
+    let count = count_of(&picked);
+    let commands = bytes_of(state.alloc, &picked)?;
+    let height = child_height(state.leaf);
     let mut core = Vec::new(state.alloc);
-    let (leaf, high) = (state.leaf, &state.high);
-    let height = child_height(leaf);
-    write_core(&leaf.digest, height, high.block.height, 0, &[], &mut core)?;
+    write_core(
+        &state.leaf.digest,
+        height,
+        state.high.block.height,
+        count,
+        &commands,
+        &mut core,
+    )?;
+    Ok(core)
+}
+
+/// The proposal of a child of the leaf.
+fn child_of(state: &State) -> Result<OwnProposal, Fault>
+    ensures made { IfOk result (λ own. own ≡ child_of state.now) }
+    ensures memory { OnErr result (result ≡ Err Fault.Memory) }
+{
+    let core = core_of(state)?;
     let mut certificate = Vec::new(state.alloc);
-    high.certificate.view().write(&mut certificate)?;
+    state.high.certificate.view().write(&mut certificate)?;
     Ok(OwnProposal { core, certificate })
 }
 
@@ -86,7 +153,7 @@ fn propose(state: &State, keyring: &Keyring) -> Result<Change, Fault>
 }
 
 /// Whether the replica leads its view.
-fn leads(state: &State, keyring: &Keyring) -> bool
+pub(crate) fn leads(state: &State, keyring: &Keyring) -> bool
     requires { keyring.now.party < replicas keyring.now.sizes }
     ensures { result ≡ (leader keyring.now.sizes state.now.pace.view == keyring.now.party) }
 {

@@ -7,6 +7,7 @@ use crate::out::Out;
 use crate::state::{High, OwnProposal, State};
 use crate::stored::StoredStep;
 use block_tree::Node;
+use mempool::Pending;
 use pacemaker::Pacemaker;
 use replica_rules::{BlockRef, Rules};
 use vote_collector::KeptVote;
@@ -19,6 +20,8 @@ pub(crate) enum Growth {
     Block(Node),
     /// A vote that is collected, for this block.
     Vote(BlockRef, KeptVote),
+    /// A request that waits.
+    Request(Pending),
 }
 
 /// A step that is to stand: what it changes, and what it sends.

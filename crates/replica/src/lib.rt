@@ -4,12 +4,16 @@
 mod announce;
 mod beat;
 mod blocks;
+mod branch;
 mod change;
+mod execution;
 mod fetch;
 mod input;
 mod offer;
 mod out;
 mod replica;
+mod request;
+mod standing;
 mod state;
 mod stored;
 mod vote;

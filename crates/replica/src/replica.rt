@@ -1,34 +1,41 @@
 //! One replica.
 
-ghost use Rattle.std.specs.Prelude.{◌≡◌, ◌<◌, ◌⊎◌, [], length, suc, IsTrue, IfOk, OnErr};
+ghost use Rattle.std.specs.Prelude.{◌≡◌, ◌<◌, ◌&&◌, ◌⊎◌, [], length, reverse, suc, IsTrue, IfOk, OnErr};
 ghost use Rattle.ids.specs.Sizes.{replicas};
+ghost use Rattle.audit_ground.specs.Law.{IsLawfullyKept};
 ghost use Rattle.definitions.specs.Checks.{identity_of};
 ghost use Rattle.definitions.specs.Chronicles.{Chronicle, IsLawful};
 ghost use Rattle.definitions.specs.Frames.{spelling};
-ghost use Rattle.definitions.specs.Replicas.{running};
+ghost use Rattle.definitions.specs.Replicas.{running, held_history, held_pending};
 ghost use Rattle.definitions.specs.Sendings.{fetch_frame};
 ghost use Rattle.definitions.specs.States.{view};
 ghost use Rattle.replica.specs.Steps.{Stepped};
+ghost use Rattle.replica.specs.Wanting.{wants_beat, leaf_is_certified};
 ghost use Rattle.definitions.specs.Keyrings.{Keys};
 ghost use Rattle.replica.specs.Kept.{IsStateOf};
 ghost use Rattle.replica.specs.Changes.{Fits};
-ghost use Rattle.replica.specs.StepsTo.{StepsTo, halts, answer, after};
-ghost use Rattle.replica.specs.Inputs.{input_of, is_addressed};
+ghost use Rattle.replica.specs.StepsTo.{StepsTo, going, IsWholeOf, Advances, answer, after};
+ghost use Rattle.replica.specs.Inputs.{input_of, IsFitInput, is_addressed};
 
 use crate::announce::{decide_new_view, decide_timeout};
-use crate::beat::decide_beat;
+use crate::beat::{decide_beat, leads};
 use crate::blocks::decide_block;
 use crate::change::Change;
+use crate::execution::execute;
 use crate::fetch::decide_fetch;
 use crate::input::Input;
 use crate::offer::Offer;
 use crate::out::Out;
+use crate::request::decide_request;
+use crate::standing::{Standing, Taken};
 use crate::state::{High, State};
 use crate::vote::decide_vote;
 use authenticators::Keyring;
 use block_tree::Tree;
+use executor::{Entry, Executor};
 use frames_view::{CertificateBuf, genesis_digest};
 use ids::{Config, Digest, Fault, ReplicaId, View};
+use mempool::Mempool;
 use pacemaker::Pacemaker;
 use replica_rules::{BlockRef, Rules};
 use signed_frames::fetch_frame;
@@ -44,7 +51,8 @@ const MOST_BLOCKS: usize = 1_048_576;
 pub struct Replica {
     keyring: Keyring,
     state: State,
-    stopped: bool,
+    executor: Executor,
+    standing: Standing,
 }
 
 impl Model for Replica {
@@ -54,34 +62,35 @@ impl Model for Replica {
 
     ghost Value = { Held };
 
-    ghost use Rattle.replica.specs.Kept.{IsStateOf};
+    ghost use Rattle.std.specs.Prelude.{length};
+    ghost use Rattle.replica.specs.StepsTo.{IsWholeOf};
 
-    ghost view = { λ r. record { keys = r.keyring; replica = record { chronicle = r.state.variables.chronicle; standing = standing_of r.stopped } } };
+    ghost view = { λ r. record { keys = r.keyring; replica = record { chronicle = r.state.variables.chronicle; standing = standing_of r.standing (length r.executor) } } };
 
-    ghost invariant = { λ r. IsStateOf r.keyring r.state.variables.chronicle r.state × (r.keyring.party < replicas r.keyring.sizes) };
-}
-
-/// Whether the replica is stopped after this answer.
-fn is_final(answer: &Result<Out, Fault>) -> bool
-    ensures { result ≡ halts answer.now }
-{
-    matches!(answer, Err(Fault::Full | Fault::Conflict | Fault::Memory))
+    ghost invariant = { λ r. IsWholeOf r.keyring (record { chronicle = r.state.variables.chronicle; standing = standing_of r.standing (length r.executor) }) r.state r.executor × (r.keyring.party < replicas r.keyring.sizes) };
 }
 
 /// What an input comes to: a change that is to be made, or a refusal.
-fn decide(state: &State, keyring: &Keyring, input: Input<'_>) -> Result<Change, Fault>
+fn decide(
+    state: &State,
+    keyring: &Keyring,
+    executor: &Executor,
+    input: Input<'_>,
+) -> Result<Change, Fault>
     requires own { IsTrue (is_addressed keyring.now input) }
     requires replica { keyring.now.party < replicas keyring.now.sizes }
     requires sizes { state.now.pace.sizes ≡ keyring.now.sizes }
     requires votes { state.now.votes.sizes ≡ keyring.now.sizes }
-    ensures decided { (c : Chronicle) → IsStateOf keyring.now c state.now → StepsTo keyring.now (input_of input.entry) c (answer result) (after result state.now) }
+    ensures decided { (c : Chronicle) → IsWholeOf keyring.now (going c) state.now executor.now → StepsTo keyring.now (input_of input.entry) c (answer result) (after result state.now) }
     ensures fits { IfOk result (λ d. Fits state.now d) }
+    ensures fit { IsFitInput keyring.now.sizes (input_of input.entry) }
 {
     match input {
         Input::Proposal(proposal) => decide_block(state, keyring, &Offer::of_proposal(&proposal)),
         Input::Block(block) => decide_block(state, keyring, &Offer::of_block(&block)),
         Input::Vote(vote) => decide_vote(state, vote.view()),
         Input::NewView(announced) => decide_new_view(state, keyring, announced.view()),
+        Input::Request(asked) => decide_request(state, keyring, executor, asked.view()),
         Input::Fetch(asked) => decide_fetch(state, keyring, asked.view()),
         Input::Timeout => decide_timeout(state, keyring),
         Input::Beat => {
@@ -92,16 +101,41 @@ fn decide(state: &State, keyring: &Keyring, input: Input<'_>) -> Result<Change, 
     }
 }
 
-/// Takes an input of a replica that goes on.
-fn take(state: &mut State, keyring: &Keyring, input: Input<'_>) -> Result<Out, Fault>
+/// Takes an input of a replica that goes on, and executes nothing yet.
+fn take(
+    state: &mut State,
+    keyring: &Keyring,
+    executor: &Executor,
+    input: Input<'_>,
+) -> Result<Out, Fault>
     requires own { IsTrue (is_addressed keyring.now input) }
     requires replica { keyring.now.party < replicas keyring.now.sizes }
     requires sizes { state.old.pace.sizes ≡ keyring.now.sizes }
     requires votes { state.old.votes.sizes ≡ keyring.now.sizes }
-    ensures { (c : Chronicle) → IsStateOf keyring.now c state.old → StepsTo keyring.now (input_of input.entry) c result state.new }
+    ensures steps { (c : Chronicle) → IsWholeOf keyring.now (going c) state.old executor.now → StepsTo keyring.now (input_of input.entry) c result state.new }
+    ensures fit { IsFitInput keyring.now.sizes (input_of input.entry) }
 {
-    let change = decide(state, keyring, input)?;
+    let change = decide(state, keyring, executor, input)?;
     state.commit(change)
+}
+
+/// Takes an input of a replica that goes on, and executes what it decides.
+fn advance(state: &mut State, executor: &mut Executor, keyring: &Keyring, input: Input<'_>) -> Taken
+    requires own { IsTrue (is_addressed keyring.now input) }
+    requires replica { keyring.now.party < replicas keyring.now.sizes }
+    requires sizes { state.old.pace.sizes ≡ keyring.now.sizes }
+    requires votes { state.old.votes.sizes ≡ keyring.now.sizes }
+    ensures { (c : Chronicle) → IsWholeOf keyring.now (going c) state.old executor.old
+        → Advances keyring.now (input_of input.entry) c result state.new executor.new }
+{
+    let from = state.rules.executed().height;
+    match take(state, keyring, executor, input) {
+        Err(fault) => Taken::Refused(fault),
+        Ok(mut out) => match execute(state, keyring, from, executor, &mut out) {
+            Ok(()) => Taken::Sends(out),
+            Err(_) => Taken::CutShort,
+        },
+    }
 }
 
 /// The state of a replica that has made no step.
@@ -121,6 +155,7 @@ fn first_state(alloc: Global, config: Config) -> State
         own: None,
         pace: Pacemaker::new(config),
         votes: Collector::new(alloc, config),
+        pool: Mempool::new(alloc),
         steps: Vec::new(alloc),
     }
 }
@@ -142,7 +177,8 @@ impl Replica {
         Ok(Replica {
             keyring,
             state: first_state(alloc, config),
-            stopped: false,
+            executor: Executor::new(alloc)?,
+            standing: Standing::Running,
         })
     }
 
@@ -164,8 +200,39 @@ impl Replica {
     pub fn steps(&self) -> usize
         ensures count { result ≡ length self.now.replica.chronicle }
         ensures lawful { IsLawful self.now.keys.sizes self.now.replica.chronicle }
+        ensures kept { IsLawfullyKept self.now.keys.sizes self.now.replica.chronicle }
     {
         self.state.count()
+    }
+
+    /// What it executed, oldest first.
+    pub fn history(&self) -> &[Entry]
+        ensures { reverse result.now ≡ held_history self.now.replica }
+    {
+        self.executor.history()
+    }
+
+    /// How many requests wait.
+    pub fn pending(&self) -> usize
+        ensures { result ≡ length (held_pending self.now.replica) }
+    {
+        self.state.pool.len()
+    }
+
+    /// Whether a beat brings something: it leads its view and a request waits.
+    pub fn wants_beat(&self) -> bool
+        ensures { result ≡ wants_beat self.now }
+    {
+        leads(&self.state, &self.keyring) && !self.state.pool.is_empty()
+    }
+
+    /// Whether a beat brings something at once: it wants one, and none of its proposals waits for votes.
+    ///
+    /// So it is after each certificate while requests wait, and when a request comes to a leader that was idle.
+    pub fn wants_beat_now(&self) -> bool
+        ensures { result ≡ (wants_beat self.now && leaf_is_certified self.now) }
+    {
+        self.wants_beat() && self.state.leaf.digest == self.state.high.block.digest
     }
 
     /// The view that it is in.
@@ -187,21 +254,22 @@ impl Replica {
         fetch_frame(self.state.alloc, &self.keyring, to, block)
     }
 
-    /// Takes an input: one step, which answers what goes out but for replies.
+    /// Takes an input: one step, which answers what goes out.
     ///
-    /// After `Full`, `Conflict` and `Memory` it is stopped; after `UnknownParent`, `BadHeight`, `WrongJustify` and
-    /// `Crowded` it is as before.
+    /// After `UnknownParent`, `BadHeight`, `WrongJustify`, `Crowded` and `PoolFull` it is as before. After `Full`,
+    /// `Conflict` and `Memory` it is stopped. Where memory is refused in between, to execute what the step decided, the
+    /// step stands, the history ends behind the last command that was executed, and nothing goes out.
     pub fn step(&mut self, input: Input<'_>) -> Result<Out, Fault>
         requires { IsTrue (is_addressed self.old.keys input) }
         ensures stepped { Stepped (identity_of self.old.keys) (input_of input.entry) self.old.replica result self.new.replica }
         ensures keys { self.new.keys ≡ self.old.keys }
         ensures grows { (length self.new.replica.chronicle ≡ length self.old.replica.chronicle) ⊎ (length self.new.replica.chronicle ≡ suc (length self.old.replica.chronicle)) }
     {
-        if self.stopped {
+        if !self.standing.is_running() {
             return Err(Fault::Stopped);
         }
-        let answer = take(&mut self.state, &self.keyring, input);
-        self.stopped = is_final(&answer);
-        answer
+        let taken = advance(&mut self.state, &mut self.executor, &self.keyring, input);
+        self.standing = taken.standing();
+        taken.into_answer()
     }
 }

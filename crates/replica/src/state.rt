@@ -3,7 +3,7 @@
 ghost use Rattle.std.specs.Prelude.{◌≡◌, length, IfOk, OnOk, OnErr};
 ghost use Rattle.std.specs.Option.{unwrap_or};
 ghost use Rattle.definitions.specs.Trees.{Stored};
-ghost use Rattle.replica.specs.Changes.{changed, grown, collected, left_above, MayGrow, Fits};
+ghost use Rattle.replica.specs.Changes.{changed, grown, collected, pended, left_above, MayGrow, Fits};
 
 use crate::change::{Change, Growth};
 use crate::out::Out;
@@ -11,6 +11,7 @@ use crate::stored::StoredStep;
 use block_tree::Tree;
 use frames_view::CertificateBuf;
 use ids::Fault;
+use mempool::Mempool;
 use pacemaker::Pacemaker;
 use replica_rules::{BlockRef, Rules};
 use std::alloc::Global;
@@ -52,6 +53,8 @@ pub(crate) struct State {
     pub(crate) pace: Pacemaker,
     /// Votes for blocks above that of the highest certificate.
     pub(crate) votes: Collector,
+    /// The requests that wait.
+    pub(crate) pool: Mempool,
     /// The steps that stand, oldest first.
     pub(crate) steps: Vec<StoredStep>,
 }
@@ -75,22 +78,31 @@ impl Model for State {
       };
       pace = s.pace;
       votes = s.votes;
+      pending = s.pool;
     } };
 }
 
 /// What is added takes its place. Its memory is taken first.
-fn grow(tree: &mut Tree, votes: &mut Collector, growth: Growth) -> Result<(), Fault>
+fn grow(
+    tree: &mut Tree,
+    votes: &mut Collector,
+    pool: &mut Mempool,
+    growth: Growth,
+) -> Result<(), Fault>
     requires { MayGrow tree.old votes.old.sizes growth }
     ensures grown { OnOk result (tree.new ≡ record tree.old { stored = grown growth tree.old.stored }) }
     ensures collected { OnOk result (votes.new ≡ record votes.old { kept = collected growth votes.old.kept }) }
+    ensures pended { OnOk result (pool.new ≡ pended growth pool.old) }
     ensures same_tree { OnErr result (tree.new ≡ tree.old) }
     ensures same_votes { OnErr result (votes.new ≡ votes.old) }
+    ensures same_pool { OnErr result (pool.new ≡ pool.old) }
     ensures memory { OnErr result (result ≡ Err Fault.Memory) }
 {
     match growth {
         Growth::Nothing => Ok(()),
         Growth::Block(node) => tree.add(node),
         Growth::Vote(block, vote) => votes.add(block.digest, block.height, vote),
+        Growth::Request(request) => pool.insert(request),
     }
 }
 
@@ -139,7 +151,7 @@ impl State {
             pace,
         } = change;
         self.steps.reserve(1)?;
-        grow(&mut self.tree, &mut self.votes, growth)?;
+        grow(&mut self.tree, &mut self.votes, &mut self.pool, growth)?;
         self.steps.push(step).unwrap();
         self.rules = rules;
         self.leaf = leaf;

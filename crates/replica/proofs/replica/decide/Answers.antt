@@ -1,9 +1,10 @@
 use Rattle.std.proofs.Common.{◌≡◌, ◌<◌, true, ◌^◌, IfOk, length, reverse, ap, ◌∙◌, subst, arith}
 use Rattle.std.proofs.lemmas.List.{length-reverse}
-use Rattle.ids.specs.Sizes.{leader}
+use Rattle.ids.specs.Sizes.{Sizes, leader}
+use Rattle.definitions.specs.FrameLimits.{IsCore}
 use Rattle.definitions.specs.Rulings.{ruling}
-use Rattle.frames_view.specs.Fields.{frame_view, frame_replica, frame_digest, frame_vote}
-use Rattle.frames_view.specs.Views.{proposal_of, block_of, vote_frame_of}
+use Rattle.frames_view.specs.Fields.{frame_core, frame_view, frame_replica, frame_digest, frame_vote}
+use Rattle.frames_view.specs.Views.{command_of, proposal_of, block_of, vote_frame_of}
 use Rattle.frames_view.specs.declared.frame_views.NewViewView.{NewViewView}
 use Rattle.frames_view.specs.declared.frame_views.FetchView.{FetchView}
 use Rattle.replica.specs.Kept.{Variables, Kept}
@@ -19,13 +20,18 @@ use Rattle.replica.proofs.Fetches.{fetch-decided}
 use Rattle.replica.proofs.Ballots.{vote-decided}
 use Rattle.replica.specs.Ballots.{IsVoteDecided}
 use Rattle.frames_view.specs.declared.frame_views.VoteFrameView.{VoteFrameView}
-use Rattle.replica.proofs.Checked.{checked-proposal, checked-block, checked-vote}
+use Rattle.replica.proofs.Checked.{addressed-sizes, checked-proposal, checked-block, checked-vote}
 use Rattle.replica.proofs.Fits.{fits-timeout, fits-new-view, fits-block, fits-vote}
+use Rattle.replica.specs.Requests.{IsRequested}
+use Rattle.replica.proofs.Requests.{request-decided}
+use Rattle.frames_view.specs.declared.views.CommandView.{CommandView}
+use Rattle.replica.proofs.Advancing.{state-going, history-going}
 use Rattle.replica.proofs.replica.decide.Goals as goal
 
 pub returns-in-Proposal-clause-decided : goal.returns-in-Proposal-clause-decided
 unfolding ruling
-returns-in-Proposal-clause-decided c c' o =
+returns-in-Proposal-clause-decided c c' w =
+    let o = state-going c.args.keyring.now c' c.args.state.now c.args.executor.now w in
     let keys = c.args.keyring.now in
     let p = c.in-Proposal.proposal in
     let own : same_replica p.keys keys ≡ true = rw c.in-Proposal.is at c.requires.own in
@@ -34,7 +40,8 @@ returns-in-Proposal-clause-decided c c' o =
 
 pub returns-in-Block-clause-decided : goal.returns-in-Block-clause-decided
 unfolding ruling
-returns-in-Block-clause-decided c c' o =
+returns-in-Block-clause-decided c c' w =
+    let o = state-going c.args.keyring.now c' c.args.state.now c.args.executor.now w in
     let keys = c.args.keyring.now in
     let b = c.in-Block.block in
     let own : same_replica b.keys keys ≡ true = rw c.in-Block.is at c.requires.own in
@@ -42,14 +49,16 @@ returns-in-Block-clause-decided c c' o =
     rw c.in-Block.is (block-decided keys c' c.args.state.now (block_offered b) (frame_replica (block_of b.view)) c.decide_block-in-Block.result decided o (checked-block b keys own c.of_block.ensures.frame c.of_block.ensures.passed))
 
 pub returns-in-NewView-clause-decided : goal.returns-in-NewView-clause-decided
-returns-in-NewView-clause-decided c c' o =
+returns-in-NewView-clause-decided c c' w =
+    let o = state-going c.args.keyring.now c' c.args.state.now c.args.executor.now w in
     let keys = c.args.keyring.now in
     let n = c.in-NewView.announced in
     let decided = subst (λ (x : NewViewView). IsNewView keys c.args.state.now (announced_by x) c.decide_new_view.result) c.view-in-NewView.ensures.view c.decide_new_view.ensures in
     rw c.in-NewView.is (new-view-decided keys c' c.args.state.now (announced_by n.view) c.decide_new_view.result decided o)
 
 pub returns-in-Fetch-clause-decided : goal.returns-in-Fetch-clause-decided
-returns-in-Fetch-clause-decided c c' o =
+returns-in-Fetch-clause-decided c c' w =
+    let o = state-going c.args.keyring.now c' c.args.state.now c.args.executor.now w in
     let keys = c.args.keyring.now in
     let s = c.args.state.now in
     let f = c.in-Fetch.asked in
@@ -57,11 +66,13 @@ returns-in-Fetch-clause-decided c c' o =
     rw c.in-Fetch.is (fetch-decided keys c' s (asked_by f.view) c.decide_fetch.result made c.decide_fetch.ensures.memory o)
 
 pub returns-in-Timeout-clause-decided : goal.returns-in-Timeout-clause-decided
-returns-in-Timeout-clause-decided c c' o =
+returns-in-Timeout-clause-decided c c' w =
+    let o = state-going c.args.keyring.now c' c.args.state.now c.args.executor.now w in
     rw c.in-Timeout.is (timeout-decided c.args.keyring.now c' c.args.state.now c.decide_timeout.result c.decide_timeout.ensures.made c.decide_timeout.ensures.memory o)
 
 pub returns-in-Beat-clause-decided : goal.returns-in-Beat-clause-decided
-returns-in-Beat-clause-decided c c' o =
+returns-in-Beat-clause-decided c c' w =
+    let o = state-going c.args.keyring.now c' c.args.state.now c.args.executor.now w in
     let items = c.state.inside.steps.items in
     let chronicle = ap (λ (k : Kept). length k.variables.chronicle) c.state.view_is ∙ ap (λ (v : Variables). length v.chronicle) o.same in
     let few : length c' < 2 ^ 63 = (let n = length-replay (reverse items) c.state.inside.tree.stored in let r = length-reverse items in let k = c.state.inside.steps.ok.0 in omega (arith, chronicle, n, r, k)) in
@@ -80,7 +91,8 @@ pub returns-in-Timeout-clause-fits : goal.returns-in-Timeout-clause-fits
 returns-in-Timeout-clause-fits c = fits-timeout c.args.keyring.now c.args.state.now c.decide_timeout.result c.decide_timeout.ensures.made
 
 pub returns-in-Vote-clause-decided : goal.returns-in-Vote-clause-decided
-returns-in-Vote-clause-decided c c' o =
+returns-in-Vote-clause-decided c c' w =
+    let o = state-going c.args.keyring.now c' c.args.state.now c.args.executor.now w in
     let v = c.in-Vote.vote in
     let decided = subst (λ (x : VoteFrameView). IsVoteDecided c.args.state.now (frame_digest (vote_frame_of x)) (frame_vote (vote_frame_of x)) c.decide_vote.result) c.view.ensures.view c.decide_vote.ensures in
     rw c.in-Vote.is (vote-decided c.args.keyring.now c' c.args.state.now (frame_digest (vote_frame_of v.view)) (frame_vote (vote_frame_of v.view)) c.decide_vote.result decided o)
@@ -93,3 +105,28 @@ returns-in-Vote-clause-fits c =
 pub decide_vote-requires : goal.decide_vote-requires
 decide_vote-requires c =
     checked-vote c.in-Vote.vote c.args.keyring.now c.view.result.now c.args.state.now.votes.sizes (rw c.in-Vote.is at c.requires.own) c.view.ensures.fits c.view.ensures.view c.requires.votes
+
+pub returns-in-Proposal-clause-fit : goal.returns-in-Proposal-clause-fit
+returns-in-Proposal-clause-fit c =
+    let keys = c.args.keyring.now in
+    let p = c.in-Proposal.proposal in
+    let own : same_replica p.keys keys ≡ true = rw c.in-Proposal.is at c.requires.own in
+    rw c.in-Proposal.is (subst (λ (s : Sizes). IsCore s (frame_core (proposal_of p.view))) (addressed-sizes p.keys keys own) c.of_proposal.ensures.frame.1)
+
+pub returns-in-Block-clause-fit : goal.returns-in-Block-clause-fit
+returns-in-Block-clause-fit c =
+    let keys = c.args.keyring.now in
+    let b = c.in-Block.block in
+    let own : same_replica b.keys keys ≡ true = rw c.in-Block.is at c.requires.own in
+    rw c.in-Block.is (subst (λ (s : Sizes). IsCore s (frame_core (block_of b.view))) (addressed-sizes b.keys keys own) c.of_block.ensures.frame.1)
+
+pub returns-in-Request-clause-decided : goal.returns-in-Request-clause-decided
+unfolding ruling
+returns-in-Request-clause-decided c c' w =
+    let keys = c.args.keyring.now in
+    let s = c.args.state.now in
+    let h = c.args.executor.now in
+    let r = c.in-Request.asked in
+    let o = state-going keys c' s h w in
+    let made = subst (λ (x : CommandView). IsRequested keys s h (command_of x) c.decide_request.result) c.view-in-Request.ensures.view c.decide_request.ensures in
+    rw c.in-Request.is (request-decided keys c' s h (command_of r.view) o (history-going keys c' s h w) w.fit c.decide_request.result made)

@@ -1,13 +1,19 @@
-use Rattle.std.proofs.Common.{sym, ap, subst}
+use Rattle.std.proofs.Common.{◌≡◌, [], sym, ap, subst}
 use Rattle.definitions.specs.Chronicles.{Chronicle}
 use Rattle.definitions.specs.Replicas.{running}
-use Rattle.replica.specs.Kept.{Variables, IsStateOf}
+use Rattle.replica.specs.Kept.{Variables}
+use Rattle.replica.specs.StepsTo.{IsWholeOf}
+use Rattle.replica.proofs.First.{first-whole}
 use Rattle.replica.proofs.replica.Replica.new.Goals as goal
 
 pub invariant_of-result : goal.invariant_of-result
 invariant_of-result c =
     let is = c.first_state.ensures c.args.keyring (sym c.requires.sizes) in
-    (subst (λ (x : Chronicle). IsStateOf c.args.keyring x c.first_state.result) (sym (ap (λ (v : Variables). v.chronicle) is.same)) is, rw (← c.requires.number, ← c.requires.sizes) c.requires.replica)
+    let empty : c.first_state.result.variables.chronicle ≡ [] = ap (λ (v : Variables). v.chronicle) is.same in (
+      subst (λ (x : Chronicle). IsWholeOf c.args.keyring (record { chronicle = x; standing = running }) c.first_state.result c.in_ok-new.field-0) (sym empty)
+          (first-whole c.args.keyring c.first_state.result c.in_ok-new.field-0 is c.in_ok-new.ensures.made),
+      rw (← c.requires.number, ← c.requires.sizes) c.requires.replica,
+    )
 
 pub returns-clause-made : goal.returns-clause-made
 returns-clause-made c =

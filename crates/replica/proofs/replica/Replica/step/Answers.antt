@@ -1,26 +1,46 @@
-use Rattle.std.proofs.Common.{◌≡◌, ◌⊎◌, length, suc, sym, ap, ◌∙◌, subst}
+use Rattle.std.proofs.Common.{◌≡◌, ◌⊎◌, List, length, suc, sym, ap, ◌∙◌, subst, Result}
+use Rattle.ids.specs.declared.fault.Fault.{Fault}
 use Rattle.definitions.specs.Checks.{identity_of}
 use Rattle.definitions.specs.Keyrings.{Keys}
 use Rattle.definitions.specs.Chronicles.{Chronicle}
-use Rattle.replica.specs.Steps.{Held, Stepped, standing_of}
+use Rattle.definitions.specs.Replicas.{Replica}
+use Rattle.replica.specs.Steps.{Sent, Held, Stepped, standing_of}
+use Rattle.replica.specs.StepsTo.{IsWholeOf}
 use Rattle.replica.specs.Inputs.{input_of}
-use Rattle.replica.proofs.Whole.{stepped-from, stepped-not, grows-from}
+use Rattle.replica.proofs.Whole.{goes-on, kept-from, stepped-from, stepped-not, grows-from}
 use Rattle.replica.proofs.replica.Replica.step.Goals as goal
 
-pub returns-then-self-clause-stepped : goal.returns-then-self-clause-stepped
-returns-then-self-clause-stepped c =
-    stepped-not c.args.self.now.keys (input_of c.args.input) c.args.self.now.replica c.self.inside.state.variables.chronicle
-    (ap (λ (h : Held). h.replica) (sym c.self.view_is) ∙ (λ i. record { chronicle = c.self.inside.state.variables.chronicle; standing = standing_of (c.if-self.true i) }))
+pub returns-then-not-is_running-clause-stepped : goal.returns-then-not-is_running-clause-stepped
+returns-then-not-is_running-clause-stepped c =
+    let r = c.self.inside in
+    stepped-not c.args.self.now.keys (input_of c.args.input) c.args.self.now.replica r.state.variables.chronicle r.standing (length r.executor) (ap (λ (h : Held). h.replica) (sym c.self.view_is))
+    (sym c.if-not-is_running.ensures)
+
+pub invariant_of-self : goal.invariant_of-self
+invariant_of-self c =
+    let r = c.self.inside in
+    let c' = r.state.variables.chronicle in
+    let on = goes-on c' r.standing (length r.executor) (sym c.if-not-is_running.ensures) in
+    let t = c.advance-taken.ensures c' (subst (λ (x : Replica). IsWholeOf r.keyring x r.state r.executor) on c.self.invariant.0) in
+    (kept-from r.keyring (input_of c.args.input) c' c.advance-taken.result c.advance-taken.new.state c.advance-taken.new.executor _ t (c.standing-self-inside.ensures (length c.advance-taken.new.executor)), c.self.invariant.1)
 
 pub returns-clause-stepped : goal.returns-clause-stepped
 returns-clause-stepped c =
-    let t = c.take-answer.ensures c.self.inside.state.variables.chronicle c.self.invariant.0 in
-    let old = ap (λ (h : Held). h.replica) (sym c.self.view_is) ∙ (λ i. record { chronicle = c.self.inside.state.variables.chronicle; standing = standing_of (c.if-self.false i) }) in
-    subst (λ (k : Keys). Stepped (identity_of k) (input_of c.args.input) c.args.self.now.replica c.take-answer.result (record { chronicle = c.take-answer.new.state.variables.chronicle; standing = standing_of c.is_final-self-inside.result })) (ap (λ (h : Held). h.keys) c.self.view_is)
-    (stepped-from c.self.inside.keyring (input_of c.args.input) c.args.self.now.replica c.self.inside.state.variables.chronicle c.take-answer.result c.take-answer.new.state c.is_final-self-inside.result old t c.is_final-self-inside.ensures)
+    let r = c.self.inside in
+    let c' = r.state.variables.chronicle in
+    let new : Replica = record { chronicle = c.advance-taken.new.state.variables.chronicle; standing = standing_of c.standing-self-inside.result (length c.advance-taken.new.executor) } in
+    let on = goes-on c' r.standing (length r.executor) (sym c.if-not-is_running.ensures) in
+    let t = c.advance-taken.ensures c' (subst (λ (x : Replica). IsWholeOf r.keyring x r.state r.executor) on c.self.invariant.0) in
+    let step = stepped-from r.keyring (input_of c.args.input) c.args.self.now.replica c' c.advance-taken.result c.advance-taken.new.state c.advance-taken.new.executor _
+    (ap (λ (h : Held). h.replica) (sym c.self.view_is) ∙ on) t (c.standing-self-inside.ensures (length c.advance-taken.new.executor)) in
+    subst (λ (k : Keys). Stepped (identity_of k) (input_of c.args.input) c.args.self.now.replica c.into_answer.result new) (ap (λ (h : Held). h.keys) c.self.view_is)
+    (subst (λ (x : Result (List Sent) Fault). Stepped (identity_of r.keyring) (input_of c.args.input) c.args.self.now.replica x new) (sym c.into_answer.ensures) step)
 
 pub returns-clause-grows : goal.returns-clause-grows
 returns-clause-grows c =
-    let t = c.take-answer.ensures c.self.inside.state.variables.chronicle c.self.invariant.0 in
-    subst (λ (x : Chronicle). (length c.take-answer.new.state.variables.chronicle ≡ length x) ⊎ (length c.take-answer.new.state.variables.chronicle ≡ suc (length x))) (ap (λ (h : Held). h.replica.chronicle) c.self.view_is)
-    (grows-from c.self.inside.keyring (input_of c.args.input) c.self.inside.state.variables.chronicle c.take-answer.result c.take-answer.new.state t)
+    let r = c.self.inside in
+    let c' = r.state.variables.chronicle in
+    let on = goes-on c' r.standing (length r.executor) (sym c.if-not-is_running.ensures) in
+    let t = c.advance-taken.ensures c' (subst (λ (x : Replica). IsWholeOf r.keyring x r.state r.executor) on c.self.invariant.0) in
+    subst (λ (x : Chronicle). (length c.advance-taken.new.state.variables.chronicle ≡ length x) ⊎ (length c.advance-taken.new.state.variables.chronicle ≡ suc (length x))) (ap (λ (h : Held). h.replica.chronicle) c.self.view_is)
+    (grows-from r.keyring (input_of c.args.input) c' c.advance-taken.result c.advance-taken.new.state c.advance-taken.new.executor t)

@@ -31,4 +31,5 @@ returns-clause-made c =
       };
       pace = c.unwrap_or-self-inside.ensures i;
       votes = votes i;
+      pending = c.in_ok-grow.ensures.pended i;
     }) ∙ ap (λ (k : Kept). changed d k) c.self.view_is

@@ -1,0 +1,75 @@
+//! Requests that are pending.
+
+use frames_view::{CommandView, Frame, read};
+use ids::{ClientId, Config, Fault, Seq};
+use mempool::Mempool;
+use std::alloc::Global;
+
+/// Bytes in hexadecimal.
+pub(crate) fn bytes_of(alloc: Global, digits: &str) -> Result<Vec<u8>, Fault> {
+    hex::decode(alloc, digits).ok().ok_or(Fault::BadFields)
+}
+
+/// A number.
+fn number(digits: &str) -> Result<u64, Fault> {
+    digits.parse().ok().ok_or(Fault::BadFields)
+}
+
+/// A client.
+pub(crate) fn client(digits: &str) -> Result<ClientId, Fault> {
+    let number = u8::try_from(number(digits)?);
+    Ok(ClientId(number.ok().ok_or(Fault::BadFields)?))
+}
+
+/// The client and the number of a request.
+pub(crate) fn key_of(words: &str) -> Result<(ClientId, Seq), Fault> {
+    let (first, second) = words.split_once(' ').unwrap_or((words, ""));
+    Ok((client(first)?, Seq(number(second)?)))
+}
+
+/// Adds a request, and says whether it is new.
+fn add(pool: &mut Mempool, request: &CommandView<'_>) -> Result<bool, Fault> {
+    match pool.plan(request)? {
+        Some(request) => {
+            pool.insert(request)?;
+            Ok(true)
+        }
+        None => Ok(false),
+    }
+}
+
+/// Adds the request of a Request frame, and says whether it is new.
+pub(crate) fn ask(
+    alloc: Global,
+    config: &Config,
+    pool: &mut Mempool,
+    digits: &str,
+) -> Result<&'static str, Fault> {
+    let bytes = bytes_of(alloc, digits)?;
+    let Ok(Frame::Request(request)) = read(config, &bytes) else {
+        return Err(Fault::NotMine);
+    };
+    Ok(if add(pool, &request)? {
+        "new"
+    } else {
+        "pending"
+    })
+}
+
+/// How many requests a block takes on whose branch this one stands, and these, each with its length.
+pub(crate) fn pick(alloc: Global, pool: &Mempool, words: &str) -> Result<String, Fault> {
+    let picked = pool.pick(&[key_of(words)?])?;
+    let mut text = format!(in alloc; "{}", picked.len())?;
+    for request in &picked {
+        let bytes = request.bytes().len();
+        write!(text, "; {} {} {bytes}", request.client(), request.seq())?;
+    }
+    Ok(text)
+}
+
+/// Drops what is executed, and says how many requests are left.
+pub(crate) fn drop_executed(pool: &mut Mempool, words: &str) -> Result<usize, Fault> {
+    let (client, seq) = key_of(words)?;
+    pool.drop_executed(client, seq);
+    Ok(pool.len())
+}

@@ -1,0 +1,51 @@
+//! The blocks along a branch of the tree.
+
+ghost use Rattle.std.specs.Prelude.{◌≡◌, ◌-◌, ◌++◌, reverse, map, [], option_map, IfOk, OnOk, OnErr};
+ghost use Rattle.definitions.specs.Digests.{core_of};
+ghost use Rattle.frames_view.specs.Views.{commands_left};
+ghost use Rattle.replica.specs.Execution.{block_at, history_above};
+ghost use Rattle.replica.specs.Beats.{key_of, keys_of};
+
+use block_tree::{Node, Tree};
+use frames_view::Commands;
+use ids::{ClientId, Digest, Fault, Height, Seq};
+use std::alloc::Global;
+
+/// The block of this height on the branch of a block of the tree. Genesis isn't kept.
+pub(crate) fn block_at<'a>(tree: &'a Tree, tip: &Digest, height: Height) -> Option<&'a Node>
+    ensures { option_map (λ n. n.now.core) result ≡ option_map (λ s. core_of s.branch) (block_at tip.now height tree.now.stored) }
+{
+    let digest = tree.ancestor_at(tip, height)?;
+    tree.block(&digest)
+}
+
+/// Puts the client and number of each command last.
+fn put_keys(commands: Commands<'_>, keys: &mut Vec<(ClientId, Seq)>) -> Result<(), Fault>
+    ensures put { OnOk result (keys.new.items ≡ keys.old.items ++ map key_of (commands_left commands.entry)) }
+    ensures memory { OnErr result (result ≡ Err Fault.Memory) }
+{
+    for command in commands {
+        keys.push((command.client(), command.seq()))?;
+    }
+    Ok(())
+}
+
+/// The clients and numbers of the commands of a branch above one height up to another, in their order.
+pub(crate) fn keys_between(
+    alloc: Global,
+    tree: &Tree,
+    tip: &Digest,
+    from: u64,
+    to: u64,
+) -> Result<Vec<(ClientId, Seq)>, Fault>
+    ensures found { IfOk result (λ keys. keys.items ≡ reverse (keys_of (history_above tip.now tree.now.stored from (to - from) []))) }
+    ensures memory { OnErr result (result ≡ Err Fault.Memory) }
+{
+    let mut keys = Vec::new(alloc);
+    for height in from..to {
+        if let Some(block) = block_at(tree, tip, Height(height + 1)) {
+            put_keys(block.core().commands(), &mut keys)?;
+        }
+    }
+    Ok(keys)
+}

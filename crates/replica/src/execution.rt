@@ -1,0 +1,177 @@
+//! Executing what was decided.
+
+ghost use Rattle.std.specs.Prelude.{◌≡◌, ◌<◌, ◌≤◌, ◌-◌, ◌++◌, [], map, reverse, length, option_map, option_to_list, OnOk, OnErr, IfOk, IfSome, IfNone};
+ghost use Rattle.definitions.specs.FrameLimits.{most_text};
+ghost use Rattle.ids.specs.Sizes.{replicas};
+ghost use Rattle.definitions.specs.Histories.{entry_of};
+ghost use Rattle.mempool.specs.Pool.{left_after};
+ghost use Rattle.replica.specs.Kept.{waiting};
+ghost use Rattle.frames_view.specs.Views.{commands_left};
+ghost use Rattle.executor.specs.State.{with_commands, new_answers};
+ghost use Rattle.replica.specs.Outs.{sent_of};
+ghost use Rattle.replica.specs.Execution.{history_above, IsCutIn, IsCut, told_one, told};
+
+use crate::branch::block_at;
+use crate::out::{Out, Sending, To};
+use crate::state::State;
+use authenticators::Keyring;
+use block_tree::{Node, Tree};
+use executor::{Answer, Executor};
+use frame_writers::ReplyText;
+use frames_view::Commands;
+use ids::{Digest, Fault, Height};
+use mempool::Mempool;
+use signed_frames::reply_frame;
+use std::alloc::Global;
+
+/// The text of an answer, where it is short enough for a frame.
+fn text_of(answer: &Answer) -> Option<ReplyText<'_>>
+    ensures short { IfSome result (λ t. (t ≡ answer.now.text) × (length answer.now.text ≤ most_text)) }
+    ensures long { IfNone result (most_text < length answer.now.text) }
+{
+    let text = ReplyText::new(answer.text())?;
+    let _few = text.as_slice();
+    Some(text)
+}
+
+/// The reply to an executed command. Each such command came in a frame of these sizes, so it has a client to go to, and
+/// its text is short enough.
+fn reply(alloc: Global, keyring: &Keyring, answer: &Answer) -> Result<Option<Sending>, Fault>
+    requires { keyring.now.party < replicas keyring.now.sizes }
+    ensures made { IfOk result (λ r. option_map sent_of r ≡ told_one keyring.now answer.now) }
+    ensures memory { OnErr result (result ≡ Err Fault.Memory) }
+{
+    let client = answer.client();
+    if client.0 >= keyring.config().clients() {
+        return Ok(None);
+    }
+    let Some(text) = text_of(answer) else {
+        return Ok(None);
+    };
+    let frame = reply_frame(alloc, keyring, client, answer.seq(), answer.place(), &text)?;
+    Ok(Some(Sending {
+        to: To::Client(client),
+        frame,
+    }))
+}
+
+/// The reply to an executed command goes out too.
+pub(crate) fn tell_one(
+    alloc: Global,
+    keyring: &Keyring,
+    answer: &Answer,
+    out: &mut Out,
+) -> Result<(), Fault>
+    requires { keyring.now.party < replicas keyring.now.sizes }
+    ensures told { OnOk result (out.new ≡ out.old ++ option_to_list (told_one keyring.now answer.now)) }
+    ensures memory { OnErr result (result ≡ Err Fault.Memory) }
+{
+    if let Some(sending) = reply(alloc, keyring, answer)? {
+        out.push(sending)?;
+    }
+    Ok(())
+}
+
+/// The replies to executed commands go out too.
+fn tell(alloc: Global, keyring: &Keyring, answers: &[Answer], out: &mut Out) -> Result<(), Fault>
+    requires { keyring.now.party < replicas keyring.now.sizes }
+    ensures told { OnOk result (out.new ≡ out.old ++ told keyring.now answers.now) }
+    ensures some { OnErr result (1 ≤ length answers.now) }
+{
+    for answer in answers {
+        tell_one(alloc, keyring, answer, out)?;
+    }
+    Ok(())
+}
+
+/// What was executed waits no more, nor does what its client asked before.
+fn forget(pool: &mut Mempool, commands: Commands<'_>)
+    ensures { pool.new ≡ left_after (reverse (map entry_of (commands_left commands.entry))) pool.old }
+{
+    for command in commands {
+        pool.drop_executed(command.client(), command.seq());
+    }
+}
+
+/// Executes the commands of a block, which wait no more then, and sends the replies. Where memory is refused, some of
+/// them were executed.
+fn execute_block(
+    executor: &mut Executor,
+    pool: &mut Mempool,
+    alloc: Global,
+    keyring: &Keyring,
+    block: &Node,
+    out: &mut Out,
+) -> Result<(), Fault>
+    requires { keyring.now.party < replicas keyring.now.sizes }
+    ensures executed { OnOk result (executor.new ≡ with_commands block.now.core.commands executor.old) }
+    ensures left { OnOk result (pool.new ≡ left_after (reverse (map entry_of block.now.core.commands)) pool.old) }
+    ensures told { OnOk result (out.new ≡ out.old ++ told keyring.now (new_answers executor.old executor.new)) }
+    ensures cut { OnErr result (IsCutIn block.now.core.commands executor.old executor.new pool.old pool.new) }
+{
+    let answers = executor.run_block(block.core().commands())?;
+    forget(pool, block.core().commands());
+    tell(alloc, keyring, &answers, out)
+}
+
+/// Executes the blocks of a branch above one height up to another, lowest first. Where memory is refused, some of their
+/// commands were executed.
+fn execute_between(
+    executor: &mut Executor,
+    pool: &mut Mempool,
+    tree: &Tree,
+    tip: &Digest,
+    from: u64,
+    to: u64,
+    alloc: Global,
+    keyring: &Keyring,
+    out: &mut Out,
+) -> Result<(), Fault>
+    requires { keyring.now.party < replicas keyring.now.sizes }
+    ensures executed { OnOk result (executor.new ≡ history_above tip.now tree.now.stored from (to - from) executor.old) }
+    ensures left { OnOk result (pool.new ≡ left_after (history_above tip.now tree.now.stored from (to - from) []) pool.old) }
+    ensures told { OnOk result (out.new ≡ out.old ++ told keyring.now (new_answers executor.old executor.new)) }
+    ensures cut { OnErr result (IsCut tip.now tree.now.stored from to executor.old executor.new pool.old pool.new) }
+{
+    for height in from..to {
+        if let Some(block) = block_at(tree, tip, Height(height + 1)) {
+            execute_block(executor, pool, alloc, keyring, block, out)?;
+        }
+    }
+    Ok(())
+}
+
+/// Executes what was decided above a height, lowest first. Where memory is refused, some of the commands were executed.
+pub(crate) fn execute(
+    state: &mut State,
+    keyring: &Keyring,
+    from: Height,
+    executor: &mut Executor,
+    out: &mut Out,
+) -> Result<(), Fault>
+    requires { keyring.now.party < replicas keyring.now.sizes }
+    ensures rest { state.new ≡ waiting state.new.pending state.old }
+    ensures executed { OnOk result (
+        let last = state.old.variables.rules.executed in
+        executor.new ≡ history_above last.digest state.old.variables.stored from (last.height - from) executor.old) }
+    ensures left { OnOk result (
+        let last = state.old.variables.rules.executed in
+        state.new.pending ≡ left_after (history_above last.digest state.old.variables.stored from (last.height - from) []) state.old.pending) }
+    ensures told { OnOk result (out.new ≡ out.old ++ told keyring.now (new_answers executor.old executor.new)) }
+    ensures cut { OnErr result (
+        let last = state.old.variables.rules.executed in
+        IsCut last.digest state.old.variables.stored from last.height executor.old executor.new state.old.pending state.new.pending) }
+{
+    let last = state.rules.executed();
+    execute_between(
+        executor,
+        &mut state.pool,
+        &state.tree,
+        &last.digest,
+        from.0,
+        last.height.0,
+        state.alloc,
+        keyring,
+        out,
+    )
+}

@@ -1,0 +1,69 @@
+//! Whether a replica goes on.
+
+ghost use Rattle.std.specs.Prelude.{◌≡◌, ℕ};
+ghost use Rattle.replica.specs.Steps.{is_running, standing_of};
+ghost use Rattle.replica.specs.StepsTo.{halts, answer_of, standing_after};
+
+use crate::out::Out;
+use ids::Fault;
+
+/// Whether a replica goes on.
+#[derive(Clone, Copy)]
+pub(crate) enum Standing {
+    Running,
+    Stopped,
+    /// Memory was refused while the last step was executed. Some of its commands stand, and the others don't.
+    CutShort,
+}
+
+impl Standing {
+    /// Whether the replica takes further inputs.
+    pub(crate) fn is_running(self) -> bool
+        ensures { result ≡ is_running self }
+    {
+        matches!(self, Standing::Running)
+    }
+}
+
+/// What comes of an input.
+#[derive(Drop)]
+pub(crate) enum Taken {
+    /// The step stands, and what it decided is executed.
+    Sends(Out),
+    /// Nothing changed.
+    Refused(Fault),
+    /// The step stands, and memory was refused while it was executed.
+    CutShort,
+}
+
+/// Whether a replica is stopped after this refusal.
+fn halts(fault: Fault) -> bool
+    ensures { result ≡ halts fault }
+{
+    matches!(fault, Fault::Full | Fault::Conflict | Fault::Memory)
+}
+
+impl Taken {
+    /// Whether the replica goes on.
+    pub(crate) fn standing(&self) -> Standing
+        ensures { (held : ℕ) → standing_of result held ≡ standing_after self.now held }
+    {
+        match self {
+            Taken::Sends(_) => Standing::Running,
+            Taken::Refused(fault) if halts(*fault) => Standing::Stopped,
+            Taken::Refused(_) => Standing::Running,
+            Taken::CutShort => Standing::CutShort,
+        }
+    }
+
+    /// What the caller is told.
+    pub(crate) fn into_answer(self) -> Result<Out, Fault>
+        ensures { result ≡ answer_of self }
+    {
+        match self {
+            Taken::Sends(out) => Ok(out),
+            Taken::Refused(fault) => Err(fault),
+            Taken::CutShort => Err(Fault::Memory),
+        }
+    }
+}

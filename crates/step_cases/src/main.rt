@@ -1,0 +1,68 @@
+//! Steps a kept replica with the keys of a simulated world: each line of standard input is a case. What is wanted of each
+//! was computed by an independent program.
+//!
+//! A line is `FAULTS CLIENTS REPLICA SHARES INPUT ..`: the sizes, the number of the replica, how many shares are made of
+//! it, and its inputs. An input is one of
+//!
+//! - `SHARE:beat` and `SHARE:timeout`: the share of this number, from 0 on, brings a beat or a timeout;
+//! - `SHARE:CHECKER:BYTES`: it brings a frame, in hexadecimal, that was checked with the keys of replica CHECKER.
+//!
+//! The share behind the last one is a share of another kept replica of the same number. Of each input is told, behind
+//! the one before and with a comma between them: the number of its refusal, or `ok` and the frames that go out, each
+//! with its length, where it goes, and the first 8 bytes of its SHA-256 digest. At the end stand the count of each share,
+//! in brackets, and what closing answers as `shares` tells it.
+#![tactic(auto)]
+
+mod shares;
+mod stepped;
+mod told;
+
+use crate::stepped::{Stepped, number};
+use anyhow::Result;
+use ids::{Config, Fault, ReplicaId};
+use marks::Marks;
+use std::alloc::Global;
+use std::io::{BufRead as _, BufReader, BufWriter, Write as _};
+
+/// What a replica does with its inputs, one after the other.
+fn steps(
+    alloc: Global,
+    config: Config,
+    replica: u8,
+    shares: u8,
+    inputs: &str,
+) -> Result<String, Fault> {
+    if replica >= config.n() {
+        return Err(Fault::NoSuchParty);
+    }
+    let (marks, eyes) = Marks::new(alloc, config.n())?;
+    let own = ReplicaId(replica);
+    let mut stepped = Stepped::new(alloc, config, own, shares, &marks, eyes)?;
+    let mut text = String::new(alloc);
+    for input in inputs.split(' ') {
+        stepped.tell(alloc, input, &mut text)?;
+    }
+    stepped.close(&mut text)?;
+    Ok(text)
+}
+
+/// The line for a line of the input.
+fn tell(alloc: Global, input: &str) -> Result<String, Fault> {
+    let mut fields = input.splitn(5, ' ');
+    let faults = number(fields.next().unwrap_or(""))?;
+    let clients = number(fields.next().unwrap_or(""))?;
+    let replica = number(fields.next().unwrap_or(""))?;
+    let shares = number(fields.next().unwrap_or(""))?;
+    let config = Config::new(faults, clients)?;
+    steps(alloc, config, replica, shares, fields.next().unwrap_or(""))
+}
+
+fn main(rt: HostRuntime) -> Result<()> {
+    let alloc = rt.alloc();
+    let mut out = BufWriter::new(alloc, std::io::writer(&rt))?;
+    for line in BufReader::new(alloc, rt.reader())?.lines(alloc) {
+        writeln!(out, "{}", tell(alloc, line?.as_str())?)?;
+    }
+    out.flush()?;
+    Ok(())
+}

@@ -1,0 +1,114 @@
+//! A kept replica and shares of it, and what closing answers.
+//!
+//! It is closed three times: with a share of another kept replica among its own, with its last share missing, and with
+//! its own alone. Of each is told `refused`, or `closed` and how many steps the replica counts; a wrong answer is an
+//! error.
+
+ghost use Rattle.std.specs.Prelude.{◌≡◌, ◌<◌};
+ghost use Rattle.marks.specs.Eyes.{first_eye, first_eyes};
+ghost use Rattle.ids.specs.Sizes.{replicas};
+
+use ids::{Config, Fault, PartyId, ReplicaId};
+use locked_replica::{Closed, Kept, NotAll, Share};
+use marks::{Eye, Marks};
+use replica::Replica;
+use simulated_keys::keyring_of;
+use std::alloc::Global;
+
+/// The eye that owns the word of a replica.
+fn eye_of(marks: &Marks, eyes: Vec<Eye>, number: ReplicaId) -> Eye
+    requires eyes { eyes.items ≡ first_eyes marks.now }
+    requires number { number < marks.now.words }
+    ensures { result ≡ first_eye marks.now number }
+{
+    let mut eyes = eyes;
+    eyes.swap_remove(usize::from(number.0))
+}
+
+/// A kept replica that has made no step.
+fn kept_of<'a>(
+    alloc: Global,
+    config: Config,
+    number: ReplicaId,
+    marks: &'a Marks,
+    eyes: Vec<Eye>,
+) -> Result<Kept<'a>, Fault>
+    requires number { number < replicas config }
+    requires eyes { eyes.items ≡ first_eyes marks.now }
+    requires words { marks.now.words ≡ replicas config }
+{
+    let keys = keyring_of(alloc, config, PartyId::from(number))?;
+    let replica = Replica::new(alloc, config, number, keys)?;
+    let eye = eye_of(marks, eyes, number);
+    Ok(Kept::new(alloc, replica, eye, marks))
+}
+
+/// So many shares of a kept replica.
+fn shares_of(alloc: Global, kept: &mut Kept<'_>, count: u8) -> Result<Vec<Share>, Fault> {
+    let mut shares = Vec::new(alloc);
+    for _ in 0..count {
+        shares.push(kept.share()?)?;
+    }
+    Ok(shares)
+}
+
+/// A kept replica and so many shares of it.
+pub(crate) fn kept_with<'a>(
+    alloc: Global,
+    config: Config,
+    number: ReplicaId,
+    count: u8,
+    marks: &'a Marks,
+    eyes: Vec<Eye>,
+) -> Result<(Kept<'a>, Vec<Share>), Fault>
+    requires number { number < replicas config }
+    requires eyes { eyes.items ≡ first_eyes marks.now }
+    requires words { marks.now.words ≡ replicas config }
+{
+    let mut kept = kept_of(alloc, config, number, marks, eyes)?;
+    let shares = shares_of(alloc, &mut kept, count)?;
+    Ok((kept, shares))
+}
+
+/// A share of another kept replica of this number, of which one more is made.
+pub(crate) fn strange_share(
+    alloc: Global,
+    config: Config,
+    number: ReplicaId,
+    count: u8,
+) -> Result<Share, Fault>
+    requires { number < replicas config }
+{
+    let (marks, eyes) = Marks::new(alloc, config.n())?;
+    let (mut other, _) = kept_with(alloc, config, number, count, &marks, eyes)?;
+    other.share()
+}
+
+/// What is handed back where closing is refused.
+fn refused(kept: Kept<'_>, shares: Vec<Share>) -> Result<NotAll<'_>, Fault> {
+    kept.close(shares).err().ok_or(Fault::NotAll)
+}
+
+/// The replica that closing gives back.
+fn closed(kept: Kept<'_>, shares: Vec<Share>) -> Result<Replica, Fault> {
+    match kept.close(shares) {
+        Ok(Closed { replica, eye: _ }) => Ok(replica),
+        Err(_) => Err(Fault::NotAll),
+    }
+}
+
+/// Closes three times; the last share is the strange one.
+pub(crate) fn close(kept: Kept<'_>, shares: Vec<Share>, text: &mut String) -> Result<(), Fault> {
+    let NotAll { kept, mut shares } = refused(kept, shares)?;
+    text.push_str(" refused,")?;
+    let _ = shares.pop();
+    let Some(last) = shares.pop() else {
+        return Err(Fault::NotAll);
+    };
+    let NotAll { kept, mut shares } = refused(kept, shares)?;
+    text.push_str(" refused,")?;
+    shares.push(last)?;
+    let replica = closed(kept, shares)?;
+    write!(text, " closed {}", replica.steps())?;
+    Ok(())
+}
