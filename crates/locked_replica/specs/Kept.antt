@@ -1,13 +1,32 @@
 -- A replica that is kept for several threads, and the shares that count its steps.
-use Rattle.std.specs.Prelude.{◌≡◌, ℕ, ◌-◌, ◌+◌, ◌==◌, Bool, ◌&&◌, IsTrue, List, length, slice_index, nat_lt, All, EachIndex, count_by}
+use Rattle.std.specs.Prelude.{◌≡◌, ◌⊎◌, ℕ, ◌-◌, ◌+◌, ◌<◌, ◌==◌, Bool, ◌&&◌, IsTrue, List, length, sum, slice_index, nat_lt, All, EachIndex, count_by, Result, Ok, Err}
+use Rattle.ids.specs.declared.fault.Fault.{Fault}
+use Rattle.ids.specs.declared.fault.Fault.TheVariants as fault
 use Rattle.definitions.specs.Keyrings.{Keys}
-use Rattle.definitions.specs.Replicas.{Replica}
+use Rattle.definitions.specs.Chronicles.{IsLawful}
+use Rattle.definitions.specs.Replicas.{Replica, held_history}
+use Rattle.marks.specs.Eyes.{EyeState, IsOwnerOf}
+use Rattle.replica.specs.Steps.{Sent}
 
--- a kept replica: its keys and its state, and the count of each share made of it
+-- a kept replica: its keys and its state, the count of each share made of it, and the eye that owns its mark
 pub record KeptState : Type 0 where
   pub keys : Keys
   pub replica : Replica
   pub shares : List ℕ
+  pub eye : EyeState
+
+-- what its mark says: how many commands it has executed
+abbrev pub mark_of : Replica → ℕ
+mark_of replica = length (held_history replica)
+
+-- What holds of each kept replica: its chronicle is lawful, the shares count its steps together, and its eye owns its
+-- mark and has put there how far it has executed.
+pub record Holds (kept : KeptState) : Type 0 where
+  pub lawful : IsLawful kept.keys.sizes kept.replica.chronicle
+  pub counts : sum kept.shares ≡ length kept.replica.chronicle
+  pub number : kept.keys.party < kept.eye.marks.words
+  pub owner : IsOwnerOf kept.keys.party kept.eye.sight
+  pub put : kept.eye.sight.put ≡ mark_of kept.replica
 
 -- a share: of which replica, which of those made, and how many steps it counts
 pub record ShareState : Type 0 where
@@ -32,3 +51,9 @@ counted share more = record share { count = share.count + more }
 -- how many steps a replica gained
 abbrev pub gained : Replica → Replica → ℕ
 gained old new = length new.chronicle - length old.chronicle
+
+-- what a share counts of an answer: an answer that sends something is one step; want of memory may be one, while it is
+-- executed; and another refusal is none
+abbrev pub Counts : ShareState → Result (List Sent) Fault → ShareState → Type 0
+Counts old (Ok out) new = new ≡ counted old 1
+Counts old (Err n) new = (new ≡ old) ⊎ ((n ≡ fault.Memory) × (new ≡ counted old 1))

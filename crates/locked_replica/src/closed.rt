@@ -2,17 +2,19 @@
 
 use crate::kept::Kept;
 use crate::share::Share;
+use marks::Eye;
 use replica::Replica;
 
-/// A replica whose shares have all come back.
+/// A replica whose shares have all come back, and the eye that owns its mark.
 #[derive(Drop)]
 pub struct Closed {
     pub replica: Replica,
+    pub eye: Eye,
 }
 
 /// What is handed back, unchanged, where the shares are not all there.
 #[derive(Drop)]
-pub struct NotAll {
-    pub kept: Kept,
+pub struct NotAll<'a> {
+    pub kept: Kept<'a>,
     pub shares: Vec<Share>,
 }

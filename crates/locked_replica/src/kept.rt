@@ -1,12 +1,13 @@
 //! A replica that is kept for several threads.
 
-ghost use Rattle.std.specs.Prelude.{◌≡◌, ◌+◌, ◌↔◌, ◌++◌, [], ◌∷◌, length, sum, sum_by, IsTrue, IsOk, IfOk, IfErr, OnOk, OnErr, IsErrOf, slice_set, All};
+ghost use Rattle.std.specs.Prelude.{◌≡◌, ◌<◌, ◌+◌, ◌↔◌, ◌++◌, [], ◌∷◌, length, sum, sum_by, IsTrue, IsOk, IfOk, IfErr, OnOk, OnErr, IsErrOf, slice_set, All};
 ghost use Rattle.std.specs.Bool.{OnTrue, OnFalse};
 ghost use Rattle.definitions.specs.Checks.{identity_of};
 ghost use Rattle.definitions.specs.Chronicles.{IsLawful};
 ghost use Rattle.replica.specs.Steps.{Stepped};
 ghost use Rattle.replica.specs.Inputs.{input_of, same_replica, is_addressed};
-ghost use Rattle.locked_replica.specs.Kept.{is_own, AreAll, counted, gained};
+ghost use Rattle.marks.specs.Eyes.{IsOwnerOf, putting};
+ghost use Rattle.locked_replica.specs.Kept.{Holds, is_own, AreAll, counted, gained, mark_of, Counts};
 ghost use Rattle.locked_replica.specs.Addressed.{may_step};
 
 use crate::closed::{Closed, NotAll};
@@ -14,40 +15,77 @@ use crate::once::each_once;
 use crate::share::Share;
 use certificates::{Authenticated, Checked};
 use ids::{Fault, PartyId, ReplicaId};
+use marks::{Eye, Marks};
 use replica::{Input, Out, Replica};
 use std::alloc::Global;
 use std::marker::Model;
+use std::sync::Mutex;
 
-/// A replica, and the count of each share made of it.
+/// A replica, the count of each share made of it, and the eye that owns its mark.
 ///
-/// The counts add up to the steps that stand.
+/// The counts add up to the steps that stand, and the mark says how many commands were executed.
 #[derive(Drop)]
-pub struct Kept {
+pub struct Kept<'a> {
     replica: Replica,
     shares: Vec<usize>,
+    eye: Eye,
+    marks: &'a Marks,
 }
 
-impl Model for Kept {
-    ghost use Rattle.std.specs.Prelude.{◌≡◌, sum, length};
-    ghost use Rattle.locked_replica.specs.Kept.{KeptState};
+/// A kept replica under a lock.
+pub type Locked<'a> = Mutex<Kept<'a>>;
+
+impl<'a> Model for Kept<'a> {
+    ghost use Rattle.std.specs.Prelude.{◌≡◌};
+    ghost use Rattle.locked_replica.specs.Kept.{KeptState, Holds};
 
     ghost Value = { KeptState };
 
-    ghost view = { λ k. record { keys = k.replica.keys; replica = k.replica.replica; shares = k.shares.items } };
+    ghost view = { λ k. record { keys = k.replica.keys; replica = k.replica.replica; shares = k.shares.items; eye = k.eye } };
 
-    ghost invariant = { λ k. sum k.shares.items ≡ length k.replica.replica.chronicle };
+    ghost invariant = { λ k. (k.eye.marks ≡ k.marks.now) × Holds (record { keys = k.replica.keys; replica = k.replica.replica; shares = k.shares.items; eye = k.eye }) };
 }
 
-impl Kept {
-    /// Keeps a replica that has made no step. No share is made of it yet.
-    pub fn new(alloc: Global, replica: Replica) -> Kept
-        requires { replica.replica.chronicle ≡ [] }
-        ensures { result ≡ record { keys = replica.keys; replica = replica.replica; shares = [] } }
+/// How many commands a replica has executed, as its mark is to say.
+fn executed(replica: &Replica) -> u64
+    ensures { result ≡ mark_of replica.now.replica }
+{
+    replica.history().len() as u64
+}
+
+impl<'a> Kept<'a> {
+    /// Keeps a replica that has made no step, and the eye that owns its mark. No share is made of it yet.
+    #[tactic(auto, using(crate::proofs::Growth::mark_first))]
+    pub fn new(alloc: Global, replica: Replica, eye: Eye, marks: &'a Marks) -> Kept<'a>
+        requires no_step { replica.replica.chronicle ≡ [] }
+        requires from { eye.marks ≡ marks.now }
+        requires owner { (replica.keys.party < marks.now.words) × IsOwnerOf replica.keys.party eye.sight }
+        requires put { eye.sight.put ≡ 0 }
+        ensures { result ≡ record { keys = replica.keys; replica = replica.replica; shares = []; eye = eye } }
     {
+        // It is lawful.
+        let _steps = replica.steps();
         Kept {
             replica,
             shares: Vec::new(alloc),
+            eye,
+            marks,
         }
+    }
+
+    /// What holds of each kept replica: its chronicle is lawful, and shares and mark tell of it.
+    pub fn holds(&self)
+        ensures { Holds self.now }
+    {
+        let _replica = &self.replica;
+    }
+
+    /// The marks that its eye is of.
+    pub fn marks(&self) -> &'a Marks
+        ensures which { result.now ≡ self.now.eye.marks }
+        ensures number { self.now.keys.party < result.now.words }
+    {
+        self.marks
     }
 
     /// The replica.
@@ -115,16 +153,18 @@ impl Kept {
             Input::Block(block) => self.is_mine(block),
             Input::Vote(vote) => self.is_mine(vote),
             Input::NewView(announced) => self.is_mine(announced),
+            Input::Request(request) => self.is_mine(request),
             Input::Fetch(asked) => self.is_mine(asked),
             Input::Timeout => true,
             Input::Beat => true,
         }
     }
 
-    /// One step of the replica, counted by a share.
+    /// One step of the replica, counted by a share. How far it has executed is put into its mark.
     ///
     /// It is refused with `NotMine` where the input is for another replica, and else with `NotAll` where the share
     /// isn't one of this replica's own.
+    #[tactic(auto, using(crate::proofs::Growth::mark_grows))]
     pub fn step(&mut self, share: &mut Share, input: Input<'_>) -> Result<Out, Fault>
         ensures not_mine { OnFalse (is_addressed self.old.keys input.entry) (IsErrOf result Fault.NotMine) }
         ensures not_all { OnTrue (is_addressed self.old.keys input.entry) (OnFalse (is_own self.old share.old) (IsErrOf result Fault.NotAll)) }
@@ -133,7 +173,9 @@ impl Kept {
         ensures stepped { OnTrue (may_step self.old share.old input.entry) (Stepped (identity_of self.old.keys) (input_of input.entry) self.old.replica result self.new.replica) }
         ensures share { OnTrue (may_step self.old share.old input.entry) (share.new ≡ counted share.old (gained self.old.replica self.new.replica)) }
         ensures shares { OnTrue (may_step self.old share.old input.entry) (self.new.shares ≡ slice_set self.old.shares share.old.number share.new.count) }
+        ensures eye { OnTrue (may_step self.old share.old input.entry) (self.new.eye ≡ putting self.old.eye self.old.keys.party (mark_of self.new.replica)) }
         ensures keys { self.new.keys ≡ self.old.keys }
+        ensures counts { Counts share.old result share.new }
     {
         if !self.is_addressed(&input) {
             return Err(Fault::NotMine);
@@ -146,6 +188,8 @@ impl Kept {
         let outcome = replica.step(input);
         share.count += replica.steps() - before;
         self.shares[share.number] = share.count;
+        let (number, length) = (self.replica.number(), executed(&self.replica));
+        self.marks.put(&mut self.eye, number, length);
         outcome
     }
 
@@ -170,17 +214,25 @@ impl Kept {
         self.owns_all(shares) && each_once(self.made(), shares)
     }
 
-    /// Gives the replica back for all the shares made of it, each once. Without them all it hands back what it got.
-    pub fn close(self, shares: Vec<Share>) -> Result<Closed, NotAll>
-        ensures exactly { IsOk result ↔ AreAll self shares.items }
-        ensures closed { IfOk result (λ c. c.replica ≡ record { keys = self.keys; replica = self.replica }) }
+    /// Gives the replica and its eye back for all the shares made, each once. Without them all it hands back what it
+    /// got.
+    pub fn close(self, shares: Vec<Share>) -> Result<Closed, NotAll<'a>>
+        ensures exactly { IsOk result ↔ AreAll self.entry shares.items }
+        ensures closed { IfOk result (λ c. c.replica ≡ record { keys = self.entry.keys; replica = self.entry.replica }) }
         ensures counted { IfOk result (λ c. sum_by (λ s. s.count) shares.items ≡ length c.replica.replica.chronicle) }
-        ensures kept_back { IfErr result (λ e. e.kept ≡ self) }
+        ensures eye { IfOk result (λ c. c.eye ≡ self.entry.eye) }
+        ensures owner { IfOk result (λ c. IsOwnerOf c.replica.keys.party c.eye.sight × (c.eye.sight.put ≡ mark_of c.replica.replica)) }
+        ensures kept_back { IfErr result (λ e. e.kept ≡ self.entry) }
         ensures shares_back { IfErr result (λ e. e.shares ≡ shares) }
     {
         if self.are_all(&shares) {
-            let Kept { replica, shares: _ } = self;
-            Ok(Closed { replica })
+            let Kept {
+                replica,
+                shares: _,
+                eye,
+                marks: _,
+            } = self;
+            Ok(Closed { replica, eye })
         } else {
             Err(NotAll { kept: self, shares })
         }

@@ -1,7 +1,8 @@
 //! A replica that several threads step, each with a share of its own that counts the steps it made.
 //!
-//! Here is neither lock nor thread: `Kept` is what stands under the lock. It answers only with a step of the replica
-//! or a refusal that changes nothing, and gives the replica back for all its shares alone.
+//! `Kept` is what stands under the lock. It answers only with a step of the replica or a refusal that changes
+//! nothing, puts into the marks how far the replica has executed, and gives it back for all its shares alone. No call
+//! here starts a thread or waits.
 #![tactic(auto)]
 
 mod closed;
@@ -10,5 +11,5 @@ mod once;
 mod share;
 
 pub use closed::{Closed, NotAll};
-pub use kept::Kept;
+pub use kept::{Kept, Locked};
 pub use share::Share;

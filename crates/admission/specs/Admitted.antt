@@ -1,0 +1,48 @@
+-- What the bytes of a frame bring to a replica.
+use Rattle.std.specs.Prelude.{◌≡◌, IsTrue, Option, Some, None, Result, Ok, Err}
+use Rattle.std.specs.Borrow.{Bor}
+use Rattle.ids.specs.declared.fault.Fault.{Fault}
+use Rattle.ids.specs.declared.fault.Fault.TheVariants as fault
+use Rattle.definitions.specs.Bytes.{Bytes}
+use Rattle.definitions.specs.Keyrings.{Keys}
+use Rattle.definitions.specs.Frames.{Frame}
+use Rattle.definitions.specs.FrameLimits.{IsReadAs}
+use Rattle.definitions.specs.Checks.{identity_of}
+use Rattle.definitions.specs.Admission.{Checked, passes, rejected, check}
+use Rattle.frames_view.specs.Places.{IsProposalAt, IsBlockAt, IsVoteFrameAt, IsNewViewAt, IsCommandAt, IsFetchAt}
+use Rattle.replica.specs.declared.input.Input.{Input}
+use Rattle.replica.specs.declared.input.Input.TheVariants.{Proposal, Block, Vote as AVote, NewView, Request, Fetch, Timeout, Beat}
+use Rattle.replica.specs.Inputs.{input_of, is_addressed}
+
+-- each part of the frame that it lends lies in the bytes, at the place where the grammar has it
+abbrev pub LiesIn : Bor Bytes → Input → Type 0
+LiesIn bytes (Proposal p) = IsProposalAt bytes 1 p.view
+LiesIn bytes (Block b) = IsBlockAt bytes 1 b.view
+LiesIn bytes (AVote b) = IsVoteFrameAt bytes 1 b.view
+LiesIn bytes (NewView n) = IsNewViewAt bytes 1 n.view
+LiesIn bytes (Request r) = IsCommandAt bytes 1 r.view
+LiesIn bytes (Fetch f) = IsFetchAt bytes 1 f.view
+LiesIn bytes Timeout = ⊥
+LiesIn bytes Beat = ⊥
+
+-- it says what passed, was checked for the replica of these keys, and lies in the bytes
+pub record Brings (keys : Keys) (bytes : Bor Bytes) (i : Input) : Type 0 where
+  pub addressed : IsTrue (is_addressed keys i)
+  pub lent : LiesIn bytes i
+
+-- what the checks come to is what is answered
+abbrev pub Answers : Keys → Bor Bytes → Checked → Result Input Fault → Type 0
+Answers keys bytes (passes i) (Ok input) = (input_of input ≡ i) × Brings keys bytes input
+Answers keys bytes (passes i) (Err n) = ⊥
+Answers keys bytes (rejected m) (Ok input) = ⊥
+Answers keys bytes (rejected m) (Err n) = n ≡ m
+
+-- by what the bytes are read as
+abbrev pub AnswersRead : Keys → Bor Bytes → Result Input Fault → Option Frame → Type 0
+AnswersRead keys bytes result None = result ≡ Err fault.NotAFrame
+AnswersRead keys bytes result (Some f) = Answers keys bytes (check (identity_of keys) f) result
+
+-- Bytes that spell no frame are refused with `NotAFrame`; else the one frame that they spell is checked, and what the
+-- checks come to is the answer.
+abbrev pub Admits : Keys → Bor Bytes → Result Input Fault → Type 0
+Admits keys bytes result = (frame : Option Frame) × IsReadAs keys.sizes bytes.now frame × AnswersRead keys bytes result frame

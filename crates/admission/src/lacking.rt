@@ -1,0 +1,40 @@
+//! Whom to ask for the block that a frame lacks.
+
+ghost use Rattle.std.specs.Prelude.{◌≡◌, ◌<◌, IfSome};
+ghost use Rattle.ids.specs.Sizes.{replicas};
+ghost use Rattle.definitions.specs.FrameLimits.{IsFrame};
+ghost use Rattle.frames_view.specs.Views.{frame_of};
+ghost use Rattle.admission.specs.Lacking.{lacked, IsLackedBy};
+
+use frames_view::{Frame, read};
+use ids::{Config, Digest, ReplicaId};
+
+/// The sender of a frame, and the block that a replica needs to take it.
+fn lack(config: &Config, frame: &Frame<'_>) -> Option<(ReplicaId, Digest)>
+    requires { IsFrame config.now (frame_of frame.now) }
+    ensures lacked { result ≡ lacked config.now (frame_of frame.now) }
+    ensures replica { IfSome result (λ m. m.0 < replicas config.now) }
+{
+    let (sender, block) = match frame {
+        Frame::Proposal(view) => (config.leader(view.view()), view.core().parent()),
+        Frame::Block(view) => (view.sender(), view.core().parent()),
+        Frame::Vote(view) => (view.vote().voter(), view.digest()),
+        Frame::NewView(view) => (view.sender(), view.certificate().digest()),
+        Frame::Request(_) | Frame::Reply(_) | Frame::Fetch(_) => return None,
+    };
+    Some((sender, Digest(*block)))
+}
+
+/// The sender of a frame, and the block that a replica needs to take it: the parent of the frame's block, or the block
+/// that is voted for or certified.
+///
+/// After `UnknownParent` the receiver asks this sender for this block.
+pub fn missing(config: &Config, bytes: &[u8]) -> Option<(ReplicaId, Digest)>
+    ensures replica { IfSome result (λ m. m.0 < replicas config.now) }
+    ensures lacked { IsLackedBy config.now bytes.now result }
+{
+    match read(config, bytes) {
+        Ok(frame) => lack(config, &frame),
+        Err(_) => None,
+    }
+}

@@ -1,0 +1,45 @@
+//! One frame's turn.
+
+ghost use Rattle.std.specs.Prelude.{◌≡◌, ◌<◌, Result, MatchResult};
+ghost use Rattle.ids.specs.Sizes.{replicas};
+ghost use Rattle.ids.specs.declared.fault.Fault as faults;
+ghost use Rattle.replica.specs.declared.input.Input as inputs;
+ghost use Rattle.admission.specs.Admitted.{Admits};
+ghost use Rattle.locked_replica.specs.Kept.{Counts};
+
+use crate::gate::Gate;
+use crate::steps::Steps;
+use admission::admit;
+use authenticators::Keyring;
+use ids::{Config, Fault};
+use locked_replica::Share;
+use replica::Out;
+use std::sync::Wait;
+
+/// Takes the bytes of a frame to a replica: `admit`, the gate's `enter`, one step, the gate's `stepped`.
+///
+/// Where `admit` refuses, that is the answer, the gate isn't told, and steps and share are as before.
+pub fn turn<R: Wait, S: Steps, G: Gate>(
+    rt: &R,
+    steps: &mut S,
+    share: &mut Share,
+    gate: &G,
+    frame: u64,
+    keyring: &Keyring,
+    config: &Config,
+    bytes: &[u8],
+) -> Result<Out, Fault>
+    requires sizes { config.now ≡ keyring.now.sizes }
+    requires replica { keyring.now.party < replicas config.now }
+    ensures turned { (admitted : Result inputs.Input faults.Fault) × Admits keyring.now bytes.entry admitted
+        × MatchResult admitted
+        (λ input. S.moved steps.old share.old input result steps.new share.new)
+        (λ n. (result ≡ Err n) × (steps.new ≡ steps.old) × (share.new ≡ share.old)) }
+    ensures counts { Counts share.old result share.new }
+{
+    let input = admit(keyring, config, bytes)?;
+    gate.enter(frame);
+    let answer = steps.step(rt, share, input);
+    gate.stepped(frame);
+    answer
+}

@@ -1,0 +1,6 @@
+//! Lies that a replica can be made to tell: what it sends is changed on its way out. For demonstrations and tests.
+#![tactic(auto)]
+
+mod lying;
+
+pub use lying::{Liar, lie};

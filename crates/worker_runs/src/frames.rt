@@ -1,0 +1,85 @@
+//! The frames that are handed in.
+
+ghost use Rattle.std.specs.Prelude.{◌<◌};
+ghost use Rattle.ids.specs.Sizes.{replicas};
+
+use anyhow::{Result, bail};
+use bytes::Bytes;
+use frames_view::{Payload, ReplyText, genesis_digest};
+use ids::{ClientId, Config, Digest, PartyId, Place, ReplicaId, Seq, View};
+use replica::{Input, Replica, Sending, To};
+use signed_frames::{fetch_frame, new_view_frame, reply_frame, request_frame, vote_frame};
+use simulated_keys::keyring_of;
+use std::alloc::Global;
+
+/// The bytes of replica 2's question of this number, for a block that isn't there.
+fn question_bytes(alloc: Global, config: Config, to: ReplicaId, number: u16) -> Result<Vec<u8>>
+    requires { to < replicas config }
+{
+    let keyring = keyring_of(alloc, config, PartyId(2))?;
+    let [high, low] = number.to_be_bytes();
+    let mut digest = [0xaa; 32];
+    digest[0] = high;
+    digest[1] = low;
+    Ok(fetch_frame(alloc, &keyring, to, &Digest(digest))?)
+}
+
+/// Replica 2's question of this number.
+pub(crate) fn question(alloc: Global, config: Config, to: ReplicaId, number: u16) -> Result<Bytes>
+    requires { to < replicas config }
+{
+    Ok(Bytes::from_vec(question_bytes(alloc, config, to, number)?)?)
+}
+
+/// A question to replica 0 with a spoilt tag.
+pub(crate) fn spoilt(alloc: Global, config: Config) -> Result<Bytes> {
+    let mut bytes = question_bytes(alloc, config, ReplicaId(0), 3)?;
+    if let Some(last) = bytes.last_mut() {
+        *last ^= 1;
+    }
+    Ok(Bytes::from_vec(bytes)?)
+}
+
+/// The first proposal of replica 0, as its beat makes it.
+pub(crate) fn proposal(alloc: Global, config: Config) -> Result<Bytes> {
+    let keyring = keyring_of(alloc, config, PartyId(0))?;
+    let mut leader = Replica::new(alloc, config, ReplicaId(0), keyring)?;
+    let Some(sending) = leader.step(Input::Beat)?.into_sendings().pop() else {
+        bail!("no proposal");
+    };
+    Ok(Bytes::from_vec(sending.frame)?)
+}
+
+/// Client 0's first request: it sets an item.
+pub(crate) fn set(alloc: Global, config: Config) -> Result<Bytes> {
+    let Some(payload) = Payload::new(b"set a 0 0 1\r\nx\r\n") else {
+        bail!("no payload of a request");
+    };
+    let keyring = keyring_of(alloc, config, ClientId(0).into())?;
+    let frame = request_frame(alloc, &keyring, Seq(1), &payload)?;
+    Ok(Bytes::from_vec(frame)?)
+}
+
+/// What replica 1 sends at once: its view to all, a vote for genesis to replica 2, and a reply to client 0.
+pub(crate) fn answers(alloc: Global, config: Config) -> Result<Vec<Sending>> {
+    let keyring = keyring_of(alloc, config, PartyId(1))?;
+    let Some(text) = ReplyText::new(b"STORED\r\n") else {
+        bail!("no text of a reply");
+    };
+    let mut certificate = [0; 33];
+    certificate[..32].copy_from_slice(&genesis_digest().0);
+    let mut answers = Vec::new(alloc);
+    answers.push(Sending {
+        to: To::All,
+        frame: new_view_frame(alloc, &keyring, View(1), &certificate)?,
+    })?;
+    answers.push(Sending {
+        to: To::Replica(ReplicaId(2)),
+        frame: vote_frame(alloc, &keyring, &genesis_digest())?,
+    })?;
+    answers.push(Sending {
+        to: To::Client(ClientId(0)),
+        frame: reply_frame(alloc, &keyring, ClientId(0), Seq(1), Place(1), &text)?,
+    })?;
+    Ok(answers)
+}

@@ -1,0 +1,291 @@
+//! A run of workers in threads.
+
+use crate::fake::Fake;
+use crate::onlooker::Onlooker;
+use crate::seen::Seen;
+use crate::stations::{Crew, Station, stations};
+use bytes::Bytes;
+use crossbeam_channel::Receiver;
+use fabric::{Ends, Gate, Links, Parcel, Post};
+use ids::{Config, Fault, ReplicaId};
+use locked_replica::{Closed, Share};
+use marks::Marks;
+use simulated_keys::keyring_of;
+use std::alloc::Global;
+use std::ops::Range;
+use std::sync::Wait;
+use std::thread;
+use std::thread::Threads;
+use std::time::{Clock, Duration};
+
+/// What is left after a run.
+#[derive(Drop)]
+pub(crate) struct Told {
+    /// How many steps the replicas made.
+    pub(crate) steps: usize,
+    /// How many parcels the links of the replicas still hold.
+    pub(crate) left: usize,
+    /// How many frames came to client 0, and to no other.
+    pub(crate) replies: usize,
+    /// How far a new eye sees that each replica has executed.
+    pub(crate) executed: String,
+}
+
+/// When a run ends.
+#[derive(Clone, Copy, Debug)]
+pub(crate) enum Until {
+    /// So many inputs were brought.
+    Inputs(u64),
+    /// Each replica has executed something. Until then replica 0 is told to propose, fifty times a second.
+    Executed,
+}
+
+/// What a run is made of, which its threads share.
+#[derive(Drop)]
+struct Stage<'a, G> {
+    alloc: Global,
+    config: Config,
+    links: &'a Links,
+    ends: &'a Ends,
+    gate: &'a G,
+    seen: &'a Seen,
+}
+
+/// Whether a run has come to its end. Where replicas are to execute, replica 0 is told to propose once more.
+fn is_over<R: Wait, G>(
+    rt: &R,
+    stage: &Stage<'_, G>,
+    until: Until,
+    onlooker: &mut Onlooker<'_>,
+) -> bool {
+    match until {
+        Until::Inputs(wanted) => stage.seen.inputs() >= wanted,
+        Until::Executed => {
+            let _told = stage.links.beat(rt, ReplicaId(0));
+            onlooker.has_seen_all()
+        }
+    }
+}
+
+/// Hands in the frames, waits until the run is over, and tells all workers to stop.
+fn drive<R: Wait + Clock, G>(
+    rt: &R,
+    stage: &Stage<'_, G>,
+    handed: Vec<(ReplicaId, Bytes)>,
+    until: Until,
+    onlooker: &mut Onlooker<'_>,
+) {
+    for (to, frame) in handed {
+        let _handed = stage.links.to_replica(rt, to, frame);
+    }
+    for _ in 0..500 {
+        if is_over(rt, stage, until, onlooker) {
+            break;
+        }
+        thread::sleep(rt, Duration::from_millis(20));
+    }
+    stop_all(rt, stage.links);
+}
+
+/// Tells all workers to stop.
+fn stop_all<R: Wait>(rt: &R, links: &Links) {
+    for number in 0..links.config().n() {
+        let _told = links.stop(rt, ReplicaId(number));
+    }
+}
+
+/// A worker's place at a replica, with a keyring of its own.
+fn post<'a, G: Gate>(stage: &Stage<'a, G>, number: ReplicaId) -> Result<Post<'a, G>, Fault> {
+    if number.0 >= stage.config.n() {
+        return Err(Fault::NoSuchParty);
+    }
+    let keyring = keyring_of(stage.alloc, stage.config, number.into())?;
+    let parcels = stage.ends.replicas.get(usize::from(number.0));
+    let parcels = parcels.ok_or(Fault::NoSuchParty)?;
+    Ok(Post::new(stage.alloc, keyring, stage.gate, parcels, stage.links))
+}
+
+/// What one worker thread is made of.
+#[derive(Drop)]
+struct Worker<'s, 'a, G> {
+    post: Post<'s, G>,
+    fake: Fake<'s, 'a>,
+    share: Share,
+}
+
+impl<'s, 'a, G: Gate> Worker<'s, 'a, G> {
+    fn new(
+        stage: &Stage<'s, G>,
+        station: &'s Station<'a>,
+        share: Share,
+    ) -> Result<Worker<'s, 'a, G>, Fault> {
+        let fake = Fake {
+            number: station.number,
+            locked: &station.locked,
+            seen: stage.seen,
+        };
+        Ok(Worker {
+            post: post(stage, station.number)?,
+            fake,
+            share,
+        })
+    }
+
+    fn work<R: Wait>(self, rt: &R) -> Share {
+        let Worker {
+            post,
+            mut fake,
+            share,
+        } = self;
+        post.work(rt, &mut fake, share)
+    }
+}
+
+/// Two workers for each station, one behind the other.
+fn workers<'s, 'a, G: Gate>(
+    stage: &Stage<'s, G>,
+    stations: &'s [Station<'a>],
+    crews: Vec<Crew>,
+) -> Result<Vec<Worker<'s, 'a, G>>, Fault> {
+    let mut workers = Vec::new(stage.alloc);
+    for (station, crew) in stations.iter().zip(crews) {
+        let Crew { one, two } = crew;
+        workers.push(Worker::new(stage, station, one)?)?;
+        workers.push(Worker::new(stage, station, two)?)?;
+    }
+    Ok(workers)
+}
+
+/// A thread for each worker while the frames are handed in. The shares come back in the order of the workers.
+fn work_all<'s, 'a, R: Threads + Wait + Clock + Sync, G: Gate + Sync>(
+    rt: &R,
+    stage: &Stage<'s, G>,
+    workers: Vec<Worker<'s, 'a, G>>,
+    handed: Vec<(ReplicaId, Bytes)>,
+    until: Until,
+    onlooker: &mut Onlooker<'_>,
+) -> Result<Vec<Share>, Fault> {
+    let mut handles = Vec::with_capacity(stage.alloc, workers.len())?;
+    thread::scope(thread::scope_env(), rt, |scope| {
+        for worker in workers {
+            let Ok(handle) = scope.spawn(move || worker.work(rt)) else {
+                stop_all(rt, stage.links);
+                return Err(Fault::Memory);
+            };
+            handles.push(handle)?;
+        }
+        drive(rt, stage, handed, until, onlooker);
+        let mut shares = Vec::new(stage.alloc);
+        for handle in handles {
+            shares.push(handle.join(rt))?;
+        }
+        Ok(shares)
+    })
+}
+
+/// How many steps a replica made, where its shares have come back.
+fn close(station: Station<'_>, shares: Vec<Share>) -> Result<usize, Fault> {
+    let Station { number: _, locked } = station;
+    match locked.into_inner().close(shares) {
+        Ok(Closed { replica, eye: _ }) => Ok(replica.steps()),
+        Err(_) => Err(Fault::NotAll),
+    }
+}
+
+/// How many steps all replicas made. The shares come two for each station in turn.
+fn close_all(
+    alloc: Global,
+    stations: Vec<Station<'_>>,
+    shares: Vec<Share>,
+) -> Result<usize, Fault> {
+    let mut steps = 0usize;
+    let mut rest = shares.into_iter();
+    for station in stations {
+        let mut own = Vec::new(alloc);
+        for share in rest.by_ref().take(2) {
+            own.push(share)?;
+        }
+        steps = steps.wrapping_add(close(station, own)?);
+    }
+    Ok(steps)
+}
+
+/// How many frames are left at a replica's link.
+fn left_at<R: Wait>(rt: &R, end: &Receiver<Parcel>) -> usize {
+    let mut left = 0usize;
+    for _ in 0..10_000 {
+        match end.try_recv(rt) {
+            Ok(Parcel::Frame { .. }) => left = left.wrapping_add(1),
+            Ok(_) => {}
+            Err(_) => break,
+        }
+    }
+    left
+}
+
+/// How many frames came to a client.
+fn came_to<R: Wait>(rt: &R, end: &Receiver<Bytes>) -> usize {
+    let mut came = 0usize;
+    for _ in 0..10_000 {
+        match end.try_recv(rt) {
+            Ok(_) => came = came.wrapping_add(1),
+            Err(_) => break,
+        }
+    }
+    came
+}
+
+/// What is left in the links, after so many steps.
+fn look<R: Wait>(rt: &R, ends: &Ends, steps: usize, executed: String) -> Told {
+    let mut told = Told {
+        steps,
+        left: 0,
+        replies: 0,
+        executed,
+    };
+    for end in &ends.replicas {
+        told.left = told.left.wrapping_add(left_at(rt, end));
+    }
+    for (number, end) in ends.clients.iter().enumerate() {
+        let came = came_to(rt, end);
+        if number == 0 {
+            told.replies = came;
+        } else {
+            told.left = told.left.wrapping_add(came);
+        }
+    }
+    told
+}
+
+/// Two workers for each wanted replica take the frames that are handed in, until the run is over.
+pub(crate) fn run<R: Threads + Wait + Clock + Sync, G: Gate + Sync>(
+    rt: &R,
+    alloc: Global,
+    config: Config,
+    replicas: Range<u8>,
+    gate: &G,
+    seen: &Seen,
+    handed: Vec<(ReplicaId, Bytes)>,
+    until: Until,
+) -> Result<Told, Fault> {
+    let (marks, mut eyes) = Marks::new(alloc, config.n())?;
+    let Some(eye) = eyes.pop() else {
+        return Err(Fault::NotAll);
+    };
+    let mut onlooker = Onlooker::new(config, &marks, eye);
+    let (stations, crews) = stations(alloc, config, &marks, eyes, replicas)?;
+    let (links, ends) = Links::new(alloc, config)?;
+    let stage = Stage {
+        alloc,
+        config,
+        links: &links,
+        ends: &ends,
+        gate,
+        seen,
+    };
+    let workers = workers(&stage, stations.as_slice(), crews)?;
+    let shares = work_all(rt, &stage, workers, handed, until, &mut onlooker)?;
+    let steps = close_all(alloc, stations, shares)?;
+    let executed = onlooker.another()?.listed(alloc)?;
+    Ok(look(rt, &ends, steps, executed))
+}

@@ -1,0 +1,161 @@
+//! What came to the stand-ins for replicas.
+
+use crate::held::MOST_YIELDS;
+use ids::{Fault, ReplicaId};
+use replica::{Input, Out, Sending};
+use std::alloc::Global;
+use std::sync::atomic::Ordering::SeqCst;
+use std::sync::atomic::{AtomicBool, AtomicU64};
+use std::sync::{Mutex, Wait};
+use std::thread::yield_now;
+
+/// The question that is answered with more frames.
+const ANSWERED: usize = 500;
+
+/// What came to the stand-ins, counted by all threads.
+#[derive(Drop)]
+pub(crate) struct Seen {
+    /// How many inputs were brought.
+    inputs: AtomicU64,
+    /// How often each question came, by number.
+    questions: Vec<AtomicU64>,
+    /// How many announcements and votes came, by number of replica.
+    announced: Vec<AtomicU64>,
+    voted: Vec<AtomicU64>,
+    /// Whether the call for question 1 waits for that for question 2.
+    waits: bool,
+    began: AtomicBool,
+    met: AtomicBool,
+    /// What one question is answered with.
+    answers: Mutex<Option<Vec<Sending>>>,
+}
+
+/// So many counters at 0.
+fn counters(alloc: Global, count: usize) -> Result<Vec<AtomicU64>, Fault> {
+    let mut counters = Vec::with_capacity(alloc, count)?;
+    for _ in 0..count {
+        counters.push(AtomicU64::new(0))?;
+    }
+    Ok(counters)
+}
+
+/// Counts one more at a place, if it is there.
+fn count(counters: &[AtomicU64], place: usize) {
+    if let Some(counter) = counters.get(place) {
+        counter.fetch_add(1, SeqCst);
+    }
+}
+
+/// The counts, one after the other.
+fn listed(alloc: Global, counters: &[AtomicU64]) -> Result<String, Fault> {
+    let mut text = String::new(alloc);
+    for counter in counters {
+        if !text.is_empty() {
+            text.push(' ')?;
+        }
+        text.push_str(format!(in alloc; "{}", counter.load(SeqCst))?.as_str())?;
+    }
+    Ok(text)
+}
+
+impl Seen {
+    pub(crate) fn new(alloc: Global, waits: bool) -> Result<Seen, Fault> {
+        Ok(Seen {
+            inputs: AtomicU64::new(0),
+            questions: counters(alloc, 1000)?,
+            announced: counters(alloc, 4)?,
+            voted: counters(alloc, 4)?,
+            waits,
+            began: AtomicBool::new(false),
+            met: AtomicBool::new(false),
+            answers: Mutex::new(None),
+        })
+    }
+
+    /// From now on one question is answered with these.
+    pub(crate) fn answer_with<R: Wait>(&self, rt: &R, answers: Vec<Sending>) {
+        *self.answers.lock(rt) = Some(answers);
+    }
+
+    /// The number of a question: the first bytes of the digest that it asks for.
+    fn number_of(input: &Input<'_>) -> Option<usize> {
+        let Input::Fetch(asked) = input else {
+            return None;
+        };
+        let [high, low, ..] = *asked.view().digest();
+        Some(usize::from(u16::from_be_bytes([high, low])))
+    }
+
+    /// Counts an input at a replica, and answers which question it is.
+    pub(crate) fn note(&self, replica: ReplicaId, input: &Input<'_>) -> Option<usize> {
+        match input {
+            Input::NewView(_) => count(&self.announced, usize::from(replica.0)),
+            Input::Vote(_) => count(&self.voted, usize::from(replica.0)),
+            _ => {}
+        }
+        let number = Seen::number_of(input)?;
+        count(&self.questions, number);
+        Some(number)
+    }
+
+    /// Waits in the call for question 1 until that for question 2 began.
+    pub(crate) fn meet(&self, question: Option<usize>) {
+        if question == Some(2) {
+            self.began.store(true, SeqCst);
+        }
+        if question != Some(1) || !self.waits {
+            return;
+        }
+        for _ in 0..MOST_YIELDS {
+            if self.began.load(SeqCst) {
+                self.met.store(true, SeqCst);
+                return;
+            }
+            yield_now();
+        }
+    }
+
+    /// What goes out after a step.
+    pub(crate) fn out_of<R: Wait>(&self, rt: &R, question: Option<usize>, out: Out) -> Out {
+        if question != Some(ANSWERED) {
+            return out;
+        }
+        match self.answers.lock(rt).take() {
+            Some(answers) => Out::of(answers),
+            None => out,
+        }
+    }
+
+    /// An input was brought, and its step made.
+    pub(crate) fn done(&self) {
+        self.inputs.fetch_add(1, SeqCst);
+    }
+
+    /// How many inputs were brought.
+    pub(crate) fn inputs(&self) -> u64 {
+        self.inputs.load(SeqCst)
+    }
+
+    /// Whether call 1 waited until call 2 began.
+    pub(crate) fn has_met(&self) -> bool {
+        self.met.load(SeqCst)
+    }
+
+    /// How many questions came once.
+    pub(crate) fn came_once(&self) -> usize {
+        self.questions
+            .iter()
+            .filter(|count| count.load(SeqCst) == 1)
+            .count()
+    }
+
+    /// How many announcements came to each replica.
+    pub(crate) fn announced(&self, alloc: Global) -> Result<String, Fault> {
+        listed(alloc, &self.announced)
+    }
+
+    /// How many votes came to each replica.
+    pub(crate) fn voted(&self, alloc: Global) -> Result<String, Fault> {
+        listed(alloc, &self.voted)
+    }
+}

@@ -1,0 +1,74 @@
+//! Replicas, each under its lock.
+
+ghost use Rattle.std.specs.Prelude.{◌≡◌, ◌<◌, map};
+ghost use Rattle.std.specs.List.{range_with_len};
+ghost use Rattle.ids.specs.Sizes.{replicas};
+ghost use Rattle.marks.specs.Eyes.{first_eye};
+
+use ids::{Config, Fault, ReplicaId};
+use locked_replica::{Kept, Locked, Share};
+use marks::{Eye, Marks};
+use replica::Replica;
+use simulated_keys::keyring_of;
+use std::alloc::Global;
+use std::ops::Range;
+use std::sync::Mutex;
+
+/// A replica under its lock.
+#[derive(Drop)]
+pub(crate) struct Station<'a> {
+    pub(crate) number: ReplicaId,
+    pub(crate) locked: Locked<'a>,
+}
+
+/// The shares of a replica's two workers.
+#[derive(Drop)]
+pub(crate) struct Crew {
+    pub(crate) one: Share,
+    pub(crate) two: Share,
+}
+
+/// A replica that has made no step, and shares for two workers.
+fn make_station<'a>(
+    alloc: Global,
+    config: Config,
+    number: ReplicaId,
+    eye: Eye,
+    marks: &'a Marks,
+) -> Result<(Station<'a>, Crew), Fault>
+    requires eye { eye ≡ first_eye marks.now number }
+    requires number { (number < replicas config) × (number < marks.now.words) }
+{
+    let keyring = keyring_of(alloc, config, number.into())?;
+    let replica = Replica::new(alloc, config, number, keyring)?;
+    let mut kept = Kept::new(alloc, replica, eye, marks);
+    let one = kept.share()?;
+    let two = kept.share()?;
+    let locked = Mutex::new(kept);
+    Ok((Station { number, locked }, Crew { one, two }))
+}
+
+/// Those of all replicas that are wanted, by number.
+pub(crate) fn stations<'a>(
+    alloc: Global,
+    config: Config,
+    marks: &'a Marks,
+    owners: Vec<Eye>,
+    wanted: Range<u8>,
+) -> Result<(Vec<Station<'a>>, Vec<Crew>), Fault>
+    requires words { marks.now.words ≡ replicas config }
+    requires owners { owners.items ≡ map (first_eye marks.now) (range_with_len 0 marks.now.words) }
+{
+    let mut stations = Vec::new(alloc);
+    let mut crews = Vec::new(alloc);
+    let _replicas = config.n();
+    for (i, eye) in owners.into_iter().enumerate() {
+        let number = i as u8;
+        if wanted.contains(&number) {
+            let (station, crew) = make_station(alloc, config, ReplicaId(number), eye, marks)?;
+            stations.push(station)?;
+            crews.push(crew)?;
+        }
+    }
+    Ok((stations, crews))
+}
