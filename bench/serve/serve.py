@@ -1,0 +1,120 @@
+"""serve.py LOAD PROGRAM KEYS CONNECTIONS..: the servers one after the other, turn by turn, and then the long run."""
+import os
+import shutil
+import statistics
+import subprocess
+import sys
+import tempfile
+import time
+import urllib.request
+
+LOAD, PROGRAM, KEYS = sys.argv[1:4]
+CONNECTIONS = [int(word) for word in sys.argv[4:]] or [1, 8, 64]
+TURNS = int(os.environ.get("TURNS", "3"))
+SECONDS = os.environ.get("SECONDS_EACH", "5") + "s"
+CLIENTS = 64
+
+
+def load(kind, place, connections, length, gets):
+    """Commands a second, median and 99th percentile in microseconds, commands, wrong answers."""
+    words = [LOAD, kind, place, str(connections), str(length), str(gets)]
+    run = subprocess.run(words, stdout=subprocess.PIPE, check=True, text=True)
+    return [float(word) for word in run.stdout.split()]
+
+
+class Server:
+    def __init__(self, name, kind, place, processes):
+        self.name, self.kind, self.place, self.processes = name, kind, place, processes
+
+    def stop(self):
+        for process in self.processes:
+            process.kill()
+            process.wait()
+
+    def resident(self):
+        """Bytes of resident memory."""
+        with open(f"/proc/{self.processes[0].pid}/statm") as file:
+            return int(file.read().split()[1]) * os.sysconf("SC_PAGE_SIZE")
+
+
+def mcbft(*more):
+    words = [PROGRAM, "--keys", KEYS, "--clients", str(CLIENTS), *more]
+    process = subprocess.Popen(words, stdout=subprocess.PIPE, text=True)
+    return Server("mcbft, f = 1", "memcached", process.stdout.readline().split()[-1], [process])
+
+
+def memcached():
+    process = subprocess.Popen(["memcached", "-u", "nobody", "-l", "127.0.0.1", "-p", "21990"])
+    time.sleep(0.5)
+    return Server("memcached", "memcached", "127.0.0.1:21990", [process])
+
+
+def etcd(folder):
+    """Three nodes, whose logs stand in memory."""
+    def url(port):
+        return f"http://127.0.0.1:{port}"
+    nodes = range(3)
+    cluster = ",".join(f"n{n}={url(21900 + n)}" for n in nodes)
+    processes = []
+    for n in nodes:
+        words = ["etcd", "--name", f"n{n}", "--data-dir", os.path.join(folder, f"n{n}"),
+                 "--listen-peer-urls", url(21900 + n), "--initial-advertise-peer-urls", url(21900 + n),
+                 "--listen-client-urls", url(21910 + n), "--advertise-client-urls", url(21910 + n),
+                 "--initial-cluster", cluster, "--logger", "zap", "--log-level", "error"]
+        processes.append(subprocess.Popen(words, stdout=subprocess.DEVNULL, stderr=subprocess.DEVNULL))
+    for _ in range(100):
+        time.sleep(0.2)
+        try:
+            if b'"true"' in urllib.request.urlopen(url(21910) + "/health").read():
+                break
+        except OSError:
+            pass
+    return Server("etcd, 3 nodes", "etcd", ",".join(f"127.0.0.1:{21910 + n}" for n in nodes), processes)
+
+
+def compare(servers):
+    print("server         connections gets a set commands/s   p50 us   p99 us wrong")
+    for connections, gets in [(c, 3) for c in CONNECTIONS] + [(CONNECTIONS[-1], 0)]:
+        seen = {server.name: [] for server in servers}
+        for _ in range(TURNS):
+            for server in servers:
+                seen[server.name].append(load(server.kind, server.place, connections, SECONDS, gets))
+        for name, runs in seen.items():
+            rate, half, most = (statistics.median(run[k] for run in runs) for k in range(3))
+            wrong = sum(run[4] for run in runs)
+            line = f"{name:14} {connections:11} {gets:10} {rate:10.0f} {half:8.0f} {most:8.0f}"
+            print(f"{line} {wrong:5.0f}", flush=True)
+
+
+def long_run():
+    """Throughput and memory after 20,000 and after 200,000 commands."""
+    server = mcbft()
+    try:
+        done, rates, sizes = 0, [], []
+        for mark in (20_000, 200_000):
+            load(server.kind, server.place, CLIENTS, mark - done, 3)
+            sizes.append(server.resident())
+            rate, _, _, count, _ = load(server.kind, server.place, CLIENTS, 20_000, 3)
+            rates.append(rate)
+            done = mark + int(count)
+        print(f"after 20,000 commands {rates[0]:.0f} a second, after 200,000 {rates[1]:.0f}: {rates[1] / rates[0]:.2f}")
+        print(f"{(sizes[1] - sizes[0]) / 180_000:.0f} bytes of resident memory a command")
+    finally:
+        server.stop()
+
+
+def main():
+    folder = tempfile.mkdtemp(dir="/dev/shm" if os.path.isdir("/dev/shm") else None)
+    servers = [mcbft(), memcached()]
+    if shutil.which("etcd"):
+        servers.append(etcd(folder))
+    try:
+        compare(servers)
+    finally:
+        for server in servers:
+            server.stop()
+        shutil.rmtree(folder)
+    long_run()
+
+
+main()

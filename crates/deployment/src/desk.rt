@@ -1,0 +1,39 @@
+//! The seats of a front: one client each.
+
+use crate::link::ClientLink;
+use bytes::Bytes;
+use client_accept::Session;
+use client_service::ClientService;
+use crossbeam_channel::Receiver;
+use fabric::Links;
+use ids::{ClientId, Fault};
+use key_file::PairKeys;
+use std::sync::{Arc, Wait};
+use std::time::Clock;
+use tcp_front::Seats;
+
+/// The service of a client, over the links of the process.
+pub(crate) type Desk<R> = ClientService<ClientLink<R>>;
+
+/// A seat for each client, at the ends where their replies come out.
+pub(crate) fn desks<R: Wait + Clock + AllocGlobal + Clone + Drop>(
+    rt: &R,
+    links: &Arc<Links>,
+    keys: &PairKeys,
+    ends: Vec<Receiver<Bytes>>,
+) -> Result<Seats<Desk<R>>, Fault> {
+    let (alloc, config) = (rt.alloc(), keys.config());
+    let mut ends = ends.into_iter();
+    let mut desks = Vec::new(alloc);
+    for number in 0..config.clients() {
+        let Some(frames) = ends.next() else {
+            return Err(Fault::NoSuchParty);
+        };
+        let client = ClientId(number);
+        let keyring = keys.keyring(alloc, client.into())?;
+        let session = Session::new(alloc, config, client, keyring);
+        let link = ClientLink::new(rt.clone()?, Arc::try_clone(links)?, frames);
+        desks.push(ClientService::new(alloc, session, link))?;
+    }
+    Seats::new(alloc, desks)
+}

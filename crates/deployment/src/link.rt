@@ -1,0 +1,55 @@
+//! A client's link over the links of the process.
+
+use bytes::Bytes;
+use client_service::Link;
+use crossbeam_channel::Receiver;
+use fabric::Links;
+use std::sync::{Arc, Wait};
+use std::time::{Clock, Duration, Instant};
+
+/// For how many milliseconds a client waits before it sends its request again.
+const PATIENCE_MILLIS: u64 = 1000;
+
+/// The link of one client: where it hands in frames for all replicas, and where its replies come out.
+#[derive(Drop)]
+pub(crate) struct ClientLink<R: Wait + Clock + AllocGlobal> {
+    rt: R,
+    links: Arc<Links>,
+    frames: Receiver<Bytes>,
+    /// Until when the client waits. None before its first request, and where the clock can't be read.
+    until: Option<Instant>,
+}
+
+impl<R: Wait + Clock + AllocGlobal> ClientLink<R> {
+    /// A link on which nothing was sent.
+    pub(crate) fn new(rt: R, links: Arc<Links>, frames: Receiver<Bytes>) -> ClientLink<R> {
+        ClientLink {
+            rt,
+            links,
+            frames,
+            until: None,
+        }
+    }
+}
+
+impl<R: Wait + Clock + AllocGlobal> Link for ClientLink<R> {
+    fn send(&mut self, frame: &[u8]) {
+        if let Ok(bytes) = Bytes::copy_from_slice(self.rt.alloc(), frame) {
+            let _ = self.links.to_all(&self.rt, bytes);
+        }
+        self.until = match Instant::now(&self.rt) {
+            Ok(now) => now.checked_add(Duration::from_millis(PATIENCE_MILLIS)),
+            Err(_) => None,
+        };
+    }
+
+    fn receive(&mut self, frame: &mut Vec<u8>) -> bool {
+        let Some(until) = self.until else {
+            return false;
+        };
+        match self.frames.recv_deadline(&self.rt, until) {
+            Ok(bytes) => frame.extend_from_slice(bytes.as_slice()).is_ok(),
+            Err(_) => false,
+        }
+    }
+}

@@ -1,0 +1,39 @@
+//! The way out of a replica that lies.
+
+ghost use Rattle.std.specs.Prelude.{◌<◌};
+ghost use Rattle.ids.specs.Sizes.{replicas};
+
+use authenticators::Keyring;
+use fabric::{Links, Outgoing};
+use liars::{Liar, lie};
+use replica::Sending;
+use std::alloc::Global;
+use std::sync::Wait;
+
+/// How a replica lies, and its keys, with which it signs its lies.
+#[derive(Drop)]
+pub(crate) struct Tongue {
+    pub(crate) alloc: Global,
+    pub(crate) liar: Liar,
+    pub(crate) keyring: Keyring,
+    ghost is_a_replica: { keyring.party < replicas keyring.sizes },
+}
+
+/// The links, behind a liar.
+#[derive(Drop)]
+pub(crate) struct LyingOut<'a> {
+    pub(crate) tongue: Tongue,
+    pub(crate) links: &'a Links,
+}
+
+impl<'a> Outgoing for LyingOut<'a> {
+    fn send<R: Wait>(&self, rt: &R, sending: Sending) {
+        let tongue = &self.tongue;
+        let Ok(lies) = lie(tongue.alloc, &tongue.keyring, tongue.liar, sending) else {
+            return;
+        };
+        for sending in lies {
+            self.links.send(rt, sending);
+        }
+    }
+}

@@ -1,0 +1,199 @@
+//! Replicas, each under its lock, and what their workers start with.
+
+ghost use Rattle.std.specs.Prelude.{◌≡◌, ◌<◌, map};
+ghost use Rattle.std.specs.List.{range_with_len};
+ghost use Rattle.ids.specs.Sizes.{replicas};
+ghost use Rattle.marks.specs.Eyes.{first_eye};
+
+use crate::lying::{LyingOut, Tongue};
+use authenticators::Keyring;
+use clock::{Pulse, Watched, keep_time};
+use crossbeam_channel::Receiver;
+use fabric::{Links, Open, Parcel, Post};
+use ids::{Fault, ReplicaId};
+use key_file::PairKeys;
+use liars::Liar;
+use locked_replica::{Kept, Locked, Share};
+use marks::{Eye, Marks};
+use replica::Replica;
+use std::alloc::Global;
+use std::sync::atomic::AtomicBool;
+use std::sync::{Mutex, Wait};
+use std::time::Clock;
+
+/// A replica under its lock, and where what is for it comes out.
+#[derive(Drop)]
+pub(crate) struct Station<'a> {
+    number: ReplicaId,
+    locked: Locked<'a>,
+    parcels: Receiver<Parcel>,
+}
+
+/// What one worker starts with.
+#[derive(Drop)]
+pub(crate) struct Worker {
+    share: Share,
+    keyring: Keyring,
+    ghost is_a_replica: { keyring.party < replicas keyring.sizes },
+    /// Where its replica is to lie.
+    tongue: Option<Tongue>,
+}
+
+/// The two workers of a replica.
+#[derive(Drop)]
+pub(crate) struct Crew {
+    pub(crate) one: Worker,
+    pub(crate) two: Worker,
+}
+
+impl<'a> Watched for Station<'a> {
+    fn pulse<R: Wait>(&self, rt: &R) -> Pulse {
+        let kept = self.locked.lock(rt);
+        let replica = kept.replica();
+        Pulse {
+            wants_beat: replica.wants_beat(),
+            is_pending: replica.pending() > 0,
+            view: replica.view(),
+            executed: replica.history().len() as u64,
+        }
+    }
+}
+
+/// Works at a station until it is told to stop.
+pub(crate) fn man<R: Wait + AllocGlobal>(
+    rt: &R,
+    station: &Station<'_>,
+    links: &Links,
+    worker: Worker,
+) {
+    let Worker {
+        share,
+        keyring,
+        tongue,
+    } = worker;
+    let (alloc, gate) = (rt.alloc(), Open);
+    let mut steps = &station.locked;
+    let _share = match tongue {
+        None => {
+            let post = Post::new(alloc, keyring, &gate, &station.parcels, links);
+            post.work(rt, &mut steps, share)
+        }
+        Some(tongue) => {
+            let out = LyingOut { tongue, links };
+            let post = Post::new(alloc, keyring, &gate, &station.parcels, &out);
+            post.work(rt, &mut steps, share)
+        }
+    };
+}
+
+/// Gives a station its beats and timeouts until it is told to stop.
+pub(crate) fn watch<R: Wait + Clock>(
+    rt: &R,
+    station: &Station<'_>,
+    links: &Links,
+    stop: &AtomicBool,
+) {
+    keep_time(rt, links, station.number, station, stop);
+}
+
+/// What a replica lies with.
+fn make_tongue(
+    alloc: Global,
+    keys: &PairKeys,
+    number: ReplicaId,
+    liar: Liar,
+) -> Result<Tongue, Fault>
+    requires { number < replicas keys.now.sizes }
+{
+    let keyring = keys.keyring(alloc, number.into())?;
+    Ok(Tongue {
+        alloc,
+        liar,
+        keyring,
+    })
+}
+
+/// A worker of a kept replica.
+fn hire(
+    alloc: Global,
+    keys: &PairKeys,
+    kept: &mut Kept<'_>,
+    number: ReplicaId,
+    liar: Option<Liar>,
+) -> Result<Worker, Fault>
+    requires { number < replicas keys.now.sizes }
+{
+    let share = kept.share()?;
+    let keyring = keys.keyring(alloc, number.into())?;
+    let tongue = match liar {
+        None => None,
+        Some(liar) => Some(make_tongue(alloc, keys, number, liar)?),
+    };
+    Ok(Worker {
+        share,
+        keyring,
+        tongue,
+    })
+}
+
+/// The station of a replica that has made no step, and its crew.
+fn build_station<'a>(
+    alloc: Global,
+    keys: &PairKeys,
+    number: ReplicaId,
+    eye: Eye,
+    marks: &'a Marks,
+    parcels: Receiver<Parcel>,
+    liar: Option<Liar>,
+) -> Result<(Station<'a>, Crew), Fault>
+    requires number { number < replicas keys.now.sizes }
+    requires words { marks.now.words ≡ replicas keys.now.sizes }
+    requires eye { eye ≡ first_eye marks.now number }
+{
+    let keyring = keys.keyring(alloc, number.into())?;
+    let replica = Replica::new(alloc, keys.config(), number, keyring)?;
+    let mut kept = Kept::new(alloc, replica, eye, marks);
+    let one = hire(alloc, keys, &mut kept, number, liar)?;
+    let two = hire(alloc, keys, &mut kept, number, liar)?;
+    let station = Station {
+        number,
+        locked: Mutex::new(kept),
+        parcels,
+    };
+    Ok((station, Crew { one, two }))
+}
+
+/// A station for each word of the marks, with the eye that owns it. Replica 0 is the one that may lie.
+pub(crate) fn stations<'a>(
+    alloc: Global,
+    keys: &PairKeys,
+    marks: &'a Marks,
+    owners: Vec<Eye>,
+    ends: Vec<Receiver<Parcel>>,
+    liar: Option<Liar>,
+) -> Result<(Vec<Station<'a>>, Vec<Crew>), Fault>
+    requires words { marks.now.words ≡ replicas keys.now.sizes }
+    requires owners { owners.items ≡ map (first_eye marks.now) (range_with_len 0 marks.now.words) }
+{
+    let mut ends = ends.into_iter();
+    let mut stations = Vec::new(alloc);
+    let mut crews = Vec::new(alloc);
+    for (number, eye) in owners.into_iter().enumerate() {
+        let (Ok(number), Some(parcels)) = (u8::try_from(number), ends.next()) else {
+            return Err(Fault::NoSuchParty);
+        };
+        let lie = if number == 0 { liar } else { None };
+        let (station, crew) = build_station(
+            alloc,
+            keys,
+            ReplicaId(number),
+            eye,
+            marks,
+            parcels,
+            lie,
+        )?;
+        stations.push(station)?;
+        crews.push(crew)?;
+    }
+    Ok((stations, crews))
+}

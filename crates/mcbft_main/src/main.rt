@@ -1,0 +1,50 @@
+//! `mcbft` serves memcached's text protocol on 127.0.0.1, from replicas of which some may lie.
+//!
+//! Its exit status is 0; or 1 with one line on standard error; or 2 for bad words on the command line.
+#![tactic(auto)]
+
+mod faults;
+mod options;
+mod serving;
+
+use crate::faults::MainFault;
+use crate::options::{Options, matches_of};
+use crate::serving::serve;
+use clap::Error;
+use clap::error::ErrorKind;
+use ids::Fault;
+use std::process::ExitCode;
+use std::{env, io};
+
+/// Tells why words aren't a command line, or what they ask for, as `--help`.
+fn tell(rt: &HostRuntime, error: &Error) -> io::Result<ExitCode> {
+    if error.kind() == ErrorKind::OutOfMemory {
+        return fail(rt, MainFault::Fault(Fault::Memory));
+    }
+    error.print(rt)?;
+    Ok(ExitCode::from(error.exit_code() as u8))
+}
+
+/// Tells why nothing more is served.
+fn fail(rt: &HostRuntime, fault: MainFault) -> io::Result<ExitCode> {
+    eprintln!(rt; "mcbft: {fault}")?;
+    Ok(ExitCode::FAILURE)
+}
+
+fn main(rt: HostRuntime) -> io::Result<ExitCode> {
+    let words: Vec<String> = env::args(&rt)?.collect(rt.alloc())?;
+    let matches = match matches_of(rt.alloc(), &words) {
+        Ok(matches) => matches,
+        Err(error) => return tell(&rt, &error),
+    };
+    let Some(options) = Options::read(&matches) else {
+        return fail(&rt, MainFault::Fault(Fault::BadSize));
+    };
+    match serve(&rt, &options) {
+        Ok(served) => {
+            println!(rt; "served {served} connections")?;
+            Ok(ExitCode::SUCCESS)
+        }
+        Err(fault) => fail(&rt, fault),
+    }
+}

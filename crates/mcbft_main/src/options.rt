@@ -1,0 +1,111 @@
+//! The command line.
+
+use clap::{Arg, ArgMatches, Command, Error, value_parser};
+use liars::Liar;
+use std::alloc::Global;
+
+/// What stands behind the options in `--help`.
+const EXAMPLE: &str = "\
+Example, with f = 1 and 8 clients:
+  bin/make-keys 1 8 > keys
+  mcbft --keys keys --port 11211
+and in another terminal:
+  printf 'set a 0 0 1\\r\\nx\\r\\nget a\\r\\nquit\\r\\n' | nc 127.0.0.1 11211";
+
+/// The names of the lies.
+const LIARS: [&str; 3] = ["mute", "two-faced", "bad-reply"];
+
+/// What the words of a command line say.
+pub(crate) fn matches_of(alloc: Global, words: &[String]) -> Result<ArgMatches<'_>, Error> {
+    let keys = Arg::new(alloc, "keys")
+        .long("keys")
+        .value_name("FILE")
+        .required(true)
+        .help("The key file");
+    let faults = Arg::new(alloc, "faults")
+        .long("faults")
+        .value_name("F")
+        .value_parser(value_parser!(u8))
+        .default_value("1")
+        .help("How many faulty replicas are tolerated, of 3 F + 1");
+    let clients = Arg::new(alloc, "clients")
+        .long("clients")
+        .value_name("C")
+        .value_parser(value_parser!(u8))
+        .default_value("8")
+        .help("How many connections are served at once");
+    let command = Command::new(alloc, "mcbft")
+        .bin_name("mcbft")?
+        .about("Serves memcached's text protocol from replicas, some of which may lie")
+        .after_help(EXAMPLE)
+        .arg(keys)?
+        .arg(faults)?
+        .arg(clients)?
+        .arg(port_arg(alloc))?
+        .arg(liar_arg(alloc))?
+        .arg(serve_arg(alloc))?;
+    command.try_get_matches_from(words)
+}
+
+fn port_arg(alloc: Global) -> Arg<'static> {
+    Arg::new(alloc, "port")
+        .long("port")
+        .value_name("P")
+        .value_parser(value_parser!(u16))
+        .default_value("0")
+        .help("The port to listen on; 0 for a free one")
+}
+
+fn liar_arg(alloc: Global) -> Arg<'static> {
+    Arg::new(alloc, "liar")
+        .long("liar")
+        .value_name("LIE")
+        .value_parser(LIARS.as_slice())
+        .help("Makes replica 0 lie")
+}
+
+fn serve_arg(alloc: Global) -> Arg<'static> {
+    Arg::new(alloc, "serve")
+        .long("serve")
+        .value_name("N")
+        .value_parser(value_parser!(u64))
+        .default_value("0")
+        .help("Ends after N connections; 0 to go on")
+}
+
+/// What the words ask for.
+#[derive(Clone, Copy)]
+pub(crate) struct Options<'a> {
+    pub(crate) keys: &'a str,
+    pub(crate) faults: u8,
+    pub(crate) clients: u8,
+    pub(crate) port: u16,
+    pub(crate) liar: Option<Liar>,
+    /// How many connections are served.
+    pub(crate) most: u64,
+}
+
+impl<'a> Options<'a> {
+    /// The options that were read. All have a value, or a default.
+    pub(crate) fn read(matches: &ArgMatches<'a>) -> Option<Options<'a>> {
+        let most: u64 = matches.get_one("serve")?;
+        Some(Options {
+            keys: matches.get_str("keys")?,
+            faults: matches.get_one("faults")?,
+            clients: matches.get_one("clients")?,
+            port: matches.get_one("port")?,
+            liar: matches.get_str("liar").and_then(liar_of),
+            most: if most == 0 { u64::MAX } else { most },
+        })
+    }
+}
+
+/// The lie of this name.
+fn liar_of(name: &str) -> Option<Liar> {
+    match name {
+        "mute" => Some(Liar::Mute),
+        "two-faced" => Some(Liar::TwoFaced),
+        "bad-reply" => Some(Liar::BadReply),
+        _ => None,
+    }
+}

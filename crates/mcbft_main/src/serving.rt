@@ -1,0 +1,40 @@
+//! What the program does, from its options to its end.
+
+use crate::faults::MainFault;
+use crate::options::Options;
+use deployment::run;
+use ids::{Config, Fault};
+use key_file::PairKeys;
+use log::Log;
+use std::fs;
+use std::io::ErrorKind;
+use std::net::{Net, TcpListener, TcpStream};
+use std::rt::Files;
+use std::sync::Wait;
+use std::thread::Threads;
+use std::time::Clock;
+
+/// Serves as the options ask, and answers how many connections were served.
+pub(crate) fn serve<R>(rt: &R, options: &Options<'_>) -> Result<u64, MainFault>
+where
+    R: Threads + Wait + Clock + Sync + Send + Clone + Drop + AllocGlobal + Log + Files + Print,
+    R: Net<Listener = TcpListener, Stream = TcpStream>,
+{
+    let config = Config::new(options.faults, options.clients)?;
+    let text = match fs::read(rt, options.keys) {
+        Ok(text) => text,
+        Err(error) if error.kind() == ErrorKind::OutOfMemory => {
+            return Err(MainFault::Fault(Fault::Memory));
+        }
+        Err(_) => return Err(MainFault::CannotReadKeys),
+    };
+    let keys = PairKeys::read(rt.alloc(), config, &text)?;
+    let Ok(listener) = TcpListener::bind(rt, ("127.0.0.1", options.port)) else {
+        return Err(MainFault::CannotListen);
+    };
+    let Ok(at) = listener.local_addr() else {
+        return Err(MainFault::CannotListen);
+    };
+    let _ = println!(rt; "listening on {at}");
+    Ok(run(rt, &keys, options.liar, &listener, options.most)?)
+}

@@ -1,0 +1,95 @@
+//! A deployment and its clients in one process: with no liar, and with each. What each client reads is printed.
+#![tactic(auto)]
+
+use anyhow::{Result, bail};
+use deployment::run;
+use ids::Config;
+use key_file::PairKeys;
+use liars::Liar;
+use std::alloc::Global;
+use std::io::{Read, Write};
+use std::net::{Net, SocketAddr, TcpListener, TcpStream};
+use std::thread::join;
+
+/// How many connections each deployment serves.
+const CONNECTIONS: u64 = 4;
+
+/// Sends these words, and gives what comes back, as long as a piece.
+fn ask(alloc: Global, stream: &TcpStream, words: &str) -> Result<String> {
+    (&mut &*stream).write_all(words.as_bytes())?;
+    let mut piece = [0; 256];
+    let count = (&mut &*stream).read(&mut piece)?;
+    Ok(String::from_utf8_lossy(alloc, &piece[..count])?)
+}
+
+/// What the clients of a deployment read, one connection after the other.
+fn clients<R: Net<Stream = TcpStream> + AllocGlobal>(
+    rt: &R,
+    at: SocketAddr,
+) -> Result<Vec<String>> {
+    let asked = [
+        "set a 0 0 1\r\nx\r\n",
+        "get a\r\n",
+        "set b 0 0 1 noreply\r\ny\r\nget b\r\nquit\r\n",
+        "get c\r\n",
+    ];
+    let mut read = Vec::new(rt.alloc());
+    for words in asked {
+        let stream = TcpStream::connect(rt, at)?;
+        read.push(ask(rt.alloc(), &stream, words)?)?;
+    }
+    Ok(read)
+}
+
+/// Appends the line of two parties, whose key is of their numbers.
+fn write_line(alloc: Global, text: &mut String, one: u16, other: u16) -> Result<()> {
+    let [a, b] = one.to_be_bytes();
+    let [c, d] = other.to_be_bytes();
+    let mut key = [7; 32];
+    key[..4].copy_from_slice(&[a, b, c, d]);
+    let digits = hex::encode(alloc, key.as_slice())?;
+    writeln!(text, "{one} {other} {digits}")?;
+    Ok(())
+}
+
+/// A key file for four replicas and two clients, which anyone can compute.
+fn keys(alloc: Global) -> Result<String> {
+    let mut text = String::new(alloc);
+    for one in 0..4u16 {
+        for other in one..4 {
+            write_line(alloc, &mut text, one, other)?;
+        }
+        for client in 0..2u16 {
+            write_line(alloc, &mut text, one, 256 + client)?;
+        }
+    }
+    Ok(text)
+}
+
+fn main(rt: HostRuntime) -> Result<()> {
+    let text = keys(rt.alloc())?;
+    let keys = PairKeys::read(rt.alloc(), Config::new(1, 2)?, text.as_bytes())?;
+    for liar in [
+        None,
+        Some(Liar::Mute),
+        Some(Liar::TwoFaced),
+        Some(Liar::BadReply),
+    ] {
+        println!(rt; "{liar:?}")?;
+        let listener = TcpListener::bind(&rt, "127.0.0.1:0")?;
+        let at = listener.local_addr()?;
+        let (served, read) = join(
+            &rt,
+            || run(&rt, &keys, liar, &listener, CONNECTIONS),
+            || clients(&rt, at),
+        );
+        for text in &read? {
+            println!(rt; "{:?}", text.as_str())?;
+        }
+        match served {
+            Ok(served) => println!(rt; "served {served}")?,
+            Err(fault) => bail!("fault {}", fault.number()),
+        }
+    }
+    Ok(())
+}

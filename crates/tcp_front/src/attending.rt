@@ -1,0 +1,57 @@
+//! One connection, from its first byte to its last.
+
+use crate::seats::{Seat, Seats, Taken};
+use connection::{Counted, serve};
+use log::{Log, warn};
+use std::io::{Read, Write};
+use std::net::{Shutdown, TcpStream};
+use std::sync::Wait;
+use std::time::Duration;
+
+/// For how many milliseconds at once, and how often, a closed connection is listened to.
+const LINGER_MILLIS: u64 = 20;
+
+const LINGER_TIMES: u32 = 10;
+
+/// Serves a connection with a seat. Afterwards the seat is free again, unless it is lost.
+pub(crate) fn attend<R: Wait + AllocGlobal + Log, S: Seat + Drop>(
+    rt: &R,
+    stream: TcpStream,
+    seats: &Seats<S>,
+    mut taken: Taken<S>,
+) {
+    let mut reader = Counted::new(&stream);
+    let mut writer = Counted::new(&stream);
+    let _end = serve(rt.alloc(), &mut reader, &mut writer, &mut taken.seat);
+    if taken.seat.is_lost() {
+        let number = taken.number;
+        warn!(rt; "client {number} is out of use: its last request has no receipt");
+    } else {
+        seats.give_back(rt, taken);
+    }
+    close(&stream);
+}
+
+/// Tells a connection for which there is no seat.
+pub(crate) fn refuse(stream: TcpStream) {
+    let _ = (&stream).write_all(b"SERVER_ERROR too many connections\r\n");
+    close(&stream);
+}
+
+/// Closes a connection. What it still brings is read for a moment: the system takes back what was written if
+/// something unread is there when a socket goes.
+fn close(stream: &TcpStream) {
+    let _ = stream.shutdown(Shutdown::Write);
+    if stream
+        .set_read_timeout(Some(Duration::from_millis(LINGER_MILLIS)))
+        .is_err()
+    {
+        return;
+    }
+    let mut piece = [0; 1024];
+    for _ in 0..LINGER_TIMES {
+        if let Ok(0) | Err(_) = (&mut &*stream).read(&mut piece) {
+            return;
+        }
+    }
+}

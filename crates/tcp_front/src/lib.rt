@@ -1,0 +1,9 @@
+//! The front of a server: it accepts TCP connections and serves each in a thread of its own, with a seat of its own.
+#![tactic(auto)]
+
+mod accepting;
+mod attending;
+mod seats;
+
+pub use accepting::front;
+pub use seats::{Seat, Seats};
