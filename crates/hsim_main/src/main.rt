@@ -13,12 +13,35 @@ use std::process::ExitCode;
 use std::rt::Files;
 use std::{env, fs, io};
 
+/// The lines of a schedule, and an example.
+const SCHEDULES: &str = "\
+A schedule, each line ended by LF, one space between fields:
+  world F C [PARTY..]   the first line: F faulty replicas are tolerated, C clients; who is faulty
+  submit cN HEX         client N is handed a request, as memcached's text in hexadecimal digits
+  relay K PARTY         frame K of those sent so far, from 0, comes to a party
+  inject PARTY HEX      bytes come to a party
+  timeout rN            replica N goes on to its next view
+  beat rN               replica N is told to propose, if it leads its view
+A party is r or c and its number: r0 is the first leader of the 3F + 1 replicas.
+
+An example: client 0 asks for a get, replica 0 proposes it, and replica 1 votes.
+  world 1 1
+  submit c0 67657420610d0a
+  relay 0 r0
+  beat r0
+  relay 0 r1
+  relay 1 r1";
+
 /// What the words of a command line say.
 fn matches_of(alloc: Global, words: &[String]) -> Result<ArgMatches<'_>, Error> {
     let file = Arg::new(alloc, "FILE").help("The schedule; standard input where it is left out");
     let command = Command::new(alloc, "hsim")
         .bin_name("hsim")?
-        .about("Runs a schedule of frames, and prints what happened")
+        .about(
+            "Runs a schedule of events in a world of replicas and clients, and prints what happened",
+        )
+        .version("0.1.0")
+        .after_help(SCHEDULES)
         .arg(file)?;
     command.try_get_matches_from(words)
 }

@@ -1,22 +1,24 @@
 -- Lines of printable characters, and where they end.
-use Rattle.std.proofs.Common.{◌≡◌, ℕ, ◌+◌, ◌-◌, ◌%◌, ◌^◌, ◌<◌, Bool, true, false, [], ◌∷◌, ◌++◌, length, get_or, take, drop, Some, None, arith, sym, refl, ◌∙◌, ap, codes, decimal, nat_lt, cond, lit≤, lit<, lt-ltb, position, rules, add-one, append_assoc}
-use Rattle.std.specs.List.{position_or_len}
+use Rattle.std.proofs.Common.{◌≡◌, ℕ, suc, List, ◌+◌, ◌-◌, ◌/◌, ◌%◌, slice_index, ◌^◌, ◌<◌, Bool, true, false, [], ◌∷◌, ◌++◌, length, get_or, take, drop, Some, None, arith, sym, refl, ◌∙◌, ap, codes, decimal, nat_lt, cond, lit≤, lit<, lt-ltb, position, rules, add-one, append_assoc}
+use Rattle.std.specs.List.{All, position_or_len}
 use Rattle.std.specs.Str.{IsUtf8}
 use Rattle.std.proofs.Math.Seq.{take-append_seam, drop-append-add, split_at, get_or-append_seam}
 use Rattle.std.proofs.Math.ListN.{get_or-append, get_or-eq_default}
 use Rattle.std.proofs.lemmas.List.{length-append, length-drop, take_all}
-use Rattle.std.proofs.lemmas.List.Elements.{All-append, All-cons, All-nil, All-push, All-get_or, All-from_recursion}
+use Rattle.std.proofs.lemmas.List.Elements.{All-append, All-cons, All-nil, All-head, All-tail, All-push, All-get_or, All-from_recursion}
 use Rattle.std.proofs.lemmas.List.Quantifiers.{position-Some}
 use Rattle.std.proofs.lemmas.List.Sums.{position_or_len_is}
 use Rattle.std.proofs.lemmas.Fmt.{decimal_by_steps}
 use Rattle.std.proofs.lemmas.Str.{IsUtf8-from_ascii}
 use Rattle.std.proofs.lemmas.Bool.{eqb-true, ltb-true, ltb-false, ne_eqb}
+use Rattle.hex.specs.Hex.{encode_lower, encode_with, lower_digits, IsBytes}
 use Rattle.definitions.specs.Bytes.{Bytes}
-use Rattle.server.specs.Texts.{replica_text, client_text, party_text}
-use Rattle.server.specs.Lines.{spaced, AreNumbers, sizes_text, delivery_text, IsEvent, event_text}
+use Rattle.server.specs.Texts.{IsBelow, spaced, replica_text, client_text, party_text}
+use Rattle.server.specs.Lines.{IsHeading, heading_text, parties_text, submission_text, injection_text, delivery_text, IsEvent, event_text}
 use Rattle.server.specs.Schedules.{BeginsWith, IsPrintable, IsPlain, is_lf}
-use Rattle.server.specs.declared.schedule.Event.{Event}
-use Rattle.server.specs.declared.schedule.Event.TheVariants.{Relay, Timeout, Beat}
+use Rattle.world_schedule.specs.declared.event.Event.{Event}
+use Rattle.server.specs.declared.lines.Heading.{Heading}
+use Rattle.world_schedule.specs.declared.event.Event.TheVariants.{Submit, Relay, Inject, Timeout, Beat}
 
 -- ---- what schedules are written with is printable
 
@@ -31,19 +33,47 @@ plain_spaced first second one two = All-append IsPrintable first (32 ∷ second)
 plain_replica : (r : ℕ) → r < 256 → IsPlain (replica_text r)
 plain_replica r small = All-cons IsPrintable 114 (decimal r) (lit≤ tt, lit< tt) (plain_decimal r (omega arith))
 
+plain_client : (c : ℕ) → c < 256 → IsPlain (client_text c)
+plain_client c small = All-cons IsPrintable 99 (decimal c) (lit≤ tt, lit< tt) (plain_decimal c (omega arith))
+
 plain_party : (p : ℕ) → p < 512 → (b : Bool) → nat_lt p 256 ≡ b → IsPlain (cond b (replica_text p) (client_text (p - 256)))
 plain_party p small true low = All-cons IsPrintable 114 (decimal p) (lit≤ tt, lit< tt) (plain_decimal p (omega arith))
 plain_party p small false high = All-cons IsPrintable 99 (decimal (p - 256)) (lit≤ tt, lit< tt) (plain_decimal (p - 256) (omega arith))
 
-pub plain_sizes : (n : ℕ × ℕ) → AreNumbers n → IsPlain (sizes_text n)
-plain_sizes n fits =
-    All-append IsPrintable (codes "world ") (spaced (decimal n.0) (decimal n.1)) (All-from_recursion IsPrintable (codes "world ") (search rules))
-    (plain_spaced (decimal n.0) (decimal n.1) (plain_decimal n.0 fits.0) (plain_decimal n.1 fits.1))
+plain_parties : (ps : List ℕ) → All (IsBelow 512) ps → IsPlain (parties_text ps)
+plain_parties [] fits = All-nil IsPrintable
+plain_parties (p ∷ ps) fits =
+    All-cons IsPrintable 32 (party_text p ++ parties_text ps) (lit≤ tt, lit< tt)
+    (All-append IsPrintable (party_text p) (parties_text ps) (plain_party p (All-head (IsBelow 512) p ps fits) (nat_lt p 256) refl)
+    (plain_parties ps (All-tail (IsBelow 512) p ps fits)))
+
+pub plain_heading : (h : Heading) → IsHeading h → IsPlain (heading_text h)
+plain_heading h fits =
+    All-append IsPrintable (codes "world ") (spaced (decimal h.faults) (decimal h.clients ++ parties_text h.faulty.items)) (All-from_recursion IsPrintable (codes "world ") (search rules))
+    (plain_spaced (decimal h.faults) (decimal h.clients ++ parties_text h.faulty.items) (plain_decimal h.faults fits.0)
+    (All-append IsPrintable (decimal h.clients) (parties_text h.faulty.items) (plain_decimal h.clients fits.1) (plain_parties h.faulty.items fits.2.0)))
+
+plain_digit : (d : ℕ) → d < 16 → IsPrintable (slice_index lower_digits d)
+plain_digit d small = All-get_or IsPrintable lower_digits d 0 small (All-from_recursion IsPrintable lower_digits (search rules))
+
+plain_digits : (bytes : Bytes) → IsBytes bytes → IsPlain (encode_lower bytes)
+unfolding encode_with
+plain_digits [] fits = All-nil IsPrintable
+plain_digits (b ∷ bytes) fits =
+    let small : b < 256 = fits 0 in
+    All-cons IsPrintable (slice_index lower_digits (b / 16)) (slice_index lower_digits (b % 16) ∷ encode_lower bytes) (plain_digit (b / 16) (omega (arith, small)))
+    (All-cons IsPrintable (slice_index lower_digits (b % 16)) (encode_lower bytes) (plain_digit (b % 16) (omega (arith, small))) (plain_digits bytes (λ i. fits (suc i))))
 
 pub plain_event : (e : Event) → IsEvent e → IsPlain (event_text e)
+plain_event (Submit client payload) fits =
+    All-append IsPrintable (codes "submit ") (submission_text (client, payload)) (All-from_recursion IsPrintable (codes "submit ") (search rules))
+    (plain_spaced (client_text client) (encode_lower payload.items) (plain_client client fits.0) (plain_digits payload.items fits.1))
 plain_event (Relay frame to) fits =
     All-append IsPrintable (codes "relay ") (delivery_text (frame, to)) (All-from_recursion IsPrintable (codes "relay ") (search rules))
     (plain_spaced (decimal frame) (party_text to) (plain_decimal frame fits.0) (plain_party to fits.1 (nat_lt to 256) refl))
+plain_event (Inject to bytes) fits =
+    All-append IsPrintable (codes "inject ") (injection_text (to, bytes)) (All-from_recursion IsPrintable (codes "inject ") (search rules))
+    (plain_spaced (party_text to) (encode_lower bytes.items) (plain_party to fits.0 (nat_lt to 256) refl) (plain_digits bytes.items fits.1))
 plain_event (Timeout replica) fits =
     All-append IsPrintable (codes "timeout ") (replica_text replica) (All-from_recursion IsPrintable (codes "timeout ") (search rules)) (plain_replica replica fits)
 plain_event (Beat replica) fits =

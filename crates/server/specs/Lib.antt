@@ -1,5 +1,6 @@
 pub mod Faults
 pub mod Lines
 pub mod Schedules
+pub mod Simulations
 pub mod Texts
-pub mod Worlds
+pub mod Reports

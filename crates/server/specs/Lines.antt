@@ -1,23 +1,59 @@
 -- The lines of a schedule, without the LF that ends them.
-use Rattle.std.specs.Prelude.{ℕ, ◌^◌, ◌<◌, ◌++◌, codes, decimal}
+use Rattle.std.specs.Prelude.{◌≡◌, ◌≢◌, ◌^◌, ◌<◌, ◌++◌, ℕ, List, codes, decimal, length, nat_eq, Vec, Option, Some, None}
+use Rattle.std.specs.Global.{Global}
+use Rattle.std.specs.List.{All, IsDistinct, flat_map}
+use Rattle.hex.specs.Hex.{encode_lower, IsBytes}
 use Rattle.definitions.specs.Bytes.{Bytes}
-use Rattle.server.specs.Texts.{replica_text, party_text}
-use Rattle.server.specs.declared.schedule.Event.{Event}
-use Rattle.server.specs.declared.schedule.Event.TheVariants.{Relay, Timeout, Beat}
+use Rattle.server.specs.Texts.{IsBelow, replica_text, client_text, party_text, spaced, behind_word}
+use Rattle.world_schedule.specs.declared.event.Event.{Event}
+use Rattle.world_schedule.specs.declared.event.Event.TheVariants.{Submit, Relay, Inject, Timeout, Beat}
+use Rattle.server.specs.declared.lines.Heading.{Heading}
 
--- two fields
-abbrev pub spaced : Bytes → Bytes → Bytes
-spaced first second = first ++ (codes " " ++ second)
+-- parties, each once, and each behind a space
+abbrev pub AreParties : List ℕ → Type 0
+AreParties parties = All (IsBelow 512) parties × IsDistinct nat_eq parties
 
--- the first line: how many faulty replicas are tolerated, and how many clients there are
-abbrev pub AreNumbers : ℕ × ℕ → Type 0
-AreNumbers n = (n.0 < 2 ^ 64) × (n.1 < 2 ^ 64)
+abbrev pub parties_text : List ℕ → Bytes
+parties_text parties = flat_map (λ party. codes " " ++ party_text party) parties
 
-abbrev pub numbers_text : ℕ × ℕ → Bytes
-numbers_text n = spaced (decimal n.0) (decimal n.1)
+-- the first line: how many faulty replicas are tolerated, how many clients there are, and the faulty parties
+abbrev pub IsHeading : Heading → Type 0
+IsHeading h = (h.faults < 2 ^ 64) × (h.clients < 2 ^ 64) × AreParties h.faulty.items
 
-abbrev pub sizes_text : ℕ × ℕ → Bytes
-sizes_text n = codes "world " ++ numbers_text n
+abbrev pub heading_text : Heading → Bytes
+heading_text h = codes "world " ++ spaced (decimal h.faults) (decimal h.clients ++ parties_text h.faulty.items)
+
+-- what is read of the first line in front of the parties: both sizes, and the rest of the line
+abbrev pub AreSizesOf : Bytes → Option (ℕ × ℕ × Option Bytes) → Type 0
+AreSizesOf words None = (h : Heading) → IsHeading h → heading_text h ≢ words
+AreSizesOf words (Some s) = (s.0 < 2 ^ 64) × (s.1 < 2 ^ 64) × (words ≡ codes "world " ++ spaced (decimal s.0) (decimal s.1 ++ behind_word s.2))
+
+-- a client or a party, and digits behind it
+abbrev pub AreDigitsOfClient : ℕ × Bytes → Type 0
+AreDigitsOfClient d = (d.0 < 256) × (0 < length d.1)
+
+abbrev pub digits_of_client : ℕ × Bytes → Bytes
+digits_of_client d = spaced (client_text d.0) d.1
+
+abbrev pub AreDigitsOfParty : ℕ × Bytes → Type 0
+AreDigitsOfParty d = d.0 < 512
+
+abbrev pub digits_of_party : ℕ × Bytes → Bytes
+digits_of_party d = spaced (party_text d.0) d.1
+
+-- a client, and the payload that it submits
+abbrev pub IsSubmission : ℕ × Vec ℕ Global → Type 0
+IsSubmission s = (s.0 < 256) × IsBytes s.1.items × (0 < length s.1.items)
+
+abbrev pub submission_text : ℕ × Vec ℕ Global → Bytes
+submission_text s = spaced (client_text s.0) (encode_lower s.1.items)
+
+-- a party, and the bytes that are brought to it
+abbrev pub IsInjection : ℕ × Vec ℕ Global → Type 0
+IsInjection i = (i.0 < 512) × IsBytes i.1.items
+
+abbrev pub injection_text : ℕ × Vec ℕ Global → Bytes
+injection_text i = spaced (party_text i.0) (encode_lower i.1.items)
 
 -- a frame, and the party that it is brought to
 abbrev pub IsDelivery : ℕ × ℕ → Type 0
@@ -28,17 +64,31 @@ delivery_text d = spaced (decimal d.0) (party_text d.1)
 
 -- a timeout or a beat
 abbrev pub IsTimer : Event → Type 0
+IsTimer (Submit client payload) = ⊥
 IsTimer (Relay frame to) = ⊥
+IsTimer (Inject to bytes) = ⊥
 IsTimer (Timeout replica) = replica < 256
 IsTimer (Beat replica) = replica < 256
 
+-- an event whose line has no bytes
+abbrev pub IsBare : Event → Type 0
+IsBare (Submit client payload) = ⊥
+IsBare (Relay frame to) = IsDelivery (frame, to)
+IsBare (Inject to bytes) = ⊥
+IsBare (Timeout replica) = replica < 256
+IsBare (Beat replica) = replica < 256
+
 -- another line: an event
 abbrev pub IsEvent : Event → Type 0
+IsEvent (Submit client payload) = IsSubmission (client, payload)
 IsEvent (Relay frame to) = IsDelivery (frame, to)
+IsEvent (Inject to bytes) = IsInjection (to, bytes)
 IsEvent (Timeout replica) = replica < 256
 IsEvent (Beat replica) = replica < 256
 
 abbrev pub event_text : Event → Bytes
+event_text (Submit client payload) = codes "submit " ++ submission_text (client, payload)
 event_text (Relay frame to) = codes "relay " ++ delivery_text (frame, to)
+event_text (Inject to bytes) = codes "inject " ++ injection_text (to, bytes)
 event_text (Timeout replica) = codes "timeout " ++ replica_text replica
 event_text (Beat replica) = codes "beat " ++ replica_text replica

@@ -1,12 +1,12 @@
 //! The simulator: it reads a schedule, brings frames about as the schedule says, and tells what happened.
 #![tactic(auto)]
 
-mod node;
+mod lines;
 mod report;
 mod schedule;
 mod sim_fault;
 mod simulation;
-mod world;
+mod words;
 
 pub use sim_fault::SimFault;
 pub use simulation::{read_fault, simulate};

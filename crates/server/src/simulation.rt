@@ -1,38 +1,44 @@
 ghost use Rattle.std.specs.Prelude.{◌≡◌, ◌≢◌, IfSome, IfOk, IfErr, OnOk};
 ghost use Rattle.std.specs.IoError.{error_kind};
-ghost use Rattle.server.specs.Faults.{IsOfASchedule, IsRightIn, read_fault_of};
+ghost use Rattle.server.specs.Faults.{IsRightIn, read_fault_of};
+ghost use Rattle.server.specs.Simulations.{all_keys, IsTextOfRun, IsToldOf};
 
-use crate::report::{tell_answer, tell_frames, tell_histories};
+use crate::report::text_of;
 use crate::schedule::{Schedule, parse};
 use crate::sim_fault::SimFault;
-use crate::world::World;
-use ids::Fault;
+use authenticators::Keyring;
+use ids::{ClientId, Config, Fault, ReplicaId};
+use simulated_keys::keyring_of;
 use std::alloc::Global;
 use std::io::{self, ErrorKind, Read, Write};
+use world_schedule::{World, run};
 
 /// Reads a schedule to the reader's end, runs it, and writes what happened.
 ///
-/// For event E, counted from 1, that is the line `eE ok`, or `eE fault N` where the party refused it, and then for
-/// each frame that was sent in it a line `fK KIND LEN to DEST`: its number in the record of sent frames, its kind,
-/// its bytes, and `all` or a party. At the end stands a line `hN LENGTH` for each replica: its history's length.
+/// For event E, counted from 1, that is the line `eE ok`, or `eE fault N` where the party refused it; then for each
+/// frame that was sent in it a line `fK KIND LEN to DEST`: its number in the record of sent frames, its kind, its
+/// bytes, and `all` or a party; then, where a client accepted a reply, `accepted cN seq S place P HEX`. At the end
+/// stands a line `hN LENGTH` for each correct replica: its history's length.
 ///
-/// `Err` names the first line that isn't one of a schedule; else the first event that names a party that isn't there
-/// or, then, a frame that wasn't sent; sizes out of their limits; or what failed of memory, reader and writer.
+/// `Err` names the first line that isn't one of a schedule. Else it comes of sizes out of their limits, a faulty
+/// party that isn't there, or more faulty replicas than are tolerated; of the first event that names a party that
+/// isn't there, then a frame that wasn't sent, then a payload that is no request; or of what failed of memory, reader
+/// and writer.
 pub fn simulate<R: Read, W: Write>(
     alloc: Global,
     reader: &mut R,
     writer: &mut W,
 ) -> Result<(), SimFault>
-    // Only schedules are run.
-    ensures ok { OnOk result (IfSome (R.remaining reader.old) IsOfASchedule) }
+    // What is written is the text of an outcome of the schedule that was read.
+    ensures ok { OnOk result (IfSome (R.remaining reader.old) (IsToldOf (W.contents writer.old) (W.contents writer.new))) }
     // A line is named where it is the first bad one.
     ensures line { IfErr result (λ fault. IfSome (R.remaining reader.old) (λ text. IsRightIn text fault)) }
     // Nothing is written but by a whole run.
     ensures unwritten { IfErr result (λ fault. fault ≢ SimFault.Fault Fault.WriteFailed → writer.new ≡ writer.old) }
 {
     let schedule = parse(alloc, &read_all(alloc, reader)?)?;
-    let text = run(alloc, &schedule)?;
-    let written = writer.write_all(text.as_bytes());
+    let text = tell_run(alloc, schedule)?;
+    let written = writer.write_all(&text);
     written.map_err(|_error| SimFault::Fault(Fault::WriteFailed))
 }
 
@@ -58,15 +64,26 @@ pub fn read_fault(error: &io::Error) -> Fault
 }
 
 /// What is told of the run of a schedule.
-fn run(alloc: Global, schedule: &Schedule) -> Result<String, Fault> {
-    let mut world = World::new(alloc, schedule.config()?)?;
-    let mut text = String::new(alloc);
-    for (before, event) in schedule.events.iter().enumerate() {
-        let first = world.sent().len();
-        let answer = world.happen(*event)?;
-        tell_answer(&mut text, before + 1, answer)?;
-        tell_frames(&mut text, world.config(), world.sent(), first)?;
+fn tell_run(alloc: Global, schedule: Schedule) -> Result<Vec<u8>, Fault>
+    ensures { IfOk result (λ text. IsTextOfRun schedule text.items) }
+{
+    let config = schedule.heading.config()?;
+    let keyrings = keyrings_of(alloc, config)?;
+    let world = World::new(alloc, config, schedule.heading.faulty, keyrings)?;
+    let outcome = run(&world, schedule.events.as_slice())?;
+    text_of(alloc, &outcome)
+}
+
+/// The keyrings of all parties, replicas first.
+fn keyrings_of(alloc: Global, config: Config) -> Result<Vec<Keyring>, Fault>
+    ensures { IfOk result (λ keyrings. keyrings.items ≡ all_keys config) }
+{
+    let mut keyrings = Vec::new(alloc);
+    for replica in 0..config.n() {
+        keyrings.push(keyring_of(alloc, config, ReplicaId(replica).into())?)?;
     }
-    tell_histories(&mut text, world.nodes())?;
-    Ok(text)
+    for client in 0..config.clients() {
+        keyrings.push(keyring_of(alloc, config, ClientId(client).into())?)?;
+    }
+    Ok(keyrings)
 }

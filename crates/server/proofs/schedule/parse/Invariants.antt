@@ -1,15 +1,15 @@
 -- The lines so far are the sizes and the events so far.
 use Rattle.std.proofs.Common.{◌≡◌, ◌++◌, length}
 use Rattle.std.specs.List.{All}
-use Rattle.server.specs.Lines.{AreNumbers, IsEvent}
+use Rattle.server.specs.Lines.{IsHeading, IsEvent}
 use Rattle.server.specs.Schedules.{lines}
 use Rattle.server.proofs.schedule.parse.Given as goal
 
 abbrev pub invariant-loop-rest : goal.invariant-loop-rest
 invariant-loop-rest l = record {
-  sizes : AreNumbers (l.faults, l.clients);
+  heading : IsHeading l.heading;
   events : All IsEvent l.events.items;
-  begins : l.text ≡ lines (l.faults, l.clients) l.events.items ++ l.rest;
+  begins : l.text ≡ lines l.heading l.events.items ++ l.rest;
 }
 
 abbrev pub decreases-loop-rest : goal.decreases-loop-rest

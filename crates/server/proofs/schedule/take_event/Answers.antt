@@ -1,14 +1,19 @@
-use Rattle.server.specs.Lines.{event_text}
+use Rattle.std.proofs.Common.{◌∙◌, ap, Err}
+use Rattle.std.proofs.lemmas.Result.{err_from_is_err_and}
+use Rattle.server.specs.Lines.{IsEvent, event_text}
 use Rattle.server.proofs.Cuts.{plain_event}
+use Rattle.server.proofs.Readings.{refused}
 use Rattle.server.proofs.schedule.take_event.Goals as goal
 
-pub returns-in_err-words-clause-none : goal.returns-in_err-words-clause-none
-returns-in_err-words-clause-none c = λ none long. (long, λ e rest fits begins. c.in_err-words.ensures.first (event_text e) rest (plain_event e fits) begins)
+pub returns-in_default-clause-bad : goal.returns-in_default-clause-bad
+returns-in_default-clause-bad c = λ bad long. (long, λ h rest fits begins. c.in_default.ensures.first (event_text h) rest (plain_event h fits) begins)
 
-pub returns-in_err-event_of-clause-none : goal.returns-in_err-event_of-clause-none
-returns-in_err-event_of-clause-none c = λ none long. (
-  long,
-  λ e rest fits begins.
-      let same = c.in_ok-words.ensures.first (event_text e) rest (plain_event e fits) begins in
-      c.in_err-event_of.ensures e fits same.0,
-)
+pub returns-in_err-event_of-clause-bad : goal.returns-in_err-event_of-clause-bad
+returns-in_err-event_of-clause-bad c =
+    let p = err_from_is_err_and c.from_residual.result c.from_residual.ensures.1 in
+    λ bad long. (
+      long,
+      λ h rest fits begins.
+          let same = c.in-Some.ensures.first (event_text h) rest (plain_event h fits) begins in
+          refused event_text IsEvent c.in-Some.line.0.now c.from_residual.result c.in_err-event_of.field-0.0 (p.1 ∙ ap Err p.2) bad c.in_err-event_of.ensures h fits same.0,
+    )

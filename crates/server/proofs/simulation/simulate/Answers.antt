@@ -1,20 +1,18 @@
-use Rattle.std.proofs.Common.{◌≡◌, Option, Some, None, IfSome, Result, Ok, Err, OnOk}
-use Rattle.definitions.specs.Bytes.{Bytes}
-use Rattle.server.specs.Schedules.{IsTextOf}
-use Rattle.server.specs.Faults.{IsOfASchedule}
-use Rattle.server.specs.declared.schedule.Schedule.{Schedule}
+use Rattle.std.proofs.lemmas.Result.{err_from_is_err_and}
+use Rattle.server.proofs.Told.{right_in, told_of, on_ok}
 use Rattle.server.proofs.simulation.simulate.Goals as goal
 
-on_ok : {T E : Type 0} (r : Result T E) {P : Type 0} → P → OnOk r P
-on_ok (Ok _) p = p
-on_ok (Err _) p = tt
-
-of_a_schedule : (known : Option Bytes) (text : Bytes) (s : Schedule) → IfSome known (λ xs. text ≡ xs) → IsTextOf s text → IfSome known IsOfASchedule
-of_a_schedule (Some xs) text s read is = (s, rw (← read) is)
-of_a_schedule None text s read is = tt
+pub returns-in_err-schedule-clause-line : goal.returns-in_err-schedule-clause-line
+returns-in_err-schedule-clause-line g c =
+    let p = err_from_is_err_and c.from_residual-in_err-schedule.result c.from_residual-in_err-schedule.ensures.1 in
+    rw (p.1, p.2)
+    (right_in (g.R.Read.remaining c.args.reader.now) c.in_ok-read_all.field-0.items c.in_err-schedule.field-0.0 c.in_ok-read_all.ensures
+    (rw (← c.deref.ensures.value) c.in_err-schedule.ensures.bad))
 
 pub returns-clause-ok : goal.returns-clause-ok
 returns-clause-ok g c =
-    on_ok c.map_err.result
-    (of_a_schedule (g.R.Read.remaining c.args.reader.now) c.in_ok-read_all.field-0.items c.in_ok-schedule.schedule c.in_ok-read_all.ensures
-    (rw (← c.deref.ensures.value) c.in_ok-schedule.ensures.ok))
+    on_ok c.write_all-written.result c.map_err.result c.map_err.ensures.variant c.write_all-written.ensures.bytes
+    (λ written.
+    told_of (g.R.Read.remaining c.args.reader.now) (g.W.Write.contents c.args.writer.now) (g.W.Write.contents c.write_all-written.new.self)
+    c.in_ok-read_all.field-0.items c.in_ok-text.text.items c.in_ok-schedule.schedule c.in_ok-read_all.ensures
+    (rw (← c.deref.ensures.value) c.in_ok-schedule.ensures.ok) c.in_ok-text.ensures (rw c.deref-2.ensures.value at written))

@@ -1,0 +1,5 @@
+pub mod Asking
+pub mod Clients
+pub mod Seated
+pub mod Runs
+pub mod Telling

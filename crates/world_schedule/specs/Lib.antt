@@ -1,0 +1,10 @@
+pub mod Told
+pub mod Settings
+pub mod Schedules
+pub mod Outcomes
+pub mod Running
+pub mod Turns
+pub mod Hearing
+pub mod Asking
+pub mod Seats
+pub mod Progress

@@ -1,0 +1,85 @@
+-- What events bring to one party.
+use Rattle.ids.specs.declared.fault.Fault.TheVariants as fault
+use Rattle.std.specs.Prelude.{ℕ, ◌≡◌, [], map, Option, Some, None}
+use Rattle.std.specs.Option.{option_to_list}
+use Rattle.definitions.specs.Bytes.{Bytes}
+use Rattle.definitions.specs.Frames.{Frame}
+use Rattle.definitions.specs.FrameLimits.{IsReadAs}
+use Rattle.definitions.specs.Keyrings.{client_at}
+use Rattle.definitions.specs.Checks.{Identity}
+use Rattle.definitions.specs.Rulings.{Input}
+use Rattle.definitions.specs.Replicas.{Memory, Replica, Reaction, fails, step}
+use Rattle.definitions.specs.Admission.{Checked, passes, rejected, check}
+use Rattle.definitions.specs.Sessions.{Client, Session, Heard, not_counted, submission, on_reply}
+use Rattle.definitions.specs.Events as events
+use Rattle.definitions.specs.Events.{out_of, answer_of, submitted_out, submitted_answer, accepted_of, heard_answer}
+use Rattle.signed_frames.specs.Clients.{client_of}
+use Rattle.replica.specs.Steps.{shown}
+use Rattle.replica.specs.Outs.{sent_of}
+use Rattle.client_accept.specs.Sessions.{Held}
+use Rattle.world_schedule.specs.declared.effect.Effect.{Effect}
+
+-- the effect tells what goes out, what is accepted and what is answered
+pub record Tells (f : events.Effect) (client : ℕ) (e : Effect) : Type 0 where
+  pub out : map sent_of e.out.items ≡ shown f.out
+  pub accepted : option_to_list e.accepted ≡ map (λ r. (client, r)) f.accepted
+  pub answer : e.answer ≡ f.answer
+
+-- ---- a replica
+
+-- what a replica makes of a frame that was checked
+abbrev pub admits : Identity → Memory → Checked → Replica → Replica × Reaction
+admits self m (passes i) r = step self m i r
+admits self m (rejected n) r = (r, fails n)
+
+-- what it makes of bytes that are read so
+abbrev pub takes : Identity → Memory → Option Frame → Replica → Replica × Reaction
+takes self m None r = (r, fails fault.NotAFrame)
+takes self m (Some f) r = admits self m (check self f) r
+
+-- the effect tells of a reaction
+pub record TellsReaction (self : Identity) (m : Memory) (x : Reaction) (e : Effect) : Type 0 where
+  pub out : map sent_of e.out.items ≡ shown (out_of self m x)
+  pub accepted : e.accepted ≡ None
+  pub answer : e.answer ≡ answer_of x
+
+-- bytes came to a replica
+pub record Takes (self : Identity) (bytes : Bytes) (old new : Replica) (e : Effect) : Type 0 where
+  pub read : Option Frame
+  pub is_read : IsReadAs self.sizes bytes read
+  pub memory : Memory
+  pub state : new ≡ (takes self memory read old).0
+  pub tells : TellsReaction self memory (takes self memory read old).1 e
+
+-- its time is out, or its beat comes
+pub record Ticks (self : Identity) (input : Input) (old new : Replica) (e : Effect) : Type 0 where
+  pub memory : Memory
+  pub state : new ≡ (step self memory input old).0
+  pub tells : TellsReaction self memory (step self memory input old).1 e
+
+-- ---- a client
+
+-- what a client makes of bytes that are read so
+abbrev pub hears : Client → Memory → Option Frame → Session → Session × Heard
+hears me m None s = (s, not_counted fault.NotAFrame)
+hears me m (Some f) s = on_reply me m f s
+
+-- a client was handed a payload to submit
+pub record Submits (old : Held) (payload : Bytes) (new : Held) (e : Effect) : Type 0 where
+  pub keys : new.keys ≡ old.keys
+  pub memory : Memory
+  pub state : new.session ≡ (submission (client_of old.keys) memory payload old.session).0
+  pub out : map sent_of e.out.items ≡ shown (submitted_out (submission (client_of old.keys) memory payload old.session).1)
+  pub accepted : e.accepted ≡ None
+  pub answer : e.answer ≡ submitted_answer (submission (client_of old.keys) memory payload old.session).1
+
+-- bytes came to a client
+pub record Hears (old : Held) (bytes : Bytes) (new : Held) (e : Effect) : Type 0 where
+  pub keys : new.keys ≡ old.keys
+  pub read : Option Frame
+  pub is_read : IsReadAs old.keys.sizes bytes read
+  pub memory : Memory
+  pub state : new.session ≡ (hears (client_of old.keys) memory read old.session).0
+  pub out : e.out.items ≡ []
+  pub accepted : option_to_list e.accepted ≡ map (λ r. (client_at old.keys.party, r)) (accepted_of (hears (client_of old.keys) memory read old.session).1)
+  pub answer : e.answer ≡ heard_answer (hears (client_of old.keys) memory read old.session).1

@@ -1,0 +1,66 @@
+//! What an event does beside its change of a party.
+
+ghost use Rattle.std.specs.Prelude.{◌≡◌, [], ◌∷◌, map, None, IfOk, OnErr};
+ghost use Rattle.replica.specs.Outs.{sent_of, to_of};
+
+use client_accept::Receipt;
+use ids::{ClientId, Fault};
+use replica::{Out, Sending, To};
+use std::alloc::Global;
+
+/// What a party sends and accepts in an event, and the refusal that it is answered, if any.
+#[derive(Drop)]
+pub(crate) struct Effect {
+    pub(crate) out: Vec<Sending>,
+    pub(crate) accepted: Option<(ClientId, Receipt)>,
+    pub(crate) answer: Option<Fault>,
+}
+
+impl Effect {
+    /// Nothing but an answer.
+    pub(crate) fn only(alloc: Global, answer: Option<Fault>) -> Effect
+        ensures out { result.out.items ≡ [] }
+        ensures accepted { result.accepted ≡ None }
+        ensures answer { result.answer ≡ answer }
+    {
+        Effect {
+            out: Vec::new(alloc),
+            accepted: None,
+            answer,
+        }
+    }
+
+    /// What a step sends.
+    pub(crate) fn sends(out: Out) -> Effect
+        ensures out { map sent_of result.out.items ≡ out }
+        ensures accepted { result.accepted ≡ None }
+        ensures answer { result.answer ≡ None }
+    {
+        Effect {
+            out: out.into_sendings(),
+            accepted: None,
+            answer: None,
+        }
+    }
+
+    /// One frame, with an answer.
+    pub(crate) fn one(
+        alloc: Global,
+        to: To,
+        frame: Vec<u8>,
+        answer: Option<Fault>,
+    ) -> Result<Effect, Fault>
+        ensures out { IfOk result (λ e. map sent_of e.out.items ≡ (to_of to, frame.items) ∷ []) }
+        ensures accepted { IfOk result (λ e. e.accepted ≡ None) }
+        ensures answer { IfOk result (λ e. e.answer ≡ answer) }
+        ensures memory { OnErr result (result ≡ Err Fault.Memory) }
+    {
+        let mut out = Vec::new(alloc);
+        out.push(Sending { to, frame })?;
+        Ok(Effect {
+            out,
+            accepted: None,
+            answer,
+        })
+    }
+}

@@ -1,0 +1,17 @@
+//! Worlds: every schedule of events is a run of the definitions.
+#![tactic(auto)]
+
+mod client;
+mod effect;
+mod event;
+mod journal;
+mod outcome;
+mod parties;
+mod replica_turn;
+mod running;
+mod world;
+
+pub use event::Event;
+pub use outcome::{Accepted, History, Outcome, SentFrame};
+pub use running::run;
+pub use world::World;

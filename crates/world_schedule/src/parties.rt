@@ -1,0 +1,233 @@
+//! The parties of a run.
+
+ghost use Rattle.std.specs.Prelude.{◌≡◌, ◌<◌, ◌≤◌, ℕ, [], ◌∷◌, ◌++◌, None, length, map, IsTrue, IfOk, OnOk, OnErr};
+ghost use Rattle.ids.specs.Sizes.{replicas};
+ghost use Rattle.definitions.specs.Keyrings.{is_party_of, client_at};
+ghost use Rattle.definitions.specs.Canonical.{is_canonical};
+ghost use Rattle.definitions.specs.Rulings.{timeout_in, beat_in};
+ghost use Rattle.definitions.specs.Worlds as worlds;
+ghost use Rattle.linear_law.specs.Law.{SentAreFrames};
+ghost use Rattle.world_schedule.specs.Settings.{Setting, start_of};
+ghost use Rattle.world_schedule.specs.Schedules.{why_refused};
+ghost use Rattle.world_schedule.specs.Outcomes.{shown_frame, shown_sent, told_by, histories_of};
+ghost use Rattle.world_schedule.specs.Seats.{EachBelow, IsNewReplica, IsNewSession, AreSeated, AreOf, Brings, Hands, Moves, Acts};
+
+use crate::effect::Effect;
+use crate::event::Event;
+use crate::outcome::{History, SentFrame};
+use crate::world::World;
+use crate::{client, replica_turn};
+use client_accept::Session;
+use ids::{ClientId, Fault, PartyId, ReplicaId};
+use replica::Replica;
+
+/// All replicas and clients, also the faulty ones, which no event changes.
+#[derive(Drop)]
+pub(crate) struct Parties {
+    pub(crate) replicas: Vec<Replica>,
+    pub(crate) sessions: Vec<Session>,
+}
+
+/// A replica that has made no step.
+fn new_replica(world: &World, number: ReplicaId) -> Result<Replica, Fault>
+    requires { number < replicas world.now.sizes }
+    ensures made { IfOk result (IsNewReplica world.now number) }
+    ensures memory { OnErr result (result ≡ Err Fault.Memory) }
+{
+    let keyring = world.keyring(number.into()).duplicate(world.alloc())?;
+    Replica::new(world.alloc(), world.config(), number, keyring)
+}
+
+/// The session of a client that has sent nothing.
+fn new_session(world: &World, client: ClientId) -> Result<Session, Fault>
+    requires { client < world.now.sizes.clients }
+    ensures made { IfOk result (IsNewSession world.now client) }
+    ensures memory { OnErr result (result ≡ Err Fault.Memory) }
+{
+    let keyring = world.keyring(client.into()).duplicate(world.alloc())?;
+    Ok(Session::new(world.alloc(), world.config(), client, keyring))
+}
+
+/// Replicas that have made no step.
+#[tactic(auto, using(crate::proofs::Seated::one_more, crate::proofs::Seated::none_below))]
+fn new_replicas(world: &World) -> Result<Vec<Replica>, Fault>
+    ensures made { IfOk result (λ rs. EachBelow (IsNewReplica world.now) (replicas world.now.sizes) rs.items) }
+    ensures memory { OnErr result (result ≡ Err Fault.Memory) }
+{
+    let mut replicas = Vec::new(world.alloc());
+    for i in 0..world.config().n() {
+        let replica = new_replica(world, ReplicaId(i))?;
+        replicas.push(replica)?;
+    }
+    Ok(replicas)
+}
+
+/// Sessions of clients that have sent nothing.
+#[tactic(auto, using(crate::proofs::Seated::one_more, crate::proofs::Seated::none_below))]
+fn new_sessions(world: &World) -> Result<Vec<Session>, Fault>
+    ensures made { IfOk result (λ ss. EachBelow (IsNewSession world.now) world.now.sizes.clients ss.items) }
+    ensures memory { OnErr result (result ≡ Err Fault.Memory) }
+{
+    let mut sessions = Vec::new(world.alloc());
+    for i in 0..world.config().clients() {
+        let session = new_session(world, ClientId(i))?;
+        sessions.push(session)?;
+    }
+    Ok(sessions)
+}
+
+/// Keeps the history of a correct replica.
+fn keep_correct(world: &World, histories: &mut Vec<History>, replica: Replica) -> Result<(), Fault>
+    ensures kept { OnOk result (histories.new.items ≡ histories.old.items ++ told_by world.now (replica ∷ [])) }
+    ensures memory { OnErr result (result ≡ Err Fault.Memory) }
+{
+    if world.is_faulty(replica.number().into()) {
+        return Ok(());
+    }
+    histories.push(History::of(replica))?;
+    Ok(())
+}
+
+/// The histories of the correct ones.
+#[tactic(auto, using(crate::proofs::Telling::told_append))]
+fn correct_histories(world: &World, replicas: Vec<Replica>) -> Result<Vec<History>, Fault>
+    ensures made { IfOk result (λ hs. hs.items ≡ told_by world.now replicas.items) }
+    ensures memory { OnErr result (result ≡ Err Fault.Memory) }
+{
+    let mut histories = Vec::new(world.alloc());
+    for replica in replicas {
+        keep_correct(world, &mut histories, replica)?;
+    }
+    Ok(histories)
+}
+
+impl Parties {
+    /// All parties at the start.
+    pub(crate) fn new(world: &World) -> Result<Parties, Fault>
+        ensures made { IfOk result (λ p. AreOf world.now p.replicas.items p.sessions.items (start_of world.now)) }
+        ensures memory { OnErr result (result ≡ Err Fault.Memory) }
+    {
+        let replicas = new_replicas(world)?;
+        let sessions = new_sessions(world)?;
+        Ok(Parties { replicas, sessions })
+    }
+
+    /// Brings bytes to a replica.
+    fn bring_to_replica(
+        &mut self,
+        world: &World,
+        to: PartyId,
+        bytes: &[u8],
+    ) -> Result<Effect, Fault>
+        requires seated { AreSeated world.now self.old.replicas.items self.old.sessions.items }
+        requires party { IsTrue (is_party_of world.now.sizes to) }
+        requires replica { to < replicas world.now.sizes }
+        ensures brought { IfOk result (λ e. (w : worlds.World) → AreOf world.now self.old.replicas.items self.old.sessions.items w
+            → Brings world.now w to bytes.now self.new.replicas.items self.new.sessions.items e) }
+        ensures memory { OnErr result (result ≡ Err Fault.Memory) }
+    {
+        let keyring = world.keyring(to);
+        let replica = &mut self.replicas[usize::from(to.0)];
+        replica_turn::receive(world.alloc(), replica, keyring, bytes)
+    }
+
+    /// Brings bytes to a client.
+    fn bring_to_client(&mut self, world: &World, to: PartyId, bytes: &[u8]) -> Effect
+        requires seated { AreSeated world.now self.old.replicas.items self.old.sessions.items }
+        requires client { 256 ≤ to }
+        requires party { client_at to < world.now.sizes.clients }
+        ensures { (w : worlds.World) → AreOf world.now self.old.replicas.items self.old.sessions.items w
+            → Brings world.now w to bytes.now self.new.replicas.items self.new.sessions.items result }
+    {
+        world.holds();
+        let session = &mut self.sessions[usize::from(to.0 - 256)];
+        client::receive(world.alloc(), session, bytes)
+    }
+
+    /// Brings bytes to a party.
+    fn bring(&mut self, world: &World, to: PartyId, bytes: &[u8]) -> Result<Effect, Fault>
+        requires seated { AreSeated world.now self.old.replicas.items self.old.sessions.items }
+        requires party { IsTrue (is_party_of world.now.sizes to) }
+        ensures brought { IfOk result (λ e. (w : worlds.World) → AreOf world.now self.old.replicas.items self.old.sessions.items w
+            → Brings world.now w to bytes.now self.new.replicas.items self.new.sessions.items e) }
+        ensures memory { OnErr result (result ≡ Err Fault.Memory) }
+    {
+        world.holds();
+        if to.0 < 256 {
+            self.bring_to_replica(world, to, bytes)
+        } else {
+            Ok(self.bring_to_client(world, to, bytes))
+        }
+    }
+
+    /// Has a client submit what a payload spells.
+    fn submit(&mut self, world: &World, client: ClientId, payload: &[u8]) -> Result<Effect, Fault>
+        requires seated { AreSeated world.now self.old.replicas.items self.old.sessions.items }
+        requires client { client < world.now.sizes.clients }
+        requires request { IsTrue (is_canonical payload.now) }
+        ensures submitted { IfOk result (λ e. (w : worlds.World) → AreOf world.now self.old.replicas.items self.old.sessions.items w
+            → Hands world.now w client payload.now self.new.replicas.items self.new.sessions.items e) }
+        ensures memory { OnErr result (result ≡ Err Fault.Memory) }
+    {
+        let session = &mut self.sessions[usize::from(client.0)];
+        client::submit(world.alloc(), session, payload)
+    }
+
+    /// Tells a replica that its view has lasted too long.
+    fn timeout(&mut self, world: &World, replica: ReplicaId) -> Effect
+        requires seated { AreSeated world.now self.old.replicas.items self.old.sessions.items }
+        requires replica { replica < replicas world.now.sizes }
+        ensures { (w : worlds.World) → AreOf world.now self.old.replicas.items self.old.sessions.items w
+            → Moves world.now w timeout_in replica self.new.replicas.items self.new.sessions.items result }
+    {
+        let replica = &mut self.replicas[usize::from(replica.0)];
+        replica_turn::timeout(world.alloc(), replica)
+    }
+
+    /// Tells a replica to propose, if it leads.
+    fn beat(&mut self, world: &World, replica: ReplicaId) -> Effect
+        requires seated { AreSeated world.now self.old.replicas.items self.old.sessions.items }
+        requires replica { replica < replicas world.now.sizes }
+        ensures { (w : worlds.World) → AreOf world.now self.old.replicas.items self.old.sessions.items w
+            → Moves world.now w beat_in replica self.new.replicas.items self.new.sessions.items result }
+    {
+        let replica = &mut self.replicas[usize::from(replica.0)];
+        replica_turn::beat(world.alloc(), replica)
+    }
+
+    /// Has the party that an event names take it.
+    pub(crate) fn act(
+        &mut self,
+        world: &World,
+        event: &Event,
+        sent: &[SentFrame],
+    ) -> Result<Effect, Fault>
+        requires seated { AreSeated world.now self.old.replicas.items self.old.sessions.items }
+        requires allowed { why_refused world.now.sizes (length sent.now) event.now ≡ None }
+        ensures acted { IfOk result (λ e. (w : worlds.World) → AreOf world.now self.old.replicas.items self.old.sessions.items w
+            → map shown_frame sent.now ≡ map shown_sent w.sent → SentAreFrames w
+            → Acts world.now w event.now self.new.replicas.items self.new.sessions.items e) }
+        ensures memory { OnErr result (result ≡ Err Fault.Memory) }
+    {
+        world.holds();
+        match event {
+            Event::Submit { client, payload } => self.submit(world, *client, payload),
+            Event::Relay { frame, to } => self.bring(world, *to, &sent[*frame as usize].frame),
+            Event::Inject { to, bytes } => self.bring(world, *to, bytes),
+            Event::Timeout(replica) => Ok(self.timeout(world, *replica)),
+            Event::Beat(replica) => Ok(self.beat(world, *replica)),
+        }
+    }
+
+    /// What the correct replicas executed, by their numbers.
+    pub(crate) fn into_histories(self, world: &World) -> Result<Vec<History>, Fault>
+        ensures told { IfOk result (λ hs. (w : worlds.World) → AreOf world.now self.replicas.items self.sessions.items w → hs.items ≡ histories_of w) }
+        ensures memory { OnErr result (result ≡ Err Fault.Memory) }
+    {
+        let Parties {
+            replicas,
+            sessions: _,
+        } = self;
+        correct_histories(world, replicas)
+    }
+}

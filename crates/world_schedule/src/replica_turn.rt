@@ -1,0 +1,111 @@
+//! What events bring to a replica.
+
+ghost use Rattle.std.specs.Prelude.{◌≡◌, ◌<◌, ℕ, ◌⊎◌, Some, IfOk, OnErr};
+ghost use Rattle.ids.specs.Sizes.{Sizes, replicas};
+ghost use Rattle.definitions.specs.Bytes.{Bytes};
+ghost use Rattle.definitions.specs.Frames.{Frame};
+ghost use Rattle.definitions.specs.FrameLimits.{IsReadAs};
+ghost use Rattle.definitions.specs.Checks.{identity_of};
+ghost use Rattle.definitions.specs.Rulings.{timeout_in, beat_in};
+ghost use Rattle.admission.specs.Lacking.{lacked_by};
+ghost use Rattle.world_schedule.specs.Turns.{Takes, Ticks};
+ghost use Rattle.world_schedule.specs.Asking.{Answers, Asks, is_lack, Refuses, SameReplica};
+
+use crate::effect::Effect;
+use admission::{admit, missing};
+use authenticators::Keyring;
+use ids::Fault;
+use replica::{Input, Out, Replica, To};
+use std::alloc::Global;
+
+/// Brings bytes to a replica, checked with its keys.
+fn take(replica: &mut Replica, keyring: &Keyring, bytes: &[u8]) -> Result<Out, Fault>
+    requires same { SameReplica replica.old.keys keyring.now }
+    requires number { keyring.now.party < replicas keyring.now.sizes }
+    ensures keys { replica.new.keys ≡ replica.old.keys }
+    ensures taken { Answers (identity_of keyring.now) bytes.now replica.old.replica replica.new.replica result }
+{
+    match admit(keyring, &keyring.config(), bytes) {
+        Ok(input) => replica.step(input),
+        Err(fault) => Err(fault),
+    }
+}
+
+/// The effect of a refused frame whose block's branch isn't whole: the question for what is missing, to the frame's
+/// sender. It is left out where that is the replica itself, or where memory for it is refused.
+fn ask(alloc: Global, replica: &Replica, bytes: &[u8]) -> Result<Effect, Fault>
+    ensures asked { IfOk result (λ e. Asks (identity_of replica.now.keys) bytes.now e) }
+    ensures memory { OnErr result (result ≡ Err Fault.Memory) }
+{
+    let refused = Some(Fault::UnknownParent);
+    let Some((to, block)) = missing(&replica.config(), bytes) else {
+        return Ok(Effect::only(alloc, refused));
+    };
+    if to == replica.number() {
+        return Ok(Effect::only(alloc, refused));
+    }
+    match replica.write_fetch(to, &block) {
+        Ok(frame) => Effect::one(alloc, To::Replica(to), frame, refused),
+        Err(_) => Ok(Effect::only(alloc, refused)),
+    }
+}
+
+/// Whether a replica lacked a block.
+fn is_lack(fault: Fault) -> bool
+    ensures { result ≡ is_lack fault }
+{
+    matches!(fault, Fault::UnknownParent)
+}
+
+/// The effect of a refusal of bytes.
+fn refuse(alloc: Global, replica: &Replica, bytes: &[u8], fault: Fault) -> Result<Effect, Fault>
+    ensures refused { IfOk result (λ e. Refuses (identity_of replica.now.keys) bytes.now fault e) }
+    ensures memory { OnErr result (result ≡ Err Fault.Memory) }
+{
+    if is_lack(fault) {
+        return ask(alloc, replica, bytes);
+    }
+    Ok(Effect::only(alloc, Some(fault)))
+}
+
+/// Brings bytes to a replica.
+pub(crate) fn receive(
+    alloc: Global,
+    replica: &mut Replica,
+    keyring: &Keyring,
+    bytes: &[u8],
+) -> Result<Effect, Fault>
+    requires same { SameReplica replica.old.keys keyring.now }
+    requires number { keyring.now.party < replicas keyring.now.sizes }
+    ensures keys { replica.new.keys ≡ replica.old.keys }
+    ensures taken { IfOk result (λ e. Takes (identity_of keyring.now) bytes.now replica.old.replica replica.new.replica e) }
+    ensures memory { OnErr result (result ≡ Err Fault.Memory) }
+{
+    keyring.config().holds();
+    match take(replica, keyring, bytes) {
+        Ok(out) => Ok(Effect::sends(out)),
+        Err(fault) => refuse(alloc, replica, bytes, fault),
+    }
+}
+
+/// Tells a replica that its view has lasted too long.
+pub(crate) fn timeout(alloc: Global, replica: &mut Replica) -> Effect
+    ensures keys { replica.new.keys ≡ replica.old.keys }
+    ensures ticked { Ticks (identity_of replica.old.keys) timeout_in replica.old.replica replica.new.replica result }
+{
+    match replica.step(Input::Timeout) {
+        Ok(out) => Effect::sends(out),
+        Err(fault) => Effect::only(alloc, Some(fault)),
+    }
+}
+
+/// Tells a replica to propose, if it leads.
+pub(crate) fn beat(alloc: Global, replica: &mut Replica) -> Effect
+    ensures keys { replica.new.keys ≡ replica.old.keys }
+    ensures ticked { Ticks (identity_of replica.old.keys) beat_in replica.old.replica replica.new.replica result }
+{
+    match replica.step(Input::Beat) {
+        Ok(out) => Effect::sends(out),
+        Err(fault) => Effect::only(alloc, Some(fault)),
+    }
+}

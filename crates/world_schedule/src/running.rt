@@ -1,0 +1,181 @@
+//! The run of a schedule.
+
+ghost use Rattle.std.specs.Prelude.{◌≡◌, ◌⊎◌, ℕ, Option, None, length, map, IsTrue, IfOk, IfErr, OnErr, MatchResult};
+ghost use Rattle.definitions.specs.Frames.{Frame};
+ghost use Rattle.definitions.specs.Premises.{IsReadIn};
+ghost use Rattle.definitions.specs.Worlds as worlds;
+ghost use Rattle.linear_law.specs.Law.{SentAreFrames};
+ghost use Rattle.definitions.specs.Runs.{refusal};
+ghost use Rattle.world_schedule.specs.Settings.{start_of};
+ghost use Rattle.world_schedule.specs.Schedules.{has_party, has_frame, has_request, why_refused, event_of, IsRefusedFor};
+ghost use Rattle.world_schedule.specs.Outcomes.{shown_frame, shown_sent, TellsOf};
+ghost use Rattle.world_schedule.specs.Seats.{AreSeated, AreOf, Does};
+ghost use Rattle.world_schedule.specs.Progress.{IsAt, GoesOn, HasRun};
+ghost use Rattle.world_schedule.specs.Running.{IsRunOf};
+
+use crate::effect::Effect;
+use crate::event::Event;
+use crate::journal::Journal;
+use crate::outcome::{Outcome, SentFrame};
+use crate::parties::Parties;
+use crate::world::{World, has_party};
+use frames_view::read;
+use ids::{Config, Fault};
+use mc_lines::read_canonical;
+
+/// Whether the party that an event names is there.
+fn names_party(config: &Config, event: &Event) -> bool
+    ensures { result ≡ has_party config.now event.now }
+{
+    match event {
+        Event::Submit { client, .. } => client.0 < config.clients(),
+        Event::Relay { to, .. } | Event::Inject { to, .. } => has_party(config, *to),
+        Event::Timeout(replica) | Event::Beat(replica) => replica.0 < config.n(),
+    }
+}
+
+/// Whether the frame that an event names is one of the record.
+fn names_frame(sent: &[SentFrame], event: &Event) -> bool
+    ensures { result ≡ has_frame (length sent.now) event.now }
+{
+    match event {
+        Event::Relay { frame, .. } => *frame < sent.len() as u64,
+        _ => true,
+    }
+}
+
+/// Whether the payload of a submission is a canonical request.
+fn names_request(event: &Event) -> bool
+    ensures { result ≡ has_request event.now }
+{
+    match event {
+        Event::Submit { payload, .. } => read_canonical(payload).is_some(),
+        _ => true,
+    }
+}
+
+/// Why a run refuses an event.
+fn refusal(config: &Config, sent: &[SentFrame], event: &Event) -> Option<Fault>
+    ensures { result ≡ why_refused config.now (length sent.now) event.now }
+{
+    if !names_party(config, event) {
+        return Some(Fault::NoSuchParty);
+    }
+    if !names_frame(sent, event) {
+        return Some(Fault::NoSuchFrame);
+    }
+    if !names_request(event) {
+        return Some(Fault::NotARequest);
+    }
+    None
+}
+
+/// A run so far.
+#[derive(Drop)]
+struct State {
+    parties: Parties,
+    journal: Journal,
+}
+
+/// Reads the bytes that an event brings, if any: whether they are a frame.
+fn brings_frame(config: &Config, event: &Event) -> bool
+    ensures { (read : Option Frame) × IsReadIn config.now (event_of read event.now) }
+{
+    match event {
+        Event::Inject { bytes, .. } => read(config, bytes).is_ok(),
+        Event::Submit { .. } => false,
+        Event::Relay { .. } => false,
+        Event::Timeout(_) => false,
+        Event::Beat(_) => false,
+    }
+}
+
+/// What an event does. Nothing happens to a faulty party.
+fn do_event(
+    parties: &mut Parties,
+    world: &World,
+    event: &Event,
+    sent: &[SentFrame],
+) -> Result<Effect, Fault>
+    requires seated { AreSeated world.now parties.old.replicas.items parties.old.sessions.items }
+    requires allowed { why_refused world.now.sizes (length sent.now) event.now ≡ None }
+    ensures done { IfOk result (λ e. (w : worlds.World) → AreOf world.now parties.old.replicas.items parties.old.sessions.items w
+        → map shown_frame sent.now ≡ map shown_sent w.sent → SentAreFrames w
+        → Does world.now w event.now parties.new.replicas.items parties.new.sessions.items e) }
+    ensures memory { OnErr result (result ≡ Err Fault.Memory) }
+{
+    if world.is_faulty(event.party()) {
+        let _read = brings_frame(&world.config(), event);
+        return Ok(Effect::only(world.alloc(), None));
+    }
+    parties.act(world, event, sent)
+}
+
+impl State {
+    /// A run in which nothing happened.
+    fn new(world: &World) -> Result<State, Fault>
+        ensures made { IfOk result (λ state. IsAt world.now state (start_of world.now)) }
+        ensures memory { OnErr result (result ≡ Err Fault.Memory) }
+    {
+        let parties = Parties::new(world)?;
+        let journal = Journal::new(world.alloc());
+        Ok(State { parties, journal })
+    }
+
+    /// Whether an event may happen.
+    fn allow(&self, world: &World, event: &Event) -> Result<(), Fault>
+        ensures { MatchResult result (λ _. why_refused world.now.sizes (length self.now.journal.frames.items) event.now ≡ None)
+            (λ n. why_refused world.now.sizes (length self.now.journal.frames.items) event.now ≡ Some n) }
+    {
+        match refusal(&world.config(), self.journal.frames.as_slice(), event) {
+            None => Ok(()),
+            Some(fault) => Err(fault),
+        }
+    }
+
+    /// One event.
+    fn happen(&mut self, world: &World, event: &Event) -> Result<(), Fault>
+        requires { AreSeated world.now self.old.parties.replicas.items self.old.parties.sessions.items }
+        ensures { (w : worlds.World) → IsAt world.now self.old w → SentAreFrames w
+            → MatchResult result (λ _. GoesOn world.now w event.now self.new) (λ n. (n ≡ Fault.Memory) ⊎ (refusal w (event_of None event.now) ≡ Some n)) }
+    {
+        if let Err(fault) = self.allow(world, event) {
+            return Err(fault);
+        }
+        let sent = self.journal.frames.as_slice();
+        match do_event(&mut self.parties, world, event, sent) {
+            Ok(effect) => self.journal.note(effect),
+            Err(fault) => Err(fault),
+        }
+    }
+
+    /// What it came to.
+    fn into_outcome(self, world: &World) -> Result<Outcome, Fault>
+        ensures told { IfOk result (λ o. (w : worlds.World) → IsAt world.now self w → TellsOf w o) }
+        ensures memory { OnErr result (result ≡ Err Fault.Memory) }
+    {
+        let State { parties, journal } = self;
+        let histories = parties.into_histories(world)?;
+        Ok(journal.into_outcome(histories))
+    }
+}
+
+/// Runs a schedule in a world whose parties have done nothing yet.
+///
+/// The first event that names no party is refused with `NoSuchParty`, one that names no frame of the record with
+/// `NoSuchFrame`, a submission whose payload isn't the canonical text of a request with `NotARequest`, tested in this
+/// order, of events at faulty parties too, which else do nothing. What a party refuses is the event's answer, and the
+/// run goes on. `Memory` comes where the run's own memory is refused; where a party's is, that is the event's answer.
+pub fn run(world: &World, events: &[Event]) -> Result<Outcome, Fault>
+    ensures ran { IfOk result (IsRunOf world.now events.now) }
+    ensures refused { IfErr result (λ n. (n ≡ Fault.Memory) ⊎ IsRefusedFor world.now events.now n) }
+{
+    world.holds();
+    let mut state = State::new(world)?;
+    for event in events {
+        if let Err(fault) = state.happen(world, event) {
+            return Err(fault);
+        }
+    }
+    state.into_outcome(world)
+}

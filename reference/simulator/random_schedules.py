@@ -1,0 +1,325 @@
+"""Schedules at random: whole runs under losses, repeats, late frames, timeouts, missing blocks, faulty
+parties and injected frames, which are good, cut short, changed in a byte, or signed by a faulty party's own
+keys.
+
+The writer of a schedule runs it as it writes, so that each event is one that can happen and the faulty
+parties know what was sent. The seed alone decides.
+"""
+import random
+from dataclasses import replace
+
+from . import frames
+from .frames import (GENESIS, BlockFrame, Certificate, Command, Core, FetchFrame, Kind, NewViewFrame,
+                     ProposalFrame, ReplyFrame, RequestFrame, Vote, VoteFrame, write)
+from .replica import ALL
+from .requests import Request
+from .sizes import FIRST_CLIENT, TOP, Config, Refusal, party_name
+from .tags import Keyring
+from .world import Beat, Inject, Relay, Submit, Timeout, World
+
+KEYS = [b"a", b"b", b"counter", b"k" * 250]
+DATA = [b"", b"x", b"5", b"12x", b"18446744073709551615", b"\r\nset a", bytes(range(256)), b"y" * 4096]
+
+
+def random_request(rng):
+    """A request of memcached's, small ones above all."""
+    name = rng.choice(["set", "set", "set", "get", "get", "gets", "add", "replace", "append", "prepend",
+                       "cas", "incr", "incr", "decr", "delete"])
+    key = rng.choice(KEYS)
+    data = rng.choice(DATA[:5]) if rng.random() < 0.9 else rng.choice(DATA)
+    if name in ("get", "gets"):
+        keys = [rng.choice(KEYS) for _ in range(rng.choice([1, 1, 2, 16]))]
+        return Request(name, tuple(keys))
+    if name == "delete":
+        return Request(name, (key,))
+    if name in ("incr", "decr"):
+        return Request(name, (key,), value=rng.choice([0, 1, 3, 2 ** 64 - 1]))
+    flags = rng.choice([0, 7, 2 ** 32 - 1])
+    return Request(name, (key,), flags=flags, data=data, unique=rng.choice([0, 1, 2, 3]))
+
+
+class Liar:
+    """What a faulty party may send: frames with its own keys, of anything that it saw."""
+
+    def __init__(self, rng, config, party):
+        self.rng = rng
+        self.config = config
+        self.party = party
+        self.keyring = Keyring(config, party)
+        self.seq = 0
+        self.cores = []
+
+    def frame(self, world, to):
+        """A frame for a party."""
+        if self.party >= FIRST_CLIENT:
+            return self._request()
+        make = self.rng.choice([self._proposal, self._proposal, self._vote, self._vote, self._new_view,
+                                self._reply, self._fetch, self._block])
+        return make(world, to)
+
+    def _vector(self, kind, content):
+        vector = self.keyring.vector(kind, content)
+        if self.rng.random() < 0.2:
+            at = 32 * self.rng.randrange(self.config.n)
+            vector = vector[:at] + bytes(32) + vector[at + 32:]
+        return vector
+
+    def _request(self):
+        rng = self.rng
+        self.seq = rng.choice([self.seq + 1, self.seq + 1, max(1, self.seq), self.seq + 5])
+        payload = rng.choice([random_request(rng).canonical(), b"quit\r\n", b"", bytes(4608), b"abc"])
+        command = Command(self.party - FIRST_CLIENT, self.seq, payload)
+        return write(RequestFrame(replace(command, vector=self._vector(Kind.REQUEST, command.content()))))
+
+    def _known(self, world):
+        """The blocks that some correct replica knows, genesis too."""
+        tree = self.rng.choice(sorted(world.replicas.items()))[1].tree
+        return tree.blocks[self.rng.choice(sorted(tree.blocks))]
+
+    def _commands(self, world):
+        """Commands that were sent, in anyone's name, and some whose tags are invented."""
+        rng = self.rng
+        requests = [sent.data for sent in world.record if sent.data[0] == Kind.REQUEST]
+        seen = [frames.read(self.config, data).command for data in requests]
+        picked = [rng.choice(seen) for _ in range(rng.choice([0, 0, 1, 1, 2])) if seen]
+        if rng.random() < 0.2:
+            client, seq = rng.randrange(self.config.clients), rng.choice([1, 2, 9])
+            picked.append(Command(client, seq, random_request(rng).canonical(), bytes(32 * self.config.n)))
+        return tuple(picked)
+
+    def _core(self, world):
+        rng = self.rng
+        parent = self._known(world)
+        genesis = world.replicas[min(world.replicas)].tree.genesis
+        justified = rng.choice([parent, parent.justified, parent.at(max(0, parent.height - 1)), genesis])
+        if justified.height > parent.height:
+            justified = parent
+        height = parent.height + 1 if rng.random() < 0.93 else parent.height + rng.choice([0, 2])
+        if height == 0:
+            height = 1
+        digest = parent.digest if rng.random() < 0.93 else bytes([rng.randrange(256)]) * 32
+        justify = min(justified.height, height - 1)
+        return Core(digest, height, justify, self._commands(world)), justified
+
+    def _certificate(self, world, block):
+        """One that correct replicas hold, or one of votes that were sent, or nonsense."""
+        rng = self.rng
+        if rng.random() < 0.1:
+            block = self._known(world)      # not the one that the block justifies
+        if block.digest == GENESIS and rng.random() < 0.95:
+            return Certificate(GENESIS)
+        replicas = world.replicas.values()
+        held = [replica.highest for replica in replicas if replica.highest.digest == block.digest]
+        held += [child.cert for replica in replicas for child in replica.tree.blocks.values()
+                 if child.core and child.cert.digest == block.digest]
+        if held and rng.random() < 0.8:
+            return rng.choice(held)
+        votes = {}
+        for sent in world.record:
+            if sent.data[0] == Kind.VOTE:
+                frame = frames.read(self.config, sent.data)
+                if frame.digest == block.digest:
+                    votes[frame.vote.voter] = frame.vote
+        votes[self.party] = Vote(self.party, self.keyring.vector(Kind.VOTE, block.digest))
+        picked = [votes[voter] for voter in sorted(votes)]
+        if len(picked) < self.config.quorum:
+            missing = [r for r in range(self.config.n) if r not in votes][:self.config.quorum - len(picked)]
+            picked += [Vote(r, bytes(32 * self.config.n)) for r in missing]
+            picked.sort(key=lambda vote: vote.voter)
+        return Certificate(block.digest, tuple(picked))
+
+    def _proposal(self, world, _to):
+        rng = self.rng
+        core, justified = self._core(world)
+        if self.cores and rng.random() < 0.3:
+            core, justified = rng.choice(self.cores)
+        self.cores.append((core, justified))
+        views = sorted({replica.pacemaker.view for replica in world.replicas.values()})
+        led = [view for view in views if view % self.config.n == self.party]
+        view = rng.choice(led) if led and rng.random() < 0.9 else rng.choice(views + [self.party, TOP])
+        frame = ProposalFrame(view, core, self._certificate(world, justified))
+        return write(replace(frame, vector=self._vector(Kind.PROPOSAL, frame.content())))
+
+    def _vote(self, world, _to):
+        digest = self._known(world).digest if self.rng.random() < 0.9 else bytes(32)
+        voter = self.party if self.rng.random() < 0.95 else self.rng.randrange(self.config.n)
+        return write(VoteFrame(digest, Vote(voter, self._vector(Kind.VOTE, digest))))
+
+    def _new_view(self, world, _to):
+        view = self.rng.choice([0, 1, 2, 3, 7, TOP])
+        frame = NewViewFrame(view, self.party, self._certificate(world, self._known(world)))
+        return write(replace(frame, vector=self._vector(Kind.NEW_VIEW, frame.content())))
+
+    def _reply(self, _world, to):
+        rng = self.rng
+        client = to - FIRST_CLIENT if to >= FIRST_CLIENT else rng.randrange(self.config.clients)
+        frame = ReplyFrame(self.party, client, rng.choice([1, 1, 1, 2, 3]), rng.choice([1, 1, 2, 3, 9]),
+                           rng.choice([b"STORED\r\n", b"EXISTS\r\n", b"END\r\n", b"", b"x" * 70293]))
+        return write(replace(frame, tag=self.keyring.tag(Kind.REPLY, FIRST_CLIENT + client, frame.content())))
+
+    def _fetch(self, world, to):
+        digest = self._known(world).digest if self.rng.random() < 0.8 else bytes(32)
+        frame = FetchFrame(self.party, digest)
+        to = to if to < FIRST_CLIENT else 0
+        return write(replace(frame, tag=self.keyring.tag(Kind.FETCH, to, frame.content())))
+
+    def _block(self, world, to):
+        core, justified = self._core(world)
+        self.cores.append((core, justified))
+        frame = BlockFrame(self.party, core, self._certificate(world, justified))
+        to = to if to < FIRST_CLIENT else 0
+        return write(replace(frame, tag=self.keyring.tag(Kind.BLOCK, to, frame.content())))
+
+
+class Writer:
+    """Writes one schedule."""
+
+    def __init__(self, rng, clients=None):
+        self.rng = rng
+        f = rng.choice([1, 1, 1, 1, 1, 2, 3, 4])
+        some = rng.choice([1, 1, 2, 2, 3, 8, 64])
+        config = Config(f, clients or some)
+        self.faulty = self._faulty(config)
+        self.config = config
+        self.world = World(config, self.faulty)
+        self.liars = [Liar(rng, config, party) for party in self.faulty]
+        self.events = []
+        self.waiting = []           # (frame, party) that are still to be brought
+        self.loss = rng.choice([0, 0, 0.02, 0.1, 0.3])
+        self.repeat = rng.choice([0, 0, 0.05, 0.2])
+        self.lateness = rng.choice([1, 1, 4, 30])
+        self.patient = rng.random() < 0.7       # beats come once all that waits was brought
+        self.deaf = rng.sample(range(config.n), rng.choice([0, 0, 0, 1, min(2, f)]))
+        self.weights = {
+            "bring": 60, "submit": rng.choice([0, 3, 8]), "beat": rng.choice([4, 8, 15]),
+            "timeout": rng.choice([0, 0, 0.3, 2]), "inject": rng.choice([1, 4, 12]) if self.liars else 0,
+            "spoil": rng.choice([0, 2, 6]), "stray": rng.choice([0, 1]),
+        }
+
+    def _faulty(self, config):
+        rng = self.rng
+        if rng.random() < 0.3:
+            return []
+        replicas = rng.sample(range(config.n), rng.randrange(config.f + 1))
+        clients = rng.sample(range(config.clients), rng.randrange(min(3, config.clients + 1)))
+        return replicas + [FIRST_CLIENT + client for client in clients]
+
+    def write(self, length):
+        """(heading, events)"""
+        while len(self.events) < length:
+            kinds = list(self.weights)
+            kind = self.rng.choices(kinds, [self.weights[kind] for kind in kinds])[0]
+            event = getattr(self, "_" + kind)()
+            if event is not None:
+                self._happen(event)
+        return (self.config.f, self.config.clients, self.faulty), self.events
+
+    def _happen(self, event):
+        first = len(self.world.record)
+        _, sent, _ = self.world.happen(event)
+        self.events.append(event)
+        for at, frame in enumerate(sent):
+            parties = range(self.config.n) if frame.to == ALL else [frame.to]
+            self.waiting += [(first + at, party) for party in parties if self.rng.random() >= self.loss]
+
+    def _any_party(self):
+        return self.rng.choice(self.config.parties())
+
+    def _bring(self):
+        """What was sent comes, not quite in order."""
+        while self.waiting:
+            at = self.rng.randrange(min(self.lateness, len(self.waiting)))
+            frame, party = self.waiting[at]
+            if self.rng.random() >= self.repeat:
+                del self.waiting[at]
+            if party in self.deaf and self.rng.random() < 0.8:
+                continue
+            return Relay(frame, party)
+        return self._beat_now()
+
+    def _submit(self):
+        """Mostly of a client that has nothing outstanding."""
+        clients = range(self.config.clients)
+        free = [client for client in clients if client in self.world.sessions
+                and not self.world.sessions[client].outstanding]
+        chosen = free if free and self.rng.random() < 0.9 else clients
+        return Submit(self.rng.choice(chosen), random_request(self.rng).canonical())
+
+    def _beat(self):
+        return self._bring() if self.patient and self.waiting else self._beat_now()
+
+    def _beat_now(self):
+        views = [replica.pacemaker.view for replica in self.world.replicas.values()]
+        leader = self.rng.choice(views) % self.config.n
+        return Beat(leader if self.rng.random() < 0.9 else self.rng.randrange(self.config.n))
+
+    def _timeout(self):
+        """Of one replica, or of all in turn."""
+        if self.rng.random() < 0.5:
+            for replica in range(self.config.n - 1):
+                self._happen(Timeout(replica))
+            return Timeout(self.config.n - 1)
+        return Timeout(self.rng.randrange(self.config.n))
+
+    def _inject(self):
+        """A faulty party's own frame, to one party, sometimes to all in a row."""
+        liar = self.rng.choice(self.liars)
+        to = self._any_party()
+        data = liar.frame(self.world, to)
+        if self.rng.random() < 0.4 and liar.party < FIRST_CLIENT or liar.party >= FIRST_CLIENT:
+            for other in self.rng.sample(range(self.config.n), self.rng.randrange(self.config.n)):
+                self._happen(Inject(other, data))
+        return Inject(to, data)
+
+    def _spoil(self):
+        """A frame that was sent, cut short, made longer or changed in a byte; or as it is, to anyone."""
+        rng = self.rng
+        if not self.world.record:
+            return None
+        data = rng.choice(self.world.record).data
+        at = rng.randrange(len(data))
+        how = rng.randrange(5)
+        if how == 0:
+            data = data[:at]
+        elif how == 1:
+            data = data[:at] + bytes([data[at] ^ (1 << rng.randrange(8))]) + data[at + 1:]
+        elif how == 2:
+            at = min(at, 60)
+            data = data[:at] + bytes([rng.randrange(256)]) + data[at + 1:]
+        elif how == 3:
+            data = data + bytes([rng.randrange(256)])
+        return Inject(self._any_party(), data)
+
+    def _stray(self):
+        """Any frame of the record to any party."""
+        if not self.world.record:
+            return None
+        return Relay(self.rng.randrange(len(self.world.record)), self._any_party())
+
+
+def _refused(rng, head, events):
+    """A schedule that is refused as a whole, or whose last event ends the run."""
+    f, clients, faulty = head
+    how = rng.randrange(5)
+    if how == 0:
+        return (rng.choice([0, 5, 2 ** 64 - 1]), clients, faulty), events
+    if how == 1:
+        return (f, rng.choice([0, 65, 2 ** 63]), faulty), events
+    if how == 2:
+        return (f, clients, [3 * f + 1 + rng.randrange(3)]), events
+    if how == 3:
+        return (f, clients, list(range(f + 1 + rng.randrange(2)))), events
+    last = rng.choice([Relay(10 ** 6, 0), Relay(0, 3 * f + 1), Submit(clients, b"get a\r\n"),
+                       Submit(0, b"quit\r\n"), Submit(0, b"get a \r\n"), Submit(200, b"quit\r\n"),
+                       Timeout(255), Beat(3 * f + 1),
+                       Inject(FIRST_CLIENT + clients, b""), Relay(2 ** 64 - 1, FIRST_CLIENT + clients)])
+    at = rng.randrange(len(events) + 1)
+    return head, events[:at] + [last] + events[at:]
+
+
+def random_schedule(seed, longest=400, clients=None):
+    """(heading, events), decided by the seed alone; with so many clients, where that is said."""
+    rng = random.Random(seed)
+    length = rng.choice([5, 40, 120, 200, longest])
+    head, events = Writer(rng, clients).write(length)
+    return _refused(rng, head, events) if rng.random() < 0.06 else (head, events)
