@@ -1,0 +1,56 @@
+//! Asks a block tree and the rules on it, and prints the words of `ids`: each line of standard input is a case, after the
+//! lines before it. What is wanted of each was computed by an independent program.
+//!
+//! Blocks have no commands, and numbers in the order in which they come to stand; that of genesis is 0. A number for
+//! which none stands means the digest of zeros alone. Of a block its digest is printed, and `fault` and a number where a
+//! call refuses.
+//!
+//! - `tree MOST`: begins anew, with room for so many blocks.
+//! - `grow PARENT HEIGHT JUSTIFY CERTIFIED`: a block on a parent, of a height, that justifies a height by a certificate
+//!   for a block; or `dark ..`, one whose commands are unclear.
+//! - `chain COUNT`: so many blocks, each on the last one that came to stand, which justify genesis.
+//! - `len`: how many blocks stand.
+//! - `told BLOCK`: its height, the one that it justifies, its parent, what its certificate is for, and what it justifies.
+//! - `at BLOCK HEIGHT`: its ancestor of this height, and how many links lead there.
+//! - `over BLOCK LOWER`: whether its branch goes through the other one.
+//! - `clear BLOCK HEIGHT`: whether all blocks above this height on its branch are clear.
+//! - `may BLOCK`: whether it may be voted for.
+//! - `voted HEIGHT`: a vote; printed is the voted height.
+//! - `take BLOCK`: a new block justifies this one; printed are the lock and the last executed block.
+//! - `decided BLOCK`: the block that this one decides.
+//! - `printed WORD NUMBER`: a number of this word, or the words of a refusal.
+#![tactic(auto)]
+
+mod blocks;
+mod printed;
+
+use crate::blocks::{Blocks, number, tree_of};
+use crate::printed::printed;
+use anyhow::Result;
+use ids::Fault;
+use std::alloc::Global;
+use std::io::{BufRead as _, BufReader, BufWriter, Write as _};
+
+/// The line for a line of the input.
+fn tell(alloc: Global, blocks: &mut Blocks, input: &str) -> Result<String, Fault> {
+    let (word, rest) = input.split_once(' ').unwrap_or((input, "0"));
+    match word {
+        "printed" => printed(alloc, rest),
+        "tree" => {
+            *blocks = tree_of(alloc, number(rest)?)?;
+            Ok(String::new(alloc))
+        }
+        _ => blocks.answer(word, rest),
+    }
+}
+
+fn main(rt: HostRuntime) -> Result<()> {
+    let alloc = rt.alloc();
+    let mut blocks = tree_of(alloc, 1)?;
+    let mut out = BufWriter::new(alloc, std::io::writer(&rt))?;
+    for line in BufReader::new(alloc, rt.reader())?.lines(alloc) {
+        writeln!(out, "{}", tell(alloc, &mut blocks, line?.as_str())?)?;
+    }
+    out.flush()?;
+    Ok(())
+}
