@@ -2,7 +2,7 @@ use Rattle.std.proofs.Common.{subst}
 use Rattle.audit_ground.specs.Law.{IsLawfullyKept}
 use Rattle.audit_ground.proofs.Stored.{stored-blocks_are_named}
 use Rattle.replica.specs.Steps.{Held}
-use Rattle.replica.proofs.replica.Replica.steps.Goals as goal
+use Rattle.replica.proofs.replica.Replica.holds.Goals as goal
 
 pub returns-clause-kept : goal.returns-clause-kept
 returns-clause-kept c =
