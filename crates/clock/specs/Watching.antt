@@ -4,22 +4,37 @@ use Rattle.clock.specs.declared.watch.Pulse.{Pulse}
 use Rattle.clock.specs.declared.watch.Due.{Due}
 use Rattle.clock.specs.declared.watch.Watch.{Watch}
 
--- requests are pending, and nothing has changed since it was looked at last
-abbrev pub waits : Watch → Pulse → Bool
-waits w p = p.is_pending && (p.view == w.view) && (p.executed == w.executed)
+-- its view or its history changed since it was looked at last
+abbrev pub moved : Watch → Pulse → Bool
+moved w p = not ((p.view == w.view) && (p.executed == w.executed))
 
 -- the milliseconds that a view may last: one second, and one more for each view before it
 abbrev pub limit_of : ℕ → ℕ
 limit_of view = min (min (view + 1) (2 ^ 64 - 1) * 1000) (2 ^ 64 - 1)
 
--- it has waited so long
+-- requests are pending, and nothing has changed for so long
 abbrev pub is_late : Watch → ℕ → Pulse → Bool
-is_late w now p = waits w p && nat_le (limit_of p.view) (now - w.since)
+is_late w now p = p.is_pending && not (moved w p) && nat_le (limit_of p.view) (now - w.since)
+
+-- nothing that it proposed waits for votes, or it has just got on
+abbrev pub rests : Watch → Pulse → Bool
+rests w p = moved w p || p.wants_beat_now || not p.wants_beat
+
+-- what it proposed has waited for votes through the whole pause
+abbrev pub is_overdue : Watch → ℕ → Pulse → Bool
+is_overdue w now p = not (rests w p) && nat_le w.pause (now - w.asked)
 
 -- what is due
 abbrev pub due_of : Watch → ℕ → Pulse → Due
-due_of w now p = record { beat = p.wants_beat; timeout = is_late w now p }
+due_of w now p = record { beat = p.wants_beat_now || is_overdue w now p; timeout = is_late w now p }
 
--- what was seen so far, with this: it waits anew where it doesn't wait, or was late
+-- what was seen so far, with this. Both times begin anew where there is nothing to wait for, or what was due is given;
+-- the pause is 100 milliseconds, and doubles each time that it passes, until the replica gets on
 abbrev pub looked : Watch → ℕ → Pulse → Watch
-looked w now p = record { view = p.view; executed = p.executed; since = if not (waits w p) || is_late w now p then now else w.since }
+looked w now p = record {
+  view = p.view;
+  executed = p.executed;
+  since = if not p.is_pending || moved w p || is_late w now p then now else w.since;
+  asked = if rests w p || is_overdue w now p then now else w.asked;
+  pause = if moved w p then 100 else if is_overdue w now p then min (w.pause * 2) (2 ^ 64 - 1) else w.pause;
+}

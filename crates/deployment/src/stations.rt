@@ -52,6 +52,7 @@ impl<'a> Watched for Station<'a> {
         let replica = kept.replica();
         Pulse {
             wants_beat: replica.wants_beat(),
+            wants_beat_now: replica.wants_beat_now(),
             is_pending: replica.pending() > 0,
             view: replica.view(),
             executed: replica.history().len() as u64,

@@ -10,7 +10,7 @@ ghost use Rattle.definitions.specs.Replicas.{running, held_history, held_pending
 ghost use Rattle.definitions.specs.Sendings.{fetch_frame};
 ghost use Rattle.definitions.specs.States.{view};
 ghost use Rattle.replica.specs.Steps.{Stepped};
-ghost use Rattle.replica.specs.Wanting.{wants_beat, leaf_is_certified};
+ghost use Rattle.replica.specs.Wanting.{wants_beat, wants_beat_now};
 ghost use Rattle.definitions.specs.Keyrings.{Keys};
 ghost use Rattle.replica.specs.Kept.{IsStateOf};
 ghost use Rattle.replica.specs.Changes.{Fits};
@@ -232,13 +232,17 @@ impl Replica {
         leads(&self.state, &self.keyring) && !self.state.pool.is_empty()
     }
 
-    /// Whether a beat brings something at once: it wants one, and none of its proposals waits for votes.
+    /// Whether a beat brings something at once: it wants one, and none of its proposals waits for votes, or the next one
+    /// would be too low to be voted for.
     ///
-    /// So it is after each certificate while requests wait, and when a request comes to a leader that was idle.
+    /// So it is after each certificate while requests wait, when a request comes to a leader that was idle, and when a
+    /// new leader begins below heights that were voted for in views before.
     pub fn wants_beat_now(&self) -> bool
-        ensures { result ≡ (wants_beat self.now && leaf_is_certified self.now) }
+        ensures { result ≡ wants_beat_now self.now }
     {
-        self.wants_beat() && self.state.leaf.digest == self.state.high.block.digest
+        let (leaf, high) = (&self.state.leaf, &self.state.high.block);
+        let is_idle = leaf.digest == high.digest;
+        self.wants_beat() && (is_idle || leaf.height < self.state.rules.vheight())
     }
 
     /// The view that it is in.

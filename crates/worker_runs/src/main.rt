@@ -139,7 +139,7 @@ fn each_once<R: Threads + Wait + Clock + Sync>(rt: &R, alloc: Global) -> Result<
     )?)
 }
 
-/// One request for all replicas, which replica 0 proposes until each has executed it.
+/// One request for all replicas, which each of them executes.
 fn one_set<R: Threads + Wait + Clock + Sync>(rt: &R, alloc: Global) -> Result<String> {
     let config = Config::new(1, 2)?;
     let seen = Seen::new(alloc, false)?;
