@@ -206,7 +206,7 @@ impl Replica {
 
     /// Says that the chronicle is kept as an audit wants it, and does nothing else.
     pub fn holds(&self)
-        ensures kept { IsLawfullyKept self.now.keys.sizes self.now.replica.chronicle }
+        ensures { IsLawfullyKept self.now.keys.sizes self.now.replica.chronicle }
     {
         let _steps = self.state.count();
     }
