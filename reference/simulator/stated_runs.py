@@ -176,7 +176,7 @@ def a_liar_among_four():
 
 def certificate_of_another_block():
     """A block whose certificate isn't that of the block at its justified height; then one with too few votes,
-    and one with a voter twice."""
+    and one with a voter twice; and a reply, which isn't for a replica."""
     run = Run(faulty=[0])
     keyring = Keyring(run.config, 0)
     first, other = Core(GENESIS, 1, 0), Core(GENESIS, 1, 0, (Command(0, 1, SET_A, bytes(128)),))
@@ -190,6 +190,8 @@ def certificate_of_another_block():
     run.inject(proposal_of(keyring, 0, child, replace(good, votes=(votes[0], spoilt, votes[2]))), [3])
     twice = replace(votes[2], voter=votes[1].voter)
     run.inject(proposal_of(keyring, 0, child, replace(good, votes=(votes[0], votes[1], twice))), [3])
+    reply = ReplyFrame(0, 0, 1, 1, b"STORED\r\n")
+    run.inject(write(replace(reply, tag=keyring.tag(Kind.REPLY, C0, reply.content()))), [3])
     run.inject(proposal_of(keyring, 0, child, good), [3])
     return run
 
@@ -207,7 +209,7 @@ def all_runs():
         ("a client's vector is spoilt for one replica", a_spoilt_vector()),
         ("a leader proposes two blocks of one height", two_proposals()),
         ("a faulty replica's replies don't count twice, nor do they convince", a_liar_among_four()),
-        ("certificates of another block, of a bad tag, of one voter twice", certificate_of_another_block()),
+        ("certificates of another block, of a bad tag, of one voter twice; and a reply", certificate_of_another_block()),
     ]
     return [(name, run.schedule()) for name, run in runs]
 
