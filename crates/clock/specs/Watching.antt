@@ -1,5 +1,5 @@
 -- What is due to a replica, by what was seen of it.
-use Rattle.std.specs.Prelude.{ℕ, ◌+◌, ◌*◌, ◌-◌, ◌^◌, ◌==◌, ◌&&◌, ◌||◌, not, min, nat_le, Bool, if◌then◌else◌}
+use Rattle.std.specs.Prelude.{ℕ, ◌+◌, ◌*◌, ◌/◌, ◌-◌, ◌^◌, ◌==◌, ◌&&◌, ◌||◌, not, min, max, nat_le, Bool, if◌then◌else◌}
 use Rattle.clock.specs.declared.watch.Pulse.{Pulse}
 use Rattle.clock.specs.declared.watch.Due.{Due}
 use Rattle.clock.specs.declared.watch.Watch.{Watch}
@@ -28,13 +28,17 @@ is_overdue w now p = not (rests w p) && nat_le w.pause (now - w.asked)
 abbrev pub due_of : Watch → ℕ → Pulse → Due
 due_of w now p = record { beat = p.wants_beat_now || is_overdue w now p; timeout = is_late w now p }
 
--- what was seen so far, with this. Both times begin anew where there is nothing to wait for, or what was due is given;
--- the pause is 100 milliseconds, and doubles each time that it passes, until the replica gets on
+-- the next pause, in milliseconds: half of the last, and at least 20, where the replica has got on, and twice as long
+-- where it passed in vain
+abbrev pub pause_after : ℕ → Bool → Bool → ℕ
+pause_after pause got_on passed = if got_on then max (pause / 2) 20 else if passed then min (pause * 2) (2 ^ 64 - 1) else pause
+
+-- what was seen so far, with this. Both times begin anew where there is nothing to wait for, or what was due is given
 abbrev pub looked : Watch → ℕ → Pulse → Watch
 looked w now p = record {
   view = p.view;
   executed = p.executed;
   since = if not p.is_pending || moved w p || is_late w now p then now else w.since;
   asked = if rests w p || is_overdue w now p then now else w.asked;
-  pause = if moved w p then 100 else if is_overdue w now p then min (w.pause * 2) (2 ^ 64 - 1) else w.pause;
+  pause = pause_after w.pause (moved w p) (is_overdue w now p);
 }

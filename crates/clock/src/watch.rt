@@ -1,12 +1,12 @@
 //! What is due to one replica.
 
-ghost use Rattle.std.specs.Prelude.{◌≡◌, ◌-◌, nat_le};
-ghost use Rattle.clock.specs.Watching.{due_of, limit_of, looked};
+ghost use Rattle.std.specs.Prelude.{◌≡◌, if◌then◌else◌};
+ghost use Rattle.clock.specs.Watching.{due_of, is_late, is_overdue, looked, moved, pause_after, rests};
 
 use ids::View;
 
-/// For how many milliseconds a proposal may wait for votes before the first beat on top of it.
-const FIRST_PAUSE: u64 = 100;
+/// For how many milliseconds a proposal may wait for votes, at first and at least, before a beat on top of it.
+const LEAST_PAUSE: u64 = 20;
 
 /// What is seen of a replica at one moment.
 #[derive(Clone, Copy, Debug, PartialEq, Eq)]
@@ -45,6 +45,26 @@ pub struct Watch {
     pause: u64,
 }
 
+/// The beginning of a time that may begin anew.
+fn from(begins: bool, now: u64, before: u64) -> u64
+    ensures { result ≡ (if begins then now else before) }
+{
+    if begins { now } else { before }
+}
+
+/// How long a proposal may wait for votes from now on, where the replica has got on, or has waited so long.
+fn pause_after(pause: u64, moved: bool, overdue: bool) -> u64
+    ensures { result ≡ pause_after pause moved overdue }
+{
+    if moved {
+        (pause / 2).max(LEAST_PAUSE)
+    } else if overdue {
+        pause.saturating_mul(2)
+    } else {
+        pause
+    }
+}
+
 impl Watch {
     /// Nothing was seen yet.
     pub fn new() -> Watch {
@@ -53,15 +73,38 @@ impl Watch {
             executed: 0,
             since: 0,
             asked: 0,
-            pause: FIRST_PAUSE,
+            pause: LEAST_PAUSE,
         }
     }
 
-    /// Whether a view has lasted too long.
-    fn has_lasted(&self, now: u64, view: View) -> bool
-        ensures { result ≡ nat_le (limit_of view) (now - self.now.since) }
+    /// Whether its view or its history changed since it was looked at last.
+    fn has_moved(&self, pulse: Pulse) -> bool
+        ensures { result ≡ moved self.now pulse }
     {
-        now.saturating_sub(self.since) >= view.0.saturating_add(1).saturating_mul(1000)
+        !(pulse.view.0 == self.view.0 && pulse.executed == self.executed)
+    }
+
+    /// Whether its view has lasted too long.
+    fn is_late(&self, now: u64, pulse: Pulse) -> bool
+        ensures { result ≡ is_late self.now now pulse }
+    {
+        let limit = pulse.view.0.saturating_add(1).saturating_mul(1000);
+        pulse.is_pending && !self.has_moved(pulse) && now.saturating_sub(self.since) >= limit
+    }
+
+    /// Whether nothing that it proposed waits for votes, or it has just got on.
+    fn rests(&self, pulse: Pulse) -> bool
+        ensures { result ≡ rests self.now pulse }
+    {
+        let (wants, now) = (pulse.wants_beat, pulse.wants_beat_now);
+        self.has_moved(pulse) || now || !wants
+    }
+
+    /// Whether what it proposed has waited through the whole pause.
+    fn is_overdue(&self, now: u64, pulse: Pulse) -> bool
+        ensures { result ≡ is_overdue self.now now pulse }
+    {
+        !self.rests(pulse) && now.saturating_sub(self.asked) >= self.pause
     }
 
     /// What is due to a replica of which this is seen at a moment, in milliseconds from some start.
@@ -69,23 +112,16 @@ impl Watch {
         ensures due { result ≡ due_of self.old now pulse }
         ensures watch { self.new ≡ looked self.old now pulse }
     {
-        let moved = pulse.view != self.view || pulse.executed != self.executed;
-        let late = pulse.is_pending && !moved && self.has_lasted(now, pulse.view);
-        let rests = moved || pulse.wants_beat_now || !pulse.wants_beat;
-        let overdue = !rests && now.saturating_sub(self.asked) >= self.pause;
-        self.view = pulse.view;
-        self.executed = pulse.executed;
-        if !pulse.is_pending || moved || late {
-            self.since = now;
-        }
-        if rests || overdue {
-            self.asked = now;
-        }
-        if moved {
-            self.pause = FIRST_PAUSE;
-        } else if overdue {
-            self.pause = self.pause.saturating_mul(2);
-        }
+        let (moved, late) = (self.has_moved(pulse), self.is_late(now, pulse));
+        let (rests, overdue) = (self.rests(pulse), self.is_overdue(now, pulse));
+        let waits_anew = !pulse.is_pending || moved || late;
+        *self = Watch {
+            view: pulse.view,
+            executed: pulse.executed,
+            since: from(waits_anew, now, self.since),
+            asked: from(rests || overdue, now, self.asked),
+            pause: pause_after(self.pause, moved, overdue),
+        };
         Due {
             beat: pulse.wants_beat_now || overdue,
             timeout: late,
