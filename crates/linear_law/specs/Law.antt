@@ -11,11 +11,13 @@ use Rattle.definitions.specs.Checks.{Identity, is_good}
 use Rattle.definitions.specs.States.{Justified, raised, qc_high}
 use Rattle.definitions.specs.Chronicles.{Step, Chronicle, IsLawful}
 use Rattle.definitions.specs.Agreement.{Family, IsLawfulFamily}
-use Rattle.definitions.specs.Worlds.{World, Sent, Happening, new_world, is_correct, self_of}
-use Rattle.definitions.specs.Frames.{Frame, spelling}
+use Rattle.definitions.specs.Worlds.{World, Sent, AcceptedBy, Happening, new_world, is_correct, self_of}
+use Rattle.definitions.specs.Frames.{Command, Frame, spelling}
+use Rattle.definitions.specs.Frames as frame
+use Rattle.definitions.specs.Histories.{Entry}
 use Rattle.definitions.specs.Runs.{run}
 use Rattle.definitions.specs.Premises.{AllRead, ArePremises}
-use Rattle.definitions.specs.Linearity.{IsLinear}
+use Rattle.definitions.specs.Linearity.{WasSubmitted, IsLinear}
 
 -- P holds at the end of each run whose premises hold and that refuses no event
 abbrev pub AfterEachRun : (World → Type 0) → Type 0
@@ -90,3 +92,30 @@ pub record HasCertificates (self : Identity) (c : Chronicle) : Type 0 where
 -- each correct replica has such certificates at the end of each such run
 abbrev pub MadeCertificatesAreCertificates : Type 0
 MadeCertificatesAreCertificates = AfterEachRun (λ w. (i : ℕ) → is_correct w i ≡ true → HasCertificates (self_of w i) (w.replica i).chronicle)
+
+-- P holds at the end of each run that refuses no event, whatever is faulty, forged or collides in it
+abbrev pub AfterAnyRun : (World → Type 0) → Type 0
+AfterAnyRun P = (sizes : Sizes) (is_faulty : ℕ → Bool) (ring : ℕ → Keyring) (hs : List Happening) (last : World) → run (new_world sizes is_faulty ring) hs ≡ Ok last → P last
+
+-- two recorded requests of one sender and one seq are the same: of one event, with one payload
+abbrev pub RequestsDiffer : World → Type 0
+RequestsDiffer w = (s t : Sent) (c d : Command) → Among s w.sent → Among t w.sent → s.frame ≡ frame.request c → t.frame ≡ frame.request d
+    → s.sender ≡ t.sender → c.seq ≡ d.seq → s ≡ t
+
+-- no two submissions of a client have one seq
+abbrev pub NoSeqIsGivenTwice : Type 0
+NoSeqIsGivenTwice = AfterAnyRun RequestsDiffer
+
+-- The client of the receipt submitted a command of its seq before it was accepted, and no other one of that seq.
+pub record NamesOneCommand (w : World) (r : AcceptedBy) : Type 0 where
+  pub entry : Entry
+  pub event : ℕ
+  pub client : entry.client ≡ r.client
+  pub seq : entry.seq ≡ r.receipt.seq
+  pub submitted : WasSubmitted w entry event
+  pub before : event < r.event
+  pub alone : (e : Entry) (n : ℕ) → e.client ≡ r.client → e.seq ≡ r.receipt.seq → WasSubmitted w e n → (e ≡ entry) × (n ≡ event)
+
+-- each accepted receipt names one submitted command
+abbrev pub ReceiptsNameCommands : Type 0
+ReceiptsNameCommands = AfterAnyRun (λ w. (r : AcceptedBy) → Among r w.receipts → NamesOneCommand w r)
