@@ -51,7 +51,7 @@ sends-not self st c o (new_reply a m) x h = let k : (reply_to self a).1 ≡ fram
 sends-not self st c o (old_reply a m) x h = let k : (reply_to self a).1 ≡ frame.request x = h in cc
 sends-not self st c o its_view x h = let k : new_view_frame self (st ∷ c) ≡ frame.request x = h in cc
 sends-not self st c o (its_block to a m) x h = let k : block_frame self to a ≡ frame.request x = h in cc
-sends-not self st c o (its_proposal j e) x h = let k : proposal_frame self (view self.sizes c) j ≡ frame.request x = h in cc
+sends-not self st c o (its_proposal j l e) x h = let k : proposal_frame self (view self.sizes c) j ≡ frame.request x = h in cc
 
 outcome-not : (self : Identity) (m : Memory) (v : Ruling) (old : Replica) (r : Replica × Reaction) → Outcome self old.chronicle v old r → (o : Sending) → Among o (out_of self m r.1) → NotRequest o
 outcome-not self m v old r (unchanged n l) o k = none-not o k

@@ -22,3 +22,4 @@ pub mod FramedRuns
 pub mod WholeRuns
 pub mod AnyRuns
 pub mod Submissions
+pub mod Deliveries

@@ -131,7 +131,7 @@ on_reply-heard me m (frame.fetch r d t) s = unheard fault.NotMine s
 on_reply-heard me m (frame.block r c q t) s = unheard fault.NotMine s
 
 -- the command that a client submits
-abbrev asked : Client → ℕ → Bytes → Command
+abbrev pub asked : Client → ℕ → Bytes → Command
 asked me seq payload = record {
   client = me.number;
   seq = seq;
@@ -140,11 +140,11 @@ asked me seq payload = record {
 }
 
 -- a submission is of the next number, or nothing changes
-data IsAsked (me : Client) (payload : Bytes) (s : Session) : Session × Submitted → Type 0 where
+pub data IsAsked (me : Client) (payload : Bytes) (s : Session) : Session × Submitted → Type 0 where
   kept : (n : Fault) → IsAsked me payload s (s, not_sent n)
   given : IsAsked me payload s (record { used = suc s.used; waiting = true; tally = [] }, Submitted.sent_request (frame.request (asked me (suc s.used) payload)))
 
-submission-asked : (me : Client) (m : Memory) (payload : Bytes) (s : Session) → IsAsked me payload s (submission me m payload s)
+pub submission-asked : (me : Client) (m : Memory) (payload : Bytes) (s : Session) → IsAsked me payload s (submission me m payload s)
 unfolding submission request_frame
 submission-asked me m payload s =
     cond_both s.waiting _ _ (IsAsked me payload s) (λ e. kept fault.Busy) (λ e.
@@ -165,7 +165,7 @@ record KeepsGiven (w : World) (e : Event) (f : Effect) : Type 0 where
   waits : (cl : ℕ) → (f.session cl).waiting ≡ true → (((w.session cl).waiting ≡ true) × ((f.session cl).used ≡ (w.session cl).used)) ⊎ IsGivenNow e f cl
   accepted : (r : Receipt) → Among r f.accepted → ((w.session (client_number e)).waiting ≡ true) × (r.seq ≡ (w.session (client_number e)).used)
 
-same-command : (a b : Command) → frame.request a ≡ frame.request b → a ≡ b
+pub same-command : (a b : Command) → frame.request a ≡ frame.request b → a ≡ b
 same-command a b e = cc
 
 told-keeps : (w : World) (e : Event) (x : Session × Heard) → x.0.used ≡ (w.session (client_number e)).used → IsHeard (w.session (client_number e)) x → KeepsGiven w e (told w (client_number e) x)

@@ -1,5 +1,5 @@
 -- The laws of every run, as clauses.
-use Rattle.std.specs.Prelude.{ℕ, ◌≡◌, ◌≢◌, ◌<◌, ◌^◌, Bool, true, List, ◌∷◌, length, Option, Some, Ok}
+use Rattle.std.specs.Prelude.{ℕ, ◌≡◌, ◌≢◌, ◌<◌, ◌^◌, Bool, true, List, [], ◌∷◌, length, Option, Some, Ok, ⊤, slice_get}
 use Rattle.std.specs.List.{AllByRecursion}
 use Rattle.ids.specs.declared.fault.Fault.TheVariants as fault
 use Rattle.ids.specs.Sizes.{Sizes, AreSizes}
@@ -11,12 +11,13 @@ use Rattle.definitions.specs.Checks.{Identity, is_good}
 use Rattle.definitions.specs.States.{Justified, raised, qc_high}
 use Rattle.definitions.specs.Chronicles.{Step, Chronicle, IsLawful}
 use Rattle.definitions.specs.Agreement.{Family, IsLawfulFamily}
-use Rattle.definitions.specs.Worlds.{World, Sent, AcceptedBy, Happening, new_world, is_correct, self_of}
+use Rattle.definitions.specs.Worlds.{World, Sent, AcceptedBy, Event, relay, inject, Happening, new_world, is_correct, self_of}
 use Rattle.definitions.specs.Frames.{Command, Frame, spelling}
 use Rattle.definitions.specs.Frames as frame
 use Rattle.definitions.specs.Histories.{Entry}
 use Rattle.definitions.specs.Runs.{run}
-use Rattle.definitions.specs.Premises.{AllRead, ArePremises}
+use Rattle.definitions.specs.Events.{happens}
+use Rattle.definitions.specs.Premises.{IsFor, AllRead, NoForgery, ArePremises}
 use Rattle.definitions.specs.Linearity.{WasSubmitted, IsLinear}
 
 -- P holds at the end of each run whose premises hold and that refuses no event
@@ -119,3 +120,20 @@ pub record NamesOneCommand (w : World) (r : AcceptedBy) : Type 0 where
 -- each accepted receipt names one submitted command
 abbrev pub ReceiptsNameCommands : Type 0
 ReceiptsNameCommands = AfterAnyRun (λ w. (r : AcceptedBy) → Among r w.receipts → NamesOneCommand w r)
+
+-- a recorded frame comes to a party that it was sent to, and no bytes are invented
+abbrev pub IsDelivered : World → Event → Type 0
+IsDelivered w (relay k to) = (s : Sent) → slice_get w.sent k ≡ Some s → IsFor to s.to s.frame
+IsDelivered w (inject to bytes read) = ⊥
+IsDelivered w e = ⊤
+
+-- so do all of a schedule
+abbrev pub AllDelivered : World → List Happening → Type 0
+AllDelivered w [] = ⊤
+AllDelivered w (h ∷ hs) = IsDelivered w h.0 × AllDelivered (happens w h) hs
+
+-- In a run in which recorded frames alone come, each to a party that it was sent to, no tag is forged, if each correct
+-- replica has its own keys.
+abbrev pub DeliveriesForgeNothing : Type 0
+DeliveriesForgeNothing = (sizes : Sizes) (is_faulty : ℕ → Bool) (ring : ℕ → Keyring) (hs : List Happening) (last : World) → HaveOwnKeys (new_world sizes is_faulty ring)
+    → AllDelivered (new_world sizes is_faulty ring) hs → run (new_world sizes is_faulty ring) hs ≡ Ok last → AllRead sizes hs × NoForgery (new_world sizes is_faulty ring) hs

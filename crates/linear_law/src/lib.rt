@@ -3,7 +3,7 @@
 //! invented frames; refused memory is its one free choice.
 #![tactic(auto)]
 
-ghost use Rattle.linear_law.specs.Law.{EveryRunIsLinear, ChroniclesAreLawful, ChroniclesAreAFamily, NoEventConflicts, SentFramesAreFrames, AnySentFramesAreFrames, SentFramesAreRead, MadeCertificatesAreCertificates, NoSeqIsGivenTwice, ReceiptsNameCommands};
+ghost use Rattle.linear_law.specs.Law.{EveryRunIsLinear, ChroniclesAreLawful, ChroniclesAreAFamily, NoEventConflicts, SentFramesAreFrames, AnySentFramesAreFrames, SentFramesAreRead, MadeCertificatesAreCertificates, NoSeqIsGivenTwice, ReceiptsNameCommands, DeliveriesForgeNothing};
 
 /// Every run is linear.
 pub fn every_run_is_linear()
@@ -56,4 +56,10 @@ pub fn no_seq_is_given_twice()
 /// the receipt, and no other one of that seq in the whole run. Nothing is assumed of the run.
 pub fn receipts_name_commands()
     ensures { ReceiptsNameCommands }
+{}
+
+/// No tag is forged in a run in which recorded frames alone come, each to a party that it was sent to, if each correct
+/// replica has its own keys.
+pub fn deliveries_forge_nothing()
+    ensures { DeliveriesForgeNothing }
 {}
