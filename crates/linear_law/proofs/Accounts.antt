@@ -30,28 +30,28 @@ use Rattle.definitions.specs.Frames as frame
 
 -- ---- a replica sends no request
 
-abbrev NotRequest : Sending → Type 0
+abbrev pub NotRequest : Sending → Type 0
 NotRequest o = (c : Command) → o.1 ≡ frame.request c → ⊥
 
 one-not : (to : To) (f : Frame) → ((c : Command) → f ≡ frame.request c → ⊥) → (o : Sending) → Among o ((to, f) ∷ []) → NotRequest o
 one-not to f apart o (inl i) c h = apart c (sym (ap (λ (x : Sending). x.1) i) ∙ h)
 one-not to f apart o (inr m) c h = m
 
-none-not : (o : Sending) → Among o [] → NotRequest o
+pub none-not : (o : Sending) → Among o [] → NotRequest o
 none-not o m c h = m
 
-fetch-not : (self : Identity) (sender : ℕ) (d : Bytes) (o : Sending) → Among o ((to_party sender, fetch_frame self sender d) ∷ []) → NotRequest o
+pub fetch-not : (self : Identity) (sender : ℕ) (d : Bytes) (o : Sending) → Among o ((to_party sender, fetch_frame self sender d) ∷ []) → NotRequest o
 unfolding fetch_frame
 fetch-not self sender d o m = one-not (to_party sender) (fetch_frame self sender d) (λ c h. cc) o m
 
-sends-not : (self : Identity) (st : Step) (c : Chronicle) (o : Sending) → Sends self st c o → NotRequest o
+pub sends-not : (self : Identity) (st : Step) (c : Chronicle) (o : Sending) → Sends self st c o → NotRequest o
 unfolding vote_frame reply_to new_view_frame block_frame proposal_frame
 sends-not self st c o (its_vote a e v to) x h = let k : vote_frame self a.branch ≡ frame.request x = h in cc
 sends-not self st c o (new_reply a m) x h = let k : (reply_to self a).1 ≡ frame.request x = h in cc
 sends-not self st c o (old_reply a m) x h = let k : (reply_to self a).1 ≡ frame.request x = h in cc
 sends-not self st c o its_view x h = let k : new_view_frame self (st ∷ c) ≡ frame.request x = h in cc
 sends-not self st c o (its_block to a m) x h = let k : block_frame self to a ≡ frame.request x = h in cc
-sends-not self st c o (its_proposal j e) x h = let k : proposal_frame self (view self.sizes c) j ≡ frame.request x = h in cc
+sends-not self st c o (its_proposal j l e) x h = let k : proposal_frame self (view self.sizes c) j ≡ frame.request x = h in cc
 
 outcome-not : (self : Identity) (m : Memory) (v : Ruling) (old : Replica) (r : Replica × Reaction) → Outcome self old.chronicle v old r → (o : Sending) → Among o (out_of self m r.1) → NotRequest o
 outcome-not self m v old r (unchanged n l) o k = none-not o k
@@ -148,11 +148,11 @@ submit-well w cl me m payload s =
     P : Session × Submitted → Type 0
     P = SubmittedWell w cl me.number s
 
-submit-party : (e : Event) (c : ℕ) (payload : Bytes) → e ≡ submit c payload → party_of e ≡ client_party c
+pub submit-party : (e : Event) (c : ℕ) (payload : Bytes) → e ≡ submit c payload → party_of e ≡ client_party c
 unfolding party_of
 submit-party e c payload i = ap party_of i
 
-put-session-own : (c : ℕ) (x : Session) (row : ℕ → Session) (P : Session → Type 0) → P x → P (put c x row c)
+pub put-session-own : (c : ℕ) (x : Session) (row : ℕ → Session) (P : Session → Type 0) → P x → P (put c x row c)
 put-session-own c x row P h = cond_both (c == c) x (row c) P (λ e. h) (λ e. absurd (true≢false (sym (eq-eqb c c refl) ∙ e)))
 
 module _ (Known : Core → Type 0) where

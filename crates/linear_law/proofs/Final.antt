@@ -53,7 +53,7 @@ pub record IsAccount (w : World) : Type 0 where
   pub bound : (s : Sent) (c : Command) (cl : ℕ) → Among s w.sent → s.frame ≡ frame.request c → s.sender ≡ client_party cl → c.seq ≤ (w.session cl).used
   pub once : (s t : Sent) (c d : Command) → Among s w.sent → Among t w.sent → s.frame ≡ frame.request c → t.frame ≡ frame.request d → s.sender ≡ t.sender → c.seq ≡ d.seq → s.event ≡ t.event
 
-same-client : (a b : ℕ) → client_party a ≡ client_party b → a ≡ b
+pub same-client : (a b : ℕ) → client_party a ≡ client_party b → a ≡ b
 same-client a b e = omega arith
 
 module _ (Known : Core → Type 0) where

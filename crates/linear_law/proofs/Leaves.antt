@@ -54,7 +54,7 @@ view-fits self (noted n ∷ c) h = view-fits self c h.1
 -- ---- requests that wait
 
 -- a list with one more element
-all-after : {A : Type 0} (P : A → Type 0) (xs : List A) (x : A) → AllByRecursion P xs → P x → AllByRecursion P (xs ++ x ∷ [])
+pub all-after : {A : Type 0} (P : A → Type 0) (xs : List A) (x : A) → AllByRecursion P xs → P x → AllByRecursion P (xs ++ x ∷ [])
 all-after P [] x h k = (k, tt)
 all-after P (y ∷ xs) x h k = (h.0, all-after P xs x h.1 k)
 
@@ -71,7 +71,7 @@ pending-fit self [] h = tt
 pending-fit self (st ∷ c) h = all-filter (IsCommand self.sizes) (is_due (history (st ∷ c))) (with_request st (pending c)) (all-with_request self st c (pending c) h (pending-fit self c h.1))
 
 -- the first of a list of which each element has a property
-all-take : {A : Type 0} (P : A → Type 0) (n : ℕ) (xs : List A) → AllByRecursion P xs → AllByRecursion P (take n xs)
+pub all-take : {A : Type 0} (P : A → Type 0) (n : ℕ) (xs : List A) → AllByRecursion P xs → AllByRecursion P (take n xs)
 all-take P zero xs h = tt
 all-take P (suc n) [] h = tt
 all-take P (suc n) (x ∷ xs) h = (h.0, all-take P n xs h.1)
@@ -94,7 +94,7 @@ pub record IsChild (self : Identity) (c : Chronicle) (on b : Branch) : Type 0 wh
   pub known : is_known (digest_of on) c ≡ true
 
 -- nothing is no content
-none-some : {A : Type 0} (x : A) → None ≡ Some x → ⊥
+pub none-some : {A : Type 0} (x : A) → None ≡ Some x → ⊥
 none-some x e = cc
 
 -- a child that is made is one

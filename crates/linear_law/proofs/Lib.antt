@@ -21,3 +21,5 @@ pub mod Final
 pub mod FramedRuns
 pub mod WholeRuns
 pub mod AnyRuns
+pub mod Submissions
+pub mod Deliveries

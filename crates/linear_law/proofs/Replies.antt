@@ -107,7 +107,7 @@ sends-reply self st c n o (new_reply a m) r cl s p x t h = own-reply self a (his
 sends-reply self st c n o (old_reply a m) r cl s p x t h = own-reply self a (history (st ∷ c)) (answers-grow (history c) (history (st ∷ c)) (history-grows st c n) a m) (reply_to self a) refl r cl s p x t h
 sends-reply self st c n o its_view r cl s p x t h = absurd (let k : new_view_frame self (st ∷ c) ≡ frame.reply r cl s p x t = h in cc)
 sends-reply self st c n o (its_block to a m) r cl s p x t h = absurd (let k : block_frame self to a ≡ frame.reply r cl s p x t = h in cc)
-sends-reply self st c n o (its_proposal j e) r cl s p x t h = absurd (let k : proposal_frame self (view self.sizes c) j ≡ frame.reply r cl s p x t = h in cc)
+sends-reply self st c n o (its_proposal j l e) r cl s p x t h = absurd (let k : proposal_frame self (view self.sizes c) j ≡ frame.reply r cl s p x t = h in cc)
 
 -- what a member holds grows with each outcome
 held-running : (o : Replica) → o.standing ≡ running → held_history o ≡ history o.chronicle

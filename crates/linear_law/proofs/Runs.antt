@@ -121,7 +121,7 @@ sends-stand self st c o (new_reply a m) d b h = absurd (let k : (reply_to self a
 sends-stand self st c o (old_reply a m) d b h = absurd (let k : (reply_to self a).1 ≡ frame.vote d b = h in cc)
 sends-stand self st c o its_view d b h = absurd (let k : new_view_frame self (st ∷ c) ≡ frame.vote d b = h in cc)
 sends-stand self st c o (its_block to a m) d b h = absurd (let k : block_frame self to a ≡ frame.vote d b = h in cc)
-sends-stand self st c o (its_proposal j e) d b h = absurd (let k : proposal_frame self (view self.sizes c) j ≡ frame.vote d b = h in cc)
+sends-stand self st c o (its_proposal j l e) d b h = absurd (let k : proposal_frame self (view self.sizes c) j ≡ frame.vote d b = h in cc)
 
 -- ---- two decisions of one chronicle do not conflict, so none is refused
 

@@ -19,7 +19,7 @@ pub data Sends (self : Identity) (st : Step) (c : Chronicle) : Sending → Type 
   old_reply : (a : Answer) → Among a (answers (history c)) → Sends self st c (reply_to self a)
   its_view : Sends self st c (to_all, new_view_frame self (st ∷ c))
   its_block : (to : ℕ) (a : Admitted) → Among a (taken c) → Sends self st c (to_party to, block_frame self to a)
-  its_proposal : (j : Justified) → proposed self (st ∷ c) ≡ Some j → Sends self st c (to_all, proposal_frame self (view self.sizes c) j)
+  its_proposal : (j : Justified) → leads self c ≡ true → proposed self (st ∷ c) ≡ Some j → Sends self st c (to_all, proposal_frame self (view self.sizes c) j)
 
 -- what is kept as taken was taken
 as_taken-among : (b : Option Branch) (c : Chronicle) (a : Admitted) → as_taken b c ≡ Some a → Among a (taken c)
@@ -49,9 +49,9 @@ module _ (self : Identity) (st : Step) (c : Chronicle) where
       subst (Sends self st c) (sym r.2) (new_reply r.0 (Among-take n (answers (history (st ∷ c))) r.0 (Among-reverse (take n (answers (history (st ∷ c)))) r.0 r.1)))
 
   -- the proposal, where there is one
-  proposal-sent : (p : Option Justified) (o : Sending) → proposed self (st ∷ c) ≡ p → Among o (proposes self (view self.sizes c) p) → Sends self st c o
-  proposal-sent None o e m = absurd m
-  proposal-sent (Some j) o e m = only _ o (its_proposal j e) m
+  proposal-sent : (p : Option Justified) (o : Sending) → leads self c ≡ true → proposed self (st ∷ c) ≡ p → Among o (proposes self (view self.sizes c) p) → Sends self st c o
+  proposal-sent None o l e m = absurd m
+  proposal-sent (Some j) o l e m = only _ o (its_proposal j l e) m
 
   -- a reply that is given again
   again-sent : (r : Option Answer) (o : Sending) → ((a : Answer) → r ≡ Some a → Among a (answers (history c))) → Among o (again self r) → Sends self st c o
@@ -84,4 +84,4 @@ sends self (noted (got_request r)) c o m =
 sends self (noted (got_fetch to b)) c o m = block-sent self (noted (got_fetch to b)) c to (as_taken b c) o (λ a e. as_taken-among b c a e) m
 sends self (noted timed_out) c o m = only self (noted timed_out) c _ o its_view m
 sends self (noted beat) c o m =
-    sent-if self (noted beat) c (leads self c) _ o (λ e n. proposal-sent self (noted beat) c (proposed self (noted beat ∷ c)) o refl n) m
+    sent-if self (noted beat) c (leads self c) _ o (λ e n. proposal-sent self (noted beat) c (proposed self (noted beat ∷ c)) o e refl n) m

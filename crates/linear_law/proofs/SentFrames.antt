@@ -98,4 +98,4 @@ sends-fit self st c o r (new_reply a m) = reply-fits self r.number a (r.now a m)
 sends-fit self st c o r (old_reply a m) = reply-fits self r.number a (r.before a m)
 sends-fit self st c o r its_view = new_view-fits self r.number (st ∷ c) r.lawful r.stored
 sends-fit self st c o r (its_block to a m) = let k = taken-fit self c a r.stored.1 m in block-fits self r.number to a k.0 k.1
-sends-fit self st c o r (its_proposal j e) = proposal-fits self r.number (view self.sizes c) j (view-fits self c r.stored.1) (r.proposal j e)
+sends-fit self st c o r (its_proposal j l e) = proposal-fits self r.number (view self.sizes c) j (view-fits self c r.stored.1) (r.proposal j e)

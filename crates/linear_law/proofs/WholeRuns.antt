@@ -26,7 +26,7 @@ use Rattle.linear_law.specs.Law.{SentAreFrames, EveryRunIsLinear, ChroniclesAreL
 -- ---- what comes
 
 -- what has a place in a list stands in it
-slice_get-among : {A : Type 0} (xs : List A) (i : ℕ) (x : A) → slice_get xs i ≡ Some x → Among x xs
+pub slice_get-among : {A : Type 0} (xs : List A) (i : ℕ) (x : A) → slice_get xs i ≡ Some x → Among x xs
 slice_get-among [] i x e = absurd (none e)
   where
     none : None ≡ Some x → ⊥

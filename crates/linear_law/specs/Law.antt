@@ -1,5 +1,5 @@
 -- The laws of every run, as clauses.
-use Rattle.std.specs.Prelude.{ℕ, ◌≡◌, ◌≢◌, ◌<◌, ◌^◌, Bool, true, List, ◌∷◌, length, Option, Some, Ok}
+use Rattle.std.specs.Prelude.{ℕ, ◌≡◌, ◌≢◌, ◌<◌, ◌^◌, Bool, true, List, [], ◌∷◌, length, Option, Some, Ok, ⊤, slice_get}
 use Rattle.std.specs.List.{AllByRecursion}
 use Rattle.ids.specs.declared.fault.Fault.TheVariants as fault
 use Rattle.ids.specs.Sizes.{Sizes, AreSizes}
@@ -11,11 +11,14 @@ use Rattle.definitions.specs.Checks.{Identity, is_good}
 use Rattle.definitions.specs.States.{Justified, raised, qc_high}
 use Rattle.definitions.specs.Chronicles.{Step, Chronicle, IsLawful}
 use Rattle.definitions.specs.Agreement.{Family, IsLawfulFamily}
-use Rattle.definitions.specs.Worlds.{World, Sent, Happening, new_world, is_correct, self_of}
-use Rattle.definitions.specs.Frames.{Frame, spelling}
+use Rattle.definitions.specs.Worlds.{World, Sent, AcceptedBy, Event, relay, inject, Happening, new_world, is_correct, self_of}
+use Rattle.definitions.specs.Frames.{Command, Frame, spelling}
+use Rattle.definitions.specs.Frames as frame
+use Rattle.definitions.specs.Histories.{Entry}
 use Rattle.definitions.specs.Runs.{run}
-use Rattle.definitions.specs.Premises.{AllRead, ArePremises}
-use Rattle.definitions.specs.Linearity.{IsLinear}
+use Rattle.definitions.specs.Events.{happens}
+use Rattle.definitions.specs.Premises.{IsFor, AllRead, NoForgery, ArePremises}
+use Rattle.definitions.specs.Linearity.{WasSubmitted, IsLinear}
 
 -- P holds at the end of each run whose premises hold and that refuses no event
 abbrev pub AfterEachRun : (World → Type 0) → Type 0
@@ -90,3 +93,47 @@ pub record HasCertificates (self : Identity) (c : Chronicle) : Type 0 where
 -- each correct replica has such certificates at the end of each such run
 abbrev pub MadeCertificatesAreCertificates : Type 0
 MadeCertificatesAreCertificates = AfterEachRun (λ w. (i : ℕ) → is_correct w i ≡ true → HasCertificates (self_of w i) (w.replica i).chronicle)
+
+-- P holds at the end of each run that refuses no event, whatever is faulty, forged or collides in it
+abbrev pub AfterAnyRun : (World → Type 0) → Type 0
+AfterAnyRun P = (sizes : Sizes) (is_faulty : ℕ → Bool) (ring : ℕ → Keyring) (hs : List Happening) (last : World) → run (new_world sizes is_faulty ring) hs ≡ Ok last → P last
+
+-- two recorded requests of one sender and one seq are the same: of one event, with one payload
+abbrev pub RequestsDiffer : World → Type 0
+RequestsDiffer w = (s t : Sent) (c d : Command) → Among s w.sent → Among t w.sent → s.frame ≡ frame.request c → t.frame ≡ frame.request d
+    → s.sender ≡ t.sender → c.seq ≡ d.seq → s ≡ t
+
+-- no two submissions of a client have one seq
+abbrev pub NoSeqIsGivenTwice : Type 0
+NoSeqIsGivenTwice = AfterAnyRun RequestsDiffer
+
+-- The client of the receipt submitted a command of its seq before it was accepted, and no other one of that seq.
+pub record NamesOneCommand (w : World) (r : AcceptedBy) : Type 0 where
+  pub entry : Entry
+  pub event : ℕ
+  pub client : entry.client ≡ r.client
+  pub seq : entry.seq ≡ r.receipt.seq
+  pub submitted : WasSubmitted w entry event
+  pub before : event < r.event
+  pub alone : (e : Entry) (n : ℕ) → e.client ≡ r.client → e.seq ≡ r.receipt.seq → WasSubmitted w e n → (e ≡ entry) × (n ≡ event)
+
+-- each accepted receipt names one submitted command
+abbrev pub ReceiptsNameCommands : Type 0
+ReceiptsNameCommands = AfterAnyRun (λ w. (r : AcceptedBy) → Among r w.receipts → NamesOneCommand w r)
+
+-- a recorded frame comes to a party that it was sent to, and no bytes are invented
+abbrev pub IsDelivered : World → Event → Type 0
+IsDelivered w (relay k to) = (s : Sent) → slice_get w.sent k ≡ Some s → IsFor to s.to s.frame
+IsDelivered w (inject to bytes read) = ⊥
+IsDelivered w e = ⊤
+
+-- so do all of a schedule
+abbrev pub AllDelivered : World → List Happening → Type 0
+AllDelivered w [] = ⊤
+AllDelivered w (h ∷ hs) = IsDelivered w h.0 × AllDelivered (happens w h) hs
+
+-- In a run in which recorded frames alone come, each to a party that it was sent to, no tag is forged, if each correct
+-- replica has its own keys.
+abbrev pub DeliveriesForgeNothing : Type 0
+DeliveriesForgeNothing = (sizes : Sizes) (is_faulty : ℕ → Bool) (ring : ℕ → Keyring) (hs : List Happening) (last : World) → HaveOwnKeys (new_world sizes is_faulty ring)
+    → AllDelivered (new_world sizes is_faulty ring) hs → run (new_world sizes is_faulty ring) hs ≡ Ok last → AllRead sizes hs × NoForgery (new_world sizes is_faulty ring) hs

@@ -3,7 +3,7 @@
 //! invented frames; refused memory is its one free choice.
 #![tactic(auto)]
 
-ghost use Rattle.linear_law.specs.Law.{EveryRunIsLinear, ChroniclesAreLawful, ChroniclesAreAFamily, NoEventConflicts, SentFramesAreFrames, AnySentFramesAreFrames, SentFramesAreRead, MadeCertificatesAreCertificates};
+ghost use Rattle.linear_law.specs.Law.{EveryRunIsLinear, ChroniclesAreLawful, ChroniclesAreAFamily, NoEventConflicts, SentFramesAreFrames, AnySentFramesAreFrames, SentFramesAreRead, MadeCertificatesAreCertificates, NoSeqIsGivenTwice, ReceiptsNameCommands, DeliveriesForgeNothing};
 
 /// Every run is linear.
 pub fn every_run_is_linear()
@@ -44,4 +44,22 @@ pub fn sent_frames_are_read()
 /// block and good for the replica.
 pub fn made_certificates_are_certificates()
     ensures { MadeCertificatesAreCertificates }
+{}
+
+/// No two submissions of a client have one seq: two recorded requests of one sender and one seq are of the same event,
+/// with the same payload. Nothing is assumed of the run.
+pub fn no_seq_is_given_twice()
+    ensures { NoSeqIsGivenTwice }
+{}
+
+/// Each accepted receipt names one submitted command: its client submitted one of the receipt's seq before it accepted
+/// the receipt, and no other one of that seq in the whole run. Nothing is assumed of the run.
+pub fn receipts_name_commands()
+    ensures { ReceiptsNameCommands }
+{}
+
+/// No tag is forged in a run in which recorded frames alone come, each to a party that it was sent to, if each correct
+/// replica has its own keys.
+pub fn deliveries_forge_nothing()
+    ensures { DeliveriesForgeNothing }
 {}
