@@ -9,7 +9,7 @@ use crate::lying::{LyingOut, Tongue};
 use authenticators::Keyring;
 use clock::{Pulse, Watched, keep_time};
 use crossbeam_channel::Receiver;
-use fabric::{Links, Open, Parcel, Post};
+use fabric::{Links, Open, Parcel, Post, WaitingRoom};
 use ids::{Fault, ReplicaId};
 use key_file::PairKeys;
 use liars::Liar;
@@ -27,6 +27,7 @@ pub(crate) struct Station<'a> {
     number: ReplicaId,
     locked: Locked<'a>,
     parcels: Receiver<Parcel>,
+    room: WaitingRoom,
 }
 
 /// What one worker starts with.
@@ -76,12 +77,19 @@ pub(crate) fn man<R: Wait + AllocGlobal>(
     let mut steps = &station.locked;
     let _share = match tongue {
         None => {
-            let post = Post::new(alloc, keyring, &gate, &station.parcels, links);
+            let post = Post::new(
+                alloc,
+                keyring,
+                &gate,
+                &station.parcels,
+                links,
+                &station.room,
+            );
             post.work(rt, &mut steps, share)
         }
         Some(tongue) => {
             let out = LyingOut { tongue, links };
-            let post = Post::new(alloc, keyring, &gate, &station.parcels, &out);
+            let post = Post::new(alloc, keyring, &gate, &station.parcels, &out, &station.room);
             post.work(rt, &mut steps, share)
         }
     };
@@ -160,6 +168,7 @@ fn build_station<'a>(
         number,
         locked: Mutex::new(kept),
         parcels,
+        room: WaitingRoom::new(alloc),
     };
     Ok((station, Crew { one, two }))
 }

@@ -8,20 +8,16 @@ use crate::gate::Gate;
 use crate::links::{Links, Parcel};
 use crate::steps::Steps;
 use crate::turns::turn;
-use admission::missing;
+use crate::waiting::{Waiting, WaitingRoom, brought};
 use authenticators::Keyring;
 use bytes::Bytes;
 use crossbeam_channel::Receiver;
-use ids::{Fault, ReplicaId};
+use ids::{Digest, Fault, ReplicaId};
 use locked_replica::Share;
 use replica::{Input, Out, Sending, To};
 use signed_frames::fetch_frame;
 use std::alloc::Global;
 use std::sync::Wait;
-use std::thread;
-
-/// How often a frame is brought that stands on an unknown block.
-const TRIES: u32 = 100;
 
 /// Where a worker stands: it takes from a replica's link, sends by `out`, and has a keyring of its own.
 #[derive(Drop)]
@@ -31,6 +27,7 @@ pub struct Post<'a, G, O = Links> {
     gate: &'a G,
     parcels: &'a Receiver<Parcel>,
     out: &'a O,
+    room: &'a WaitingRoom,
     ghost is_a_replica: { keyring.party < replicas keyring.sizes },
 }
 
@@ -63,13 +60,14 @@ fn send_all<R: Wait, O: Outgoing>(rt: &R, to: &O, out: Out) {
 }
 
 impl<'a, G: Gate, O: Outgoing> Post<'a, G, O> {
-    /// The post of one worker of the keyring's replica.
+    /// The post of one worker of the keyring's replica. The replica's workers share the room.
     pub fn new(
         alloc: Global,
         keyring: Keyring,
         gate: &'a G,
         parcels: &'a Receiver<Parcel>,
         out: &'a O,
+        room: &'a WaitingRoom,
     ) -> Post<'a, G, O>
         requires { keyring.party < replicas keyring.sizes }
     {
@@ -79,72 +77,125 @@ impl<'a, G: Gate, O: Outgoing> Post<'a, G, O> {
             gate,
             parcels,
             out,
+            room,
         }
     }
 
-    /// The question for the block that a frame lacks, to the frame's sender, unless that is this replica. Where memory
-    /// is refused there is none.
-    fn question(&self, bytes: &[u8]) -> Option<Sending> {
-        let (to, block) = missing(&self.keyring.config(), bytes)?;
-        if to == self.keyring.replica() {
-            return None;
+    /// Asks the sender of a frame for a block, unless that is this replica. Where memory is refused nothing is asked.
+    fn ask<R: Wait>(&self, rt: &R, sender: ReplicaId, block: &Digest)
+        requires { sender < replicas self.now.keyring.sizes }
+    {
+        if sender == self.keyring.replica() {
+            return;
         }
-        let frame = fetch_frame(self.alloc, &self.keyring, to, &block).ok()?;
-        Some(Sending {
-            to: To::Replica(to),
-            frame,
-        })
+        if let Ok(frame) = fetch_frame(self.alloc, &self.keyring, sender, block) {
+            let to = To::Replica(sender);
+            self.out.send(rt, Sending { to, frame });
+        }
     }
 
-    /// The turn of one frame. One that stands on an unknown block is brought again for a while: the block came before
-    /// it on most links, and the replica's other worker may still check it.
-    fn patient_turn<R: Wait, S: Steps>(
+    /// The turn of one frame. What it sends goes out.
+    fn bring<R: Wait, S: Steps>(
         &self,
         rt: &R,
         steps: &mut S,
         share: &mut Share,
         number: u64,
         bytes: &[u8],
-    ) -> Result<Out, Fault>
+    ) -> Result<(), Fault>
         ensures { (share.new.replica ≡ share.old.replica) × (share.new.number ≡ share.old.number) × (share.old.count ≤ share.new.count) }
     {
-        let config = self.keyring.config();
-        for _ in 0..TRIES {
-            match turn(
-                rt,
-                steps,
-                share,
-                self.gate,
-                number,
-                &self.keyring,
-                &config,
-                bytes,
-            ) {
-                Err(Fault::UnknownParent) => thread::yield_now(),
-                answer => return answer,
-            }
-        }
-        Err(Fault::UnknownParent)
+        let out = turn(
+            rt,
+            steps,
+            share,
+            self.gate,
+            number,
+            &self.keyring,
+            &self.keyring.config(),
+            bytes,
+        )?;
+        send_all(rt, self.out, out);
+        Ok(())
     }
 
-    /// Takes one frame. What its turn sends goes out, and after `UnknownParent` the question for the missing block.
+    /// Brings the frames that lack this block, which the replica has by now, and those that lack a block that one of
+    /// them brought.
+    fn release<R: Wait, S: Steps>(&self, rt: &R, steps: &mut S, share: &mut Share, block: Digest)
+        ensures { (share.new.replica ≡ share.old.replica) × (share.new.number ≡ share.old.number) × (share.old.count ≤ share.new.count) }
+    {
+        let mut known = Vec::new(self.alloc);
+        let mut latest = Some(block);
+        for _ in rt.forever() {
+            let Some(block) = latest.take().or_else(|| known.pop()) else {
+                break;
+            };
+            let Some(frame) = self.room.take_for(rt, &block) else {
+                continue;
+            };
+            let _refused = known.push(block);
+            let brought = self.bring(rt, steps, share, frame.number, frame.bytes.as_slice());
+            if brought.is_ok() {
+                latest = frame.brings;
+            }
+        }
+    }
+
+    /// Takes a frame that was refused with `UnknownParent`. It waits, and is brought once more: the replica's other
+    /// worker may have taken the block before the frame began to wait, and whoever takes it later finds the frame. If
+    /// the block is still unknown, the frame's sender is asked for it, or for the first block below that doesn't wait;
+    /// unless another frame that brings the same block waits, whose sender was asked.
+    fn take_later<R: Wait, S: Steps>(
+        &self,
+        rt: &R,
+        steps: &mut S,
+        share: &mut Share,
+        number: u64,
+        bytes: Bytes,
+    )
+        ensures { (share.new.replica ≡ share.old.replica) × (share.new.number ≡ share.old.number) × (share.old.count ≤ share.new.count) }
+    {
+        let Ok(copy) = bytes.clone() else {
+            return;
+        };
+        let Some((sender, frame)) = Waiting::new(&self.keyring.config(), number, copy) else {
+            return;
+        };
+        let (lacks, brings) = (frame.lacks, frame.brings);
+        let is_new = self.room.wait(rt, frame);
+        let brought = self.bring(rt, steps, share, number, bytes.as_slice());
+        if brought == Err(Fault::UnknownParent) {
+            if is_new {
+                let missing = self.room.first_missing(rt, &lacks);
+                self.ask(rt, sender, &missing);
+            }
+            return;
+        }
+        let _copy = self.room.take_number(rt, number);
+        if let (Ok(()), Some(block)) = (brought, brings) {
+            self.release(rt, steps, share, block);
+        }
+    }
+
+    /// Takes one frame. Where it brings a block, what waited for that block comes next.
     fn take<R: Wait, S: Steps>(
         &self,
         rt: &R,
         steps: &mut S,
         share: &mut Share,
         number: u64,
-        bytes: &[u8],
+        bytes: Bytes,
     )
         ensures { (share.new.replica ≡ share.old.replica) × (share.new.number ≡ share.old.number) × (share.old.count ≤ share.new.count) }
     {
-        match self.patient_turn(rt, steps, share, number, bytes) {
-            Ok(out) => send_all(rt, self.out, out),
-            Err(Fault::UnknownParent) => {
-                if let Some(question) = self.question(bytes) {
-                    self.out.send(rt, question);
+        match self.bring(rt, steps, share, number, bytes.as_slice()) {
+            Ok(()) if self.room.is_empty(rt) => {}
+            Ok(()) => {
+                if let Some(block) = brought(&self.keyring.config(), bytes.as_slice()) {
+                    self.release(rt, steps, share, block);
                 }
             }
+            Err(Fault::UnknownParent) => self.take_later(rt, steps, share, number, bytes),
             Err(_) => {}
         }
     }
@@ -175,7 +226,7 @@ impl<'a, G: Gate, O: Outgoing> Post<'a, G, O> {
         for _ in rt.forever() {
             match self.parcels.recv(rt) {
                 Ok(Parcel::Frame { number, bytes }) => {
-                    self.take(rt, steps, &mut share, number, bytes.as_slice());
+                    self.take(rt, steps, &mut share, number, bytes);
                 }
                 Ok(Parcel::Beat) => self.step(rt, steps, &mut share, Input::Beat),
                 Ok(Parcel::Timeout) => self.step(rt, steps, &mut share, Input::Timeout),

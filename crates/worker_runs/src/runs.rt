@@ -103,14 +103,25 @@ fn stop_all<R: Wait>(rt: &R, links: &Links) {
 }
 
 /// A worker's place at a replica, with a keyring of its own.
-fn post<'a, G: Gate>(stage: &Stage<'a, G>, number: ReplicaId) -> Result<Post<'a, G>, Fault> {
+fn post<'s, 'a, G: Gate>(
+    stage: &Stage<'s, G>,
+    station: &'s Station<'a>,
+) -> Result<Post<'s, G>, Fault> {
+    let number = station.number;
     if number.0 >= stage.config.n() {
         return Err(Fault::NoSuchParty);
     }
     let keyring = keyring_of(stage.alloc, stage.config, number.into())?;
     let parcels = stage.ends.replicas.get(usize::from(number.0));
     let parcels = parcels.ok_or(Fault::NoSuchParty)?;
-    Ok(Post::new(stage.alloc, keyring, stage.gate, parcels, stage.links))
+    Ok(Post::new(
+        stage.alloc,
+        keyring,
+        stage.gate,
+        parcels,
+        stage.links,
+        &station.room,
+    ))
 }
 
 /// What one worker thread is made of.
@@ -133,7 +144,7 @@ impl<'s, 'a, G: Gate> Worker<'s, 'a, G> {
             seen: stage.seen,
         };
         Ok(Worker {
-            post: post(stage, station.number)?,
+            post: post(stage, station)?,
             fake,
             share,
         })
@@ -193,7 +204,11 @@ fn work_all<'s, 'a, R: Threads + Wait + Clock + Sync, G: Gate + Sync>(
 
 /// How many steps a replica made, where its shares have come back.
 fn close(station: Station<'_>, shares: Vec<Share>) -> Result<usize, Fault> {
-    let Station { number: _, locked } = station;
+    let Station {
+        number: _,
+        locked,
+        room: _,
+    } = station;
     match locked.into_inner().close(shares) {
         Ok(Closed { replica, eye: _ }) => Ok(replica.steps()),
         Err(_) => Err(Fault::NotAll),

@@ -5,6 +5,7 @@ ghost use Rattle.std.specs.List.{range_with_len};
 ghost use Rattle.ids.specs.Sizes.{replicas};
 ghost use Rattle.marks.specs.Eyes.{first_eye};
 
+use fabric::WaitingRoom;
 use ids::{Config, Fault, ReplicaId};
 use locked_replica::{Kept, Locked, Share};
 use marks::{Eye, Marks};
@@ -19,6 +20,8 @@ use std::sync::Mutex;
 pub(crate) struct Station<'a> {
     pub(crate) number: ReplicaId,
     pub(crate) locked: Locked<'a>,
+    /// Where the frames of its link wait.
+    pub(crate) room: WaitingRoom,
 }
 
 /// The shares of a replica's two workers.
@@ -45,7 +48,15 @@ fn make_station<'a>(
     let one = kept.share()?;
     let two = kept.share()?;
     let locked = Mutex::new(kept);
-    Ok((Station { number, locked }, Crew { one, two }))
+    let room = WaitingRoom::new(alloc);
+    Ok((
+        Station {
+            number,
+            locked,
+            room,
+        },
+        Crew { one, two },
+    ))
 }
 
 /// Those of all replicas that are wanted, by number.
