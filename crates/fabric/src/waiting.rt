@@ -1,7 +1,6 @@
 //! Frames that wait for a block.
 
 ghost use Rattle.std.specs.Prelude.{◌≡◌, ◌<◌, IfSome};
-ghost use Rattle.ids.specs.Sizes.{replicas};
 
 use admission::missing;
 use bytes::Bytes;
@@ -14,6 +13,10 @@ use std::sync::{Mutex, Wait};
 /// How many frames wait at one replica, at most.
 const MOST_WAITING: usize = 256;
 
+/// How many parcels the workers take before a frame's sender is asked for the block that it lacks: one of them may be
+/// taking that block just then.
+const PATIENCE: u64 = 4;
+
 /// The block that a frame brings.
 pub(crate) fn brought(config: &Config, bytes: &[u8]) -> Option<Digest> {
     match read(config, bytes) {
@@ -23,38 +26,57 @@ pub(crate) fn brought(config: &Config, bytes: &[u8]) -> Option<Digest> {
     }
 }
 
+/// Whether these are the bytes of a proposal.
+fn is_proposal(config: &Config, bytes: &[u8]) -> bool {
+    match read(config, bytes) {
+        Ok(Frame::Proposal(_)) => true,
+        _ => false,
+    }
+}
+
 /// A frame that lacks a block.
 #[derive(Drop)]
 pub(crate) struct Waiting {
     /// Its number on the replica's link.
     pub(crate) number: u64,
+    pub(crate) sender: ReplicaId,
     pub(crate) lacks: Digest,
     /// The block that it brings, if it brings one.
     pub(crate) brings: Option<Digest>,
+    /// Whether it is a proposal, which a replica may vote for.
+    is_proposal: bool,
     pub(crate) bytes: Bytes,
+    /// How many frames had begun to wait, and how many parcels had been taken, when it began to wait.
+    place: u64,
+    since: u64,
 }
 
 impl Waiting {
-    /// A frame of this number, and its sender. None, where frames of this kind lack no block.
-    pub(crate) fn new(config: &Config, number: u64, bytes: Bytes) -> Option<(ReplicaId, Waiting)>
-        ensures { IfSome result (λ w. w.0 < replicas config.now) }
-    {
+    /// A frame of this number. None, where frames of this kind lack no block.
+    pub(crate) fn new(config: &Config, number: u64, bytes: Bytes) -> Option<Waiting> {
         let (sender, lacks) = missing(config, bytes.as_slice())?;
         let brings = brought(config, bytes.as_slice());
-        Some((
+        let is_proposal = is_proposal(config, bytes.as_slice());
+        Some(Waiting {
+            number,
             sender,
-            Waiting {
-                number,
-                lacks,
-                brings,
-                bytes,
-            },
-        ))
+            lacks,
+            brings,
+            is_proposal,
+            bytes,
+            place: 0,
+            since: 0,
+        })
     }
 
     /// Whether it brings this block.
     fn brings(&self, block: &Digest) -> bool {
         self.brings == Some(*block)
+    }
+
+    /// Whether it does all that another frame would, which brings this block.
+    fn serves_for(&self, block: &Digest, is_proposal: bool) -> bool {
+        self.brings(block) && (self.is_proposal || !is_proposal)
     }
 }
 
@@ -62,6 +84,12 @@ impl Waiting {
 #[derive(Drop)]
 struct Queue {
     frames: Vec<Waiting>,
+    /// How many frames have begun to wait.
+    begun: u64,
+    /// How many parcels were taken.
+    parcels: u64,
+    /// Up to which place senders were asked.
+    asked: u64,
 }
 
 impl Model for Queue {
@@ -76,30 +104,52 @@ impl Model for Queue {
 }
 
 impl Queue {
-    /// Whether a frame that waits brings this block.
-    fn brings(&self, block: &Digest) -> bool {
-        self.frames.iter().any(|frame| frame.brings(block))
-    }
-
     /// The block that the frame that brings this block lacks. None, where no such frame waits.
     fn below(&self, block: &Digest) -> Option<Digest> {
         let frame = self.frames.iter().find(|frame| frame.brings(block))?;
         Some(frame.lacks)
     }
 
-    /// Adds a frame, unless one waits that brings the same block: then it answers false. Where the list is full the
-    /// oldest goes.
-    fn add(&mut self, frame: Waiting) -> bool {
-        if let Some(block) = frame.brings
-            && self.brings(&block)
-        {
+    /// Whether a frame waits that does all that this one would.
+    fn has_one_like(&self, other: &Waiting) -> bool {
+        let Some(block) = other.brings else {
             return false;
+        };
+        let is_proposal = other.is_proposal;
+        self.frames
+            .iter()
+            .any(|frame| frame.serves_for(&block, is_proposal))
+    }
+
+    /// Adds a frame, unless one waits that does all that this one would. Where the list is full the oldest goes.
+    fn add(&mut self, mut frame: Waiting) {
+        if self.has_one_like(&frame) {
+            return;
         }
         if self.frames.len() >= MOST_WAITING {
             let _oldest = self.frames.remove(0);
         }
+        self.begun = self.begun.saturating_add(1);
+        frame.place = self.begun;
+        frame.since = self.parcels;
         let _refused = self.frames.push(frame);
-        true
+    }
+
+    /// The oldest frame whose sender wasn't asked and that has waited for so many parcels: its place, sender, and block.
+    fn due(&self) -> Option<(u64, ReplicaId, Digest)> {
+        let (asked, parcels) = (self.asked, self.parcels);
+        let frame = self.frames.iter().find(|frame| {
+            frame.place > asked && frame.since.saturating_add(PATIENCE) <= parcels
+        })?;
+        Some((frame.place, frame.sender, frame.lacks))
+    }
+
+    /// A parcel was taken. Whom to ask now, and for which block, if for any.
+    fn next_question(&mut self) -> Option<(ReplicaId, Digest)> {
+        self.parcels = self.parcels.saturating_add(1);
+        let (place, sender, lacks) = self.due()?;
+        self.asked = place;
+        Some((sender, self.first_missing(&lacks)))
     }
 
     /// Takes out the oldest frame that lacks this block.
@@ -144,13 +194,16 @@ impl WaitingRoom {
         WaitingRoom {
             queue: Mutex::new(Queue {
                 frames: Vec::new(alloc),
+                begun: 0,
+                parcels: 0,
+                asked: 0,
             }),
         }
     }
 
-    /// Lets a frame wait, unless one waits that brings the same block: then it answers false.
-    pub(crate) fn wait<R: Wait>(&self, rt: &R, frame: Waiting) -> bool {
-        self.queue.lock(rt).add(frame)
+    /// Lets a frame wait, unless one waits that does all that this one would.
+    pub(crate) fn wait<R: Wait>(&self, rt: &R, frame: Waiting) {
+        self.queue.lock(rt).add(frame);
     }
 
     /// The oldest frame that lacks this block. It waits no longer.
@@ -163,9 +216,10 @@ impl WaitingRoom {
         self.queue.lock(rt).take_number(number)
     }
 
-    /// The first block that no waiting frame brings: this one, or the one that the frame that brings it lacks, and so on.
-    pub(crate) fn first_missing<R: Wait>(&self, rt: &R, block: &Digest) -> Digest {
-        self.queue.lock(rt).first_missing(block)
+    /// A parcel was taken. Whom to ask now, and for which block, if for any: the first that no waiting frame brings, from
+    /// the one down that a frame lacks.
+    pub(crate) fn next_question<R: Wait>(&self, rt: &R) -> Option<(ReplicaId, Digest)> {
+        self.queue.lock(rt).next_question()
     }
 
     /// Whether nothing waits.

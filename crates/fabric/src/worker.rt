@@ -81,14 +81,15 @@ impl<'a, G: Gate, O: Outgoing> Post<'a, G, O> {
         }
     }
 
-    /// Asks the sender of a frame for a block, unless that is this replica. Where memory is refused nothing is asked.
-    fn ask<R: Wait>(&self, rt: &R, sender: ReplicaId, block: &Digest)
-        requires { sender < replicas self.now.keyring.sizes }
-    {
-        if sender == self.keyring.replica() {
+    /// Asks for the block that a waiting frame lacks, if it has waited long enough.
+    fn ask<R: Wait>(&self, rt: &R) {
+        let Some((sender, block)) = self.room.next_question(rt) else {
+            return;
+        };
+        if sender == self.keyring.replica() || sender.0 >= self.keyring.config().n() {
             return;
         }
-        if let Ok(frame) = fetch_frame(self.alloc, &self.keyring, sender, block) {
+        if let Ok(frame) = fetch_frame(self.alloc, &self.keyring, sender, &block) {
             let to = To::Replica(sender);
             self.out.send(rt, Sending { to, frame });
         }
@@ -142,9 +143,7 @@ impl<'a, G: Gate, O: Outgoing> Post<'a, G, O> {
     }
 
     /// Takes a frame that was refused with `UnknownParent`. It waits, and is brought once more: the replica's other
-    /// worker may have taken the block before the frame began to wait, and whoever takes it later finds the frame. If
-    /// the block is still unknown, the frame's sender is asked for it, or for the first block below that doesn't wait;
-    /// unless another frame that brings the same block waits, whose sender was asked.
+    /// worker may have taken the block before the frame began to wait, and whoever takes it later finds the frame.
     fn take_later<R: Wait, S: Steps>(
         &self,
         rt: &R,
@@ -158,17 +157,13 @@ impl<'a, G: Gate, O: Outgoing> Post<'a, G, O> {
         let Ok(copy) = bytes.clone() else {
             return;
         };
-        let Some((sender, frame)) = Waiting::new(&self.keyring.config(), number, copy) else {
+        let Some(frame) = Waiting::new(&self.keyring.config(), number, copy) else {
             return;
         };
-        let (lacks, brings) = (frame.lacks, frame.brings);
-        let is_new = self.room.wait(rt, frame);
+        let brings = frame.brings;
+        self.room.wait(rt, frame);
         let brought = self.bring(rt, steps, share, number, bytes.as_slice());
         if brought == Err(Fault::UnknownParent) {
-            if is_new {
-                let missing = self.room.first_missing(rt, &lacks);
-                self.ask(rt, sender, &missing);
-            }
             return;
         }
         let _copy = self.room.take_number(rt, number);
@@ -233,6 +228,7 @@ impl<'a, G: Gate, O: Outgoing> Post<'a, G, O> {
                 Ok(Parcel::Stop) | Err(_) => break,
             }
             self.propose(rt, steps, &mut share);
+            self.ask(rt);
         }
         share
     }
