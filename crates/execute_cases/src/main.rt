@@ -6,7 +6,8 @@
 //! `reply CLIENT SEQ` prints the answer that is kept for this number, or `none`; `last CLIENT` the client's last number;
 //! `history` the length and the first 16 bytes of the SHA-256 digest of all entries, one a line.
 //!
-//! `ask BYTES` adds the request of a Request frame to the pending ones, and says whether it is new; `pick CLIENT SEQ`
+//! `ask BYTES` adds the request of a Request frame to the pending ones, and says whether it is new; `fill COUNT BYTES`
+//! adds so many, all as this one but for their numbers from 1, and prints how many were new; `pick CLIENT SEQ`
 //! prints how many of them a block takes on whose branch this request stands, and these, each with its length;
 //! `drop CLIENT SEQ` drops those of a client up to a number, and says how many are left. `new` begins anew. Bytes and
 //! texts are hexadecimal. A line that is refused prints `refused` and the number of the refusal.
@@ -14,7 +15,7 @@
 
 mod pending;
 
-use crate::pending::{ask, bytes_of, client, drop_executed, key_of, pick};
+use crate::pending::{ask, bytes_of, client, drop_executed, fill, key_of, pick};
 use anyhow::Result;
 use executor::{Answer, Executor};
 use frames_view::{CommandView, Commands, Frame, read};
@@ -140,6 +141,7 @@ fn tell_pending(
     let [word, rest] = line;
     match word {
         "ask" => Ok(String::from_str(alloc, ask(alloc, config, pool, rest)?)?),
+        "fill" => Ok(format!(in alloc; "{}", fill(alloc, config, pool, rest)?)?),
         "pick" => pick(alloc, pool, rest),
         "drop" => Ok(format!(in alloc; "{}", drop_executed(pool, rest)?)?),
         _ => Err(Fault::BadFields),

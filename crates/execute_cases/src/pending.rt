@@ -39,6 +39,14 @@ fn add(pool: &mut Mempool, request: &CommandView<'_>) -> Result<bool, Fault> {
 }
 
 /// Adds the request of a Request frame, and says whether it is new.
+fn ask_bytes(config: &Config, pool: &mut Mempool, bytes: &[u8]) -> Result<bool, Fault> {
+    let Ok(Frame::Request(request)) = read(config, bytes) else {
+        return Err(Fault::NotMine);
+    };
+    add(pool, &request)
+}
+
+/// The same, of hexadecimal digits.
 pub(crate) fn ask(
     alloc: Global,
     config: &Config,
@@ -46,14 +54,33 @@ pub(crate) fn ask(
     digits: &str,
 ) -> Result<&'static str, Fault> {
     let bytes = bytes_of(alloc, digits)?;
-    let Ok(Frame::Request(request)) = read(config, &bytes) else {
-        return Err(Fault::NotMine);
-    };
-    Ok(if add(pool, &request)? {
+    Ok(if ask_bytes(config, pool, &bytes)? {
         "new"
     } else {
         "pending"
     })
+}
+
+/// Adds so many requests, all as this one but for their numbers, which go up from 1. How many were new.
+pub(crate) fn fill(
+    alloc: Global,
+    config: &Config,
+    pool: &mut Mempool,
+    words: &str,
+) -> Result<u64, Fault> {
+    let (count, digits) = words.split_once(' ').unwrap_or((words, ""));
+    let mut bytes = bytes_of(alloc, digits)?;
+    let mut new = 0u64;
+    for seq in 1..=number(count)? {
+        if bytes.len() < 11 {
+            return Err(Fault::NotAFrame);
+        }
+        bytes[3..11].copy_from_slice(&seq.to_be_bytes());
+        if ask_bytes(config, pool, &bytes)? {
+            new = new.saturating_add(1);
+        }
+    }
+    Ok(new)
 }
 
 /// How many requests a block takes on whose branch this one stands, and these, each with its length.
