@@ -196,6 +196,21 @@ def certificate_of_another_block():
     return run
 
 
+def announced_views():
+    """One replica is in view 3, another in view 5. The others stay where they are until they heard of both, and then
+    go to view 3, which f + 1 have announced or passed. Its leader proposes, and the one in view 5 doesn't vote."""
+    run = Run()
+    third = [run.do(Timeout(2))[0] for _ in range(3)][-1]
+    fifth = [run.do(Timeout(1))[0] for _ in range(5)][-1]
+    for replica in (0, 3):
+        run.relay(third, [replica])
+        run.do(Beat(replica))
+        run.relay(fifth, [replica])
+    [proposal] = run.do(Beat(3))
+    run.relay(proposal, REPLICAS)
+    return run
+
+
 def all_runs():
     """(name, schedule)"""
     runs = [
@@ -209,7 +224,9 @@ def all_runs():
         ("a client's vector is spoilt for one replica", a_spoilt_vector()),
         ("a leader proposes two blocks of one height", two_proposals()),
         ("a faulty replica's replies don't count twice, nor do they convince", a_liar_among_four()),
-        ("certificates of another block, of a bad tag, of one voter twice; and a reply", certificate_of_another_block()),
+        ("certificates of another block, of a bad tag, of one voter twice; and a reply",
+         certificate_of_another_block()),
+        ("a replica goes to the view that f + 1 have announced or passed", announced_views()),
     ]
     return [(name, run.schedule()) for name, run in runs]
 
