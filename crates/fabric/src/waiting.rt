@@ -8,14 +8,12 @@ use frames_view::{Frame, read};
 use ids::{Config, Digest, ReplicaId};
 use std::alloc::Global;
 use std::marker::Model;
+use std::sync::atomic::AtomicU64;
+use std::sync::atomic::Ordering::SeqCst;
 use std::sync::{Mutex, Wait};
 
 /// How many frames wait at one replica, at most.
 const MOST_WAITING: usize = 256;
-
-/// How many parcels the workers take before a frame's sender is asked for the block that it lacks: one of them may be
-/// taking that block just then.
-const PATIENCE: u64 = 4;
 
 /// The block that a frame brings.
 pub(crate) fn brought(config: &Config, bytes: &[u8]) -> Option<Digest> {
@@ -46,9 +44,10 @@ pub(crate) struct Waiting {
     /// Whether it is a proposal, which a replica may vote for.
     is_proposal: bool,
     pub(crate) bytes: Bytes,
-    /// How many frames had begun to wait, and how many parcels had been taken, when it began to wait.
+    /// How many frames had begun to wait when it did.
     place: u64,
-    since: u64,
+    /// How many parcels must have been done before its sender is asked.
+    due: u64,
 }
 
 impl Waiting {
@@ -65,7 +64,7 @@ impl Waiting {
             is_proposal,
             bytes,
             place: 0,
-            since: 0,
+            due: 0,
         })
     }
 
@@ -86,8 +85,8 @@ struct Queue {
     frames: Vec<Waiting>,
     /// How many frames have begun to wait.
     begun: u64,
-    /// How many parcels were taken.
-    parcels: u64,
+    /// How many parcels were done.
+    done: u64,
     /// Up to which place senders were asked.
     asked: u64,
 }
@@ -121,8 +120,9 @@ impl Queue {
             .any(|frame| frame.serves_for(&block, is_proposal))
     }
 
-    /// Adds a frame, unless one waits that does all that this one would. Where the list is full the oldest goes.
-    fn add(&mut self, mut frame: Waiting) {
+    /// Adds a frame, unless one waits that does all that this one would. Its sender is asked once so many parcels more
+    /// were done. Where the list is full the oldest goes.
+    fn add(&mut self, mut frame: Waiting, parcels: u64) {
         if self.has_one_like(&frame) {
             return;
         }
@@ -131,22 +131,21 @@ impl Queue {
         }
         self.begun = self.begun.saturating_add(1);
         frame.place = self.begun;
-        frame.since = self.parcels;
+        frame.due = self.done.saturating_add(parcels);
         let _refused = self.frames.push(frame);
     }
 
-    /// The oldest frame whose sender wasn't asked and that has waited for so many parcels: its place, sender, and block.
+    /// The oldest frame whose sender is to be asked and wasn't: its place, sender, and block.
     fn due(&self) -> Option<(u64, ReplicaId, Digest)> {
-        let (asked, parcels) = (self.asked, self.parcels);
-        let frame = self.frames.iter().find(|frame| {
-            frame.place > asked && frame.since.saturating_add(PATIENCE) <= parcels
-        })?;
+        let (asked, done) = (self.asked, self.done);
+        let mut waiting = self.frames.iter();
+        let frame = waiting.find(|frame| frame.place > asked && frame.due <= done)?;
         Some((frame.place, frame.sender, frame.lacks))
     }
 
-    /// A parcel was taken. Whom to ask now, and for which block, if for any.
+    /// A parcel was done. Whom to ask now, and for which block, if for any.
     fn next_question(&mut self) -> Option<(ReplicaId, Digest)> {
-        self.parcels = self.parcels.saturating_add(1);
+        self.done = self.done.saturating_add(1);
         let (place, sender, lacks) = self.due()?;
         self.asked = place;
         Some((sender, self.first_missing(&lacks)))
@@ -186,6 +185,8 @@ impl Queue {
 #[derive(Drop)]
 pub struct WaitingRoom {
     queue: Mutex<Queue>,
+    /// How many workers are busy with a parcel.
+    busy: AtomicU64,
 }
 
 impl WaitingRoom {
@@ -195,15 +196,23 @@ impl WaitingRoom {
             queue: Mutex::new(Queue {
                 frames: Vec::new(alloc),
                 begun: 0,
-                parcels: 0,
+                done: 0,
                 asked: 0,
             }),
+            busy: AtomicU64::new(0),
         }
     }
 
-    /// Lets a frame wait, unless one waits that does all that this one would.
+    /// A worker begins with a parcel.
+    pub(crate) fn begin(&self) {
+        self.busy.fetch_add(1, SeqCst);
+    }
+
+    /// Lets a frame wait, unless one waits that does all that this one would. Its sender is asked once all workers that
+    /// are busy now are done: one of them may be taking the block that it lacks.
     pub(crate) fn wait<R: Wait>(&self, rt: &R, frame: Waiting) {
-        self.queue.lock(rt).add(frame);
+        let busy = self.busy.load(SeqCst);
+        self.queue.lock(rt).add(frame, busy);
     }
 
     /// The oldest frame that lacks this block. It waits no longer.
@@ -216,9 +225,10 @@ impl WaitingRoom {
         self.queue.lock(rt).take_number(number)
     }
 
-    /// A parcel was taken. Whom to ask now, and for which block, if for any: the first that no waiting frame brings, from
-    /// the one down that a frame lacks.
-    pub(crate) fn next_question<R: Wait>(&self, rt: &R) -> Option<(ReplicaId, Digest)> {
+    /// A worker is done with a parcel. Whom to ask now, and for which block, if for any: the first that no waiting frame
+    /// brings, from the one down that a frame lacks.
+    pub(crate) fn end<R: Wait>(&self, rt: &R) -> Option<(ReplicaId, Digest)> {
+        self.busy.fetch_sub(1, SeqCst);
         self.queue.lock(rt).next_question()
     }
 

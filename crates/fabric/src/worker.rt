@@ -81,9 +81,9 @@ impl<'a, G: Gate, O: Outgoing> Post<'a, G, O> {
         }
     }
 
-    /// Asks for the block that a waiting frame lacks, if it has waited long enough.
-    fn ask<R: Wait>(&self, rt: &R) {
-        let Some((sender, block)) = self.room.next_question(rt) else {
+    /// A parcel is done. Asks for the block that a waiting frame lacks, if it has waited long enough.
+    fn end<R: Wait>(&self, rt: &R) {
+        let Some((sender, block)) = self.room.end(rt) else {
             return;
         };
         if sender == self.keyring.replica() || sender.0 >= self.keyring.config().n() {
@@ -219,7 +219,9 @@ impl<'a, G: Gate, O: Outgoing> Post<'a, G, O> {
         ensures { (result.replica ≡ share.replica) × (result.number ≡ share.number) × (share.count ≤ result.count) }
     {
         for _ in rt.forever() {
-            match self.parcels.recv(rt) {
+            let parcel = self.parcels.recv(rt);
+            self.room.begin();
+            match parcel {
                 Ok(Parcel::Frame { number, bytes }) => {
                     self.take(rt, steps, &mut share, number, bytes);
                 }
@@ -228,7 +230,7 @@ impl<'a, G: Gate, O: Outgoing> Post<'a, G, O> {
                 Ok(Parcel::Stop) | Err(_) => break,
             }
             self.propose(rt, steps, &mut share);
-            self.ask(rt);
+            self.end(rt);
         }
         share
     }
