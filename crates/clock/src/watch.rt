@@ -13,7 +13,7 @@ const LEAST_PAUSE: u64 = 20;
 pub struct Pulse {
     /// Whether it leads its view and has something to propose.
     pub wants_beat: bool,
-    /// Whether it does so, and nothing that it proposed waits for votes.
+    /// Whether it does so at once: no votes are out that it should wait for.
     pub wants_beat_now: bool,
     /// Whether requests are pending.
     pub is_pending: bool,

@@ -23,9 +23,8 @@ pub trait Steps {
         ensures moved { moved self.old share.old input.entry result self.new share.new }
         ensures counts { Counts share.old result share.new };
 
-    /// A beat, where the replica has something to propose and none of its proposals waits for votes. None, and no
-    /// step, where that isn't so. The question and the step are one: no other step comes between. It may wait for the
-    /// replica.
+    /// A beat, where one brings something at once, as `Replica::wants_beat_now` says. None, and no step, where that isn't
+    /// so. The question and the step are one: no other step comes between. It may wait for the replica.
     fn beat_now<R: Wait>(&mut self, rt: &R, share: &mut Share) -> Option<Result<Out, Fault>>
         ensures moved { IfSome result (λ answer. moved self.old share.old Input.Beat answer self.new share.new) }
         ensures counts { IfSome result (λ answer. Counts share.old answer share.new) }
