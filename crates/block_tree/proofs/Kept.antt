@@ -1,4 +1,5 @@
 -- What nodes stand for is a tree, in which each block stands once.
+use Rattle.ids.specs.declared.limits.TheConstants.{MOST_BLOCKS}
 use Rattle.std.proofs.Common.{ℕ, suc, ◌≡◌, ◌<◌, ◌≤◌, ◌+◌, List, [], ◌∷◌, length, refl, sym, ap, subst, ◌∙◌, arith, inl, inr, ◌++◌, reverse}
 use Rattle.std.specs.Prelude.{⊤}
 use Rattle.std.proofs.lemmas.List.{reverse-append}
@@ -7,7 +8,7 @@ use Rattle.definitions.specs.Bytes.{Bytes}
 use Rattle.definitions.specs.Frames.{Certificate, genesis_core}
 use Rattle.definitions.specs.Branches.{Branch, IsBranch, just1}
 use Rattle.definitions.specs.Digests.{digest, digest_of, core_of}
-use Rattle.definitions.specs.Trees.{Stored, TreeState, blocks, block_of, most_blocks, IsTree}
+use Rattle.definitions.specs.Trees.{Stored, TreeState, blocks, block_of, IsTree}
 use Rattle.definitions.proofs.Trees.{IsGrowth, growth-tree, growth-new, grown-heights, found-in, digest-core, core-known}
 use Rattle.block_tree.specs.declared.node.Node.{Node}
 use Rattle.block_tree.specs.Nodes.{branch_in, block_in, stored_of, IsNode, AreNodes, IsKept}
@@ -23,7 +24,7 @@ pub record IsSound (t : TreeState) : Type 0 where
   pub once : Once t.stored
   pub heights : (x : Branch) → Among x (blocks t.stored) → length x < length (blocks t.stored)
   pub room : length (blocks t.stored) ≤ t.most
-  pub limit : t.most ≤ most_blocks
+  pub limit : t.most ≤ MOST_BLOCKS
 
 genesis_tree : IsTree ([] ∷ [])
 genesis_tree = record {

@@ -1,4 +1,5 @@
 -- Nodes by their numbers.
+use Rattle.ids.specs.declared.limits.TheConstants.{MOST_BLOCKS}
 use Rattle.std.proofs.Common.{ℕ, suc, ◌+◌, ◌≡◌, ◌<◌, ◌≤◌, ◌-◌, Bool, true, false, cond, List, [], ◌∷◌, ◌++◌, length, get_or, reverse, refl, sym, ap, ◌∙◌, arith, ◌⊎◌, inl, inr, Option, Some, None}
 use Rattle.std.specs.Prelude.{option_map}
 use Rattle.std.specs.Str.{bytes_eq}
@@ -8,7 +9,7 @@ use Rattle.std.proofs.lemmas.List.{get_or_append_left, length-reverse}
 use Rattle.definitions.specs.Bytes.{Bytes}
 use Rattle.definitions.specs.Frames.{genesis_core}
 use Rattle.definitions.specs.Digests.{digest, digest_of}
-use Rattle.definitions.specs.Trees.{Stored, blocks, most_blocks}
+use Rattle.definitions.specs.Trees.{Stored, blocks}
 use Rattle.block_tree.specs.declared.node.Node.{Node}
 use Rattle.block_tree.specs.declared.index.Index.{Index}
 use Rattle.block_tree.specs.Indexed.{number_of}
@@ -109,6 +110,6 @@ entered n older h index new k count was is d =
     ∙ ap (λ (e : Bytes). cond (bytes_eq e d) (Some (suc (length stored))) (stored_number d stored)) (sym (node-named n (blocks stored) h.0))
 
 -- genesis alone
-pub new-whole : (most : ℕ) (first : Bytes) (index : Index) → first ≡ digest genesis_core → 1 ≤ most → most ≤ most_blocks → ((d : Bytes) → number_of index d ≡ None) → IsWhole most first [] index []
+pub new-whole : (most : ℕ) (first : Bytes) (index : Index) → first ≡ digest genesis_core → 1 ≤ most → most ≤ MOST_BLOCKS → ((d : Bytes) → number_of index d ≡ None) → IsWhole most first [] index []
 unfolding stored_number stored_of
 new-whole most first index genesis some limit none = record { kept = record { genesis = genesis; nodes = tt; room = some; limit = limit }; indexed = none; counted = genesis-counted }

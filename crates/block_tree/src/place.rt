@@ -1,19 +1,17 @@
 //! What a block comes to in the tree.
 
+ghost use Rattle.ids.specs.declared.limits.TheConstants.{MOST_OF_HEIGHT};
 ghost use Rattle.std.specs.Prelude.{◌≡◌, ◌<◌, ◌==◌, ◌∷◌, not, nat_lt, length, Some, count_by};
 ghost use Rattle.definitions.specs.Branches.{Branch};
 ghost use Rattle.definitions.specs.Digests.{digest as digest_of_core};
-ghost use Rattle.definitions.specs.Trees.{blocks, find_in, block_of, justifies, most_of_height, placing, placing_over};
+ghost use Rattle.definitions.specs.Trees.{blocks, find_in, block_of, justifies, placing, placing_over};
 ghost use Rattle.frames_view.specs.Views.{core_of, certificate_of};
 ghost use Rattle.block_tree.specs.Insertions.{place_of};
 
 use crate::node::is_same;
 use crate::tree::Tree;
 use frames_view::{CertificateView, CoreView};
-use ids::{Digest, Fault, Height};
-
-/// The most blocks of one height.
-const MOST_OF_HEIGHT: usize = 64;
+use ids::{Digest, Fault, Height, MOST_OF_HEIGHT};
 
 /// Where a block stands that isn't refused.
 #[derive(Clone, Copy, Drop)]
@@ -84,7 +82,7 @@ impl Tree {
     /// Whether as many blocks have a height as may have it.
     fn is_crowded(&self, height: Height) -> bool
         requires { 0 < height }
-        ensures { result ≡ not (nat_lt (count_by (λ x. length x == height) (blocks self.now.stored)) most_of_height) }
+        ensures { result ≡ not (nat_lt (count_by (λ x. length x == height) (blocks self.now.stored)) MOST_OF_HEIGHT) }
     {
         self.counts.of(height) >= MOST_OF_HEIGHT
     }

@@ -1,7 +1,8 @@
 //! The tree.
 
+ghost use Rattle.ids.specs.declared.limits.TheConstants.{MOST_BLOCKS};
 ghost use Rattle.std.specs.Prelude.{◌≡◌, ◌≤◌, ◌<◌, [], ◌∷◌, length};
-ghost use Rattle.definitions.specs.Trees.{Stored, blocks, most_blocks};
+ghost use Rattle.definitions.specs.Trees.{Stored, blocks};
 
 use crate::counts::Counts;
 use crate::index::Index;
@@ -38,7 +39,7 @@ impl Tree {
     /// Genesis alone, with room for so many blocks. It takes no memory.
     #[tactic(auto, unfolding(crate::specs::Nodes::stored_of))]
     pub fn new(alloc: Global, most: usize) -> Tree
-        requires { (1 ≤ most) × (most ≤ most_blocks) }
+        requires { (1 ≤ most) × (most ≤ MOST_BLOCKS) }
         ensures { result ≡ record { most = most; stored = [] } }
     {
         Tree {

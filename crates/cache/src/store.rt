@@ -5,11 +5,9 @@ ghost use Rattle.definitions.specs.Cache.{change, store_it};
 ghost use Rattle.mc_lines.specs.Meaning.{reply_of, verb_of};
 
 use crate::cache::Cache;
+use ids::MOST_DATA;
 use mc_lines::{Reply, Verb};
 use std::alloc::{AllocError, Global};
-
-/// The most bytes of data under a key.
-const MOST_DATA: usize = 4096;
 
 /// One text behind another.
 fn joined(alloc: Global, front: &[u8], back: &[u8]) -> Result<Vec<u8>, AllocError>

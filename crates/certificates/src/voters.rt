@@ -14,7 +14,7 @@ pub(crate) struct Voters {
 
 impl Model for Voters {
     ghost use Rattle.std.specs.Prelude.{ℕ, List, ◌≤◌, take};
-    ghost use Rattle.ids.specs.declared.config.TheConstants.{MOST_REPLICAS};
+    ghost use Rattle.ids.specs.declared.limits.TheConstants.{MOST_REPLICAS};
 
     ghost Value = { List ℕ };
 

@@ -9,7 +9,7 @@ use std::alloc::Global;
 use std::marker::Model;
 
 /// The most bytes of a canonical payload: a `cas` with the longest key, numbers and data.
-const MOST_PAYLOAD: usize = 4393;
+const MOST_CANONICAL: usize = 4393;
 
 /// A request's canonical text, in memory that is taken once.
 #[derive(Drop)]
@@ -32,7 +32,7 @@ impl Payload {
     pub(crate) fn new(alloc: Global) -> Result<Payload, Fault>
         ensures { OnErr result (result ≡ Err Memory) }
     {
-        let bytes = Vec::with_capacity(alloc, MOST_PAYLOAD)?;
+        let bytes = Vec::with_capacity(alloc, MOST_CANONICAL)?;
         Ok(Payload { bytes })
     }
 

@@ -1,4 +1,5 @@
 -- A text has one first item, which stays when bytes are appended; an unfinished text has none.
+use Rattle.ids.specs.declared.limits.TheConstants.{MOST_DATA, MOST_LINE}
 use Rattle.std.proofs.Common.{◌≡◌, ◌≢◌, ℕ, zero, suc, ◌+◌, ◌<◌, ◌≤◌, ◌⊎◌, Bool, true, false, cond, List, [], ◌∷◌, ◌++◌, length, get_or, take, drop, Option, Some, None, refl, sym, ap, subst, ◌∙◌, inl, inr, arith, length-append, length-drop, append_assoc, true≢false}
 use Rattle.std.specs.Prelude.{Contains, IsSomeAnd, IfSome, MatchBool, codes, bytes_eq, if◌then◌else◌, nat_lt, nat_le, slice_index, slice_index_or, ◌==◌}
 use Rattle.std.specs.List.{list_any, list_all, position_or_len}
@@ -10,7 +11,7 @@ use Rattle.std.proofs.lemmas.Option.{some_pair_parts}
 use Rattle.std.proofs.lemmas.Slice.Eq.{bytes_eq-Decides}
 use Rattle.ids.specs.declared.line_fault.LineFault.TheVariants.{UnknownName, BadFields, TooLarge, BadChunk, LineTooLong}
 use Rattle.definitions.specs.Bytes.{Bytes}
-use Rattle.definitions.specs.Requests.{set, add, replace, append, prepend, Asked, Head, store, cas, get, gets, delete, incr, decr, head_of, stored_of, crlf, space, fields, noreply_field, line, data_block, spelling, most_data, most_line, IsRequest}
+use Rattle.definitions.specs.Requests.{set, add, replace, append, prepend, Asked, Head, store, cas, get, gets, delete, incr, decr, head_of, stored_of, crlf, space, fields, noreply_field, line, data_block, spelling, IsRequest}
 use Rattle.definitions.specs.Items.{names, name_of, StartsWith, HasNoEnd, FirstLine, IsLineOf, Item, asked, quit, bad, IsItemAt, IsUnfinished, goes_on, AreItems}
 use Rattle.definitions.proofs.Lines.{parts, parts-line, no_cr, line_has_no_end, length-line, head_in, head_at, head_at-line, line_has_head, has_no_form, head_at-none, first_lines_same}
 use Rattle.definitions.proofs.RequestTexts.{with_data, with_data-again, spelling_behind, length-spelling}
@@ -79,7 +80,7 @@ line_has_name l head noreply is =
 abbrev pub item_by_data : Asked → Bool → ℕ → Option ℕ → Bytes → Option (Item × ℕ)
 item_by_data r noreply start None rest = Some (asked r noreply, start)
 item_by_data r noreply start (Some bytes) rest =
-    if nat_lt most_data bytes then Some (bad TooLarge, 0)
+    if nat_lt MOST_DATA bytes then Some (bad TooLarge, 0)
     else if nat_lt (length rest) (bytes + 2) then None
     else if bytes_eq (take 2 (drop bytes rest)) crlf then Some (asked r noreply, start + (bytes + 2))
     else Some (bad BadChunk, 0)
@@ -94,12 +95,12 @@ item_by_line l rest None =
 
 -- the text has this first line, and this stands behind it
 abbrev pub HasFirst : Bytes → Bytes → Bytes → Type 0
-HasFirst text l rest = HasNoEnd l × (length l + 2 ≤ most_line) × (text ≡ l ++ crlf ++ rest)
+HasFirst text l rest = HasNoEnd l × (length l + 2 ≤ MOST_LINE) × (text ≡ l ++ crlf ++ rest)
 
 -- a text's first item is what its first line and the rest make, or else the line is too long
 abbrev pub IsMade : Bytes → Item → ℕ → Type 0
 IsMade text x used = ((l : Bytes) × (rest : Bytes) × HasFirst text l rest × (item_by_line l rest (head_at l) ≡ Some (x, used)))
-    ⊎ ((x ≡ bad LineTooLong) × (used ≡ 0) × (most_line ≤ length text) × HasNoEnd (take most_line text))
+    ⊎ ((x ≡ bad LineTooLong) × (used ≡ 0) × (MOST_LINE ≤ length text) × HasNoEnd (take MOST_LINE text))
 
 -- ---- every item is made so
 
@@ -115,15 +116,15 @@ bytes_differ a b ne = false_from_ne_true _ (λ e. ne ((bytes_eq-Decides a b).0 e
 -- a well-formed line stands first where it stands
 line_first : (text l rest : Bytes) (head : Head) (noreply : Bool) → IsLineOf l head noreply → text ≡ l ++ crlf ++ rest → HasFirst text l rest
 line_first text l rest head noreply is e =
-    (subst HasNoEnd (sym is.2) (line_has_no_end head noreply is.0), subst (λ (t : Bytes). length t + 2 ≤ most_line) (sym is.2) (length-line head noreply is.0 is.1), e)
+    (subst HasNoEnd (sym is.2) (line_has_no_end head noreply is.0), subst (λ (t : Bytes). length t + 2 ≤ MOST_LINE) (sym is.2) (length-line head noreply is.0 is.1), e)
 
 -- data with its end makes the request
-data_there : (r : Asked) (noreply : Bool) (start : ℕ) (stored more : Bytes) → length stored ≤ most_data
+data_there : (r : Asked) (noreply : Bool) (start : ℕ) (stored more : Bytes) → length stored ≤ MOST_DATA
     → item_by_data r noreply start (Some (length stored)) (stored ++ crlf ++ more) ≡ Some (asked r noreply, start + (length stored + 2))
 data_there r noreply start stored more few =
     let behind : drop (length stored) (stored ++ crlf ++ more) ≡ crlf ++ more = ap (drop (length stored)) (append_assoc stored crlf more) ∙ drop_at stored (crlf ++ more) (length stored) refl in
     let long : length stored + 2 ≤ length (stored ++ crlf ++ more) = omega (arith, length-append (stored ++ crlf) more, length-append stored crlf) in
-    cond-false _ _ _ (le-ltb most_data (length stored) few) ∙ cond-false _ _ _ (le-ltb _ _ long)
+    cond-false _ _ _ (le-ltb MOST_DATA (length stored) few) ∙ cond-false _ _ _ (le-ltb _ _ long)
     ∙ cond-true _ _ _ ((bytes_eq-Decides (take 2 (drop (length stored) (stored ++ crlf ++ more))) crlf).1 (ap (take 2) behind))
 
 -- a request's text makes the request
@@ -175,22 +176,22 @@ fields_made : (l rest : Bytes) → Contains names (name_of l) → l ≢ codes "q
 fields_made l rest known ne = cond-false _ _ _ (bytes_differ l (codes "quit") ne) ∙ cond-true _ _ _ (is_known-name (name_of l) known)
 
 -- too much data makes that fault
-large_made : (r : Asked) (noreply : Bool) (start : ℕ) (o : Option ℕ) (rest : Bytes) → IsSomeAnd o (λ bytes. most_data < bytes) → item_by_data r noreply start o rest ≡ Some (bad TooLarge, 0)
+large_made : (r : Asked) (noreply : Bool) (start : ℕ) (o : Option ℕ) (rest : Bytes) → IsSomeAnd o (λ bytes. MOST_DATA < bytes) → item_by_data r noreply start o rest ≡ Some (bad TooLarge, 0)
 large_made r noreply start None rest h = absurd h
-large_made r noreply start (Some bytes) rest h = cond-true _ _ _ (lt-ltb most_data bytes h)
+large_made r noreply start (Some bytes) rest h = cond-true _ _ _ (lt-ltb MOST_DATA bytes h)
 
 -- data without its end makes that fault
 chunk_made : (r : Asked) (noreply : Bool) (start : ℕ) (o : Option ℕ) (rest : Bytes)
-    → IsSomeAnd o (λ bytes. (bytes ≤ most_data) × (bytes + 2 ≤ length rest) × (take 2 (drop bytes rest) ≢ crlf)) → item_by_data r noreply start o rest ≡ Some (bad BadChunk, 0)
+    → IsSomeAnd o (λ bytes. (bytes ≤ MOST_DATA) × (bytes + 2 ≤ length rest) × (take 2 (drop bytes rest) ≢ crlf)) → item_by_data r noreply start o rest ≡ Some (bad BadChunk, 0)
 chunk_made r noreply start None rest h = absurd h
 chunk_made r noreply start (Some bytes) rest h =
-    cond-false _ _ _ (le-ltb most_data bytes h.0) ∙ cond-false _ _ _ (le-ltb (length rest) (bytes + 2) h.1) ∙ cond-false _ _ _ (bytes_differ _ _ h.2)
+    cond-false _ _ _ (le-ltb MOST_DATA bytes h.0) ∙ cond-false _ _ _ (le-ltb (length rest) (bytes + 2) h.1) ∙ cond-false _ _ _ (bytes_differ _ _ h.2)
 
 -- data that is cut makes nothing yet
 short_made : (r : Asked) (noreply : Bool) (start : ℕ) (o : Option ℕ) (rest : Bytes)
-    → IsSomeAnd o (λ bytes. (bytes ≤ most_data) × (length rest < bytes + 2)) → item_by_data r noreply start o rest ≡ None
+    → IsSomeAnd o (λ bytes. (bytes ≤ MOST_DATA) × (length rest < bytes + 2)) → item_by_data r noreply start o rest ≡ None
 short_made r noreply start None rest h = absurd h
-short_made r noreply start (Some bytes) rest h = cond-false _ _ _ (le-ltb most_data bytes h.0) ∙ cond-true _ _ _ (lt-ltb (length rest) (bytes + 2) h.1)
+short_made r noreply start (Some bytes) rest h = cond-false _ _ _ (le-ltb MOST_DATA bytes h.0) ∙ cond-true _ _ _ (lt-ltb (length rest) (bytes + 2) h.1)
 
 -- every item of a text is what its first line and the rest make
 pub item_made : (text : Bytes) (x : Item) (used : ℕ) → IsItemAt text x used → IsMade text x used
@@ -248,14 +249,14 @@ item_made text (bad LineTooLong) used is = inr (refl, is.2, is.0, is.1)
 -- ---- one first item
 
 -- where a text has a first line, an end stands within
-ends_within : (text l rest : Bytes) → HasFirst text l rest → HasNoEnd (take most_line text) → ⊥
+ends_within : (text l rest : Bytes) → HasFirst text l rest → HasNoEnd (take MOST_LINE text) → ⊥
 ends_within text l rest first none =
     let whole : text ≡ l ++ 13 ∷ 10 ∷ rest = first.2 ∙ append_assoc l crlf rest in
-    let short : length l + 2 ≤ most_line = first.1 in
-    let cr : slice_index (take most_line text) (length l + 0) ≡ 13 = get_or-take most_line text (length l + 0) 0 (omega arith) ∙ ap (λ (t : Bytes). get_or t (length l + 0) 0) whole ∙ get_or-append-add l (13 ∷ 10 ∷ rest) 0 0 in
-    let lf : slice_index (take most_line text) (length l + 1) ≡ 10 = get_or-take most_line text (length l + 1) 0 (omega arith) ∙ ap (λ (t : Bytes). get_or t (length l + 1) 0) whole ∙ get_or-append-add l (13 ∷ 10 ∷ rest) 1 0 in
+    let short : length l + 2 ≤ MOST_LINE = first.1 in
+    let cr : slice_index (take MOST_LINE text) (length l + 0) ≡ 13 = get_or-take MOST_LINE text (length l + 0) 0 (omega arith) ∙ ap (λ (t : Bytes). get_or t (length l + 0) 0) whole ∙ get_or-append-add l (13 ∷ 10 ∷ rest) 0 0 in
+    let lf : slice_index (take MOST_LINE text) (length l + 1) ≡ 10 = get_or-take MOST_LINE text (length l + 1) 0 (omega arith) ∙ ap (λ (t : Bytes). get_or t (length l + 1) 0) whole ∙ get_or-append-add l (13 ∷ 10 ∷ rest) 1 0 in
     let here : length l + 0 + 1 ≡ length l + 1 = omega arith in
-    none (length l + 0) cr (ap (λ (k : ℕ). slice_index (take most_line text) k) here ∙ lf)
+    none (length l + 0) cr (ap (λ (k : ℕ). slice_index (take MOST_LINE text) k) here ∙ lf)
 
 -- what a text's first line and the rest make is one
 same_made : (text l m r s : Bytes) → HasFirst text l r → HasFirst text m s → item_by_line l r (head_at l) ≡ item_by_line m s (head_at m)
@@ -285,8 +286,8 @@ first_more : (text l more : Bytes) → FirstLine text l → FirstLine (text ++ m
 first_more text l more h = (h.0, h.1, starts_more text (l ++ crlf) more h.2)
 
 -- data without its end stays so
-chunk_more : (o : Option ℕ) (rest more : Bytes) → IsSomeAnd o (λ bytes. (bytes ≤ most_data) × (bytes + 2 ≤ length rest) × (take 2 (drop bytes rest) ≢ crlf))
-    → IsSomeAnd o (λ bytes. (bytes ≤ most_data) × (bytes + 2 ≤ length (rest ++ more)) × (take 2 (drop bytes (rest ++ more)) ≢ crlf))
+chunk_more : (o : Option ℕ) (rest more : Bytes) → IsSomeAnd o (λ bytes. (bytes ≤ MOST_DATA) × (bytes + 2 ≤ length rest) × (take 2 (drop bytes rest) ≢ crlf))
+    → IsSomeAnd o (λ bytes. (bytes ≤ MOST_DATA) × (bytes + 2 ≤ length (rest ++ more)) × (take 2 (drop bytes (rest ++ more)) ≢ crlf))
 chunk_more None rest more h = h
 chunk_more (Some bytes) rest more h =
     let long : bytes + 2 ≤ length rest = h.1 in
@@ -304,16 +305,16 @@ IsItemAt-append text more (bad TooLarge) used is = (is.0, first_more text is.0 m
 IsItemAt-append text more (bad BadChunk) used is =
     (is.0, is.1 ++ more, is.2, is.3, is.4, ap (λ (t : Bytes). t ++ more) is.5 ∙ append_assoc (is.0 ++ crlf) is.1 more, chunk_more (stored_of is.2) is.1 more is.6, is.7)
 IsItemAt-append text more (bad LineTooLong) used is =
-    let long : most_line ≤ length text = is.0 in
-    (omega (arith, length-append text more), subst HasNoEnd (sym (take-append-le most_line text more long)) is.1, is.2)
+    let long : MOST_LINE ≤ length text = is.0 in
+    (omega (arith, length-append text more), subst HasNoEnd (sym (take-append-le MOST_LINE text more long)) is.1, is.2)
 
 -- ---- unfinished texts
 
 -- nothing is made of an unfinished text
 unfinished_made : (text : Bytes) (x : Item) (used : ℕ) → IsUnfinished text → IsMade text x used → ⊥
 unfinished_made text x used (inl u) (inl a) =
-    let short : length text < most_line = u.0 in
-    ends_within text a.0 a.1 a.2 (subst HasNoEnd (sym (take_all most_line text (omega arith))) u.1)
+    let short : length text < MOST_LINE = u.0 in
+    ends_within text a.0 a.1 a.2 (subst HasNoEnd (sym (take_all MOST_LINE text (omega arith))) u.1)
 unfinished_made text x used (inl u) (inr a) = omega (arith, u.0, a.2)
 unfinished_made text x used (inr u) (inl a) =
     let first = line_first text u.0 u.1 u.2 u.3 u.4 u.5 in
@@ -341,7 +342,7 @@ item_is text a x m n e is =
     subst (λ (y : Item). IsItemAt text y n) same.0 (subst (λ (k : ℕ). IsItemAt text a k) same.1 is)
 
 -- a line and its data are a request
-asked_item : (text l more : Bytes) (r : Asked) (head : Head) (noreply : Bool) → IsLineOf l head noreply → head_of r ≡ head → IfSome (stored_of r) (λ stored. length stored ≤ most_data)
+asked_item : (text l more : Bytes) (r : Asked) (head : Head) (noreply : Bool) → IsLineOf l head noreply → head_of r ≡ head → IfSome (stored_of r) (λ stored. length stored ≤ MOST_DATA)
     → text ≡ l ++ crlf ++ (data_block r ++ more) → IsItemAt text (asked r noreply) (length l + 2 + length (data_block r))
 asked_item text l more r head noreply is e few whole =
     let of : IsLineOf l (head_of r) noreply = subst (λ (h : Head). IsLineOf l h noreply) (sym e) is in (
@@ -351,8 +352,8 @@ asked_item text l more r head noreply is e few whole =
     )
 
 -- a line that announces data, with the data
-data_of : (head : Head) (bytes : ℕ) (rest : Bytes) → stored_of head ≡ Some bytes → bytes ≤ length rest → bytes ≤ most_data
-    → (head_of (with_data head rest) ≡ head) × (data_block (with_data head rest) ≡ take bytes rest ++ crlf) × IfSome (stored_of (with_data head rest)) (λ stored. length stored ≤ most_data)
+data_of : (head : Head) (bytes : ℕ) (rest : Bytes) → stored_of head ≡ Some bytes → bytes ≤ length rest → bytes ≤ MOST_DATA
+    → (head_of (with_data head rest) ≡ head) × (data_block (with_data head rest) ≡ take bytes rest ++ crlf) × IfSome (stored_of (with_data head rest)) (λ stored. length stored ≤ MOST_DATA)
 data_of (store verb key flags b) bytes rest e long few =
     let i : b ≡ bytes = cc in
     let size = length-take-le b rest (omega arith) in
@@ -379,7 +380,7 @@ at_some o bytes P e p = subst (λ (q : Option ℕ). IsSomeAnd q P) (sym e) p
 
 -- the data is there
 whole_item : (text l rest : Bytes) (head : Head) (noreply : Bool) (bytes : ℕ) → IsLineOf l head noreply → text ≡ l ++ crlf ++ rest → stored_of head ≡ Some bytes
-    → bytes ≤ most_data → bytes + 2 ≤ length rest → take 2 (drop bytes rest) ≡ crlf → IsItemAt text (asked (with_data head rest) noreply) (length l + 2 + (bytes + 2))
+    → bytes ≤ MOST_DATA → bytes + 2 ≤ length rest → take 2 (drop bytes rest) ≡ crlf → IsItemAt text (asked (with_data head rest) noreply) (length l + 2 + (bytes + 2))
 whole_item text l rest head noreply bytes is whole e few long ends =
     let d = data_of head bytes rest e (omega arith) few in
     let block : rest ≡ data_block (with_data head rest) ++ drop 2 (drop bytes rest) = rest_parts bytes rest ends ∙ ap (λ (t : Bytes). t ++ drop 2 (drop bytes rest)) (sym d.1) in
@@ -394,11 +395,11 @@ stored_item : (text l rest : Bytes) (head : Head) (noreply : Bool) (bytes : ℕ)
 stored_item text l rest head noreply bytes x used is whole e made =
     let first = line_first text l rest head noreply is whole in
     by_test _ _ _ _ made
-    (λ large f. item_is text (bad TooLarge) x 0 used f (l, (first.0, first.1, (rest, whole)), head, noreply, is, at_some _ bytes _ e (ltb-true most_data bytes large), refl))
+    (λ large f. item_is text (bad TooLarge) x 0 used f (l, (first.0, first.1, (rest, whole)), head, noreply, is, at_some _ bytes _ e (ltb-true MOST_DATA bytes large), refl))
     (λ few f. by_test _ _ _ _ f (λ short g. absurd cc)
     (λ long g. by_test _ _ _ _ g
     (λ ends h. item_is text (asked (with_data head rest) noreply) x (length l + 2 + (bytes + 2)) used h
-    (whole_item text l rest head noreply bytes is whole e (ltb-false most_data bytes few) (ltb-false (length rest) (bytes + 2) long) ((bytes_eq-Decides _ _).0 ends)))
+    (whole_item text l rest head noreply bytes is whole e (ltb-false MOST_DATA bytes few) (ltb-false (length rest) (bytes + 2) long) ((bytes_eq-Decides _ _).0 ends)))
     (λ differs h. item_is text (bad BadChunk) x 0 used h (
       l,
       rest,
@@ -406,7 +407,7 @@ stored_item text l rest head noreply bytes x used is whole e made =
       noreply,
       is,
       whole,
-      at_some _ bytes _ e (ltb-false most_data bytes few, ltb-false (length rest) (bytes + 2) long, λ same. true≢false (sym ((bytes_eq-Decides _ _).1 same) ∙ differs)),
+      at_some _ bytes _ e (ltb-false MOST_DATA bytes few, ltb-false (length rest) (bytes + 2) long, λ same. true≢false (sym ((bytes_eq-Decides _ _).1 same) ∙ differs)),
       refl,
     ))))
 
@@ -420,7 +421,7 @@ stored_open : (text l rest : Bytes) (head : Head) (noreply : Bool) (bytes : ℕ)
     → item_by_data (with_data head rest) noreply (length l + 2) (Some bytes) rest ≡ None → IsUnfinished text
 stored_open text l rest head noreply bytes is whole e made =
     by_test _ _ _ _ made (λ large f. absurd cc)
-    (λ few f. by_test _ _ _ _ f (λ short g. inr (l, rest, head, noreply, is, whole, at_some _ bytes _ e (ltb-false most_data bytes few, ltb-true (length rest) (bytes + 2) short)))
+    (λ few f. by_test _ _ _ _ f (λ short g. inr (l, rest, head, noreply, is, whole, at_some _ bytes _ e (ltb-false MOST_DATA bytes few, ltb-true (length rest) (bytes + 2) short)))
     (λ long g. absurd (both_some _ _ _ g)))
 
 -- a line without data is the request itself
@@ -429,7 +430,7 @@ lone_item : (text l rest : Bytes) (r : Asked) (noreply : Bool) (x : Item) (used 
 lone_item text l rest r noreply x used is whole none empty made =
     let block : rest ≡ data_block r ++ rest = ap (λ (t : Bytes). t ++ rest) (sym empty) in
     let size : length l + 2 + length (data_block r) ≡ length l + 2 = omega (arith, ap (λ (t : Bytes). length t) empty) in
-    let few : IfSome (stored_of r) (λ stored. length stored ≤ most_data) = subst (λ (o : Option Bytes). IfSome o (λ stored. length stored ≤ most_data)) (sym none) tt in
+    let few : IfSome (stored_of r) (λ stored. length stored ≤ MOST_DATA) = subst (λ (o : Option Bytes). IfSome o (λ stored. length stored ≤ MOST_DATA)) (sym none) tt in
     item_is text (asked r noreply) x (length l + 2) used made
     (subst (λ (k : ℕ). IsItemAt text (asked r noreply) k) size (asked_item text l rest r (head_of r) noreply is refl few (whole ∙ ap (λ (t : Bytes). l ++ crlf ++ t) block)))
 
@@ -561,24 +562,24 @@ read_first text l rest first = go (item_by_line l rest (head_at l)) refl
     go (Some (x, used)) e = inl (x, used, made_item text l rest x used first e)
 
 -- no line ends within the limit
-read_long : (text l rest : Bytes) → HasNoEnd l → text ≡ l ++ crlf ++ rest → most_line ≤ length l + 1 → IsItemAt text (bad LineTooLong) 0
+read_long : (text l rest : Bytes) → HasNoEnd l → text ≡ l ++ crlf ++ rest → MOST_LINE ≤ length l + 1 → IsItemAt text (bad LineTooLong) 0
 read_long text l rest none e long =
     let whole : text ≡ (l ++ 13 ∷ []) ++ 10 ∷ rest = e ∙ append_assoc l crlf rest ∙ sym (append_assoc l (13 ∷ []) (10 ∷ rest)) in
-    let front : take most_line text ≡ take most_line (l ++ 13 ∷ []) = ap (take most_line) whole ∙ take-append-le most_line (l ++ 13 ∷ []) (10 ∷ rest) (omega (arith, length-append l (13 ∷ []))) in
-    let many : most_line ≤ length text = omega (arith, ap (λ (t : Bytes). length t) whole, length-append (l ++ 13 ∷ []) (10 ∷ rest), length-append l (13 ∷ [])) in
-    (many, subst HasNoEnd (sym front) (front_has_none most_line (l ++ 13 ∷ []) (cr_has_none l none)), refl)
+    let front : take MOST_LINE text ≡ take MOST_LINE (l ++ 13 ∷ []) = ap (take MOST_LINE) whole ∙ take-append-le MOST_LINE (l ++ 13 ∷ []) (10 ∷ rest) (omega (arith, length-append l (13 ∷ []))) in
+    let many : MOST_LINE ≤ length text = omega (arith, ap (λ (t : Bytes). length t) whole, length-append (l ++ 13 ∷ []) (10 ∷ rest), length-append l (13 ∷ [])) in
+    (many, subst HasNoEnd (sym front) (front_has_none MOST_LINE (l ++ 13 ∷ []) (cr_has_none l none)), refl)
 
 -- a text by its first end
 read_cut : (text : Bytes) → Cut text → Read text
 read_cut text (inl (l, rest, none, e)) =
-    elim (cases_lt (length l + 1) most_line) [
+    elim (cases_lt (length l + 1) MOST_LINE) [
       | inl short ↦ read_first text l rest (none, omega arith, e)
       | inr long ↦ inl (bad LineTooLong, 0, read_long text l rest none e long)
     ]
 read_cut text (inr none) =
-    elim (cases_lt (length text) most_line) [
+    elim (cases_lt (length text) MOST_LINE) [
       | inl short ↦ inr (inl (short, none))
-      | inr long ↦ inl (bad LineTooLong, 0, (long, front_has_none most_line text none, refl))
+      | inr long ↦ inl (bad LineTooLong, 0, (long, front_has_none MOST_LINE text none, refl))
     ]
 
 -- every text has an item or is unfinished

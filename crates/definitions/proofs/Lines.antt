@@ -1,4 +1,5 @@
 -- Request lines: their fields are found again at the spaces, and a line says one thing.
+use Rattle.ids.specs.declared.limits.TheConstants.{MOST_LINE}
 use Rattle.std.proofs.Common.{◌≡◌, ℕ, suc, ◌+◌, ◌*◌, ◌^◌, ◌<◌, ◌≤◌, Bool, true, false, not, List, [], ◌∷◌, ◌++◌, length, All, Option, Some, None, refl, sym, ap, subst, ◌∙◌, inl, inr, arith, length-append, append_assoc}
 use Rattle.std.specs.Prelude.{◌==◌, ◌&&◌, nat_lt, nat_le, codes, decimal, bytes_eq, if◌then◌else◌, slice_index, slice_index_or, drop}
 use Rattle.std.specs.List.{list_all, AllByRecursion, join_with_byte, slice_split}
@@ -13,7 +14,7 @@ use Rattle.std.proofs.lemmas.Fmt.{decimal_is_IsNumeral, length-decimal-le}
 use Rattle.std.proofs.lemmas.Slice.Eq.{bytes_eq-Decides}
 use Rattle.std.proofs.lemmas.Option.{some_pair_parts, cond_some}
 use Rattle.definitions.specs.Bytes.{Bytes}
-use Rattle.definitions.specs.Requests.{Verb, set, add, replace, append, prepend, Head, store, cas, get, gets, delete, incr, decr, takes_noreply, crlf, space, verb_name, fields, noreply_field, line, IsKey, AreKeys, most_line, HasForm, MayHave}
+use Rattle.definitions.specs.Requests.{Verb, set, add, replace, append, prepend, Head, store, cas, get, gets, delete, incr, decr, takes_noreply, crlf, space, verb_name, fields, noreply_field, line, IsKey, AreKeys, HasForm, MayHave}
 use Rattle.definitions.specs.Items.{HasNoEnd, IsLineOf}
 use Rattle.definitions.specs.Canonical.{is_key}
 
@@ -355,7 +356,7 @@ length-noreply_field true = omega arith
 length-noreply_field false = omega arith
 
 -- a well-formed line with its CR LF fits
-pub length-line : (head : Head) (noreply : Bool) → HasForm head → MayHave head noreply → length (line head noreply) + 2 ≤ most_line
+pub length-line : (head : Head) (noreply : Bool) → HasForm head → MayHave head noreply → length (line head noreply) + 2 ≤ MOST_LINE
 length-line (store verb key flags bytes) noreply form may =
     omega (
       arith,

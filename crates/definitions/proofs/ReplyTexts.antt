@@ -1,4 +1,5 @@
 -- How long the text of a reply can be: what a cache holds stays within the limits of requests.
+use Rattle.ids.specs.declared.limits.TheConstants.{MOST_DATA, MOST_KEYS, MOST_TEXT}
 use Rattle.std.proofs.Common.{ℕ, ◌≡◌, ◌+◌, ◌*◌, ◌^◌, ◌%◌, ◌-◌, ◌<◌, ◌≤◌, ◌&&◌, ◌||◌, ◌==◌, Bool, true, false, List, [], ◌∷◌, ◌++◌, length, cond, refl, sym, subst, ◌∙◌, arith, inl, inr, Option, Some, None, nat_lt, nat_le, length-append, bytes_eq, decimal, codes}
 use Rattle.std.specs.Bool.{⊤}
 use Rattle.std.specs.Ordering.{eq_by_cmp}
@@ -11,13 +12,12 @@ use Rattle.std.proofs.lemmas.Bool.{and_parts, cond_both, ltb-true, leb-true, eqb
 use Rattle.std.proofs.lemmas.Fmt.{length-decimal-le}
 use Rattle.definitions.specs.Lists.{Among}
 use Rattle.definitions.specs.Bytes.{Bytes}
-use Rattle.definitions.specs.FrameLimits.{most_text}
-use Rattle.definitions.specs.Requests.{Verb, set, add, replace, append, prepend, Asked, store, cas, get, gets, delete, incr, decr, most_data, IsKey, IsRequest}
+use Rattle.definitions.specs.Requests.{Verb, set, add, replace, append, prepend, Asked, store, cas, get, gets, delete, incr, decr, IsKey, IsRequest}
 use Rattle.definitions.specs.Canonical.{request_of}
 use Rattle.definitions.specs.Replies.{Value, Reply, value_text, reply_text}
 use Rattle.definitions.specs.Replies as reply
 use Rattle.definitions.specs.Cache.{Entry, Cache, key_cmp, most_changes, find, has, Outcome, change, number_in, if_present, store_it, count_it, values_of, apply, apply_payload}
-use Rattle.definitions.specs.Histories.{History, Answer, answers, cache_after, is_fresh, most_keys}
+use Rattle.definitions.specs.Histories.{History, Answer, answers, cache_after, is_fresh}
 use Rattle.definitions.proofs.Certificates.{all-implied}
 use Rattle.definitions.proofs.RequestTexts.{request_of_some}
 
@@ -25,8 +25,8 @@ use Rattle.definitions.proofs.RequestTexts.{request_of_some}
 
 -- the limits of the request's data and keys
 abbrev pub IsWithin : Asked → Type 0
-IsWithin (store verb key flags stored) = (flags < 2 ^ 32) × (length stored ≤ most_data)
-IsWithin (cas key flags stored unique) = (flags < 2 ^ 32) × (length stored ≤ most_data)
+IsWithin (store verb key flags stored) = (flags < 2 ^ 32) × (length stored ≤ MOST_DATA)
+IsWithin (cas key flags stored unique) = (flags < 2 ^ 32) × (length stored ≤ MOST_DATA)
 IsWithin (get keys) = (length keys ≤ 16) × AllByRecursion (λ key. length key ≤ 250) keys
 IsWithin (gets keys) = (length keys ≤ 16) × AllByRecursion (λ key. length key ≤ 250) keys
 IsWithin (delete key) = ⊤
@@ -48,7 +48,7 @@ request-within (decr key value) h = tt
 -- an entry within the limits of a request
 pub record IsEntryWithin (e : Entry) : Type 0 where
   pub flags : e.flags < 2 ^ 32
-  pub stored : length e.stored ≤ most_data
+  pub stored : length e.stored ≤ MOST_DATA
   pub unique : e.unique < 2 ^ 64
 
 -- a cache all of whose entries are
@@ -58,7 +58,7 @@ pub record IsCacheWithin (cache : Cache) : Type 0 where
 
 -- a text that a reply may have
 abbrev FitsReply : Reply → Type 0
-FitsReply r = length (reply_text r) ≤ most_text
+FitsReply r = length (reply_text r) ≤ MOST_TEXT
 
 -- what is left and replied keeps the limits
 pub record IsOutcomeWithin (o : Outcome) : Type 0 where
@@ -103,7 +103,7 @@ stays-within : (cache : Cache) (r : Reply) → IsCacheWithin cache → FitsReply
 stays-within cache r h k = record { cache = h; text = k }
 
 -- a change within the limits
-change-within : (cache : Cache) (key : Bytes) (flags : ℕ) (stored : Bytes) (told : Reply) → IsCacheWithin cache → flags < 2 ^ 32 → length stored ≤ most_data → FitsReply told → IsOutcomeWithin (change cache key flags stored told)
+change-within : (cache : Cache) (key : Bytes) (flags : ℕ) (stored : Bytes) (told : Reply) → IsCacheWithin cache → flags < 2 ^ 32 → length stored ≤ MOST_DATA → FitsReply told → IsOutcomeWithin (change cache key flags stored told)
 change-within cache key flags stored told h f l t =
     cond_both (cache.changes == most_changes) (cache, reply.no_room) _ IsOutcomeWithin
     (λ e. stays-within cache reply.no_room h (omega arith))
@@ -122,7 +122,7 @@ present-within cache key absent present h a p = by (find cache key) refl
 -- ---- what a request does
 
 -- a storage command keeps the limits
-store-within : (most : ℕ) (cache : Cache) (verb : Verb) (key : Bytes) (flags : ℕ) (stored : Bytes) → IsCacheWithin cache → flags < 2 ^ 32 → length stored ≤ most_data → IsOutcomeWithin (store_it most cache verb key flags stored)
+store-within : (most : ℕ) (cache : Cache) (verb : Verb) (key : Bytes) (flags : ℕ) (stored : Bytes) → IsCacheWithin cache → flags < 2 ^ 32 → length stored ≤ MOST_DATA → IsOutcomeWithin (store_it most cache verb key flags stored)
 store-within most cache set key flags stored h f l =
     cond_both (has cache key || nat_lt (map.len cache.entries) most) _ _ IsOutcomeWithin
     (λ e. change-within cache key flags stored reply.stored h f l stored-fits)
@@ -138,11 +138,11 @@ store-within most cache replace key flags stored h f l =
     (λ e. change-within cache key flags stored reply.stored h f l stored-fits)
     (λ e. stays-within cache reply.not_stored h (omega arith))
 store-within most cache append key flags stored h f l = present-within cache key _ _ h (stays-within cache reply.not_stored h (omega arith)) (λ x k.
-    cond_both (nat_le (length (x.stored ++ stored)) most_data) _ _ IsOutcomeWithin
+    cond_both (nat_le (length (x.stored ++ stored)) MOST_DATA) _ _ IsOutcomeWithin
     (λ e. change-within cache key x.flags (x.stored ++ stored) reply.stored h k.flags (leb-true _ _ e) stored-fits)
     (λ e. stays-within cache reply.too_long h (omega arith)))
 store-within most cache prepend key flags stored h f l = present-within cache key _ _ h (stays-within cache reply.not_stored h (omega arith)) (λ x k.
-    cond_both (nat_le (length (stored ++ x.stored)) most_data) _ _ IsOutcomeWithin
+    cond_both (nat_le (length (stored ++ x.stored)) MOST_DATA) _ _ IsOutcomeWithin
     (λ e. change-within cache key x.flags (stored ++ x.stored) reply.stored h k.flags (leb-true _ _ e) stored-fits)
     (λ e. stays-within cache reply.too_long h (omega arith)))
 
@@ -173,7 +173,7 @@ count-within cache key f h small = present-within cache key _ _ h (stays-within 
 record IsValueWithin (v : Value) : Type 0 where
   key : length v.key ≤ 250
   flags : v.flags < 2 ^ 32
-  stored : length v.stored ≤ most_data
+  stored : length v.stored ≤ MOST_DATA
   unique : v.unique < 2 ^ 64
 
 -- the most bytes of one value
@@ -251,16 +251,16 @@ cache_after-within [] = record { entries = λ key e f. absurd (none e (sym (map.
   where
     none : (e : Entry) → None ≡ Some e → ⊥
     none e j = cc
-cache_after-within (e ∷ h) = cond_both (is_fresh e h) _ _ IsCacheWithin (λ t. (payload-within most_keys (cache_after h) e.payload (cache_after-within h)).cache) (λ t. cache_after-within h)
+cache_after-within (e ∷ h) = cond_both (is_fresh e h) _ _ IsCacheWithin (λ t. (payload-within MOST_KEYS (cache_after h) e.payload (cache_after-within h)).cache) (λ t. cache_after-within h)
 
 -- the text of each answer is one that a reply may have
-pub answer-text : (h : History) (a : Answer) → Among a (answers h) → length a.text ≤ most_text
+pub answer-text : (h : History) (a : Answer) → Among a (answers h) → length a.text ≤ MOST_TEXT
 unfolding answers
 answer-text [] a m = absurd m
 answer-text (e ∷ h) a m =
-    by (answer-text h a) (is_fresh e h) _ (payload-within most_keys (cache_after h) e.payload (cache_after-within h)).text m
+    by (answer-text h a) (is_fresh e h) _ (payload-within MOST_KEYS (cache_after h) e.payload (cache_after-within h)).text m
   where
-    by : (Among a (answers h) → length a.text ≤ most_text) → (t : Bool) (new : Answer) → length new.text ≤ most_text → Among a (cond t (new ∷ answers h) (answers h)) → length a.text ≤ most_text
-    by older true new l (inl i) = subst (λ (x : Answer). length x.text ≤ most_text) (sym i) l
+    by : (Among a (answers h) → length a.text ≤ MOST_TEXT) → (t : Bool) (new : Answer) → length new.text ≤ MOST_TEXT → Among a (cond t (new ∷ answers h) (answers h)) → length a.text ≤ MOST_TEXT
+    by older true new l (inl i) = subst (λ (x : Answer). length x.text ≤ MOST_TEXT) (sym i) l
     by older true new l (inr k) = older k
     by older false new l k = older k

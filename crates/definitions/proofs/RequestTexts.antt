@@ -1,4 +1,5 @@
 -- The text of a request determines the request, and request_of finds it again.
+use Rattle.ids.specs.declared.limits.TheConstants.{MOST_DATA}
 use Rattle.std.proofs.Common.{◌≡◌, ℕ, suc, ◌+◌, ◌-◌, ◌^◌, ◌<◌, ◌≤◌, Bool, true, false, cond, List, [], ◌∷◌, ◌++◌, length, take, drop, Option, Some, refl, sym, ap, subst, ◌∙◌, inl, inr, arith, length-append, append_assoc, true≢false, find}
 use Rattle.std.specs.Prelude.{◌==◌, ◌&&◌, codes, decimal, bytes_eq, slice_index, slice_index_or, IfSome}
 use Rattle.std.specs.List.{join_with_byte}
@@ -10,7 +11,7 @@ use Rattle.std.proofs.lemmas.Slice.Eq.{bytes_eq-Decides}
 use Rattle.std.proofs.lemmas.Fmt.{length-decimal-le}
 use Rattle.definitions.specs.Bytes.{Bytes}
 use Rattle.definitions.specs.Lists.{Among}
-use Rattle.definitions.specs.Requests.{Verb, set, add, replace, append, prepend, Asked, Head, store, cas, get, gets, delete, incr, decr, head_of, stored_of, crlf, space, verb_name, fields, line, data_block, spelling, canonical, IsKey, most_data, HasForm, IsRequest}
+use Rattle.definitions.specs.Requests.{Verb, set, add, replace, append, prepend, Asked, Head, store, cas, get, gets, delete, incr, decr, head_of, stored_of, crlf, space, verb_name, fields, line, data_block, spelling, canonical, IsKey, HasForm, IsRequest}
 use Rattle.definitions.specs.Items.{HasNoEnd, IsLineOf}
 use Rattle.definitions.specs.Canonical.{first_line, guesses, is_request, request_of}
 use Rattle.definitions.proofs.Lines.{parts, digits_value-decimal, key_passes, is_key-passes, line_has_no_end, first_lines_same, IsLineOf-unique, may_have, may_passes, form_passes, is_form-passes, parts-line, rest_has_none, length-line, length-verb_name}
@@ -70,7 +71,7 @@ canonical-injective r s a b e = (spelling-injective r s false false a b e).0
 -- ---- the test of a request
 
 -- the test of a request decides its form and how much data it has
-request_form : (r : Asked) → is_request r ≡ true → HasForm (head_of r) × IfSome (stored_of r) (λ stored. length stored ≤ most_data)
+request_form : (r : Asked) → is_request r ≡ true → HasForm (head_of r) × IfSome (stored_of r) (λ stored. length stored ≤ MOST_DATA)
 request_form (store verb key flags stored) e =
     let p = and_parts _ _ e in
     let q = and_parts _ _ p.0 in
@@ -245,7 +246,7 @@ short_line : (r : Asked) → IsRequest r false → length (data_block r) ≡ 0 �
 short_line r is none = let fits = length-line (head_of r) false is.0 is.1 in omega (arith, length-spelling r false, none, fits)
 
 -- the line of a store has at most 276 bytes
-length_store : (verb : Verb) (key : Bytes) (flags bytes : ℕ) → IsKey key → flags < 2 ^ 32 → bytes ≤ most_data → length (line (store verb key flags bytes) false) ≤ 276
+length_store : (verb : Verb) (key : Bytes) (flags bytes : ℕ) → IsKey key → flags < 2 ^ 32 → bytes ≤ MOST_DATA → length (line (store verb key flags bytes) false) ≤ 276
 unfolding spaced_length
 length_store verb key flags bytes is small few =
     let whole = length-spaced (verb_name verb) (key ∷ decimal flags ∷ codes "0" ∷ decimal bytes ∷ []) in
@@ -255,7 +256,7 @@ length_store verb key flags bytes is small few =
     omega (arith, whole, name, ten, four, is.1)
 
 -- the line of a cas has at most 293 bytes
-length_cas : (key : Bytes) (flags bytes unique : ℕ) → IsKey key → flags < 2 ^ 32 → bytes ≤ most_data → unique < 2 ^ 64 → length (line (cas key flags bytes unique) false) ≤ 293
+length_cas : (key : Bytes) (flags bytes unique : ℕ) → IsKey key → flags < 2 ^ 32 → bytes ≤ MOST_DATA → unique < 2 ^ 64 → length (line (cas key flags bytes unique) false) ≤ 293
 unfolding spaced_length
 length_cas key flags bytes unique is small few low =
     let whole = length-spaced (codes "cas") (key ∷ decimal flags ∷ codes "0" ∷ decimal bytes ∷ decimal unique ∷ []) in

@@ -1,4 +1,5 @@
 -- Each step that stands keeps a replica's chronicle lawful.
+use Rattle.ids.specs.declared.limits.TheConstants.{MOST_BLOCKS}
 use Rattle.definitions.proofs.Branches.{just1-extends, branch_eq-decides, extends-true, extends-cases, length-extends, justify_height-just1}
 use Rattle.ids.specs.declared.fault.Fault.{Fault}
 use Rattle.ids.specs.declared.fault.Fault.TheVariants as fault
@@ -13,7 +14,7 @@ use Rattle.definitions.specs.Branches.{Branch, justify_height, just1, Extends, I
 use Rattle.definitions.specs.Bytes.{Bytes}
 use Rattle.ids.specs.Sizes.{Sizes, replicas, quorum}
 use Rattle.definitions.specs.Digests.{digest, digest_of}
-use Rattle.definitions.specs.Trees.{block_of, is_clear, clear_above, most_blocks, Placing, Placing.stands, Placing.grows, Placing.lacks_parent, Placing.unfit, placing, IsTree}
+use Rattle.definitions.specs.Trees.{block_of, is_clear, clear_above, Placing, Placing.stands, Placing.grows, Placing.lacks_parent, Placing.unfit, placing, IsTree}
 use Rattle.definitions.proofs.Trees.{same_bytes, found-in, unfit-calm, IsPlaced, placed, tree-below, growth-tree, growth-new, grown-heights}
 use Rattle.definitions.specs.Chronicles.{Admitted, Step, Step.took_block, Step.noted, Note.got_vote, Note.got_new_view, Note.got_request, Note.timed_out, Note.beat, Chronicle, taken, stored, stored_of, tree, lock, history, may_vote, IsLawfulVote, IsLawfulStep, IsSound}
 use Rattle.definitions.specs.Checks.{Identity, Findings, is_genesis}
@@ -102,7 +103,7 @@ certified sizes core q f j t tr m ch e =
     ]
 
 -- a new block that passes the tests
-new-step : (self : Identity) (w : Option ℕ) (parent : Branch) (core : Core) (q : Certificate) (f : Findings) (c : Chronicle) → IsSound self.sizes c → IsTree ((block_of core ∷ parent) ∷ tree c) → (Among (block_of core ∷ parent) (tree c) → ⊥) → Among parent (tree c) → IsChecked self.sizes core q f → q.digest ≡ digest_of (just1 (block_of core ∷ parent)) → length (tree c) < most_blocks →
+new-step : (self : Identity) (w : Option ℕ) (parent : Branch) (core : Core) (q : Certificate) (f : Findings) (c : Chronicle) → IsSound self.sizes c → IsTree ((block_of core ∷ parent) ∷ tree c) → (Among (block_of core ∷ parent) (tree c) → ⊥) → Among parent (tree c) → IsChecked self.sizes core q f → q.digest ≡ digest_of (just1 (block_of core ∷ parent)) → length (tree c) < MOST_BLOCKS →
     OnStands (λ st. IsSound self.sizes (st ∷ c)) (take_block self w (admitted (block_of core ∷ parent) core q f true) c)
 unfolding admitted tree stored taken
 new-step self w parent core q f c so tr fresh m ch e room = record {
@@ -129,7 +130,7 @@ pub found : (d : Bytes) (c : Chronicle) (b : Branch) → find_block d c ≡ Some
 unfolding find_block
 found d c b e = found-in d (tree c) b e
 
-placed-sound : (self : Identity) (w : Option ℕ) (sender : ℕ) (core : Core) (q : Certificate) (f : Findings) (c : Chronicle) → IsChecked self.sizes core q f → IsSound self.sizes c → (p : Placing) → IsPlaced most_blocks core q (tree c) p → Keeps self c (on_placing self w sender core q f c p)
+placed-sound : (self : Identity) (w : Option ℕ) (sender : ℕ) (core : Core) (q : Certificate) (f : Findings) (c : Chronicle) → IsChecked self.sizes core q f → IsSound self.sizes c → (p : Placing) → IsPlaced MOST_BLOCKS core q (tree c) p → Keeps self c (on_placing self w sender core q f c p)
 unfolding on_placing admitted tree stored taken
 placed-sound self w sender core q f c ch so (stands b) h =
     let m = (found-in (digest core) (tree c) b h.0).0 in
@@ -142,21 +143,21 @@ placed-sound self w sender core q f c ch so (stands b) h =
 placed-sound self w sender core q f c ch so (grows b) (parent, g) =
     subst (λ (x : Branch). OnStands (λ st. IsSound self.sizes (st ∷ c)) (take_block self w (admitted x core q f true) c)) (sym g.is)
     (new-step self w parent core q f c so
-    (subst (λ (x : Branch). IsTree (x ∷ tree c)) g.is (growth-tree most_blocks core q (tree c) b parent so.is_tree ch.below g))
-    (subst (λ (x : Branch). Among x (tree c) → ⊥) g.is (growth-new most_blocks core q (tree c) b parent g))
+    (subst (λ (x : Branch). IsTree (x ∷ tree c)) g.is (growth-tree MOST_BLOCKS core q (tree c) b parent so.is_tree ch.below g))
+    (subst (λ (x : Branch). Among x (tree c) → ⊥) g.is (growth-new MOST_BLOCKS core q (tree c) b parent g))
     (found-in core.parent (tree c) parent g.parent_found).0 ch g.justified g.room)
 placed-sound self w sender core q f c ch so lacks_parent h = tt
 placed-sound self w sender core q f c ch so (unfit n) h = unfit-calm n h
 
 block-sound : (self : Identity) (w : Option ℕ) (sender : ℕ) (core : Core) (q : Certificate) (f : Findings) (c : Chronicle) → IsChecked self.sizes core q f → IsSound self.sizes c → Keeps self c (on_block self w sender core q f c)
-block-sound self w sender core q f c ch so = placed-sound self w sender core q f c ch so (placing most_blocks core q (tree c)) (placed most_blocks core q (tree c))
+block-sound self w sender core q f c ch so = placed-sound self w sender core q f c ch so (placing MOST_BLOCKS core q (tree c)) (placed MOST_BLOCKS core q (tree c))
 
 -- a step that takes no block
 other-sound : (need : Sizes) (c : Chronicle) (st : Step) → tree (st ∷ c) ≡ tree c → IsLawfulStep need st c → IsSound need c → IsSound need (st ∷ c)
 other-sound need c st e l so = record {
   is_tree = subst IsTree (sym e) so.is_tree;
   lawful = (l, so.lawful);
-  bounded = subst (λ (t : List Branch). length t ≤ most_blocks) (sym e) so.bounded;
+  bounded = subst (λ (t : List Branch). length t ≤ MOST_BLOCKS) (sym e) so.bounded;
   heights = subst (λ (t : List Branch). (x : Branch) → Among x t → length x < length t) (sym e) so.heights;
 }
 

@@ -1,4 +1,5 @@
 -- What the tests on a block's place in a tree establish, and that a tree stays one.
+use Rattle.ids.specs.declared.limits.TheConstants.{MOST_OF_HEIGHT}
 use Rattle.ids.specs.declared.fault.Fault.{Fault}
 use Rattle.ids.specs.declared.fault.Fault.TheVariants as fault
 use Rattle.std.proofs.Common.{ℕ, suc, ◌≡◌, ◌<◌, ◌==◌, not, true, List, [], ◌∷◌, ◌++◌, length, refl, sym, ap, subst, ◌∙◌, arith, ◌⊎◌, inl, inr, Option, Some, None, nat_lt, count_by, bytes_eq}
@@ -10,7 +11,7 @@ use Rattle.definitions.specs.Frames.{Core, Certificate}
 use Rattle.definitions.specs.Branches.{Block, Branch, just1, Extends, IsBranch}
 use Rattle.definitions.specs.Bytes.{Bytes}
 use Rattle.definitions.specs.Digests.{digest, core_over, digest_of, core_of}
-use Rattle.definitions.specs.Trees.{find_in, block_of, most_of_height, justifies, Placing, Placing.stands, Placing.grows, Placing.lacks_parent, Placing.unfit, placing_known, placing_new, placing, IsTree}
+use Rattle.definitions.specs.Trees.{find_in, block_of, justifies, Placing, Placing.stands, Placing.grows, Placing.lacks_parent, Placing.unfit, placing_known, placing_new, placing, IsTree}
 
 pub same_bytes : (a b : Bytes) → bytes_eq a b ≡ true → a ≡ b
 same_bytes a b h = (bytes_decides a b).0 h
@@ -81,7 +82,7 @@ unfolding placing_new
 placed-new most core q t parent found none =
     cond_both (not (core.height == suc (length parent))) _ _ P (λ e. inr (inl refl)) (λ h.
     cond_both (not (justifies q (block_of core ∷ parent))) _ _ P (λ e. inl refl) (λ j.
-    cond_both (not (nat_lt (count_by (λ x. length x == suc (length parent)) t) most_of_height)) _ _ P (λ e. inr (inr (inl refl))) (λ r.
+    cond_both (not (nat_lt (count_by (λ x. length x == suc (length parent)) t) MOST_OF_HEIGHT)) _ _ P (λ e. inr (inr (inl refl))) (λ r.
     cond_both (not (nat_lt (length t) most)) _ _ P (λ e. inr (inr (inr refl))) (λ f.
     (parent, record { is = refl; parent_found = found; new = none; height = eqb-true core.height (suc (length parent)) (not-false _ h); justified = same_bytes _ _ (not-false _ j); room = ltb-true _ _ (not-false _ f) })))))
   where

@@ -1,5 +1,6 @@
 -- The sequential cache: what each request does to it and what it replies (protocol.txt, with this
 -- project's own choices where the cache is full).
+use Rattle.ids.specs.declared.limits.TheConstants.{MOST_DATA}
 use Rattle.std.specs.Prelude.{ℕ, ◌+◌, ◌-◌, ◌%◌, ◌^◌, Bool, true, false, ◌||◌, ◌&&◌, List, ◌++◌, length, Option, Some, None, option_map, decimal, nat_lt, nat_le, ◌==◌, bytes_eq, if◌then◌else◌, filter_map}
 use Rattle.std.specs.Option.{option_map_or}
 use Rattle.std.specs.Str.Parse.{digits_value}
@@ -8,7 +9,7 @@ use Rattle.std.specs.declared.cmp.Ordering.{Ordering}
 use Rattle.std.specs.Cmp.Lexicographic.{slice_cmp}
 use Rattle.std.specs.FinMap.{FinMap}
 use Rattle.std.specs.FinMap as map
-use Rattle.definitions.specs.Requests.{Verb, set, add, replace, append, prepend, Asked, store, cas, get, gets, delete, incr, decr, most_data}
+use Rattle.definitions.specs.Requests.{Verb, set, add, replace, append, prepend, Asked, store, cas, get, gets, delete, incr, decr}
 use Rattle.definitions.specs.Canonical.{request_of}
 use Rattle.definitions.specs.Replies.{Value, Reply}
 use Rattle.definitions.specs.Replies as reply
@@ -76,10 +77,10 @@ store_it most cache add key flags stored =
 store_it most cache replace key flags stored =
     if has cache key then change cache key flags stored reply.stored else (cache, reply.not_stored)
 store_it most cache append key flags stored = if_present cache key (cache, reply.not_stored) (λ e.
-    if nat_le (length (e.stored ++ stored)) most_data then change cache key e.flags (e.stored ++ stored) reply.stored
+    if nat_le (length (e.stored ++ stored)) MOST_DATA then change cache key e.flags (e.stored ++ stored) reply.stored
     else (cache, reply.too_long))
 store_it most cache prepend key flags stored = if_present cache key (cache, reply.not_stored) (λ e.
-    if nat_le (length (stored ++ e.stored)) most_data then change cache key e.flags (stored ++ e.stored) reply.stored
+    if nat_le (length (stored ++ e.stored)) MOST_DATA then change cache key e.flags (stored ++ e.stored) reply.stored
     else (cache, reply.too_long))
 
 -- a number takes another one's place

@@ -3,7 +3,8 @@
 use Rattle.std.specs.Prelude.{ℕ, ◌+◌, ◌-◌, ◌^◌, Bool, ◌&&◌, not, List, [], ◌∷◌, length, take, drop, Option, nat_lt, nat_le, ◌==◌, bytes_eq, if◌then◌else◌, slice_index, slice_index_or, find, is_some}
 use Rattle.std.specs.List.{slice_split, list_all}
 use Rattle.std.specs.Str.Parse.{digits_value}
-use Rattle.definitions.specs.Requests.{Asked, set, add, replace, append, prepend, store, cas, get, gets, delete, incr, decr, canonical, space, most_data}
+use Rattle.definitions.specs.Requests.{Asked, set, add, replace, append, prepend, store, cas, get, gets, delete, incr, decr, canonical, space}
+use Rattle.ids.specs.declared.limits.TheConstants.{MOST_ASKED, MOST_DATA, MOST_KEY}
 use Rattle.definitions.specs.Bytes.{Bytes}
 
 -- what stands before the first CR LF
@@ -25,14 +26,14 @@ guesses payload =
 
 -- the test of a key
 abbrev pub is_key : Bytes → Bool
-is_key key = nat_le 1 (length key) && nat_le (length key) 250 && list_all (λ b. nat_le 33 b && nat_lt b 256 && not (b == 127)) key
+is_key key = nat_le 1 (length key) && nat_le (length key) MOST_KEY && list_all (λ b. nat_le 33 b && nat_lt b 256 && not (b == 127)) key
 
 -- the test of a whole request
 abbrev pub is_request : Asked → Bool
-is_request (store verb key flags stored) = is_key key && nat_lt flags (2 ^ 32) && nat_le (length stored) most_data
-is_request (cas key flags stored unique) = is_key key && nat_lt flags (2 ^ 32) && nat_le (length stored) most_data && nat_lt unique (2 ^ 64)
-is_request (get keys) = nat_le 1 (length keys) && nat_le (length keys) 16 && list_all is_key keys
-is_request (gets keys) = nat_le 1 (length keys) && nat_le (length keys) 16 && list_all is_key keys
+is_request (store verb key flags stored) = is_key key && nat_lt flags (2 ^ 32) && nat_le (length stored) MOST_DATA
+is_request (cas key flags stored unique) = is_key key && nat_lt flags (2 ^ 32) && nat_le (length stored) MOST_DATA && nat_lt unique (2 ^ 64)
+is_request (get keys) = nat_le 1 (length keys) && nat_le (length keys) MOST_ASKED && list_all is_key keys
+is_request (gets keys) = nat_le 1 (length keys) && nat_le (length keys) MOST_ASKED && list_all is_key keys
 is_request (delete key) = is_key key
 is_request (incr key value) = is_key key && nat_lt value (2 ^ 64)
 is_request (decr key value) = is_key key && nat_lt value (2 ^ 64)

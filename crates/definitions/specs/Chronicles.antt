@@ -1,12 +1,13 @@
 -- The chronicle of a replica: the steps that stand, newest first. Here is what it says of blocks: votes, lock,
 -- decisions, and its law (HotStuff, PODC 2019, the safety rules, with this project's clear blocks).
+use Rattle.ids.specs.declared.limits.TheConstants.{MOST_BLOCKS}
 use Rattle.std.specs.Prelude.{ℕ, suc, ◌≡◌, ◌<◌, ◌≤◌, ◌==◌, ◌⊎◌, ◌&&◌, ◌||◌, not, Bool, true, List, [], ◌∷◌, ◌++◌, map, length, if◌then◌else◌, nat_lt, Option, ⊤}
 use Rattle.std.specs.List.{AllByRecursion}
 use Rattle.definitions.specs.Lists.{Among, AreDistinct, greatest}
 use Rattle.definitions.specs.Frames.{Command, Core, Certificate}
 use Rattle.definitions.specs.Branches.{Block, Branch, justify_height, just1, just2, just3, Extends, extends, highest}
 use Rattle.definitions.specs.Bytes.{Bytes}
-use Rattle.definitions.specs.Trees.{Stored, blocks, IsTree, most_blocks}
+use Rattle.definitions.specs.Trees.{Stored, blocks, IsTree}
 use Rattle.ids.specs.Sizes.{Sizes, replicas, quorum}
 use Rattle.definitions.specs.Histories.{History, history_of}
 
@@ -134,5 +135,5 @@ IsLawful sizes (s ∷ earlier) = IsLawfulStep sizes s earlier × IsLawful sizes 
 pub record IsSound (sizes : Sizes) (c : Chronicle) : Type 0 where
   pub is_tree : IsTree (tree c)
   pub lawful : IsLawful sizes c
-  pub bounded : length (tree c) ≤ most_blocks
+  pub bounded : length (tree c) ≤ MOST_BLOCKS
   pub heights : (x : Branch) → Among x (tree c) → length x < length (tree c)

@@ -2,6 +2,7 @@
 use Rattle.std.specs.Prelude.{◌≡◌, ℕ, ◌*◌, ◌^◌, ◌<◌, ◌≤◌, ◌⊎◌, List, [], ◌∷◌, length, Option, Some, None, ⊤}
 use Rattle.std.specs.List.{AllByRecursion}
 use Rattle.ids.specs.Sizes.{Sizes, replicas, quorum}
+use Rattle.ids.specs.declared.limits.TheConstants.{MOST_COMMANDS, MOST_PAYLOAD, MOST_TEXT}
 use Rattle.definitions.specs.Bytes.{Bytes}
 use Rattle.definitions.specs.Tags.{tag_len}
 use Rattle.definitions.specs.Frames.{Command, Core, Vote, Certificate, Frame, request, proposal, vote, new_view, reply, fetch, block, spelling}
@@ -18,23 +19,11 @@ IsTag bytes = length bytes ≡ tag_len
 abbrev pub IsVector : Sizes → Bytes → Type 0
 IsVector sizes bytes = length bytes ≡ tag_len * replicas sizes
 
--- the most bytes of a payload
-abbrev pub most_payload : ℕ
-most_payload = 4608
-
--- the most commands of a block
-abbrev pub most_commands : ℕ
-most_commands = 16
-
--- the most bytes of a reply's text
-abbrev pub most_text : ℕ
-most_text = 70293
-
 -- the limits of a command's numbers and payload
 pub record IsCommand (sizes : Sizes) (c : Command) : Type 0 where
   pub client : c.client < sizes.clients
   pub seq : (1 ≤ c.seq) × (c.seq < 2 ^ 64)
-  pub payload : length c.payload ≤ most_payload
+  pub payload : length c.payload ≤ MOST_PAYLOAD
   pub vector : IsVector sizes c.vector
 
 -- above genesis, at most 16 commands, and a block below is justified
@@ -42,7 +31,7 @@ pub record IsCore (sizes : Sizes) (k : Core) : Type 0 where
   pub parent : IsDigest k.parent
   pub height : (1 ≤ k.height) × (k.height < 2 ^ 64)
   pub justify_height : k.justify_height < k.height
-  pub count : length k.commands ≤ most_commands
+  pub count : length k.commands ≤ MOST_COMMANDS
   pub commands : AllByRecursion (IsCommand sizes) k.commands
 
 -- of a replica, with a tag for each replica
@@ -70,7 +59,7 @@ IsFrame sizes (proposal view k q vector) = (view < 2 ^ 64) × IsCore sizes k × 
 IsFrame sizes (vote digest v) = IsDigest digest × IsVote sizes v
 IsFrame sizes (new_view view sender q vector) = (view < 2 ^ 64) × (sender < replicas sizes) × IsCertificate sizes q × IsVector sizes vector
 IsFrame sizes (reply replica client seq place text tag) = (replica < replicas sizes) × (client < sizes.clients)
-    × ((1 ≤ seq) × (seq < 2 ^ 64)) × ((1 ≤ place) × (place < 2 ^ 64)) × (length text ≤ most_text) × IsTag tag
+    × ((1 ≤ seq) × (seq < 2 ^ 64)) × ((1 ≤ place) × (place < 2 ^ 64)) × (length text ≤ MOST_TEXT) × IsTag tag
 IsFrame sizes (fetch sender digest tag) = (sender < replicas sizes) × IsDigest digest × IsTag tag
 IsFrame sizes (block sender k q tag) = (sender < replicas sizes) × IsCore sizes k × IsCertificate sizes q × IsTag tag
 

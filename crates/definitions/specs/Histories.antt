@@ -2,6 +2,7 @@
 -- project's own rule for requests that come again.
 use Rattle.std.specs.Prelude.{ℕ, suc, ◌==◌, ◌||◌, not, Bool, List, [], ◌∷◌, ◌++◌, map, filter, reverse, length, if◌then◌else◌, nat_lt, Option, Some, None, find}
 use Rattle.std.specs.List.{list_all}
+use Rattle.ids.specs.declared.limits.TheConstants.{MOST_KEYS}
 use Rattle.definitions.specs.Lists.{greatest}
 use Rattle.definitions.specs.Frames.{Command}
 use Rattle.definitions.specs.Branches.{Branch}
@@ -38,14 +39,10 @@ last_seq client h = greatest (map (λ e. e.seq) (filter (λ e. e.client == clien
 
 -- ---- the cache
 
--- the most keys that a replica's cache has room for
-abbrev pub most_keys : ℕ
-most_keys = 65536
-
 -- the cache after the fresh entries
 unfoldable pub cache_after : History → Cache
 cache_after [] = empty_cache
-cache_after (e ∷ earlier) = if is_fresh e earlier then (apply_payload most_keys (cache_after earlier) e.payload).0 else cache_after earlier
+cache_after (e ∷ earlier) = if is_fresh e earlier then (apply_payload MOST_KEYS (cache_after earlier) e.payload).0 else cache_after earlier
 
 -- the reply to an entry, and its place
 pub record Answer : Type 0 where
@@ -60,7 +57,7 @@ answer_in e earlier = record {
   client = e.client;
   seq = e.seq;
   place = suc (length earlier);
-  text = reply_text (apply_payload most_keys (cache_after earlier) e.payload).1;
+  text = reply_text (apply_payload MOST_KEYS (cache_after earlier) e.payload).1;
 }
 
 -- the answers to the fresh entries

@@ -1,10 +1,11 @@
 -- The items of a text that a connection brings: requests, the end, and lines that are neither (protocol.txt).
+use Rattle.ids.specs.declared.limits.TheConstants.{MOST_DATA, MOST_LINE}
 use Rattle.std.specs.Prelude.{◌≡◌, ◌≢◌, ℕ, ◌+◌, ◌<◌, ◌≤◌, ◌==◌, Bool, true, false, ◌⊎◌, List, [], ◌∷◌, ◌++◌, length, take, drop, slice_index, Contains, IsSomeAnd, MatchBool, codes}
 use Rattle.std.specs.List.{before_first}
 use Rattle.ids.specs.declared.line_fault.LineFault.{LineFault}
 use Rattle.ids.specs.declared.line_fault.LineFault.TheVariants.{UnknownName, BadFields, TooLarge, BadChunk, LineTooLong}
 use Rattle.definitions.specs.Bytes.{Bytes}
-use Rattle.definitions.specs.Requests.{Asked, Head, stored_of, line, spelling, crlf, space, most_data, most_line, HasForm, MayHave, IsRequest}
+use Rattle.definitions.specs.Requests.{Asked, Head, stored_of, line, spelling, crlf, space, HasForm, MayHave, IsRequest}
 
 -- the twelve names (protocol.txt)
 abbrev pub names : List Bytes
@@ -26,7 +27,7 @@ HasNoEnd text = (i : ℕ) → slice_index text i ≡ 13 → slice_index text (i 
 
 -- the text's first line is l: what stands before the first CR LF, and it isn't too long
 abbrev pub FirstLine : Bytes → Bytes → Type 0
-FirstLine text l = HasNoEnd l × (length l + 2 ≤ most_line) × StartsWith text (l ++ crlf)
+FirstLine text l = HasNoEnd l × (length l + 2 ≤ MOST_LINE) × StartsWith text (l ++ crlf)
 
 -- the line has one of the forms
 abbrev pub IsLineOf : Bytes → Head → Bool → Type 0
@@ -54,20 +55,20 @@ IsItemAt text (bad BadFields) used = (l : Bytes) × FirstLine text l × Contains
     × ((head : Head) (noreply : Bool) → ¬ (IsLineOf l head noreply)) × (used ≡ 0)
 -- 4: the line announces more data than may be
 IsItemAt text (bad TooLarge) used = (l : Bytes) × FirstLine text l × (head : Head) × (noreply : Bool)
-    × IsLineOf l head noreply × IsSomeAnd (stored_of head) (λ bytes. most_data < bytes) × (used ≡ 0)
+    × IsLineOf l head noreply × IsSomeAnd (stored_of head) (λ bytes. MOST_DATA < bytes) × (used ≡ 0)
 -- 5: the data is there, and the two bytes after it aren't CR LF
 IsItemAt text (bad BadChunk) used = (l : Bytes) × (rest : Bytes) × (head : Head) × (noreply : Bool)
     × IsLineOf l head noreply × (text ≡ l ++ crlf ++ rest)
-    × IsSomeAnd (stored_of head) (λ bytes. (bytes ≤ most_data) × (bytes + 2 ≤ length rest) × (take 2 (drop bytes rest) ≢ crlf))
+    × IsSomeAnd (stored_of head) (λ bytes. (bytes ≤ MOST_DATA) × (bytes + 2 ≤ length rest) × (take 2 (drop bytes rest) ≢ crlf))
     × (used ≡ 0)
 -- 6: no line ends within the most bytes that a line may have
-IsItemAt text (bad LineTooLong) used = (most_line ≤ length text) × HasNoEnd (take most_line text) × (used ≡ 0)
+IsItemAt text (bad LineTooLong) used = (MOST_LINE ≤ length text) × HasNoEnd (take MOST_LINE text) × (used ≡ 0)
 
 -- The line has no end yet, or the data hasn't.
 abbrev pub IsUnfinished : Bytes → Type 0
-IsUnfinished text = ((length text < most_line) × HasNoEnd text)
+IsUnfinished text = ((length text < MOST_LINE) × HasNoEnd text)
     ⊎ ((l : Bytes) × (rest : Bytes) × (head : Head) × (noreply : Bool) × IsLineOf l head noreply × (text ≡ l ++ crlf ++ rest)
-    × IsSomeAnd (stored_of head) (λ bytes. (bytes ≤ most_data) × (length rest < bytes + 2)))
+    × IsSomeAnd (stored_of head) (λ bytes. (bytes ≤ MOST_DATA) × (length rest < bytes + 2)))
 
 -- nothing follows quit and the faults 3 to 6
 abbrev pub goes_on : Item → Bool

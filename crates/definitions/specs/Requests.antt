@@ -3,6 +3,7 @@
 use Rattle.std.specs.Prelude.{◌≢◌, ℕ, ◌^◌, ◌<◌, ◌≤◌, Bool, true, false, List, [], ◌∷◌, ◌++◌, length, All, IsTrue, Option, Some, None, IfSome, decimal, codes}
 use Rattle.std.specs.List.{join_with_byte, AllByRecursion}
 use Rattle.std.specs.Option.{option_map_or}
+use Rattle.ids.specs.declared.limits.TheConstants.{MOST_ASKED, MOST_DATA, MOST_KEY, MOST_LINE}
 use Rattle.definitions.specs.Bytes.{Bytes}
 
 -- ---- what is asked
@@ -112,19 +113,11 @@ IsKeyByte byte = (33 ≤ byte) × (byte < 256) × (byte ≢ 127)
 
 -- a key (protocol.txt, "Keys")
 abbrev pub IsKey : Bytes → Type 0
-IsKey key = (1 ≤ length key) × (length key ≤ 250) × All IsKeyByte key
+IsKey key = (1 ≤ length key) × (length key ≤ MOST_KEY) × All IsKeyByte key
 
 -- the keys of one retrieval
 abbrev pub AreKeys : List Bytes → Type 0
-AreKeys keys = (1 ≤ length keys) × (length keys ≤ 16) × AllByRecursion IsKey keys
-
--- the most bytes of data, and of a line with its CR LF
-abbrev pub most_data : ℕ
-most_data = 4096
-
--- the most bytes of a line with its end
-abbrev pub most_line : ℕ
-most_line = 4096
+AreKeys keys = (1 ≤ length keys) × (length keys ≤ MOST_ASKED) × AllByRecursion IsKey keys
 
 -- what a line may say; how much data there may be is a limit of its own
 abbrev pub HasForm : Head → Type 0
@@ -143,4 +136,4 @@ MayHave head noreply = IsTrue noreply → IsTrue (takes_noreply head)
 -- a request with its word noreply or without
 abbrev pub IsRequest : Asked → Bool → Type 0
 IsRequest request noreply = HasForm (head_of request) × MayHave (head_of request) noreply
-    × IfSome (stored_of request) (λ stored. length stored ≤ most_data)
+    × IfSome (stored_of request) (λ stored. length stored ≤ MOST_DATA)

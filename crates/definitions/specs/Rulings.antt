@@ -1,20 +1,17 @@
 -- What an input comes to: the step that is to stand, or a refusal.
 use Rattle.ids.specs.declared.fault.Fault.{Fault}
 use Rattle.ids.specs.declared.fault.Fault.TheVariants as fault
+use Rattle.ids.specs.declared.limits.TheConstants.{MOST_BLOCKS, MOST_PENDING}
 use Rattle.std.specs.Prelude.{ℕ, ◌==◌, ◌&&◌, not, Bool, true, false, ◌∷◌, length, if◌then◌else◌, nat_lt, Option, Some, None}
 use Rattle.std.specs.List.{list_any}
 use Rattle.definitions.specs.Frames.{Command, Core, Vote, Certificate}
 use Rattle.definitions.specs.Branches.{Branch, justify_height}
 use Rattle.definitions.specs.Bytes.{Bytes}
 use Rattle.ids.specs.Sizes.{Sizes, leader}
-use Rattle.definitions.specs.Trees.{Placing, Placing.stands, Placing.grows, Placing.lacks_parent, Placing.unfit, placing, most_blocks, clear_above}
+use Rattle.definitions.specs.Trees.{Placing, Placing.stands, Placing.grows, Placing.lacks_parent, Placing.unfit, placing, clear_above}
 use Rattle.definitions.specs.Chronicles.{Admitted, Step, Step.took_block, Step.noted, Note.got_vote, Note.got_new_view, Note.got_request, Note.got_fetch, Note.timed_out, Note.beat, Chronicle, stored, tree, decides_against, executed, history, may_vote}
 use Rattle.definitions.specs.Checks.{Identity, Findings}
 use Rattle.definitions.specs.States.{view, find_block, is_same_request, is_due, pending}
-
--- the most requests that wait
-abbrev pub most_pending : ℕ
-most_pending = 4096
 
 -- what is taken in, after its tags were found right
 pub data Input : Type 0 where
@@ -63,12 +60,12 @@ on_placing self w sender core q found c (unfit n) = refusing n
 
 -- a block with its certificate, as a proposal of this view or on its own
 abbrev pub on_block : Identity → Option ℕ → ℕ → Core → Certificate → Findings → Chronicle → Ruling
-on_block self w sender core q found c = on_placing self w sender core q found c (placing most_blocks core q (tree c))
+on_block self w sender core q found c = on_placing self w sender core q found c (placing MOST_BLOCKS core q (tree c))
 
 -- a request, where there is room for it
 unfoldable pub on_request : Command → Chronicle → Ruling
 on_request r c =
-    if is_due (history c) r && (not (list_any (is_same_request r) (pending c)) && not (nat_lt (length (pending c)) most_pending))
+    if is_due (history c) r && (not (list_any (is_same_request r) (pending c)) && not (nat_lt (length (pending c)) MOST_PENDING))
     then refusing fault.PoolFull else due (noted (got_request r))
 
 -- what follows where the block stands in the tree

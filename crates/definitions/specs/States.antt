@@ -1,11 +1,11 @@
 -- The rest of a replica's state, read off its whole chronicle: views, votes, certificates, pending requests, and
 -- what to propose (HotStuff, PODC 2019, the event-driven form; the pacemaker is this project's own).
+use Rattle.ids.specs.declared.limits.TheConstants.{MOST_COMMANDS}
 use Rattle.std.specs.Prelude.{ℕ, suc, ◌-◌, ◌^◌, ◌==◌, ◌&&◌, not, Bool, List, [], ◌∷◌, ◌++◌, map, filter, take, length, min, max, if◌then◌else◌, nat_lt, nat_le, Option, Some, None, is_some}
 use Rattle.std.specs.List.{list_any}
 use Rattle.std.specs.Str.{bytes_eq}
 use Rattle.definitions.specs.Lists.{greatest, count_below}
 use Rattle.definitions.specs.Frames.{Command, Vote, Certificate, genesis_core}
-use Rattle.definitions.specs.FrameLimits.{most_commands}
 use Rattle.definitions.specs.Branches.{Branch, just1}
 use Rattle.definitions.specs.Bytes.{Bytes}
 use Rattle.ids.specs.Sizes.{Sizes, replicas, quorum, leader}
@@ -117,7 +117,7 @@ is_known d c = is_some (find_block d c)
 
 -- the pending requests that do not stand on the branch, 16 at most
 unfoldable pub picks : Chronicle → Branch → List Command
-picks c on = take most_commands (filter (λ r. not (list_any (λ e. (e.client == r.client) && (e.seq == r.seq)) (history_of on))) (pending c))
+picks c on = take MOST_COMMANDS (filter (λ r. not (list_any (λ e. (e.client == r.client) && (e.seq == r.seq)) (history_of on))) (pending c))
 
 -- the first, where there is one
 abbrev pub or_else : {A : Type 0} → Option A → A → A

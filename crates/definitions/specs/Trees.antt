@@ -2,6 +2,7 @@
 -- block comes to there is this project's own list of tests (of HotStuff, PODC 2019, the tree of nodes).
 use Rattle.ids.specs.declared.fault.Fault.{Fault}
 use Rattle.ids.specs.declared.fault.Fault.TheVariants as fault
+use Rattle.ids.specs.declared.limits.TheConstants.{MOST_BLOCKS, MOST_OF_HEIGHT}
 use Rattle.std.specs.Prelude.{suc, ◌&&◌, true, ℕ, ◌≡◌, ◌==◌, not, Bool, List, [], ◌∷◌, ◌++◌, map, length, if◌then◌else◌, nat_lt, Option, Some, None, find, count_by}
 use Rattle.std.specs.List.{list_any}
 use Rattle.std.specs.Str.{bytes_eq}
@@ -44,14 +45,6 @@ clear_above height (b ∷ parent) stored =
 abbrev pub block_of : Core → Block
 block_of core = record { commands = core.commands; justify = core.justify_height }
 
--- the most blocks of a tree, genesis counted
-abbrev pub most_blocks : ℕ
-most_blocks = 1048576
-
--- the most blocks of one height
-abbrev pub most_of_height : ℕ
-most_of_height = 64
-
 -- the certificate is for the block that b justifies
 abbrev pub justifies : Certificate → Branch → Bool
 justifies q b = bytes_eq q.digest (digest_of (just1 b))
@@ -74,7 +67,7 @@ placing_new most parent core q tree =
     let b : Branch = block_of core ∷ parent in
     if not (core.height == length b) then unfit fault.BadHeight
     else (if not (justifies q b) then unfit fault.WrongJustify
-    else (if not (nat_lt (count_by (λ x. length x == length b) tree) most_of_height) then unfit fault.Crowded
+    else (if not (nat_lt (count_by (λ x. length x == length b) tree) MOST_OF_HEIGHT) then unfit fault.Crowded
     else (if not (nat_lt (length tree) most) then unfit fault.Full
     else grows b)))
 

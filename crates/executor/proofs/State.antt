@@ -1,11 +1,12 @@
 -- The state of an executor after one more entry.
+use Rattle.ids.specs.declared.limits.TheConstants.{MOST_KEYS}
 use Rattle.std.proofs.Common.{ℕ, zero, ◌≡◌, ◌≢◌, ◌==◌, Bool, true, false, List, [], ◌∷◌, ◌++◌, cond, refl, sym, ap, ◌∙◌, Option, Some, None, reverse, length, suc}
 use Rattle.std.proofs.lemmas.Bool.{cond-true, cond-false, eqb-true, eqb-false}
 use Rattle.std.proofs.lemmas.List.{reverse-append}
 use Rattle.cache.specs.Bounded.{Bounded}
 use Rattle.definitions.specs.Replies.{reply_text}
 use Rattle.definitions.specs.Cache.{Cache, empty_cache, apply_payload}
-use Rattle.definitions.specs.Histories.{Entry, History, Answer, is_fresh, last_seq, answer_in, last_answer, answer_to, if_numbered, cache_after, most_keys}
+use Rattle.definitions.specs.Histories.{Entry, History, Answer, is_fresh, last_seq, answer_in, last_answer, answer_to, if_numbered, cache_after}
 use Rattle.executor.specs.Rows.{row, numbered_after, number_in}
 use Rattle.executor.specs.State.{IsStateOf, answer_at}
 use Rattle.executor.proofs.Told.{fresh-is, number-is, first-answer, stale-answer, fresh-answer, others-answer}
@@ -25,7 +26,7 @@ rows-more (r ∷ rows) h (suc client) = rows-more rows (λ c. h (suc c)) client
 -- an entry's answer, made of its parts
 pub answer-is : (e : Entry) (h : History) (a : Answer) (place : ℕ) (text : List ℕ)
     → a ≡ record { client = e.client; seq = e.seq; place = place; text = text }
-    → place ≡ suc (length h) → text ≡ reply_text (apply_payload most_keys (cache_after h) e.payload).1
+    → place ≡ suc (length h) → text ≡ reply_text (apply_payload MOST_KEYS (cache_after h) e.payload).1
     → a ≡ answer_in e h
 answer-is e h a place text i p t = i
     ∙ (λ j. record { client = e.client; seq = e.seq; place = p j; text = t j })
@@ -54,7 +55,7 @@ answered-stale e h k = sym (cond-false _ _ _ k)
 
 -- at the start
 pub first-state : (rows : List (Option Answer)) → ((client : ℕ) → row rows client ≡ None)
-    → IsStateOf [] (record { most = most_keys; cache = empty_cache }) rows
+    → IsStateOf [] (record { most = MOST_KEYS; cache = empty_cache }) rows
 unfolding cache_after
 first-state rows none = record {
   cache_is = refl;
@@ -75,13 +76,13 @@ module _ (h : History) (cache : Bounded) (rows : List (Option Answer)) (s : IsSt
   unfolding cache_after
   stale-state e k = record {
     cache_is = s.cache_is
-        ∙ ap (λ (c : Cache). record { most = most_keys; cache = c }) (sym (cond-false _ _ _ k));
+        ∙ ap (λ (c : Cache). record { most = MOST_KEYS; cache = c }) (sym (cond-false _ _ _ k));
     rows_are = λ client. s.rows_are client ∙ sym (stale-answer client e h k);
   }
 
   -- what the payload does, and its reply
   pub fresh-reply : (e : Entry)
-      → reply_text (apply_payload cache.most cache.cache e.payload).1 ≡ reply_text (apply_payload most_keys (cache_after h) e.payload).1
+      → reply_text (apply_payload cache.most cache.cache e.payload).1 ≡ reply_text (apply_payload MOST_KEYS (cache_after h) e.payload).1
   fresh-reply e = ap (λ (b : Bounded). reply_text (apply_payload b.most b.cache e.payload).1) s.cache_is
 
   -- a fresh entry
@@ -95,7 +96,7 @@ module _ (h : History) (cache : Bounded) (rows : List (Option Answer)) (s : IsSt
       cache =
           (apply_payload b.most b.cache e.payload).0;
     }) s.cache_is
-        ∙ ap (λ (c : Cache). record { most = most_keys; cache = c }) (sym (cond-true _ _ _ k));
+        ∙ ap (λ (c : Cache). record { most = MOST_KEYS; cache = c }) (sym (cond-true _ _ _ k));
     rows_are = λ client. by client (client == e.client) refl;
   }
     where

@@ -1,4 +1,5 @@
 -- How long the texts of replies are that come with a change of the cache.
+use Rattle.ids.specs.declared.limits.TheConstants.{MOST_DATA}
 use Rattle.std.proofs.Common.{ℕ, ◌≡◌, ◌⊎◌, ◌≤◌, ◌<◌, ◌+◌, ◌-◌, ◌%◌, ◌^◌, ◌==◌, ◌&&◌, ◌||◌, ◌++◌, [], ◌∷◌, length, length-append, refl, ap, ◌∙◌, arith, Result, Ok, Err, OnErr, inl, inr, Option, Some, None, nat_lt, nat_le, bytes_eq, decimal}
 use Rattle.std.specs.Option.{option_map_or}
 use Rattle.std.specs.Str.Parse.{digits_value}
@@ -7,7 +8,7 @@ use Rattle.std.proofs.lemmas.Bool.{cond_both, ltb-true, and_parts}
 use Rattle.std.specs.FinMap as map
 use Rattle.cache.specs.Bounded.{Bounded}
 use Rattle.definitions.specs.Bytes.{Bytes}
-use Rattle.definitions.specs.Requests.{Asked, Verb, set, add, replace, append, prepend, store, cas, get, gets, delete, incr, decr, most_data}
+use Rattle.definitions.specs.Requests.{Asked, Verb, set, add, replace, append, prepend, store, cas, get, gets, delete, incr, decr}
 use Rattle.definitions.specs.Canonical.{request_of}
 use Rattle.definitions.specs.Replies.{Reply, reply_text}
 use Rattle.definitions.specs.Replies as reply
@@ -48,9 +49,9 @@ store-short most cache add key flags stored =
 store-short most cache replace key flags stored =
     cond_both (has cache key) _ _ (IsShortOrSame cache) (λ e. stored-short cache key flags stored) (λ e. inr refl)
 store-short most cache append key flags stored = present-short cache key reply.not_stored _ (λ x.
-    cond_both (nat_le (length (x.stored ++ stored)) most_data) _ _ (IsShortOrSame cache) (λ e. stored-short cache key x.flags (x.stored ++ stored)) (λ e. inr refl))
+    cond_both (nat_le (length (x.stored ++ stored)) MOST_DATA) _ _ (IsShortOrSame cache) (λ e. stored-short cache key x.flags (x.stored ++ stored)) (λ e. inr refl))
 store-short most cache prepend key flags stored = present-short cache key reply.not_stored _ (λ x.
-    cond_both (nat_le (length (stored ++ x.stored)) most_data) _ _ (IsShortOrSame cache) (λ e. stored-short cache key x.flags (stored ++ x.stored)) (λ e. inr refl))
+    cond_both (nat_le (length (stored ++ x.stored)) MOST_DATA) _ _ (IsShortOrSame cache) (λ e. stored-short cache key x.flags (stored ++ x.stored)) (λ e. inr refl))
 
 -- the number that data writes is below 2 ^ 64
 number_in-small : (text : Bytes) (n : ℕ) → number_in text ≡ Some n → n < 2 ^ 64

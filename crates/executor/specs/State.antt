@@ -1,13 +1,14 @@
 -- What an executor keeps beside its history.
+use Rattle.ids.specs.declared.limits.TheConstants.{MOST_KEYS}
 use Rattle.std.specs.Prelude.{ℕ, ◌≡◌, ◌++◌, ◌-◌, List, Option, Some, None, map, reverse, take, length, if◌then◌else◌}
 use Rattle.definitions.specs.Frames.{Command}
-use Rattle.definitions.specs.Histories.{Entry, entry_of, History, Answer, is_fresh, answer_in, answers, last_answer, cache_after, most_keys}
+use Rattle.definitions.specs.Histories.{Entry, entry_of, History, Answer, is_fresh, answer_in, answers, last_answer, cache_after}
 use Rattle.cache.specs.Bounded.{Bounded}
 use Rattle.executor.specs.Rows.{row}
 
 -- the cache and the rows are those of the history
 pub record IsStateOf (h : History) (cache : Bounded) (rows : List (Option Answer)) : Type 0 where
-  pub cache_is : cache ≡ record { most = most_keys; cache = cache_after h }
+  pub cache_is : cache ≡ record { most = MOST_KEYS; cache = cache_after h }
   pub rows_are : (client : ℕ) → row rows client ≡ last_answer client h
 
 -- the answer to an entry that comes after these, where it is fresh

@@ -12,7 +12,7 @@ use mc_lines::{Reply, read_canonical, write_reply};
 use std::alloc::Global;
 
 /// The most bytes in the text of a reply that comes with a change of the cache: a number below 2^64, CR LF.
-const MOST_TEXT: usize = 22;
+const MOST_CHANGED: usize = 22;
 
 /// The text of one reply, to be told now and to be kept.
 #[derive(Drop)]
@@ -50,8 +50,8 @@ pub(crate) fn apply(alloc: Global, cache: &mut Cache, payload: &[u8]) -> Result<
     ensures unchanged { OnErr result (cache.new ≡ cache.old) }
     ensures memory { OnErr result (result ≡ Err Fault.Memory) }
 {
-    let mut told = Vec::with_capacity(alloc, MOST_TEXT)?;
-    let mut kept = Vec::with_capacity(alloc, MOST_TEXT)?;
+    let mut told = Vec::with_capacity(alloc, MOST_CHANGED)?;
+    let mut kept = Vec::with_capacity(alloc, MOST_CHANGED)?;
     let reply = reply_to(cache, payload)?;
     write_reply(&reply, &mut told)?;
     append(&mut kept, &[told.as_slice()])?;

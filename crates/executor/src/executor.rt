@@ -11,12 +11,9 @@ use crate::clients::Clients;
 use crate::entry::Entry;
 use cache::Cache;
 use frames_view::{CommandView, Commands};
-use ids::{ClientId, Fault, Place, Seq};
+use ids::{ClientId, Fault, MOST_KEYS, Place, Seq};
 use std::alloc::Global;
 use std::marker::Model;
-
-/// The most keys that the cache has room for.
-const MOST_KEYS: usize = 65_536;
 
 /// What a replica executed: its history, the cache after it, and the last answer to each client.
 #[derive(Drop)]

@@ -2,13 +2,8 @@
 
 ghost use Rattle.std.specs.Prelude.{◌≡◌, ◌<◌, ◌≤◌, length, IfSome, IfNone};
 
+use ids::{MOST_PAYLOAD, MOST_TEXT};
 use std::marker::Model;
-
-/// The most bytes of a command's payload.
-const MOST_PAYLOAD: usize = 4608;
-
-/// The most bytes of a reply's text: as the longest answer to a `gets` of 16 keys has.
-const MOST_TEXT: usize = 70_293;
 
 /// At most so many bytes.
 #[derive(Debug, Drop)]

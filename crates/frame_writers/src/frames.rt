@@ -1,7 +1,7 @@
 //! Whole frames, of parts that are spelled already.
 
+ghost use Rattle.ids.specs.declared.limits.TheConstants.{MOST_TEXT};
 ghost use Rattle.std.specs.Prelude.{◌∷◌, ◌≤◌, length};
-ghost use Rattle.definitions.specs.FrameLimits.{most_text};
 ghost use Rattle.ids.specs.Numbers.{kind_number};
 ghost use Rattle.ids.specs.declared.kind.Kind.TheVariants as kind;
 ghost use Rattle.definitions.specs.Writing.{IsAppended};
@@ -110,7 +110,7 @@ fn append_reply<'a>(
     tag: &'a [u8; 32],
     out: &mut Vec<u8>,
 ) -> Result<(), Fault>
-    requires { length text.now ≤ most_text }
+    requires { length text.now ≤ MOST_TEXT }
     ensures { IsAppended out.old out.new (spelling (reply replica client seq place text.now tag.now)) result }
 {
     let [r0, r1] = u16::from(replica.0).to_be_bytes();

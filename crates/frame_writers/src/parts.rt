@@ -1,7 +1,7 @@
 //! The parts of frames: commands, cores, votes and certificates.
 
+ghost use Rattle.ids.specs.declared.limits.TheConstants.{MOST_PAYLOAD};
 ghost use Rattle.std.specs.Prelude.{◌≤◌, length};
-ghost use Rattle.definitions.specs.FrameLimits.{most_payload};
 ghost use Rattle.definitions.specs.Writing.{IsAppended};
 ghost use Rattle.definitions.specs.Frames.{command_bytes, core_text, vote_bytes, certificate_text};
 
@@ -31,7 +31,7 @@ fn append_command<'a>(
     vector: &'a [u8],
     out: &mut Vec<u8>,
 ) -> Result<(), Fault>
-    requires { length payload.now ≤ most_payload }
+    requires { length payload.now ≤ MOST_PAYLOAD }
     ensures { IsAppended out.old out.new
         (command_bytes (record { client = client; seq = seq; payload = payload.now; vector = vector.now })) result }
 {

@@ -1,4 +1,5 @@
 -- The readers of the parts of a frame are exact.
+use Rattle.ids.specs.declared.limits.TheConstants.{MOST_COMMANDS, MOST_PAYLOAD, MOST_TEXT}
 use Rattle.std.proofs.Common.{◌≡◌, ℕ, suc, ◌*◌, ◌^◌, ◌<◌, ◌≤◌, Bool, true, List, [], ◌∷◌, ◌++◌, length, refl, append_assoc, arith, inl, inr}
 use Rattle.std.specs.Prelude.{nat_lt, nat_le, ◌⊎◌, ⊤}
 use Rattle.std.specs.List.{flat_map, AllByRecursion}
@@ -7,7 +8,7 @@ use Rattle.std.proofs.lemmas.Bool.{ltb-true, lt-ltb, leb-true, le-leb, eqb-true,
 use Rattle.ids.specs.Sizes.{Sizes, replicas, quorum}
 use Rattle.definitions.specs.Bytes.{Bytes}
 use Rattle.definitions.specs.Frames.{Command, Core, Vote, Certificate, command_content, command_bytes, core_bytes, vote_bytes, certificate_bytes}
-use Rattle.definitions.specs.FrameLimits.{IsCommand, IsCore, IsVote, IsCertificate, Rise, most_payload, most_commands, most_text}
+use Rattle.definitions.specs.FrameLimits.{IsCommand, IsCore, IsVote, IsCertificate, Rise}
 use Rattle.frames_view.specs.Readings.{number, tested, both, many, many_rising}
 use Rattle.frames_view.specs.Parts.{digest_in, party_in, vector_in, positive_in, payload_in, text_in, heights_in, vote_in, content_in, command_in, is_count, votes_in, certificate_in, commands_in, core_in}
 use Rattle.frames_view.proofs.Exact.{IsExact, IsExact-same, IsExact-number, IsExact-chunk, IsExact-tested, IsExact-made, IsExact-both, IsExact-sized, IsExact-counted, IsExact-many, IsExact-many_rising, RisesFrom, wide16, wide32, wide64}
@@ -39,13 +40,13 @@ IsExact-positive =
     IsExact-same (λ v. (v < 2 ^ 64) × (nat_lt 0 v ≡ true)) (to_be_bytes w64) (tested (λ v. nat_lt 0 v) (number w64)) exact (λ v. (1 ≤ v) × (v < 2 ^ 64)) (to_be_bytes w64)
     (λ v h. let up = ltb-true 0 v h.1 in (omega arith, h.0)) (λ v h. (h.1, lt-ltb 0 v (omega (arith, h.0)))) (λ v. refl)
 
-pub IsExact-payload : IsExact (λ t. length t ≤ most_payload) (λ t. to_be_bytes w16 (length t) ++ t) payload_in
+pub IsExact-payload : IsExact (λ t. length t ≤ MOST_PAYLOAD) (λ t. to_be_bytes w16 (length t) ++ t) payload_in
 unfolding payload_in
-IsExact-payload = IsExact-sized w16 (2 ^ 16) wide16 most_payload (omega arith)
+IsExact-payload = IsExact-sized w16 (2 ^ 16) wide16 MOST_PAYLOAD (omega arith)
 
-pub IsExact-text : IsExact (λ t. length t ≤ most_text) (λ t. to_be_bytes w32 (length t) ++ t) text_in
+pub IsExact-text : IsExact (λ t. length t ≤ MOST_TEXT) (λ t. to_be_bytes w32 (length t) ++ t) text_in
 unfolding text_in
-IsExact-text = IsExact-sized w32 (2 ^ 32) wide32 most_text (omega arith)
+IsExact-text = IsExact-sized w32 (2 ^ 32) wide32 MOST_TEXT (omega arith)
 
 pub IsExact-heights : IsExact (λ h. ((1 ≤ h.0) × (h.0 < 2 ^ 64)) × (h.1 < h.0)) (λ h. to_be_bytes w64 h.0 ++ to_be_bytes w64 h.1) heights_in
 unfolding heights_in
@@ -116,7 +117,7 @@ count_passes sizes k (inr some) =
 
 -- what a client's tags speak of, of so many clients
 abbrev pub IsContent : ℕ → ℕ × (ℕ × Bytes) → Type 0
-IsContent clients x = (x.0 < clients) × (((1 ≤ x.1.0) × (x.1.0 < 2 ^ 64)) × (length x.1.1 ≤ most_payload))
+IsContent clients x = (x.0 < clients) × (((1 ≤ x.1.0) × (x.1.0 < 2 ^ 64)) × (length x.1.1 ≤ MOST_PAYLOAD))
 
 abbrev pub content_bytes : ℕ × (ℕ × Bytes) → Bytes
 content_bytes x = command_content x.0 x.1.0 x.1.1
@@ -124,7 +125,7 @@ content_bytes x = command_content x.0 x.1.0 x.1.1
 pub IsExact-content : (clients : ℕ) → clients < 2 ^ 16 → IsExact (IsContent clients) content_bytes (content_in clients)
 unfolding content_in
 IsExact-content clients few =
-    let T : Bytes → Type 0 = λ t. length t ≤ most_payload in
+    let T : Bytes → Type 0 = λ t. length t ≤ MOST_PAYLOAD in
     let text : Bytes → Bytes = λ t. to_be_bytes w16 (length t) ++ t in
     let S : ℕ → Type 0 = λ v. (1 ≤ v) × (v < 2 ^ 64) in
     let last = IsExact-both S (to_be_bytes w64) positive_in IsExact-positive T text payload_in IsExact-payload in
@@ -138,7 +139,7 @@ few_votes : (sizes : Sizes) (are : AreFew sizes) (k : ℕ) → IsCount sizes k �
 few_votes sizes are k (inl none) = omega arith
 few_votes sizes are k (inr some) = omega (arith, some.1, are.0)
 
-few_commands : (k : ℕ) → k ≤ most_commands → k < 256
+few_commands : (k : ℕ) → k ≤ MOST_COMMANDS → k < 256
 few_commands k few = omega arith
 
 module _ (sizes : Sizes) (are : AreFew sizes) where
@@ -187,7 +188,7 @@ module _ (sizes : Sizes) (are : AreFew sizes) where
   IsExact-core =
       let command = IsExact-command in
       let read = command_in (replicas sizes) sizes.clients in
-      let test : ℕ → Bool = λ k. nat_le k most_commands in
+      let test : ℕ → Bool = λ k. nat_le k MOST_COMMANDS in
       let lists = IsExact-counted (IsCommand sizes) command_bytes test (many read) (AllByRecursion (IsCommand sizes)) (IsExact-many (IsCommand sizes) command_bytes read command) in
       let C : List Command → Type 0 = λ cs. ((length cs < 256) × (test (length cs) ≡ true)) × AllByRecursion (IsCommand sizes) cs in
       let spell_commands : List Command → Bytes = λ cs. length cs ∷ flat_map command_bytes cs in

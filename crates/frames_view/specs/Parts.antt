@@ -1,11 +1,11 @@
 -- How each part of a frame is read, where there are n replicas and so many clients.
+use Rattle.ids.specs.declared.limits.TheConstants.{MOST_COMMANDS, MOST_PAYLOAD, MOST_TEXT}
 use Rattle.std.specs.Prelude.{ℕ, ◌*◌, Bool, List, length, Option, Some, None, nat_lt, nat_le, ◌==◌, ◌&&◌, ◌||◌, if◌then◌else◌}
 use Rattle.std.specs.Option.{option_and_then}
 use Rattle.std.specs.Int.{w8, w16, w32, w64}
 use Rattle.ids.specs.Sizes.{Sizes, replicas, quorum}
 use Rattle.definitions.specs.Bytes.{Bytes}
 use Rattle.definitions.specs.Frames.{Command, Core, Vote, Certificate, Frame, request, proposal, vote, new_view, reply, fetch, block}
-use Rattle.definitions.specs.FrameLimits.{most_payload, most_commands, most_text}
 use Rattle.frames_view.specs.Readings.{Reader, number, chunk, tested, both, made, sized, many, many_rising}
 
 -- ---- fields
@@ -28,11 +28,11 @@ positive_in = tested (λ v. nat_lt 0 v) (number w64)
 
 -- a payload with its length
 unfoldable pub payload_in : Reader Bytes
-payload_in = sized w16 most_payload
+payload_in = sized w16 MOST_PAYLOAD
 
 -- a reply's text with its length
 unfoldable pub text_in : Reader Bytes
-text_in = sized w32 most_text
+text_in = sized w32 MOST_TEXT
 
 -- a height, and the height below it that is justified
 unfoldable pub heights_in : Reader (ℕ × ℕ)
@@ -66,7 +66,7 @@ certificate_in sizes = made (λ p. record { digest = p.0; votes = p.1 }) (both d
 
 -- the commands of a block, behind their number
 unfoldable pub commands_in : Sizes → Reader (List Command)
-commands_in sizes bytes = option_and_then (λ count. many (command_in (replicas sizes) sizes.clients) count.0 count.1) (tested (λ count. nat_le count most_commands) (number w8) bytes)
+commands_in sizes bytes = option_and_then (λ count. many (command_in (replicas sizes) sizes.clients) count.0 count.1) (tested (λ count. nat_le count MOST_COMMANDS) (number w8) bytes)
 
 -- a core
 unfoldable pub core_in : Sizes → Reader Core

@@ -14,10 +14,7 @@ use crate::command::take_command;
 use crate::core_fields::CoreFields;
 use crate::cursor::{before, split, take_32, take_heights, take_u8};
 use crate::views::{Commands, CoreView};
-use ids::{Config, Height};
-
-/// The most commands of a block.
-const MOST_COMMANDS: u8 = 16;
+use ids::{Config, Height, MOST_COMMANDS};
 
 impl<'a> CoreView<'a> {
     /// All its bytes: the digest of the block is theirs.
@@ -97,7 +94,7 @@ fn take_fields<'a>(config: &Config, bytes: &'a [u8]) -> Option<(CoreFields<'a>, 
     let (parent, rest) = take_32(bytes)?;
     let ((height, justify_height), rest) = take_heights(rest)?;
     let (count, rest) = take_u8(rest)?;
-    if count > MOST_COMMANDS {
+    if usize::from(count) > MOST_COMMANDS {
         return None;
     }
     let (commands, rest) = take_commands(config, rest, count)?;

@@ -8,11 +8,7 @@ ghost use Rattle.frames_view.specs.Parts.{digest_in, party_in, vector_in, positi
 ghost use Rattle.frames_view.specs.Views.{Gives};
 ghost use Rattle.frames_view.specs.Places.{IsSplit};
 
-/// The most bytes of a command's payload.
-const MOST_PAYLOAD: u16 = 4608;
-
-/// The most bytes of a reply's text.
-const MOST_TEXT: u32 = 70_293;
+use ids::{MOST_PAYLOAD, MOST_TEXT};
 
 /// So many bytes.
 pub(crate) fn take_chunk(bytes: &[u8], n: usize) -> Option<(&[u8], &[u8])>
@@ -123,10 +119,11 @@ pub(crate) fn take_payload(bytes: &[u8]) -> Option<(&[u8], &[u8])>
     ensures lent { IfSome result (λ p. LentAt bytes.entry 2 p.0 × LeftAt bytes.entry (2 + length p.0.now) p.1) }
 {
     let (len, rest) = take_u16(bytes)?;
+    let len = usize::from(len);
     if len > MOST_PAYLOAD {
         return None;
     }
-    take_chunk(rest, usize::from(len))
+    take_chunk(rest, len)
 }
 
 /// A reply's text behind its length.
@@ -136,10 +133,11 @@ pub(crate) fn take_text(bytes: &[u8]) -> Option<(&[u8], &[u8])>
     ensures lent { IfSome result (λ p. LentAt bytes.entry 4 p.0 × LeftAt bytes.entry (4 + length p.0.now) p.1) }
 {
     let (len, rest) = take_u32(bytes)?;
+    let len = len as usize;
     if len > MOST_TEXT {
         return None;
     }
-    take_chunk(rest, len as usize)
+    take_chunk(rest, len)
 }
 
 /// A height, and one below it.

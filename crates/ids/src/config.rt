@@ -2,12 +2,10 @@ ghost use Rattle.std.specs.Prelude.{◌≡◌, ◌↔◌, ◌≤◌, IsOk, IfOk,
 ghost use Rattle.ids.specs.Sizes.{AreSizes, replicas, quorum, leader};
 
 use crate::fault::Fault;
+use crate::limits::MOST_REPLICAS;
 use crate::numbers::View;
 use crate::party::ReplicaId;
 use std::marker::Model;
-
-/// The most replicas that there are: the length of each fixed row over replicas.
-pub const MOST_REPLICAS: usize = 13;
 
 /// The sizes of a deployment: how many faulty replicas it tolerates, and how many clients it has.
 #[derive(Clone, Copy, Debug, PartialEq, Eq)]

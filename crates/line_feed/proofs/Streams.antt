@@ -1,10 +1,11 @@
 -- Items that stand one behind the other in a text that grows.
+use Rattle.ids.specs.declared.limits.TheConstants.{MOST_DATA, MOST_LINE}
 use Rattle.std.proofs.Common.{◌≡◌, ◌∙◌, ℕ, ◌+◌, ◌<◌, ◌≤◌, Bool, true, false, List, [], ◌∷◌, ◌++◌, length, drop, Option, Some, None, refl, sym, ap, subst, inl, inr, arith, append_assoc, append-nil, length-append}
 use Rattle.std.proofs.lemmas.List.{drop-append-le}
 use Rattle.std.specs.List.{AllByRecursion}
 use Rattle.std.specs.Prelude.{if◌then◌else◌, IsSomeAnd}
 use Rattle.definitions.specs.Bytes.{Bytes}
-use Rattle.definitions.specs.Requests.{crlf, most_line, most_data, Head, stored_of}
+use Rattle.definitions.specs.Requests.{crlf, Head, stored_of}
 use Rattle.definitions.specs.Items.{Item, goes_on, IsLineOf, IsItemAt, IsUnfinished}
 use Rattle.definitions.proofs.Lines.{length-line}
 use Rattle.definitions.proofs.ItemLaws.{IsItemAt-append, IsItemAt-unique, takes_some}
@@ -24,11 +25,11 @@ unfinished_short text (inr u) =
     let few = short (stored_of u.2) (length u.1) u.6 in
     omega (arith, few, length_line u.0 u.2 u.3 u.4, ap (λ (t : Bytes). length t) u.5, length-append (u.0 ++ crlf) u.1, length-append u.0 crlf)
   where
-    short : (o : Option ℕ) (n : ℕ) → IsSomeAnd o (λ bytes. (bytes ≤ most_data) × (n < bytes + 2)) → n ≤ 4097
+    short : (o : Option ℕ) (n : ℕ) → IsSomeAnd o (λ bytes. (bytes ≤ MOST_DATA) × (n < bytes + 2)) → n ≤ 4097
     short (Some bytes) n h = omega (arith, h.0, h.1)
     short None n h = absurd h
 
-    length_line : (l : Bytes) (head : Head) (noreply : Bool) → IsLineOf l head noreply → length l + 2 ≤ most_line
+    length_line : (l : Bytes) (head : Head) (noreply : Bool) → IsLineOf l head noreply → length l + 2 ≤ MOST_LINE
     length_line l head noreply is = omega (arith, length-line head noreply is.0 is.1, ap (λ (t : Bytes). length t) is.2)
 
 -- ---- items one behind the other

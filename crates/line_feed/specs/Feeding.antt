@@ -9,10 +9,6 @@ use Rattle.mc_lines.specs.Meaning.{asked_of, AreLent}
 use Rattle.line_feed.specs.declared.item.Item.{Item}
 use Rattle.line_feed.specs.declared.item.Item.TheVariants.{Request, Quit, Bad}
 
--- the most bytes that are held
-abbrev pub most_held : ℕ
-most_held = 16384
-
 -- an item, in the definitions' terms
 abbrev pub item_of : Item → definitions.Item
 item_of (Request request noreply) = asked (asked_of request) noreply

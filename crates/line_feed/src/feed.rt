@@ -3,13 +3,10 @@ ghost use Rattle.std.specs.Prelude.{◌≡◌, ◌+◌, ◌-◌, ◌<◌, ◌≤
 
 use crate::item::Item;
 use appending::put;
-use ids::{Fault, LineFault};
+use ids::{Fault, LineFault, MOST_HELD};
 use mc_lines::{Read, read_request};
 use std::alloc::Global;
 use std::marker::Model;
-
-/// The most bytes that a feed holds.
-const MOST_HELD: usize = 16384;
 
 /// The bytes that a connection brought and whose items weren't given yet.
 ///
@@ -23,14 +20,14 @@ pub struct Feed {
 }
 
 impl Model for Feed {
+    ghost use Rattle.ids.specs.declared.limits.TheConstants.{MOST_HELD, MOST_HELD};
     ghost use Rattle.std.specs.Prelude.{ℕ, List, ◌≤◌, drop, length, vec_len, vec_capacity};
-    ghost use Rattle.line_feed.specs.Feeding.{most_held};
 
     ghost Value = { List ℕ };
 
     ghost view = { λ f. drop f.start f.bytes.items };
 
-    ghost invariant = { λ f. (f.start ≤ length f.bytes.items) × (length f.bytes.items ≤ most_held) × (most_held ≤ vec_capacity f.bytes) };
+    ghost invariant = { λ f. (f.start ≤ length f.bytes.items) × (length f.bytes.items ≤ MOST_HELD) × (MOST_HELD ≤ vec_capacity f.bytes) };
 }
 
 /// Keeps the bytes from this place on, at the front.
@@ -63,7 +60,6 @@ fn first(held: &[u8]) -> (Option<Item<'_>>, usize)
 }
 
 impl Feed {
-    ghost use Rattle.line_feed.specs.Feeding.{most_held};
     ghost use Rattle.line_feed.specs.contracts.feed.Feed.{the_row};
     ghost use Rattle.std.specs.Borrow.{sem};
     ghost use Rattle.std.specs.Io.BufRead.{Rests};
@@ -82,8 +78,8 @@ impl Feed {
     /// Takes in these bytes, behind those that are held. `FeedFull` exactly where they and the held ones exceed
     /// 16,384 bytes, and nothing changes then.
     pub fn push(&mut self, bytes: &[u8]) -> Result<(), Fault>
-        ensures pushed { OnOk result ((length self.old + length bytes.now ≤ most_held) × (self.new ≡ self.old ++ bytes.now)) }
-        ensures full { OnErr result ((most_held < length self.old + length bytes.now) × (result ≡ Err FeedFull) × (self.new ≡ self.old)) }
+        ensures pushed { OnOk result ((length self.old + length bytes.now ≤ MOST_HELD) × (self.new ≡ self.old ++ bytes.now)) }
+        ensures full { OnErr result ((MOST_HELD < length self.old + length bytes.now) × (result ≡ Err FeedFull) × (self.new ≡ self.old)) }
     {
         let held = self.bytes.len() - self.start;
         if MOST_HELD - held < bytes.len() {

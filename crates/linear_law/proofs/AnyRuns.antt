@@ -1,4 +1,5 @@
 -- What holds in every run, whatever tags are forged and whatever cores collide: what correct parties send are frames.
+use Rattle.ids.specs.declared.limits.TheConstants.{MOST_BLOCKS}
 use Rattle.std.proofs.Common.{ℕ, suc, ◌≡◌, ◌+◌, ◌-◌, ◌<◌, ◌≤◌, ◌^◌, ◌==◌, not, true, Bool, List, [], ◌∷◌, length, refl, sym, ap, subst, arith, inl, inr, Option, Some, None, Ok}
 use Rattle.std.proofs.lemmas.Bool.{and_parts, cond_both, ltb-true}
 use Rattle.ids.specs.Sizes.{Sizes, replicas}
@@ -7,7 +8,6 @@ use Rattle.definitions.specs.Bytes.{Bytes}
 use Rattle.definitions.specs.FrameLimits.{IsCore, IsFrame}
 use Rattle.definitions.specs.Branches.{Branch}
 use Rattle.definitions.specs.Digests.{AllKnown}
-use Rattle.definitions.specs.Trees.{most_blocks}
 use Rattle.definitions.specs.Chronicles.{Step, Step.took_block, Step.noted, Note.beat, Chronicle, taken, stored, tree, IsSound}
 use Rattle.definitions.specs.Checks.{Identity}
 use Rattle.definitions.specs.Keyrings.{Keyring}
@@ -45,7 +45,7 @@ pub record IsPlain (self : Identity) (now : ℕ) (c : Chronicle) : Type 0 where
   pub stored_are : AreStored self c
   pub fit : (x : Branch) → Among x (tree c) → AllKnown (IsCore self.sizes) x
   pub short : length c < now
-  pub low : length (leaf self c) ≤ length c + most_blocks
+  pub low : length (leaf self c) ≤ length c + MOST_BLOCKS
   pub proposal : (j : Justified) → proposed self c ≡ Some j → IsFitProposal self.sizes j
 
 -- it stays so
@@ -53,7 +53,7 @@ later : (self : Identity) (now : ℕ) (c : Chronicle) → IsPlain self now c →
 later self now c p = record { sound = p.sound; stored_are = p.stored_are; fit = p.fit; short = (let l = p.short in omega (arith, l)); low = p.low; proposal = p.proposal }
 
 -- the leaf is higher by one at most, or a certified block of the tree
-leaf-low : (self : Identity) (st : Step) (c : Chronicle) (b : Branch) → IsSound self.sizes (st ∷ c) → AreStored self (st ∷ c) → length (leaf self c) ≤ length c + most_blocks → LeafStep self st c b → length b ≤ length (st ∷ c) + most_blocks
+leaf-low : (self : Identity) (st : Step) (c : Chronicle) (b : Branch) → IsSound self.sizes (st ∷ c) → AreStored self (st ∷ c) → length (leaf self c) ≤ length c + MOST_BLOCKS → LeafStep self st c b → length b ≤ length (st ∷ c) + MOST_BLOCKS
 leaf-low self st c b so h low (raises l) =
     let m = (qc_high-is self (st ∷ c) so.lawful h).among in
     let k = so.heights (qc_high self.sizes (st ∷ c)).block m in

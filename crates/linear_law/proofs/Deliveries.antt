@@ -1,4 +1,5 @@
 -- Where recorded frames alone come, whatever stands in a replica's chronicle was sent by its maker.
+use Rattle.ids.specs.declared.limits.TheConstants.{MOST_BLOCKS}
 use Rattle.ids.specs.declared.fault.Fault.{Fault}
 use Rattle.ids.specs.declared.fault.Fault.TheVariants as fault
 use Rattle.std.proofs.Common.{ℕ, ◌≡◌, ◌⊎◌, ◌&&◌, not, ◌==◌, Bool, true, false, List, [], ◌∷◌, ◌++◌, map, filter, length, nat_lt, refl, sym, ap, subst, ◌∙◌, inl, inr, true≢false, Option, Some, None, Ok, option_map, slice_get}
@@ -16,7 +17,7 @@ use Rattle.definitions.specs.Keyrings.{Keyring}
 use Rattle.definitions.specs.Chronicles.{Admitted, Step, Step.took_block, Step.noted, Note.got_vote, Note.got_new_view, Note.got_request, Note.got_fetch, Note.timed_out, Note.beat, Chronicle, taken, tree, history}
 use Rattle.definitions.specs.Checks.{Identity, Findings, vote_verifies, command_verifies}
 use Rattle.definitions.specs.States.{view, Justified, me, leads, leaf, child, known_as, proposed, made_with, raised, higher, qc_high, votes, pending, with_request, is_due, is_same_request, picks, find_block}
-use Rattle.definitions.specs.Trees.{Placing, Placing.stands, Placing.grows, Placing.lacks_parent, Placing.unfit, placing, most_blocks}
+use Rattle.definitions.specs.Trees.{Placing, Placing.stands, Placing.grows, Placing.lacks_parent, Placing.unfit, placing}
 use Rattle.definitions.specs.Rulings.{Input, Input.proposal_in, Input.block_in, Input.vote_in, Input.new_view_in, Input.request_in, Input.fetch_in, Input.timeout_in, Input.beat_in, Ruling, Ruling.due, Ruling.missing, Ruling.refusing, admitted, on_placing, on_request, with_block, ruling, conflicts}
 use Rattle.definitions.specs.Sendings.{To, To.to_party, Sending, reply_to, vote_frame, block_frame, new_view_frame, proposal_frame, fetch_frame}
 use Rattle.definitions.specs.Replicas.{Memory, Memory.ample, Memory.refused_at_once, Memory.refused_after, Replica, Reaction, Reaction.fails, Standing, Standing.running, Standing.stopped, Standing.cut_short, executes, on_step, on_ruling, step}
@@ -218,7 +219,7 @@ module _ (sent : List Sent) where
   AllMade (missing r d) = ⊤
   AllMade (refusing n) = ⊤
 
-  placed-made : (self : Identity) (w : Option ℕ) (sender : ℕ) (core : Core) (q : Certificate) (f : Findings) (c : Chronicle) → CommandsSent sent core.commands → VotesSent sent q → (p : Placing) → IsPlaced most_blocks core q (tree c) p → AllMade (on_placing self w sender core q f c p)
+  placed-made : (self : Identity) (w : Option ℕ) (sender : ℕ) (core : Core) (q : Certificate) (f : Findings) (c : Chronicle) → CommandsSent sent core.commands → VotesSent sent q → (p : Placing) → IsPlaced MOST_BLOCKS core q (tree c) p → AllMade (on_placing self w sender core q f c p)
   unfolding on_placing admitted AllMade
   placed-made self w sender core q f c hk hq (stands b) h = (λ n. absurd (true≢false (sym n)), hq)
   placed-made self w sender core q f c hk hq (grows b) (parent, t) =
@@ -243,8 +244,8 @@ module _ (sent : List Sent) where
 
   ruling-made : (self : Identity) (i : Input) (c : Chronicle) → IsMadeInput sent i → AllMade (ruling self i c)
   unfolding ruling AllMade
-  ruling-made self (proposal_in w core q f) c h = placed-made self _ _ core q f c h.0 h.1 (placing most_blocks core q (tree c)) (placed most_blocks core q (tree c))
-  ruling-made self (block_in sender core q f) c h = placed-made self _ _ core q f c h.0 h.1 (placing most_blocks core q (tree c)) (placed most_blocks core q (tree c))
+  ruling-made self (proposal_in w core q f) c h = placed-made self _ _ core q f c h.0 h.1 (placing MOST_BLOCKS core q (tree c)) (placed MOST_BLOCKS core q (tree c))
+  ruling-made self (block_in sender core q f) c h = placed-made self _ _ core q f c h.0 h.1 (placing MOST_BLOCKS core q (tree c)) (placed MOST_BLOCKS core q (tree c))
   ruling-made self (vote_in d b) c h = vote-made d b c h _ refl
   ruling-made self (new_view_in w r q) c h = view-made w r q _ h
   ruling-made self (request_in r) c h = request-made r c h

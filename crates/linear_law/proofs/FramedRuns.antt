@@ -1,4 +1,5 @@
 -- Each frame that a correct party of a run sends is a frame at its sizes.
+use Rattle.ids.specs.declared.limits.TheConstants.{MOST_PAYLOAD}
 use Rattle.ids.specs.declared.fault.Fault.{Fault}
 use Rattle.ids.specs.declared.fault.Fault.TheVariants as fault
 use Rattle.ids.specs.declared.kind.Kind.TheVariants as kind
@@ -11,7 +12,7 @@ use Rattle.definitions.specs.Bytes.{Bytes}
 use Rattle.definitions.specs.Canonical.{request_of, is_canonical}
 use Rattle.definitions.specs.Requests.{Asked}
 use Rattle.definitions.specs.Frames.{Core, genesis_core, command_content}
-use Rattle.definitions.specs.FrameLimits.{IsDigest, IsCore, IsFrame, most_payload}
+use Rattle.definitions.specs.FrameLimits.{IsDigest, IsCore, IsFrame}
 use Rattle.definitions.specs.Branches.{Branch}
 use Rattle.definitions.specs.Digests.{AllKnown, NoCollision}
 use Rattle.definitions.specs.Chronicles.{Step, Chronicle, tree, IsSound}
@@ -124,15 +125,15 @@ module _ (Known : Core → Type 0) (apart : NoCollision Known) (genesis : Known 
 -- ---- a submission
 
 -- a canonical payload is short
-pub payload-short : (payload : Bytes) → is_canonical payload ≡ true → length payload ≤ most_payload
+pub payload-short : (payload : Bytes) → is_canonical payload ≡ true → length payload ≤ MOST_PAYLOAD
 payload-short payload h = by (request_of payload) refl h
   where
-    by : (o : Option Asked) → request_of payload ≡ o → is_some o ≡ true → length payload ≤ most_payload
+    by : (o : Option Asked) → request_of payload ≡ o → is_some o ≡ true → length payload ≤ MOST_PAYLOAD
     by None e t = absurd (true≢false (sym t))
     by (Some r) e t = let k = request_of_some payload r e in let l = length-canonical r k.0 in let n = ap (λ (b : Bytes). length b) k.1 in omega (arith, l, n)
 
 -- the request that goes out
-pub submission-fits : (c : Client) (m : Memory) (payload : Bytes) (s : Session) (o : Sending) → c.number < c.sizes.clients → s.used < 2 ^ 64 → length payload ≤ most_payload → Among o (submitted_out (submission c m payload s).1) → IsFrame c.sizes o.1
+pub submission-fits : (c : Client) (m : Memory) (payload : Bytes) (s : Session) (o : Sending) → c.number < c.sizes.clients → s.used < 2 ^ 64 → length payload ≤ MOST_PAYLOAD → Among o (submitted_out (submission c m payload s).1) → IsFrame c.sizes o.1
 unfolding submission request_frame
 submission-fits c m payload s o client room short =
     cond_both s.waiting _ _ P (λ e k. absurd k) (λ e.

@@ -1,4 +1,5 @@
 -- What a step that stands has from the frame that came.
+use Rattle.ids.specs.declared.limits.TheConstants.{MOST_BLOCKS}
 use Rattle.ids.specs.declared.kind.Kind.TheVariants as kind
 use Rattle.ids.specs.declared.fault.Fault.TheVariants as fault
 use Rattle.std.proofs.Common.{ℕ, ◌≡◌, ◌&&◌, not, true, List, [], ◌∷◌, length, refl, sym, subst, subst₂, inl, inr, map, filter, Option, Some, None, true≢false, nat_lt, ◌∙◌, ap}
@@ -9,7 +10,7 @@ use lib.Dec.{ltb}
 use Rattle.definitions.proofs.Lists.{Among-after, Among-before, Among-mapped, Among-kept, all-passes}
 use Rattle.definitions.proofs.Checks.{when-good, block-checked}
 use Rattle.definitions.proofs.Sound.{IsChecked, IsCheckedInput}
-use Rattle.definitions.specs.Trees.{most_blocks, Placing, Placing.stands, Placing.grows, Placing.lacks_parent, Placing.unfit, placing}
+use Rattle.definitions.specs.Trees.{Placing, Placing.stands, Placing.grows, Placing.lacks_parent, Placing.unfit, placing}
 use Rattle.definitions.proofs.Trees.{found-in, core-known, IsPlaced, placed}
 use Rattle.definitions.specs.Lists.{Among}
 use Rattle.definitions.specs.Frames.{Command, Core, Vote, Certificate, Frame, command_content}
@@ -49,7 +50,7 @@ AllStanding P (due st) = P st
 AllStanding P (missing sender d) = ⊤
 AllStanding P (refusing n) = ⊤
 
-placed-from : (self : Identity) (i : Input) (w : Option ℕ) (sender : ℕ) (core : Core) (q : Certificate) (f : Findings) (c : Chronicle) → Carries i core q f → (p : Placing) → IsPlaced most_blocks core q (tree c) p → AllStanding (FromInput i) (on_placing self w sender core q f c p)
+placed-from : (self : Identity) (i : Input) (w : Option ℕ) (sender : ℕ) (core : Core) (q : Certificate) (f : Findings) (c : Chronicle) → Carries i core q f → (p : Placing) → IsPlaced MOST_BLOCKS core q (tree c) p → AllStanding (FromInput i) (on_placing self w sender core q f c p)
 unfolding on_placing admitted
 placed-from self i w sender core q f c ca (stands b) h = (core, q, f, ca, record { stored = refl; counted_is = refl; core_is = λ n. absurd (true≢false (sym n)); justified = h.1; clear_is = refl })
 placed-from self i w sender core q f c ca (grows b) (parent, g) =
@@ -70,7 +71,7 @@ placed-from self i w sender core q f c ca lacks_parent h = tt
 placed-from self i w sender core q f c ca (unfit n) h = tt
 
 block-from : (self : Identity) (i : Input) (w : Option ℕ) (sender : ℕ) (core : Core) (q : Certificate) (f : Findings) (c : Chronicle) → Carries i core q f → AllStanding (FromInput i) (on_block self w sender core q f c)
-block-from self i w sender core q f c ca = placed-from self i w sender core q f c ca (placing most_blocks core q (tree c)) (placed most_blocks core q (tree c))
+block-from self i w sender core q f c ca = placed-from self i w sender core q f c ca (placing MOST_BLOCKS core q (tree c)) (placed MOST_BLOCKS core q (tree c))
 
 vote-from : (self : Identity) (i : Input) (o : Option Branch) (b : Vote) (d : Bytes) → AllStanding (FromInput i) (with_block o b.voter d (λ x. due (noted (got_vote b.voter b.vector x))))
 vote-from self i None b d = tt

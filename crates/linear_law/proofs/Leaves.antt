@@ -1,4 +1,5 @@
 -- Views, waiting requests and the block that the next proposal stands on, of a chronicle whose steps came in frames.
+use Rattle.ids.specs.declared.limits.TheConstants.{MOST_COMMANDS}
 use Rattle.std.proofs.Common.{ℕ, zero, suc, if◌then◌else◌, ◌≡◌, ◌<◌, ◌≤◌, ◌^◌, ◌&&◌, not, true, List, [], ◌∷◌, ◌++◌, length, refl, sym, ap, subst, arith, Option, Some, None, true≢false, ◌==◌, nat_lt, nat_le, map, filter, take, is_some}
 use Rattle.std.specs.List.{list_any, AllByRecursion}
 use Rattle.std.proofs.lemmas.Bool.{and_parts, cond_both, ltb-true, ltb-false}
@@ -7,7 +8,7 @@ use Rattle.ids.specs.Sizes.{replicas}
 use Rattle.definitions.specs.Lists.{Among, greatest, count_below}
 use Rattle.definitions.specs.Bytes.{Bytes}
 use Rattle.definitions.specs.Frames.{Command}
-use Rattle.definitions.specs.FrameLimits.{IsCommand, IsCore, most_commands}
+use Rattle.definitions.specs.FrameLimits.{IsCommand, IsCore}
 use Rattle.definitions.specs.Branches.{Branch}
 use Rattle.definitions.specs.Digests.{digest_of, core_of, core_over}
 use Rattle.definitions.specs.Histories.{history_of}
@@ -77,12 +78,12 @@ all-take P (suc n) [] h = tt
 all-take P (suc n) (x ∷ xs) h = (h.0, all-take P n xs h.1)
 
 -- so do those of a new block, 16 at most
-pub picks-fit : (self : Identity) (c : Chronicle) (on : Branch) → AreStored self c → AllByRecursion (IsCommand self.sizes) (picks c on) × (length (picks c on) ≤ most_commands)
+pub picks-fit : (self : Identity) (c : Chronicle) (on : Branch) → AreStored self c → AllByRecursion (IsCommand self.sizes) (picks c on) × (length (picks c on) ≤ MOST_COMMANDS)
 unfolding picks
 picks-fit self c on h =
     let kept : List Command = filter (λ r. not (list_any (λ e. (e.client == r.client) && (e.seq == r.seq)) (history_of on))) (pending c) in (
-      all-take (IsCommand self.sizes) most_commands kept (all-filter (IsCommand self.sizes) (λ r. not (list_any (λ e. (e.client == r.client) && (e.seq == r.seq)) (history_of on))) (pending c) (pending-fit self c h)),
-      (let l = length-take most_commands kept in omega (arith, l)),
+      all-take (IsCommand self.sizes) MOST_COMMANDS kept (all-filter (IsCommand self.sizes) (λ r. not (list_any (λ e. (e.client == r.client) && (e.seq == r.seq)) (history_of on))) (pending c) (pending-fit self c h)),
+      (let l = length-take MOST_COMMANDS kept in omega (arith, l)),
     )
 
 -- ---- the block that the next proposal stands on

@@ -1,11 +1,12 @@
 -- Each frame that a step sends is a frame at these sizes.
+use Rattle.ids.specs.declared.limits.TheConstants.{MOST_TEXT}
 use Rattle.std.proofs.Common.{ℕ, ◌≡◌, ◌<◌, ◌≤◌, ◌^◌, [], ◌∷◌, length, sym, subst, inl, inr, Some}
 use Rattle.ids.specs.declared.kind.Kind.TheVariants as kind
 use Rattle.ids.specs.Sizes.{Sizes, replicas, client_party}
 use Rattle.definitions.specs.Lists.{Among}
 use Rattle.definitions.specs.Bytes.{Bytes}
 use Rattle.definitions.specs.Frames.{reply_content, fetch_content, block_content, proposal_content, new_view_content, Certificate}
-use Rattle.definitions.specs.FrameLimits.{IsDigest, IsFrame, IsCore, IsCertificate, most_text}
+use Rattle.definitions.specs.FrameLimits.{IsDigest, IsFrame, IsCore, IsCertificate}
 use Rattle.definitions.specs.Branches.{Branch}
 use Rattle.definitions.specs.Digests.{digest_of, core_of}
 use Rattle.definitions.specs.Histories.{Answer, answers}
@@ -26,7 +27,7 @@ pub record IsFitAnswer (s : Sizes) (a : Answer) : Type 0 where
   pub client : a.client < s.clients
   pub seq : (1 ≤ a.seq) × (a.seq < 2 ^ 64)
   pub place : (1 ≤ a.place) × (a.place < 2 ^ 64)
-  pub text : length a.text ≤ most_text
+  pub text : length a.text ≤ MOST_TEXT
 
 -- a block and a certificate of which a proposal can be made
 pub record IsFitProposal (s : Sizes) (j : Justified) : Type 0 where

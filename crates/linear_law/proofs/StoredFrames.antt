@@ -1,4 +1,5 @@
 -- What a replica stores comes from frames that were read and admitted.
+use Rattle.ids.specs.declared.limits.TheConstants.{MOST_BLOCKS}
 use Rattle.ids.specs.declared.fault.Fault.TheVariants as fault
 use Rattle.std.proofs.Common.{ℕ, ◌≡◌, ◌<◌, ◌^◌, ◌&&◌, not, true, [], ◌∷◌, length, refl, sym, subst, inl, inr, Option, Some, None, true≢false, nat_lt, ◌∙◌, ap}
 use Rattle.std.specs.Bool.{⊤}
@@ -19,7 +20,7 @@ use Rattle.definitions.specs.Admission.{check, Checked.passes, Checked.rejected}
 use Rattle.definitions.specs.Worlds.{World, Event, self_of}
 use Rattle.definitions.specs.Events.{party_of}
 use Rattle.definitions.proofs.Sound.{found}
-use Rattle.definitions.specs.Trees.{most_blocks, Placing, Placing.stands, Placing.grows, Placing.lacks_parent, Placing.unfit, placing, IsTree}
+use Rattle.definitions.specs.Trees.{Placing, Placing.stands, Placing.grows, Placing.lacks_parent, Placing.unfit, placing, IsTree}
 use Rattle.definitions.proofs.Trees.{same_bytes, found-in, core-known, IsPlaced, placed}
 use Rattle.definitions.proofs.Checks.{when-good}
 use Rattle.linear_law.proofs.Effects.{Arises}
@@ -107,7 +108,7 @@ unfolding digest_of
 genesis-only c b tr m h = tr.one b [] m tr.genesis (same_bytes _ _ h)
 
 -- a block with its certificate
-placed-stored : (self : Identity) (w : Option ℕ) (sender : ℕ) (core : Core) (q : Certificate) (f : Findings) (c : Chronicle) → IsCore self.sizes core → IsCertificate self.sizes q → is_good self q ≡ true → (p : Placing) → IsPlaced most_blocks core q (tree c) p → IsStoredRuling self c (on_placing self w sender core q f c p)
+placed-stored : (self : Identity) (w : Option ℕ) (sender : ℕ) (core : Core) (q : Certificate) (f : Findings) (c : Chronicle) → IsCore self.sizes core → IsCertificate self.sizes q → is_good self q ≡ true → (p : Placing) → IsPlaced MOST_BLOCKS core q (tree c) p → IsStoredRuling self c (on_placing self w sender core q f c p)
 unfolding on_placing admitted
 placed-stored self w sender core q f c hk hq g (stands b) h = record { core_is = hk; certificate_is = hq; good = g; justified = h.1; stored = λ n. absurd (true≢false (sym n)) }
 placed-stored self w sender core q f c hk hq g (grows b) (parent, t) =
@@ -123,7 +124,7 @@ placed-stored self w sender core q f c hk hq g lacks_parent h = hk.parent
 placed-stored self w sender core q f c hk hq g (unfit n) h = tt
 
 block-stored : (self : Identity) (w : Option ℕ) (sender : ℕ) (core : Core) (q : Certificate) (f : Findings) (c : Chronicle) → IsCore self.sizes core → IsCertificate self.sizes q → is_good self q ≡ true → IsStoredRuling self c (on_block self w sender core q f c)
-block-stored self w sender core q f c hk hq g = placed-stored self w sender core q f c hk hq g (placing most_blocks core q (tree c)) (placed most_blocks core q (tree c))
+block-stored self w sender core q f c hk hq g = placed-stored self w sender core q f c hk hq g (placing MOST_BLOCKS core q (tree c)) (placed MOST_BLOCKS core q (tree c))
 
 -- a vote
 vote-stored : (self : Identity) (b : Vote) (d : Bytes) (c : Chronicle) → IsSound self.sizes c → IsDigest d → IsVote self.sizes b → vote_verifies self d b ≡ true → (o : Option Branch) → find_block d c ≡ o → IsStoredRuling self c (with_block o b.voter d (λ x. due (noted (got_vote b.voter b.vector x))))

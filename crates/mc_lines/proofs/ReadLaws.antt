@@ -1,11 +1,12 @@
 -- What the reader makes of a line and what follows it is the first item of the text.
+use Rattle.ids.specs.declared.limits.TheConstants.{MOST_DATA, MOST_LINE}
 use Rattle.std.proofs.Common.{◌≡◌, ◌≢◌, ℕ, ◌+◌, ◌-◌, ◌<◌, ◌≤◌, Bool, true, false, cond, [], ◌∷◌, ◌++◌, length, take, drop, Option, Some, None, refl, sym, ap, subst, ◌∙◌, inl, arith, length-append}
 use Rattle.std.specs.Prelude.{codes, bytes_eq, Contains, Ok, Err, nat_lt, slice_index}
 use Rattle.std.proofs.lemmas.List.{take_all, append-nil, length-take-le, take_rest}
 use Rattle.std.proofs.lemmas.Option.{some_pair_parts}
 use Rattle.ids.specs.declared.line_fault.LineFault.TheVariants.{UnknownName, BadFields, TooLarge, BadChunk, LineTooLong}
 use Rattle.definitions.specs.Bytes.{Bytes}
-use Rattle.definitions.specs.Requests.{spelling, Asked, Head, store, cas, get, gets, delete, incr, decr, stored_of, crlf, most_data, most_line, canonical}
+use Rattle.definitions.specs.Requests.{spelling, Asked, Head, store, cas, get, gets, delete, incr, decr, stored_of, crlf, canonical}
 use Rattle.definitions.specs.Items.{names, name_of, HasNoEnd, IsLineOf, Item, asked, quit, bad, IsItemAt, IsUnfinished}
 use Rattle.definitions.specs.Canonical.{request_of}
 use Rattle.definitions.proofs.Lines.{head_at, head_at-line}
@@ -20,8 +21,8 @@ use Rattle.mc_lines.specs.Heads.{filled, data_in, item_from, item_with, item_of}
 
 -- the reader's step with data is the definitions'
 item_from-data : (head : Head) (noreply : Bool) (start bytes : ℕ) (rest : Bytes) → item_from head noreply start bytes (data_in bytes rest)
-    ≡ cond (nat_lt most_data bytes) (Some (bad TooLarge, 0)) (cond (nat_lt (length rest) (bytes + 2)) None (cond (bytes_eq (take 2 (drop bytes rest)) crlf) (Some (asked (filled head (take bytes rest)) noreply, start + (bytes + 2))) (Some (bad BadChunk, 0))))
-item_from-data head noreply start bytes rest = go (nat_lt most_data bytes) (nat_lt (length rest) (bytes + 2)) (bytes_eq (take 2 (drop bytes rest)) crlf)
+    ≡ cond (nat_lt MOST_DATA bytes) (Some (bad TooLarge, 0)) (cond (nat_lt (length rest) (bytes + 2)) None (cond (bytes_eq (take 2 (drop bytes rest)) crlf) (Some (asked (filled head (take bytes rest)) noreply, start + (bytes + 2))) (Some (bad BadChunk, 0))))
+item_from-data head noreply start bytes rest = go (nat_lt MOST_DATA bytes) (nat_lt (length rest) (bytes + 2)) (bytes_eq (take 2 (drop bytes rest)) crlf)
   where
     go : (a b c : Bool) → item_from head noreply start bytes (cond a (Err TooLarge) (cond b (Ok None) (cond c (Ok (Some (take bytes rest))) (Err BadChunk))))
         ≡ cond a (Some (bad TooLarge, 0)) (cond b None (cond c (Some (asked (filled head (take bytes rest)) noreply, start + (bytes + 2))) (Some (bad BadChunk, 0))))
@@ -64,8 +65,8 @@ pub fields_are : (text l rest : Bytes) → HasFirst text l rest → Contains nam
 fields_are text l rest first h = (l, (first.0, first.1, (rest, first.2)), h.0, h.1, h.2, refl)
 
 -- a short text with no end
-pub unfinished_is : (text : Bytes) → length text < most_line → HasNoEnd (take most_line text) → IsUnfinished text
-unfinished_is text short none = inl (short, subst HasNoEnd (take_all most_line text (omega arith)) none)
+pub unfinished_is : (text : Bytes) → length text < MOST_LINE → HasNoEnd (take MOST_LINE text) → IsUnfinished text
+unfinished_is text short none = inl (short, subst HasNoEnd (take_all MOST_LINE text (omega arith)) none)
 
 -- ---- canonical texts
 
@@ -123,7 +124,7 @@ not_canonical text read is other = go (request_of text) refl
 
 -- what is found at the end of the first line
 abbrev pub EndsAt : Bytes → ℕ → Type 0
-EndsAt text i = (i + 2 ≤ length text) × (i + 2 ≤ most_line) × (slice_index text i ≡ 13) × (slice_index text (i + 1) ≡ 10) × HasNoEnd (take i text)
+EndsAt text i = (i + 2 ≤ length text) × (i + 2 ≤ MOST_LINE) × (slice_index text i ≡ 13) × (slice_index text (i + 1) ≡ 10) × HasNoEnd (take i text)
 
 -- it gives the line and the rest
 pub first_at : (text : Bytes) (i : ℕ) → EndsAt text i → HasFirst text (take i text) (drop (i + 2) text)

@@ -1,11 +1,12 @@
 -- Lines and what they say: what the steps of the reader give.
+use Rattle.ids.specs.declared.limits.TheConstants.{MOST_ASKED, MOST_DATA}
 use Rattle.std.specs.Prelude.{◌≡◌, ◌≢◌, ℕ, ◌+◌, Bool, false, List, [], length, take, drop, nat_lt, Contains, codes, bytes_eq, Option, Some, None, Result, Ok, Err, if◌then◌else◌, option_map}
 use Rattle.std.specs.Borrow.{Bor}
 use Rattle.ids.specs.declared.line_fault.LineFault.{LineFault}
 use Rattle.ids.specs.declared.line_fault.LineFault.TheVariants.{TooLarge, BadChunk}
 use Rattle.definitions.specs.Bytes.{Bytes}
 use Rattle.definitions.specs.Requests as requests
-use Rattle.definitions.specs.Requests.{Asked, crlf, most_data, verb_name}
+use Rattle.definitions.specs.Requests.{Asked, crlf, verb_name}
 use Rattle.definitions.specs.Items.{names, name_of, IsLineOf, Item, asked, quit, bad}
 use Rattle.definitions.specs.Slices.{LentAt}
 use Rattle.mc_lines.specs.declared.request.Verb.TheVariants.{Set, Add, Replace, Append, Prepend}
@@ -103,7 +104,7 @@ counted_in fields = key_first fields >>= λ key. number_first key.1 >>= λ value
 
 -- the keys of a retrieval
 abbrev pub keys_in : List Bytes → Option (List Bytes)
-keys_in fields = if keys_pass 16 fields then Some fields else None
+keys_in fields = if keys_pass MOST_ASKED fields then Some fields else None
 
 -- what the fields behind a name say
 abbrev pub head_for : Name → List Bytes → Option (requests.Head × Bool)
@@ -134,7 +135,7 @@ IsLineLent source lines.BadFields = Unit {0}
 -- the data at the front of what follows a line, none yet, or a fault
 abbrev pub data_in : ℕ → Bytes → Result (Option Bytes) LineFault
 data_in bytes rest =
-    if nat_lt most_data bytes then Err TooLarge
+    if nat_lt MOST_DATA bytes then Err TooLarge
     else if nat_lt (length rest) (bytes + 2) then Ok None
     else if bytes_eq (take 2 (drop bytes rest)) crlf then Ok (Some (take bytes rest))
     else Err BadChunk

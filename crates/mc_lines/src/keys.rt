@@ -5,6 +5,7 @@ ghost use Rattle.mc_lines.specs.Fields.{parts, is_key_byte, keys_pass};
 ghost use Rattle.mc_lines.specs.Meaning.{keys_of, keys_left};
 
 use crate::fields::cut;
+use ids::MOST_KEY;
 use std::marker::Model;
 
 /// The keys of a get, lent as one text.
@@ -69,7 +70,7 @@ fn are_key_bytes(field: &[u8]) -> bool
 pub(crate) fn is_key(field: &[u8]) -> bool
     ensures { result ≡ is_key field.now }
 {
-    1 <= field.len() && field.len() <= 250 && are_key_bytes(field)
+    1 <= field.len() && field.len() <= MOST_KEY && are_key_bytes(field)
 }
 
 /// Whether these are keys, one at least, and no more than `most`.

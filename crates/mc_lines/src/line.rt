@@ -10,9 +10,7 @@ ghost use Rattle.mc_lines.specs.Meaning.{verb_of, asked_of, keys_of, LentIn, Are
 use crate::fields::{cut, expiry, flags, key, noreply, value};
 use crate::keys::{Keys, are_keys};
 use crate::request::{Request, Verb};
-
-/// The most keys of one retrieval.
-const MOST_KEYS: usize = 16;
+use ids::MOST_ASKED;
 
 /// The names of the commands.
 #[derive(Clone, Copy)]
@@ -219,7 +217,7 @@ fn keys(rest: Option<&[u8]>) -> Option<Keys<'_>>
     ensures lent { IfSome result (λ keys. LentIn rest.entry 0 keys.text) }
 {
     let text = rest?;
-    if are_keys(text, MOST_KEYS) {
+    if are_keys(text, MOST_ASKED) {
         Some(Keys { text })
     } else {
         None

@@ -1,7 +1,8 @@
+ghost use Rattle.ids.specs.declared.limits.TheConstants.{MOST_LINE};
 ghost use Rattle.std.specs.Prelude.{◌≡◌, ◌+◌, ◌≤◌, length, take, slice_index, option_map, IfSome, IfNone, IfOk};
 ghost use Rattle.std.specs.Borrow.{Bor};
 ghost use Rattle.definitions.specs.Bytes.{Bytes};
-ghost use Rattle.definitions.specs.Requests.{stored_of, most_line};
+ghost use Rattle.definitions.specs.Requests.{stored_of};
 ghost use Rattle.definitions.specs.Items.{HasNoEnd};
 ghost use Rattle.definitions.specs.Canonical.{request_of};
 ghost use Rattle.definitions.specs.Slices.{LentAt};
@@ -10,14 +11,8 @@ ghost use Rattle.mc_lines.specs.Meaning.{asked_of, AreLent, IsReadOf, IsLent, us
 
 use crate::line::{Head, Line, read_line};
 use crate::request::Request;
-use ids::LineFault;
+use ids::{LineFault, MOST_DATA, MOST_LINE};
 use memchr::memmem;
-
-/// The most bytes of a line with its end.
-const MOST_LINE: usize = 4096;
-
-/// The most bytes of data.
-const MOST_DATA: u64 = 4096;
 
 /// What stands first in a text.
 #[derive(Clone, Copy, Debug, PartialEq, Eq)]
@@ -44,10 +39,10 @@ pub enum Read<'a> {
 
 /// Where the first CR LF begins, if it ends within the limit of a line.
 fn line_end(bytes: &[u8]) -> Option<usize>
-    ensures found { IfSome result (λ i. (i + 2 ≤ length bytes.now) × (i + 2 ≤ most_line)
+    ensures found { IfSome result (λ i. (i + 2 ≤ length bytes.now) × (i + 2 ≤ MOST_LINE)
         × (slice_index bytes.now i ≡ 13) × (slice_index bytes.now (i + 1) ≡ 10)
         × HasNoEnd (take i bytes.now)) }
-    ensures none { IfNone result (HasNoEnd (take most_line bytes.now)) }
+    ensures none { IfNone result (HasNoEnd (take MOST_LINE bytes.now)) }
 {
     memmem::find(&bytes[..bytes.len().min(MOST_LINE)], b"\r\n")
 }
@@ -58,7 +53,7 @@ fn data(rest: &[u8], bytes: u64) -> Result<Option<&[u8]>, LineFault>
     ensures lent { IfOk result (λ o. IfSome o (λ stored.
         (length stored.now ≡ bytes) × LentAt rest.entry 0 stored)) }
 {
-    if bytes > MOST_DATA {
+    if bytes > MOST_DATA as u64 {
         return Err(LineFault::TooLarge);
     }
     let bytes = bytes as usize;
@@ -73,7 +68,7 @@ fn data(rest: &[u8], bytes: u64) -> Result<Option<&[u8]>, LineFault>
 
 /// The request of a line with its data, which stands behind the line at `start`.
 fn with_data<'a>(head: Head<'a>, noreply: bool, rest: &'a [u8], start: usize) -> Read<'a>
-    requires { start ≤ most_line }
+    requires { start ≤ MOST_LINE }
     ensures value { item_of result
         ≡ item_with (head_of head.entry) noreply start rest.now (stored_of (head_of head.entry)) }
     ensures lent { (source : Bor Bytes) → LentAt source (head_place head.entry) (head_key head.entry)

@@ -1,10 +1,10 @@
 -- The pool after a step of its replica.
+use Rattle.ids.specs.declared.limits.TheConstants.{MOST_COMMANDS}
 use Rattle.std.proofs.Common.{sym, true≢false, arith, ◌≡◌, ℕ, max, nat_lt, nat_le, Bool, true, false, cond, ◌&&◌, ◌||◌, ◌==◌, not, List, [], ◌∷◌, ◌++◌, map, filter, take, refl, ap, ◌∙◌, if◌then◌else◌}
 use Rattle.std.proofs.lemmas.List.{append-nil}
 use Rattle.std.proofs.lemmas.List.Elements.{filter-append}
 use Rattle.std.specs.List.{list_any}
 use Rattle.definitions.specs.Frames.{Command}
-use Rattle.definitions.specs.FrameLimits.{most_commands}
 use Rattle.definitions.specs.Branches.{Branch}
 use Rattle.definitions.specs.Lists.{greatest}
 use Rattle.definitions.specs.Histories.{Entry, History, last_seq, history_of}
@@ -115,7 +115,7 @@ is_entry_of r e = (e.client == r.client) && (e.seq == r.seq)
 
 picked-whole : (c : Chronicle) (on : Branch) → first_beside (map (λ e. (e.client, e.seq)) (history_of on)) (pending c) ≡ picks c on
 unfolding picks
-picked-whole c on = ap (take most_commands) (filter-alike _ _ (λ r. ap not (any-mapped (λ (e : Entry). (e.client, e.seq)) (λ e. (e.0 == r.client) && (e.1 == r.seq)) (history_of on))) (pending c))
+picked-whole c on = ap (take MOST_COMMANDS) (filter-alike _ _ (λ r. ap not (any-mapped (λ (e : Entry). (e.client, e.seq)) (λ e. (e.0 == r.client) && (e.1 == r.seq)) (history_of on))) (pending c))
 
 -- a request that isn't overtaken by an entry is another one
 apart : (a : Bool) (m n : ℕ) → not (a && nat_le n m) ≡ true → (a && (m == n)) ≡ false
@@ -152,7 +152,7 @@ picked-above : (c : Chronicle) (on : Branch) (new : History) → history_of on �
 unfolding picks
 picked-above c on new goes =
     let beside : History → Command → Bool = λ h r. not (list_any (is_entry_of r) h) in
-    ap (take most_commands) (filter-alike _ (beside new) (λ r. ap not (any-mapped (λ (e : Entry). (e.client, e.seq)) (λ e. (e.0 == r.client) && (e.1 == r.seq)) new)) (pending c)
+    ap (take MOST_COMMANDS) (filter-alike _ (beside new) (λ r. ap not (any-mapped (λ (e : Entry). (e.client, e.seq)) (λ e. (e.0 == r.client) && (e.1 == r.seq)) new)) (pending c)
     ∙ ap (filter (beside new)) (sym (pending-due c))
     ∙ filter-alike-where (is_due (history c)) (beside new) (beside (new ++ history c))
     (λ r d. ap not (sym (any-appended (is_entry_of r) new (history c) (not-executed (history c) r d)))) (pending c)

@@ -1,9 +1,9 @@
 -- What stands in a pool of pending requests.
+use Rattle.ids.specs.declared.limits.TheConstants.{MOST_COMMANDS}
 use Rattle.std.specs.Prelude.{ℕ, ◌+◌, ◌==◌, ◌&&◌, not, Bool, List, [], ◌∷◌, take, drop, map, filter, nat_le, Option, Some, None, if◌then◌else◌}
 use Rattle.std.specs.List.{list_any}
 use Rattle.definitions.specs.Bytes.{Bytes}
 use Rattle.definitions.specs.Frames.{Command}
-use Rattle.definitions.specs.FrameLimits.{most_commands}
 use Rattle.definitions.specs.States.{is_same_request}
 use Rattle.definitions.specs.Histories.{History}
 
@@ -34,7 +34,7 @@ planned_for r rs = if list_any (is_same_request r) rs then None else Some r
 
 -- the first ones whose clients and numbers are not among these, as many as a block may have
 abbrev pub first_beside : List (ℕ × ℕ) → List Command → List Command
-first_beside on rs = take most_commands (filter (λ r. not (stands_among on r)) rs)
+first_beside on rs = take MOST_COMMANDS (filter (λ r. not (stands_among on r)) rs)
 
 -- each under its client and number
 abbrev pub keyed : List Command → List ((ℕ × ℕ) × Command)

@@ -1,8 +1,8 @@
 //! The pool of pending requests.
 
+ghost use Rattle.ids.specs.declared.limits.TheConstants.{MOST_PENDING};
 ghost use Rattle.std.specs.Prelude.{◌≡◌, ◌==◌, ◌≤◌, ◌↔◌, ◌⊎◌, [], not, false, length, map, filter, IfOk, OnOk, OnErr};
 ghost use Rattle.std.specs.List.{list_any};
-ghost use Rattle.definitions.specs.Rulings.{most_pending};
 ghost use Rattle.definitions.specs.Chronicles.{Step.noted, Note.got_request};
 ghost use Rattle.definitions.specs.States.{is_same_request, with_request};
 ghost use Rattle.frames_view.specs.Views.{command_of};
@@ -10,16 +10,10 @@ ghost use Rattle.mempool.specs.Pool.{is_of, is_up_to, stands_among, planned_for,
 
 use crate::pending::Pending;
 use frames_view::CommandView;
-use ids::{ClientId, Fault, Seq};
+use ids::{ClientId, Fault, MOST_COMMANDS, MOST_PENDING, Seq};
 use indexmap::IndexMap;
 use std::alloc::Global;
 use std::marker::Model;
-
-/// The most requests that are pending at once.
-const MOST_PENDING: usize = 4096;
-
-/// The most commands of a block.
-const MOST_COMMANDS: usize = 16;
 
 /// The pending requests of a replica, in order of arrival. Each has a client and a number of its own.
 #[derive(Debug, Drop)]
@@ -78,7 +72,7 @@ impl Mempool {
     /// `PoolFull` comes where 4,096 others are pending, and `Memory` where its bytes find no room.
     pub fn plan(&self, request: &CommandView<'_>) -> Result<Option<Pending>, Fault>
         ensures planned { IfOk result (λ planned. planned ≡ planned_for (command_of request.now) self.now) }
-        ensures full { (result ≡ Err Fault.PoolFull) ↔ ((list_any (is_same_request (command_of request.now)) self.now ≡ false) × (most_pending ≤ length self.now)) }
+        ensures full { (result ≡ Err Fault.PoolFull) ↔ ((list_any (is_same_request (command_of request.now)) self.now ≡ false) × (MOST_PENDING ≤ length self.now)) }
         ensures refused { OnErr result ((result ≡ Err Fault.PoolFull) ⊎ (result ≡ Err Fault.Memory)) }
     {
         if self.contains(request.client(), request.seq()) {

@@ -4,7 +4,7 @@ use Rattle.std.proofs.lemmas.Bool.{cases_lt, cond_both, ltb-true, lt-ltb}
 use Rattle.std.proofs.lemmas.Bool.Decides.{eqb_tells}
 use Rattle.std.proofs.lemmas.List.{get_or-set_other, length-set, get_or-replicate}
 use Rattle.std.proofs.lemmas.Grind.{get_or-set_at}
-use Rattle.ids.specs.declared.config.TheConstants.{MOST_REPLICAS}
+use Rattle.ids.specs.declared.limits.TheConstants.{MOST_REPLICAS}
 use Rattle.ids.specs.Sizes.{Sizes, replicas}
 use Rattle.definitions.specs.Lists.{Among, greatest, count_below}
 use Rattle.definitions.specs.Frames.{Certificate}

@@ -1,6 +1,6 @@
 -- What a pacemaker keeps, and whose it is.
 use Rattle.std.specs.Prelude.{◌≡◌, ℕ, ◌<◌, ◌≤◌, ◌⊎◌, List, length, slice_index, nat_le, ⊤}
-use Rattle.ids.specs.declared.config.TheConstants.{MOST_REPLICAS}
+use Rattle.ids.specs.declared.limits.TheConstants.{MOST_REPLICAS}
 use Rattle.ids.specs.Sizes.{Sizes, replicas}
 use Rattle.definitions.specs.Lists.{count_below}
 use Rattle.definitions.specs.Chronicles.{Chronicle, Step, Step.noted, Note.got_new_view, Note.timed_out}

@@ -1,4 +1,5 @@
 -- What an input comes to with what is executed is the definitions' step.
+use Rattle.ids.specs.declared.limits.TheConstants.{MOST_TEXT}
 use Rattle.ids.specs.declared.fault.Fault.{Fault}
 use Rattle.ids.specs.declared.fault.Fault.TheVariants as fault
 use Rattle.std.proofs.Common.{ℕ, ◌≡◌, ◌+◌, ◌-◌, ◌<◌, ◌≤◌, ◌&&◌, ◌++◌, Bool, true, false, List, [], ◌∷◌, length, map, cond, refl, sym, ap, ◌∙◌, subst, arith, min, option_to_list, Some, None, Ok, Err, inl, inr}
@@ -10,7 +11,7 @@ use Rattle.definitions.specs.Frames.{Command, Core, Certificate}
 use Rattle.definitions.specs.States.{pending}
 use Rattle.mempool.specs.Pool.{left_after}
 use Rattle.mempool.proofs.Following.{pending-due}
-use Rattle.definitions.specs.FrameLimits.{IsCore, most_text}
+use Rattle.definitions.specs.FrameLimits.{IsCore}
 use Rattle.definitions.specs.Branches.{Branch}
 use Rattle.definitions.specs.Digests.{digest_of}
 use Rattle.definitions.specs.Chronicles.{Note, Step, Step.took_block, Step.noted, Chronicle, taken, stored, tree, decided, executed, history, IsSound}
@@ -68,7 +69,7 @@ pub sendable-is : (keys : Keys) (c : Chronicle) → IsSound keys.sizes c → Are
 sendable-is keys c so fit a m =
     let f = answers-fit (IsCore keys.sizes) keys.sizes (λ k known. inr known) c so fit a m in
     let client = lt-ltb a.client keys.sizes.clients f.client in
-    let text = le-leb (length a.text) most_text f.text in
+    let text = le-leb (length a.text) MOST_TEXT f.text in
     λ i. client i && text i
 
 told-all : (keys : Keys) (xs : List Answer) → ((a : Answer) → Among a xs → is_sendable keys.sizes a ≡ true) → told keys xs ≡ shown (map (reply_to (identity_of keys)) xs)

@@ -1,4 +1,5 @@
 -- What a beat changes is what its step changes.
+use Rattle.ids.specs.declared.limits.TheConstants.{MOST_BLOCKS}
 use Rattle.ids.specs.declared.fault.Fault.{Fault}
 use Rattle.ids.specs.declared.fault.Fault.TheVariants as fault
 use Rattle.std.proofs.Common.{ℕ, suc, ◌≡◌, ◌≤◌, ◌<◌, ◌+◌, ◌-◌, ◌++◌, ◌^◌, true≢false, Bool, true, false, List, [], ◌∷◌, length, cond, refl, sym, ap, ◌∙◌, arith, subst, Option, Some, None, Result, Ok, Err, IfOk, OnErr}
@@ -24,7 +25,7 @@ use Rattle.replica.specs.Execution.{history_above}
 use Rattle.replica.proofs.Executing.{above-appended, history-is}
 use Rattle.std.proofs.lemmas.List.{append-nil}
 use Rattle.definitions.specs.Digests.{digest_of, core_of}
-use Rattle.definitions.specs.Trees.{blocks, find_in, most_blocks, IsTree}
+use Rattle.definitions.specs.Trees.{blocks, find_in, IsTree}
 use Rattle.definitions.specs.Chronicles.{Step.noted, Note.beat, Chronicle, stored, tree, executed, history, IsSound}
 use Rattle.definitions.specs.States.{Justified, view, qc_high, pending, leads, find_block, is_known, known_as, picks, child, leaf, proposed, or_else, made_with, raised}
 use Rattle.definitions.specs.Rulings.{Input.beat_in, ruling, conflicts}
@@ -116,7 +117,7 @@ made : Keys → Chronicle → List Command → Branch
 made keys c cs = record { commands = cs; justify = length (qc_high keys.sizes c).block } ∷ leaf (identity_of keys) c
 
 -- its height is within 64 bits
-height-fits : (keys : Keys) (c : Chronicle) → length (leaf (identity_of keys) c) ≤ length c + most_blocks → length c < 2 ^ 63 → child_height (ref_of (leaf (identity_of keys) c)) ≡ suc (length (leaf (identity_of keys) c))
+height-fits : (keys : Keys) (c : Chronicle) → length (leaf (identity_of keys) c) ≤ length c + MOST_BLOCKS → length c < 2 ^ 63 → child_height (ref_of (leaf (identity_of keys) c)) ≡ suc (length (leaf (identity_of keys) c))
 height-fits keys c l s = grind arith
 
 child-is : (keys : Keys) (c : Chronicle) (s : Kept) (cs : List Command) → s.variables ≡ variables_of keys c → picked_by s ≡ cs → child_height (ref_of (leaf (identity_of keys) c)) ≡ suc (length (leaf (identity_of keys) c))

@@ -1,4 +1,5 @@
 -- A replica that has made no step.
+use Rattle.ids.specs.declared.limits.TheConstants.{MOST_BLOCKS}
 use Rattle.std.proofs.Common.{List, ◌≡◌, [], ◌∷◌, length, refl, sym, ap, ◌∙◌, arith, subst, inl, inr, None}
 use Rattle.ids.specs.Sizes.{Sizes}
 use Rattle.definitions.specs.Lists.{Among}
@@ -6,7 +7,7 @@ use Rattle.definitions.specs.Frames.{genesis_core}
 use Rattle.definitions.specs.Keyrings.{Keys}
 use Rattle.definitions.specs.Branches.{Block, Branch, IsBranch}
 use Rattle.definitions.specs.Digests.{digest}
-use Rattle.definitions.specs.Trees.{most_blocks, IsTree}
+use Rattle.definitions.specs.Trees.{IsTree}
 use Rattle.definitions.specs.Chronicles.{taken, stored, tree, decided, decided_by, executed, history, IsSound}
 use Rattle.definitions.specs.Branches.{highest}
 use Rattle.definitions.specs.FrameLimits.{IsCore}
@@ -48,7 +49,7 @@ first-sound s = record {
 }
 
 -- the state at the start
-pub first : (keys : Keys) (s : Kept) → s.variables ≡ record { chronicle = []; most = most_blocks; stored = []; rules = ruled_by []; high = record { block = ref_of []; certificate = record { digest = digest genesis_core; votes = [] } }; leaf = ref_of []; own = None }
+pub first : (keys : Keys) (s : Kept) → s.variables ≡ record { chronicle = []; most = MOST_BLOCKS; stored = []; rules = ruled_by []; high = record { block = ref_of []; certificate = record { digest = digest genesis_core; votes = [] } }; leaf = ref_of []; own = None }
     → s.pace.sizes ≡ keys.sizes → IsPaceOf [] s.pace → s.votes ≡ record { sizes = keys.sizes; kept = [] } → s.pending ≡ [] → IsStateOf keys [] s
 unfolding qc_high leaf proposed pending stored taken tree
 first keys s e z p v w = record {

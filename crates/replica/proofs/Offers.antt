@@ -1,4 +1,5 @@
 -- What taking a block in changes is what its step changes.
+use Rattle.ids.specs.declared.limits.TheConstants.{MOST_BLOCKS}
 use Rattle.ids.specs.declared.fault.Fault.{Fault}
 use Rattle.ids.specs.declared.fault.Fault.TheVariants as fault
 use Rattle.std.proofs.Common.{ℕ, ◌≡◌, ◌<◌, ◌==◌, ◌&&◌, Bool, true, false, [], ◌∷◌, length, unwrap_or, cond, refl, sym, ap, ◌∙◌, subst, inl, inr, Option, Some, None, Result, Ok, Err}
@@ -10,7 +11,7 @@ use Rattle.definitions.specs.Branches.{Branch, just1}
 use Rattle.definitions.specs.Digests.{digest, digest_of, core_of}
 use Rattle.definitions.specs.Keyrings.{Keys}
 use Rattle.definitions.specs.Checks.{identity_of}
-use Rattle.definitions.specs.Trees.{Stored, blocks, find_in, block_of, most_blocks, Placing, Placing.grows, Placing.lacks_parent, Placing.unfit, placing}
+use Rattle.definitions.specs.Trees.{Stored, blocks, find_in, block_of, Placing, Placing.grows, Placing.lacks_parent, Placing.unfit, placing}
 use Rattle.definitions.specs.Chronicles.{Admitted, Step, Step.took_block, Chronicle, stored, stored_of, tree, vheight, IsSound}
 use Rattle.definitions.specs.States.{Justified, view, qc_high, raised, leaf}
 use Rattle.definitions.specs.Rulings.{Input.proposal_in, Input.block_in, Ruling, ruling, admitted, votes_for, take_block, on_placing, on_block, conflicts}
@@ -62,7 +63,7 @@ variables-took : (keys : Keys) (a : Admitted) (c : Chronicle) (r : Option High) 
     }
 variables-took keys a c r h = λ i. record {
   chronicle = took_block a ∷ c;
-  most = most_blocks;
+  most = MOST_BLOCKS;
   stored = stored (took_block a ∷ c);
   rules = ruled_by (took_block a ∷ c);
   high = sym h.high i;
@@ -127,12 +128,12 @@ module _ (keys : Keys) (c : Chronicle) (s : Kept) (o : Offered) (is : IsStateOf 
 
   -- ---- a new block
 
-  module _ (b : Branch) (below : o.core.justify_height < o.core.height) (grows-to : placing most_blocks o.core o.certificate (tree c) ≡ grows b) where
+  module _ (b : Branch) (below : o.core.justify_height < o.core.height) (grows-to : placing MOST_BLOCKS o.core o.certificate (tree c) ≡ grows b) where
     new : Admitted
     new = given keys c o true b
 
-    growth : (parent : Branch) × IsGrowth most_blocks o.core o.certificate (tree c) b parent
-    growth = subst (IsPlaced most_blocks o.core o.certificate (tree c)) grows-to (placed most_blocks o.core o.certificate (tree c))
+    growth : (parent : Branch) × IsGrowth MOST_BLOCKS o.core o.certificate (tree c) b parent
+    growth = subst (IsPlaced MOST_BLOCKS o.core o.certificate (tree c)) grows-to (placed MOST_BLOCKS o.core o.certificate (tree c))
 
     voted-new : (w : Option ℕ) → (is_for s.pace.view w && may_vote_over s.variables.rules (candidate_of o.core o.found.clear) s.variables.stored) ≡ votes_for keys.sizes w (admitted b o.core o.certificate o.found true) c
     unfolding votes_for admitted
@@ -225,12 +226,12 @@ again-is : (keys : Keys) (c : Chronicle) (s : Kept) (o : Offered) → IsStateOf 
 unfolding again
 again-is keys c s o is b found = again-step keys c s o is b found
 
-new-is : (keys : Keys) (c : Chronicle) (s : Kept) (o : Offered) → IsStateOf keys c s → (b : Branch) → o.core.justify_height < o.core.height → placing most_blocks o.core o.certificate (tree c) ≡ grows b → (d : Change) → IsTaken keys s o d
+new-is : (keys : Keys) (c : Chronicle) (s : Kept) (o : Offered) → IsStateOf keys c s → (b : Branch) → o.core.justify_height < o.core.height → placing MOST_BLOCKS o.core o.certificate (tree c) ≡ grows b → (d : Change) → IsTaken keys s o d
     → IsStep keys c (took_block (given keys c o true b)) s.pace d × (conflicts (took_block (given keys c o true b)) c ≡ false)
 unfolding new
 new-is keys c s o is b below e d t = new-step keys c s o is b below e d t
 
-conflict-is : (keys : Keys) (c : Chronicle) (s : Kept) (o : Offered) → IsStateOf keys c s → (b : Branch) → o.core.justify_height < o.core.height → placing most_blocks o.core o.certificate (tree c) ≡ grows b → (n : Fault)
+conflict-is : (keys : Keys) (c : Chronicle) (s : Kept) (o : Offered) → IsStateOf keys c s → (b : Branch) → o.core.justify_height < o.core.height → placing MOST_BLOCKS o.core o.certificate (tree c) ≡ grows b → (n : Fault)
     → ruled_after s.variables.rules (justified_of o) s.variables.stored ≡ Err n → (conflicts (took_block (given keys c o true b)) c ≡ true) × (n ≡ fault.Conflict)
 unfolding new
 conflict-is keys c s o is b below e n t = refusing keys c s o is b below e n t
@@ -283,7 +284,7 @@ known-ends keys c s o b d is so found e =
 
 -- a new one
 new-ends : (keys : Keys) (c : Chronicle) (s : Kept) (o : Offered) (b : Branch) (d : Change) → IsStateOf keys c s → IsSound keys.sizes (took_block (given keys c o true b) ∷ c) → o.core.justify_height < o.core.height
-    → placing most_blocks o.core o.certificate (tree c) ≡ grows b → IsTaken keys s o d → Follows keys (rulings.due (took_block (given keys c o true b))) c (Ok d.out) (changed d s)
+    → placing MOST_BLOCKS o.core o.certificate (tree c) ≡ grows b → IsTaken keys s o d → Follows keys (rulings.due (took_block (given keys c o true b))) c (Ok d.out) (changed d s)
 new-ends keys c s o b d is so below e t =
     let a = given keys c o true b in
     let step = new-is keys c s o is b below e d t in
@@ -291,7 +292,7 @@ new-ends keys c s o b d is so below e t =
 
 -- by the place of the block
 place-by : (keys : Keys) (c : Chronicle) (s : Kept) (o : Offered) (sender : ℕ) (result : Result Change Fault) → IsStateOf keys c s → IsChecked keys.sizes o.core o.certificate o.found
-    → (p : Placing) → placing most_blocks o.core o.certificate (tree c) ≡ p → IsPlaced most_blocks o.core o.certificate (tree c) p → IsDecidedAt keys s o result p
+    → (p : Placing) → placing MOST_BLOCKS o.core o.certificate (tree c) ≡ p → IsPlaced MOST_BLOCKS o.core o.certificate (tree c) p → IsDecidedAt keys s o result p
     → Follows keys (on_placing (identity_of keys) o.view sender o.core o.certificate o.found c p) c (answer result) (after result s)
 unfolding on_placing
 place-by keys c s o sender (Ok d) is ch (Placing.stands b) e h t =
@@ -316,7 +317,7 @@ pub block-decided : (keys : Keys) (c : Chronicle) (s : Kept) (o : Offered) (send
 unfolding tree
 block-decided keys c s o sender result h is ch =
     let same = ap (λ (v : Variables). placing v.most o.core o.certificate (blocks v.stored)) is.same in
-    place-by keys c s o sender result is ch (placing most_blocks o.core o.certificate (tree c)) refl (placed most_blocks o.core o.certificate (tree c)) (subst (IsDecidedAt keys s o result) same h)
+    place-by keys c s o sender result is ch (placing MOST_BLOCKS o.core o.certificate (tree c)) refl (placed MOST_BLOCKS o.core o.certificate (tree c)) (subst (IsDecidedAt keys s o result) same h)
 
 -- ---- from what was planned
 

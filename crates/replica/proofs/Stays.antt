@@ -1,4 +1,5 @@
 -- What steps leave as it was.
+use Rattle.ids.specs.declared.limits.TheConstants.{MOST_BLOCKS}
 use Rattle.std.proofs.Common.{◌≡◌, ◌<◌, ◌≤◌, Bool, true, false, true≢false, List, ◌∷◌, filter, length, cond, refl, sym, ap, ◌∙◌, arith, nat_lt, Option, Some, None}
 use Rattle.std.specs.Prelude.{option_map}
 use Rattle.std.proofs.lemmas.Bool.{lt-ltb, le-ltb, ltb-true, ltb-false}
@@ -9,7 +10,6 @@ use Rattle.definitions.specs.Checks.{Identity, identity_of}
 use Rattle.definitions.specs.Chronicles.{Note, Step, Step.took_block, Step.noted, Note.got_vote, Note.got_new_view, Note.got_request, Note.got_fetch, Note.timed_out, Note.beat, Chronicle, taken, stored, history}
 use Rattle.definitions.specs.States.{Justified, raised, higher, qc_high, leaf, proposed, is_due, pending, with_request}
 use Rattle.definitions.specs.Frames.{Command}
-use Rattle.definitions.specs.Trees.{most_blocks}
 use Rattle.replica_rules.specs.Ruled.{ref_of}
 use Rattle.replica_rules.proofs.Takes.{ruled-noted}
 use Rattle.replica_rules.specs.declared.block_ref.BlockRef.{BlockRef}
@@ -103,7 +103,7 @@ pub variables-noted : (keys : Keys) (n : Note) (c : Chronicle) (h : Justified) (
     → variables_of keys (noted n ∷ c) ≡ record (variables_of keys c) { chronicle = noted n ∷ c; high = high_of h; leaf = ref_of b }
 variables-noted keys n c h b e eh el = λ i. record {
   chronicle = noted n ∷ c;
-  most = most_blocks;
+  most = MOST_BLOCKS;
   stored = stored-noted n c i;
   rules = ruled-noted n c i;
   high = high_of (eh i);

@@ -1,4 +1,5 @@
 -- What a ruling comes to, case by case, for every input.
+use Rattle.ids.specs.declared.limits.TheConstants.{MOST_BLOCKS}
 use Rattle.ids.specs.declared.fault.Fault.{Fault}
 use Rattle.ids.specs.declared.fault.Fault.TheVariants as fault
 use Rattle.std.proofs.Common.{ℕ, suc, ◌≡◌, ◌≤◌, ◌+◌, ◌&&◌, Bool, false, true, true≢false, List, [], ◌∷◌, length, cond, refl, sym, ap, ◌∙◌, subst, arith, nat_lt, Option, Some, None, Result, Ok, Err, IfOk, OnOk, OnErr}
@@ -9,7 +10,6 @@ use Rattle.ids.specs.Sizes.{Sizes}
 use Rattle.definitions.specs.Branches.{Branch}
 use Rattle.definitions.specs.Keyrings.{Keys}
 use Rattle.definitions.specs.Checks.{Identity, identity_of}
-use Rattle.definitions.specs.Trees.{most_blocks}
 use Rattle.definitions.specs.Chronicles.{Step, Step.took_block, Step.noted, Note.got_vote, Note.got_new_view, Note.got_request, Note.got_fetch, Note.timed_out, Note.beat, Chronicle, tree, IsSound}
 use Rattle.definitions.specs.States.{Justified, raised, higher, qc_high, leaf, child, or_else, is_known, leads}
 use Rattle.definitions.specs.Frames.{Command}
@@ -51,7 +51,7 @@ certified-step s st c m h = go (raised s st c) refl
     go (Some q) e = cond_both (nat_lt (length (qc_high s c).block) (length q.block)) q (qc_high s c) P (λ t. h q e) (λ t. tree-grows st c (qc_high s c).block m)
 
 -- a block of the tree isn't high
-low : (s : Sizes) (c : Chronicle) (x : Branch) → IsSound s c → Among x (tree c) → length x ≤ most_blocks
+low : (s : Sizes) (c : Chronicle) (x : Branch) → IsSound s c → Among x (tree c) → length x ≤ MOST_BLOCKS
 low s c x so m = let h = so.heights x m in let b = so.bounded in omega (arith, h, b)
 
 -- the child of a leaf is one higher
@@ -89,12 +89,12 @@ leaf-beat self (noted timed_out) c e = absurd (true≢false (sym e))
 leaf-beat self (noted beat) c e = refl
 
 -- each step makes the leaf higher by one at most, or a certified block of the tree is the leaf
-pub leaf-low-step : (self : Identity) (st : Step) (c : Chronicle) → length (leaf self c) ≤ length c + most_blocks → IsSound self.sizes (st ∷ c) → Among (qc_high self.sizes (st ∷ c)).block (tree (st ∷ c))
-    → length (leaf self (st ∷ c)) ≤ length (st ∷ c) + most_blocks
+pub leaf-low-step : (self : Identity) (st : Step) (c : Chronicle) → length (leaf self c) ≤ length c + MOST_BLOCKS → IsSound self.sizes (st ∷ c) → Among (qc_high self.sizes (st ∷ c)).block (tree (st ∷ c))
+    → length (leaf self (st ∷ c)) ≤ length (st ∷ c) + MOST_BLOCKS
 leaf-low-step self st c l so m = go (is_beat st) refl
   where
     P : Branch → Type 0
-    P b = length b ≤ suc (length c) + most_blocks
+    P b = length b ≤ suc (length c) + MOST_BLOCKS
 
     go : (t : Bool) → is_beat st ≡ t → P (leaf self (st ∷ c))
     go true e = let k = child-low self c (leaf self c) in subst P (sym (leaf-beat self st c e)) (omega (arith, k, l))

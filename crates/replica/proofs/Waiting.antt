@@ -1,11 +1,11 @@
 -- What waits after a step: what was executed of its blocks waits no more.
+use Rattle.ids.specs.declared.limits.TheConstants.{MOST_COMMANDS}
 use Rattle.std.proofs.Common.{ℕ, suc, ◌≡◌, ◌<◌, ◌≤◌, Bool, List, [], ◌∷◌, ◌++◌, length, filter, reverse, take, not, refl, sym, ap, subst, ◌∙◌, arith, ◌&&◌, ◌==◌, inl, inr}
 use Rattle.std.specs.List.{list_any}
 use Rattle.std.proofs.lemmas.Bool.{cond-true, cond-false, cases_lt, le-ltb, le-leb, lt-leb}
 use Rattle.std.proofs.lemmas.List.Sorted.{list_any-IsPermutation, IsPermutation-reverse}
 use Rattle.definitions.specs.Lists.{beginning, IsBeginning}
 use Rattle.definitions.specs.Frames.{Command}
-use Rattle.definitions.specs.FrameLimits.{most_commands}
 use Rattle.definitions.specs.Branches.{Block, Branch}
 use Rattle.definitions.specs.Histories.{History, history_of}
 use Rattle.definitions.specs.Chronicles.{Step, Chronicle, executed, history}
@@ -146,6 +146,6 @@ any-reversed p xs = sym (list_any-IsPermutation p xs (reverse xs) (IsPermutation
 pub beside-reversed : (on : List (ℕ × ℕ)) (rs : List Command)
     → first_beside (reverse on) rs ≡ first_beside on rs
 beside-reversed on rs =
-    ap (take most_commands)
+    ap (take MOST_COMMANDS)
     (filter-alike (λ r. not (stands_among (reverse on) r)) (λ r. not (stands_among on r))
     (λ r. ap not (any-reversed (λ (e : ℕ × ℕ). (e.0 == r.client) && (e.1 == r.seq)) on)) rs)

@@ -1,4 +1,5 @@
 -- Loops over the commands of blocks, and over the blocks of a branch.
+use Rattle.ids.specs.declared.limits.TheConstants.{MOST_COMMANDS}
 use Rattle.std.proofs.Common.{ℕ, suc, ◌≡◌, ◌+◌, ◌-◌, ◌<◌, ◌≤◌, List, [], ◌∷◌, ◌++◌, length, map, reverse, refl, sym, ap, ◌∙◌, arith, append_assoc, not, filter}
 use Rattle.std.proofs.lemmas.List.{append-nil, map-append, reverse-append, reverse-reverse, length-take}
 use Rattle.std.proofs.lemmas.Grind.{flat_map-append}
@@ -7,7 +8,6 @@ use Rattle.definitions.specs.Bytes.{Bytes}
 use Rattle.definitions.specs.Frames.{Command, command_bytes}
 use Rattle.definitions.specs.Histories.{Entry, entry_of, History}
 use Rattle.definitions.specs.Trees.{Stored}
-use Rattle.definitions.specs.FrameLimits.{most_commands}
 use Rattle.mempool.specs.Pool.{is_up_to, left_after, first_beside, stands_among}
 use Rattle.executor.specs.State.{with_commands}
 use Rattle.replica.specs.Beats.{key_of, keys_of}
@@ -103,4 +103,4 @@ bytes-next done k = flat_map-append command_bytes done (k ∷ []) ∙ ap (λ (l 
 
 -- a block takes few
 pub few-beside : (on : List (ℕ × ℕ)) (rs : List Command) → length (first_beside on rs) ≤ 16
-few-beside on rs = let l = length-take most_commands (filter (λ r. not (stands_among on r)) rs) in omega (arith, l)
+few-beside on rs = let l = length-take MOST_COMMANDS (filter (λ r. not (stands_among on r)) rs) in omega (arith, l)

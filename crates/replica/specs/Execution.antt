@@ -1,10 +1,10 @@
 -- What is executed between two blocks of a branch, and the replies to it.
+use Rattle.ids.specs.declared.limits.TheConstants.{MOST_TEXT}
 use Rattle.std.specs.Prelude.{ℕ, zero, suc, ◌+◌, ◌<◌, ◌≤◌, ◌≡◌, ◌&&◌, ◌++◌, Bool, List, [], ◌∷◌, map, reverse, take, length, if◌then◌else◌, option_to_list, nat_lt, nat_le, Option, Some, None, option_map}
 use Rattle.std.specs.Option.{option_and_then}
 use Rattle.ids.specs.Sizes.{Sizes}
 use Rattle.definitions.specs.Bytes.{Bytes}
 use Rattle.definitions.specs.Frames.{Command}
-use Rattle.definitions.specs.FrameLimits.{most_text}
 use Rattle.definitions.specs.Digests.{digest_of, core_of}
 use Rattle.definitions.specs.Trees.{Stored, blocks, find_in}
 use Rattle.definitions.specs.Keyrings.{Keys}
@@ -46,7 +46,7 @@ pub record IsCut (tip : Bytes) (stored : List Stored) (from to : ℕ) (old new :
 
 -- an answer that a frame of these sizes can carry: those to executed commands are
 abbrev pub is_sendable : Sizes → Answer → Bool
-is_sendable sizes a = nat_lt a.client sizes.clients && nat_le (length a.text) most_text
+is_sendable sizes a = nat_lt a.client sizes.clients && nat_le (length a.text) MOST_TEXT
 
 -- the reply to an executed command, and those to all of them
 abbrev pub told_one : Keys → Answer → Option Sent

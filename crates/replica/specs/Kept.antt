@@ -1,4 +1,5 @@
 -- What a replica keeps, as plain data, and what that is: functions of its chronicle.
+use Rattle.ids.specs.declared.limits.TheConstants.{MOST_BLOCKS}
 use Rattle.std.specs.Prelude.{ℕ, ◌≡◌, ◌+◌, ◌≤◌, length, List, Option, option_map}
 use Rattle.definitions.specs.Bytes.{Bytes}
 use Rattle.definitions.specs.Lists.{Among}
@@ -9,7 +10,7 @@ use Rattle.ids.specs.Sizes.{Sizes}
 use Rattle.definitions.specs.Branches.{Branch}
 use Rattle.definitions.specs.FrameLimits.{IsCore}
 use Rattle.definitions.specs.Digests.{core_of, AllKnown}
-use Rattle.definitions.specs.Trees.{Stored, most_blocks}
+use Rattle.definitions.specs.Trees.{Stored}
 use Rattle.definitions.specs.Chronicles.{Admitted, Step.took_block, Chronicle, stored, tree, IsSound}
 use Rattle.definitions.specs.States.{Justified, qc_high, leaf, pending, proposed}
 use Rattle.audit_ground.specs.Law.{IsStored}
@@ -57,7 +58,7 @@ own_of p = record { core = core_bytes (core_of p.block); certificate = certifica
 abbrev pub variables_of : Keys → Chronicle → Variables
 variables_of keys c = record {
   chronicle = c;
-  most = most_blocks;
+  most = MOST_BLOCKS;
   stored = stored c;
   rules = ruled_by c;
   high = high_of (qc_high keys.sizes c);
@@ -82,5 +83,5 @@ pub record IsStateOf (keys : Keys) (c : Chronicle) (s : Kept) : Type 0 where
   pub votes : IsVotesOf keys.sizes c s.votes.kept
   pub sound : IsSound keys.sizes c
   pub certified : Among (qc_high keys.sizes c).block (tree c)
-  pub leaf_low : length (leaf (identity_of keys) c) ≤ length c + most_blocks
+  pub leaf_low : length (leaf (identity_of keys) c) ≤ length c + MOST_BLOCKS
   pub waits : s.pending ≡ pending c

@@ -1,4 +1,5 @@
 -- What a request changes.
+use Rattle.ids.specs.declared.limits.TheConstants.{MOST_PENDING}
 use Rattle.ids.specs.declared.fault.Fault.{Fault}
 use Rattle.ids.specs.declared.fault.Fault.TheVariants as fault
 use Rattle.std.specs.Prelude.{◌≡◌, ◌==◌, ◌&&◌, not, Bool, true, false, List, [], length, nat_lt, if◌then◌else◌, option_to_list, Option, Some, None, Result, Err, MatchResult}
@@ -6,7 +7,6 @@ use Rattle.std.specs.List.{list_any}
 use Rattle.definitions.specs.Frames.{Command}
 use Rattle.definitions.specs.Histories.{History, Answer, last_seq, answer_to}
 use Rattle.definitions.specs.Keyrings.{Keys}
-use Rattle.definitions.specs.Rulings.{most_pending}
 use Rattle.definitions.specs.States.{is_same_request, is_due}
 use Rattle.mempool.specs.Pool.{planned_for}
 use Rattle.replica.specs.declared.stored.StoredStep.TheVariants.{GotRequest}
@@ -20,7 +20,7 @@ use Rattle.replica.specs.Execution.{told_one}
 
 -- others wait, as many as may
 abbrev pub is_full : Command → List Command → Bool
-is_full r ps = not (list_any (is_same_request r) ps) && not (nat_lt (length ps) most_pending)
+is_full r ps = not (list_any (is_same_request r) ps) && not (nat_lt (length ps) MOST_PENDING)
 
 -- it waits, unless it does so already
 abbrev pub growth_for : Option Command → Growth

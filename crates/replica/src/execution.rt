@@ -1,7 +1,7 @@
 //! Executing what was decided.
 
+ghost use Rattle.ids.specs.declared.limits.TheConstants.{MOST_TEXT};
 ghost use Rattle.std.specs.Prelude.{◌≡◌, ◌<◌, ◌≤◌, ◌-◌, ◌++◌, [], map, reverse, length, option_map, option_to_list, OnOk, OnErr, IfOk, IfSome, IfNone};
-ghost use Rattle.definitions.specs.FrameLimits.{most_text};
 ghost use Rattle.ids.specs.Sizes.{replicas};
 ghost use Rattle.definitions.specs.Histories.{entry_of};
 ghost use Rattle.mempool.specs.Pool.{left_after};
@@ -26,8 +26,8 @@ use std::alloc::Global;
 
 /// The text of an answer, where it is short enough for a frame.
 fn text_of(answer: &Answer) -> Option<ReplyText<'_>>
-    ensures short { IfSome result (λ t. (t ≡ answer.now.text) × (length answer.now.text ≤ most_text)) }
-    ensures long { IfNone result (most_text < length answer.now.text) }
+    ensures short { IfSome result (λ t. (t ≡ answer.now.text) × (length answer.now.text ≤ MOST_TEXT)) }
+    ensures long { IfNone result (MOST_TEXT < length answer.now.text) }
 {
     let text = ReplyText::new(answer.text())?;
     let _few = text.as_slice();

@@ -34,7 +34,7 @@ use authenticators::Keyring;
 use block_tree::Tree;
 use executor::{Entry, Executor};
 use frames_view::{CertificateBuf, genesis_digest};
-use ids::{Config, Digest, Fault, ReplicaId, View};
+use ids::{Config, Digest, Fault, MOST_BLOCKS, ReplicaId, View};
 use mempool::Mempool;
 use pacemaker::Pacemaker;
 use replica_rules::{BlockRef, Rules};
@@ -42,9 +42,6 @@ use signed_frames::fetch_frame;
 use std::alloc::Global;
 use std::marker::Model;
 use vote_collector::Collector;
-
-/// The most blocks of a replica's tree, genesis counted.
-const MOST_BLOCKS: usize = 1_048_576;
 
 /// One replica: its keys, its chronicle, and all that follows from the chronicle.
 #[derive(Drop)]

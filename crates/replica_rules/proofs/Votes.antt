@@ -1,4 +1,5 @@
 -- What the rules say of a vote, by plain values, is what the whole chronicle says.
+use Rattle.ids.specs.declared.limits.TheConstants.{MOST_BLOCKS}
 use Rattle.std.proofs.Common.{ℕ, suc, ◌≡◌, ◌<◌, ◌==◌, ◌&&◌, Bool, true, false, List, ◌∷◌, length, refl, sym, ap, subst, ◌∙◌, nat_lt, Option, Some, None}
 use Rattle.std.specs.Prelude.{◌||◌}
 use Rattle.ids.specs.Sizes.{Sizes}
@@ -7,7 +8,7 @@ use Rattle.definitions.specs.Branches.{Branch, justify_height, extends}
 use Rattle.definitions.specs.Digests.{digest_of}
 use Rattle.definitions.specs.Frames.{Core, Certificate}
 use Rattle.definitions.specs.Lists.{Among}
-use Rattle.definitions.specs.Trees.{Stored, blocks, find_in, block_of, clear_above, Placing.grows, placing, most_blocks}
+use Rattle.definitions.specs.Trees.{Stored, blocks, find_in, block_of, clear_above, Placing.grows, placing}
 use Rattle.definitions.specs.Chronicles.{Admitted, Step.took_block, Chronicle, taken, stored, stored_of, tree, vheight, lock, may_vote, IsSound}
 use Rattle.definitions.specs.States.{view}
 use Rattle.definitions.specs.Rulings.{votes_for}
@@ -80,13 +81,13 @@ may-vote-known sizes c d b s f = may-vote-found (stored c) c (sound-holds sizes 
 -- a block that may stand there, with any certificate
 pub may-vote-new : (sizes : Sizes) (c : Chronicle) (core : Core) (q : Certificate) (a : Admitted)
     → IsSound sizes c → core.justify_height < core.height
-    → placing most_blocks core q (tree c) ≡ grows a.branch
+    → placing MOST_BLOCKS core q (tree c) ≡ grows a.branch
     → may_vote_over (ruled_by c) (candidate_of core a.clear) (stored c)
     ≡ (may_vote a.branch c && clear_above (justify_height a.branch) a.branch (stored_of a ∷ stored c))
 unfolding tree
 may-vote-new sizes c core q a s below e =
-    let g = grown most_blocks core q (blocks (stored c)) a.branch e in
-    may-vote-grown (stored c) c (sound-holds sizes c s) most_blocks core q a.certificate a.clear a.branch g.0 below g.1
+    let g = grown MOST_BLOCKS core q (blocks (stored c)) a.branch e in
+    may-vote-grown (stored c) c (sound-holds sizes c s) MOST_BLOCKS core q a.certificate a.clear a.branch g.0 below g.1
 
 -- ---- the vote on a proposal
 
@@ -109,7 +110,7 @@ votes-known sizes w c d a s n f =
 
 pub votes-new : (sizes : Sizes) (w : ℕ) (c : Chronicle) (core : Core) (q : Certificate) (a : Admitted)
     → IsSound sizes c → core.justify_height < core.height → a.new ≡ true
-    → placing most_blocks core q (tree c) ≡ grows a.branch
+    → placing MOST_BLOCKS core q (tree c) ≡ grows a.branch
     → votes_for sizes (Some w) a c
     ≡ ((w == view sizes c) && may_vote_over (ruled_by c) (candidate_of core a.clear) (stored c))
 unfolding votes_for

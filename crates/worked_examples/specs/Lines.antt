@@ -1,8 +1,9 @@
 -- What holds of all request lines and of the items of all texts, and what some texts are.
+use Rattle.ids.specs.declared.limits.TheConstants.{MOST_LINE}
 use Rattle.std.specs.Prelude.{◌≡◌, ◌↔◌, ℕ, ◌+◌, ◌≤◌, Bool, true, false, ◌⊎◌, List, [], ◌∷◌, ◌++◌, length, replicate, Some, None, codes}
 use Rattle.ids.specs.declared.line_fault.LineFault.TheVariants.{UnknownName, BadFields, TooLarge, BadChunk, LineTooLong}
 use Rattle.definitions.specs.Bytes.{Bytes}
-use Rattle.definitions.specs.Requests.{Asked, Head, set, store, cas, get, crlf, line, spelling, canonical, most_line, HasForm, MayHave, IsRequest}
+use Rattle.definitions.specs.Requests.{Asked, Head, set, store, cas, get, crlf, line, spelling, canonical, HasForm, MayHave, IsRequest}
 use Rattle.definitions.specs.Items.{Item, asked, quit, bad, HasNoEnd, IsLineOf, IsItemAt, IsUnfinished, AreItems}
 use Rattle.definitions.specs.Canonical.{request_of}
 
@@ -14,7 +15,7 @@ OneHead = (l : Bytes) (h k : Head) (q r : Bool) → IsLineOf l h q → IsLineOf 
 
 -- a well-formed line fits with its end, and has no end within
 abbrev pub LinesFit : Type 0
-LinesFit = (head : Head) (noreply : Bool) → HasForm head → MayHave head noreply → (length (line head noreply) + 2 ≤ most_line) × HasNoEnd (line head noreply)
+LinesFit = (head : Head) (noreply : Bool) → HasForm head → MayHave head noreply → (length (line head noreply) + 2 ≤ MOST_LINE) × HasNoEnd (line head noreply)
 
 -- two items at the beginning of one text are the same, and take as many bytes
 abbrev pub OneFirstItem : Type 0

@@ -1,4 +1,5 @@
 -- What a replica asks for is what the bytes lack, whatever memory there is.
+use Rattle.ids.specs.declared.limits.TheConstants.{MOST_BLOCKS}
 use Rattle.ids.specs.declared.fault.Fault.{Fault}
 use Rattle.ids.specs.declared.fault.Fault.TheVariants as fault
 use Rattle.std.proofs.Common.{ℕ, IfOk, ◌≡◌, ◌⊎◌, ◌&&◌, not, Bool, true, false, List, [], length, map, refl, sym, ap, subst, ◌∙◌, inl, inr, Option, Some, None, Result, Ok, Err, nat_lt}
@@ -13,7 +14,7 @@ use Rattle.definitions.specs.Branches.{Branch}
 use Rattle.definitions.specs.Checks.{Identity, Findings}
 use Rattle.definitions.specs.Chronicles.{Step, Chronicle, tree, history, Note.got_vote, Note.got_new_view, Step.noted}
 use Rattle.definitions.specs.States.{find_block, is_due, is_same_request, pending}
-use Rattle.definitions.specs.Trees.{most_blocks, Placing, Placing.stands, Placing.grows, Placing.lacks_parent, Placing.unfit, placing}
+use Rattle.definitions.specs.Trees.{Placing, Placing.stands, Placing.grows, Placing.lacks_parent, Placing.unfit, placing}
 use Rattle.definitions.specs.Rulings.{Input, Input.timeout_in, Input.beat_in, Ruling, Ruling.due, Ruling.missing, Ruling.refusing, ruling, conflicts, on_placing, on_block, on_request, with_block}
 use Rattle.definitions.specs.Admission.{Checked, Checked.passes, Checked.rejected, check, when}
 use Rattle.definitions.specs.Replicas.{Memory, Memory.ample, Memory.refused_at_once, Memory.refused_after, Replica, Standing, Standing.running, Standing.stopped, Standing.cut_short, Reaction, Reaction.sends_out, Reaction.fails, Reaction.asks_for, executes, on_step, on_ruling, step}
@@ -75,13 +76,13 @@ step-right lack self m i r h = by r.standing
 -- ---- rulings
 
 -- a block that doesn't fit is refused for something else than its parent
-unfit-other : (core : Core) (q : Certificate) (c : Chronicle) (n : Fault) → IsPlaced most_blocks core q (tree c) (unfit n) → n ≡ fault.UnknownParent → ⊥
+unfit-other : (core : Core) (q : Certificate) (c : Chronicle) (n : Fault) → IsPlaced MOST_BLOCKS core q (tree c) (unfit n) → n ≡ fault.UnknownParent → ⊥
 unfit-other core q c n (inl e) k = cc
 unfit-other core q c n (inr (inl e)) k = cc
 unfit-other core q c n (inr (inr (inl e))) k = cc
 unfit-other core q c n (inr (inr (inr e))) k = cc
 
-placed-right : (self : Identity) (w : Option ℕ) (sender : ℕ) (core : Core) (q : Certificate) (f : Findings) (c : Chronicle) (p : Placing) → IsPlaced most_blocks core q (tree c) p → RulesRightly (Some (sender, core.parent)) (on_placing self w sender core q f c p)
+placed-right : (self : Identity) (w : Option ℕ) (sender : ℕ) (core : Core) (q : Certificate) (f : Findings) (c : Chronicle) (p : Placing) → IsPlaced MOST_BLOCKS core q (tree c) p → RulesRightly (Some (sender, core.parent)) (on_placing self w sender core q f c p)
 unfolding on_placing
 placed-right self w sender core q f c (stands b) h = tt
 placed-right self w sender core q f c (grows b) h = tt
@@ -89,7 +90,7 @@ placed-right self w sender core q f c lacks_parent h = refl
 placed-right self w sender core q f c (unfit n) h = unfit-other core q c n h
 
 block-right : (self : Identity) (w : Option ℕ) (sender : ℕ) (core : Core) (q : Certificate) (f : Findings) (c : Chronicle) → RulesRightly (Some (sender, core.parent)) (on_block self w sender core q f c)
-block-right self w sender core q f c = placed-right self w sender core q f c (placing most_blocks core q (tree c)) (placed most_blocks core q (tree c))
+block-right self w sender core q f c = placed-right self w sender core q f c (placing MOST_BLOCKS core q (tree c)) (placed MOST_BLOCKS core q (tree c))
 
 found-right : (o : Option Branch) (sender : ℕ) (d : Bytes) (follows : Branch → Step) → RulesRightly (Some (sender, d)) (with_block o sender d (λ b. due (follows b)))
 found-right None sender d follows = refl

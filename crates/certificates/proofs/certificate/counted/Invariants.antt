@@ -1,7 +1,7 @@
 -- The voters so far, and then those of the other votes, are all that are counted.
 use Rattle.std.proofs.Common.{◌≡◌, ◌+◌, ◌≤◌, ◌++◌, length}
 use Rattle.std.specs.List.{AllByRecursion}
-use Rattle.ids.specs.declared.config.TheConstants.{MOST_REPLICAS}
+use Rattle.ids.specs.declared.limits.TheConstants.{MOST_REPLICAS}
 use Rattle.definitions.specs.FrameLimits.{IsVote}
 use Rattle.definitions.specs.Checks.{identity_of, counted}
 use Rattle.frames_view.specs.Views.{certificate_of, votes_left}

@@ -1,7 +1,8 @@
+use Rattle.ids.specs.declared.limits.TheConstants.{MOST_OF_HEIGHT}
 use Rattle.std.proofs.Common.{◌≡◌, length, ap, ◌∙◌, nat_lt, count_by, ℕ, ◌==◌}
 use Rattle.std.specs.Prelude.{not}
 use Rattle.definitions.specs.Branches.{Branch}
-use Rattle.definitions.specs.Trees.{TreeState, blocks, most_of_height}
+use Rattle.definitions.specs.Trees.{TreeState, blocks}
 use Rattle.block_tree.proofs.Places.{at-least}
 use Rattle.block_tree.proofs.tree.Tree.is_crowded.Goals as goal
 
@@ -11,4 +12,4 @@ returns c =
     let count : c.of.result ≡ count_by (λ (x : Branch). length x == h) (blocks c.args.self.now.stored) =
     c.of.ensures ∙ c.self.invariant.counted.right h c.requires
     ∙ ap (λ (t : TreeState). count_by (λ (x : Branch). length x == h) (blocks t.stored)) c.self.view_is in
-    at-least c.of.result most_of_height ∙ ap (λ (n : ℕ). not (nat_lt n most_of_height)) count
+    at-least c.of.result MOST_OF_HEIGHT ∙ ap (λ (n : ℕ). not (nat_lt n MOST_OF_HEIGHT)) count

@@ -1,6 +1,6 @@
 use Rattle.std.proofs.Common.{◌≡◌, ◌≤◌, ℕ, max, refl, ap, ◌∙◌, arith}
 use Rattle.ids.specs.Sizes.{replicas}
-use Rattle.ids.specs.declared.config.TheConstants.{MOST_REPLICAS}
+use Rattle.ids.specs.declared.limits.TheConstants.{MOST_REPLICAS}
 use Rattle.pacemaker.specs.Pacing.{Pace}
 use Rattle.pacemaker.proofs.Reached.{paced-next, with_announced}
 use Rattle.pacemaker.proofs.pacemaker.Pacemaker.on_new_view.Goals as goal

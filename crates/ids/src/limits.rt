@@ -1,0 +1,40 @@
+//! The limits of the whole project, each said once: code and definitions cite them from here.
+
+/// The most replicas that there are: the length of each fixed row over replicas.
+pub const MOST_REPLICAS: usize = 13;
+
+/// The most commands of a block.
+pub const MOST_COMMANDS: usize = 16;
+
+/// The most blocks of one height.
+pub const MOST_OF_HEIGHT: usize = 64;
+
+/// The most blocks of a tree, genesis counted.
+pub const MOST_BLOCKS: usize = 1_048_576;
+
+/// The most requests that wait for a block.
+pub const MOST_PENDING: usize = 4096;
+
+/// The most bytes of a command's payload: a request with the longest key, numbers and data, and room to grow.
+pub const MOST_PAYLOAD: usize = 4608;
+
+/// The most bytes of a reply's text: sixteen values of the longest data under the longest keys, and `END`.
+pub const MOST_TEXT: usize = 70_293;
+
+/// The most bytes of a key (protocol.txt, "Keys").
+pub const MOST_KEY: usize = 250;
+
+/// The most keys of one retrieval.
+pub const MOST_ASKED: usize = 16;
+
+/// The most bytes of data under a key.
+pub const MOST_DATA: usize = 4096;
+
+/// The most bytes of a request line with its CR LF.
+pub const MOST_LINE: usize = 4096;
+
+/// The most keys that a replica's cache has room for.
+pub const MOST_KEYS: usize = 65_536;
+
+/// The most bytes that a connection holds of what was read and not yet taken.
+pub const MOST_HELD: usize = 16_384;
