@@ -9,7 +9,7 @@ use crate::lying::{LyingOut, Tongue};
 use authenticators::Keyring;
 use clock::{Pulse, Watched, keep_time};
 use crossbeam_channel::Receiver;
-use fabric::{Links, Open, Parcel, Post, WaitingRoom};
+use fabric::{Links, Parcel, Post, WaitingRoom};
 use ids::{Fault, ReplicaId};
 use key_file::PairKeys;
 use liars::Liar;
@@ -20,6 +20,7 @@ use std::alloc::Global;
 use std::sync::atomic::AtomicBool;
 use std::sync::{Mutex, Wait};
 use std::time::Clock;
+use turns::Open;
 
 /// A replica under its lock, and where what is for it comes out.
 #[derive(Drop)]
@@ -145,6 +146,38 @@ fn hire(
     })
 }
 
+/// A replica that has made no step.
+fn new_kept<'a>(
+    alloc: Global,
+    keys: &PairKeys,
+    number: ReplicaId,
+    eye: Eye,
+    marks: &'a Marks,
+) -> Result<Kept<'a>, Fault>
+    requires number { number < replicas keys.now.sizes }
+    requires words { marks.now.words ≡ replicas keys.now.sizes }
+    requires eye { eye ≡ first_eye marks.now number }
+{
+    let keyring = keys.keyring(alloc, number.into())?;
+    let replica = Replica::new(alloc, keys.config(), number, keyring)?;
+    Ok(Kept::new(alloc, replica, eye, marks))
+}
+
+/// The crew of a kept replica.
+fn hire_crew(
+    alloc: Global,
+    keys: &PairKeys,
+    kept: &mut Kept<'_>,
+    number: ReplicaId,
+    liar: Option<Liar>,
+) -> Result<Crew, Fault>
+    requires { number < replicas keys.now.sizes }
+{
+    let one = hire(alloc, keys, kept, number, liar)?;
+    let two = hire(alloc, keys, kept, number, liar)?;
+    Ok(Crew { one, two })
+}
+
 /// The station of a replica that has made no step, and its crew.
 fn build_station<'a>(
     alloc: Global,
@@ -159,18 +192,15 @@ fn build_station<'a>(
     requires words { marks.now.words ≡ replicas keys.now.sizes }
     requires eye { eye ≡ first_eye marks.now number }
 {
-    let keyring = keys.keyring(alloc, number.into())?;
-    let replica = Replica::new(alloc, keys.config(), number, keyring)?;
-    let mut kept = Kept::new(alloc, replica, eye, marks);
-    let one = hire(alloc, keys, &mut kept, number, liar)?;
-    let two = hire(alloc, keys, &mut kept, number, liar)?;
+    let mut kept = new_kept(alloc, keys, number, eye, marks)?;
+    let crew = hire_crew(alloc, keys, &mut kept, number, liar)?;
     let station = Station {
         number,
         locked: Mutex::new(kept),
         parcels,
         room: WaitingRoom::new(alloc),
     };
-    Ok((station, Crew { one, two }))
+    Ok((station, crew))
 }
 
 /// A station for each word of the marks, with the eye that owns it. Replica 0 is the one that may lie.

@@ -1,6 +1,6 @@
 //! Frames that wait for a block.
 
-ghost use Rattle.std.specs.Prelude.{◌≡◌, ◌<◌, IfSome};
+ghost use Rattle.std.specs.Prelude.{◌≡◌, IfSome};
 
 use admission::missing;
 use bytes::Bytes;
@@ -15,20 +15,45 @@ use std::sync::{Mutex, Wait};
 /// How many frames wait at one replica, at most.
 const MOST_WAITING: usize = 256;
 
-/// The block that a frame brings.
-pub(crate) fn brought(config: &Config, bytes: &[u8]) -> Option<Digest> {
-    match read(config, bytes) {
-        Ok(Frame::Proposal(view)) => Some(view.core().digest()),
-        Ok(Frame::Block(view)) => Some(view.core().digest()),
-        _ => None,
-    }
+/// What a frame brings to its receiver's tree.
+#[derive(Clone, Copy)]
+pub(crate) enum Brought {
+    /// No block.
+    Nothing,
+    /// A block that was asked for.
+    Block(Digest),
+    /// A block that the receiver may vote for.
+    Proposal(Digest),
 }
 
-/// Whether these are the bytes of a proposal.
-fn is_proposal(config: &Config, bytes: &[u8]) -> bool {
-    match read(config, bytes) {
-        Ok(Frame::Proposal(_)) => true,
-        _ => false,
+impl Brought {
+    /// What the frame of these bytes brings.
+    pub(crate) fn by(config: &Config, bytes: &[u8]) -> Brought {
+        match read(config, bytes) {
+            Ok(Frame::Proposal(view)) => Brought::Proposal(view.core().digest()),
+            Ok(Frame::Block(view)) => Brought::Block(view.core().digest()),
+            _ => Brought::Nothing,
+        }
+    }
+
+    /// The block.
+    pub(crate) fn block(self) -> Option<Digest> {
+        match self {
+            Brought::Nothing => None,
+            Brought::Block(block) | Brought::Proposal(block) => Some(block),
+        }
+    }
+
+    /// Whether a frame that brings this does all that one does that brings the other.
+    fn serves_for(self, other: Brought) -> bool {
+        match other {
+            Brought::Nothing => false,
+            Brought::Block(block) => self.block() == Some(block),
+            Brought::Proposal(block) => match self {
+                Brought::Proposal(own) => own == block,
+                _ => false,
+            },
+        }
     }
 }
 
@@ -39,10 +64,7 @@ pub(crate) struct Waiting {
     pub(crate) number: u64,
     pub(crate) sender: ReplicaId,
     pub(crate) lacks: Digest,
-    /// The block that it brings, if it brings one.
-    pub(crate) brings: Option<Digest>,
-    /// Whether it is a proposal, which a replica may vote for.
-    is_proposal: bool,
+    pub(crate) brings: Brought,
     pub(crate) bytes: Bytes,
     /// How many frames had begun to wait when it did.
     place: u64,
@@ -54,28 +76,16 @@ impl Waiting {
     /// A frame of this number. None, where frames of this kind lack no block.
     pub(crate) fn new(config: &Config, number: u64, bytes: Bytes) -> Option<Waiting> {
         let (sender, lacks) = missing(config, bytes.as_slice())?;
-        let brings = brought(config, bytes.as_slice());
-        let is_proposal = is_proposal(config, bytes.as_slice());
+        let brings = Brought::by(config, bytes.as_slice());
         Some(Waiting {
             number,
             sender,
             lacks,
             brings,
-            is_proposal,
             bytes,
             place: 0,
             due: 0,
         })
-    }
-
-    /// Whether it brings this block.
-    fn brings(&self, block: &Digest) -> bool {
-        self.brings == Some(*block)
-    }
-
-    /// Whether it does all that another frame would, which brings this block.
-    fn serves_for(&self, block: &Digest, is_proposal: bool) -> bool {
-        self.brings(block) && (self.is_proposal || !is_proposal)
     }
 }
 
@@ -105,19 +115,19 @@ impl Model for Queue {
 impl Queue {
     /// The block that the frame that brings this block lacks. None, where no such frame waits.
     fn below(&self, block: &Digest) -> Option<Digest> {
-        let frame = self.frames.iter().find(|frame| frame.brings(block))?;
+        let frame = self
+            .frames
+            .iter()
+            .find(|frame| frame.brings.block() == Some(*block))?;
         Some(frame.lacks)
     }
 
     /// Whether a frame waits that does all that this one would.
     fn has_one_like(&self, other: &Waiting) -> bool {
-        let Some(block) = other.brings else {
-            return false;
-        };
-        let is_proposal = other.is_proposal;
+        let brings = other.brings;
         self.frames
             .iter()
-            .any(|frame| frame.serves_for(&block, is_proposal))
+            .any(|frame| frame.brings.serves_for(brings))
     }
 
     /// Adds a frame, unless one waits that does all that this one would. Its sender is asked once so many parcels more

@@ -1,14 +1,12 @@
 //! What each worker thread does.
 
-ghost use Rattle.std.specs.Prelude.{◌≡◌, ◌<◌, ◌≤◌, IfSome};
+ghost use Rattle.std.specs.Prelude.{◌<◌};
 ghost use Rattle.ids.specs.Sizes.{replicas};
 ghost use Rattle.locked_replica.specs.Kept.{Counts};
+ghost use Rattle.fabric.specs.Shares.{HasGrown};
 
-use crate::gate::Gate;
 use crate::links::{Links, Parcel};
-use crate::steps::Steps;
-use crate::turns::turn;
-use crate::waiting::{Waiting, WaitingRoom, brought};
+use crate::waiting::{Brought, Waiting, WaitingRoom};
 use authenticators::Keyring;
 use bytes::Bytes;
 use crossbeam_channel::Receiver;
@@ -18,6 +16,7 @@ use replica::{Input, Out, Sending, To};
 use signed_frames::fetch_frame;
 use std::alloc::Global;
 use std::sync::Wait;
+use turns::{Gate, Steps, turn};
 
 /// Where a worker stands: it takes from a replica's link, sends by `out`, and has a keyring of its own.
 #[derive(Drop)]
@@ -104,7 +103,7 @@ impl<'a, G: Gate, O: Outgoing> Post<'a, G, O> {
         number: u64,
         bytes: &[u8],
     ) -> Result<(), Fault>
-        ensures { (share.new.replica ≡ share.old.replica) × (share.new.number ≡ share.old.number) × (share.old.count ≤ share.new.count) }
+        ensures { HasGrown share.old share.new }
     {
         let out = turn(
             rt,
@@ -123,7 +122,7 @@ impl<'a, G: Gate, O: Outgoing> Post<'a, G, O> {
     /// Brings the frames that lack this block, which the replica has by now, and those that lack a block that one of
     /// them brought.
     fn release<R: Wait, S: Steps>(&self, rt: &R, steps: &mut S, share: &mut Share, block: Digest)
-        ensures { (share.new.replica ≡ share.old.replica) × (share.new.number ≡ share.old.number) × (share.old.count ≤ share.new.count) }
+        ensures { HasGrown share.old share.new }
     {
         let mut known = Vec::new(self.alloc);
         let mut latest = Some(block);
@@ -137,7 +136,7 @@ impl<'a, G: Gate, O: Outgoing> Post<'a, G, O> {
             let _refused = known.push(block);
             let brought = self.bring(rt, steps, share, frame.number, frame.bytes.as_slice());
             if brought.is_ok() {
-                latest = frame.brings;
+                latest = frame.brings.block();
             }
         }
     }
@@ -152,7 +151,7 @@ impl<'a, G: Gate, O: Outgoing> Post<'a, G, O> {
         number: u64,
         bytes: Bytes,
     )
-        ensures { (share.new.replica ≡ share.old.replica) × (share.new.number ≡ share.old.number) × (share.old.count ≤ share.new.count) }
+        ensures { HasGrown share.old share.new }
     {
         let Ok(copy) = bytes.clone() else {
             return;
@@ -160,7 +159,7 @@ impl<'a, G: Gate, O: Outgoing> Post<'a, G, O> {
         let Some(frame) = Waiting::new(&self.keyring.config(), number, copy) else {
             return;
         };
-        let brings = frame.brings;
+        let brings = frame.brings.block();
         self.room.wait(rt, frame);
         let brought = self.bring(rt, steps, share, number, bytes.as_slice());
         if brought == Err(Fault::UnknownParent) {
@@ -181,12 +180,12 @@ impl<'a, G: Gate, O: Outgoing> Post<'a, G, O> {
         number: u64,
         bytes: Bytes,
     )
-        ensures { (share.new.replica ≡ share.old.replica) × (share.new.number ≡ share.old.number) × (share.old.count ≤ share.new.count) }
+        ensures { HasGrown share.old share.new }
     {
         match self.bring(rt, steps, share, number, bytes.as_slice()) {
             Ok(()) if self.room.is_empty(rt) => {}
             Ok(()) => {
-                if let Some(block) = brought(&self.keyring.config(), bytes.as_slice()) {
+                if let Some(block) = Brought::by(&self.keyring.config(), bytes.as_slice()).block() {
                     self.release(rt, steps, share, block);
                 }
             }
@@ -197,7 +196,7 @@ impl<'a, G: Gate, O: Outgoing> Post<'a, G, O> {
 
     /// One step that no frame brings.
     fn step<R: Wait, S: Steps>(&self, rt: &R, steps: &mut S, share: &mut Share, input: Input<'_>)
-        ensures { (share.new.replica ≡ share.old.replica) × (share.new.number ≡ share.old.number) × (share.old.count ≤ share.new.count) }
+        ensures { HasGrown share.old share.new }
     {
         if let Ok(out) = steps.step(rt, share, input) {
             send_all(rt, self.out, out);
@@ -206,7 +205,7 @@ impl<'a, G: Gate, O: Outgoing> Post<'a, G, O> {
 
     /// Where the replica has something to propose, and nothing of it waits for votes, it proposes.
     fn propose<R: Wait, S: Steps>(&self, rt: &R, steps: &mut S, share: &mut Share)
-        ensures { (share.new.replica ≡ share.old.replica) × (share.new.number ≡ share.old.number) × (share.old.count ≤ share.new.count) }
+        ensures { HasGrown share.old share.new }
     {
         if let Some(Ok(out)) = steps.beat_now(rt, share) {
             send_all(rt, self.out, out);
@@ -216,7 +215,7 @@ impl<'a, G: Gate, O: Outgoing> Post<'a, G, O> {
     /// Takes what comes over the replica's link until it is told to stop, or the links are gone. It gives the share
     /// back, with the steps that it made.
     pub fn work<R: Wait, S: Steps>(self, rt: &R, steps: &mut S, mut share: Share) -> Share
-        ensures { (result.replica ≡ share.replica) × (result.number ≡ share.number) × (share.count ≤ result.count) }
+        ensures { HasGrown share result }
     {
         for _ in rt.forever() {
             let parcel = self.parcels.recv(rt);

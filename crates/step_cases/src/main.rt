@@ -22,7 +22,6 @@ use anyhow::Result;
 use ids::{Config, Fault, ReplicaId};
 use marks::Marks;
 use std::alloc::Global;
-use std::io::{BufRead as _, BufReader, BufWriter, Write as _};
 
 /// What a replica does with its inputs, one after the other.
 fn steps(
@@ -37,12 +36,9 @@ fn steps(
     }
     let (marks, eyes) = Marks::new(alloc, config.n())?;
     let own = ReplicaId(replica);
-    let mut stepped = Stepped::new(alloc, config, own, shares, &marks, eyes)?;
+    let stepped = Stepped::new(alloc, config, own, shares, &marks, eyes)?;
     let mut text = String::new(alloc);
-    for input in inputs.split(' ') {
-        stepped.tell(alloc, input, &mut text)?;
-    }
-    stepped.close(&mut text)?;
+    stepped.run(alloc, inputs, &mut text)?;
     Ok(text)
 }
 
@@ -59,10 +55,9 @@ fn tell(alloc: Global, input: &str) -> Result<String, Fault> {
 
 fn main(rt: HostRuntime) -> Result<()> {
     let alloc = rt.alloc();
-    let mut out = BufWriter::new(alloc, std::io::writer(&rt))?;
-    for line in BufReader::new(alloc, rt.reader())?.lines(alloc) {
-        writeln!(out, "{}", tell(alloc, line?.as_str())?)?;
+    for line in rt.lines(alloc) {
+        let line = line?;
+        println!(rt; "{}", tell(alloc, line.as_str())?)?;
     }
-    out.flush()?;
     Ok(())
 }

@@ -97,18 +97,25 @@ fn closed(kept: Kept<'_>, shares: Vec<Share>) -> Result<Replica, Fault> {
     }
 }
 
+/// Takes the last share out.
+fn split_last(mut shares: Vec<Share>) -> Result<(Vec<Share>, Share), Fault> {
+    let last = shares.pop().ok_or(Fault::NotAll)?;
+    Ok((shares, last))
+}
+
+/// Closes with all shares but the last, which is refused, and then with all. How many steps the replica counts.
+fn close_again(kept: Kept<'_>, shares: Vec<Share>, last: Share) -> Result<usize, Fault> {
+    let NotAll { kept, mut shares } = refused(kept, shares)?;
+    shares.push(last)?;
+    Ok(closed(kept, shares)?.steps())
+}
+
 /// Closes three times; the last share is the strange one.
 pub(crate) fn close(kept: Kept<'_>, shares: Vec<Share>, text: &mut String) -> Result<(), Fault> {
-    let NotAll { kept, mut shares } = refused(kept, shares)?;
-    text.push_str(" refused,")?;
-    let _ = shares.pop();
-    let Some(last) = shares.pop() else {
-        return Err(Fault::NotAll);
-    };
-    let NotAll { kept, mut shares } = refused(kept, shares)?;
-    text.push_str(" refused,")?;
-    shares.push(last)?;
-    let replica = closed(kept, shares)?;
-    write!(text, " closed {}", replica.steps())?;
+    let NotAll { kept, shares } = refused(kept, shares)?;
+    let (own, _strange) = split_last(shares)?;
+    let (own, last) = split_last(own)?;
+    let steps = close_again(kept, own, last)?;
+    write!(text, " refused, refused, closed {steps}")?;
     Ok(())
 }

@@ -6,33 +6,13 @@ ghost use Rattle.ids.specs.Sizes.{replicas};
 
 use crate::shares::{close, kept_with, strange_share};
 use crate::told::tell_answer;
-use authenticators::Keyring;
-use certificates::{
-    check_block, check_fetch, check_new_view, check_proposal, check_request, check_vote,
-};
-use frames_view::{Frame, read};
+use admission::admit;
 use ids::{Config, Fault, PartyId, ReplicaId};
 use locked_replica::{Kept, Share};
 use marks::{Eye, Marks};
 use replica::{Input, Out};
 use simulated_keys::keyring_of;
 use std::alloc::Global;
-
-/// What bytes bring, checked with the keys of a replica. No replica takes replies.
-fn input_of<'a>(ring: &'a Keyring, bytes: &'a [u8]) -> Result<Input<'a>, Fault>
-    requires { ring.now.party < replicas ring.now.sizes }
-{
-    let config = ring.config();
-    Ok(match read(&config, bytes)? {
-        Frame::Proposal(view) => Input::Proposal(check_proposal(ring, &config, &view)?),
-        Frame::Block(view) => Input::Block(check_block(ring, &config, &view)?),
-        Frame::Vote(view) => Input::Vote(check_vote(ring, &config, &view)?),
-        Frame::NewView(view) => Input::NewView(check_new_view(ring, &config, &view)?),
-        Frame::Fetch(view) => Input::Fetch(check_fetch(ring, &config, &view)?),
-        Frame::Request(view) => Input::Request(check_request(ring, &config, &view)?),
-        Frame::Reply(_) => return Err(Fault::NotMine),
-    })
-}
 
 /// A number of a line.
 pub(crate) fn number(digits: &str) -> Result<u8, Fault> {
@@ -61,8 +41,9 @@ impl<'a> Stepped<'a> {
         requires eyes { eyes.items ≡ first_eyes marks.now }
         requires words { marks.now.words ≡ replicas config }
     {
+        let strange = strange_share(alloc, config, number, count)?;
         let (kept, mut shares) = kept_with(alloc, config, number, count, marks, eyes)?;
-        shares.push(strange_share(alloc, config, number, count)?)?;
+        shares.push(strange)?;
         Ok(Stepped {
             config,
             kept,
@@ -90,7 +71,7 @@ impl<'a> Stepped<'a> {
             return Err(Fault::NoSuchParty);
         }
         let ring = keyring_of(alloc, self.config, PartyId::from(ReplicaId(checker)))?;
-        match input_of(&ring, bytes) {
+        match admit(&ring, &self.config, bytes) {
             Ok(input) => self.bring(share, input),
             Err(fault) => Ok(Err(fault)),
         }
@@ -112,26 +93,40 @@ impl<'a> Stepped<'a> {
     }
 
     /// Tells what an input is answered.
-    pub(crate) fn tell(
-        &mut self,
-        alloc: Global,
-        input: &str,
-        text: &mut String,
-    ) -> Result<(), Fault> {
+    fn tell(&mut self, alloc: Global, input: &str, text: &mut String) -> Result<(), Fault> {
         let answer = self.take(alloc, input)?;
         tell_answer(alloc, &answer, text)?;
         text.push_str(", ")?;
         Ok(())
     }
 
-    /// Tells the shares' counts, and closes.
-    pub(crate) fn close(self, text: &mut String) -> Result<(), Fault> {
-        let Stepped { kept, shares, .. } = self;
+    /// Tells the shares' counts.
+    fn tell_counts(&self, text: &mut String) -> Result<(), Fault> {
         text.push_str("[")?;
-        for share in &shares {
+        for share in &self.shares {
             write!(text, " {}", share.count())?;
         }
         text.push_str(" ]")?;
+        Ok(())
+    }
+
+    /// Tells what the inputs are answered, and then the shares' counts.
+    fn tell_all(&mut self, alloc: Global, inputs: &str, text: &mut String) -> Result<(), Fault> {
+        for input in inputs.split(' ') {
+            self.tell(alloc, input, text)?;
+        }
+        self.tell_counts(text)
+    }
+
+    /// Brings all inputs, and closes.
+    pub(crate) fn run(
+        mut self,
+        alloc: Global,
+        inputs: &str,
+        text: &mut String,
+    ) -> Result<(), Fault> {
+        self.tell_all(alloc, inputs, text)?;
+        let Stepped { kept, shares, .. } = self;
         close(kept, shares, text)
     }
 }

@@ -3,11 +3,11 @@
 ghost use Rattle.std.specs.Prelude.{⊤};
 
 use crate::seen::Seen;
-use fabric::Steps;
 use ids::{Fault, ReplicaId};
 use locked_replica::{Locked, Share};
 use replica::{Input, Out};
 use std::sync::Wait;
+use turns::Steps;
 
 /// Steps a locked replica, and notes what comes.
 #[derive(Drop)]

@@ -1,9 +1,9 @@
 //! A gate that holds the first frame.
 
-use fabric::Gate;
 use std::sync::atomic::AtomicBool;
 use std::sync::atomic::Ordering::SeqCst;
 use std::thread::yield_now;
+use turns::Gate;
 
 /// How often a wait yields, at most: for some seconds, since a machine may be busy with other things.
 pub(crate) const MOST_YIELDS: u32 = 10_000_000;

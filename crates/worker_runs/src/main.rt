@@ -10,15 +10,16 @@ mod seen;
 mod stations;
 
 use crate::held::Held;
-use crate::runs::{Until, run};
+use crate::runs::{Told, Until, run};
 use crate::seen::Seen;
 use anyhow::Result;
-use fabric::Open;
+use bytes::Bytes;
 use ids::{Config, ReplicaId};
 use std::alloc::Global;
 use std::sync::Wait;
 use std::thread::Threads;
 use std::time::Clock;
+use turns::Open;
 
 /// Two workers of one replica: the turn of frame 1 is held, after its check and before its step, until frame 2 was
 /// stepped. A third frame has a spoilt tag.
@@ -106,29 +107,18 @@ fn one_vote<R: Threads + Wait + Clock + Sync>(rt: &R, alloc: Global) -> Result<S
     )?)
 }
 
-/// A thousand questions to replica 1, whose stand-in answers one of them with a frame to all, one to replica 2, and one
-/// to client 0.
-fn each_once<R: Threads + Wait + Clock + Sync>(rt: &R, alloc: Global) -> Result<String> {
-    let config = Config::new(1, 2)?;
-    let seen = Seen::new(alloc, false)?;
-    seen.answer_with(rt, frames::answers(alloc, config)?);
+/// A thousand questions for replica 1, each another one.
+fn thousand_questions(alloc: Global, config: Config) -> Result<Vec<(ReplicaId, Bytes)>> {
     let mut handed = Vec::new(alloc);
     for k in 0..1000 {
-        handed.push((
-            ReplicaId(1),
-            frames::question(alloc, config, ReplicaId(1), k)?,
-        ))?;
+        let question = frames::question(alloc, config, ReplicaId(1), k)?;
+        handed.push((ReplicaId(1), question))?;
     }
-    let told = run(
-        rt,
-        alloc,
-        config,
-        0..4,
-        &Open,
-        &seen,
-        handed,
-        Until::Inputs(1005),
-    )?;
+    Ok(handed)
+}
+
+/// What came of a thousand questions.
+fn tell_each(alloc: Global, seen: &Seen, told: &Told) -> Result<String> {
     Ok(format!(in alloc;
         "of 1000 questions {} came once; announcements {}, votes {}, replies {}, others {}",
         seen.came_once(),
@@ -137,6 +127,25 @@ fn each_once<R: Threads + Wait + Clock + Sync>(rt: &R, alloc: Global) -> Result<
         told.replies,
         told.left
     )?)
+}
+
+/// A thousand questions to replica 1, whose stand-in answers one of them with a frame to all, one to replica 2, and one
+/// to client 0.
+fn each_once<R: Threads + Wait + Clock + Sync>(rt: &R, alloc: Global) -> Result<String> {
+    let config = Config::new(1, 2)?;
+    let seen = Seen::new(alloc, false)?;
+    seen.answer_with(rt, frames::answers(alloc, config)?);
+    let told = run(
+        rt,
+        alloc,
+        config,
+        0..4,
+        &Open,
+        &seen,
+        thousand_questions(alloc, config)?,
+        Until::Inputs(1005),
+    )?;
+    tell_each(alloc, &seen, &told)
 }
 
 /// One request for all replicas, which each of them executes.

@@ -6,7 +6,7 @@ use crate::seen::Seen;
 use crate::stations::{Crew, Station, stations};
 use bytes::Bytes;
 use crossbeam_channel::Receiver;
-use fabric::{Ends, Gate, Links, Parcel, Post};
+use fabric::{Ends, Links, Parcel, Post};
 use ids::{Config, Fault, ReplicaId};
 use locked_replica::{Closed, Share};
 use marks::Marks;
@@ -17,6 +17,7 @@ use std::sync::Wait;
 use std::thread;
 use std::thread::Threads;
 use std::time::{Clock, Duration};
+use turns::Gate;
 
 /// What is left after a run.
 #[derive(Drop)]

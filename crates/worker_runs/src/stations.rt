@@ -31,7 +31,30 @@ pub(crate) struct Crew {
     pub(crate) two: Share,
 }
 
-/// A replica that has made no step, and shares for two workers.
+/// A replica that has made no step.
+fn new_kept<'a>(
+    alloc: Global,
+    config: Config,
+    number: ReplicaId,
+    eye: Eye,
+    marks: &'a Marks,
+) -> Result<Kept<'a>, Fault>
+    requires eye { eye ≡ first_eye marks.now number }
+    requires number { (number < replicas config) × (number < marks.now.words) }
+{
+    let keyring = keyring_of(alloc, config, number.into())?;
+    let replica = Replica::new(alloc, config, number, keyring)?;
+    Ok(Kept::new(alloc, replica, eye, marks))
+}
+
+/// Shares for two workers.
+fn crew_of(kept: &mut Kept<'_>) -> Result<Crew, Fault> {
+    let one = kept.share()?;
+    let two = kept.share()?;
+    Ok(Crew { one, two })
+}
+
+/// The station of a replica that has made no step, and its crew.
 fn make_station<'a>(
     alloc: Global,
     config: Config,
@@ -42,21 +65,14 @@ fn make_station<'a>(
     requires eye { eye ≡ first_eye marks.now number }
     requires number { (number < replicas config) × (number < marks.now.words) }
 {
-    let keyring = keyring_of(alloc, config, number.into())?;
-    let replica = Replica::new(alloc, config, number, keyring)?;
-    let mut kept = Kept::new(alloc, replica, eye, marks);
-    let one = kept.share()?;
-    let two = kept.share()?;
-    let locked = Mutex::new(kept);
-    let room = WaitingRoom::new(alloc);
-    Ok((
-        Station {
-            number,
-            locked,
-            room,
-        },
-        Crew { one, two },
-    ))
+    let mut kept = new_kept(alloc, config, number, eye, marks)?;
+    let crew = crew_of(&mut kept)?;
+    let station = Station {
+        number,
+        locked: Mutex::new(kept),
+        room: WaitingRoom::new(alloc),
+    };
+    Ok((station, crew))
 }
 
 /// Those of all replicas that are wanted, by number.

@@ -1,5 +1,5 @@
-use Rattle.std.proofs.Common.{◌≡◌, ◌≤◌}
+use Rattle.fabric.specs.Shares.{HasGrown}
 use Rattle.fabric.proofs.worker.Post.work.Given as goal
 
 abbrev pub invariant-loop : goal.invariant-loop
-invariant-loop g l = (l.share.replica ≡ l.fn.share.replica) × (l.share.number ≡ l.fn.share.number) × (l.fn.share.count ≤ l.share.count)
+invariant-loop g l = HasGrown l.fn.share l.share

@@ -6,7 +6,7 @@ ghost use Rattle.replica.specs.declared.input.Input.{Input};
 ghost use Rattle.replica.specs.Steps.{Sent};
 ghost use Rattle.locked_replica.specs.Addressed.{KeptStep};
 ghost use Rattle.locked_replica.specs.Kept.{ShareState, Counts};
-ghost use Rattle.fabric.specs.Stepping.{SomeStep};
+ghost use Rattle.turns.specs.Stepping.{SomeStep};
 
 use ids::{Digest, Fault, ReplicaId};
 use locked_replica::{Kept, Locked, Share};

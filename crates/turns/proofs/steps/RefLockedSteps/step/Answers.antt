@@ -1,7 +1,7 @@
 use Rattle.std.proofs.Common.{rules}
 use Rattle.locked_replica.specs.Kept.{Holds}
-use Rattle.fabric.proofs.Bundles.{kept_step}
-use Rattle.fabric.proofs.steps.RefLockedSteps.step.Goals as goal
+use Rattle.turns.proofs.Bundles.{kept_step}
+use Rattle.turns.proofs.steps.RefLockedSteps.step.Goals as goal
 
 pub returns-clause-moved : goal.returns-clause-moved
 returns-clause-moved g c =

@@ -1,5 +1,5 @@
-use Rattle.fabric.proofs.Bundles.{kept_step}
-use Rattle.fabric.proofs.steps.KeptSteps.step.Goals as goal
+use Rattle.turns.proofs.Bundles.{kept_step}
+use Rattle.turns.proofs.steps.KeptSteps.step.Goals as goal
 
 pub returns-clause-moved : goal.returns-clause-moved
 returns-clause-moved g c =

@@ -1,0 +1,10 @@
+//! One frame's turn at a replica: its tags are checked, and then the replica makes one step, which a share counts.
+#![tactic(auto)]
+
+mod frame_turn;
+mod gate;
+mod steps;
+
+pub use frame_turn::turn;
+pub use gate::{Gate, Open};
+pub use steps::Steps;
