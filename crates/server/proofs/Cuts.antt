@@ -13,7 +13,8 @@ use Rattle.std.proofs.lemmas.Str.{IsUtf8-from_ascii}
 use Rattle.std.proofs.lemmas.Bool.{eqb-true, ltb-true, ltb-false, ne_eqb}
 use Rattle.hex.specs.Hex.{encode_lower, encode_with, lower_digits, IsBytes}
 use Rattle.definitions.specs.Bytes.{Bytes}
-use Rattle.server.specs.Texts.{IsBelow, spaced, replica_text, client_text, party_text}
+use Rattle.server.specs.Texts.{IsBelow, spaced, party_text}
+use Rattle.run_report.specs.Names.{replica_text, client_text}
 use Rattle.server.specs.Lines.{IsHeading, heading_text, parties_text, submission_text, injection_text, delivery_text, IsEvent, event_text}
 use Rattle.server.specs.Schedules.{BeginsWith, IsPrintable, IsPlain, is_lf}
 use Rattle.world_schedule.specs.declared.event.Event.{Event}

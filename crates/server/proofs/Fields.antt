@@ -9,7 +9,8 @@ use Rattle.world_schedule.specs.declared.event.Event.TheVariants.{Submit, Relay,
 use Rattle.server.specs.declared.words.NotRead.{NotRead}
 use Rattle.server.specs.declared.words.NotRead.TheVariants.{Bad, Memory}
 use Rattle.server.proofs.Numbers.{no_space}
-use Rattle.server.specs.Texts.{spaced, IsWord, IsReadOf, IsReading, IsBelow, replica_text, client_text, party_text}
+use Rattle.server.specs.Texts.{spaced, IsWord, IsReadOf, IsReading, IsBelow, party_text}
+use Rattle.run_report.specs.Names.{replica_text, client_text}
 
 -- what is no client's and no replica's is no party's
 pub no_party : (bs : Bytes) → ((rest : Bytes) → bs ≢ 99 ∷ rest) → IsReadOf replica_text (IsBelow 256) bs None → IsReadOf party_text (IsBelow 512) bs None

@@ -12,7 +12,8 @@ use Rattle.std.proofs.lemmas.List.Elements.{All-head, All-tail, All-push}
 use Rattle.std.proofs.lemmas.List.Folds.{Any-from_list_any}
 use Rattle.std.proofs.lemmas.Map.Keys.{apart_from_distinct, IsDistinct-push}
 use Rattle.definitions.specs.Bytes.{Bytes}
-use Rattle.server.specs.Texts.{IsBelow, replica_text, client_text, party_text, IsWord, IsCut, behind_word}
+use Rattle.server.specs.Texts.{IsBelow, party_text, IsWord, IsCut, behind_word}
+use Rattle.run_report.specs.Names.{replica_text, client_text}
 use Rattle.server.specs.Lines.{AreParties, parties_text}
 use Rattle.server.proofs.Numbers.{no_space}
 

@@ -3,7 +3,8 @@ use Rattle.std.proofs.Common.{zero, suc, false, ◌≡◌, ◌≢◌, ℕ, ◌<�
 use Rattle.hex.specs.Hex.{encode_lower, IsBytes}
 use Rattle.ids.specs.declared.party.PartyId.{PartyId}
 use Rattle.definitions.specs.Bytes.{Bytes}
-use Rattle.server.specs.Texts.{IsReadOf, IsReading, IsWord, behind_word, client_text, party_text, spaced}
+use Rattle.server.specs.Texts.{IsReadOf, IsReading, IsWord, behind_word, party_text, spaced}
+use Rattle.run_report.specs.Names.{client_text}
 use Rattle.server.specs.Lines.{IsHeading, heading_text, AreSizesOf, AreParties, parties_text, IsSubmission, submission_text, IsInjection, injection_text, IsEvent}
 use Rattle.std.specs.Prelude.{IsErrOf, ◌==◌}
 use Rattle.std.specs.List.{All}

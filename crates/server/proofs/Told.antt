@@ -7,7 +7,7 @@ use Rattle.definitions.specs.Bytes.{Bytes}
 use Rattle.world_schedule.specs.Running.{IsRunOf}
 use Rattle.world_schedule.specs.declared.outcome.Outcome.{Outcome}
 use Rattle.server.specs.Faults.{IsWhyNot, IsRightIn}
-use Rattle.server.specs.Reports.{outcome_text}
+use Rattle.run_report.specs.Reports.{outcome_text}
 use Rattle.server.specs.Schedules.{IsTextOf}
 use Rattle.server.specs.Simulations.{setting_of, IsTextOfRun, IsToldOf}
 use Rattle.server.specs.declared.schedule.Schedule.{Schedule}

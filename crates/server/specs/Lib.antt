@@ -3,4 +3,3 @@ pub mod Lines
 pub mod Schedules
 pub mod Simulations
 pub mod Texts
-pub mod Reports

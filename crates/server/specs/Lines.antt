@@ -4,7 +4,8 @@ use Rattle.std.specs.Global.{Global}
 use Rattle.std.specs.List.{All, IsDistinct, flat_map}
 use Rattle.hex.specs.Hex.{encode_lower, IsBytes}
 use Rattle.definitions.specs.Bytes.{Bytes}
-use Rattle.server.specs.Texts.{IsBelow, replica_text, client_text, party_text, spaced, behind_word}
+use Rattle.server.specs.Texts.{IsBelow, party_text, spaced, behind_word}
+use Rattle.run_report.specs.Names.{replica_text, client_text}
 use Rattle.world_schedule.specs.declared.event.Event.{Event}
 use Rattle.world_schedule.specs.declared.event.Event.TheVariants.{Submit, Relay, Inject, Timeout, Beat}
 use Rattle.server.specs.declared.lines.Heading.{Heading}

@@ -9,7 +9,7 @@ use Rattle.simulated_keys.specs.Keys.{simulated_keys}
 use Rattle.world_schedule.specs.Settings.{Setting}
 use Rattle.world_schedule.specs.Running.{IsRunOf}
 use Rattle.world_schedule.specs.declared.outcome.Outcome.{Outcome}
-use Rattle.server.specs.Reports.{outcome_text}
+use Rattle.run_report.specs.Reports.{outcome_text}
 use Rattle.server.specs.Schedules.{IsTextOf}
 use Rattle.server.specs.declared.lines.Heading.{Heading}
 use Rattle.server.specs.declared.schedule.Schedule.{Schedule}

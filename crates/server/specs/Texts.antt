@@ -2,6 +2,7 @@
 use Rattle.std.specs.Prelude.{◌≡◌, ◌≢◌, ℕ, ◌-◌, ◌<◌, [], ◌++◌, length, codes, decimal, nat_lt, slice_index, if◌then◌else◌, ⊤, Option, Some, None, Result, Ok, Err}
 use Rattle.hex.specs.declared.error.FromHexError.{FromHexError}
 use Rattle.hex.specs.declared.error.FromHexError.TheVariants.{OutOfMemory}
+use Rattle.run_report.specs.Names.{replica_text, client_text}
 use Rattle.definitions.specs.Bytes.{Bytes}
 use Rattle.server.specs.declared.words.NotRead.{NotRead}
 use Rattle.server.specs.declared.words.NotRead.TheVariants.{Bad, Memory}
@@ -25,13 +26,6 @@ undecoded _ = Bad
 -- numbers are below this limit
 abbrev pub IsBelow : ℕ → ℕ → Type 0
 IsBelow limit n = n < limit
-
--- a replica and a client, by number
-abbrev pub replica_text : ℕ → Bytes
-replica_text replica = codes "r" ++ decimal replica
-
-abbrev pub client_text : ℕ → Bytes
-client_text client = codes "c" ++ decimal client
 
 -- a party: replica i is i, client c is 256 + c
 abbrev pub party_text : ℕ → Bytes

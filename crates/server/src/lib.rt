@@ -2,7 +2,6 @@
 #![tactic(auto)]
 
 mod lines;
-mod report;
 mod schedule;
 mod sim_fault;
 mod simulation;

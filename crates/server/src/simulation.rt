@@ -3,11 +3,11 @@ ghost use Rattle.std.specs.IoError.{error_kind};
 ghost use Rattle.server.specs.Faults.{IsRightIn, read_fault_of};
 ghost use Rattle.server.specs.Simulations.{all_keys, IsTextOfRun, IsToldOf};
 
-use crate::report::text_of;
 use crate::schedule::{Schedule, parse};
 use crate::sim_fault::SimFault;
 use authenticators::Keyring;
 use ids::{ClientId, Config, Fault, ReplicaId};
+use run_report::text_of;
 use simulated_keys::keyring_of;
 use std::alloc::Global;
 use std::io::{self, ErrorKind, Read, Write};

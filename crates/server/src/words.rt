@@ -3,7 +3,8 @@
 ghost use Rattle.std.specs.Prelude.{◌≡◌, ◌^◌, decimal};
 ghost use Rattle.server.specs.declared.words.NotRead.TheVariants as not_read;
 ghost use Rattle.hex.specs.Hex.{encode_lower, IsBytes};
-ghost use Rattle.server.specs.Texts.{undecoded, IsReadOf, IsReading, IsBelow, replica_text, client_text, party_text};
+ghost use Rattle.server.specs.Texts.{undecoded, IsReadOf, IsReading, IsBelow, party_text};
+ghost use Rattle.run_report.specs.Names.{replica_text, client_text};
 
 use hex::FromHexError;
 use ids::{ClientId, PartyId, ReplicaId};

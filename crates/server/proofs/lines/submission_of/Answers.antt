@@ -1,7 +1,8 @@
 use Rattle.std.proofs.Common.{ap, ◌∙◌}
 use Rattle.std.proofs.lemmas.Result.{err_from_is_err_and}
 use Rattle.hex.specs.Hex.{encode_lower}
-use Rattle.server.specs.Texts.{spaced, client_text}
+use Rattle.server.specs.Texts.{spaced}
+use Rattle.run_report.specs.Names.{client_text}
 use Rattle.server.specs.Lines.{AreDigitsOfClient, digits_of_client}
 use Rattle.server.proofs.Digits.{some_bytes, some_digits}
 use Rattle.server.proofs.Readings.{unread, no_payload}

@@ -1,6 +1,6 @@
 use Rattle.std.proofs.Common.{◌≡◌, arith, ap, sym, length}
 use Rattle.std.proofs.lemmas.Bool.{eqb-true}
-use Rattle.server.specs.Texts.{client_text}
+use Rattle.run_report.specs.Names.{client_text}
 use Rattle.server.proofs.Fields.{parted_word, unparted_word}
 use Rattle.server.proofs.Parties.{client_word}
 use Rattle.server.proofs.lines.submitter_of.Goals as goal

@@ -1,6 +1,6 @@
 use Rattle.std.proofs.Common.{◌≡◌, ◌+◌, ◌++◌, drop}
-use Rattle.server.specs.Reports.{frames_text}
-use Rattle.server.proofs.report.tell_frames.Given as goal
+use Rattle.run_report.specs.Reports.{frames_text}
+use Rattle.run_report.proofs.report.tell_frames.Given as goal
 
 abbrev pub invariant-loop-sent : goal.invariant-loop-sent
 invariant-loop-sent l = record {

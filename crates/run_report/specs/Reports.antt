@@ -11,7 +11,7 @@ use Rattle.world_schedule.specs.Told.{Told}
 use Rattle.world_schedule.specs.declared.outcome.SentFrame.{SentFrame}
 use Rattle.world_schedule.specs.declared.outcome.Accepted.{Accepted}
 use Rattle.world_schedule.specs.declared.outcome.Outcome.{Outcome}
-use Rattle.server.specs.Texts.{replica_text, client_text}
+use Rattle.run_report.specs.Names.{replica_text, client_text}
 
 -- a text, and the LF that ends its line
 abbrev pub lf : Bytes

@@ -1,7 +1,7 @@
 -- What is told so far, with what is told of what is left, is what is told of the whole run.
 use Rattle.std.proofs.Common.{◌≡◌, ◌+◌, ◌++◌, length, drop}
-use Rattle.server.specs.Reports.{events_text}
-use Rattle.server.proofs.report.text_of.Given as goal
+use Rattle.run_report.specs.Reports.{events_text}
+use Rattle.run_report.proofs.report.text_of.Given as goal
 
 abbrev pub invariant-loop-before : goal.invariant-loop-before
 invariant-loop-before l = record {

@@ -1,8 +1,8 @@
 //! What is told of a run, line by line.
 
-ghost use Rattle.std.specs.Prelude.{◌≡◌, ◌+◌, ◌^◌, ◌<◌, ◌++◌, codes, length, OnOk, IfOk};
+ghost use Rattle.std.specs.Prelude.{◌≡◌, ◌+◌, ◌^◌, ◌<◌, ◌++◌, codes, length, OnOk, OnErr, IfOk};
 ghost use Rattle.std.specs.List.{flat_map};
-ghost use Rattle.server.specs.Reports.{answer_text, kind_text, destination_text, frame_text, frames_text, receipt_text, history_text, other_frame, sent_in, other_receipt, accepted_in, outcome_text};
+ghost use Rattle.run_report.specs.Reports.{answer_text, kind_text, destination_text, frame_text, frames_text, receipt_text, history_text, other_frame, sent_in, other_receipt, accepted_in, outcome_text};
 
 use appending::append;
 use ids::Fault;
@@ -13,7 +13,8 @@ use world_schedule::{Accepted, History, Outcome, SentFrame};
 
 /// The line of an event: `e1 ok`, or `e1 fault 10`.
 fn tell_answer(text: &mut Vec<u8>, event: u64, answer: Option<Fault>) -> Result<(), Fault>
-    ensures { OnOk result (text.new.items ≡ text.old.items ++ answer_text event answer) }
+    ensures told { OnOk result (text.new.items ≡ text.old.items ++ answer_text event answer) }
+    ensures memory { OnErr result (result ≡ Err Fault.Memory) }
 {
     let mut event_digits = Buffer::new();
     let event = event_digits.format(event).as_bytes();
@@ -62,7 +63,8 @@ fn destination(to: To, digits: &mut Buffer) -> (&'static str, &str)
 
 /// The line of a sent frame: `f0 Proposal 219 to all`.
 fn tell_frame(text: &mut Vec<u8>, number: u64, sent: &SentFrame) -> Result<(), Fault>
-    ensures { OnOk result (text.new.items ≡ text.old.items ++ frame_text number sent.now) }
+    ensures told { OnOk result (text.new.items ≡ text.old.items ++ frame_text number sent.now) }
+    ensures memory { OnErr result (result ≡ Err Fault.Memory) }
 {
     let mut number_digits = Buffer::new();
     let number = number_digits.format(number).as_bytes();
@@ -83,7 +85,8 @@ fn tell_frame(text: &mut Vec<u8>, number: u64, sent: &SentFrame) -> Result<(), F
 /// The lines of frames, of which the first has this number.
 fn tell_frames(text: &mut Vec<u8>, first: u64, frames: &[SentFrame]) -> Result<(), Fault>
     requires { first + length frames.now < 2 ^ 64 }
-    ensures { OnOk result (text.new.items ≡ text.old.items ++ frames_text first frames.now) }
+    ensures told { OnOk result (text.new.items ≡ text.old.items ++ frames_text first frames.now) }
+    ensures memory { OnErr result (result ≡ Err Fault.Memory) }
 {
     let mut number = first;
     for sent in frames {
@@ -95,7 +98,8 @@ fn tell_frames(text: &mut Vec<u8>, first: u64, frames: &[SentFrame]) -> Result<(
 
 /// The line of a receipt: `accepted c0 seq 1 place 1 53544f5245440d0a`.
 fn tell_receipt(alloc: Global, text: &mut Vec<u8>, accepted: &Accepted) -> Result<(), Fault>
-    ensures { OnOk result (text.new.items ≡ text.old.items ++ receipt_text accepted.now) }
+    ensures told { OnOk result (text.new.items ≡ text.old.items ++ receipt_text accepted.now) }
+    ensures memory { OnErr result (result ≡ Err Fault.Memory) }
 {
     let mut client_digits = Buffer::new();
     let client = client_digits.format(accepted.client.0).as_bytes();
@@ -124,7 +128,8 @@ fn tell_receipt(alloc: Global, text: &mut Vec<u8>, accepted: &Accepted) -> Resul
 
 /// The lines of receipts.
 fn tell_receipts(alloc: Global, text: &mut Vec<u8>, receipts: &[Accepted]) -> Result<(), Fault>
-    ensures { OnOk result (text.new.items ≡ text.old.items ++ flat_map receipt_text receipts.now) }
+    ensures told { OnOk result (text.new.items ≡ text.old.items ++ flat_map receipt_text receipts.now) }
+    ensures memory { OnErr result (result ≡ Err Fault.Memory) }
 {
     for accepted in receipts {
         tell_receipt(alloc, text, accepted)?;
@@ -134,7 +139,8 @@ fn tell_receipts(alloc: Global, text: &mut Vec<u8>, receipts: &[Accepted]) -> Re
 
 /// The line of a replica's history: `h0 1`.
 fn tell_history(text: &mut Vec<u8>, history: &History) -> Result<(), Fault>
-    ensures { OnOk result (text.new.items ≡ text.old.items ++ history_text history.now) }
+    ensures told { OnOk result (text.new.items ≡ text.old.items ++ history_text history.now) }
+    ensures memory { OnErr result (result ≡ Err Fault.Memory) }
 {
     let mut replica_digits = Buffer::new();
     let replica = replica_digits.format(history.replica().0).as_bytes();
@@ -147,7 +153,8 @@ fn tell_history(text: &mut Vec<u8>, history: &History) -> Result<(), Fault>
 
 /// The lines of histories.
 fn tell_histories(text: &mut Vec<u8>, histories: &[History]) -> Result<(), Fault>
-    ensures { OnOk result (text.new.items ≡ text.old.items ++ flat_map history_text histories.now) }
+    ensures told { OnOk result (text.new.items ≡ text.old.items ++ flat_map history_text histories.now) }
+    ensures memory { OnErr result (result ≡ Err Fault.Memory) }
 {
     for history in histories {
         tell_history(text, history)?;
@@ -183,9 +190,11 @@ fn accepted_in(receipts: &[Accepted], event: u64) -> usize
     other_receipt(receipts, event).unwrap_or(receipts.len())
 }
 
-/// What is told of a run: each event with what was sent and accepted in it, and then the histories.
-pub(crate) fn text_of(alloc: Global, outcome: &Outcome) -> Result<Vec<u8>, Fault>
-    ensures { IfOk result (λ text. text.items ≡ outcome_text outcome.now) }
+/// What is told of a run: each event with what was sent and accepted in it, and then the histories (docs/SCHEDULES.md
+/// has the lines).
+pub fn text_of(alloc: Global, outcome: &Outcome) -> Result<Vec<u8>, Fault>
+    ensures told { IfOk result (λ text. text.items ≡ outcome_text outcome.now) }
+    ensures memory { OnErr result (result ≡ Err Fault.Memory) }
 {
     let mut text = Vec::new(alloc);
     let mut frames = outcome.frames.as_slice();
