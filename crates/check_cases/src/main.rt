@@ -24,7 +24,6 @@ use authenticators::hmac;
 use ids::{Config, Fault, Kind, PartyId, ReplicaId};
 use simulated_keys::keyring_of;
 use std::alloc::Global;
-use std::io::{BufRead as _, BufReader, BufWriter, Write as _};
 
 /// Bytes in hexadecimal.
 pub(crate) fn bytes_of(alloc: Global, digits: &str) -> Result<Vec<u8>, Fault> {
@@ -117,10 +116,9 @@ fn tell(alloc: Global, input: &str) -> Result<String, Fault> {
 
 fn main(rt: HostRuntime) -> Result<()> {
     let alloc = rt.alloc();
-    let mut out = BufWriter::new(alloc, std::io::writer(&rt))?;
-    for line in BufReader::new(alloc, rt.reader())?.lines(alloc) {
-        writeln!(out, "{}", tell(alloc, line?.as_str())?)?;
+    for line in rt.lines(alloc) {
+        let line = line?;
+        println!(rt; "{}", tell(alloc, line.as_str())?)?;
     }
-    out.flush()?;
     Ok(())
 }

@@ -165,16 +165,26 @@ fn tell(alloc: Global, config: &Config, parts: &mut Parts, line: &str) -> Result
     }
 }
 
-fn main(rt: HostRuntime) -> Result<()> {
+/// The line for a line of the input.
+fn answer(alloc: Global, config: &Config, parts: &mut Parts, line: &str) -> Result<String, Fault> {
+    match tell(alloc, config, parts, line) {
+        Ok(told) => Ok(told),
+        Err(fault) => Ok(format!(in alloc; "refused {}", fault.number())?),
+    }
+}
+
+/// A line for each line of the input.
+fn answer_all(rt: &HostRuntime, config: &Config, parts: &mut Parts) -> Result<()> {
     let alloc = rt.alloc();
-    let config = Config::new(1, 8)?;
-    let mut parts = Parts::new(alloc)?;
     for line in rt.lines(alloc) {
         let line = line?;
-        match tell(alloc, &config, &mut parts, &line) {
-            Ok(told) => println!(rt; "{told}")?,
-            Err(fault) => println!(rt; "refused {}", fault.number())?,
-        }
+        println!(rt; "{}", answer(alloc, config, parts, &line)?)?;
     }
     Ok(())
+}
+
+fn main(rt: HostRuntime) -> Result<()> {
+    let config = Config::new(1, 8)?;
+    let mut parts = Parts::new(rt.alloc())?;
+    answer_all(&rt, &config, &mut parts)
 }

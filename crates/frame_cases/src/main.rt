@@ -24,7 +24,6 @@ use anyhow::{Result, bail};
 use frames_view::read;
 use ids::{Config, Fault};
 use std::alloc::Global;
-use std::io::{BufRead as _, BufReader, BufWriter, Write as _};
 
 /// What bytes are to a reader of frames, and to the writers.
 #[derive(Clone, Copy)]
@@ -120,10 +119,9 @@ fn tell(alloc: Global, input: &str) -> Result<String> {
 
 fn main(rt: HostRuntime) -> Result<()> {
     let alloc = rt.alloc();
-    let mut out = BufWriter::new(alloc, std::io::writer(&rt))?;
-    for line in BufReader::new(alloc, rt.reader())?.lines(alloc) {
-        writeln!(out, "{}", tell(alloc, line?.as_str())?)?;
+    for line in rt.lines(alloc) {
+        let line = line?;
+        println!(rt; "{}", tell(alloc, line.as_str())?)?;
     }
-    out.flush()?;
     Ok(())
 }

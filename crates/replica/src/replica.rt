@@ -171,10 +171,11 @@ impl Replica {
         ensures made { IfOk result (λ r. r ≡ record { keys = keyring; replica = record { chronicle = []; standing = running } }) }
         ensures memory { OnErr result (result ≡ Err Fault.Memory) }
     {
+        let executor = Executor::new(alloc)?;
         Ok(Replica {
             keyring,
             state: first_state(alloc, config),
-            executor: Executor::new(alloc)?,
+            executor,
             standing: Standing::Running,
         })
     }

@@ -1,6 +1,7 @@
 //! Votes.
 
-ghost use Rattle.std.specs.Prelude.{◌≡◌, IfOk, OnErr};
+ghost use Rattle.std.specs.Prelude.{◌≡◌, IfOk, OnErr, Some};
+ghost use Rattle.replica.specs.declared.change.Growth.TheVariants as growths;
 ghost use Rattle.definitions.specs.FrameLimits.{IsVote};
 ghost use Rattle.frames_view.specs.Fields.{frame_digest, frame_vote};
 ghost use Rattle.frames_view.specs.Views.{vote_of, vote_frame_of};
@@ -15,7 +16,7 @@ use crate::stored::{GotVote, StoredStep};
 use frames_view::{VoteFrameView, VoteView};
 use ids::{Digest, Fault};
 use replica_rules::BlockRef;
-use vote_collector::Added;
+use vote_collector::{Added, KeptVote};
 
 /// A vote that is stored, and changes nothing else.
 fn note(state: &State, block: BlockRef, vote: &VoteView) -> Result<Change, Fault>
@@ -29,6 +30,27 @@ fn note(state: &State, block: BlockRef, vote: &VoteView) -> Result<Change, Fault
     Ok(Change::noting(state, step, Out::none(state.alloc)))
 }
 
+/// The same, with a vote that is collected.
+fn collecting(noted: Change, block: BlockRef, vote: KeptVote) -> Change
+    ensures { result ≡ record noted { growth = growths.Vote block vote } }
+{
+    Change {
+        growth: Growth::Vote(block, vote),
+        ..noted
+    }
+}
+
+/// The same, with a certificate that becomes the highest.
+fn certifying(noted: Change, high: High) -> Change
+    ensures { result ≡ record noted { high = Some high; leaf = high.block } }
+{
+    Change {
+        leaf: high.block,
+        high: Some(high),
+        ..noted
+    }
+}
+
 /// A vote for a block that is higher than that of the highest certificate: each voter's first one is collected, and
 /// the one that completes a quorum makes the certificate.
 fn count(state: &State, block: BlockRef, vote: &VoteView) -> Result<Change, Fault>
@@ -37,20 +59,17 @@ fn count(state: &State, block: BlockRef, vote: &VoteView) -> Result<Change, Faul
         (judged (quorum state.now.votes.sizes) (vote_of vote.now).voter (votes_for block.digest state.now.votes.kept))) }
     ensures memory { OnErr result (result ≡ Err Fault.Memory) }
 {
-    let noted = note(state, block, vote)?;
     match state.votes.judge(&block.digest, vote.voter()) {
-        Added::Doubled => Ok(noted),
-        Added::First => Ok(Change {
-            growth: Growth::Vote(block, state.votes.keep(vote)?),
-            ..noted
-        }),
+        Added::Doubled => note(state, block, vote),
+        Added::First => {
+            let kept = state.votes.keep(vote)?;
+            let noted = note(state, block, vote)?;
+            Ok(collecting(noted, block, kept))
+        }
         Added::Complete => {
             let certificate = state.votes.completed(&block.digest, vote)?;
-            Ok(Change {
-                high: Some(High { block, certificate }),
-                leaf: block,
-                ..noted
-            })
+            let noted = note(state, block, vote)?;
+            Ok(certifying(noted, High { block, certificate }))
         }
     }
 }

@@ -16,7 +16,6 @@ use crate::told::session;
 use anyhow::{Result, bail};
 use ids::Config;
 use std::alloc::Global;
-use std::io::{BufRead as _, BufReader, BufWriter, Write as _};
 
 /// What is asked of a party.
 fn answer(alloc: Global, config: Config, party: u8, ask: &str, rest: &str) -> Result<String> {
@@ -41,10 +40,9 @@ fn tell(alloc: Global, input: &str) -> Result<String> {
 
 fn main(rt: HostRuntime) -> Result<()> {
     let alloc = rt.alloc();
-    let mut out = BufWriter::new(alloc, std::io::writer(&rt))?;
-    for line in BufReader::new(alloc, rt.reader())?.lines(alloc) {
-        writeln!(out, "{}", tell(alloc, line?.as_str())?)?;
+    for line in rt.lines(alloc) {
+        let line = line?;
+        println!(rt; "{}", tell(alloc, line.as_str())?)?;
     }
-    out.flush()?;
     Ok(())
 }

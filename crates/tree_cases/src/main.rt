@@ -29,7 +29,6 @@ use crate::printed::printed;
 use anyhow::Result;
 use ids::Fault;
 use std::alloc::Global;
-use std::io::{BufRead as _, BufReader, BufWriter, Write as _};
 
 /// The line for a line of the input.
 fn tell(alloc: Global, blocks: &mut Blocks, input: &str) -> Result<String, Fault> {
@@ -44,13 +43,17 @@ fn tell(alloc: Global, blocks: &mut Blocks, input: &str) -> Result<String, Fault
     }
 }
 
-fn main(rt: HostRuntime) -> Result<()> {
+/// A line for each line of the input.
+fn tell_all(rt: &HostRuntime, blocks: &mut Blocks) -> Result<()> {
     let alloc = rt.alloc();
-    let mut blocks = tree_of(alloc, 1)?;
-    let mut out = BufWriter::new(alloc, std::io::writer(&rt))?;
-    for line in BufReader::new(alloc, rt.reader())?.lines(alloc) {
-        writeln!(out, "{}", tell(alloc, &mut blocks, line?.as_str())?)?;
+    for line in rt.lines(alloc) {
+        let line = line?;
+        println!(rt; "{}", tell(alloc, blocks, line.as_str())?)?;
     }
-    out.flush()?;
     Ok(())
+}
+
+fn main(rt: HostRuntime) -> Result<()> {
+    let mut blocks = tree_of(rt.alloc(), 1)?;
+    tell_all(&rt, &mut blocks)
 }

@@ -10,8 +10,8 @@ pub invariant_of-result : goal.invariant_of-result
 invariant_of-result c =
     let is = c.first_state.ensures c.args.keyring (sym c.requires.sizes) in
     let empty : c.first_state.result.variables.chronicle ≡ [] = ap (λ (v : Variables). v.chronicle) is.same in (
-      subst (λ (x : Chronicle). IsWholeOf c.args.keyring (record { chronicle = x; standing = running }) c.first_state.result c.in_ok-new.field-0) (sym empty)
-          (first-whole c.args.keyring c.first_state.result c.in_ok-new.field-0 is c.in_ok-new.ensures.made),
+      subst (λ (x : Chronicle). IsWholeOf c.args.keyring (record { chronicle = x; standing = running }) c.first_state.result c.in_ok-executor.executor) (sym empty)
+          (first-whole c.args.keyring c.first_state.result c.in_ok-executor.executor is c.in_ok-executor.ensures.made),
       rw (← c.requires.number, ← c.requires.sizes) c.requires.replica,
     )
 
