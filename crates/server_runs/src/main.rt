@@ -12,9 +12,9 @@ use std::net::{Net, SocketAddr, TcpListener, TcpStream};
 use std::thread::join;
 
 /// How many connections each deployment serves.
-const CONNECTIONS: u64 = 4;
+const CONNECTIONS: u64 = 6;
 
-/// Sends these words, and gives what comes back, as long as a piece.
+/// Sends these words, and gives what comes back, to the end or as long as a piece.
 fn ask(alloc: Global, stream: &TcpStream, words: &str) -> Result<String> {
     (&mut &*stream).write_all(words.as_bytes())?;
     let mut piece = [0; 256];
@@ -22,22 +22,46 @@ fn ask(alloc: Global, stream: &TcpStream, words: &str) -> Result<String> {
     Ok(String::from_utf8_lossy(alloc, &piece[..count])?)
 }
 
-/// What the clients of a deployment read, one connection after the other.
+/// What is read until the server ends the connection, and so has its seat back.
+fn ask_to_the_end(alloc: Global, stream: &TcpStream, words: &str) -> Result<String> {
+    (&mut &*stream).write_all(words.as_bytes())?;
+    let mut all = Vec::new(alloc);
+    (&mut &*stream).read_to_end(&mut all)?;
+    Ok(String::from_utf8_lossy(alloc, &all)?)
+}
+
+/// What two clients read, of whom the second comes while the first has the only seat.
+fn two_at_once<R: Net<Stream = TcpStream> + AllocGlobal>(
+    rt: &R,
+    at: SocketAddr,
+    read: &mut Vec<String>,
+) -> Result<()> {
+    let alloc = rt.alloc();
+    let first = TcpStream::connect(rt, at)?;
+    read.push(ask(alloc, &first, "get a\r\n")?)?;
+    let second = TcpStream::connect(rt, at)?;
+    read.push(ask_to_the_end(alloc, &second, "get b\r\n")?)?;
+    read.push(ask_to_the_end(alloc, &first, "quit\r\n")?)?;
+    Ok(())
+}
+
+/// What the clients of a deployment read: four one after the other, and then two at once.
 fn clients<R: Net<Stream = TcpStream> + AllocGlobal>(
     rt: &R,
     at: SocketAddr,
 ) -> Result<Vec<String>> {
     let asked = [
-        "set a 0 0 1\r\nx\r\n",
-        "get a\r\n",
+        "set a 0 0 1\r\nx\r\nquit\r\n",
+        "get a\r\nquit\r\n",
         "set b 0 0 1 noreply\r\ny\r\nget b\r\nquit\r\n",
-        "get c\r\n",
+        "get c\r\nquit\r\n",
     ];
     let mut read = Vec::new(rt.alloc());
     for words in asked {
         let stream = TcpStream::connect(rt, at)?;
-        read.push(ask(rt.alloc(), &stream, words)?)?;
+        read.push(ask_to_the_end(rt.alloc(), &stream, words)?)?;
     }
+    two_at_once(rt, at, &mut read)?;
     Ok(read)
 }
 
@@ -52,23 +76,21 @@ fn write_line(alloc: Global, text: &mut String, one: u16, other: u16) -> Result<
     Ok(())
 }
 
-/// A key file for four replicas and two clients, which anyone can compute.
+/// A key file for four replicas and one client, which anyone can compute.
 fn keys(alloc: Global) -> Result<String> {
     let mut text = String::new(alloc);
     for one in 0..4u16 {
         for other in one..4 {
             write_line(alloc, &mut text, one, other)?;
         }
-        for client in 0..2u16 {
-            write_line(alloc, &mut text, one, 256 + client)?;
-        }
+        write_line(alloc, &mut text, one, 256)?;
     }
     Ok(text)
 }
 
 fn main(rt: HostRuntime) -> Result<()> {
     let text = keys(rt.alloc())?;
-    let keys = PairKeys::read(rt.alloc(), Config::new(1, 2)?, text.as_bytes())?;
+    let keys = PairKeys::read(rt.alloc(), Config::new(1, 1)?, text.as_bytes())?;
     for liar in [
         None,
         Some(Liar::Mute),
