@@ -13,6 +13,8 @@ CONNECTIONS = [int(word) for word in sys.argv[4:]] or [1, 8, 64]
 TURNS = int(os.environ.get("TURNS", "3"))
 SECONDS = os.environ.get("SECONDS_EACH", "5") + "s"
 CLIENTS = 64
+# commands of one measurement in a long run
+MEASURED = 40_000
 
 
 def load(kind, place, connections, length, gets):
@@ -86,21 +88,28 @@ def compare(servers):
             print(f"{line} {wrong:5.0f}", flush=True)
 
 
-def long_run():
-    """Throughput and memory after 20,000 and after 200,000 commands."""
+def rates_of_a_long_run():
+    """Commands a second after 20,000 and after 200,000 commands, and bytes of resident memory a command between them."""
     server = mcbft()
     try:
-        done, rates, sizes = 0, [], []
-        for mark in (20_000, 200_000):
-            load(server.kind, server.place, CLIENTS, mark - done, 3)
-            sizes.append(server.resident())
-            rate, _, _, count, _ = load(server.kind, server.place, CLIENTS, 20_000, 3)
-            rates.append(rate)
-            done = mark + int(count)
-        print(f"after 20,000 commands {rates[0]:.0f} a second, after 200,000 {rates[1]:.0f}: {rates[1] / rates[0]:.2f}")
-        print(f"{(sizes[1] - sizes[0]) / 180_000:.0f} bytes of resident memory a command")
+        load(server.kind, server.place, CLIENTS, 20_000, 3)
+        early = server.resident()
+        first, _, _, count, _ = load(server.kind, server.place, CLIENTS, MEASURED, 3)
+        load(server.kind, server.place, CLIENTS, 180_000 - int(count), 3)
+        late = server.resident()
+        last = load(server.kind, server.place, CLIENTS, MEASURED, 3)[0]
+        return first, last, (late - early) / 180_000
     finally:
         server.stop()
+
+
+def long_run():
+    """Throughput and memory after 20,000 and after 200,000 commands, each turn with a fresh server."""
+    turns = [rates_of_a_long_run() for _ in range(TURNS)]
+    for first, last, memory in turns:
+        print(f"after 20,000 commands {first:.0f} a second, after 200,000 {last:.0f}: {last / first:.2f}; "
+              f"{memory:.0f} bytes of resident memory a command")
+    print(f"median {statistics.median(last / first for first, last, _ in turns):.2f}")
 
 
 def main():
