@@ -40,7 +40,7 @@ fn two_at_once<R: Net<Stream = TcpStream> + AllocGlobal>(
     let first = TcpStream::connect(rt, at)?;
     read.push(ask(alloc, &first, "get a\r\n")?)?;
     let second = TcpStream::connect(rt, at)?;
-    read.push(ask_to_the_end(alloc, &second, "get b\r\n")?)?;
+    read.push(ask_to_the_end(alloc, &second, "")?)?;
     read.push(ask_to_the_end(alloc, &first, "quit\r\n")?)?;
     Ok(())
 }
