@@ -1,4 +1,4 @@
-//! The limits of the whole project, each said once: code and definitions cite them from here.
+//! The limits that definitions or several crates know, each said once. Those of a deployment's sizes are `Config`'s.
 
 /// The most replicas that there are: the length of each fixed row over replicas.
 pub const MOST_REPLICAS: usize = 13;

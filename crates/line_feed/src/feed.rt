@@ -20,7 +20,7 @@ pub struct Feed {
 }
 
 impl Model for Feed {
-    ghost use Rattle.ids.specs.declared.limits.TheConstants.{MOST_HELD, MOST_HELD};
+    ghost use Rattle.ids.specs.declared.limits.TheConstants.{MOST_HELD};
     ghost use Rattle.std.specs.Prelude.{ℕ, List, ◌≤◌, drop, length, vec_len, vec_capacity};
 
     ghost Value = { List ℕ };
