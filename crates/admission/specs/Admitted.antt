@@ -9,9 +9,11 @@ use Rattle.definitions.specs.Frames.{Frame}
 use Rattle.definitions.specs.FrameLimits.{IsReadAs}
 use Rattle.definitions.specs.Checks.{identity_of}
 use Rattle.definitions.specs.Admission.{Checked, passes, rejected, check}
-use Rattle.frames_view.specs.Places.{IsProposalAt, IsBlockAt, IsVoteFrameAt, IsNewViewAt, IsCommandAt, IsFetchAt}
+use Rattle.frames_view.specs.Places.{IsProposalAt, IsBlockAt, IsVoteFrameAt, IsNewViewAt, IsCommandAt}
+use Rattle.frames_view.specs.Places.{IsFetchAt}
 use Rattle.replica.specs.declared.input.Input.{Input}
-use Rattle.replica.specs.declared.input.Input.TheVariants.{Proposal, Block, Vote as AVote, NewView, Request, Fetch, Timeout, Beat}
+use Rattle.replica.specs.declared.input.Input.TheVariants.{Proposal, Block, Vote as AVote, NewView, Request}
+use Rattle.replica.specs.declared.input.Input.TheVariants.{Fetch, Timeout, Beat}
 use Rattle.replica.specs.Inputs.{input_of, is_addressed}
 
 -- each part of the frame that it lends lies in the bytes, at the place where the grammar has it
@@ -42,7 +44,8 @@ abbrev pub AnswersRead : Keys → Bor Bytes → Result Input Fault → Option Fr
 AnswersRead keys bytes result None = result ≡ Err fault.NotAFrame
 AnswersRead keys bytes result (Some f) = Answers keys bytes (check (identity_of keys) f) result
 
--- Bytes that spell no frame are refused with `NotAFrame`; else the one frame that they spell is checked, and what the
--- checks come to is the answer.
+-- Bytes that spell no frame are refused with `NotAFrame`; else the one frame that they spell is checked,
+-- and what the checks come to is the answer.
 abbrev pub Admits : Keys → Bor Bytes → Result Input Fault → Type 0
-Admits keys bytes result = (frame : Option Frame) × IsReadAs keys.sizes bytes.now frame × AnswersRead keys bytes result frame
+Admits keys bytes result =
+    (frame : Option Frame) × IsReadAs keys.sizes bytes.now frame × AnswersRead keys bytes result frame

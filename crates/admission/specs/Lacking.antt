@@ -5,8 +5,8 @@ use Rattle.definitions.specs.Bytes.{Bytes}
 use Rattle.definitions.specs.Frames.{Frame, request, proposal, vote, new_view, reply, fetch, block}
 use Rattle.definitions.specs.FrameLimits.{IsReadAs}
 
--- the sender of a frame, and the block without which a replica can't take it: the parent of the frame's block, or the
--- block that is voted for or certified
+-- the sender of a frame, and the block without which a replica can't take it: the parent of the frame's
+-- block, or the block that is voted for or certified
 abbrev pub lacked : Sizes → Frame → Option (ℕ × Bytes)
 lacked sizes (proposal view core q vector) = Some (leader sizes view, core.parent)
 lacked sizes (block sender core q tag) = Some (sender, core.parent)
@@ -23,4 +23,5 @@ lacked_by sizes (Some f) = lacked sizes f
 
 -- it is what the bytes lack, as they are read
 abbrev pub IsLackedBy : Sizes → Bytes → Option (ℕ × Bytes) → Type 0
-IsLackedBy sizes bytes lack = (frame : Option Frame) × IsReadAs sizes bytes frame × (lack ≡ lacked_by sizes frame)
+IsLackedBy sizes bytes lack =
+    (frame : Option Frame) × IsReadAs sizes bytes frame × (lack ≡ lacked_by sizes frame)

@@ -29,7 +29,8 @@ fn check<'a>(
     requires replica { keyring.now.party < replicas config.now }
     requires fits { IsFrame config.now (frame_of frame) }
     requires lent { IsFrameAt _bytes 1 frame }
-    ensures { Answers keyring.now _bytes.entry (checks (identity_of keyring.now) (frame_of frame.entry)) result }
+    ensures { Answers keyring.now _bytes.entry (checks (identity_of keyring.now) (frame_of frame.entry))
+        result }
 {
     match frame {
         Frame::Reply(_) => Err(Fault::NotMine),

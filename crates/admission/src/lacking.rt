@@ -25,8 +25,8 @@ fn lack(config: &Config, frame: &Frame<'_>) -> Option<(ReplicaId, Digest)>
     Some((sender, Digest(*block)))
 }
 
-/// The sender of a frame, and the block that a replica needs to take it: the parent of the frame's block, or the block
-/// that is voted for or certified.
+/// The sender of a frame, and the block that a replica needs to take it: the parent of the frame's
+/// block, or the block that is voted for or certified.
 ///
 /// After `UnknownParent` the receiver asks this sender for this block.
 pub fn missing(config: &Config, bytes: &[u8]) -> Option<(ReplicaId, Digest)>

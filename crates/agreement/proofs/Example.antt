@@ -1,11 +1,13 @@
 -- Three of four replicas take and vote for four blocks, each on the one before, and decide the first.
-use Rattle.std.proofs.Common.{ℕ, zero, suc, ◌≡◌, ◌<◌, ◌≤◌, ◌⊎◌, Bool, true, List, [], ◌∷◌, length, refl, sym, ap, subst, ◌∙◌, arith, inl, inr, nat_lt, ltb-true}
+use Rattle.std.proofs.Common.{ℕ, zero, suc, ◌≡◌, ◌<◌, ◌≤◌, ◌⊎◌, Bool, true, List, [], ◌∷◌, length, refl}
+use Rattle.std.proofs.Common.{sym, ap, subst, ◌∙◌, arith, inl, inr, nat_lt, ltb-true}
 use Rattle.definitions.specs.Digests.{core_of}
 use Rattle.std.specs.List.{AllByRecursion}
 use Rattle.definitions.specs.Lists.{beginning, Among, AreDistinct, greatest, count_below}
 use Rattle.definitions.specs.Branches.{Branch, justify_height, just1, just2, just3, Extends, highest}
 use Rattle.ids.specs.Sizes.{Sizes, replicas, quorum}
-use Rattle.definitions.specs.Chronicles.{Admitted, Step, Step.took_block, Chronicle, voted, taken, tree, vheight, lock, decides, decided_by, decided, IsLawful, stored}
+use Rattle.definitions.specs.Chronicles.{Admitted, Step, Step.took_block, Chronicle, voted, taken, tree}
+use Rattle.definitions.specs.Chronicles.{vheight, lock, decides, decided_by, decided, IsLawful, stored}
 use Rattle.definitions.specs.Agreement.{Order, steps_of, IsOrdered}
 use Rattle.definitions.proofs.Lists.{beginning-append}
 use Rattle.definitions.proofs.Branches.{extends-cases, length-extends}
@@ -26,7 +28,15 @@ abbrev on : Branch → Branch
 on parent = record { commands = []; justify = length parent } ∷ parent
 
 abbrev took : Branch → List ℕ → Admitted
-took b voters = record { branch = b; core = core_of b; certificate = record { digest = []; votes = [] }; counted = voters; clear = true; new = true; voted = true }
+took b voters = record {
+  branch = b;
+  core = core_of b;
+  certificate = record { digest = []; votes = [] };
+  counted = voters;
+  clear = true;
+  new = true;
+  voted = true;
+}
 
 abbrev does : Branch → List ℕ → Step
 does b voters = took_block (took b voters)
@@ -36,11 +46,13 @@ unfolding just1 justify_height
 just1-on parent = beginning-append (record { commands = []; justify = length parent } ∷ []) parent
 
 -- of what such a block extends, only itself is higher than what it justifies
-only-itself : (parent x : Branch) → Extends (on parent) x → length (just1 (on parent)) < length x → on parent ≡ x
+only-itself : (parent x : Branch) → Extends (on parent) x → length (just1 (on parent)) < length x
+    → on parent ≡ x
 only-itself parent x e h =
     elim (extends-cases _ parent x e) [
       | inl i ↦ sym i
-      | inr k ↦ absurd (omega (arith, h, length-extends parent x k, ap (λ (z : Branch). length z) (just1-on parent)))
+      | inr k ↦ absurd (omega
+          (arith, h, length-extends parent x k, ap (λ (z : Branch). length z) (just1-on parent)))
     ]
 
 -- what is lower does not stand among
@@ -55,9 +67,12 @@ record MayDo (parent : Branch) (voters : List ℕ) (c : Chronicle) : Type 0 wher
   safe : Extends (on parent) (lock c)
   lower : AllByRecursion (λ x. length x < suc (length parent)) (tree c)
   stands : Among parent (tree c)
-  certified : (AreDistinct voters × AllByRecursion (λ v. v < replicas sizes) voters × (quorum sizes ≤ length voters)) ⊎ (parent ≡ [])
+  certified :
+      (AreDistinct voters × AllByRecursion (λ v. v < replicas sizes) voters
+      × (quorum sizes ≤ length voters)) ⊎ (parent ≡ [])
 
-does-lawful : (parent : Branch) (voters : List ℕ) (c : Chronicle) → MayDo parent voters c → IsLawful sizes c → IsLawful sizes (does (on parent) voters ∷ c)
+does-lawful : (parent : Branch) (voters : List ℕ) (c : Chronicle) → MayDo parent voters c → IsLawful sizes c
+    → IsLawful sizes (does (on parent) voters ∷ c)
 unfolding tree stored taken
 does-lawful parent voters c h l = (
   (
@@ -99,29 +114,57 @@ history4 = does (on block3) three ∷ history3
 
 three-quorum : AreDistinct three × AllByRecursion (λ v. v < 4) three × (3 ≤ length three)
 three-quorum = (
-  (λ m. elim m [ inl e ↦ absurd (omega (arith, e)) | inr k ↦ elim k [ inl e ↦ absurd (omega (arith, e)) | inr n ↦ n ] ], (λ m. elim m [ inl e ↦ absurd (omega (arith, e)) | inr n ↦ n ], (λ n. n, tt))),
+  (
+    λ m. elim m [
+      | inl e ↦ absurd (omega (arith, e))
+      | inr k ↦ elim k [ inl e ↦ absurd (omega (arith, e)) | inr n ↦ n ]
+    ],
+    (λ m. elim m [ inl e ↦ absurd (omega (arith, e)) | inr n ↦ n ], (λ n. n, tt)),
+  ),
   (omega arith, (omega arith, (omega arith, tt))),
   omega arith,
 )
 
 lawful1 : IsLawful sizes history1
 unfolding vheight voted greatest lock taken highest tree stored
-lawful1 = does-lawful [] [] [] (record { higher = omega arith; safe = (block1, refl); lower = (omega arith, tt); stands = inl refl; certified = inr refl }) tt
+lawful1 = does-lawful [] [] [] (record {
+  higher = omega arith;
+  safe = (block1, refl);
+  lower = (omega arith, tt);
+  stands = inl refl;
+  certified = inr refl;
+}) tt
 
 lawful2 : IsLawful sizes history2
 unfolding vheight voted greatest lock taken highest tree stored just2 just1 justify_height beginning
-lawful2 = does-lawful block1 three history1 (record { higher = omega arith; safe = (block2, refl); lower = (omega arith, (omega arith, tt)); stands = inl refl; certified = inl three-quorum }) lawful1
+lawful2 = does-lawful block1 three history1 (record {
+  higher = omega arith;
+  safe = (block2, refl);
+  lower = (omega arith, (omega arith, tt));
+  stands = inl refl;
+  certified = inl three-quorum;
+}) lawful1
 
 lawful3 : IsLawful sizes history3
 unfolding vheight voted greatest lock taken highest tree stored just2 just1 justify_height beginning
-lawful3 = does-lawful block2 three history2 (record { higher = omega arith; safe = (block3, refl); lower = (omega arith, (omega arith, (omega arith, tt))); stands = inl refl; certified = inl three-quorum }) lawful2
+lawful3 = does-lawful block2 three history2 (record {
+  higher = omega arith;
+  safe = (block3, refl);
+  lower = (omega arith, (omega arith, (omega arith, tt)));
+  stands = inl refl;
+  certified = inl three-quorum;
+}) lawful2
 
 -- the lock is block1 by now
 lawful4 : IsLawful sizes history4
 unfolding vheight voted greatest lock taken highest tree stored just2 just1 justify_height beginning
 lawful4 = does-lawful block3 three history3 (record {
   higher = omega arith;
-  safe = (record { commands = []; justify = 3 } ∷ record { commands = []; justify = 2 } ∷ record { commands = []; justify = 1 } ∷ [], refl);
+  safe = (
+    record { commands = []; justify = 3 } ∷ record { commands = []; justify = 2 }
+        ∷ record { commands = []; justify = 1 } ∷ [],
+    refl,
+  );
   lower = (omega arith, (omega arith, (omega arith, (omega arith, tt))));
   stands = inl refl;
   certified = inl three-quorum;
@@ -132,9 +175,12 @@ abbrev round : Step → Order → Order
 round st o = (2, st) ∷ (1, st) ∷ (0, st) ∷ o
 
 -- where each voter that a step counts voted before, the members may make it in a round
-round-ordered : (a : Admitted) (o : Order) → ((v : ℕ) → Among v a.counted → Among (just1 a.branch) (voted (steps_of v o))) → IsOrdered is_member o → IsOrdered is_member (round (took_block a) o)
+round-ordered : (a : Admitted) (o : Order)
+    → ((v : ℕ) → Among v a.counted → Among (just1 a.branch) (voted (steps_of v o))) → IsOrdered is_member o
+    → IsOrdered is_member (round (took_block a) o)
 round-ordered a o votes h = (
-  λ n v k m. order-grows 1 (took_block a) ((0, took_block a) ∷ o) v (just1 a.branch) (order-grows 0 (took_block a) o v (just1 a.branch) (votes v k)),
+  λ n v k m. order-grows 1 (took_block a) ((0, took_block a) ∷ o) v (just1 a.branch)
+      (order-grows 0 (took_block a) o v (just1 a.branch) (votes v k)),
   (λ n v k m. order-grows 0 (took_block a) o v (just1 a.branch) (votes v k), (λ n v k m. votes v k, h)),
 )
 
@@ -162,9 +208,12 @@ voted-on b o v = Among (just1 (on b)) (voted (steps_of v o))
 order4-ordered : IsOrdered is_member order4
 unfolding steps_of voted just1 justify_height beginning
 order4-ordered =
-    round-ordered (took (on block3) three) order3 (each-three (voted-on block3 order3) (inl refl) (inl refl) (inl refl))
-    (round-ordered (took block3 three) order2 (each-three (voted-on block2 order2) (inl refl) (inl refl) (inl refl))
-    (round-ordered (took block2 three) order1 (each-three (voted-on block1 order1) (inl refl) (inl refl) (inl refl))
+    round-ordered (took (on block3) three) order3
+    (each-three (voted-on block3 order3) (inl refl) (inl refl) (inl refl))
+    (round-ordered (took block3 three) order2
+    (each-three (voted-on block2 order2) (inl refl) (inl refl) (inl refl))
+    (round-ordered (took block2 three) order1
+    (each-three (voted-on block1 order1) (inl refl) (inl refl) (inl refl))
     (round-ordered (took block1 []) [] (λ v k. absurd k) tt)))
 
 whole : (i : ℕ) → is_member i ≡ true → steps_of i order4 ≡ history4
@@ -179,7 +228,11 @@ pub some-decision : SomeDecision
 unfolding count_below decided decided_by decides taken just3 just2 just1 justify_height beginning
 some-decision = record {
   fam = record { sizes = sizes; is_member = is_member; chronicle = λ i. history4 };
-  lawful = record { enough = omega arith; lawful = λ i m. lawful4; orderly = record { order = order4; whole = whole; ordered = order4-ordered } };
+  lawful = record {
+    enough = omega arith;
+    lawful = λ i m. lawful4;
+    orderly = record { order = order4; whole = whole; ordered = order4-ordered };
+  };
   four = refl;
   outsider = 3;
   is_replica = omega arith;

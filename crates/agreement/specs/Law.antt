@@ -12,15 +12,20 @@ IsDecided fam b = (i : ℕ) × (fam.is_member i ≡ true) × Among b (decided (f
 
 -- of two decided branches one extends the other
 abbrev pub OneExtends : Type 0
-OneExtends = (fam : Family) (a b : Branch) → IsLawfulFamily fam → IsDecided fam a → IsDecided fam b → Extends a b ⊎ Extends b a
+OneExtends =
+    (fam : Family) (a b : Branch) → IsLawfulFamily fam → IsDecided fam a → IsDecided fam b
+    → Extends a b ⊎ Extends b a
 
 -- no two decided branches conflict
 abbrev pub NoConflict : Type 0
-NoConflict = (fam : Family) (a b : Branch) → IsLawfulFamily fam → IsDecided fam a → IsDecided fam b → Conflict a b → ⊥
+NoConflict =
+    (fam : Family) (a b : Branch) → IsLawfulFamily fam → IsDecided fam a → IsDecided fam b → Conflict a b → ⊥
 
 -- a certified branch that is no lower than a decided one extends it
 abbrev pub CertifiedExtends : Type 0
-CertifiedExtends = (fam : Family) (x b : Branch) → IsLawfulFamily fam → IsCertified fam x → IsDecided fam b → length b ≤ length x → Extends x b
+CertifiedExtends =
+    (fam : Family) (x b : Branch) → IsLawfulFamily fam → IsCertified fam x → IsDecided fam b
+    → length b ≤ length x → Extends x b
 
 -- a family of four replicas, one of them no member, in which a branch above genesis is decided
 pub record SomeDecision : Type 0 where

@@ -1,6 +1,6 @@
-//! Agreement: no two decided blocks conflict (HotStuff, PODC 2019, theorem on safety, in this project's own
-//! form). The laws speak of the definitions alone; no code runs here. Each stands as the contract of a function
-//! with an empty body.
+//! Agreement: no two decided blocks conflict (HotStuff, PODC 2019, theorem on safety, in this
+//! project's own form). The laws speak of the definitions alone; no code runs here. Each stands as
+//! the contract of a function with an empty body.
 #![tactic(auto)]
 
 ghost use Rattle.agreement.specs.Law.{OneExtends, NoConflict, CertifiedExtends, SomeDecision};

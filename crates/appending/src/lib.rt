@@ -1,7 +1,7 @@
 //! Appending several parts to bytes, all of them or none.
 //!
-//! Whoever writes a text or a frame into a caller's `Vec` takes the room for the whole of it once, before the first
-//! byte is written: so nothing is left half written where memory is refused.
+//! Whoever writes a text or a frame into a caller's `Vec` takes the room for the whole of it once,
+//! before the first byte is written: so nothing is left half written where memory is refused.
 #![tactic(auto)]
 
 ghost use Rattle.std.specs.Prelude.{◌≡◌, ◌+◌, ◌≤◌, ◌++◌, length, vec_len, vec_capacity};

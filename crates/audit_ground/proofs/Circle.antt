@@ -1,17 +1,24 @@
 -- Votes that stand only behind one another, in a circle: three replicas, with fronts of 1, 2 and 3 steps.
-use Rattle.std.proofs.Common.{ℕ, zero, suc, ◌≡◌, true, false, List, [], ◌∷◌, length, refl, sym, ap, ◌∙◌, arith, inl, inr, true≢false}
+use Rattle.std.proofs.Common.{ℕ, zero, suc, ◌≡◌, true, false, List, [], ◌∷◌, length, refl, sym, ap, ◌∙◌}
+use Rattle.std.proofs.Common.{arith, inl, inr, true≢false}
 use Rattle.sha2.specs.Sha256.{sha256, digest_bytes, hash_after, compress, rounds, schedule, first_words}
 use Rattle.std.specs.List.{list_any}
 use Rattle.definitions.specs.Lists.{beginning, greatest}
 use Rattle.definitions.specs.Frames.{Command}
-use Rattle.definitions.specs.Branches.{Branch, just1, just2, justify_height, highest, extends, branch_eq, block_eq, command_eq}
+use Rattle.definitions.specs.Branches.{Branch, just1, just2, justify_height, highest, extends, branch_eq}
+use Rattle.definitions.specs.Branches.{block_eq, command_eq}
 use Rattle.definitions.specs.Digests.{digest, digest_of, core_of, core_over}
 use Rattle.definitions.specs.Chronicles.{Step.took_block, voted, taken, tree, vheight, lock, stored}
 use Rattle.definitions.specs.Trees.{is_clear, clear_above}
-use Rattle.definitions.specs.Audit.{Turns, steps_in, Judged, is_judged, chronicle_of, gives_vote, counted_by, counted_for, step_after, has_vote, is_backed, may_move, AreAllowed, AreFronts, IsUnbacked}
+use Rattle.definitions.specs.Audit.{Turns, steps_in, Judged, is_judged, chronicle_of, gives_vote}
+use Rattle.definitions.specs.Audit.{counted_by, counted_for, step_after, has_vote, is_backed, may_move}
+use Rattle.definitions.specs.Audit.{AreAllowed, AreFronts, IsUnbacked}
 use Rattle.audit_ground.specs.Law.{SomeCircle}
 use Rattle.audit_ground.proofs.Fronts.{fronts-from_turns, fronts-one}
-use Rattle.audit_ground.proofs.Examples.{sizes, command, admitted, Taking, judged_of, none-else, may_move-no_steps, IsQuorum, AreKept, may_take, votes_well, lives_well, life-kept, member-kept, can-be_judged, AreDistinct-from}
+use Rattle.audit_ground.proofs.Examples.{sizes, command, admitted, Taking, judged_of, none-else}
+use Rattle.audit_ground.proofs.Examples.{may_move-no_steps, IsQuorum, AreKept, may_take, votes_well}
+use Rattle.audit_ground.proofs.Examples.{lives_well, life-kept, member-kept, can-be_judged}
+use Rattle.audit_ground.proofs.Examples.{AreDistinct-from}
 
 -- a block on a branch
 abbrev over : Branch → ℕ → List Command → Branch
@@ -71,17 +78,24 @@ turns = 3 ∷ 3 ∷ 3 ∷ 2 ∷ 2 ∷ 1 ∷ []
 
 -- each turn was allowed
 turns-allowed : AreAllowed (may_move judged) turns
-unfolding may_move is_backed has_vote step_after chronicle_of is_judged steps_in counted_by counted_for gives_vote beginning digest digest_of core_of core_over just1 justify_height sha256 digest_bytes hash_after compress rounds schedule first_words
+unfolding may_move is_backed has_vote step_after chronicle_of is_judged steps_in counted_by counted_for
+    gives_vote beginning digest digest_of core_of core_over just1 justify_height sha256 digest_bytes
+    hash_after compress rounds schedule first_words
 turns-allowed = (refl, (refl, (refl, (refl, (refl, (refl, tt))))))
 
 -- after them none may move any more
 stuck : (u : ℕ) → may_move judged (steps_in turns) u ≡ false
-unfolding may_move is_backed has_vote step_after chronicle_of is_judged steps_in counted_by counted_for gives_vote beginning digest digest_of core_of core_over just1 justify_height sha256 digest_bytes hash_after compress rounds schedule first_words
+unfolding may_move is_backed has_vote step_after chronicle_of is_judged steps_in counted_by counted_for
+    gives_vote beginning digest digest_of core_of core_over just1 justify_height sha256 digest_bytes
+    hash_after compress rounds schedule first_words
 stuck zero = refl
 stuck (suc zero) = refl
 stuck (suc (suc zero)) = refl
 stuck (suc (suc (suc zero))) = refl
-stuck (suc (suc (suc (suc u)))) = may_move-no_steps judged (steps_in turns) (suc (suc (suc (suc u)))) (none-else judged 3 (omega arith, (omega arith, (omega arith, tt))) (suc (suc (suc (suc u)))) (omega arith))
+stuck (suc (suc (suc (suc u)))) =
+    may_move-no_steps judged (steps_in turns) (suc (suc (suc (suc u))))
+    (none-else judged 3 (omega arith, (omega arith, (omega arith, tt))) (suc (suc (suc (suc u))))
+    (omega arith))
 
 -- so they lead to the fronts
 fronts : AreFronts judged (steps_in turns)
@@ -94,57 +108,92 @@ front-lengths = (refl, refl, refl)
 
 -- both votes were given
 first-given : has_vote judged (λ i. length (chronicle_of judged i)) (digest_of a1) 2 ≡ true
-unfolding has_vote chronicle_of gives_vote beginning digest digest_of core_of core_over just1 justify_height sha256 digest_bytes hash_after compress rounds schedule first_words
+unfolding has_vote chronicle_of gives_vote beginning digest digest_of core_of core_over just1 justify_height
+    sha256 digest_bytes hash_after compress rounds schedule first_words
 first-given = refl
 
 -- 1's vote for c2
 second-given : has_vote judged (λ i. length (chronicle_of judged i)) (digest_of c2) 1 ≡ true
-unfolding has_vote chronicle_of gives_vote beginning digest digest_of core_of core_over just1 justify_height sha256 digest_bytes hash_after compress rounds schedule first_words
+unfolding has_vote chronicle_of gives_vote beginning digest digest_of core_of core_over just1 justify_height
+    sha256 digest_bytes hash_after compress rounds schedule first_words
 second-given = refl
 
 -- receiver 1, voter 2
 first-reason : IsUnbacked judged 1 2 (digest_of a1)
-unfolding step_after chronicle_of is_judged has_vote steps_in counted_by counted_for gives_vote beginning digest digest_of core_of core_over just1 justify_height sha256 digest_bytes hash_after compress rounds schedule first_words
-first-reason = record { fronts = steps_in turns; are_fronts = fronts; step = took_block (admitted a2 first_voters false); behind = refl; counted = inr (inl refl); digest = refl; judged = refl; missing = refl }
+unfolding step_after chronicle_of is_judged has_vote steps_in counted_by counted_for gives_vote beginning
+    digest digest_of core_of core_over just1 justify_height sha256 digest_bytes hash_after compress rounds
+    schedule first_words
+first-reason = record {
+  fronts = steps_in turns;
+  are_fronts = fronts;
+  step = took_block (admitted a2 first_voters false);
+  behind = refl;
+  counted = inr (inl refl);
+  digest = refl;
+  judged = refl;
+  missing = refl;
+}
 
 -- receiver 2, voter 1
 second-reason : IsUnbacked judged 2 1 (digest_of c2)
-unfolding step_after chronicle_of is_judged has_vote steps_in counted_by counted_for gives_vote beginning digest digest_of core_of core_over just1 justify_height sha256 digest_bytes hash_after compress rounds schedule first_words
-second-reason = record { fronts = steps_in turns; are_fronts = fronts; step = took_block (admitted c3 second_voters false); behind = refl; counted = inr (inl refl); digest = refl; judged = refl; missing = refl }
+unfolding step_after chronicle_of is_judged has_vote steps_in counted_by counted_for gives_vote beginning
+    digest digest_of core_of core_over just1 justify_height sha256 digest_bytes hash_after compress rounds
+    schedule first_words
+second-reason = record {
+  fronts = steps_in turns;
+  are_fronts = fronts;
+  step = took_block (admitted c3 second_voters false);
+  behind = refl;
+  counted = inr (inl refl);
+  digest = refl;
+  judged = refl;
+  missing = refl;
+}
 
 -- receiver 1, voter 3: the vote stands
-third-stands : list_any (gives_vote (digest_of a1)) (beginning (steps_in turns 3) (chronicle_of judged 3)) ≡ true
-unfolding chronicle_of steps_in gives_vote beginning digest digest_of core_of core_over just1 justify_height sha256 digest_bytes hash_after compress rounds schedule first_words
+third-stands : list_any (gives_vote (digest_of a1)) (beginning (steps_in turns 3) (chronicle_of judged 3))
+    ≡ true
+unfolding chronicle_of steps_in gives_vote beginning digest digest_of core_of core_over just1 justify_height
+    sha256 digest_bytes hash_after compress rounds schedule first_words
 third-stands = refl
 
 -- so it is not unbacked
 no-reason : IsUnbacked judged 1 3 (digest_of a1) → ⊥
 unfolding has_vote
 no-reason r =
-    let e : r.fronts 3 ≡ steps_in turns 3 = fronts-one judged r.fronts (steps_in turns) r.are_fronts fronts 3 in
-    true≢false (sym third-stands ∙ (sym (ap (λ (k : ℕ). list_any (gives_vote (digest_of a1)) (beginning k (chronicle_of judged 3))) e) ∙ r.missing))
+    let e : r.fronts 3 ≡ steps_in turns 3 =
+    fronts-one judged r.fronts (steps_in turns) r.are_fronts fronts 3 in
+    true≢false (sym third-stands
+    ∙ (sym
+    (ap (λ (k : ℕ). list_any (gives_vote (digest_of a1)) (beginning k (chronicle_of judged 3))) e)
+    ∙ r.missing))
 
 -- these are a quorum
 first-quorum : IsQuorum first_voters
-first-quorum = (AreDistinct-from first_voters refl, (omega arith, (omega arith, (omega arith, tt))), omega arith)
+first-quorum =
+    (AreDistinct-from first_voters refl, (omega arith, (omega arith, (omega arith, tt))), omega arith)
 
 -- and so are these
 second-quorum : IsQuorum second_voters
-second-quorum = (AreDistinct-from second_voters refl, (omega arith, (omega arith, (omega arith, tt))), omega arith)
+second-quorum =
+    (AreDistinct-from second_voters refl, (omega arith, (omega arith, (omega arith, tt))), omega arith)
 
 -- the first life is lawful
 first-well : lives_well first ≡ true
-unfolding lives_well may_take votes_well vheight voted greatest lock highest just1 just2 justify_height beginning tree taken extends branch_eq block_eq command_eq clear_above stored is_clear
+unfolding lives_well may_take votes_well vheight voted greatest lock highest just1 just2 justify_height
+    beginning tree taken extends branch_eq block_eq command_eq clear_above stored is_clear
 first-well = refl
 
 -- and the second
 second-well : lives_well second ≡ true
-unfolding lives_well may_take votes_well vheight voted greatest lock highest just1 just2 justify_height beginning tree taken extends branch_eq block_eq command_eq clear_above stored is_clear
+unfolding lives_well may_take votes_well vheight voted greatest lock highest just1 just2 justify_height
+    beginning tree taken extends branch_eq block_eq command_eq clear_above stored is_clear
 second-well = refl
 
 -- and the third
 third-well : lives_well third ≡ true
-unfolding lives_well may_take votes_well vheight voted greatest lock highest just1 just2 justify_height beginning tree taken extends branch_eq block_eq command_eq clear_above stored is_clear
+unfolding lives_well may_take votes_well vheight voted greatest lock highest just1 just2 justify_height
+    beginning tree taken extends branch_eq block_eq command_eq clear_above stored is_clear
 third-well = refl
 
 -- each is kept well
@@ -152,7 +201,10 @@ kept : AreKept replicas
 unfolding just1 justify_height beginning
 kept = (
   life-kept first first-well (inr refl, (inr refl, (inl first-quorum, (inr refl, tt)))),
-  (life-kept second second-well (inr refl, (inl second-quorum, (inr refl, (inr refl, tt)))), (life-kept third third-well (inr refl, (inr refl, (inr refl, tt))), tt)),
+  (
+    life-kept second second-well (inr refl, (inl second-quorum, (inr refl, (inr refl, tt)))),
+    (life-kept third third-well (inr refl, (inr refl, (inr refl, tt))), tt),
+  ),
 )
 
 -- the law of this name

@@ -1,7 +1,10 @@
 -- What the examples share: lives of replicas, and tests that they are kept.
-use Rattle.std.proofs.Common.{ℕ, zero, suc, ◌≡◌, ◌<◌, ◌≤◌, ◌⊎◌, ◌&&◌, ◌||◌, ◌==◌, not, Bool, true, false, List, [], ◌∷◌, map, length, nat_lt, refl, sym, ap, subst, ◌∙◌, arith, inl, inr, true≢false}
+use Rattle.std.proofs.Common.{ℕ, zero, suc, ◌≡◌, ◌<◌, ◌≤◌, ◌⊎◌, ◌&&◌, ◌||◌, ◌==◌, not, Bool, true, false}
+use Rattle.std.proofs.Common.{List, [], ◌∷◌, map, length, nat_lt, refl, sym, ap, subst, ◌∙◌, arith, inl}
+use Rattle.std.proofs.Common.{inr, true≢false}
 use Rattle.std.specs.List.{list_any, AllByRecursion}
-use Rattle.std.proofs.lemmas.Bool.{cond-false, ne_eqb, eq-eqb, and_parts, ltb-true, not-true, or_cases, not_from_true}
+use Rattle.std.proofs.lemmas.Bool.{cond-false, ne_eqb, eq-eqb, and_parts, ltb-true, not-true, or_cases}
+use Rattle.std.proofs.lemmas.Bool.{not_from_true}
 use lib.Dec.{ltb}
 use lib.Pointwise.{bytes_decides}
 use Rattle.std.specs.Str.{bytes_eq}
@@ -11,9 +14,12 @@ use Rattle.definitions.specs.Histories.{Entry, history_of}
 use Rattle.definitions.proofs.Lists.{Among-mapped}
 use Rattle.ids.specs.Sizes.{Sizes, replicas, quorum}
 use Rattle.definitions.specs.Lists.{beginning, Among, AreDistinct}
-use Rattle.definitions.specs.Branches.{Branch, justify_height, just1, just2, just3, highest, extends, branch_eq}
+use Rattle.definitions.specs.Branches.{Branch, justify_height, just1, just2, just3, highest, extends}
+use Rattle.definitions.specs.Branches.{branch_eq}
 use Rattle.definitions.specs.Digests.{digest, digest_of, core_of, NoCollision}
-use Rattle.definitions.specs.Chronicles.{Admitted, Step.took_block, Chronicle, taken, tree, vheight, lock, decides, decided_by, decided, executed, history, stored, IsLawfulVote, IsLawfulTake, IsLawful}
+use Rattle.definitions.specs.Chronicles.{Admitted, Step.took_block, Chronicle, taken, tree, vheight, lock}
+use Rattle.definitions.specs.Chronicles.{decides, decided_by, decided, executed, history, stored}
+use Rattle.definitions.specs.Chronicles.{IsLawfulVote, IsLawfulTake, IsLawful}
 use Rattle.definitions.specs.Trees.{clear_above}
 use Rattle.definitions.proofs.Sound.{clear_above-each}
 use Rattle.definitions.specs.Replicas.{Standing.running, held_history}
@@ -31,7 +37,15 @@ sizes = record { faults = 1; clients = 2 }
 
 -- a block that was taken as a new one, by its own core and a certificate of the block that it justifies
 abbrev pub admitted : Branch → List ℕ → Bool → Admitted
-admitted b counted voted = record { branch = b; core = core_of b; certificate = record { digest = digest_of (just1 b); votes = [] }; counted = counted; clear = true; new = true; voted = voted }
+admitted b counted voted = record {
+  branch = b;
+  core = core_of b;
+  certificate = record { digest = digest_of (just1 b); votes = [] };
+  counted = counted;
+  clear = true;
+  new = true;
+  voted = voted;
+}
 
 -- the block, its counted voters, and whether it was voted for
 abbrev pub Taking : Type 0
@@ -45,26 +59,32 @@ life (t ∷ earlier) = took_block (admitted t.0 t.1 t.2) ∷ life earlier
 -- replicas that lived so
 abbrev pub judged_of : List (ℕ × List Taking) → Judged
 judged_of [] = []
-judged_of (p ∷ rest) = record { number = p.0; replica = record { chronicle = life p.1; standing = running } } ∷ judged_of rest
+judged_of (p ∷ rest) =
+    record { number = p.0; replica = record { chronicle = life p.1; standing = running } } ∷ judged_of rest
 
 -- ---- who may not move
 
 -- no steps stand for a number above all
-pub none-else : (ks : Judged) (n : ℕ) → AllByRecursion (λ i. i ≤ n) (numbers ks) → (u : ℕ) → n < u → chronicle_of ks u ≡ []
+pub none-else : (ks : Judged) (n : ℕ) → AllByRecursion (λ i. i ≤ n) (numbers ks) → (u : ℕ) → n < u
+    → chronicle_of ks u ≡ []
 unfolding chronicle_of
 none-else [] n h u l = refl
-none-else (m ∷ rest) n h u l = cond-false _ _ _ (ne_eqb m.number u (λ e. (let k = h.0 in omega (arith, e, k, l)))) ∙ none-else rest n h.1 u l
+none-else (m ∷ rest) n h u l =
+    cond-false _ _ _ (ne_eqb m.number u (λ e. (let k = h.0 in omega (arith, e, k, l))))
+    ∙ none-else rest n h.1 u l
 
 -- who has no steps may not move
 pub may_move-no_steps : (ks : Judged) (k : Cut) (u : ℕ) → chronicle_of ks u ≡ [] → may_move ks k u ≡ false
 unfolding is_backed_if step_after
-may_move-no_steps ks k u e = may_move-is ks k u ∙ ap (λ (c : Chronicle). is_backed_if ks k (step_after (k u) c)) e
+may_move-no_steps ks k u e =
+    may_move-is ks k u ∙ ap (λ (c : Chronicle). is_backed_if ks k (step_after (k u) c)) e
 
 -- ---- a life that is kept
 
 -- a quorum of distinct replicas
 abbrev pub IsQuorum : List ℕ → Type 0
-IsQuorum counted = AreDistinct counted × AllByRecursion (λ v. v < replicas sizes) counted × (quorum sizes ≤ length counted)
+IsQuorum counted =
+    AreDistinct counted × AllByRecursion (λ v. v < replicas sizes) counted × (quorum sizes ≤ length counted)
 
 -- each block justifies a certified one or genesis
 abbrev pub AreCertified : List Taking → Type 0
@@ -73,27 +93,36 @@ AreCertified ts = AllByRecursion (λ t. IsQuorum t.1 ⊎ (just1 t.0 ≡ [])) ts
 -- the block is new, and stands on its parent
 unfoldable pub may_take : Branch → Chronicle → Bool
 may_take [] c = false
-may_take (b ∷ parent) c = not (list_any (branch_eq (b ∷ parent)) (tree c)) && (nat_lt b.justify (suc (length parent)) && list_any (branch_eq parent) (tree c))
+may_take (b ∷ parent) c =
+    not (list_any (branch_eq (b ∷ parent)) (tree c))
+    && (nat_lt b.justify (suc (length parent)) && list_any (branch_eq parent) (tree c))
 
 -- a vote for it is lawful
 unfoldable pub votes_well : Branch → Chronicle → Chronicle → Bool
-votes_well b now c = nat_lt (vheight c) (length b) && (extends b (lock c) && clear_above (length (just1 b)) b (stored now))
+votes_well b now c =
+    nat_lt (vheight c) (length b) && (extends b (lock c) && clear_above (length (just1 b)) b (stored now))
 
 -- each block of a life is taken lawfully, and voted for lawfully
 unfoldable pub lives_well : List Taking → Bool
 lives_well [] = true
-lives_well (t ∷ earlier) = (may_take t.0 (life earlier) && (not t.2 || votes_well t.0 (life (t ∷ earlier)) (life earlier))) && lives_well earlier
+lives_well (t ∷ earlier) =
+    (may_take t.0 (life earlier) && (not t.2 || votes_well t.0 (life (t ∷ earlier)) (life earlier)))
+    && lives_well earlier
 
 -- what passes with some stands among them
 any-branch : (x : Branch) (xs : List Branch) → list_any (branch_eq x) xs ≡ true → Among x xs
-any-branch x xs h = let r = any-found (branch_eq x) xs h in subst (λ (y : Branch). Among y xs) (sym ((branch_eq-decides x r.0).0 r.2)) r.1
+any-branch x xs h =
+    let r =
+    any-found (branch_eq x) xs h in
+    subst (λ (y : Branch). Among y xs) (sym ((branch_eq-decides x r.0).0 r.2)) r.1
 
 -- and what stands there passes
 branch-any : (x : Branch) (xs : List Branch) → Among x xs → list_any (branch_eq x) xs ≡ true
 branch-any x xs m = any-from (branch_eq x) xs x m ((branch_eq-decides x x).1 refl)
 
 -- a block that may be taken is taken lawfully
-take-lawful : (b : Branch) (counted : List ℕ) (voted : Bool) (c : Chronicle) → may_take b c ≡ true → IsQuorum counted ⊎ (just1 b ≡ []) → IsLawfulTake sizes (admitted b counted voted) c
+take-lawful : (b : Branch) (counted : List ℕ) (voted : Bool) (c : Chronicle) → may_take b c ≡ true
+    → IsQuorum counted ⊎ (just1 b ≡ []) → IsLawfulTake sizes (admitted b counted voted) c
 unfolding may_take
 take-lawful [] counted voted c h q = absurd (true≢false (sym h))
 take-lawful (b ∷ parent) counted voted c h q =
@@ -101,12 +130,15 @@ take-lawful (b ∷ parent) counted voted c h q =
     let r = and_parts _ _ p.1 in
     record {
       new = λ m. true≢false (sym (branch-any (b ∷ parent) (tree c) m) ∙ not-true _ p.0);
-      parent = (b, parent, refl, ltb-true b.justify (suc (length parent)) r.0, any-branch parent (tree c) r.1);
+      parent =
+          (b, parent, refl, ltb-true b.justify (suc (length parent)) r.0, any-branch parent (tree c) r.1);
       certified = q;
     }
 
 -- a vote that passes is lawful
-vote-lawful : (b : Branch) (counted : List ℕ) (voted : Bool) (c : Chronicle) → votes_well b (took_block (admitted b counted voted) ∷ c) c ≡ true → IsLawfulVote b (took_block (admitted b counted voted) ∷ c) c
+vote-lawful : (b : Branch) (counted : List ℕ) (voted : Bool) (c : Chronicle)
+    → votes_well b (took_block (admitted b counted voted) ∷ c) c ≡ true
+    → IsLawfulVote b (took_block (admitted b counted voted) ∷ c) c
 unfolding votes_well tree stored taken
 vote-lawful b counted voted c h =
     let p = and_parts _ _ h in
@@ -123,10 +155,16 @@ life-lawful : (ts : List Taking) → lives_well ts ≡ true → AreCertified ts 
 unfolding lives_well
 life-lawful [] h q = tt
 life-lawful (t ∷ earlier) h q =
-    let p = and_parts (may_take t.0 (life earlier) && (not t.2 || votes_well t.0 (life (t ∷ earlier)) (life earlier))) (lives_well earlier) h in
-    let r = and_parts (may_take t.0 (life earlier)) (not t.2 || votes_well t.0 (life (t ∷ earlier)) (life earlier)) p.0 in (
+    let p = and_parts
+    (may_take t.0 (life earlier) && (not t.2 || votes_well t.0 (life (t ∷ earlier)) (life earlier)))
+    (lives_well earlier) h in
+    let r =
+    and_parts (may_take t.0 (life earlier))
+    (not t.2 || votes_well t.0 (life (t ∷ earlier)) (life earlier)) p.0 in (
       (
-        (λ v. vote-lawful t.0 t.1 t.2 (life earlier) (elim (or_cases (not t.2) (votes_well t.0 (life (t ∷ earlier)) (life earlier)) r.1) [ inl n ↦ absurd (true≢false (sym n ∙ not_from_true t.2 v)) | inr w ↦ w ])),
+        (λ v. vote-lawful t.0 t.1 t.2 (life earlier) (elim (or_cases (not t.2)
+            (votes_well t.0 (life (t ∷ earlier)) (life earlier)) r.1)
+            [ inl n ↦ absurd (true≢false (sym n ∙ not_from_true t.2 v)) | inr w ↦ w ])),
         (λ n. take-lawful t.0 t.1 t.2 (life earlier) r.0 q.0),
       ),
       life-lawful earlier p.1 q.1,
@@ -139,21 +177,37 @@ digest_of-core [] c h = absurd (true≢false (sym h))
 digest_of-core (b ∷ parent) c h = refl
 
 -- each block of a life is stored
-took-stored : (ts : List Taking) → lives_well ts ≡ true → (a : Admitted) → Among (took_block a) (life ts) → IsStored (life ts) a
+took-stored : (ts : List Taking) → lives_well ts ≡ true → (a : Admitted) → Among (took_block a) (life ts)
+    → IsStored (life ts) a
 unfolding lives_well tree stored taken
 took-stored [] h a m = absurd m
 took-stored (t ∷ earlier) h a (inl e) =
-    let p = and_parts (may_take t.0 (life earlier) && (not t.2 || votes_well t.0 (life (t ∷ earlier)) (life earlier))) (lives_well earlier) h in
-    let r = and_parts (may_take t.0 (life earlier)) (not t.2 || votes_well t.0 (life (t ∷ earlier)) (life earlier)) p.0 in
+    let p = and_parts
+    (may_take t.0 (life earlier) && (not t.2 || votes_well t.0 (life (t ∷ earlier)) (life earlier)))
+    (lives_well earlier) h in
+    let r = and_parts (may_take t.0 (life earlier))
+    (not t.2 || votes_well t.0 (life (t ∷ earlier)) (life earlier)) p.0 in
     subst (IsStored (life (t ∷ earlier))) (one_block e)
-    (record { stands = inl refl; named = digest_of-core t.0 (life earlier) r.0; justified = refl; own = λ n. refl })
+    (record {
+      stands = inl refl;
+      named = digest_of-core t.0 (life earlier) r.0;
+      justified = refl;
+      own = λ n. refl;
+    })
   where
     one_block : took_block a ≡ took_block (admitted t.0 t.1 t.2) → admitted t.0 t.1 t.2 ≡ a
     one_block k = let i : a ≡ admitted t.0 t.1 t.2 = cc in sym i
 took-stored (t ∷ earlier) h a (inr m) =
-    let p = and_parts (may_take t.0 (life earlier) && (not t.2 || votes_well t.0 (life (t ∷ earlier)) (life earlier))) (lives_well earlier) h in
+    let p = and_parts
+    (may_take t.0 (life earlier) && (not t.2 || votes_well t.0 (life (t ∷ earlier)) (life earlier)))
+    (lives_well earlier) h in
     let s = took-stored earlier p.1 a m in
-    record { stands = tree-grows (took_block (admitted t.0 t.1 t.2)) (life earlier) a.branch s.stands; named = s.named; justified = s.justified; own = s.own }
+    record {
+      stands = tree-grows (took_block (admitted t.0 t.1 t.2)) (life earlier) a.branch s.stands;
+      named = s.named;
+      justified = s.justified;
+      own = s.own;
+    }
 
 -- a life that passes is kept
 pub life-kept : (ts : List Taking) → lives_well ts ≡ true → AreCertified ts → IsLawfullyKept sizes (life ts)
@@ -164,9 +218,11 @@ abbrev pub AreKept : List (ℕ × List Taking) → Type 0
 AreKept ps = AllByRecursion (λ p. IsLawfullyKept sizes (life p.1)) ps
 
 -- so has each member
-pub member-kept : (ps : List (ℕ × List Taking)) → AreKept ps → (m : Member) → Among m (judged_of ps) → IsLawfullyKept sizes m.replica.chronicle
+pub member-kept : (ps : List (ℕ × List Taking)) → AreKept ps → (m : Member) → Among m (judged_of ps)
+    → IsLawfullyKept sizes m.replica.chronicle
 member-kept [] k m n = absurd n
-member-kept (p ∷ rest) k m (inl e) = subst (λ (x : Member). IsLawfullyKept sizes x.replica.chronicle) (sym e) k.0
+member-kept (p ∷ rest) k m (inl e) =
+    subst (λ (x : Member). IsLawfullyKept sizes x.replica.chronicle) (sym e) k.0
 member-kept (p ∷ rest) k m (inr n) = member-kept rest k.1 m n
 
 -- ---- distinct numbers
@@ -180,12 +236,23 @@ are_distinct (x ∷ xs) = not (list_any (λ y. x == y) xs) && are_distinct xs
 pub AreDistinct-from : (xs : List ℕ) → are_distinct xs ≡ true → AreDistinct xs
 AreDistinct-from [] h = tt
 AreDistinct-from (x ∷ xs) h =
-    let p = and_parts (not (list_any (λ y. x == y) xs)) (are_distinct xs) h in
-    ((λ m. true≢false (sym (any-from (λ y. x == y) xs x m (eq-eqb x x refl)) ∙ not-true _ p.0)), AreDistinct-from xs p.1)
+    let p = and_parts (not (list_any (λ y. x == y) xs)) (are_distinct xs) h in (
+      (λ m. true≢false (sym (any-from (λ y. x == y) xs x m (eq-eqb x x refl)) ∙ not-true _ p.0)),
+      AreDistinct-from xs p.1,
+    )
 
 -- enough such replicas can be judged
-pub can-be_judged : (ps : List (ℕ × List Taking)) → quorum sizes ≤ length (judged_of ps) → are_distinct (numbers (judged_of ps)) ≡ true → AllByRecursion (λ i. i < replicas sizes) (numbers (judged_of ps)) → AreKept ps → AreJudged sizes (judged_of ps)
-can-be_judged ps enough distinct below kept = record { enough = enough; distinct = AreDistinct-from (numbers (judged_of ps)) distinct; below = below; kept = λ m n apart. member-kept ps kept m n }
+pub can-be_judged : (ps : List (ℕ × List Taking)) → quorum sizes ≤ length (judged_of ps)
+    → are_distinct (numbers (judged_of ps)) ≡ true
+    → AllByRecursion (λ i. i < replicas sizes) (numbers (judged_of ps)) → AreKept ps
+    → AreJudged sizes (judged_of ps)
+can-be_judged ps enough distinct below kept =
+    record {
+      enough = enough;
+      distinct = AreDistinct-from (numbers (judged_of ps)) distinct;
+      below = below;
+      kept = λ m n apart. member-kept ps kept m n;
+    }
 
 -- ---- no collisions
 
@@ -200,16 +267,20 @@ digests_apart cs = are_apart (map digest cs)
 
 -- a digest that is apart from others is not one of them
 not-among : (d : Bytes) (ds : List Bytes) → not (list_any (bytes_eq d) ds) ≡ true → Among d ds → ⊥
-not-among d ds h m = true≢false (sym (any-from (bytes_eq d) ds d m ((bytes_decides d d).1 refl)) ∙ not-true _ h)
+not-among d ds h m =
+    true≢false (sym (any-from (bytes_eq d) ds d m ((bytes_decides d d).1 refl)) ∙ not-true _ h)
 
 -- of cores whose digests are apart, equal digests are of one
-one-core : (cs : List Core) → are_apart (map digest cs) ≡ true → (a b : Core) → Among a cs → Among b cs → digest a ≡ digest b → a ≡ b
+one-core : (cs : List Core) → are_apart (map digest cs) ≡ true → (a b : Core) → Among a cs → Among b cs
+    → digest a ≡ digest b → a ≡ b
 one-core [] h a b m n e = absurd m
 one-core (c ∷ cs) h a b (inl i) (inl j) e = i ∙ sym j
 one-core (c ∷ cs) h a b (inl i) (inr n) e =
-    absurd (not-among (digest c) (map digest cs) (and_parts _ _ h).0 (subst (λ (d : Bytes). Among d (map digest cs)) (sym e ∙ ap digest i) (Among-mapped digest cs b n)))
+    absurd (not-among (digest c) (map digest cs) (and_parts _ _ h).0
+    (subst (λ (d : Bytes). Among d (map digest cs)) (sym e ∙ ap digest i) (Among-mapped digest cs b n)))
 one-core (c ∷ cs) h a b (inr m) (inl j) e =
-    absurd (not-among (digest c) (map digest cs) (and_parts _ _ h).0 (subst (λ (d : Bytes). Among d (map digest cs)) (e ∙ ap digest j) (Among-mapped digest cs a m)))
+    absurd (not-among (digest c) (map digest cs) (and_parts _ _ h).0
+    (subst (λ (d : Bytes). Among d (map digest cs)) (e ∙ ap digest j) (Among-mapped digest cs a m)))
 one-core (c ∷ cs) h a b (inr m) (inr n) e = one-core cs (and_parts _ _ h).1 a b m n e
 
 -- all cores of a life are among these
@@ -217,7 +288,8 @@ abbrev pub AreAmong : List Core → List Taking → Type 0
 AreAmong cs ts = AllByRecursion (λ t. Among (core_of t.0) cs) ts
 
 -- so are those of the blocks that were admitted
-took-among : (cs : List Core) (ts : List Taking) → AreAmong cs ts → (a : Admitted) → Among (took_block a) (life ts) → Among a.core cs
+took-among : (cs : List Core) (ts : List Taking) → AreAmong cs ts → (a : Admitted)
+    → Among (took_block a) (life ts) → Among a.core cs
 took-among cs [] k a m = absurd m
 took-among cs (t ∷ earlier) k a (inl e) = subst (λ (x : Core). Among x cs) (one_core e) k.0
   where
@@ -226,20 +298,25 @@ took-among cs (t ∷ earlier) k a (inl e) = subst (λ (x : Core). Among x cs) (o
 took-among cs (t ∷ earlier) k a (inr m) = took-among cs earlier k.1 a m
 
 -- and those of each member
-member-among : (cs : List Core) (ps : List (ℕ × List Taking)) → AllByRecursion (λ p. AreAmong cs p.1) ps → (m : Member) → Among m (judged_of ps) → (a : Admitted) → Among (took_block a) m.replica.chronicle → Among a.core cs
+member-among : (cs : List Core) (ps : List (ℕ × List Taking)) → AllByRecursion (λ p. AreAmong cs p.1) ps
+    → (m : Member) → Among m (judged_of ps) → (a : Admitted) → Among (took_block a) m.replica.chronicle
+    → Among a.core cs
 member-among cs [] k m n = absurd n
-member-among cs (p ∷ rest) k m (inl e) = λ a t. took-among cs p.1 k.0 a (subst (λ (x : Member). Among (took_block a) x.replica.chronicle) e t)
+member-among cs (p ∷ rest) k m (inl e) =
+    λ a t. took-among cs p.1 k.0 a (subst (λ (x : Member). Among (took_block a) x.replica.chronicle) e t)
 member-among cs (p ∷ rest) k m (inr n) = member-among cs rest k.1 m n
 
 -- where no two of these cores have one digest, and genesis's is one of them, no known cores collide
-pub apart-from : (cs : List Core) → digests_apart (genesis_core ∷ cs) ≡ true → (ps : List (ℕ × List Taking)) → AllByRecursion (λ p. AreAmong (genesis_core ∷ cs) p.1) ps → NoCollision (KnownTo (judged_of ps))
+pub apart-from : (cs : List Core) → digests_apart (genesis_core ∷ cs) ≡ true → (ps : List (ℕ × List Taking))
+    → AllByRecursion (λ p. AreAmong (genesis_core ∷ cs) p.1) ps → NoCollision (KnownTo (judged_of ps))
 unfolding digests_apart
 apart-from cs h ps k a b ka kb = one-core (genesis_core ∷ cs) h a b (known a ka) (known b kb)
   where
     known : (c : Core) → KnownTo (judged_of ps) c → Among c (genesis_core ∷ cs)
     known c (inl e) = inl e
     known c (inr (m, n, inl e)) = inl e
-    known c (inr (m, n, inr (x, t, e))) = subst (λ (y : Core). Among y (genesis_core ∷ cs)) e (member-among (genesis_core ∷ cs) ps k m n x t)
+    known c (inr (m, n, inr (x, t, e))) =
+        subst (λ (y : Core). Among y (genesis_core ∷ cs)) e (member-among (genesis_core ∷ cs) ps k m n x t)
 
 -- ---- a life along a branch
 
@@ -259,19 +336,26 @@ branch client (suc n) = record { commands = commands client n; justify = n } ∷
 
 -- four blocks of the branch, and votes for them
 abbrev pub along : ℕ → List ℕ → List Taking
-along client voters = (branch client 4, voters, true) ∷ (branch client 3, voters, true) ∷ (branch client 2, voters, true) ∷ (branch client 1, [], true) ∷ []
+along client voters =
+    (branch client 4, voters, true) ∷ (branch client 3, voters, true) ∷ (branch client 2, voters, true)
+    ∷ (branch client 1, [], true) ∷ []
 
 -- their cores
 abbrev pub cores : ℕ → List Core
-cores client = core_of (branch client 4) ∷ core_of (branch client 3) ∷ core_of (branch client 2) ∷ core_of (branch client 1) ∷ []
+cores client =
+    core_of (branch client 4) ∷ core_of (branch client 3) ∷ core_of (branch client 2)
+    ∷ core_of (branch client 1) ∷ []
 
 -- the command that was executed
 abbrev pub entry : ℕ → Entry
 entry client = record { client = client; seq = 1; payload = [] }
 
 -- a replica that lived so executed the command
-pub along-history : (client : ℕ) (voters : List ℕ) → held_history (record { chronicle = life (along client voters); standing = running }) ≡ entry client ∷ []
-unfolding held_history history executed decided decided_by decides taken highest history_of just1 just2 just3 beginning justify_height
+pub along-history : (client : ℕ) (voters : List ℕ)
+    → held_history (record { chronicle = life (along client voters); standing = running })
+    ≡ entry client ∷ []
+unfolding held_history history executed decided decided_by decides taken highest history_of just1 just2
+    just3 beginning justify_height
 along-history client voters = refl
 
 -- its blocks justify one another, from genesis on

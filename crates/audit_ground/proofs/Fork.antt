@@ -1,18 +1,26 @@
 -- Two lives of a replica: 1 executed the first client's command, and 3 and the shown life of 2 the second's.
-use Rattle.std.proofs.Common.{ℕ, zero, suc, ◌≡◌, true, false, List, [], ◌∷◌, ◌++◌, refl, sym, ap, ◌∙◌, arith, inl, inr}
+use Rattle.std.proofs.Common.{ℕ, zero, suc, ◌≡◌, true, false, List, [], ◌∷◌, ◌++◌, refl, sym, ap, ◌∙◌}
+use Rattle.std.proofs.Common.{arith, inl, inr}
 use Rattle.sha2.specs.Sha256.{sha256, digest_bytes, hash_after, compress, rounds, schedule, first_words}
 use Rattle.definitions.specs.Lists.{beginning, greatest}
 use Rattle.definitions.specs.Frames.{Core, genesis_core}
-use Rattle.definitions.specs.Branches.{just1, just2, justify_height, highest, extends, branch_eq, block_eq, command_eq}
+use Rattle.definitions.specs.Branches.{just1, just2, justify_height, highest, extends, branch_eq, block_eq}
+use Rattle.definitions.specs.Branches.{command_eq}
 use Rattle.definitions.specs.Digests.{digest, digest_of, core_of, core_over}
 use Rattle.definitions.specs.Chronicles.{Step.took_block, voted, taken, tree, vheight, lock, stored}
 use Rattle.definitions.specs.Trees.{is_clear, clear_above}
 use Rattle.definitions.specs.Histories.{Entry, History}
 use Rattle.definitions.specs.Replicas.{Replica, Standing.running}
-use Rattle.definitions.specs.Audit.{Turns, steps_in, Judged, is_judged, chronicle_of, gives_vote, counted_by, counted_for, step_after, has_vote, is_backed, may_move, AreAllowed, AreFronts, IsUnbacked, HistoriesAgree}
+use Rattle.definitions.specs.Audit.{Turns, steps_in, Judged, is_judged, chronicle_of, gives_vote}
+use Rattle.definitions.specs.Audit.{counted_by, counted_for, step_after, has_vote, is_backed, may_move}
+use Rattle.definitions.specs.Audit.{AreAllowed, AreFronts, IsUnbacked, HistoriesAgree}
 use Rattle.audit_ground.specs.Law.{SomeFork}
 use Rattle.audit_ground.proofs.Fronts.{fronts-from_turns}
-use Rattle.audit_ground.proofs.Examples.{sizes, admitted, Taking, life, judged_of, none-else, may_move-no_steps, IsQuorum, AreKept, may_take, votes_well, lives_well, life-kept, member-kept, can-be_judged, AreDistinct-from, digests_apart, AreAmong, apart-from, branch, along, cores, entry, along-history, along-certified}
+use Rattle.audit_ground.proofs.Examples.{sizes, admitted, Taking, life, judged_of, none-else}
+use Rattle.audit_ground.proofs.Examples.{may_move-no_steps, IsQuorum, AreKept, may_take, votes_well}
+use Rattle.audit_ground.proofs.Examples.{lives_well, life-kept, member-kept, can-be_judged}
+use Rattle.audit_ground.proofs.Examples.{AreDistinct-from, digests_apart, AreAmong, apart-from, branch}
+use Rattle.audit_ground.proofs.Examples.{along, cores, entry, along-history, along-certified}
 
 -- who voted for the first client's branch
 abbrev first_voters : List ℕ
@@ -46,17 +54,24 @@ turns = 3 ∷ 2 ∷ 3 ∷ 2 ∷ 3 ∷ 2 ∷ 3 ∷ 2 ∷ 1 ∷ []
 
 -- each turn was allowed
 turns-allowed : AreAllowed (may_move judged) turns
-unfolding may_move is_backed has_vote step_after chronicle_of is_judged steps_in counted_by counted_for gives_vote beginning digest digest_of core_of core_over just1 justify_height sha256 digest_bytes hash_after compress rounds schedule first_words
+unfolding may_move is_backed has_vote step_after chronicle_of is_judged steps_in counted_by counted_for
+    gives_vote beginning digest digest_of core_of core_over just1 justify_height sha256 digest_bytes
+    hash_after compress rounds schedule first_words
 turns-allowed = (refl, (refl, (refl, (refl, (refl, (refl, (refl, (refl, (refl, tt)))))))))
 
 -- after them none may move any more
 stuck : (u : ℕ) → may_move judged (steps_in turns) u ≡ false
-unfolding may_move is_backed has_vote step_after chronicle_of is_judged steps_in counted_by counted_for gives_vote beginning digest digest_of core_of core_over just1 justify_height sha256 digest_bytes hash_after compress rounds schedule first_words
+unfolding may_move is_backed has_vote step_after chronicle_of is_judged steps_in counted_by counted_for
+    gives_vote beginning digest digest_of core_of core_over just1 justify_height sha256 digest_bytes
+    hash_after compress rounds schedule first_words
 stuck zero = refl
 stuck (suc zero) = refl
 stuck (suc (suc zero)) = refl
 stuck (suc (suc (suc zero))) = refl
-stuck (suc (suc (suc (suc u)))) = may_move-no_steps judged (steps_in turns) (suc (suc (suc (suc u)))) (none-else judged 3 (omega arith, (omega arith, (omega arith, tt))) (suc (suc (suc (suc u)))) (omega arith))
+stuck (suc (suc (suc (suc u)))) =
+    may_move-no_steps judged (steps_in turns) (suc (suc (suc (suc u))))
+    (none-else judged 3 (omega arith, (omega arith, (omega arith, tt))) (suc (suc (suc (suc u))))
+    (omega arith))
 
 -- the front of 1 has its first step, and the others' are whole
 fronts : AreFronts judged (steps_in turns)
@@ -64,8 +79,19 @@ fronts = fronts-from_turns judged turns turns-allowed stuck
 
 -- receiver 1, voter 2, the first block of the first client's branch
 reason : IsUnbacked judged 1 2 (digest_of (branch 0 1))
-unfolding step_after chronicle_of is_judged has_vote steps_in counted_by counted_for gives_vote beginning digest digest_of core_of core_over just1 justify_height sha256 digest_bytes hash_after compress rounds schedule first_words
-reason = record { fronts = steps_in turns; are_fronts = fronts; step = took_block (admitted (branch 0 2) first_voters true); behind = refl; counted = inr (inr (inl refl)); digest = refl; judged = refl; missing = refl }
+unfolding step_after chronicle_of is_judged has_vote steps_in counted_by counted_for gives_vote beginning
+    digest digest_of core_of core_over just1 justify_height sha256 digest_bytes hash_after compress rounds
+    schedule first_words
+reason = record {
+  fronts = steps_in turns;
+  are_fronts = fronts;
+  step = took_block (admitted (branch 0 2) first_voters true);
+  behind = refl;
+  counted = inr (inr (inl refl));
+  digest = refl;
+  judged = refl;
+  missing = refl;
+}
 
 -- ---- the histories
 
@@ -88,29 +114,42 @@ same-client x y (z ∷ (w ∷ added)) e = absurd (longer e)
 -- the histories of 1 and 3 fork
 differ : HistoriesAgree judged → ⊥
 differ h =
-    elim (h (record { number = 1; replica = replica first }) (record { number = 3; replica = replica second }) (inl refl) (inr (inl refl))) [
-      | inl b ↦ (let e = same-client (entry 0) (entry 1) b.0 (ap (λ (x : History). b.0 ++ x) (sym (along-history 0 first_voters)) ∙ (b.1 ∙ along-history 1 second_voters)) in absurd (omega (arith, e)))
-      | inr b ↦ (let e = same-client (entry 1) (entry 0) b.0 (ap (λ (x : History). b.0 ++ x) (sym (along-history 1 second_voters)) ∙ (b.1 ∙ along-history 0 first_voters)) in absurd (omega (arith, e)))
+    elim (h (record { number = 1; replica = replica first })
+    (record { number = 3; replica = replica second }) (inl refl) (inr (inl refl))) [
+      | inl b ↦
+          (let e =
+          same-client (entry 0) (entry 1) b.0 (ap (λ (x : History). b.0 ++ x)
+          (sym (along-history 0 first_voters)) ∙ (b.1 ∙ along-history 1 second_voters)) in
+          absurd (omega (arith, e)))
+      | inr b ↦
+          (let e =
+          same-client (entry 1) (entry 0) b.0 (ap (λ (x : History). b.0 ++ x)
+          (sym (along-history 1 second_voters)) ∙ (b.1 ∙ along-history 0 first_voters)) in
+          absurd (omega (arith, e)))
     ]
 
 -- ---- each is kept well
 
 -- these are a quorum
 first-quorum : IsQuorum first_voters
-first-quorum = (AreDistinct-from first_voters refl, (omega arith, (omega arith, (omega arith, tt))), omega arith)
+first-quorum =
+    (AreDistinct-from first_voters refl, (omega arith, (omega arith, (omega arith, tt))), omega arith)
 
 -- and so are these
 second-quorum : IsQuorum second_voters
-second-quorum = (AreDistinct-from second_voters refl, (omega arith, (omega arith, (omega arith, tt))), omega arith)
+second-quorum =
+    (AreDistinct-from second_voters refl, (omega arith, (omega arith, (omega arith, tt))), omega arith)
 
 -- the first life is lawful
 first-well : lives_well first ≡ true
-unfolding lives_well may_take votes_well vheight voted greatest lock highest just1 just2 justify_height beginning tree taken extends branch_eq block_eq command_eq clear_above stored is_clear
+unfolding lives_well may_take votes_well vheight voted greatest lock highest just1 just2 justify_height
+    beginning tree taken extends branch_eq block_eq command_eq clear_above stored is_clear
 first-well = refl
 
 -- and the second
 second-well : lives_well second ≡ true
-unfolding lives_well may_take votes_well vheight voted greatest lock highest just1 just2 justify_height beginning tree taken extends branch_eq block_eq command_eq clear_above stored is_clear
+unfolding lives_well may_take votes_well vheight voted greatest lock highest just1 just2 justify_height
+    beginning tree taken extends branch_eq block_eq command_eq clear_above stored is_clear
 second-well = refl
 
 -- each is kept well
@@ -126,16 +165,29 @@ all_cores = cores 0 ++ cores 1
 
 -- no two of them have one digest
 cores-apart : digests_apart (genesis_core ∷ all_cores) ≡ true
-unfolding digests_apart digest digest_of core_of core_over sha256 digest_bytes hash_after compress rounds schedule first_words
+unfolding digests_apart digest digest_of core_of core_over sha256 digest_bytes hash_after compress rounds
+    schedule first_words
 cores-apart = refl
 
 -- the cores of the first life are listed
 first-among : AreAmong (genesis_core ∷ all_cores) first
-first-among = (inr (inl refl), (inr (inr (inl refl)), (inr (inr (inr (inl refl))), (inr (inr (inr (inr (inl refl)))), tt))))
+first-among = (
+  inr (inl refl),
+  (inr (inr (inl refl)), (inr (inr (inr (inl refl))), (inr (inr (inr (inr (inl refl)))), tt))),
+)
 
 -- and those of the second
 second-among : AreAmong (genesis_core ∷ all_cores) second
-second-among = (inr (inr (inr (inr (inr (inl refl))))), (inr (inr (inr (inr (inr (inr (inl refl)))))), (inr (inr (inr (inr (inr (inr (inr (inl refl))))))), (inr (inr (inr (inr (inr (inr (inr (inr (inl refl)))))))), tt))))
+second-among = (
+  inr (inr (inr (inr (inr (inl refl))))),
+  (
+    inr (inr (inr (inr (inr (inr (inl refl)))))),
+    (
+      inr (inr (inr (inr (inr (inr (inr (inl refl))))))),
+      (inr (inr (inr (inr (inr (inr (inr (inr (inl refl)))))))), tt),
+    ),
+  ),
+)
 
 -- the law of this name
 pub some-fork : SomeFork

@@ -1,34 +1,47 @@
--- The fronts of judged chronicles: they exist, they are one, and a step behind one counts a vote that is unbacked.
-use Rattle.std.proofs.Common.{ℕ, ◌≡◌, ◌<◌, ◌⊎◌, ◌||◌, not, Bool, true, false, length, refl, sym, ap, subst, ◌∙◌, arith, inl, inr, Option, Some, None, true≢false}
-use Rattle.std.proofs.lemmas.Bool.{cases_lt, ltb-true, lt-ltb, or_cases, or_parts, or_left, or_right, not-false}
+-- The fronts of judged chronicles: they exist, they are one, and a step behind one counts a vote that is
+-- unbacked.
+use Rattle.std.proofs.Common.{ℕ, ◌≡◌, ◌<◌, ◌⊎◌, ◌||◌, not, Bool, true, false, length, refl, sym, ap, subst}
+use Rattle.std.proofs.Common.{◌∙◌, arith, inl, inr, Option, Some, None, true≢false}
+use Rattle.std.proofs.lemmas.Bool.{cases_lt, ltb-true, lt-ltb, or_cases, or_parts, or_left, or_right}
+use Rattle.std.proofs.lemmas.Bool.{not-false}
 use lib.Dec.{ltb}
 use Rattle.std.specs.List.{list_any}
 use Rattle.definitions.specs.Lists.{beginning, Among}
 use Rattle.definitions.specs.Bytes.{Bytes}
 use Rattle.definitions.specs.Chronicles.{Step}
-use Rattle.definitions.specs.Audit.{Cut, Turns, AreAllowed, steps_in, Judged, is_judged, chronicle_of, gives_vote, counted_by, counted_for, step_after, has_vote, is_backed, may_move, AreFronts, IsUnbacked}
+use Rattle.definitions.specs.Audit.{Cut, Turns, AreAllowed, steps_in, Judged, is_judged, chronicle_of}
+use Rattle.definitions.specs.Audit.{gives_vote, counted_by, counted_for, step_after, has_vote, is_backed}
+use Rattle.definitions.specs.Audit.{may_move, AreFronts, IsUnbacked}
 use Rattle.audit_ground.specs.Law.{FrontsAreOne, MovingFindsTheFronts, NoneUnbacked, UnbackedVotesAreSeen}
-use Rattle.audit_ground.proofs.Lists.{any-longer, all-weaker, all-fails, step_after-some, step_after-none, step_after-within}
-use Rattle.audit_ground.proofs.Turns.{greatest-from_stuck, greatest-one, greatest-stuck, Under, IsGrowing, IsBounded, IsStuck, stuck-exists, some-mover, reached-start, reached-moved, reached-short}
+use Rattle.audit_ground.proofs.Lists.{any-longer, all-weaker, all-fails, step_after-some, step_after-none}
+use Rattle.audit_ground.proofs.Lists.{step_after-within}
+use Rattle.audit_ground.proofs.Turns.{greatest-from_stuck, greatest-one, greatest-stuck, Under, IsGrowing}
+use Rattle.audit_ground.proofs.Turns.{IsBounded, IsStuck, stuck-exists, some-mover, reached-start}
+use Rattle.audit_ground.proofs.Turns.{reached-moved, reached-short}
 use Rattle.audit_ground.proofs.Members.{bound, steps-below}
 
 -- ---- the rule
 
 -- a vote that stands in a cut stands in a longer one
-has_vote-grows : (ks : Judged) (m k : Cut) (d : Bytes) (v : ℕ) → Under m k → has_vote ks m d v ≡ true → has_vote ks k d v ≡ true
+has_vote-grows : (ks : Judged) (m k : Cut) (d : Bytes) (v : ℕ) → Under m k → has_vote ks m d v ≡ true
+    → has_vote ks k d v ≡ true
 unfolding has_vote
 has_vote-grows ks m k d v l = any-longer (gives_vote d) (m v) (k v) (chronicle_of ks v) (l v)
 
 -- a step that is backed by a cut is backed by a longer one
-backed-grows : (ks : Judged) (m k : Cut) (s : Step) → Under m k → is_backed ks m s ≡ true → is_backed ks k s ≡ true
+backed-grows : (ks : Judged) (m k : Cut) (s : Step) → Under m k → is_backed ks m s ≡ true
+    → is_backed ks k s ≡ true
 unfolding is_backed
-backed-grows ks m k s l = all-weaker (λ v. not (is_judged ks v) || has_vote ks m (counted_for s) v) (λ v. not (is_judged ks v) || has_vote ks k (counted_for s) v) (counted_by s) one
+backed-grows ks m k s l = all-weaker (λ v. not (is_judged ks v) || has_vote ks m (counted_for s) v)
+    (λ v. not (is_judged ks v) || has_vote ks k (counted_for s) v) (counted_by s) one
   where
-    one : (v : ℕ) → (not (is_judged ks v) || has_vote ks m (counted_for s) v) ≡ true → (not (is_judged ks v) || has_vote ks k (counted_for s) v) ≡ true
+    one : (v : ℕ) → (not (is_judged ks v) || has_vote ks m (counted_for s) v) ≡ true
+        → (not (is_judged ks v) || has_vote ks k (counted_for s) v) ≡ true
     one v h =
         elim (or_cases (not (is_judged ks v)) (has_vote ks m (counted_for s) v) h) [
           | inl a ↦ or_left (not (is_judged ks v)) (has_vote ks k (counted_for s) v) a
-          | inr a ↦ or_right (not (is_judged ks v)) (has_vote ks k (counted_for s) v) (has_vote-grows ks m k (counted_for s) v l a)
+          | inr a ↦ or_right (not (is_judged ks v)) (has_vote ks k (counted_for s) v)
+              (has_vote-grows ks m k (counted_for s) v l a)
         ]
 
 -- whether there is such a step, and it is backed
@@ -36,12 +49,14 @@ unfoldable pub is_backed_if : Judged → Cut → Option Step → Bool
 is_backed_if ks k o = elim o [ None ↦ false | Some s ↦ is_backed ks k s ]
 
 -- a replica may move where its next step is backed
-pub may_move-is : (ks : Judged) (k : Cut) (u : ℕ) → may_move ks k u ≡ is_backed_if ks k (step_after (k u) (chronicle_of ks u))
+pub may_move-is : (ks : Judged) (k : Cut) (u : ℕ)
+    → may_move ks k u ≡ is_backed_if ks k (step_after (k u) (chronicle_of ks u))
 unfolding may_move is_backed_if
 may_move-is ks k u = refl
 
 -- the same of a step, if there is one
-backed_if-grows : (ks : Judged) (m k : Cut) (o : Option Step) → Under m k → is_backed_if ks m o ≡ true → is_backed_if ks k o ≡ true
+backed_if-grows : (ks : Judged) (m k : Cut) (o : Option Step) → Under m k → is_backed_if ks m o ≡ true
+    → is_backed_if ks k o ≡ true
 unfolding is_backed_if
 backed_if-grows ks m k None l h = h
 backed_if-grows ks m k (Some s) l h = backed-grows ks m k s l h
@@ -49,15 +64,19 @@ backed_if-grows ks m k (Some s) l h = backed-grows ks m k s l h
 -- more steps of the others keep a replica's leave to move
 pub may_move-grows : (ks : Judged) → IsGrowing (may_move ks)
 may_move-grows ks m k u l e h =
-    may_move-is ks k u ∙ subst (λ (j : ℕ). is_backed_if ks k (step_after j (chronicle_of ks u)) ≡ true) e (backed_if-grows ks m k (step_after (m u) (chronicle_of ks u)) l (sym (may_move-is ks m u) ∙ h))
+    may_move-is ks k u
+    ∙ subst (λ (j : ℕ). is_backed_if ks k (step_after j (chronicle_of ks u)) ≡ true) e
+    (backed_if-grows ks m k (step_after (m u) (chronicle_of ks u)) l (sym (may_move-is ks m u) ∙ h))
 
 -- who may move has a step left
-pub may_move-short : (ks : Judged) (k : Cut) (u : ℕ) → may_move ks k u ≡ true → k u < length (chronicle_of ks u)
+pub may_move-short : (ks : Judged) (k : Cut) (u : ℕ) → may_move ks k u ≡ true
+    → k u < length (chronicle_of ks u)
 unfolding is_backed_if
 may_move-short ks k u h =
     elim (cases_lt (k u) (length (chronicle_of ks u))) [
       | inl l ↦ l
-      | inr g ↦ absurd (true≢false (sym h ∙ (may_move-is ks k u ∙ ap (is_backed_if ks k) (step_after-none (k u) (chronicle_of ks u) g))))
+      | inr g ↦ absurd (true≢false (sym h
+          ∙ (may_move-is ks k u ∙ ap (is_backed_if ks k) (step_after-none (k u) (chronicle_of ks u) g))))
     ]
 
 -- how many steps each replica has
@@ -66,7 +85,11 @@ lengths ks u = length (chronicle_of ks u)
 
 -- few may move, and none past its last step
 pub may_move-bounded : (ks : Judged) → IsBounded (may_move ks) (bound ks) (lengths ks)
-may_move-bounded ks = record { few = λ m u h. steps-below ks u (let s = may_move-short ks m u h in omega (arith, s)); short = may_move-short ks }
+may_move-bounded ks = record {
+  few = λ m u h. steps-below ks u
+      (let s = may_move-short ks m u h in omega (arith, s));
+  short = may_move-short ks;
+}
 
 -- ---- the fronts
 
@@ -81,13 +104,17 @@ moving-finds_the_fronts ks = record {
 }
 
 -- turns after which none may move any more lead to the fronts
-pub fronts-from_turns : (ks : Judged) (turns : Turns) → AreAllowed (may_move ks) turns → ((u : ℕ) → may_move ks (steps_in turns) u ≡ false) → AreFronts ks (steps_in turns)
-fronts-from_turns ks turns allowed stuck = greatest-from_stuck (may_move ks) (may_move-grows ks) (steps_in turns) (record { turns = turns; allowed = allowed; reached = λ i. refl }) stuck
+pub fronts-from_turns : (ks : Judged) (turns : Turns) → AreAllowed (may_move ks) turns
+    → ((u : ℕ) → may_move ks (steps_in turns) u ≡ false) → AreFronts ks (steps_in turns)
+fronts-from_turns ks turns allowed stuck =
+    greatest-from_stuck (may_move ks) (may_move-grows ks) (steps_in turns)
+    (record { turns = turns; allowed = allowed; reached = λ i. refl }) stuck
 
 -- there are fronts
 pub fronts-exist : (ks : Judged) → (k : Cut) × AreFronts ks k
 fronts-exist ks =
-    let s : IsStuck (may_move ks) = stuck-exists (may_move ks) (bound ks) (lengths ks) (may_move-bounded ks) in
+    let s : IsStuck (may_move ks) =
+    stuck-exists (may_move ks) (bound ks) (lengths ks) (may_move-bounded ks) in
     (steps_in s.turns, fronts-from_turns ks s.turns s.allowed s.stuck)
 
 -- two of them are the same
@@ -100,7 +127,8 @@ fronts-are_one ks = let f = fronts-exist ks in (f.0, f.1, λ m g. fronts-one ks 
 
 -- a front is no longer than the chronicle
 pub fronts-short : (ks : Judged) (k : Cut) → AreFronts ks k → Under k (lengths ks)
-fronts-short ks k f = reached-short (may_move ks) (bound ks) (lengths ks) (may_move-bounded ks) k (record { turns = f.turns; allowed = f.allowed; reached = f.reached })
+fronts-short ks k f = reached-short (may_move ks) (bound ks) (lengths ks) (may_move-bounded ks) k
+    (record { turns = f.turns; allowed = f.allowed; reached = f.reached })
 
 -- no replica may move from the fronts
 pub fronts-stuck : (ks : Judged) (k : Cut) → AreFronts ks k → (u : ℕ) → may_move ks k u ≡ false
@@ -109,7 +137,8 @@ fronts-stuck ks = greatest-stuck (may_move ks) (may_move-grows ks)
 -- ---- behind the fronts
 
 -- a step that is not backed counts a judged replica's vote that the cut lacks
-pub not-backed : (ks : Judged) (k : Cut) (s : Step) → is_backed ks k s ≡ false → (v : ℕ) × Among v (counted_by s) × (is_judged ks v ≡ true) × (has_vote ks k (counted_for s) v ≡ false)
+pub not-backed : (ks : Judged) (k : Cut) (s : Step) → is_backed ks k s ≡ false
+    → (v : ℕ) × Among v (counted_by s) × (is_judged ks v ≡ true) × (has_vote ks k (counted_for s) v ≡ false)
 unfolding is_backed
 not-backed ks k s e =
     let r = all-fails (λ v. not (is_judged ks v) || has_vote ks k (counted_for s) v) (counted_by s) e in
@@ -117,19 +146,35 @@ not-backed ks k s e =
     (r.0, r.1, not-false (is_judged ks r.0) p.0, p.1)
 
 -- the step after a front is not backed
-pub behind-not_backed : (ks : Judged) (k : Cut) → AreFronts ks k → (u : ℕ) (s : Step) → step_after (k u) (chronicle_of ks u) ≡ Some s → is_backed ks k s ≡ false
+pub behind-not_backed : (ks : Judged) (k : Cut) → AreFronts ks k → (u : ℕ) (s : Step)
+    → step_after (k u) (chronicle_of ks u) ≡ Some s → is_backed ks k s ≡ false
 unfolding is_backed_if
-behind-not_backed ks k f u s e = ap (is_backed_if ks k) (sym e) ∙ (sym (may_move-is ks k u) ∙ fronts-stuck ks k f u)
+behind-not_backed ks k f u s e =
+    ap (is_backed_if ks k) (sym e) ∙ (sym (may_move-is ks k u) ∙ fronts-stuck ks k f u)
 
 -- a step that stands behind a front counts an unbacked vote
-pub behind-unbacked : (ks : Judged) (k : Cut) → AreFronts ks k → (u : ℕ) → k u < length (chronicle_of ks u) → (v : ℕ) × (d : Bytes) × IsUnbacked ks u v d
+pub behind-unbacked : (ks : Judged) (k : Cut) → AreFronts ks k → (u : ℕ) → k u < length (chronicle_of ks u)
+    → (v : ℕ) × (d : Bytes) × IsUnbacked ks u v d
 behind-unbacked ks k f u l =
     let next = step_after-some (k u) (chronicle_of ks u) l in
-    let r = not-backed ks k next.0 (behind-not_backed ks k f u next.0 next.1) in
-    (r.0, counted_for next.0, record { fronts = k; are_fronts = f; step = next.0; behind = next.1; counted = r.1; digest = refl; judged = r.2; missing = r.3 })
+    let r = not-backed ks k next.0 (behind-not_backed ks k f u next.0 next.1) in (
+      r.0,
+      counted_for next.0,
+      record {
+        fronts = k;
+        are_fronts = f;
+        step = next.0;
+        behind = next.1;
+        counted = r.1;
+        digest = refl;
+        judged = r.2;
+        missing = r.3;
+      },
+    )
 
 -- the fronts are whole, or some vote is unbacked
-pub whole-or-unbacked : (ks : Judged) (k : Cut) → AreFronts ks k → ((u : ℕ) → k u ≡ length (chronicle_of ks u)) ⊎ ((u v : ℕ) × (d : Bytes) × IsUnbacked ks u v d)
+pub whole-or-unbacked : (ks : Judged) (k : Cut) → AreFronts ks k
+    → ((u : ℕ) → k u ≡ length (chronicle_of ks u)) ⊎ ((u v : ℕ) × (d : Bytes) × IsUnbacked ks u v d)
 whole-or-unbacked ks k f =
     elim (some-mover (λ u. ltb (k u) (length (chronicle_of ks u))) (bound ks)) [
       | inl r ↦ let b = behind-unbacked ks k f r.0 (ltb-true _ _ r.2) in inr (r.0, b.0, b.1, b.2)
@@ -140,7 +185,8 @@ whole-or-unbacked ks k f =
     ]
 
 -- where some fronts are whole, no vote is unbacked
-pub whole-none_unbacked : (ks : Judged) (k : Cut) → AreFronts ks k → ((u : ℕ) → k u ≡ length (chronicle_of ks u)) → NoneUnbacked ks
+pub whole-none_unbacked : (ks : Judged) (k : Cut) → AreFronts ks k
+    → ((u : ℕ) → k u ≡ length (chronicle_of ks u)) → NoneUnbacked ks
 whole-none_unbacked ks k f whole u v d r =
     let l = step_after-within (r.fronts u) (chronicle_of ks u) r.step r.behind in
     let e = fronts-one ks r.fronts k r.are_fronts f u in

@@ -19,26 +19,36 @@ use Rattle.audit_ground.proofs.Members.{among-judged, chronicle-own}
 use Rattle.audit_ground.proofs.Families.{backed-chronicles_are_orderly}
 
 -- what a replica holds is a beginning of the history of any block that its last executed one is below
-held-below : (r : Replica) (x : Branch) → Extends x (executed r.chronicle) → IsBeginning (held_history r) (history_of x)
+held-below : (r : Replica) (x : Branch) → Extends x (executed r.chronicle)
+    → IsBeginning (held_history r) (history_of x)
 unfolding history
-held-below r x h = IsBeginning-trans (held_history r) (history_of (executed r.chronicle)) (history_of x) (held-begins r) (history_of-grows x (executed r.chronicle) h)
+held-below r x h = IsBeginning-trans (held_history r) (history_of (executed r.chronicle)) (history_of x)
+    (held-begins r) (history_of-grows x (executed r.chronicle) h)
 
 -- a member's last executed block was decided in the family
-member-decided : (sizes : Sizes) (ks : Judged) → AreJudged sizes ks → (m : Member) → Among m ks → IsDecided (judged_family sizes ks) (executed m.replica.chronicle)
-member-decided sizes ks j m n =
-    (m.number, among-judged ks m n, subst (λ (c : Chronicle). Among (executed m.replica.chronicle) (decided c)) (sym (chronicle-own ks j.distinct m n)) (executed-decided m.replica.chronicle))
+member-decided : (sizes : Sizes) (ks : Judged) → AreJudged sizes ks → (m : Member) → Among m ks
+    → IsDecided (judged_family sizes ks) (executed m.replica.chronicle)
+member-decided sizes ks j m n = (
+  m.number,
+  among-judged ks m n,
+  subst (λ (c : Chronicle). Among (executed m.replica.chronicle) (decided c))
+      (sym (chronicle-own ks j.distinct m n)) (executed-decided m.replica.chronicle),
+)
 
 -- the histories of a lawful family agree
-lawful-agree : (sizes : Sizes) (ks : Judged) → AreJudged sizes ks → IsLawfulFamily (judged_family sizes ks) → HistoriesAgree ks
+lawful-agree : (sizes : Sizes) (ks : Judged) → AreJudged sizes ks → IsLawfulFamily (judged_family sizes ks)
+    → HistoriesAgree ks
 unfolding history
 lawful-agree sizes ks j lawful a b ma mb =
     let x : Branch = executed a.replica.chronicle in
     let y : Branch = executed b.replica.chronicle in
-    elim (one-extends (judged_family sizes ks) x y lawful (member-decided sizes ks j a ma) (member-decided sizes ks j b mb)) [
+    elim (one-extends (judged_family sizes ks) x y lawful (member-decided sizes ks j a ma)
+    (member-decided sizes ks j b mb)) [
       | inl e ↦ beginnings-comparable _ _ (history_of x) (held-begins a.replica) (held-below b.replica x e)
       | inr e ↦ beginnings-comparable _ _ (history_of y) (held-below a.replica y e) (held-begins b.replica)
     ]
 
 -- the law of this name
 pub backed-histories_agree : BackedHistoriesAgree
-backed-histories_agree sizes ks j apart none = lawful-agree sizes ks j (backed-chronicles_are_orderly sizes ks j apart none)
+backed-histories_agree sizes ks j apart none =
+    lawful-agree sizes ks j (backed-chronicles_are_orderly sizes ks j apart none)

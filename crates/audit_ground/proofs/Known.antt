@@ -14,19 +14,23 @@ use Rattle.audit_ground.specs.Law.{KnownIn, KnownTo, IsNamed, IsLawfullyKept, Ar
 use Rattle.audit_ground.proofs.Members.{judged-member, unjudged-none}
 
 -- what stands for a branch still does where more is known
-pub stands_for-more : (Known More : Core → Type 0) → ((c : Core) → Known c → More c) → (d : Bytes) (b : Branch) → StandsFor Known d b → StandsFor More d b
+pub stands_for-more : (Known More : Core → Type 0) → ((c : Core) → Known c → More c)
+    → (d : Bytes) (b : Branch) → StandsFor Known d b → StandsFor More d b
 stands_for-more Known More up d [] h = h
-stands_for-more Known More up d (b ∷ parent) h = (h.0, up h.0 h.1, h.2, h.3, h.4, h.5, stands_for-more Known More up h.0.parent parent h.6)
+stands_for-more Known More up d (b ∷ parent) h =
+    (h.0, up h.0 h.1, h.2, h.3, h.4, h.5, stands_for-more Known More up h.0.parent parent h.6)
 
 -- with no collision a digest stands for one branch
-pub stands_for-one : (Known : Core → Type 0) → NoCollision Known → Known genesis_core → (d : Bytes) (a b : Branch) → StandsFor Known d a → StandsFor Known d b → a ≡ b
+pub stands_for-one : (Known : Core → Type 0) → NoCollision Known → Known genesis_core
+    → (d : Bytes) (a b : Branch) → StandsFor Known d a → StandsFor Known d b → a ≡ b
 stands_for-one Known apart g d a b h k =
     let p = stands_for-digest Known d a h in
     let q = stands_for-digest Known d b k in
     digest_of-one Known apart g refl a b p.1 q.1 (sym p.0 ∙ q.0)
 
 -- what names a block still does where more is known
-named-more : (Known More : Core → Type 0) → ((c : Core) → Known c → More c) → (a : Admitted) → IsNamed Known a → IsNamed More a
+named-more : (Known More : Core → Type 0) → ((c : Core) → Known c → More c) → (a : Admitted)
+    → IsNamed Known a → IsNamed More a
 named-more Known More up a n = record {
   block = stands_for-more Known More up (digest a.core) a.branch n.block;
   justified = stands_for-more Known More up a.certificate.digest (just1 a.branch) n.justified;
@@ -37,7 +41,8 @@ pub known-genesis : (ks : Judged) → KnownTo ks genesis_core
 known-genesis ks = inl refl
 
 -- so is what a judged replica knows
-pub known-member : (ks : Judged) (m : Member) → Among m ks → (c : Core) → KnownIn m.replica.chronicle c → KnownTo ks c
+pub known-member : (ks : Judged) (m : Member) → Among m ks → (c : Core) → KnownIn m.replica.chronicle c
+    → KnownTo ks c
 known-member ks m n c k = inr (m, n, k)
 
 -- from here on: judged replicas, and no collision of what they know
@@ -48,14 +53,17 @@ module _ (sizes : Sizes) (ks : Judged) (judged : AreJudged sizes ks) (apart : No
 
   -- the chronicle of a judged number is lawful
   pub judged-lawful : (i : ℕ) → is_judged ks i ≡ true → IsLawful sizes (chronicle_of ks i)
-  judged-lawful i t = let r = judged-member ks i t in subst (IsLawful sizes) (sym r.3) (member-kept r.0 r.1).lawful
+  judged-lawful i t =
+      let r = judged-member ks i t in subst (IsLawful sizes) (sym r.3) (member-kept r.0 r.1).lawful
 
   -- and its digests stand for its branches
-  pub judged-named : (i : ℕ) (a : Admitted) → Among (took_block a) (chronicle_of ks i) → IsNamed (KnownTo ks) a
+  pub judged-named : (i : ℕ) (a : Admitted) → Among (took_block a) (chronicle_of ks i)
+      → IsNamed (KnownTo ks) a
   judged-named i a n =
       elim (cases_Bool (is_judged ks i)) [
         | inl t ↦
             let r = judged-member ks i t in
-            named-more (KnownIn r.0.replica.chronicle) (KnownTo ks) (known-member ks r.0 r.1) a ((member-kept r.0 r.1).named a (subst (λ (c : Chronicle). Among (took_block a) c) r.3 n))
+            named-more (KnownIn r.0.replica.chronicle) (KnownTo ks) (known-member ks r.0 r.1) a
+            ((member-kept r.0 r.1).named a (subst (λ (c : Chronicle). Among (took_block a) c) r.3 n))
         | inr f ↦ absurd (subst (λ (c : Chronicle). Among (took_block a) c) (unjudged-none ks i f) n)
       ]

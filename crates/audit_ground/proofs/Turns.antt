@@ -1,5 +1,6 @@
 -- Greatest fronts, of anything that moves by a rule that more of the others' steps keep.
-use Rattle.std.proofs.Common.{ℕ, zero, suc, ◌≡◌, ◌+◌, ◌<◌, ◌≤◌, ◌⊎◌, Bool, true, false, [], ◌∷◌, refl, sym, ap, subst, ◌∙◌, arith, inl, inr}
+use Rattle.std.proofs.Common.{ℕ, zero, suc, ◌≡◌, ◌+◌, ◌<◌, ◌≤◌, ◌⊎◌, Bool, true, false, [], ◌∷◌, refl, sym}
+use Rattle.std.proofs.Common.{ap, subst, ◌∙◌, arith, inl, inr}
 use Rattle.std.proofs.lemmas.Bool.{cond_both, cases_Bool, cases_lt, cases_eq, eqb-true, eqb-false, both_ways}
 use lib.Dec.{eqb}
 use Rattle.definitions.specs.Audit.{Cut, Turns, steps_in, AreAllowed, IsGreatest}
@@ -16,15 +17,19 @@ IsGrowing may = (m k : Cut) (u : ℕ) → Under m k → m u ≡ k u → may m u 
 -- a turn counts for its own replica
 pub steps_in-own : (u : ℕ) (earlier : Turns) → steps_in (u ∷ earlier) u ≡ suc (steps_in earlier u)
 unfolding steps_in
-steps_in-own u earlier = cond_both (eqb u u) (suc (steps_in earlier u)) (steps_in earlier u) (λ x. x ≡ suc (steps_in earlier u)) (λ e. refl) (λ e. absurd (eqb-false u u e refl))
+steps_in-own u earlier = cond_both (eqb u u) (suc (steps_in earlier u)) (steps_in earlier u)
+    (λ x. x ≡ suc (steps_in earlier u)) (λ e. refl) (λ e. absurd (eqb-false u u e refl))
 
 -- and for no other
 pub steps_in-other : (u i : ℕ) (earlier : Turns) → (u ≡ i → ⊥) → steps_in (u ∷ earlier) i ≡ steps_in earlier i
 unfolding steps_in
-steps_in-other u i earlier n = cond_both (eqb u i) (suc (steps_in earlier i)) (steps_in earlier i) (λ x. x ≡ steps_in earlier i) (λ e. absurd (n (eqb-true u i e))) (λ e. refl)
+steps_in-other u i earlier n =
+    cond_both (eqb u i) (suc (steps_in earlier i)) (steps_in earlier i) (λ x. x ≡ steps_in earlier i)
+    (λ e. absurd (n (eqb-true u i e))) (λ e. refl)
 
 -- an allowed turn under a cut from which none may move stays under it
-under-step : (may : Cut → ℕ → Bool) → IsGrowing may → (k : Cut) → ((u : ℕ) → may k u ≡ false) → (u : ℕ) (m : Cut) → may m u ≡ true → Under m k → suc (m u) ≤ k u
+under-step : (may : Cut → ℕ → Bool) → IsGrowing may → (k : Cut) → ((u : ℕ) → may k u ≡ false)
+    → (u : ℕ) (m : Cut) → may m u ≡ true → Under m k → suc (m u) ≤ k u
 under-step may grow k stuck u m h below =
     elim (cases_lt (m u) (k u)) [
       | inl l ↦ l
@@ -35,7 +40,8 @@ under-step may grow k stuck u m h below =
     ]
 
 -- turns never pass a cut from which none may move
-pub turns-under : (may : Cut → ℕ → Bool) → IsGrowing may → (k : Cut) → ((u : ℕ) → may k u ≡ false) → (turns : Turns) → AreAllowed may turns → Under (steps_in turns) k
+pub turns-under : (may : Cut → ℕ → Bool) → IsGrowing may → (k : Cut) → ((u : ℕ) → may k u ≡ false)
+    → (turns : Turns) → AreAllowed may turns → Under (steps_in turns) k
 unfolding steps_in
 turns-under may grow k stuck [] a i = omega arith
 turns-under may grow k stuck (u ∷ earlier) a i =
@@ -58,7 +64,8 @@ sum_below-under zero f g h = omega arith
 sum_below-under (suc n) f g h = let a = h n in let b = sum_below-under n f g h in omega (arith, a, b)
 
 -- and where one is below, it is less
-pub sum_below-strict : (n : ℕ) (f g : Cut) (u : ℕ) → Under f g → u < n → f u < g u → sum_below n f < sum_below n g
+pub sum_below-strict : (n : ℕ) (f g : Cut) (u : ℕ) → Under f g → u < n → f u < g u
+    → sum_below n f < sum_below n g
 sum_below-strict zero f g u h l s = absurd (omega arith)
 sum_below-strict (suc n) f g u h l s =
     elim (cases_lt u n) [
@@ -77,7 +84,10 @@ some-mover p (suc n) =
       | inl t ↦ inl (n, omega arith, t)
       | inr f ↦ elim (some-mover p n) [
         | inl r ↦ inl (r.0, (let l = r.1 in omega (arith, l)), r.2)
-        | inr none ↦ inr (λ u l. elim (cases_lt u n) [ inl k ↦ none u k | inr k ↦ subst (λ (j : ℕ). p j ≡ false) (let e : n ≡ u = omega arith in e) f ])
+        | inr none ↦ inr (λ u l. elim (cases_lt u n) [
+          | inl k ↦ none u k
+          | inr k ↦ subst (λ (j : ℕ). p j ≡ false) (let e : n ≡ u = omega arith in e) f
+        ])
       ]
     ]
 
@@ -93,7 +103,8 @@ pub record IsBounded (may : Cut → ℕ → Bool) (n : ℕ) (most : Cut) : Type 
   pub short : (m : Cut) (u : ℕ) → may m u ≡ true → m u < most u
 
 -- turns never go past the most
-pub turns-short : (may : Cut → ℕ → Bool) (n : ℕ) (most : Cut) → IsBounded may n most → (turns : Turns) → AreAllowed may turns → Under (steps_in turns) most
+pub turns-short : (may : Cut → ℕ → Bool) (n : ℕ) (most : Cut) → IsBounded may n most → (turns : Turns)
+    → AreAllowed may turns → Under (steps_in turns) most
 unfolding steps_in
 turns-short may n most b [] a i = omega arith
 turns-short may n most b (u ∷ earlier) a i =
@@ -106,24 +117,29 @@ turns-short may n most b (u ∷ earlier) a i =
 -- a turn takes no counter back
 more-step : (u i : ℕ) (earlier : Turns) → steps_in earlier i ≤ steps_in (u ∷ earlier) i
 unfolding steps_in
-more-step u i earlier = cond_both (eqb u i) (suc (steps_in earlier i)) (steps_in earlier i) (λ x. steps_in earlier i ≤ x) (λ e. omega arith) (λ e. omega arith)
+more-step u i earlier = cond_both (eqb u i) (suc (steps_in earlier i)) (steps_in earlier i)
+    (λ x. steps_in earlier i ≤ x) (λ e. omega arith) (λ e. omega arith)
 
 -- what is left falls with each turn
-fuel-step : (n : ℕ) (most : Cut) (u : ℕ) (turns : Turns) (fuel : ℕ) → u < n → sum_below n most ≤ suc fuel + sum_below n (steps_in turns) → sum_below n most ≤ fuel + sum_below n (steps_in (u ∷ turns))
+fuel-step : (n : ℕ) (most : Cut) (u : ℕ) (turns : Turns) (fuel : ℕ) → u < n
+    → sum_below n most ≤ suc fuel + sum_below n (steps_in turns)
+    → sum_below n most ≤ fuel + sum_below n (steps_in (u ∷ turns))
 fuel-step n most u turns fuel l h =
     let s : steps_in turns u < steps_in (u ∷ turns) u = let e = steps_in-own u turns in omega (arith, e) in
     let r = sum_below-strict n (steps_in turns) (steps_in (u ∷ turns)) u (λ i. more-step u i turns) l s in
     omega (arith, r)
 
 -- moving while some may ends
-run : (may : Cut → ℕ → Bool) (n : ℕ) (most : Cut) → IsBounded may n most → (fuel : ℕ) (turns : Turns) → AreAllowed may turns → sum_below n most ≤ fuel + sum_below n (steps_in turns) → IsStuck may
+run : (may : Cut → ℕ → Bool) (n : ℕ) (most : Cut) → IsBounded may n most → (fuel : ℕ) (turns : Turns)
+    → AreAllowed may turns → sum_below n most ≤ fuel + sum_below n (steps_in turns) → IsStuck may
 run may n most b zero turns a h =
     record {
       turns = turns;
       allowed = a;
       stuck = λ u. elim (cases_Bool (may (steps_in turns) u)) [
         | inl t ↦
-            let r = sum_below-strict n (steps_in turns) most u (turns-short may n most b turns a) (b.few (steps_in turns) u t) (b.short (steps_in turns) u t) in
+            let r = sum_below-strict n (steps_in turns) most u (turns-short may n most b turns a)
+            (b.few (steps_in turns) u t) (b.short (steps_in turns) u t) in
             absurd (omega (arith, r))
         | inr f ↦ f
       ];
@@ -134,7 +150,8 @@ run may n most b (suc fuel) turns a h =
       | inr none ↦ record {
         turns = turns;
         allowed = a;
-        stuck = λ u. elim (cases_Bool (may (steps_in turns) u)) [ inl t ↦ none u (b.few (steps_in turns) u t) | inr f ↦ f ];
+        stuck = λ u. elim (cases_Bool (may (steps_in turns) u))
+            [ inl t ↦ none u (b.few (steps_in turns) u t) | inr f ↦ f ];
       }
     ]
 
@@ -146,11 +163,19 @@ stuck-exists may n most b = run may n most b (sum_below n most) [] tt (omega ari
 -- ---- what the greatest cut is
 
 -- a cut that is reached, and from which none may move, is the greatest
-pub greatest-from_stuck : (may : Cut → ℕ → Bool) → IsGrowing may → (k : Cut) → IsReached may k → ((u : ℕ) → may k u ≡ false) → IsGreatest may k
-greatest-from_stuck may grow k r stuck = record { turns = r.turns; allowed = r.allowed; reached = r.reached; greatest = λ other o. turns-under may grow k stuck other o }
+pub greatest-from_stuck : (may : Cut → ℕ → Bool) → IsGrowing may → (k : Cut) → IsReached may k
+    → ((u : ℕ) → may k u ≡ false) → IsGreatest may k
+greatest-from_stuck may grow k r stuck =
+    record {
+      turns = r.turns;
+      allowed = r.allowed;
+      reached = r.reached;
+      greatest = λ other o. turns-under may grow k stuck other o;
+    }
 
 -- there is one greatest cut
-pub greatest-one : (may : Cut → ℕ → Bool) (k m : Cut) → IsGreatest may k → IsGreatest may m → (i : ℕ) → k i ≡ m i
+pub greatest-one : (may : Cut → ℕ → Bool) (k m : Cut) → IsGreatest may k → IsGreatest may m → (i : ℕ)
+    → k i ≡ m i
 greatest-one may k m f g i =
     let a = f.greatest g.turns g.allowed i in
     let b = g.greatest f.turns f.allowed i in
@@ -159,12 +184,14 @@ greatest-one may k m f g i =
     omega (arith, a, b, c, d)
 
 -- none may move from it
-pub greatest-stuck : (may : Cut → ℕ → Bool) → IsGrowing may → (k : Cut) → IsGreatest may k → (u : ℕ) → may k u ≡ false
+pub greatest-stuck : (may : Cut → ℕ → Bool) → IsGrowing may → (k : Cut) → IsGreatest may k → (u : ℕ)
+    → may k u ≡ false
 greatest-stuck may grow k f u =
     elim (cases_Bool (may k u)) [
       | inl t ↦
           let same : k u ≡ steps_in f.turns u = sym (f.reached u) in
-          let move : may (steps_in f.turns) u ≡ true = grow k (steps_in f.turns) u (λ i. (let e = f.reached i in omega (arith, e))) same t in
+          let move : may (steps_in f.turns) u ≡ true =
+          grow k (steps_in f.turns) u (λ i. (let e = f.reached i in omega (arith, e))) same t in
           let more = f.greatest (u ∷ f.turns) (move, f.allowed) u in
           let own = steps_in-own u f.turns in
           absurd (omega (arith, more, own, same))
@@ -179,18 +206,24 @@ unfolding steps_in
 reached-start may k none = record { turns = []; allowed = tt; reached = λ i. sym (none i) }
 
 -- so is a reached cut with one more step that was allowed
-pub reached-moved : (may : Cut → ℕ → Bool) → IsGrowing may → (k next : Cut) (u : ℕ) → IsReached may k → may k u ≡ true → IsMoved u k next → IsReached may next
+pub reached-moved : (may : Cut → ℕ → Bool) → IsGrowing may → (k next : Cut) (u : ℕ) → IsReached may k
+    → may k u ≡ true → IsMoved u k next → IsReached may next
 reached-moved may grow k next u r h m = record {
   turns = u ∷ r.turns;
-  allowed = (grow k (steps_in r.turns) u (λ i. (let e = r.reached i in omega (arith, e))) (sym (r.reached u)) h, r.allowed);
+  allowed = (
+    grow k (steps_in r.turns) u (λ i. (let e = r.reached i in omega (arith, e))) (sym (r.reached u)) h,
+    r.allowed,
+  );
   reached = λ i. elim (cases_eq u i) [
-    | inl e ↦ subst (λ (j : ℕ). steps_in (u ∷ r.turns) j ≡ next j) e (steps_in-own u r.turns ∙ (ap suc (r.reached u) ∙ sym m.own))
+    | inl e ↦ subst (λ (j : ℕ). steps_in (u ∷ r.turns) j ≡ next j) e
+        (steps_in-own u r.turns ∙ (ap suc (r.reached u) ∙ sym m.own))
     | inr n ↦ steps_in-other u i r.turns n ∙ (r.reached i ∙ sym (m.others i n))
   ];
 }
 
 -- it does not go past the most
-pub reached-short : (may : Cut → ℕ → Bool) (n : ℕ) (most : Cut) → IsBounded may n most → (k : Cut) → IsReached may k → Under k most
+pub reached-short : (may : Cut → ℕ → Bool) (n : ℕ) (most : Cut) → IsBounded may n most → (k : Cut)
+    → IsReached may k → Under k most
 reached-short may n most b k r i =
     let a = turns-short may n most b r.turns r.allowed i in
     let e = r.reached i in

@@ -3,7 +3,8 @@ use Rattle.std.proofs.Common.{◌⊎◌, inl, inr}
 use Rattle.ids.specs.Sizes.{Sizes}
 use Rattle.definitions.specs.Lists.{IsBeginning}
 use Rattle.definitions.specs.Replicas.{held_history}
-use Rattle.definitions.specs.Audit.{Member, Judged, Reason, Reason.missing_vote, Reason.collision, Verdict.agree, Verdict.fork, Holds, HistoriesAgree}
+use Rattle.definitions.specs.Audit.{Member, Judged, Reason, Reason.missing_vote, Reason.collision}
+use Rattle.definitions.specs.Audit.{Verdict.agree, Verdict.fork, Holds, HistoriesAgree}
 use Rattle.audit_ground.specs.Law.{AreJudged, EachForkHasAReason, EachAuditAnswers}
 use Rattle.audit_ground.proofs.Decisions.{OrNot, all-pairs, either-or_not, IsBeginning-or_not}
 use Rattle.audit_ground.proofs.Cores.{apart-or_collision}
@@ -12,18 +13,23 @@ use Rattle.audit_ground.proofs.Histories.{backed-histories_agree}
 
 -- the histories of two members, one a beginning of the other
 abbrev TwoAgree : Member → Member → Type 0
-TwoAgree a b = IsBeginning (held_history a.replica) (held_history b.replica) ⊎ IsBeginning (held_history b.replica) (held_history a.replica)
+TwoAgree a b =
+    IsBeginning (held_history a.replica) (held_history b.replica)
+    ⊎ IsBeginning (held_history b.replica) (held_history a.replica)
 
 -- the histories agree, or not
 pub agree-or_not : (ks : Judged) → OrNot (HistoriesAgree ks)
 agree-or_not ks =
-    elim (all-pairs TwoAgree (λ a b. either-or_not (IsBeginning-or_not (held_history a.replica) (held_history b.replica)) (IsBeginning-or_not (held_history b.replica) (held_history a.replica))) ks ks) [
+    elim (all-pairs TwoAgree (λ a b. either-or_not
+    (IsBeginning-or_not (held_history a.replica) (held_history b.replica))
+    (IsBeginning-or_not (held_history b.replica) (held_history a.replica))) ks ks) [
       | inl h ↦ inl h
       | inr r ↦ inr (λ h. r.4 (h r.0 r.1 r.2 r.3))
     ]
 
 -- a reason holds, or the histories agree
-reason-or_agree : (sizes : Sizes) (ks : Judged) → AreJudged sizes ks → ((r : Reason) × Holds ks r) ⊎ HistoriesAgree ks
+reason-or_agree : (sizes : Sizes) (ks : Judged) → AreJudged sizes ks
+    → ((r : Reason) × Holds ks r) ⊎ HistoriesAgree ks
 reason-or_agree sizes ks j =
     let f = fronts-exist ks in
     elim (whole-or-unbacked ks f.0 f.1) [

@@ -1,4 +1,5 @@
--- What is known of judged replicas, and what follows for their fronts, their histories and an audit's verdict.
+-- What is known of judged replicas, and what follows for their fronts, their histories and an audit's
+-- verdict.
 use Rattle.std.specs.Prelude.{ℕ, suc, ◌≡◌, ◌<◌, ◌≤◌, ◌⊎◌, Bool, true, false, List, map, length, Some}
 use Rattle.std.specs.List.{AllByRecursion}
 use Rattle.ids.specs.Sizes.{Sizes, replicas, quorum}
@@ -10,7 +11,10 @@ use Rattle.definitions.specs.Digests.{digest, digest_of, core_of, StandsFor, NoC
 use Rattle.definitions.specs.Chronicles.{Admitted, Step, Step.took_block, Chronicle, tree, IsLawful}
 use Rattle.definitions.specs.Replicas.{held_history}
 use Rattle.definitions.specs.Agreement.{Family, IsOrderly, IsLawfulFamily}
-use Rattle.definitions.specs.Audit.{Member, Judged, is_judged, chronicle_of, Cut, Turns, steps_in, AreAllowed, counted_by, counted_for, step_after, has_vote, may_move, AreFronts, Reason, Verdict, IsUnbacked, Holds, HistoriesAgree, IsVerdict}
+use Rattle.definitions.specs.Audit.{Member, Judged, is_judged, chronicle_of, Cut, Turns, steps_in}
+use Rattle.definitions.specs.Audit.{AreAllowed, counted_by, counted_for, step_after, has_vote, may_move}
+use Rattle.definitions.specs.Audit.{AreFronts, Reason, Verdict, IsUnbacked, Holds, HistoriesAgree}
+use Rattle.definitions.specs.Audit.{IsVerdict}
 
 -- ---- what judged replicas have kept
 
@@ -32,7 +36,8 @@ pub record IsLawfullyKept (sizes : Sizes) (c : Chronicle) : Type 0 where
   pub lawful : IsLawful sizes c
   pub named : (a : Admitted) → Among (took_block a) c → IsNamed (KnownIn c) a
 
--- The block is in the tree and came under its own digest, with a certificate of the block that it justifies; the core of a new block is its own.
+-- The block is in the tree and came under its own digest, with a certificate of the block that it
+-- justifies; the core of a new block is its own.
 pub record IsStored (c : Chronicle) (a : Admitted) : Type 0 where
   pub stands : Among a.branch (tree c)
   pub named : digest a.core ≡ digest_of a.branch
@@ -75,11 +80,12 @@ pub record IsMoved (u : ℕ) (k next : Cut) : Type 0 where
   pub own : next u ≡ suc (k u)
   pub others : (i : ℕ) → (u ≡ i → ⊥) → next i ≡ k i
 
--- From no steps, moves that are allowed lead to cuts that are reached; who may move has a step left, so they end, and
--- where none may move any more, they have led to the fronts.
+-- From no steps, moves that are allowed lead to cuts that are reached; who may move has a step left, so
+-- they end, and where none may move any more, they have led to the fronts.
 pub record FindsFronts (ks : Judged) : Type 0 where
   pub start : (k : Cut) → ((i : ℕ) → k i ≡ 0) → IsReached (may_move ks) k
-  pub moved : (k next : Cut) (u : ℕ) → IsReached (may_move ks) k → may_move ks k u ≡ true → IsMoved u k next → IsReached (may_move ks) next
+  pub moved : (k next : Cut) (u : ℕ) → IsReached (may_move ks) k → may_move ks k u ≡ true → IsMoved u k next
+      → IsReached (may_move ks) next
   pub left : (k : Cut) (u : ℕ) → may_move ks k u ≡ true → k u < length (chronicle_of ks u)
   pub within : (k : Cut) → IsReached (may_move ks) k → (i : ℕ) → k i ≤ length (chronicle_of ks i)
   pub finish : (k : Cut) → IsReached (may_move ks) k → ((u : ℕ) → may_move ks k u ≡ false) → AreFronts ks k
@@ -88,7 +94,9 @@ pub record FindsFronts (ks : Judged) : Type 0 where
 
 -- a lawful chronicle of which each block is stored so is lawfully kept
 abbrev pub StoredBlocksAreNamed : Type 0
-StoredBlocksAreNamed = (sizes : Sizes) (c : Chronicle) → IsLawful sizes c → ((a : Admitted) → Among (took_block a) c → IsStored c a) → IsLawfullyKept sizes c
+StoredBlocksAreNamed =
+    (sizes : Sizes) (c : Chronicle) → IsLawful sizes c
+    → ((a : Admitted) → Among (took_block a) c → IsStored c a) → IsLawfullyKept sizes c
 
 -- there are fronts, and one choice of them
 abbrev pub FrontsAreOne : Type 0
@@ -101,11 +109,14 @@ MovingFindsTheFronts = (ks : Judged) → FindsFronts ks
 -- at any fronts, an unbacked vote is one that the first step behind counts and the voter's front lacks
 abbrev pub UnbackedVotesAreSeen : Type 0
 UnbackedVotesAreSeen = (ks : Judged) (k : Cut) (u v : ℕ) (d : Bytes) → AreFronts ks k → IsUnbacked ks u v d →
-    (s : Step) × (step_after (k u) (chronicle_of ks u) ≡ Some s) × Among v (counted_by s) × (counted_for s ≡ d) × (is_judged ks v ≡ true) × (has_vote ks k d v ≡ false)
+    (s : Step) × (step_after (k u) (chronicle_of ks u) ≡ Some s) × Among v (counted_by s)
+    × (counted_for s ≡ d) × (is_judged ks v ≡ true) × (has_vote ks k d v ≡ false)
 
 -- what holds of the judged where no two known cores collide and no vote is unbacked
 abbrev pub WhereBacked : (Sizes → Judged → Type 0) → Type 0
-WhereBacked P = (sizes : Sizes) (ks : Judged) → AreJudged sizes ks → NoCollision (KnownTo ks) → NoneUnbacked ks → P sizes ks
+WhereBacked P =
+    (sizes : Sizes) (ks : Judged) → AreJudged sizes ks → NoCollision (KnownTo ks) → NoneUnbacked ks
+    → P sizes ks
 
 -- the judged are then a lawful family
 abbrev pub BackedChroniclesAreOrderly : Type 0
@@ -117,15 +128,20 @@ BackedHistoriesAgree = WhereBacked (λ sizes ks. HistoriesAgree ks)
 
 -- the judged are members of the family, with its chronicles
 abbrev pub AreMembers : Judged → Family → Type 0
-AreMembers ks fam = (i : ℕ) → is_judged ks i ≡ true → (fam.is_member i ≡ true) × (fam.chronicle i ≡ chronicle_of ks i)
+AreMembers ks fam =
+    (i : ℕ) → is_judged ks i ≡ true → (fam.is_member i ≡ true) × (fam.chronicle i ≡ chronicle_of ks i)
 
--- where no two known cores collide and the judged are members of an orderly family, as correct replicas are, no vote is unbacked
+-- where no two known cores collide and the judged are members of an orderly family, as correct replicas
+-- are, no vote is unbacked
 abbrev pub OrderlyChroniclesAreBacked : Type 0
-OrderlyChroniclesAreBacked = (sizes : Sizes) (ks : Judged) (fam : Family) → AreJudged sizes ks → NoCollision (KnownTo ks) → AreMembers ks fam → IsOrderly fam → NoneUnbacked ks
+OrderlyChroniclesAreBacked =
+    (sizes : Sizes) (ks : Judged) (fam : Family) → AreJudged sizes ks → NoCollision (KnownTo ks)
+    → AreMembers ks fam → IsOrderly fam → NoneUnbacked ks
 
 -- where the histories of judged replicas do not agree, a reason holds
 abbrev pub EachForkHasAReason : Type 0
-EachForkHasAReason = (sizes : Sizes) (ks : Judged) → AreJudged sizes ks → (HistoriesAgree ks → ⊥) → (r : Reason) × Holds ks r
+EachForkHasAReason =
+    (sizes : Sizes) (ks : Judged) → AreJudged sizes ks → (HistoriesAgree ks → ⊥) → (r : Reason) × Holds ks r
 
 -- judged replicas have a verdict
 abbrev pub EachAuditAnswers : Type 0
@@ -142,7 +158,8 @@ pub record SomeAgreement : Type 0 where
   pub backed : NoneUnbacked judged
   pub executed : (m : Member) → Among m judged → 0 < length (held_history m.replica)
 
--- Three of four replicas, each kept well, whose histories do not agree; no cores collide, so an unbacked vote is behind the fork.
+-- Three of four replicas, each kept well, whose histories do not agree; no cores collide, so an unbacked
+-- vote is behind the fork.
 pub record SomeFork : Type 0 where
   pub sizes : Sizes
   pub judged : Judged
@@ -156,8 +173,9 @@ pub record SomeFork : Type 0 where
   pub digest : Bytes
   pub reason : IsUnbacked judged receiver voter digest
 
--- Three of four replicas, each kept well, with fronts of 1, 2 and 3 steps. Behind its front 1 counts a vote of 2, and 2
--- one of 1: each was given, but only after the step that counts the other. A vote of 3 that 1 counts there is backed.
+-- Three of four replicas, each kept well, with fronts of 1, 2 and 3 steps. Behind its front 1 counts a vote
+-- of 2, and 2 one of 1: each was given, but only after the step that counts the other. A vote of 3 that 1
+-- counts there is backed.
 pub record SomeCircle : Type 0 where
   pub sizes : Sizes
   pub judged : Judged

@@ -1,11 +1,16 @@
-//! What an audit rests on: where the histories of kept replicas fork, a vote is unbacked or two cores collide. The
-//! laws speak of the definitions alone; no code runs here. Each stands as the contract of a function with an empty
-//! body.
+//! What an audit rests on: where the histories of kept replicas fork, a vote is unbacked or two
+//! cores collide. The laws speak of the definitions alone; no code runs here. Each stands as the
+//! contract of a function with an empty body.
 #![tactic(auto)]
 
-ghost use Rattle.audit_ground.specs.Law.{StoredBlocksAreNamed, FrontsAreOne, MovingFindsTheFronts, UnbackedVotesAreSeen, BackedChroniclesAreOrderly, BackedHistoriesAgree, OrderlyChroniclesAreBacked, EachForkHasAReason, EachAuditAnswers, SomeAgreement, SomeFork, SomeCircle};
+ghost use Rattle.audit_ground.specs.Law.{StoredBlocksAreNamed, FrontsAreOne, MovingFindsTheFronts};
+ghost use Rattle.audit_ground.specs.Law.{UnbackedVotesAreSeen, BackedChroniclesAreOrderly};
+ghost use Rattle.audit_ground.specs.Law.{BackedHistoriesAgree, OrderlyChroniclesAreBacked};
+ghost use Rattle.audit_ground.specs.Law.{EachForkHasAReason, EachAuditAnswers, SomeAgreement, SomeFork};
+ghost use Rattle.audit_ground.specs.Law.{SomeCircle};
 
-/// A lawful chronicle is kept well where each block is stored under its own digest, with a certificate of the block that it justifies.
+/// A lawful chronicle is kept well where each block is stored under its own digest, with a
+/// certificate of the block that it justifies.
 pub fn stored_blocks_are_named()
     ensures { StoredBlocksAreNamed }
 {}
@@ -50,7 +55,8 @@ pub fn each_audit_answers()
     ensures { EachAuditAnswers }
 {}
 
-/// The premises can be met: three of four replicas are judged that executed something, and no vote is unbacked.
+/// The premises can be met: three of four replicas are judged that executed something, and no vote
+/// is unbacked.
 pub fn some_agreement()
     ensures { SomeAgreement }
 {}

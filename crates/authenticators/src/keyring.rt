@@ -2,7 +2,8 @@ ghost use Rattle.std.specs.Prelude.{◌≡◌, ◌+◌, ◌*◌, ◌<◌, ◌↔
 ghost use Rattle.definitions.specs.Writing.{IsAppended};
 ghost use Rattle.ids.specs.Sizes.{replicas};
 ghost use Rattle.definitions.specs.Tags.{tag_text};
-ghost use Rattle.definitions.specs.Keyrings.{keys_due, is_peer, place_of, keyring_of, tag_for, verify, vector_for};
+ghost use Rattle.definitions.specs.Keyrings.{keys_due, is_peer, place_of, keyring_of, tag_for, verify};
+ghost use Rattle.definitions.specs.Keyrings.{vector_for};
 
 use crate::shared_key::SharedKey;
 use ids::{Config, Fault, Kind, PartyId, ReplicaId};
@@ -11,7 +12,8 @@ use std::marker::Model;
 
 /// The keys of one party. It makes tags for its peers and verifies theirs.
 ///
-/// Two replicas are peers, one replica with itself included, and so are a replica and a client; two clients are not.
+/// Two replicas are peers, one replica with itself included, and so are a replica and a client; two
+/// clients are not.
 #[derive(Drop)]
 pub struct Keyring {
     config: Config,
@@ -31,8 +33,8 @@ impl Model for Keyring {
 }
 
 impl Keyring {
-    /// The keyring of a party, of its key with each replica in order, and then, where it is a replica, with each
-    /// client.
+    /// The keyring of a party, of its key with each replica in order, and then, where it is a
+    /// replica, with each client.
     pub fn new(config: Config, party: PartyId, keys: Vec<SharedKey>) -> Keyring
         requires { length keys.items ≡ keys_due config party }
         ensures { result ≡ record { sizes = config; party = party; keys = keys.items } }
@@ -105,7 +107,8 @@ impl Keyring {
     /// small, and `out` is as before then.
     #[tactic(auto, unfolding(definitions::specs::Keyrings::tags_for))]
     pub fn vector(&self, label: Kind, content: &[u8], out: &mut Vec<u8>) -> Result<(), Fault>
-        ensures { IsAppended out.old out.new (vector_for self.now.sizes (keyring_of self.now) label content.now) result }
+        ensures { IsAppended out.old out.new
+            (vector_for self.now.sizes (keyring_of self.now) label content.now) result }
     {
         let n = self.config.n();
         out.reserve(32 * usize::from(n))?;

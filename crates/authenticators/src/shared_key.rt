@@ -4,8 +4,8 @@ ghost use Rattle.definitions.specs.Tags.{hmac};
 use crate::mac::KeyedHashers;
 use std::marker::Model;
 
-/// The key of two parties, made ready for tags: with it stand the hashers that have taken its blocks, so that no tag
-/// hashes these again. Contracts see the 32 bytes of the key.
+/// The key of two parties, made ready for tags: with it stand the hashers that have taken its
+/// blocks, so that no tag hashes these again. Contracts see the 32 bytes of the key.
 #[derive(Drop)]
 pub struct SharedKey {
     bytes: [u8; 32],

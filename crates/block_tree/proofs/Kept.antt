@@ -1,6 +1,7 @@
 -- What nodes stand for is a tree, in which each block stands once.
 use Rattle.ids.specs.declared.limits.TheConstants.{MOST_BLOCKS}
-use Rattle.std.proofs.Common.{ℕ, suc, ◌≡◌, ◌<◌, ◌≤◌, ◌+◌, List, [], ◌∷◌, length, refl, sym, ap, subst, ◌∙◌, arith, inl, inr, ◌++◌, reverse}
+use Rattle.std.proofs.Common.{ℕ, suc, ◌≡◌, ◌<◌, ◌≤◌, ◌+◌, List, [], ◌∷◌, length, refl, sym, ap, subst, ◌∙◌}
+use Rattle.std.proofs.Common.{arith, inl, inr, ◌++◌, reverse}
 use Rattle.std.specs.Prelude.{⊤}
 use Rattle.std.proofs.lemmas.List.{reverse-append}
 use Rattle.definitions.specs.Lists.{Among}
@@ -9,7 +10,8 @@ use Rattle.definitions.specs.Frames.{Certificate, genesis_core}
 use Rattle.definitions.specs.Branches.{Branch, IsBranch, just1}
 use Rattle.definitions.specs.Digests.{digest, digest_of, core_of}
 use Rattle.definitions.specs.Trees.{Stored, TreeState, blocks, block_of, IsTree}
-use Rattle.definitions.proofs.Trees.{IsGrowth, growth-tree, growth-new, grown-heights, found-in, digest-core, core-known}
+use Rattle.definitions.proofs.Trees.{IsGrowth, growth-tree, growth-new, grown-heights, found-in}
+use Rattle.definitions.proofs.Trees.{digest-core, core-known}
 use Rattle.block_tree.specs.declared.node.Node.{Node}
 use Rattle.block_tree.specs.Nodes.{branch_in, block_in, stored_of, IsNode, AreNodes, IsKept}
 
@@ -38,30 +40,45 @@ genesis_tree = record {
 some_certificate : Branch → Certificate
 some_certificate b = record { digest = digest_of (just1 b); votes = [] }
 
-growth : (n : Node) (t : List Branch) → IsNode n t → IsGrowth (suc (length t)) n.core (some_certificate (block_in n.core t)) t (block_in n.core t) (branch_in n.core.parent t)
+growth : (n : Node) (t : List Branch) → IsNode n t
+    → IsGrowth (suc (length t)) n.core (some_certificate (block_in n.core t)) t (block_in n.core t)
+    (branch_in n.core.parent t)
 unfolding some_certificate
-growth n t h = record { is = refl; parent_found = h.parent; new = h.new; height = h.height; justified = refl; room = omega arith }
+growth n t h = record {
+  is = refl;
+  parent_found = h.parent;
+  new = h.new;
+  height = h.height;
+  justified = refl;
+  room = omega arith;
+}
 
 pub nodes-tree : (ns : List Node) → AreNodes ns → IsTree (blocks (stored_of ns))
 unfolding stored_of
 nodes-tree [] h = genesis_tree
 nodes-tree (n ∷ older) h =
     let t = blocks (stored_of older) in
-    growth-tree (suc (length t)) n.core (some_certificate (block_in n.core t)) t (block_in n.core t) (branch_in n.core.parent t) (nodes-tree older h.1) h.0.justify (growth n t h.0)
+    growth-tree (suc (length t)) n.core (some_certificate (block_in n.core t)) t (block_in n.core t)
+    (branch_in n.core.parent t) (nodes-tree older h.1) h.0.justify (growth n t h.0)
 
 pub nodes-once : (ns : List Node) → AreNodes ns → Once (stored_of ns)
 unfolding stored_of
 nodes-once [] h = tt
 nodes-once (n ∷ older) h =
-    let t = blocks (stored_of older) in
-    (growth-new (suc (length t)) n.core (some_certificate (block_in n.core t)) t (block_in n.core t) (branch_in n.core.parent t) (growth n t h.0), nodes-once older h.1)
+    let t = blocks (stored_of older) in (
+      growth-new (suc (length t)) n.core (some_certificate (block_in n.core t)) t (block_in n.core t)
+          (branch_in n.core.parent t) (growth n t h.0),
+      nodes-once older h.1,
+    )
 
-pub nodes-heights : (ns : List Node) → AreNodes ns → (x : Branch) → Among x (blocks (stored_of ns)) → length x < length (blocks (stored_of ns))
+pub nodes-heights : (ns : List Node) → AreNodes ns → (x : Branch) → Among x (blocks (stored_of ns))
+    → length x < length (blocks (stored_of ns))
 unfolding stored_of
 nodes-heights [] h x m = elim m [ inl e ↦ omega (arith, ap (λ (b : Branch). length b) e) | inr n ↦ absurd n ]
 nodes-heights (n ∷ older) h x m =
     let t = blocks (stored_of older) in
-    grown-heights t (block_of n.core) (branch_in n.core.parent t) (found-in n.core.parent t (branch_in n.core.parent t) h.0.parent).0 (nodes-heights older h.1) x m
+    grown-heights t (block_of n.core) (branch_in n.core.parent t)
+    (found-in n.core.parent t (branch_in n.core.parent t) h.0.parent).0 (nodes-heights older h.1) x m
 
 pub nodes-count : (ns : List Node) → length (blocks (stored_of ns)) ≡ length ns + 1
 unfolding stored_of
@@ -81,9 +98,12 @@ reverse-first x xs = reverse-append (x ∷ []) xs
 
 pub reverse-twice : {A : Type 0} (xs : List A) → reverse (reverse xs) ≡ xs
 reverse-twice [] = refl
-reverse-twice {A} (x ∷ xs) = ap reverse (reverse-first x xs) ∙ (reverse-last (reverse xs) x ∙ ap (λ (l : List A). x ∷ l) (reverse-twice xs))
+reverse-twice {A} (x ∷ xs) =
+    ap reverse (reverse-first x xs)
+    ∙ (reverse-last (reverse xs) x ∙ ap (λ (l : List A). x ∷ l) (reverse-twice xs))
 
-pub kept-sound : (most : ℕ) (first : Bytes) (ns : List Node) → IsKept most first ns → IsSound (record { most = most; stored = stored_of ns })
+pub kept-sound : (most : ℕ) (first : Bytes) (ns : List Node) → IsKept most first ns
+    → IsSound (record { most = most; stored = stored_of ns })
 kept-sound most first ns h = record {
   tree = nodes-tree ns h.nodes;
   once = nodes-once ns h.nodes;
@@ -93,15 +113,19 @@ kept-sound most first ns h = record {
 }
 
 -- of the value that they are seen as
-pub sound-of : (most : ℕ) (first : Bytes) (ns : List Node) (t : TreeState) → record { most = most; stored = stored_of ns } ≡ t → IsKept most first ns → IsSound t
+pub sound-of : (most : ℕ) (first : Bytes) (ns : List Node) (t : TreeState)
+    → record { most = most; stored = stored_of ns } ≡ t → IsKept most first ns → IsSound t
 sound-of most first ns t e h = subst IsSound e (kept-sound most first ns h)
 
 -- a node's digest and core are its block's
 pub node-named : (n : Node) (t : List Branch) → IsNode n t → digest_of (block_in n.core t) ≡ n.digest
-node-named n t h = digest-core n.core (branch_in n.core.parent t) (sym (found-in n.core.parent t (branch_in n.core.parent t) h.parent).1) h.height ∙ sym h.named
+node-named n t h =
+    digest-core n.core (branch_in n.core.parent t)
+    (sym (found-in n.core.parent t (branch_in n.core.parent t) h.parent).1) h.height ∙ sym h.named
 
 pub node-core : (n : Node) (t : List Branch) → IsNode n t → core_of (block_in n.core t) ≡ n.core
-node-core n t h = core-known n.core (branch_in n.core.parent t) (sym (found-in n.core.parent t (branch_in n.core.parent t) h.parent).1) h.height
+node-core n t h = core-known n.core (branch_in n.core.parent t)
+    (sym (found-in n.core.parent t (branch_in n.core.parent t) h.parent).1) h.height
 
 pub genesis-digest : digest_of [] ≡ digest genesis_core
 unfolding digest_of

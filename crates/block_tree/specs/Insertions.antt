@@ -5,7 +5,8 @@ use Rattle.ids.specs.declared.fault.Fault.TheVariants as fault
 use Rattle.definitions.specs.Bytes.{Bytes}
 use Rattle.definitions.specs.Frames.{Core, Certificate}
 use Rattle.definitions.specs.Digests.{digest}
-use Rattle.definitions.specs.Trees.{TreeState, blocks, Placing, Placing.stands, Placing.grows, Placing.lacks_parent, Placing.unfit, placing}
+use Rattle.definitions.specs.Trees.{TreeState, blocks, Placing, Placing.stands, Placing.grows}
+use Rattle.definitions.specs.Trees.{Placing.lacks_parent, Placing.unfit, placing}
 use Rattle.block_tree.specs.declared.place.Place.{Place}
 use Rattle.block_tree.specs.declared.place.Place.TheVariants as place
 use Rattle.block_tree.specs.declared.node.Node.{Node}
@@ -34,7 +35,8 @@ IsGrowing t core q clear (Stands d) = ⊥
 -- what is planned for a block that comes to this
 abbrev pub IsPlanned : TreeState → Core → Certificate → Bool → Result Plan Fault → Placing → Type 0
 IsPlanned t core q clear result (stands b) = result ≡ Ok (Stands (digest core))
-IsPlanned t core q clear result (grows b) = MatchResult result (IsGrowing t core q clear) (λ n. n ≡ fault.Memory)
+IsPlanned t core q clear result (grows b) =
+    MatchResult result (IsGrowing t core q clear) (λ n. n ≡ fault.Memory)
 IsPlanned t core q clear result lacks_parent = result ≡ Err fault.UnknownParent
 IsPlanned t core q clear result (unfit n) = result ≡ Err n
 
@@ -46,14 +48,20 @@ place_of lacks_parent = Err fault.UnknownParent
 place_of (unfit n) = Err n
 
 -- what an insertion answers and leaves, where the block comes to this
-abbrev pub InsertedAt : TreeState → Core → Certificate → Bool → Result Bytes Fault → TreeState → Placing → Type 0
+abbrev pub InsertedAt : TreeState → Core → Certificate → Bool → Result Bytes Fault → TreeState → Placing
+    → Type 0
 InsertedAt old core q clear result new (stands b) = (result ≡ Ok (digest core)) × (new ≡ old)
 InsertedAt old core q clear result new (grows b) =
-    ((result ≡ Ok (digest core)) × (new ≡ record { most = old.most; stored = record { branch = b; certificate = q; clear = clear } ∷ old.stored }))
+    ((result ≡ Ok (digest core))
+    × (new ≡ record {
+      most = old.most;
+      stored = record { branch = b; certificate = q; clear = clear } ∷ old.stored;
+    }))
     ⊎ ((result ≡ Err fault.Memory) × (new ≡ old))
 InsertedAt old core q clear result new lacks_parent = (result ≡ Err fault.UnknownParent) × (new ≡ old)
 InsertedAt old core q clear result new (unfit n) = (result ≡ Err n) × (new ≡ old)
 
 -- what an insertion answers and leaves: a block that may stand does afterwards, unless memory is refused
 abbrev pub Inserted : TreeState → Core → Certificate → Bool → Result Bytes Fault → TreeState → Type 0
-Inserted old core q clear result new = InsertedAt old core q clear result new (placing old.most core q (blocks old.stored))
+Inserted old core q clear result new =
+    InsertedAt old core q clear result new (placing old.most core q (blocks old.stored))

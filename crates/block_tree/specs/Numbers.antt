@@ -1,5 +1,6 @@
 -- The numbers of blocks, in order of insertion: genesis has 0. A tree lists its blocks newest first.
-use Rattle.std.specs.Prelude.{count_by, ◌≡◌, ◌==◌, ◌-◌, ◌<◌, ◌≤◌, ◌^◌, ℕ, suc, get_or, List, [], ◌∷◌, length, drop, slice_get, MatchOption, Option, Some, None, if◌then◌else◌}
+use Rattle.std.specs.Prelude.{count_by, ◌≡◌, ◌==◌, ◌-◌, ◌<◌, ◌≤◌, ◌^◌, ℕ, suc, get_or, List, [], ◌∷◌}
+use Rattle.std.specs.Prelude.{length, drop, slice_get, MatchOption, Option, Some, None, if◌then◌else◌}
 use Rattle.std.specs.Str.{bytes_eq}
 use Rattle.definitions.specs.Bytes.{Bytes}
 use Rattle.definitions.specs.Lists.{Among}
@@ -10,7 +11,8 @@ use Rattle.definitions.specs.Trees.{Stored}
 -- the number of the stored block of this digest
 unfoldable pub stored_number : Bytes → List Stored → Option ℕ
 stored_number d [] = None
-stored_number d (s ∷ older) = if bytes_eq (digest_of s.branch) d then Some (suc (length older)) else stored_number d older
+stored_number d (s ∷ older) =
+    if bytes_eq (digest_of s.branch) d then Some (suc (length older)) else stored_number d older
 
 -- the number of the block of this digest
 unfoldable pub number_in : Bytes → List Branch → Option ℕ

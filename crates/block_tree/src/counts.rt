@@ -63,7 +63,8 @@ impl Counts {
         requires above { 0 < height }
         requires reached { height ≤ length self.old }
         requires room { count_of self.old height + 1 < 2 ^ 32 }
-        ensures counts { (h : ℕ) → 0 < h → count_of self.new h ≡ (if height == h then count_of self.old h + 1 else count_of self.old h) }
+        ensures counts { (h : ℕ) → 0 < h
+            → count_of self.new h ≡ (if height == h then count_of self.old h + 1 else count_of self.old h) }
         ensures long { length self.new ≡ length self.old }
     {
         self.heights[height.0 as usize - 1] += 1;

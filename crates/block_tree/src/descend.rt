@@ -1,6 +1,7 @@
 //! Blocks by their numbers, and the way down a branch along the links.
 
-ghost use Rattle.std.specs.Prelude.{◌≡◌, ◌+◌, ◌<◌, ◌≤◌, ◌^◌, length, MatchOption, IsSome, IfOk, OnErr, count_ones};
+ghost use Rattle.std.specs.Prelude.{◌≡◌, ◌+◌, ◌<◌, ◌≤◌, ◌^◌, length, MatchOption, IsSome, IfOk, OnErr};
+ghost use Rattle.std.specs.Prelude.{count_ones};
 ghost use Rattle.definitions.specs.Digests.{digest_of};
 ghost use Rattle.definitions.specs.Trees.{blocks, find_in};
 ghost use Rattle.frames_view.specs.Views.{core_of};
@@ -60,7 +61,8 @@ impl Tree {
     /// The ancestor that a link leads to, `2^level` blocks down, where the block is as high.
     fn link(&self, at: usize, level: usize) -> Option<usize>
         requires { at < length (blocks self.now.stored) }
-        ensures { MatchOption result (length (numbered (blocks self.now.stored) at) < 2 ^ level) (IsDown (blocks self.now.stored) (2 ^ level) (numbered (blocks self.now.stored) at)) }
+        ensures { MatchOption result (length (numbered (blocks self.now.stored) at) < 2 ^ level)
+            (IsDown (blocks self.now.stored) (2 ^ level) (numbered (blocks self.now.stored) at)) }
     {
         if at == 0 {
             return None;
@@ -73,7 +75,8 @@ impl Tree {
         requires known { at < length (blocks self.now.stored) }
         requires high { 2 ^ level ≤ length (numbered (blocks self.now.stored) at) }
         requires room { turns.old + 1 < 2 ^ 64 }
-        ensures down { IsDown (blocks self.now.stored) (2 ^ level) (numbered (blocks self.now.stored) at) result }
+        ensures down { IsDown (blocks self.now.stored) (2 ^ level) (numbered (blocks self.now.stored) at)
+            result }
         ensures counted { turns.new ≡ turns.old + 1 }
     {
         turns.add_one();
@@ -85,7 +88,8 @@ impl Tree {
         requires known { from < length (blocks self.now.stored) }
         requires high { distance ≤ length (numbered (blocks self.now.stored) from) }
         requires room { turns.old + count_ones distance < 2 ^ 64 }
-        ensures down { IsDown (blocks self.now.stored) distance (numbered (blocks self.now.stored) from) result }
+        ensures down { IsDown (blocks self.now.stored) distance (numbered (blocks self.now.stored) from)
+            result }
         ensures counted { turns.new ≡ turns.old + count_ones distance }
     {
         // They make a tree, and a block's number is at least its height.
@@ -106,7 +110,8 @@ impl Tree {
     /// The links of a block on its parent, which stands in the tree.
     pub(crate) fn links_over(&self, core: &CoreView) -> Result<Links, Fault>
         requires { IsSome (find_in (core_of core.now).parent (blocks self.now.stored)) }
-        ensures linked { IfOk result (λ l. AreLinks (blocks self.now.stored) (block_in (core_of core.now) (blocks self.now.stored)) l) }
+        ensures linked { IfOk result (λ l. AreLinks (blocks self.now.stored)
+            (block_in (core_of core.now) (blocks self.now.stored)) l) }
         ensures memory { OnErr result (result ≡ Err Fault.Memory) }
     {
         // At most 2^20 blocks stand in the tree.

@@ -35,7 +35,8 @@ impl Index {
 
     /// Enters a block by its digest.
     pub(crate) fn insert(&mut self, digest: Digest, number: u32) -> Result<(), Fault>
-        ensures entered { OnOk result ((d : Bytes) → number_of self.new d ≡ (if bytes_eq digest d then Some number else number_of self.old d)) }
+        ensures entered { OnOk result ((d : Bytes)
+            → number_of self.new d ≡ (if bytes_eq digest d then Some number else number_of self.old d)) }
         ensures kept { OnErr result ((d : Bytes) → number_of self.new d ≡ number_of self.old d) }
         ensures memory { OnErr result (result ≡ Err Fault.Memory) }
     {

@@ -22,19 +22,23 @@ pub enum Plan {
 }
 
 impl Tree {
-    /// What is to become of a block that comes with the certificate of the block that it justifies, and with a clear
-    /// mark. A new block's parts are copied, and links to its ancestors found; nothing changes yet.
+    /// What is to become of a block that comes with the certificate of the block that it justifies,
+    /// and with a clear mark. A new block's parts are copied, and links to its ancestors found;
+    /// nothing changes yet.
     ///
-    /// `UnknownParent` where its parent isn't in the tree, `BadHeight` where its height isn't one above, `WrongJustify`
-    /// where the certificate is for another block than it justifies, `Crowded` where 64 blocks have its height, `Full`
-    /// where as many blocks stand as may, in this order; then `Memory`.
+    /// `UnknownParent` where its parent isn't in the tree, `BadHeight` where its height isn't one
+    /// above, `WrongJustify` where the certificate is for another block than it justifies,
+    /// `Crowded` where 64 blocks have its height, `Full` where as many blocks stand as may, in this
+    /// order; then `Memory`.
     pub fn plan(
         &self,
         core: &CoreView,
         certificate: &CertificateView,
         clear: bool,
     ) -> Result<Plan, Fault>
-        ensures { IsPlanned self.now (core_of core.now) (certificate_of certificate.now) clear result (placing self.now.most (core_of core.now) (certificate_of certificate.now) (blocks self.now.stored)) }
+        ensures { IsPlanned self.now (core_of core.now) (certificate_of certificate.now) clear result
+            (placing self.now.most (core_of core.now) (certificate_of certificate.now)
+            (blocks self.now.stored)) }
     {
         let digest = core.digest();
         match self.placing(&digest, core, certificate)? {
@@ -50,7 +54,11 @@ impl Tree {
     /// Adds a planned block. Its memory is taken first: where that is refused, nothing changed.
     pub fn add(&mut self, node: Node) -> Result<(), Fault>
         requires { MayStand self.old node }
-        ensures added { OnOk result (self.new ≡ record { most = self.old.most; stored = stored_as node (blocks self.old.stored) ∷ self.old.stored }) }
+        ensures added { OnOk result (self.new
+            ≡ record {
+              most = self.old.most;
+              stored = stored_as node (blocks self.old.stored) ∷ self.old.stored;
+            }) }
         ensures unchanged { OnErr result (self.new ≡ self.old) }
         ensures memory { OnErr result (result ≡ Err Fault.Memory) }
     {
@@ -64,15 +72,17 @@ impl Tree {
         Ok(())
     }
 
-    /// Puts a block on its parent, with the certificate of the block that it justifies and a clear mark, and gives
-    /// its digest. A block that stands in the tree stays as it is, with its first certificate and mark.
+    /// Puts a block on its parent, with the certificate of the block that it justifies and a clear
+    /// mark, and gives its digest. A block that stands in the tree stays as it is, with its first
+    /// certificate and mark.
     pub fn insert(
         &mut self,
         core: &CoreView,
         certificate: &CertificateView,
         clear: bool,
     ) -> Result<Digest, Fault>
-        ensures { Inserted self.old (core_of core.now) (certificate_of certificate.now) clear result self.new }
+        ensures { Inserted self.old (core_of core.now) (certificate_of certificate.now) clear result
+            self.new }
     {
         match self.plan(core, certificate, clear)? {
             Plan::Stands(digest) => Ok(digest),

@@ -29,7 +29,14 @@ impl Node {
         clear: bool,
         links: Links,
     ) -> Result<Node, Fault>
-        ensures copied { IfOk result (λ n. n ≡ record { digest = digest; core = core_of core.now; certificate = certificate_of certificate.now; clear = clear; links = links }) }
+        ensures copied { IfOk result (λ n. n
+            ≡ record {
+              digest = digest;
+              core = core_of core.now;
+              certificate = certificate_of certificate.now;
+              clear = clear;
+              links = links;
+            }) }
         ensures memory { OnErr result (result ≡ Err Fault.Memory) }
     {
         Ok(Node {

@@ -32,7 +32,9 @@ impl Tree {
         certificate: &CertificateView,
     ) -> Result<Place, Fault>
         requires { digest.now ≡ digest_of_core (core_of core.now) }
-        ensures { result ≡ place_of (placing self.now.most (core_of core.now) (certificate_of certificate.now) (blocks self.now.stored)) }
+        ensures { result
+            ≡ place_of (placing self.now.most (core_of core.now) (certificate_of certificate.now)
+            (blocks self.now.stored)) }
     {
         match self.justified(digest) {
             Some(justified) if is_same(&Digest(*certificate.digest()), &justified) => {
@@ -45,7 +47,9 @@ impl Tree {
 
     /// What a block comes to that doesn't stand in the tree.
     fn placing_over(&self, core: &CoreView, certificate: &CertificateView) -> Result<Place, Fault>
-        ensures { result ≡ place_of (placing_over self.now.most (core_of core.now) (certificate_of certificate.now) (blocks self.now.stored)) }
+        ensures { result
+            ≡ place_of (placing_over self.now.most (core_of core.now) (certificate_of certificate.now)
+            (blocks self.now.stored)) }
     {
         let Some(parent) = self.height(&Digest(*core.parent())) else {
             return Err(Fault::UnknownParent);
@@ -82,7 +86,8 @@ impl Tree {
     /// Whether as many blocks have a height as may have it.
     fn is_crowded(&self, height: Height) -> bool
         requires { 0 < height }
-        ensures { result ≡ not (nat_lt (count_by (λ x. length x == height) (blocks self.now.stored)) MOST_OF_HEIGHT) }
+        ensures { result
+            ≡ not (nat_lt (count_by (λ x. length x == height) (blocks self.now.stored)) MOST_OF_HEIGHT) }
     {
         self.counts.of(height) >= MOST_OF_HEIGHT
     }

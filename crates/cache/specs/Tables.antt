@@ -29,4 +29,6 @@ IsInOrder es = IsStrictlySortedBy (λ x y. key_cmp x.items y.items) (keys_of es)
 -- a table is stored as its entries
 abbrev pub table_code : Coded (FinMap key_cmp definitions.Entry)
 table_code = code (coded_list coded_ℕ)
-    (code_by (ℕ × (Bytes × ℕ)) (coded× coded_ℕ (coded× (coded_list coded_ℕ) coded_ℕ)) (λ e. (e.flags, (e.stored, e.unique))) (λ p. record { flags = p.0; stored = p.1.0; unique = p.1.1 }) (λ _. refl))
+    (code_by (ℕ × (Bytes × ℕ)) (coded× coded_ℕ (coded× (coded_list coded_ℕ) coded_ℕ))
+    (λ e. (e.flags, (e.stored, e.unique))) (λ p. record { flags = p.0; stored = p.1.0; unique = p.1.1 })
+    (λ _. refl))

@@ -9,8 +9,9 @@ use mc_lines::{Reply, Request};
 use std::alloc::Global;
 use std::marker::Model;
 
-/// What stands under each key, with room for so many keys (protocol.txt). An item stays until a command takes it out
-/// or puts another one in its place: none expires, and none makes way for another key.
+/// What stands under each key, with room for so many keys (protocol.txt). An item stays until a
+/// command takes it out or puts another one in its place: none expires, and none makes way for
+/// another key.
 #[derive(Drop)]
 pub struct Cache {
     pub(crate) alloc: Global,
@@ -45,9 +46,10 @@ impl Cache {
 
     /// Does what is asked, and replies. The word noreply is the caller's to heed.
     ///
-    /// A full cache answers a command that would need another key by `SERVER_ERROR out of memory storing object`,
-    /// and so does every change after the last one that a unique can number. A number is counted only if it is
-    /// spelled with no zero before it. All memory is taken before anything changes.
+    /// A full cache answers a command that would need another key by `SERVER_ERROR out of memory
+    /// storing object`, and so does every change after the last one that a unique can number. A
+    /// number is counted only if it is spelled with no zero before it. All memory is taken before
+    /// anything changes.
     pub fn apply(&mut self, request: &Request<'_>) -> Result<Reply, Fault>
         ensures left { OnOk result (
             let outcome = apply self.old.most self.old.cache (asked_of request.now) in

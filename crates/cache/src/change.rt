@@ -9,8 +9,8 @@ use mc_lines::Reply;
 use std::alloc::AllocError;
 
 impl Cache {
-    /// The key has this data from now on, and a unique of its own. After the last change that can be counted there
-    /// is none, and the cache is full.
+    /// The key has this data from now on, and a unique of its own. After the last change that can
+    /// be counted there is none, and the cache is full.
     pub(crate) fn change(
         &mut self,
         key: &[u8],

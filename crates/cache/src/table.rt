@@ -8,7 +8,8 @@ use std::alloc::{AllocError, Global};
 use std::collections::BTreeMap;
 use std::marker::Model;
 
-/// The entries by their keys, in the order of the keys' bytes: a tree, so that no choice of keys makes it slow.
+/// The entries by their keys, in the order of the keys' bytes: a tree, so that no choice of keys
+/// makes it slow.
 #[derive(Drop)]
 pub(crate) struct Table {
     entries: BTreeMap<Vec<u8>, Entry>,

@@ -1,5 +1,6 @@
 -- Counting votes one after the other.
-use Rattle.std.proofs.Common.{ℕ, ◌≡◌, true, false, List, [], ◌∷◌, ◌++◌, map, filter, refl, sym, ap, subst, ◌∙◌, ◌≤◌, length, inl, inr, arith}
+use Rattle.std.proofs.Common.{ℕ, ◌≡◌, true, false, List, [], ◌∷◌, ◌++◌, map, filter, refl, sym, ap, subst}
+use Rattle.std.proofs.Common.{◌∙◌, ◌≤◌, length, inl, inr, arith}
 use Rattle.std.proofs.lemmas.Bool.{cond-true, cond-false}
 use Rattle.std.proofs.lemmas.List.{append_assoc, append-nil}
 use Rattle.std.specs.List.{AllByRecursion}
@@ -15,19 +16,26 @@ module _ (self : Identity) (digest : Bytes) where
   counted_among votes = map (λ (b : Vote). b.voter) (filter (vote_verifies self digest) votes)
 
   -- one more is counted
-  pub counted_more : (voters total : List ℕ) (v : Vote) (rest : List Vote) → vote_verifies self digest v ≡ true
+  pub counted_more : (voters total : List ℕ) (v : Vote) (rest : List Vote)
+      → vote_verifies self digest v ≡ true
       → voters ++ counted_among (v ∷ rest) ≡ total → (voters ++ v.voter ∷ []) ++ counted_among rest ≡ total
   counted_more voters total v rest passed so_far =
       let one : counted_among (v ∷ rest) ≡ v.voter ∷ counted_among rest
-      = ap (λ (l : List Vote). map (λ (b : Vote). b.voter) l) (cond-true (vote_verifies self digest v) (v ∷ filter (vote_verifies self digest) rest) (filter (vote_verifies self digest) rest) passed) in
-      append_assoc voters (v.voter ∷ []) (counted_among rest) ∙ ap (λ (l : List ℕ). voters ++ l) (sym one) ∙ so_far
+      = ap (λ (l : List Vote). map (λ (b : Vote). b.voter) l)
+      (cond-true (vote_verifies self digest v) (v ∷ filter (vote_verifies self digest) rest)
+      (filter (vote_verifies self digest) rest) passed) in
+      append_assoc voters (v.voter ∷ []) (counted_among rest) ∙ ap (λ (l : List ℕ). voters ++ l) (sym one)
+      ∙ so_far
 
   -- one isn't counted
-  pub counted_same : (voters total : List ℕ) (v : Vote) (rest : List Vote) → vote_verifies self digest v ≡ false
+  pub counted_same : (voters total : List ℕ) (v : Vote) (rest : List Vote)
+      → vote_verifies self digest v ≡ false
       → voters ++ counted_among (v ∷ rest) ≡ total → voters ++ counted_among rest ≡ total
   counted_same voters total v rest failed so_far =
       let one : counted_among (v ∷ rest) ≡ counted_among rest
-      = ap (λ (l : List Vote). map (λ (b : Vote). b.voter) l) (cond-false (vote_verifies self digest v) (v ∷ filter (vote_verifies self digest) rest) (filter (vote_verifies self digest) rest) failed) in
+      = ap (λ (l : List Vote). map (λ (b : Vote). b.voter) l)
+      (cond-false (vote_verifies self digest v) (v ∷ filter (vote_verifies self digest) rest)
+      (filter (vote_verifies self digest) rest) failed) in
       ap (λ (l : List ℕ). voters ++ l) (sym one) ∙ so_far
 
 -- those of a certificate
@@ -36,16 +44,20 @@ unfolding counted
 counted-is self q = refl
 
 -- at first
-pub counted_first : (self : Identity) (q : Certificate) (votes : List Vote) → votes ≡ q.votes → [] ++ counted_among self q.digest votes ≡ counted self q
+pub counted_first : (self : Identity) (q : Certificate) (votes : List Vote) → votes ≡ q.votes
+    → [] ++ counted_among self q.digest votes ≡ counted self q
 counted_first self q votes e = ap (counted_among self q.digest) e ∙ sym (counted-is self q)
 
 -- at last
-pub counted_last : (self : Identity) (q : Certificate) (voters : List ℕ) (votes : List Vote) → votes ≡ [] → voters ++ counted_among self q.digest votes ≡ counted self q → voters ≡ counted self q
+pub counted_last : (self : Identity) (q : Certificate) (voters : List ℕ) (votes : List Vote) → votes ≡ []
+    → voters ++ counted_among self q.digest votes ≡ counted self q → voters ≡ counted self q
 counted_last self q voters votes none so_far =
-    sym (append-nil voters) ∙ ap (λ (l : List Vote). voters ++ counted_among self q.digest l) (sym none) ∙ so_far
+    sym (append-nil voters) ∙ ap (λ (l : List Vote). voters ++ counted_among self q.digest l) (sym none)
+    ∙ so_far
 
 -- what is left of a list of votes, each of which has a property, has it too
-pub all-left : (P : Vote → Type 0) (v : Vote) (votes rest : List Vote) → votes ≡ v ∷ rest → AllByRecursion P votes → P v × AllByRecursion P rest
+pub all-left : (P : Vote → Type 0) (v : Vote) (votes rest : List Vote) → votes ≡ v ∷ rest
+    → AllByRecursion P votes → P v × AllByRecursion P rest
 all-left P v votes rest e h = subst (AllByRecursion P) e h
 
 -- a certificate has at most as many votes as there are replicas

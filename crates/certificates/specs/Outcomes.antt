@@ -10,7 +10,8 @@ pub record CheckedView (V : Type 0) : Type 0 where
   pub view : V
 
 -- the view is given with the keys exactly where it passes, and else refused for its tags
-pub record IsGivenIf {V : Type 0} (passed : Bool) (keys : Keys) (view : V) (result : Result (CheckedView V) Fault) : Type 0 where
+pub record IsGivenIf {V : Type 0} (passed : Bool) (keys : Keys) (view : V)
+    (result : Result (CheckedView V) Fault) : Type 0 where
   pub exactly : IsOk result ↔ IsTrue passed
   pub given : IfOk result (λ c. c ≡ record { keys = keys; view = view })
   pub refused : OnErr result (result ≡ Err fault.BadTag)

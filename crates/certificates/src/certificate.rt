@@ -16,7 +16,8 @@ use authenticators::Keyring;
 use frames_view::{CertificateView, VoteView};
 use ids::{Config, Fault, Kind, PartyId};
 
-/// The digest of genesis, SHA-256 of its 49 zero bytes. It is proved to be that, so that no check computes it.
+/// The digest of genesis, SHA-256 of its 49 zero bytes. It is proved to be that, so that no check
+/// computes it.
 const GENESIS: [u8; 32] = [
     0x78, 0x87, 0x7f, 0xa8, 0x98, 0xf0, 0xb4, 0xc4, 0x5c, 0x9c, 0x33, 0xae, 0x94, 0x1e, 0x40, 0x61,
     0x7a, 0xd7, 0xc8, 0x65, 0x7a, 0x30, 0x7d, 0xb6, 0x2b, 0xc5, 0x69, 0x1f, 0x92, 0xf4, 0xf6, 0x0e,
@@ -56,8 +57,8 @@ fn is_genesis(digest: &[u8; 32]) -> bool
     digest.as_slice() == GENESIS.as_slice()
 }
 
-/// Whether the certificate is good, where these are its counted voters: that of genesis has no votes, and any other
-/// has a quorum of counted ones.
+/// Whether the certificate is good, where these are its counted voters: that of genesis has no
+/// votes, and any other has a quorum of counted ones.
 #[tactic(auto, unfolding(definitions::specs::Checks::is_good))]
 fn is_good(keyring: &Keyring, certificate: &CertificateView, voters: &Voters) -> bool
     requires { voters.now ≡ counted (identity_of keyring.now) (certificate_of certificate.now) }
@@ -74,8 +75,10 @@ fn is_good(keyring: &Keyring, certificate: &CertificateView, voters: &Voters) ->
 pub(crate) fn good_voters(keyring: &Keyring, certificate: &CertificateView) -> Result<Voters, Fault>
     requires replica { keyring.now.party < replicas keyring.now.sizes }
     requires certificate { IsCertificate keyring.now.sizes (certificate_of certificate.now) }
-    ensures exactly { IsOk result ↔ IsTrue (is_good (identity_of keyring.now) (certificate_of certificate.now)) }
-    ensures given { IfOk result (λ voters. voters ≡ counted (identity_of keyring.now) (certificate_of certificate.now)) }
+    ensures exactly { IsOk result
+        ↔ IsTrue (is_good (identity_of keyring.now) (certificate_of certificate.now)) }
+    ensures given { IfOk result
+        (λ voters. voters ≡ counted (identity_of keyring.now) (certificate_of certificate.now)) }
     ensures refused { OnErr result (result ≡ Err Fault.BadTag) }
 {
     let voters = counted(keyring, certificate);
@@ -109,7 +112,8 @@ pub fn check_cert<'a>(
     requires sizes { config.now ≡ keyring.now.sizes }
     requires replica { keyring.now.party < replicas config.now }
     requires certificate { IsCertificate config.now (certificate_of view.now) }
-    ensures { IsGivenIf (is_good (identity_of keyring.now) (certificate_of view.now)) keyring.now view.now result }
+    ensures { IsGivenIf (is_good (identity_of keyring.now) (certificate_of view.now)) keyring.now view.now
+        result }
 {
     check(keyring, config, view)
 }

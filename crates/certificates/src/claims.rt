@@ -3,7 +3,8 @@
 use frames_view::{CertificateView, CoreView};
 use ids::{Kind, PartyId};
 
-/// What a view claims, and its receiver checks, as it stands in the frame. A part that the view doesn't have is none.
+/// What a view claims, and its receiver checks, as it stands in the frame. A part that the view
+/// doesn't have is none.
 #[derive(Drop)]
 pub struct Claims<'a> {
     pub(crate) own: Option<OwnTag<'a>>,

@@ -7,7 +7,8 @@ ghost use Rattle.definitions.specs.Frames.{request};
 ghost use Rattle.definitions.specs.FrameLimits.{IsFrame, IsCommand};
 ghost use Rattle.definitions.specs.Checks.{identity_of};
 ghost use Rattle.definitions.specs.Admission.{check, is_passed};
-ghost use Rattle.frames_view.specs.Views.{proposal_of, vote_frame_of, new_view_of, fetch_of, block_of, command_of};
+ghost use Rattle.frames_view.specs.Views.{proposal_of, vote_frame_of, new_view_of, fetch_of, block_of};
+ghost use Rattle.frames_view.specs.Views.{command_of};
 ghost use Rattle.certificates.specs.Shown.{frame};
 ghost use Rattle.certificates.specs.Outcomes.{IsGivenIf};
 
@@ -49,7 +50,8 @@ pub fn check_proposal<'a>(
     requires sizes { config.now ≡ keyring.now.sizes }
     requires replica { keyring.now.party < replicas config.now }
     requires fits { IsFrame config.now (proposal_of view.now) }
-    ensures { IsGivenIf (is_passed (check (identity_of keyring.now) (proposal_of view.now))) keyring.now view.now result }
+    ensures { IsGivenIf (is_passed (check (identity_of keyring.now) (proposal_of view.now))) keyring.now
+        view.now result }
 {
     check(keyring, config, view)
 }
@@ -72,8 +74,8 @@ impl<'a> Authenticated for VoteFrameView<'a> {
     }
 }
 
-/// The vote, if it passes the check of the keyring's replica. Its tags speak of the digest alone, as they do in a
-/// certificate.
+/// The vote, if it passes the check of the keyring's replica. Its tags speak of the digest alone,
+/// as they do in a certificate.
 pub fn check_vote<'a>(
     keyring: &'a Keyring,
     config: &Config,
@@ -82,7 +84,8 @@ pub fn check_vote<'a>(
     requires sizes { config.now ≡ keyring.now.sizes }
     requires replica { keyring.now.party < replicas config.now }
     requires frame { IsFrame config.now (vote_frame_of view.now) }
-    ensures { IsGivenIf (is_passed (check (identity_of keyring.now) (vote_frame_of view.now))) keyring.now view.now result }
+    ensures { IsGivenIf (is_passed (check (identity_of keyring.now) (vote_frame_of view.now))) keyring.now
+        view.now result }
 {
     check(keyring, config, view)
 }
@@ -116,7 +119,8 @@ pub fn check_new_view<'a>(
     requires sizes { config.now ≡ keyring.now.sizes }
     requires replica { keyring.now.party < replicas config.now }
     requires fits { IsFrame config.now (new_view_of view.now) }
-    ensures { IsGivenIf (is_passed (check (identity_of keyring.now) (new_view_of view.now))) keyring.now view.now result }
+    ensures { IsGivenIf (is_passed (check (identity_of keyring.now) (new_view_of view.now))) keyring.now
+        view.now result }
 {
     check(keyring, config, view)
 }
@@ -148,7 +152,8 @@ pub fn check_fetch<'a>(
     requires sizes { config.now ≡ keyring.now.sizes }
     requires replica { keyring.now.party < replicas config.now }
     requires fits { IsFrame config.now (fetch_of view.now) }
-    ensures { IsGivenIf (is_passed (check (identity_of keyring.now) (fetch_of view.now))) keyring.now view.now result }
+    ensures { IsGivenIf (is_passed (check (identity_of keyring.now) (fetch_of view.now))) keyring.now
+        view.now result }
 {
     check(keyring, config, view)
 }
@@ -184,7 +189,8 @@ pub fn check_block<'a>(
     requires sizes { config.now ≡ keyring.now.sizes }
     requires replica { keyring.now.party < replicas config.now }
     requires fits { IsFrame config.now (block_of view.now) }
-    ensures { IsGivenIf (is_passed (check (identity_of keyring.now) (block_of view.now))) keyring.now view.now result }
+    ensures { IsGivenIf (is_passed (check (identity_of keyring.now) (block_of view.now))) keyring.now
+        view.now result }
 {
     check(keyring, config, view)
 }
@@ -216,7 +222,8 @@ pub fn check_request<'a>(
     requires sizes { config.now ≡ keyring.now.sizes }
     requires replica { keyring.now.party < replicas config.now }
     requires command { IsCommand config.now (command_of view.now) }
-    ensures { IsGivenIf (is_passed (check (identity_of keyring.now) (request (command_of view.now)))) keyring.now view.now result }
+    ensures { IsGivenIf (is_passed (check (identity_of keyring.now) (request (command_of view.now))))
+        keyring.now view.now result }
 {
     check(keyring, config, view)
 }

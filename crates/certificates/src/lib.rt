@@ -1,7 +1,7 @@
 //! Checks of the tags of frames that were read, and a type that keeps what was found.
 //!
-//! A frame is checked by its receiver, a replica, under its own keyring: the frame's own tag has to verify, and a
-//! certificate in it has to be good. No check takes memory.
+//! A frame is checked by its receiver, a replica, under its own keyring: the frame's own tag has to
+//! verify, and a certificate in it has to be good. No check takes memory.
 #![tactic(auto)]
 
 mod certificate;

@@ -1,9 +1,10 @@
 //! What the check of a frame says.
 //!
-//! That is the number of its refusal: 10 where the bytes are no frame, 30 for a reply, 11 for a bad tag or certificate;
-//! or `ok`. Behind `ok` stand, in brackets, the voters of its certificate whose tags verify, where it has one, and
-//! `clear` or `unclear`, where it has a block. Then, of each frame that has a certificate, what the check of this alone
-//! says: `alone`, and the number of its refusal or the voters in brackets.
+//! That is the number of its refusal: 10 where the bytes are no frame, 30 for a reply, 11 for a bad
+//! tag or certificate; or `ok`. Behind `ok` stand, in brackets, the voters of its certificate whose
+//! tags verify, where it has one, and `clear` or `unclear`, where it has a block. Then, of each
+//! frame that has a certificate, what the check of this alone says: `alone`, and the number of its
+//! refusal or the voters in brackets.
 
 ghost use Rattle.std.specs.Prelude.{◌≡◌, ◌<◌};
 ghost use Rattle.ids.specs.Sizes.{replicas};

@@ -1,14 +1,17 @@
-//! Checks frames and collects votes with the keys of a simulated world: each line of standard input is a case, or a whole
-//! row of them. What is wanted of each was computed by an independent program.
+//! Checks frames and collects votes with the keys of a simulated world: each line of standard input
+//! is a case, or a whole row of them. What is wanted of each was computed by an independent
+//! program.
 //!
-//! A line begins with the sizes, the number of the replica that receives, and what is asked; bytes are hexadecimal. A line
-//! `hmac KEY TEXT` alone asks for HMAC-SHA-256 of a text: these are the test cases of RFC 4231.
+//! A line begins with the sizes, the number of the replica that receives, and what is asked; bytes
+//! are hexadecimal. A line `hmac KEY TEXT` alone asks for HMAC-SHA-256 of a text: these are the
+//! test cases of RFC 4231.
 //!
 //! - `FAULTS CLIENTS RECEIVER check FRAME`: what the check of a frame says, as `answers` tells it.
-//! - `FAULTS CLIENTS RECEIVER changes MASK FRAME`: the same of the frame with each byte in turn changed by exclusive or
-//!   with the mask: how often each first word was said, and the first half of the SHA-256 digest of all that would be
-//!   printed, line by line.
-//! - `FAULTS CLIENTS RECEIVER votes FRAME ..`: votes, checked and collected one after the other, as `votes` tells it.
+//! - `FAULTS CLIENTS RECEIVER changes MASK FRAME`: the same of the frame with each byte in turn
+//!   changed by exclusive or with the mask: how often each first word was said, and the first half
+//!   of the SHA-256 digest of all that would be printed, line by line.
+//! - `FAULTS CLIENTS RECEIVER votes FRAME ..`: votes, checked and collected one after the other, as
+//!   `votes` tells it.
 //! - `FAULTS CLIENTS PARTY vector LABEL CONTENT`: the tags of any party for all replicas.
 #![tactic(auto)]
 

@@ -1,8 +1,9 @@
 //! What becomes of votes that are collected.
 //!
-//! Of each frame is told, behind the one before and with a comma between them: the number of its refusal, 10 where the
-//! bytes are no vote and 11 for a bad tag; or what the vote was: `First`, `Doubled`, `Past` where its block has a
-//! certificate, or `Complete` with the certificate's length and the first 8 bytes of its SHA-256 digest.
+//! Of each frame is told, behind the one before and with a comma between them: the number of its
+//! refusal, 10 where the bytes are no vote and 11 for a bad tag; or what the vote was: `First`,
+//! `Doubled`, `Past` where its block has a certificate, or `Complete` with the certificate's length
+//! and the first 8 bytes of its SHA-256 digest.
 
 ghost use Rattle.std.specs.Prelude.{◌≡◌, ◌<◌};
 ghost use Rattle.ids.specs.Sizes.{replicas};

@@ -1,6 +1,8 @@
 -- What a session does, by what it finds first.
-use Rattle.std.proofs.Common.{◌≡◌, ◌∙◌, ◌==◌, ◌&&◌, ℕ, suc, Bool, true, false, not, cond, [], ◌∷◌, length, refl, ap, sym, subst, arith, eq-eqb}
-use Rattle.std.specs.Prelude.{◌-◌, ◌^◌, Option, Some, None, Result, Ok, Err, IfOk, OnErr, Vec, is_none, nat_lt, nat_le, filter}
+use Rattle.std.proofs.Common.{◌≡◌, ◌∙◌, ◌==◌, ◌&&◌, ℕ, suc, Bool, true, false, not, cond, [], ◌∷◌, length}
+use Rattle.std.proofs.Common.{refl, ap, sym, subst, arith, eq-eqb}
+use Rattle.std.specs.Prelude.{◌-◌, ◌^◌, Option, Some, None, Result, Ok, Err, IfOk, OnErr, Vec, is_none}
+use Rattle.std.specs.Prelude.{nat_lt, nat_le, filter}
 use Rattle.std.specs.declared.alloc.Global.{Global}
 use Rattle.std.specs.Str.{bytes_eq}
 use Rattle.std.proofs.lemmas.Slice.Eq.{bytes_eq-Decides}
@@ -13,8 +15,11 @@ use Rattle.definitions.specs.Frames.{spelling, reply_content}
 use Rattle.definitions.specs.Frames as frame
 use Rattle.definitions.specs.Keyrings.{verify}
 use Rattle.definitions.specs.Replicas.{Memory, ample, refused_at_once}
-use Rattle.definitions.specs.Sessions.{Client, Session, Receipt, Submitted, sent_request, not_sent, Heard, gives_receipt, only_counts, not_counted, is_ample, request_frame, submission, count_reply, on_reply}
-use Rattle.client_accept.specs.Sessions.{Held, memory_of, IsSubmitted, frame_after, heard_of, next_seq, admission, receipt_at}
+use Rattle.definitions.specs.Sessions.{Client, Session, Receipt, Submitted, sent_request, not_sent, Heard}
+use Rattle.definitions.specs.Sessions.{gives_receipt, only_counts, not_counted, is_ample, request_frame}
+use Rattle.definitions.specs.Sessions.{submission, count_reply, on_reply}
+use Rattle.client_accept.specs.Sessions.{Held, memory_of, IsSubmitted, frame_after, heard_of, next_seq}
+use Rattle.client_accept.specs.Sessions.{admission, receipt_at}
 
 -- ---- one test after the other
 
@@ -48,24 +53,30 @@ module _ (me : Client) (payload : Bytes) (s : Session) where
   abbrev pub begun : ℕ → Session
   begun seq = record { used = seq; waiting = true; tally = [] }
 
-  pub submission-refused : (m : Memory) (n : Fault) → next_seq s ≡ Err n → submission me m payload s ≡ (s, not_sent n)
+  pub submission-refused : (m : Memory) (n : Fault) → next_seq s ≡ Err n
+      → submission me m payload s ≡ (s, not_sent n)
   unfolding submission
   submission-refused m n e =
       test-refuses s.waiting fault.Busy _ (unsent s) _ n e
-      (λ e'. test-refuses (s.used == (2 ^ 64 - 1)) fault.Spent (Ok (suc s.used)) (unsent s) _ n e' (λ e''. absurd cc))
+      (λ e'. test-refuses (s.used == (2 ^ 64 - 1)) fault.Spent (Ok (suc s.used)) (unsent s) _ n e'
+      (λ e''. absurd cc))
 
-  pub submission-no_memory : (seq : ℕ) → next_seq s ≡ Ok seq → submission me refused_at_once payload s ≡ (s, not_sent fault.Memory)
+  pub submission-no_memory : (seq : ℕ) → next_seq s ≡ Ok seq
+      → submission me refused_at_once payload s ≡ (s, not_sent fault.Memory)
   unfolding submission
   submission-no_memory seq e =
       test-passes s.waiting fault.Busy _ (unsent s) _ seq _ e
-      (λ e'. test-passes (s.used == (2 ^ 64 - 1)) fault.Spent (Ok (suc s.used)) (unsent s) _ seq _ e' (λ e''. refl))
+      (λ e'. test-passes (s.used == (2 ^ 64 - 1)) fault.Spent (Ok (suc s.used)) (unsent s) _ seq _ e'
+      (λ e''. refl))
 
-  pub submission-next : (seq : ℕ) → next_seq s ≡ Ok seq → submission me ample payload s ≡ (begun seq, sent_request (request_frame me seq payload))
+  pub submission-next : (seq : ℕ) → next_seq s ≡ Ok seq
+      → submission me ample payload s ≡ (begun seq, sent_request (request_frame me seq payload))
   unfolding submission
   submission-next seq e =
       test-passes s.waiting fault.Busy _ (unsent s) _ seq _ e
       (λ e'. test-passes (s.used == (2 ^ 64 - 1)) fault.Spent (Ok (suc s.used)) (unsent s) _ seq _ e'
-      (λ e''. let same : suc s.used ≡ seq = cc in ap (λ (k : ℕ). (begun k, sent_request (request_frame me k payload))) same))
+      (λ e''. let same : suc s.used ≡ seq =
+      cc in ap (λ (k : ℕ). (begun k, sent_request (request_frame me k payload))) same))
 
 -- ---- replies
 
@@ -74,7 +85,8 @@ unheard s n = (s, not_counted n)
 
 -- the four tests of a reply, and what comes behind them
 abbrev four_tests : {Y : Type 0} → (Fault → Y) → (a b c d : Bool) → Y → Y
-four_tests h a b c d y = cond a (h fault.NotMine) (cond b (h fault.BadTag) (cond c (h fault.WrongSeq) (cond d (h fault.Doubled) y)))
+four_tests h a b c d y = cond a (h fault.NotMine)
+    (cond b (h fault.BadTag) (cond c (h fault.WrongSeq) (cond d (h fault.Doubled) y)))
 
 module _ {Y : Type 0} (h : Fault → Y) (a b c d : Bool) (y : Y) where
   abbrev tested : Result (Unit {0}) Fault
@@ -88,7 +100,8 @@ module _ {Y : Type 0} (h : Fault → Y) (a b c d : Bool) (y : Y) where
       let y3 : Y = cond d (h fault.Doubled) y in
       let y2 : Y = cond c (h fault.WrongSeq) y3 in
       let y1 : Y = cond b (h fault.BadTag) y2 in
-      test-refuses a fault.NotMine r1 h y1 n e (λ e1. test-refuses b fault.BadTag r2 h y2 n e1 (λ e2. test-refuses c fault.WrongSeq r3 h y3 n e2
+      test-refuses a fault.NotMine r1 h y1 n e
+      (λ e1. test-refuses b fault.BadTag r2 h y2 n e1 (λ e2. test-refuses c fault.WrongSeq r3 h y3 n e2
       (λ e3. test-refuses d fault.Doubled (Ok tt) h y n e3 (λ e4. absurd (no_error n e4)))))
     where
       no_error : (n : Fault) → ◌≡◌ {A = Result (Unit {0}) Fault} (Ok tt) (Err n) → ⊥
@@ -102,11 +115,13 @@ module _ {Y : Type 0} (h : Fault → Y) (a b c d : Bool) (y : Y) where
       let y3 : Y = cond d (h fault.Doubled) y in
       let y2 : Y = cond c (h fault.WrongSeq) y3 in
       let y1 : Y = cond b (h fault.BadTag) y2 in
-      test-passes a fault.NotMine r1 h y1 tt y e (λ e1. test-passes b fault.BadTag r2 h y2 tt y e1 (λ e2. test-passes c fault.WrongSeq r3 h y3 tt y e2
+      test-passes a fault.NotMine r1 h y1 tt y e (λ e1. test-passes b fault.BadTag r2 h y2 tt y e1
+      (λ e2. test-passes c fault.WrongSeq r3 h y3 tt y e2
       (λ e3. test-passes d fault.Doubled (Ok tt) h y tt y e3 (λ e4. refl))))
 
 -- a place and a text agree with themselves
-agrees-itself : (replica place : ℕ) (text : Bytes) → agrees place text (record { replica = replica; place = place; text = text }) ≡ true
+agrees-itself : (replica place : ℕ) (text : Bytes)
+    → agrees place text (record { replica = replica; place = place; text = text }) ≡ true
 agrees-itself replica place text =
     ap (λ (b : Bool). b && bytes_eq text text) (eq-eqb place place refl) ∙ (bytes_eq-Decides text text).1 refl
 
@@ -129,11 +144,14 @@ module _ (me : Client) (s : Session) (replica client seq place : ℕ) (text t : 
   abbrev doubled : Bool
   doubled = is_counted s.tally replica
 
-  pub reply-refused : (m : Memory) (n : Fault) → admission me reply s ≡ Err n → on_reply me m reply s ≡ (s, not_counted n)
+  pub reply-refused : (m : Memory) (n : Fault) → admission me reply s ≡ Err n
+      → on_reply me m reply s ≡ (s, not_counted n)
   unfolding on_reply
-  reply-refused m n e = four-refuse (unheard s) not_mine bad_tag wrong_seq doubled (cond (not (is_ample m)) (s, not_counted fault.Memory) (count_reply me told s)) n e
+  reply-refused m n e = four-refuse (unheard s) not_mine bad_tag wrong_seq doubled
+      (cond (not (is_ample m)) (s, not_counted fault.Memory) (count_reply me told s)) n e
 
-  pub reply-no_memory : admission me reply s ≡ Ok tt → on_reply me refused_at_once reply s ≡ (s, not_counted fault.Memory)
+  pub reply-no_memory : admission me reply s ≡ Ok tt
+      → on_reply me refused_at_once reply s ≡ (s, not_counted fault.Memory)
   unfolding on_reply
   reply-no_memory e = four-pass (unheard s) not_mine bad_tag wrong_seq doubled (s, not_counted fault.Memory) e
 
@@ -143,7 +161,9 @@ module _ (me : Client) (s : Session) (replica client seq place : ℕ) (text t : 
 
   -- how many agree with it
   one-more : agreeing (told ∷ s.tally) place text ≡ suc (agreeing s.tally place text)
-  one-more = ap (λ (b : Bool). length (cond b (told ∷ filter (agrees place text) s.tally) (filter (agrees place text) s.tally))) (agrees-itself replica place text)
+  one-more = ap (λ (b : Bool). length
+      (cond b (told ∷ filter (agrees place text) s.tally) (filter (agrees place text) s.tally)))
+      (agrees-itself replica place text)
 
   abbrev pub found : Option Receipt
   found = receipt_at me.sizes.faults place text s
@@ -174,17 +194,24 @@ module _ (me : Client) (s : Session) (replica client seq place : ℕ) (text t : 
   unfolding count_reply
   reply-told =
       ap (λ (k : ℕ). cond (nat_lt me.sizes.faults k) with_receipt without) one-more
-      ∙ ap (λ (b : Bool). cond b with_receipt without) (one-above me.sizes.faults (agreeing s.tally place text))
+      ∙ ap (λ (b : Bool). cond b with_receipt without)
+      (one-above me.sizes.faults (agreeing s.tally place text))
       ∙ counts (nat_le me.sizes.faults (agreeing s.tally place text))
 
 -- ---- whole calls
 
 -- the last step of a submission: all is done, or memory was refused and nothing is
-pub submitted : (me : Client) (payload : Bytes) (h new : Held) (seq : ℕ) (result : Result (Vec ℕ Global) Fault) → next_seq h.session ≡ Ok seq
+pub submitted :
+    (me : Client) (payload : Bytes) (h new : Held) (seq : ℕ) (result : Result (Vec ℕ Global) Fault)
+    → next_seq h.session ≡ Ok seq
     → IfOk result (λ f. f.items ≡ spelling (request_frame me seq payload))
-    → IfOk result (λ f. new ≡ record h { session = record { used = seq; waiting = true; tally = [] }; frame = f.items })
+    → IfOk result
+    (λ f. new ≡ record h { session = record { used = seq; waiting = true; tally = [] }; frame = f.items })
     → OnErr result (new ≡ h) → OnErr result (result ≡ Err fault.Memory)
-    → (new ≡ record h { session = (submission me (memory_of result) payload h.session).0; frame = frame_after h.frame result })
+    → (new ≡ record h {
+      session = (submission me (memory_of result) payload h.session).0;
+      frame = frame_after h.frame result;
+    })
     × IsSubmitted (submission me (memory_of result) payload h.session).1 result
 submitted me payload h new seq (Ok f) next made state same memory =
     let whole = submission-next me payload h.session seq next in (
@@ -194,7 +221,11 @@ submitted me payload h new seq (Ok f) next made state same memory =
 submitted me payload h new seq (Err n) next made state same memory =
     let none = submission-no_memory me payload h.session seq next in
     let is_memory : n ≡ fault.Memory = cc in
-    subst (λ (k : Fault). (new ≡ record h { session = (submission me (memory_of {T = Vec ℕ Global} (Err k)) payload h.session).0 }) × IsSubmitted (submission me (memory_of {T = Vec ℕ Global} (Err k)) payload h.session).1 (Err k)) (sym is_memory) (
+    subst (λ (k : Fault). (new
+    ≡ record h
+    { session = (submission me (memory_of {T = Vec ℕ Global} (Err k)) payload h.session).0 })
+    × IsSubmitted (submission me (memory_of {T = Vec ℕ Global} (Err k)) payload h.session).1 (Err k))
+    (sym is_memory) (
       same ∙ ap (λ (x : Session × Submitted). record h { session = x.0 }) (sym none),
       subst (λ (x : Session × Submitted). IsSubmitted x.1 (Err fault.Memory)) (sym none) refl,
     )
@@ -211,28 +242,51 @@ not_submitted me payload h n next =
 
 module _ (me : Client) (h : Held) (replica client seq place : ℕ) (text t : Bytes) where
   -- the last step of a reply
-  pub heard : (new : Held) (result : Result (Option Receipt) Fault) → admission me (frame.reply replica client seq place text t) h.session ≡ Ok tt
+  pub heard : (new : Held) (result : Result (Option Receipt) Fault)
+      → admission me (frame.reply replica client seq place text t) h.session ≡ Ok tt
       → IfOk result (λ r. r ≡ receipt_at me.sizes.faults place text h.session)
       → IfOk result (λ r. new ≡ record h { session = after me h.session replica client seq place text t r })
       → OnErr result (new ≡ h) → OnErr result (result ≡ Err fault.Memory)
-      → (new ≡ record h { session = (on_reply me (memory_of result) (frame.reply replica client seq place text t) h.session).0 })
-      × (heard_of result ≡ (on_reply me (memory_of result) (frame.reply replica client seq place text t) h.session).1)
+      → (new ≡ record h {
+        session =
+            (on_reply me (memory_of result) (frame.reply replica client seq place text t) h.session).0;
+      })
+      × (heard_of result
+      ≡ (on_reply me (memory_of result) (frame.reply replica client seq place text t) h.session).1)
   heard new (Ok r) admitted made state same memory =
-      let whole : on_reply me ample (frame.reply replica client seq place text t) h.session ≡ outcome me h.session replica client seq place text t r =
-      reply-counted me h.session replica client seq place text t admitted ∙ reply-told me h.session replica client seq place text t
-      ∙ ap (outcome me h.session replica client seq place text t) (sym made) in
-      (state ∙ ap (λ (x : Session × Heard). record h { session = x.0 }) (sym whole), ap (λ (x : Session × Heard). x.1) (sym whole))
+      let whole : on_reply me ample (frame.reply replica client seq place text t) h.session
+      ≡ outcome me h.session replica client seq place text t r =
+      reply-counted me h.session replica client seq place text t admitted
+      ∙ reply-told me h.session replica client seq place text t
+      ∙ ap (outcome me h.session replica client seq place text t) (sym made) in (
+        state ∙ ap (λ (x : Session × Heard). record h { session = x.0 }) (sym whole),
+        ap (λ (x : Session × Heard). x.1) (sym whole),
+      )
   heard new (Err n) admitted made state same memory =
       let none = reply-no_memory me h.session replica client seq place text t admitted in
       let is_memory : n ≡ fault.Memory = cc in
-      subst (λ (k : Fault). (new ≡ record h { session = (on_reply me (memory_of {T = Option Receipt} (Err k)) (frame.reply replica client seq place text t) h.session).0 })
-      × (heard_of (Err k) ≡ (on_reply me (memory_of {T = Option Receipt} (Err k)) (frame.reply replica client seq place text t) h.session).1)) (sym is_memory)
-      (same ∙ ap (λ (x : Session × Heard). record h { session = x.0 }) (sym none), ap (λ (x : Session × Heard). x.1) (sym none))
+      subst (λ (k : Fault). (new
+      ≡ record h {
+        session = (on_reply me (memory_of {T = Option Receipt} (Err k))
+            (frame.reply replica client seq place text t) h.session).0;
+      })
+      × (heard_of (Err k) ≡ (on_reply me (memory_of {T = Option Receipt} (Err k))
+      (frame.reply replica client seq place text t) h.session).1)) (sym is_memory) (
+        same ∙ ap (λ (x : Session × Heard). record h { session = x.0 }) (sym none),
+        ap (λ (x : Session × Heard). x.1) (sym none),
+      )
 
   -- a reply that is refused at first
   pub not_heard : (n : Fault) → admission me (frame.reply replica client seq place text t) h.session ≡ Err n
-      → (h ≡ record h { session = (on_reply me (memory_of {T = Option Receipt} (Err n)) (frame.reply replica client seq place text t) h.session).0 })
-      × (heard_of (Err n) ≡ (on_reply me (memory_of {T = Option Receipt} (Err n)) (frame.reply replica client seq place text t) h.session).1)
+      → (h ≡ record h {
+        session = (on_reply me (memory_of {T = Option Receipt} (Err n))
+            (frame.reply replica client seq place text t) h.session).0;
+      })
+      × (heard_of (Err n) ≡ (on_reply me (memory_of {T = Option Receipt} (Err n))
+      (frame.reply replica client seq place text t) h.session).1)
   not_heard n refused =
-      let none = reply-refused me h.session replica client seq place text t (memory_of {T = Option Receipt} (Err n)) n refused in
-      (ap (λ (x : Session × Heard). record h { session = x.0 }) (sym none), ap (λ (x : Session × Heard). x.1) (sym none))
+      let none = reply-refused me h.session replica client seq place text t
+      (memory_of {T = Option Receipt} (Err n)) n refused in (
+        ap (λ (x : Session × Heard). record h { session = x.0 }) (sym none),
+        ap (λ (x : Session × Heard). x.1) (sym none),
+      )

@@ -2,7 +2,8 @@
 use Rattle.ids.specs.declared.fault.Fault.{Fault}
 use Rattle.ids.specs.declared.fault.Fault.TheVariants as fault
 use Rattle.ids.specs.declared.kind.Kind.TheVariants as kind
-use Rattle.std.specs.Prelude.{◌≡◌, ℕ, suc, ◌-◌, ◌^◌, ◌==◌, ◌&&◌, not, if◌then◌else◌, nat_le, Option, Some, None, Result, Ok, Err, Vec}
+use Rattle.std.specs.Prelude.{◌≡◌, ℕ, suc, ◌-◌, ◌^◌, ◌==◌, ◌&&◌, not, if◌then◌else◌, nat_le, Option, Some}
+use Rattle.std.specs.Prelude.{None, Result, Ok, Err, Vec}
 use Rattle.std.specs.declared.alloc.Global.{Global}
 use Rattle.definitions.specs.Bytes.{Bytes}
 use Rattle.definitions.specs.Tally.{is_counted, agreeing}
@@ -10,7 +11,8 @@ use Rattle.definitions.specs.Frames.{Frame, spelling, reply_content}
 use Rattle.definitions.specs.Frames as frame
 use Rattle.definitions.specs.Keyrings.{Keys, verify}
 use Rattle.definitions.specs.Replicas.{Memory, ample, refused_at_once}
-use Rattle.definitions.specs.Sessions.{Client, Session, Receipt, Submitted, sent_request, not_sent, Heard, gives_receipt, only_counts, not_counted}
+use Rattle.definitions.specs.Sessions.{Client, Session, Receipt, Submitted, sent_request, not_sent, Heard}
+use Rattle.definitions.specs.Sessions.{gives_receipt, only_counts, not_counted}
 
 -- A session: the client's keys, its state, and the bytes of its last request.
 pub record Held : Type 0 where
@@ -48,13 +50,15 @@ heard_of (Err n) = not_counted n
 
 -- the number of the next request, where there may be one
 abbrev pub next_seq : Session → Result ℕ Fault
-next_seq s = if s.waiting then Err fault.Busy else (if s.used == (2 ^ 64 - 1) then Err fault.Spent else Ok (suc s.used))
+next_seq s = if s.waiting then Err fault.Busy else
+    (if s.used == (2 ^ 64 - 1) then Err fault.Spent else Ok (suc s.used))
 
 -- whether a reply is counted
 abbrev pub admission : Client → Frame → Session → Result (Unit {0}) Fault
 admission me (frame.reply replica client seq place text t) s =
     if not (client == me.number) then Err fault.NotMine
-    else (if not (verify me.ring kind.Reply replica (reply_content replica client seq place text) t) then Err fault.BadTag
+    else (if not (verify me.ring kind.Reply replica (reply_content replica client seq place text) t) then
+    Err fault.BadTag
     else (if not (s.waiting && (seq == s.used)) then Err fault.WrongSeq
     else (if is_counted s.tally replica then Err fault.Doubled
     else Ok tt)))
@@ -63,4 +67,5 @@ admission me f s = Err fault.NotMine
 -- the receipt, where with one more that tells this more than f agree
 abbrev pub receipt_at : ℕ → ℕ → Bytes → Session → Option Receipt
 receipt_at faults place text s =
-    if nat_le faults (agreeing s.tally place text) then Some (record { seq = s.used; place = place; text = text }) else None
+    if nat_le faults (agreeing s.tally place text) then Some
+    (record { seq = s.used; place = place; text = text }) else None

@@ -20,7 +20,8 @@ said_at answers i = slice_index_or (map said_in answers) i (0, [])
 
 -- what a counted replica told
 abbrev pub told_in : List Answer → Counted → Told
-told_in answers c = record { replica = c.replica; place = (said_at answers c.answer).0; text = (said_at answers c.answer).1 }
+told_in answers c =
+    record { replica = c.replica; place = (said_at answers c.answer).0; text = (said_at answers c.answer).1 }
 
 -- what all counted replicas told, the last one first
 abbrev pub tally_of : List Answer → List Counted → List Told

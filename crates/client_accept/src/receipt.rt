@@ -1,8 +1,8 @@
 use ids::{Place, Seq};
 use std::marker::Model;
 
-/// What a client accepted: to its request of this number, which has this place in the one history, the cache answers
-/// this text.
+/// What a client accepted: to its request of this number, which has this place in the one history,
+/// the cache answers this text.
 #[derive(Debug, Drop)]
 pub struct Receipt {
     pub seq: Seq,

@@ -1,6 +1,7 @@
 //! The session of a client.
 
-ghost use Rattle.std.specs.Prelude.{◌≡◌, ◌<◌, ◌∷◌, [], if◌then◌else◌, true, false, Some, None, option_map, is_none, IfOk, OnOk, OnErr};
+ghost use Rattle.std.specs.Prelude.{◌≡◌, ◌<◌, ◌∷◌, [], if◌then◌else◌, true, false, Some, None, option_map};
+ghost use Rattle.std.specs.Prelude.{is_none, IfOk, OnOk, OnErr};
 ghost use Rattle.ids.specs.Sizes.{client_party};
 ghost use Rattle.definitions.specs.Requests.{IsRequest, canonical};
 ghost use Rattle.definitions.specs.Frames.{spelling};
@@ -13,7 +14,8 @@ ghost use Rattle.frames_view.specs.Views.{reply_of};
 ghost use Rattle.frames_view.specs.Fields.{frame_replica, frame_place, frame_text};
 ghost use Rattle.mc_lines.specs.Meaning.{asked_of};
 ghost use Rattle.signed_frames.specs.Clients.{client_of};
-ghost use Rattle.client_accept.specs.Sessions.{memory_of, IsSubmitted, frame_after, heard_of, next_seq, admission, receipt_at};
+ghost use Rattle.client_accept.specs.Sessions.{memory_of, IsSubmitted, frame_after, heard_of, next_seq};
+ghost use Rattle.client_accept.specs.Sessions.{admission, receipt_at};
 
 use crate::receipt::Receipt;
 use crate::tally::Tally;
@@ -49,9 +51,14 @@ impl Model for Session {
 
     ghost Value = { Held };
 
-    ghost view = { λ s. record { keys = s.keyring; session = record { used = s.used; waiting = s.waiting; tally = s.tally }; frame = s.frame.items } };
+    ghost view = { λ s. record {
+      keys = s.keyring;
+      session = record { used = s.used; waiting = s.waiting; tally = s.tally };
+      frame = s.frame.items;
+    } };
 
-    ghost invariant = { λ s. (s.config ≡ s.keyring.sizes) × (client_party s.client ≡ s.keyring.party) × (s.client < s.config.clients) };
+    ghost invariant = { λ s. (s.config ≡ s.keyring.sizes) × (client_party s.client ≡ s.keyring.party)
+        × (s.client < s.config.clients) };
 }
 
 impl Session {
@@ -90,9 +97,11 @@ impl Session {
 
     /// The bytes of the outstanding request's frame, where one is outstanding.
     ///
-    /// Frames may be lost: a caller sends these bytes again to all replicas, say each second, until there is a receipt.
+    /// Frames may be lost: a caller sends these bytes again to all replicas, say each second, until
+    /// there is a receipt.
     pub fn outstanding(&self) -> Option<&[u8]>
-        ensures { option_map (λ bytes. bytes.now) result ≡ (if self.now.session.waiting then Some self.now.frame else None) }
+        ensures { option_map (λ bytes. bytes.now) result
+            ≡ (if self.now.session.waiting then Some self.now.frame else None) }
     {
         if self.waiting {
             Some(self.frame.as_slice())
@@ -117,7 +126,8 @@ impl Session {
     /// The bytes of the frame of a request of this number.
     fn frame_of(&self, seq: Seq, request: &Request<'_>) -> Result<Vec<u8>, Fault>
         requires { IsRequest (asked_of request.now) false }
-        ensures made { IfOk result (λ frame. frame.items ≡ spelling (request_frame (client_of self.now.keys) seq (canonical (asked_of request.now)))) }
+        ensures made { IfOk result (λ frame. frame.items
+            ≡ spelling (request_frame (client_of self.now.keys) seq (canonical (asked_of request.now)))) }
         ensures memory { OnErr result (result ≡ Err Fault.Memory) }
     {
         let mut text = Vec::new(self.alloc);
@@ -128,7 +138,9 @@ impl Session {
 
     /// A request of this number is outstanding from now on.
     fn begin(&mut self, seq: Seq, frame: Vec<u8>)
-        ensures { self.new ≡ record self.old { session = record { used = seq; waiting = true; tally = [] }; frame = frame.items } }
+        ensures { self.new
+            ≡ record self.old
+            { session = record { used = seq; waiting = true; tally = [] }; frame = frame.items } }
     {
         self.used = seq.0;
         self.waiting = true;
@@ -139,8 +151,11 @@ impl Session {
     /// Makes a request of this number the outstanding one. All memory is taken first.
     fn send(&mut self, seq: Seq, request: &Request<'_>) -> Result<Vec<u8>, Fault>
         requires { IsRequest (asked_of request.now) false }
-        ensures made { IfOk result (λ frame. frame.items ≡ spelling (request_frame (client_of self.old.keys) seq (canonical (asked_of request.now)))) }
-        ensures begun { IfOk result (λ frame. self.new ≡ record self.old { session = record { used = seq; waiting = true; tally = [] }; frame = frame.items }) }
+        ensures made { IfOk result (λ frame. frame.items
+            ≡ spelling (request_frame (client_of self.old.keys) seq (canonical (asked_of request.now)))) }
+        ensures begun { IfOk result (λ frame. self.new
+            ≡ record self.old
+            { session = record { used = seq; waiting = true; tally = [] }; frame = frame.items }) }
         ensures unchanged { OnErr result (self.new ≡ self.old) }
         ensures memory { OnErr result (result ≡ Err Fault.Memory) }
     {
@@ -152,15 +167,17 @@ impl Session {
 
     /// Numbers a request, and gives the bytes of its frame, which goes to all replicas.
     ///
-    /// `Busy` comes where a request is outstanding, then `Spent` where the number 2^64 - 1 was given, then `Memory`. At
-    /// a refusal the session is as before.
+    /// `Busy` comes where a request is outstanding, then `Spent` where the number 2^64 - 1 was
+    /// given, then `Memory`. At a refusal the session is as before.
     pub fn submit(&mut self, request: &Request<'_>) -> Result<Vec<u8>, Fault>
         requires { IsRequest (asked_of request.now) false }
         ensures state { self.new ≡ record self.old {
-          session = (submission (client_of self.old.keys) (memory_of result) (canonical (asked_of request.now)) self.old.session).0;
+          session = (submission (client_of self.old.keys) (memory_of result)
+              (canonical (asked_of request.now)) self.old.session).0;
           frame = frame_after self.old.frame result;
         } }
-        ensures answer { IsSubmitted (submission (client_of self.old.keys) (memory_of result) (canonical (asked_of request.now)) self.old.session).1 result }
+        ensures answer { IsSubmitted (submission (client_of self.old.keys) (memory_of result)
+            (canonical (asked_of request.now)) self.old.session).1 result }
     {
         match self.next_seq() {
             Ok(seq) => self.send(seq, request),
@@ -200,7 +217,9 @@ impl Session {
 
     /// The receipt, where this reply is the one that more than f agree with.
     fn receipt_for(&self, reply: &ReplyView<'_>) -> Result<Option<Receipt>, Fault>
-        ensures made { IfOk result (λ r. r ≡ receipt_at self.now.keys.sizes.faults (frame_place (reply_of reply.now)) (frame_text (reply_of reply.now)) self.now.session) }
+        ensures made { IfOk result (λ r. r
+            ≡ receipt_at self.now.keys.sizes.faults (frame_place (reply_of reply.now))
+            (frame_text (reply_of reply.now)) self.now.session) }
         ensures memory { OnErr result (result ≡ Err Fault.Memory) }
     {
         let (place, text) = (reply.place(), reply.text());
@@ -217,12 +236,19 @@ impl Session {
 
     /// Counts a reply. All memory is taken first.
     fn count(&mut self, reply: &ReplyView<'_>) -> Result<Option<Receipt>, Fault>
-        ensures receipt { IfOk result (λ r. r ≡ receipt_at self.old.keys.sizes.faults (frame_place (reply_of reply.now)) (frame_text (reply_of reply.now)) self.old.session) }
+        ensures receipt { IfOk result (λ r. r
+            ≡ receipt_at self.old.keys.sizes.faults (frame_place (reply_of reply.now))
+            (frame_text (reply_of reply.now)) self.old.session) }
         ensures counted { IfOk result (λ r. self.new ≡ record self.old {
           session = record {
             used = self.old.session.used;
             waiting = is_none r;
-            tally = record { replica = frame_replica (reply_of reply.now); place = frame_place (reply_of reply.now); text = frame_text (reply_of reply.now) } ∷ self.old.session.tally;
+            tally =
+                record {
+                  replica = frame_replica (reply_of reply.now);
+                  place = frame_place (reply_of reply.now);
+                  text = frame_text (reply_of reply.now);
+                } ∷ self.old.session.tally;
           };
         }) }
         ensures unchanged { OnErr result (self.new ≡ self.old) }
@@ -235,18 +261,22 @@ impl Session {
         Ok(receipt)
     }
 
-    /// Counts a reply to the outstanding request. The one at which more than f replicas told the same place and text
-    /// gives the receipt, and nothing is outstanding then.
+    /// Counts a reply to the outstanding request. The one at which more than f replicas told the
+    /// same place and text gives the receipt, and nothing is outstanding then.
     ///
-    /// The refusals in their order: `NotMine` for another client's, `BadTag` where the tag isn't its replica's for this
-    /// client, `WrongSeq` where no request of its number is outstanding, `Doubled` where its replica was counted, and
-    /// `Memory`. At a refusal the session is as before.
+    /// The refusals in their order: `NotMine` for another client's, `BadTag` where the tag isn't
+    /// its replica's for this client, `WrongSeq` where no request of its number is outstanding,
+    /// `Doubled` where its replica was counted, and `Memory`. At a refusal the session is as
+    /// before.
     pub fn on_reply(&mut self, reply: &ReplyView<'_>) -> Result<Option<Receipt>, Fault>
         requires { IsFrame self.old.keys.sizes (reply_of reply.now) }
         ensures state { self.new ≡ record self.old {
-          session = (on_reply (client_of self.old.keys) (memory_of result) (reply_of reply.now) self.old.session).0;
+          session =
+              (on_reply (client_of self.old.keys) (memory_of result) (reply_of reply.now) self.old.session).0;
         } }
-        ensures answer { heard_of result ≡ (on_reply (client_of self.old.keys) (memory_of result) (reply_of reply.now) self.old.session).1 }
+        ensures answer { heard_of result
+            ≡ (on_reply (client_of self.old.keys) (memory_of result) (reply_of reply.now)
+            self.old.session).1 }
     {
         match self.admit(reply) {
             Ok(()) => self.count(reply),

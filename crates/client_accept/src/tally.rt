@@ -97,7 +97,8 @@ impl Tally {
         place: Place,
         text: &[u8],
     ) -> Result<(), Fault>
-        ensures counted { OnOk result (self.new ≡ record { replica = replica; place = place; text = text.now } ∷ self.old) }
+        ensures counted { OnOk result
+            (self.new ≡ record { replica = replica; place = place; text = text.now } ∷ self.old) }
         ensures unchanged { OnErr result (self.new ≡ self.old) }
         ensures memory { OnErr result (result ≡ Err Fault.Memory) }
     {

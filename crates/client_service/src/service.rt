@@ -41,8 +41,8 @@ impl<L: Link> ClientService<L> {
         self.session.client()
     }
 
-    /// Whether a request is outstanding: it was given up, and may still be executed. Then each further call refuses,
-    /// and no connection can be served.
+    /// Whether a request is outstanding: it was given up, and may still be executed. Then each
+    /// further call refuses, and no connection can be served.
     pub fn is_waiting(&self) -> bool
         ensures { result ≡ self.now.session.session.waiting }
     {
@@ -58,8 +58,8 @@ impl<L: Link> ClientService<L> {
         }
     }
 
-    /// Takes bytes that came for this client. The receipt, where they are the reply that gives it; others count, or are
-    /// passed over.
+    /// Takes bytes that came for this client. The receipt, where they are the reply that gives it;
+    /// others count, or are passed over.
     fn hear(&mut self, bytes: &[u8]) -> Option<Receipt>
         ensures { AsksOn self.old.session result self.new.session }
     {
@@ -89,8 +89,8 @@ impl<L: Link> ClientService<L> {
         None
     }
 
-    /// Sends the outstanding request to all replicas until there is a receipt. `Busy` where there is none after all
-    /// tries.
+    /// Sends the outstanding request to all replicas until there is a receipt. `Busy` where there
+    /// is none after all tries.
     fn ask(&mut self) -> Result<Receipt, Fault>
         ensures { AsksOn self.old.session (result_ok result) self.new.session }
     {
@@ -122,8 +122,9 @@ impl<L: Link> Service for ClientService<L> {
 
     ghost answers = { λ old payload answer new. IsCall old.session payload answer new.session };
 
-    /// Puts the text of the request's receipt into `text`. It refuses where the payload is no request, where one is
-    /// outstanding, where memory is refused, and, with `Busy`, where there is no receipt after all tries.
+    /// Puts the text of the request's receipt into `text`. It refuses where the payload is no
+    /// request, where one is outstanding, where memory is refused, and, with `Busy`, where there is
+    /// no receipt after all tries.
     fn call(&mut self, payload: &[u8], text: &mut Vec<u8>) -> Result<(), Fault> {
         let receipt = self.answer(payload)?;
         text.extend_from_slice(&receipt.text)?;

@@ -1,5 +1,6 @@
 -- What is due to a replica, by what was seen of it.
-use Rattle.std.specs.Prelude.{ℕ, ◌+◌, ◌*◌, ◌/◌, ◌-◌, ◌^◌, ◌==◌, ◌&&◌, ◌||◌, not, min, max, nat_le, Bool, if◌then◌else◌}
+use Rattle.std.specs.Prelude.{ℕ, ◌+◌, ◌*◌, ◌/◌, ◌-◌, ◌^◌, ◌==◌, ◌&&◌, ◌||◌, not, min, max, nat_le, Bool}
+use Rattle.std.specs.Prelude.{if◌then◌else◌}
 use Rattle.clock.specs.declared.watch.Pulse.{Pulse}
 use Rattle.clock.specs.declared.watch.Due.{Due}
 use Rattle.clock.specs.declared.watch.Watch.{Watch}
@@ -28,12 +29,14 @@ is_overdue w now p = not (rests w p) && nat_le w.pause (now - w.asked)
 abbrev pub due_of : Watch → ℕ → Pulse → Due
 due_of w now p = record { beat = p.wants_beat_now || is_overdue w now p; timeout = is_late w now p }
 
--- the next pause, in milliseconds: half of the last, and at least 20, where the replica has got on, and twice as long
--- where it passed in vain
+-- the next pause, in milliseconds: half of the last, and at least 20, where the replica has got on, and
+-- twice as long where it passed in vain
 abbrev pub pause_after : ℕ → Bool → Bool → ℕ
-pause_after pause got_on passed = if got_on then max (pause / 2) 20 else if passed then min (pause * 2) (2 ^ 64 - 1) else pause
+pause_after pause got_on passed =
+    if got_on then max (pause / 2) 20 else if passed then min (pause * 2) (2 ^ 64 - 1) else pause
 
--- what was seen so far, with this. Both times begin anew where there is nothing to wait for, or what was due is given
+-- what was seen so far, with this. Both times begin anew where there is nothing to wait for, or what was
+-- due is given
 abbrev pub looked : Watch → ℕ → Pulse → Watch
 looked w now p = record {
   view = p.view;

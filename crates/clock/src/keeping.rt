@@ -27,8 +27,8 @@ fn millis_since<R: Clock>(rt: &R, start: Option<Instant>) -> u64 {
     }
 }
 
-/// Looks at a replica each 20 milliseconds until it is told to stop, and hands in beats and timeouts at its link. What the
-/// link doesn't take is lost, and due again soon.
+/// Looks at a replica each 20 milliseconds until it is told to stop, and hands in beats and
+/// timeouts at its link. What the link doesn't take is lost, and due again soon.
 pub fn keep_time<R: Wait + Clock, W: Watched>(
     rt: &R,
     links: &Links,

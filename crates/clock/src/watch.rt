@@ -5,7 +5,8 @@ ghost use Rattle.clock.specs.Watching.{due_of, is_late, is_overdue, looked, move
 
 use ids::View;
 
-/// For how many milliseconds a proposal may wait for votes, at first and at least, before a beat on top of it.
+/// For how many milliseconds a proposal may wait for votes, at first and at least, before a beat on
+/// top of it.
 const LEAST_PAUSE: u64 = 20;
 
 /// What is seen of a replica at one moment.
@@ -28,8 +29,8 @@ pub struct Pulse {
 pub struct Due {
     /// Leave to make a proposal.
     pub beat: bool,
-    /// A timeout: requests were pending all the time, and neither its view nor its history changed, for one second more
-    /// than the number of its view.
+    /// A timeout: requests were pending all the time, and neither its view nor its history changed,
+    /// for one second more than the number of its view.
     pub timeout: bool,
 }
 

@@ -11,13 +11,23 @@ use Rattle.connection.specs.declared.end.End.{End}
 use Rattle.connection.specs.declared.end.End.TheVariants.{NoReply}
 use Rattle.connection.specs.Serving.{Replies, end_of}
 
-module _ {S : Type 0} (answers : S → Bytes → Option Bytes → S → Type 0) (old new : S) (r : Asked) (n : Bool) (payload : Bytes) (same : payload ≡ canonical r) where
+module _ {S : Type 0} (answers : S → Bytes → Option Bytes → S → Type 0) (old new : S) (r : Asked) (n : Bool)
+    (payload : Bytes) (same : payload ≡ canonical r) where
   -- the service refused
-  pub replies_refused : answers old payload None new → Replies answers old new (asked r n) (ended (codes "SERVER_ERROR no reply")) (Some NoReply)
-  replies_refused h = record { exchange = answered r n None; is = refl; call = subst (λ (p : Bytes). answers old p None new) same h; says = refl; ends = refl }
+  pub replies_refused : answers old payload None new
+      → Replies answers old new (asked r n) (ended (codes "SERVER_ERROR no reply")) (Some NoReply)
+  replies_refused h = record {
+    exchange = answered r n None;
+    is = refl;
+    call = subst (λ (p : Bytes). answers old p None new) same h;
+    says = refl;
+    ends = refl;
+  }
 
   -- it answered
-  pub replies_answered : (quiet : Bool) (text said : Bytes) → answers old payload (Some text) new → n ≡ quiet → said ≡ exchange_text (answered r quiet (Some text)) → Replies answers old new (asked r n) said None
+  pub replies_answered : (quiet : Bool) (text said : Bytes) → answers old payload (Some text) new
+      → n ≡ quiet → said ≡ exchange_text (answered r quiet (Some text))
+      → Replies answers old new (asked r n) said None
   replies_answered quiet text said h is says = record {
     exchange = answered r quiet (Some text);
     is = ap (λ (b : Bool). asked r b) (sym is);
@@ -27,5 +37,8 @@ module _ {S : Type 0} (answers : S → Bytes → Option Bytes → S → Type 0) 
   }
 
 -- a line's fault calls no service
-pub replies_fault : {S : Type 0} (answers : S → Bytes → Option Bytes → S → Type 0) (s : S) (fault : LineFault) (text : Bytes) (end : Option End) → text ≡ exchange_text (told fault) → end ≡ end_of (told fault) → Replies answers s s (bad fault) text end
-replies_fault answers s fault text end says ends = record { exchange = told fault; is = refl; call = refl; says = says; ends = ends }
+pub replies_fault : {S : Type 0} (answers : S → Bytes → Option Bytes → S → Type 0) (s : S)
+    (fault : LineFault) (text : Bytes) (end : Option End) → text ≡ exchange_text (told fault)
+    → end ≡ end_of (told fault) → Replies answers s s (bad fault) text end
+replies_fault answers s fault text end says ends =
+    record { exchange = told fault; is = refl; call = refl; says = says; ends = ends }

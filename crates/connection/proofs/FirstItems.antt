@@ -1,7 +1,8 @@
 -- The exchanges of a text are of its first items.
 use Rattle.std.proofs.Common.{◌≡◌, ℕ, List, [], ◌∷◌, ◌++◌, map, drop, Some, None, refl, sym, ap, subst, ◌∙◌}
 use Rattle.std.specs.Prelude.{◌≢◌, MatchBool}
-use Rattle.ids.specs.declared.line_fault.LineFault.TheVariants.{UnknownName, BadFields, TooLarge, BadChunk, LineTooLong}
+use Rattle.ids.specs.declared.line_fault.LineFault.TheVariants.{UnknownName, BadFields, TooLarge, BadChunk}
+use Rattle.ids.specs.declared.line_fault.LineFault.TheVariants.{LineTooLong}
 use Rattle.definitions.specs.Bytes.{Bytes}
 use Rattle.definitions.specs.Items.{Item, asked, quit, bad, goes_on, AreItems}
 use Rattle.definitions.specs.ServerText.{Exchange, answered, finished, told, item_in, AreExchanges}
@@ -10,17 +11,21 @@ use Rattle.connection.specs.declared.end.End.TheVariants.{NoReply}
 use Rattle.connection.specs.Serving.{end_of, ended_by}
 
 -- what stands behind the one item stands behind the other
-moved : (text : Bytes) (x y : Item) (m n : ℕ) (ys : List Item) → (x ≡ y) × (m ≡ n) → MatchBool (goes_on y) (AreItems (drop n text) ys) (ys ≡ []) → MatchBool (goes_on x) (AreItems (drop m text) ys) (ys ≡ [])
+moved : (text : Bytes) (x y : Item) (m n : ℕ) (ys : List Item) → (x ≡ y) × (m ≡ n)
+    → MatchBool (goes_on y) (AreItems (drop n text) ys) (ys ≡ [])
+    → MatchBool (goes_on x) (AreItems (drop m text) ys) (ys ≡ [])
 moved text x y m n ys same h =
     subst (λ (i : Item). MatchBool (goes_on i) (AreItems (drop m text) ys) (ys ≡ [])) (sym same.0)
     (subst (λ (k : ℕ). MatchBool (goes_on y) (AreItems (drop k text) ys) (ys ≡ [])) (sym same.1) h)
 
 -- so many items are left, and none unless the service refused
 abbrev pub Behind : List Exchange → List Item → Type 0
-Behind xs items = (behind : List Item) × (items ≡ map item_in xs ++ behind) × ((ended_by xs ≢ Some NoReply) → behind ≡ [])
+Behind xs items =
+    (behind : List Item) × (items ≡ map item_in xs ++ behind) × ((ended_by xs ≢ Some NoReply) → behind ≡ [])
 
 -- one more in front
-with_first : (x : Exchange) (xs : List Exchange) (y : Item) (ys : List Item) → item_in x ≡ y → None ≡ end_of x → Behind xs ys → Behind (x ∷ xs) (y ∷ ys)
+with_first : (x : Exchange) (xs : List Exchange) (y : Item) (ys : List Item) → item_in x ≡ y
+    → None ≡ end_of x → Behind xs ys → Behind (x ∷ xs) (y ∷ ys)
 with_first x xs y ys same open_yet rest = (
   rest.0,
   ap (λ (i : Item). i ∷ ys) (sym same) ∙ ap (λ (l : List Item). item_in x ∷ l) rest.1,
@@ -32,34 +37,58 @@ with_first x xs y ys same open_yet rest = (
     ended_on (z ∷ zs) e = e
 
 -- the last one, behind which nothing stands
-as_last : (x : Exchange) (xs : List Exchange) (y : Item) (ys : List Item) → item_in x ≡ y → xs ≡ [] → ys ≡ [] → Behind (x ∷ xs) (y ∷ ys)
+as_last : (x : Exchange) (xs : List Exchange) (y : Item) (ys : List Item) → item_in x ≡ y → xs ≡ []
+    → ys ≡ [] → Behind (x ∷ xs) (y ∷ ys)
 as_last x xs y ys same none nothing = (
   [],
-  ap (λ (i : Item). i ∷ ys) (sym same) ∙ ap (λ (l : List Item). item_in x ∷ l) (nothing ∙ ap (λ (l : List Exchange). map item_in l ++ []) (sym none)),
+  ap (λ (i : Item). i ∷ ys) (sym same)
+      ∙ ap (λ (l : List Item). item_in x ∷ l)
+      (nothing ∙ ap (λ (l : List Exchange). map item_in l ++ []) (sym none)),
   λ no. refl,
 )
 
 -- the last one, which was refused
-as_refused : (x : Exchange) (xs : List Exchange) (y : Item) (ys : List Item) → item_in x ≡ y → xs ≡ [] → end_of x ≡ Some NoReply → Behind (x ∷ xs) (y ∷ ys)
+as_refused : (x : Exchange) (xs : List Exchange) (y : Item) (ys : List Item) → item_in x ≡ y → xs ≡ []
+    → end_of x ≡ Some NoReply → Behind (x ∷ xs) (y ∷ ys)
 as_refused x xs y ys same none refused = (
   ys,
-  ap (λ (i : Item). i ∷ ys) (sym same) ∙ ap (λ (l : List Item). item_in x ∷ l) (ap (λ (l : List Exchange). map item_in l ++ ys) (sym none)),
+  ap (λ (i : Item). i ∷ ys) (sym same)
+      ∙ ap (λ (l : List Item). item_in x ∷ l) (ap (λ (l : List Exchange). map item_in l ++ ys) (sym none)),
   λ no. absurd (no (ap (λ (l : List Exchange). ended_by (x ∷ l)) none ∙ refused)),
 )
 
-pub first_items : (text : Bytes) (xs : List Exchange) (items : List Item) → AreExchanges text xs → AreItems text items → Behind xs items
+pub first_items : (text : Bytes) (xs : List Exchange) (items : List Item) → AreExchanges text xs
+    → AreItems text items → Behind xs items
 first_items text [] [] a is = ([], refl, λ no. refl)
 first_items text [] (y ∷ ys) a is = absurd (IsUnfinished-no_item text y is.0 a is.1)
 first_items text (x ∷ xs) [] a is = absurd (IsUnfinished-no_item text (item_in x) a.0 is a.1)
 first_items text (answered r n (Some t) ∷ xs) (y ∷ ys) a is =
     let same = IsItemAt-unique text (asked r n) y a.0 is.0 a.1 is.1 in
-    with_first (answered r n (Some t)) xs y ys same.0 refl (first_items (drop a.0 text) xs ys a.2 (moved text (asked r n) y a.0 is.0 ys same is.2))
+    with_first (answered r n (Some t)) xs y ys same.0 refl
+    (first_items (drop a.0 text) xs ys a.2 (moved text (asked r n) y a.0 is.0 ys same is.2))
 first_items text (told UnknownName ∷ xs) (y ∷ ys) a is =
     let same = IsItemAt-unique text (bad UnknownName) y a.0 is.0 a.1 is.1 in
-    with_first (told UnknownName) xs y ys same.0 refl (first_items (drop a.0 text) xs ys a.2 (moved text (bad UnknownName) y a.0 is.0 ys same is.2))
-first_items text (answered r n None ∷ xs) (y ∷ ys) a is = as_refused (answered r n None) xs y ys (IsItemAt-unique text (asked r n) y a.0 is.0 a.1 is.1).0 a.2 refl
-first_items text (finished ∷ xs) (y ∷ ys) a is = let same = IsItemAt-unique text quit y a.0 is.0 a.1 is.1 in as_last finished xs y ys same.0 a.2 (moved text quit y a.0 is.0 ys same is.2)
-first_items text (told BadFields ∷ xs) (y ∷ ys) a is = let same = IsItemAt-unique text (bad BadFields) y a.0 is.0 a.1 is.1 in as_last (told BadFields) xs y ys same.0 a.2 (moved text (bad BadFields) y a.0 is.0 ys same is.2)
-first_items text (told TooLarge ∷ xs) (y ∷ ys) a is = let same = IsItemAt-unique text (bad TooLarge) y a.0 is.0 a.1 is.1 in as_last (told TooLarge) xs y ys same.0 a.2 (moved text (bad TooLarge) y a.0 is.0 ys same is.2)
-first_items text (told BadChunk ∷ xs) (y ∷ ys) a is = let same = IsItemAt-unique text (bad BadChunk) y a.0 is.0 a.1 is.1 in as_last (told BadChunk) xs y ys same.0 a.2 (moved text (bad BadChunk) y a.0 is.0 ys same is.2)
-first_items text (told LineTooLong ∷ xs) (y ∷ ys) a is = let same = IsItemAt-unique text (bad LineTooLong) y a.0 is.0 a.1 is.1 in as_last (told LineTooLong) xs y ys same.0 a.2 (moved text (bad LineTooLong) y a.0 is.0 ys same is.2)
+    with_first (told UnknownName) xs y ys same.0 refl
+    (first_items (drop a.0 text) xs ys a.2 (moved text (bad UnknownName) y a.0 is.0 ys same is.2))
+first_items text (answered r n None ∷ xs) (y ∷ ys) a is =
+    as_refused (answered r n None) xs y ys (IsItemAt-unique text (asked r n) y a.0 is.0 a.1 is.1).0 a.2 refl
+first_items text (finished ∷ xs) (y ∷ ys) a is =
+    let same =
+    IsItemAt-unique text quit y a.0 is.0 a.1 is.1 in
+    as_last finished xs y ys same.0 a.2 (moved text quit y a.0 is.0 ys same is.2)
+first_items text (told BadFields ∷ xs) (y ∷ ys) a is =
+    let same =
+    IsItemAt-unique text (bad BadFields) y a.0 is.0 a.1 is.1 in
+    as_last (told BadFields) xs y ys same.0 a.2 (moved text (bad BadFields) y a.0 is.0 ys same is.2)
+first_items text (told TooLarge ∷ xs) (y ∷ ys) a is =
+    let same =
+    IsItemAt-unique text (bad TooLarge) y a.0 is.0 a.1 is.1 in
+    as_last (told TooLarge) xs y ys same.0 a.2 (moved text (bad TooLarge) y a.0 is.0 ys same is.2)
+first_items text (told BadChunk ∷ xs) (y ∷ ys) a is =
+    let same =
+    IsItemAt-unique text (bad BadChunk) y a.0 is.0 a.1 is.1 in
+    as_last (told BadChunk) xs y ys same.0 a.2 (moved text (bad BadChunk) y a.0 is.0 ys same is.2)
+first_items text (told LineTooLong ∷ xs) (y ∷ ys) a is =
+    let same =
+    IsItemAt-unique text (bad LineTooLong) y a.0 is.0 a.1 is.1 in
+    as_last (told LineTooLong) xs y ys same.0 a.2 (moved text (bad LineTooLong) y a.0 is.0 ys same is.2)

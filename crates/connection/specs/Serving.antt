@@ -1,5 +1,6 @@
 -- How a connection is served: by which exchanges, by which calls of the service, and with what written.
-use Rattle.std.specs.Prelude.{length, map, ◌≡◌, ◌≢◌, ℕ, ◌-◌, ◌^◌, ◌≤◌, true, ◌⊎◌, List, [], ◌∷◌, ◌++◌, drop, Option, Some, None, IfSome, Result, Ok, Err}
+use Rattle.std.specs.Prelude.{length, map, ◌≡◌, ◌≢◌, ℕ, ◌-◌, ◌^◌, ◌≤◌, true, ◌⊎◌, List, [], ◌∷◌, ◌++◌, drop}
+use Rattle.std.specs.Prelude.{Option, Some, None, IfSome, Result, Ok, Err}
 use Rattle.std.specs.Io.KnownBytes.{Appends, Consumes, Keeps, IsAtEnd}
 use Rattle.ids.specs.declared.fault.Fault.{Fault}
 use Rattle.ids.specs.declared.fault.Fault.TheVariants as faults
@@ -7,7 +8,8 @@ use Rattle.ids.specs.declared.line_fault.LineFault.TheVariants.{UnknownName}
 use Rattle.definitions.specs.Bytes.{Bytes}
 use Rattle.definitions.specs.Requests.{canonical}
 use Rattle.definitions.specs.Items.{Item, IsItemAt, AreItems}
-use Rattle.definitions.specs.ServerText.{Exchange, answered, finished, told, item_in, exchange_text, server_text, is_followed, AreExchanges}
+use Rattle.definitions.specs.ServerText.{Exchange, answered, finished, told, item_in, exchange_text}
+use Rattle.definitions.specs.ServerText.{server_text, is_followed, AreExchanges}
 use Rattle.connection.specs.Devices.{Device, CountsOne, WritesPart}
 use Rattle.connection.specs.declared.end.End.{End}
 use Rattle.connection.specs.declared.end.End.TheVariants.{Quit, Input, Closed, NoReply}
@@ -23,7 +25,8 @@ Call answers old (told fault) new = new ≡ old
 -- a chain of them
 abbrev pub Calls : {S : Type 0} → (S → Bytes → Option Bytes → S → Type 0) → S → List Exchange → S → Type 0
 Calls answers old [] new = new ≡ old
-Calls {S} answers old (exchange ∷ exchanges) new = (between : S) × Call answers old exchange between × Calls answers between exchanges new
+Calls {S} answers old (exchange ∷ exchanges) new =
+    (between : S) × Call answers old exchange between × Calls answers between exchanges new
 
 -- what an exchange ends the connection with, if it does
 abbrev pub end_of : Exchange → Option End
@@ -48,8 +51,11 @@ ending NoReply = Some NoReply
 
 -- the exchanges of a text are of its first items, and nothing stands behind them unless the service refused
 abbrev pub ServesFirstItems : Type 0
-ServesFirstItems = (text : Bytes) (exchanges : List Exchange) (items : List Item) → AreExchanges text exchanges → AreItems text items
-    → (behind : List Item) × (items ≡ map item_in exchanges ++ behind) × ((ended_by exchanges ≢ Some NoReply) → behind ≡ [])
+ServesFirstItems =
+    (text : Bytes) (exchanges : List Exchange) (items : List Item) → AreExchanges text exchanges
+    → AreItems text items
+    → (behind : List Item) × (items ≡ map item_in exchanges ++ behind)
+    × ((ended_by exchanges ≢ Some NoReply) → behind ≡ [])
 
 -- ---- what serving changes
 
@@ -61,14 +67,18 @@ pub record State (S : Type 0) : Type 0 where
 
 -- a service with a counted writer
 abbrev pub state : {S D : Type 0} → (D → Option Bytes) → S → Device D → State S
-state contents service writer = record { service = service; written = contents writer.device; failures = writer.failures }
+state contents service writer =
+    record { service = service; written = contents writer.device; failures = writer.failures }
 
 module _ {S : Type 0} (answers : S → Bytes → Option Bytes → S → Type 0) where
-  -- The items at the front of a text are served, one after the other, and behind each of them more is; this is left.
+  -- The items at the front of a text are served, one after the other, and behind each of them more is; this
+  -- is left.
   abbrev pub Serving : S → Bytes → List Exchange → S → Bytes → Type 0
   Serving old text [] new left = (new ≡ old) × (left ≡ text)
-  Serving old text (exchange ∷ exchanges) new left = (used : ℕ) × IsItemAt text (item_in exchange) used × (is_followed exchange ≡ true)
-      × (between : S) × Call answers old exchange between × Serving between (drop used text) exchanges new left
+  Serving old text (exchange ∷ exchanges) new left =
+      (used : ℕ) × IsItemAt text (item_in exchange) used × (is_followed exchange ≡ true)
+      × (between : S) × Call answers old exchange between
+      × Serving between (drop used text) exchanges new left
 
   -- what an item is answered, and whether that ends the connection
   pub record Replies (old new : S) (item : Item) (text : Bytes) (end : Option End) : Type 0 where
@@ -97,8 +107,8 @@ module _ {S : Type 0} (answers : S → Bytes → Option Bytes → S → Type 0) 
       pub wrote : WritesPart old.written new.written reply
       pub failed : CountsOne old.failures new.failures
 
-    -- A text was served, up to the item that ends the connection, or to what is unfinished: by these exchanges, one
-    -- for each item. All was written.
+    -- A text was served, up to the item that ends the connection, or to what is unfinished: by these
+    -- exchanges, one for each item. All was written.
     pub record ServesText (text : Bytes) (end : Option End) : Type 0 where
       pub exchanges : List Exchange
       pub are : AreExchanges text exchanges
@@ -118,21 +128,33 @@ module _ {S : Type 0} (answers : S → Bytes → Option Bytes → S → Type 0) 
 module _ {S : Type 0} (answers : S → Bytes → Option Bytes → S → Type 0) (old new : State S) where
   -- the writer failed at a reply, of which a part was written, and all before it were written
   abbrev pub CutsHeld : Bytes → Type 0
-  CutsHeld held = (mid : State S) × (rest : Bytes) × ServesFront answers old mid held rest × CutsFirst answers mid new rest
+  CutsHeld held =
+      (mid : State S) × (rest : Bytes) × ServesFront answers old mid held rest
+      × CutsFirst answers mid new rest
 
   -- a text was served, and the writer failed: at a reply, or at a flush behind all replies
   abbrev pub CutsText : Bytes → Type 0
-  CutsText text = CutsHeld text ⊎ ((mid : State S) × (end : Option End) × ServesText answers old mid text end × FailsFlush answers mid new)
+  CutsText text =
+      CutsHeld text
+      ⊎ ((mid : State S) × (end : Option End) × ServesText answers old mid text end
+      × FailsFlush answers mid new)
 
-  -- What serving a connection comes to. The reader had the bytes `source` and now has `rest`; `reads` and `reads_now`
-  -- are its counts of failures. Where an item or a read told the end, all that was read was served, and so was the whole
-  -- input, in whatever pieces it came. Where the reader failed, all that was read was. Where memory was refused
-  -- nothing was done; or else 2^64 - 1 reads each gave something, and the front of that was served.
+  -- What serving a connection comes to. The reader had the bytes `source` and now has `rest`; `reads` and
+  -- `reads_now` are its counts of failures. Where an item or a read told the end, all that was read was
+  -- served, and so was the whole input, in whatever pieces it came. Where the reader failed, all that was
+  -- read was. Where memory was refused nothing was done; or else 2^64 - 1 reads each gave something, and
+  -- the front of that was served.
   abbrev pub IsServed : (source rest : Option Bytes) (reads reads_now : ℕ) → Result End Fault → Type 0
-  IsServed source rest reads reads_now (Ok end) = (read : Bytes) × Consumes source rest read × ServesText answers old new read (ending end)
-      × IfSome source (λ input. ServesText answers old new input (ending end)) × (end ≡ Input → IsAtEnd rest) × (reads_now ≡ reads)
-  IsServed source rest reads reads_now (Err faults.ReadFailed) = (read : Bytes) × Consumes source rest read × ServesText answers old new read None × CountsOne reads reads_now
-  IsServed source rest reads reads_now (Err faults.WriteFailed) = (read : Bytes) × Consumes source rest read × CutsText read × (reads_now ≡ reads)
+  IsServed source rest reads reads_now (Ok end) =
+      (read : Bytes) × Consumes source rest read × ServesText answers old new read (ending end)
+      × IfSome source (λ input. ServesText answers old new input (ending end))
+      × (end ≡ Input → IsAtEnd rest) × (reads_now ≡ reads)
+  IsServed source rest reads reads_now (Err faults.ReadFailed) =
+      (read : Bytes) × Consumes source rest read × ServesText answers old new read None
+      × CountsOne reads reads_now
+  IsServed source rest reads reads_now (Err faults.WriteFailed) =
+      (read : Bytes) × Consumes source rest read × CutsText read × (reads_now ≡ reads)
   IsServed source rest reads reads_now (Err faults.Memory) = (((new ≡ old) × (rest ≡ source))
-      ⊎ ((read : Bytes) × (left : Bytes) × Consumes source rest read × (2 ^ 64 - 1 ≤ length read) × ServesFront answers old new read left)) × (reads_now ≡ reads)
+      ⊎ ((read : Bytes) × (left : Bytes) × Consumes source rest read × (2 ^ 64 - 1 ≤ length read)
+      × ServesFront answers old new read left)) × (reads_now ≡ reads)
   IsServed source rest reads reads_now (Err _) = ⊥

@@ -1,5 +1,6 @@
 -- What the steps of serving answer, which lead to what `serve` does.
-use Rattle.std.specs.Prelude.{length, ◌≡◌, ℕ, ◌<◌, ◌≤◌, Bool, true, false, ◌⊎◌, [], ◌++◌, Option, Some, None, Result, Ok, Err}
+use Rattle.std.specs.Prelude.{length, ◌≡◌, ℕ, ◌<◌, ◌≤◌, Bool, true, false, ◌⊎◌, [], ◌++◌, Option, Some}
+use Rattle.std.specs.Prelude.{None, Result, Ok, Err}
 use Rattle.std.specs.Io.KnownBytes.{Appends, Consumes, IsAtEnd}
 use Rattle.ids.specs.declared.fault.Fault.{Fault}
 use Rattle.ids.specs.declared.fault.Fault.TheVariants as faults
@@ -40,7 +41,9 @@ module _ {S : Type 0} (answers : S → Bytes → Option Bytes → S → Type 0) 
   -- all whole items that are held were served, up to the one that ends the connection
   abbrev pub ServesHeld : Bytes → Bytes → Option End → Type 0
   ServesHeld held left None = ServesFront answers old new held left × IsUnfinished left
-  ServesHeld held left (Some end) = (mid : State S) × (rest : Bytes) × ServesFront answers old mid held rest × ServesLast answers mid new rest end
+  ServesHeld held left (Some end) =
+      (mid : State S) × (rest : Bytes) × ServesFront answers old mid held rest
+      × ServesLast answers mid new rest end
 
   -- they were, or the writer failed
   abbrev pub IsHeld : Bytes → Bytes → Result (Option End) Fault → Type 0
@@ -53,10 +56,12 @@ module _ {S : Type 0} (answers : S → Bytes → Option Bytes → S → Type 0) 
   abbrev pub IsRound : Bytes → Bytes → Result (Option End) Fault → Type 0
   IsRound held left (Ok end) = ServesHeld answers old new held left end
   IsRound held left (Err faults.WriteFailed) = CutsHeld answers old new held
-      ⊎ ((mid : State S) × (end : Option End) × ServesHeld answers old mid held left end × FailsFlush answers mid new)
+      ⊎ ((mid : State S) × (end : Option End) × ServesHeld answers old mid held left end
+      × FailsFlush answers mid new)
   IsRound held left (Err _) = ⊥
 
 -- some bytes were read behind those that were held, or the reader is at its end
 abbrev pub IsPulled : Option Bytes → Option Bytes → Bytes → Bytes → Bool → Type 0
-IsPulled source rest held new true = (read : Bytes) × Consumes source rest read × (1 ≤ length read) × (new ≡ held ++ read)
+IsPulled source rest held new true =
+    (read : Bytes) × Consumes source rest read × (1 ≤ length read) × (new ≡ held ++ read)
 IsPulled source rest held new false = Consumes source rest [] × IsAtEnd rest × (new ≡ held)

@@ -10,8 +10,8 @@ use std::marker::Model;
 
 /// A reader or a writer, and how often it failed.
 ///
-/// A read or a write that was interrupted is no failure: it is made again. A write that takes none of some bytes is one, and so
-/// are 2^64 - 1 interruptions in one call.
+/// A read or a write that was interrupted is no failure: it is made again. A write that takes none
+/// of some bytes is one, and so are 2^64 - 1 interruptions in one call.
 #[derive(Drop)]
 pub struct Counted<D> {
     device: D,
@@ -64,9 +64,11 @@ impl<R: Read> Counted<R> {
     /// Reads once. `ReadFailed` where the device failed in this call.
     pub(crate) fn read(&mut self, piece: &mut [u8]) -> Result<usize, Fault>
         ensures bound { ReadsAtMost result piece.new }
-        ensures bytes { ReadConsumes (R.remaining self.old.device) (R.remaining self.new.device) result piece.new }
+        ensures bytes { ReadConsumes (R.remaining self.old.device) (R.remaining self.new.device) result
+            piece.new }
         ensures kept { OnOk result (self.new.failures ≡ self.old.failures) }
-        ensures failed { OnErr result ((result ≡ Err ReadFailed) × CountsOne self.old.failures self.new.failures) }
+        ensures failed { OnErr result
+            ((result ≡ Err ReadFailed) × CountsOne self.old.failures self.new.failures) }
     {
         for _ in 0..u64::MAX {
             match self.device.read(piece) {
@@ -84,13 +86,16 @@ impl<R: Read> Counted<R> {
 }
 
 impl<W: Write> Counted<W> {
-    /// Writes some of these bytes, of which there is one at least. `WriteFailed` where the device failed in this call.
+    /// Writes some of these bytes, of which there is one at least. `WriteFailed` where the device
+    /// failed in this call.
     fn write_some(&mut self, bytes: &[u8]) -> Result<usize, Fault>
         requires { 1 ≤ length bytes.now }
         ensures bound { IfOk result (λ n. (1 ≤ n) × (n ≤ length bytes.now)) }
-        ensures bytes { WriteAppends (W.contents self.old.device) (W.contents self.new.device) result bytes.now }
+        ensures bytes { WriteAppends (W.contents self.old.device) (W.contents self.new.device) result
+            bytes.now }
         ensures kept { OnOk result (self.new.failures ≡ self.old.failures) }
-        ensures failed { OnErr result ((result ≡ Err WriteFailed) × CountsOne self.old.failures self.new.failures) }
+        ensures failed { OnErr result
+            ((result ≡ Err WriteFailed) × CountsOne self.old.failures self.new.failures) }
     {
         for _ in 0..u64::MAX {
             match self.device.write(bytes) {
@@ -107,12 +112,16 @@ impl<W: Write> Counted<W> {
         Err(Fault::WriteFailed)
     }
 
-    /// Writes all these bytes. `WriteFailed` where the device failed in this call; a part of them was written then.
+    /// Writes all these bytes. `WriteFailed` where the device failed in this call; a part of them
+    /// was written then.
     pub(crate) fn write(&mut self, bytes: &[u8]) -> Result<(), Fault>
-        ensures written { OnOk result (Appends (W.contents self.old.device) (W.contents self.new.device) bytes.now) }
-        ensures part { OnErr result (WritesPart (W.contents self.old.device) (W.contents self.new.device) bytes.now) }
+        ensures written { OnOk result
+            (Appends (W.contents self.old.device) (W.contents self.new.device) bytes.now) }
+        ensures part { OnErr result
+            (WritesPart (W.contents self.old.device) (W.contents self.new.device) bytes.now) }
         ensures kept { OnOk result (self.new.failures ≡ self.old.failures) }
-        ensures failed { OnErr result ((result ≡ Err WriteFailed) × CountsOne self.old.failures self.new.failures) }
+        ensures failed { OnErr result
+            ((result ≡ Err WriteFailed) × CountsOne self.old.failures self.new.failures) }
     {
         let mut at = 0;
         while at < bytes.len() {
@@ -125,7 +134,8 @@ impl<W: Write> Counted<W> {
     pub(crate) fn flush(&mut self) -> Result<(), Fault>
         ensures bytes { Keeps (W.contents self.old.device) (W.contents self.new.device) }
         ensures kept { OnOk result (self.new.failures ≡ self.old.failures) }
-        ensures failed { OnErr result ((result ≡ Err WriteFailed) × CountsOne self.old.failures self.new.failures) }
+        ensures failed { OnErr result
+            ((result ≡ Err WriteFailed) × CountsOne self.old.failures self.new.failures) }
     {
         match self.device.flush() {
             Ok(()) => Ok(()),

@@ -1,7 +1,8 @@
-//! Serves one connection: what it brings is handed to a service, request by request, and the answers are written.
+//! Serves one connection: what it brings is handed to a service, request by request, and the
+//! answers are written.
 //!
-//! [`serve`] runs a connection to its end over any reader, writer and [`Service`]. [`Counted`] wraps a reader or a
-//! writer, and says afterwards how often it failed.
+//! [`serve`] runs a connection to its end over any reader, writer and [`Service`]. [`Counted`]
+//! wraps a reader or a writer, and says afterwards how often it failed.
 #![tactic(auto)]
 
 mod counted;

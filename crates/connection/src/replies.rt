@@ -63,7 +63,8 @@ fn reply_to_request<'a, S: Service>(
     room: &'a mut Room,
 ) -> Reply<'a>
     requires { IsRequest (asked_of request.now) noreply }
-    ensures { Replies S.answers service.old service.new (asked (asked_of request.now) noreply) result.text.now result.end }
+    ensures { Replies S.answers service.old service.new (asked (asked_of request.now) noreply)
+        result.text.now result.end }
 {
     room.payload.fill(request);
     room.answer.clear();
@@ -116,7 +117,8 @@ pub(crate) fn serve_next<W: Write, S: Service>(
     service: &mut S,
     room: &mut Room,
 ) -> Result<Next, Fault>
-    ensures { IsNext S.answers (state W.contents service.old writer.old) (state W.contents service.new writer.new) feed.old feed.new result }
+    ensures { IsNext S.answers (state W.contents service.old writer.old)
+        (state W.contents service.new writer.new) feed.old feed.new result }
 {
     match feed.next() {
         None => Ok(Next::Unfinished),

@@ -9,8 +9,9 @@ pub trait Service {
     // service before, payload, the answer or a refusal, service after
     ghost answers: { Self → List ℕ → Option (List ℕ) → Self → Type 0 };
 
-    /// Answers the request that has this canonical payload. The answer is put into `text`, which is handed in empty.
-    /// Whatever the refusal at an `Err`, the connection ends, and what stands in `text` isn't written.
+    /// Answers the request that has this canonical payload. The answer is put into `text`, which is
+    /// handed in empty. Whatever the refusal at an `Err`, the connection ends, and what stands in
+    /// `text` isn't written.
     fn call(&mut self, payload: &[u8], text: &mut Vec<u8>) -> Result<(), Fault>
         requires { text.old.items ≡ [] }
         ensures answered { OnOk result (answers self.old payload.now (Some text.new.items) self.new) }

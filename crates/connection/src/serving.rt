@@ -24,7 +24,8 @@ fn serve_held<W: Write, S: Service>(
     service: &mut S,
     room: &mut Room,
 ) -> Result<Option<End>, Fault>
-    ensures { IsHeld S.answers (state W.contents service.old writer.old) (state W.contents service.new writer.new) feed.old feed.new result }
+    ensures { IsHeld S.answers (state W.contents service.old writer.old)
+        (state W.contents service.new writer.new) feed.old feed.new result }
 {
     loop {
         match serve_next(feed, writer, service, room)? {
@@ -42,7 +43,8 @@ fn serve_round<W: Write, S: Service>(
     service: &mut S,
     room: &mut Room,
 ) -> Result<Option<End>, Fault>
-    ensures { IsRound S.answers (state W.contents service.old writer.old) (state W.contents service.new writer.new) feed.old feed.new result }
+    ensures { IsRound S.answers (state W.contents service.old writer.old)
+        (state W.contents service.new writer.new) feed.old feed.new result }
 {
     let end = serve_held(feed, writer, service, room)?;
     writer.flush()?;
@@ -52,10 +54,13 @@ fn serve_round<W: Write, S: Service>(
 /// Takes in what the reader gives next. Says whether there was something.
 fn pull<R: Read>(reader: &mut Counted<R>, feed: &mut Feed) -> Result<bool, Fault>
     requires { length feed.old ≤ 8193 }
-    ensures read { IfOk result (IsPulled (R.remaining reader.old.device) (R.remaining reader.new.device) feed.old feed.new) }
+    ensures read { IfOk result
+        (IsPulled (R.remaining reader.old.device) (R.remaining reader.new.device) feed.old feed.new) }
     ensures kept { OnOk result (reader.new.failures ≡ reader.old.failures) }
-    ensures failed { OnErr result ((result ≡ Err ReadFailed) × CountsOne reader.old.failures reader.new.failures) }
-    ensures nothing { OnErr result (Consumes (R.remaining reader.old.device) (R.remaining reader.new.device) []) }
+    ensures failed { OnErr result
+        ((result ≡ Err ReadFailed) × CountsOne reader.old.failures reader.new.failures) }
+    ensures nothing { OnErr result
+        (Consumes (R.remaining reader.old.device) (R.remaining reader.new.device) []) }
 {
     let mut piece = [0; PIECE];
     let n = reader.read(&mut piece)?;
@@ -72,8 +77,10 @@ fn serve_pieces<R: Read, W: Write, S: Service>(
     service: &mut S,
 ) -> Result<End, Fault>
     requires { feed.old ≡ [] }
-    ensures { IsServed S.answers (state W.contents service.old writer.old) (state W.contents service.new writer.new)
-        (R.remaining reader.old.device) (R.remaining reader.new.device) reader.old.failures reader.new.failures result }
+    ensures { IsServed S.answers (state W.contents service.old writer.old)
+        (state W.contents service.new writer.new)
+        (R.remaining reader.old.device) (R.remaining reader.new.device) reader.old.failures
+        reader.new.failures result }
 {
     let mut reads = 0;
     while reads < u64::MAX {
@@ -91,23 +98,26 @@ fn serve_pieces<R: Read, W: Write, S: Service>(
 
 /// Serves a connection to its end.
 ///
-/// Each whole request is handed to the service by its canonical payload, and the answer is written, unless the
-/// request has the word `noreply`. What is wrong with a line is told, and after a fault that isn't of an unknown
-/// name the connection ends. Where the service refuses, `SERVER_ERROR no reply` is written, also with `noreply`, and
-/// the connection ends. All texts are written, and the writer is flushed, before each read and at the end. A rest that
-/// is unfinished at the end of the input is dropped.
+/// Each whole request is handed to the service by its canonical payload, and the answer is written,
+/// unless the request has the word `noreply`. What is wrong with a line is told, and after a fault
+/// that isn't of an unknown name the connection ends. Where the service refuses, `SERVER_ERROR no
+/// reply` is written, also with `noreply`, and the connection ends. All texts are written, and the
+/// writer is flushed, before each read and at the end. A rest that is unfinished at the end of the
+/// input is dropped.
 ///
-/// Refusals: `Memory` where the room for one connection, 16,384 and 4,393 bytes, is refused, before anything is
-/// read; `ReadFailed` and `WriteFailed` where the device failed, which its count tells too. No connection brings the
-/// 2^64 - 1 pieces behind which `Memory` comes once more.
+/// Refusals: `Memory` where the room for one connection, 16,384 and 4,393 bytes, is refused, before
+/// anything is read; `ReadFailed` and `WriteFailed` where the device failed, which its count tells
+/// too. No connection brings the 2^64 - 1 pieces behind which `Memory` comes once more.
 pub fn serve<R: Read, W: Write, S: Service>(
     alloc: Global,
     reader: &mut Counted<R>,
     writer: &mut Counted<W>,
     service: &mut S,
 ) -> Result<End, Fault>
-    ensures { IsServed S.answers (state W.contents service.old writer.old) (state W.contents service.new writer.new)
-        (R.remaining reader.old.device) (R.remaining reader.new.device) reader.old.failures reader.new.failures result }
+    ensures { IsServed S.answers (state W.contents service.old writer.old)
+        (state W.contents service.new writer.new)
+        (R.remaining reader.old.device) (R.remaining reader.new.device) reader.old.failures
+        reader.new.failures result }
 {
     let mut feed = Feed::new(alloc)?;
     let mut room = Room::new(alloc)?;

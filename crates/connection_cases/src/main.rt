@@ -1,13 +1,15 @@
 //! Runs the feed and the service of a connection over cases, one a line of standard input:
 //!
-//! - A text in hexadecimal, pushed into a feed in pieces of 1, 2, 3, 5, 8 and 13 bytes. Printed is how many items were
-//!   given and the first half of the SHA-256 digest of what they are, if all pieces agree on that; then what serving the
-//!   text comes to.
-//! - `cuts` and a text, pushed in two pieces, cut at every place. Printed are the places and the same of the items.
-//! - Seven numbers and a text that is served: how much the first read gives and how much each other one, the read
-//!   that fails, whether each read and write is interrupted once before it goes well, how much each write takes, the
-//!   write that fails, and the call that the service refuses, where 0 is none. Printed are the end or the refusal, what
-//!   was written, the payloads of the calls, and how often reader and writer failed.
+//! - A text in hexadecimal, pushed into a feed in pieces of 1, 2, 3, 5, 8 and 13 bytes. Printed is
+//!   how many items were given and the first half of the SHA-256 digest of what they are, if all
+//!   pieces agree on that; then what serving the text comes to.
+//! - `cuts` and a text, pushed in two pieces, cut at every place. Printed are the places and the
+//!   same of the items.
+//! - Seven numbers and a text that is served: how much the first read gives and how much each other
+//!   one, the read that fails, whether each read and write is interrupted once before it goes well,
+//!   how much each write takes, the write that fails, and the call that the service refuses, where
+//!   0 is none. Printed are the end or the refusal, what was written, the payloads of the calls,
+//!   and how often reader and writer failed.
 //! - `waits` and a text of requests, each of which is sent only when the answers to all before it were seen.
 //!
 //! The service answers `STORED`. What is wanted of each case was computed by an independent program.

@@ -1,4 +1,5 @@
-//! A connection whose other side waits: it sends its next request only when it has seen the answers to all before.
+//! A connection whose other side waits: it sends its next request only when it has seen the answers
+//! to all before.
 
 use crate::devices::Stored;
 use crate::serving::in_words;

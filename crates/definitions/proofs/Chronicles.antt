@@ -1,13 +1,18 @@
 -- What a chronicle says of its tree, votes, lock and decisions, and what its law adds.
 use Rattle.definitions.proofs.Branches.{just1-extends, extends-cases, highest-above, highest-among}
-use Rattle.std.proofs.Common.{◌≡◌, ◌<◌, ◌≤◌, ◌⊎◌, Bool, true, false, List, [], ◌∷◌, ◌++◌, length, cond, refl, sym, ap, subst, ◌∙◌, arith, inl, inr, map}
+use Rattle.std.proofs.Common.{◌≡◌, ◌<◌, ◌≤◌, ◌⊎◌, Bool, true, false, List, [], ◌∷◌, ◌++◌, length, cond}
+use Rattle.std.proofs.Common.{refl, sym, ap, subst, ◌∙◌, arith, inl, inr, map}
 use Rattle.std.specs.List.{AllByRecursion}
-use Rattle.definitions.proofs.Lists.{Among-after, Among-either, Among-map, greatest-above, Among-before, Among-mapped}
+use Rattle.definitions.proofs.Lists.{Among-after, Among-either, Among-map, greatest-above, Among-before}
+use Rattle.definitions.proofs.Lists.{Among-mapped}
 use Rattle.definitions.specs.Lists.{Among, AreDistinct}
 use Rattle.definitions.specs.Branches.{Block, Branch, just1, Extends, IsBranch, just2, just3}
 use Rattle.ids.specs.Sizes.{Sizes, replicas, quorum}
 use Rattle.definitions.specs.Trees.{Stored, blocks}
-use Rattle.definitions.specs.Chronicles.{Admitted, Step, Step.took_block, Step.noted, Chronicle, taken, stored, stored_of, tree, lock, IsLawfulVote, IsLawfulStep, IsLawful, voted, IsLawfulTake, vheight, decides, decided_by, decided, executed}
+use Rattle.definitions.specs.Chronicles.{Admitted, Step, Step.took_block, Step.noted, Chronicle, taken}
+use Rattle.definitions.specs.Chronicles.{stored, stored_of, tree, lock, IsLawfulVote, IsLawfulStep}
+use Rattle.definitions.specs.Chronicles.{IsLawful, voted, IsLawfulTake, vheight, decides, decided_by}
+use Rattle.definitions.specs.Chronicles.{decided, executed}
 
 pub tree-genesis : (c : Chronicle) → Among [] (tree c)
 unfolding tree
@@ -15,7 +20,9 @@ tree-genesis c = Among-after [] _ ([] ∷ []) (inl refl)
 
 -- ---- a step more
 
-pub tree-step : (a : Admitted) (c : Chronicle) (x : Branch) (t : Bool) → Among x (blocks (map stored_of (taken c))) → Among x (blocks (map stored_of (cond t (a ∷ taken c) (taken c))))
+pub tree-step : (a : Admitted) (c : Chronicle) (x : Branch) (t : Bool)
+    → Among x (blocks (map stored_of (taken c)))
+    → Among x (blocks (map stored_of (cond t (a ∷ taken c) (taken c))))
 tree-step a c x true m = inr m
 tree-step a c x false m = m
 
@@ -24,7 +31,8 @@ unfolding tree stored taken
 tree-grows (took_block a) c x m = tree-step a c x a.new m
 tree-grows (noted n) c x m = m
 
-pub voted-step : (a : Admitted) (c : Chronicle) (x : Branch) (t : Bool) → Among x (voted c) → Among x (cond t (a.branch ∷ voted c) (voted c))
+pub voted-step : (a : Admitted) (c : Chronicle) (x : Branch) (t : Bool) → Among x (voted c)
+    → Among x (cond t (a.branch ∷ voted c) (voted c))
 voted-step a c x true m = inr m
 voted-step a c x false m = m
 
@@ -34,20 +42,28 @@ voted-grows (took_block a) c x m = voted-step a c x a.voted m
 voted-grows (noted n) c x m = m
 
 -- what was voted for was taken
-pub voted-tree-step : (a : Admitted) (c : Chronicle) (x : Branch) (t : Bool) → (t ≡ true → Among a.branch (tree (took_block a ∷ c))) → (Among x (voted c) → Among x (tree (took_block a ∷ c))) → Among x (cond t (a.branch ∷ voted c) (voted c)) → Among x (tree (took_block a ∷ c))
-voted-tree-step a c x true here rest (inl e) = subst (λ (y : Branch). Among y (tree (took_block a ∷ c))) (sym e) (here refl)
+pub voted-tree-step : (a : Admitted) (c : Chronicle) (x : Branch) (t : Bool)
+    → (t ≡ true → Among a.branch (tree (took_block a ∷ c)))
+    → (Among x (voted c) → Among x (tree (took_block a ∷ c)))
+    → Among x (cond t (a.branch ∷ voted c) (voted c)) → Among x (tree (took_block a ∷ c))
+voted-tree-step a c x true here rest (inl e) =
+    subst (λ (y : Branch). Among y (tree (took_block a ∷ c))) (sym e) (here refl)
 voted-tree-step a c x true here rest (inr m) = rest m
 voted-tree-step a c x false here rest m = rest m
 
-pub voted-tree : (need : Sizes) (c : Chronicle) → IsLawful need c → (x : Branch) → Among x (voted c) → Among x (tree c)
+pub voted-tree : (need : Sizes) (c : Chronicle) → IsLawful need c → (x : Branch) → Among x (voted c)
+    → Among x (tree c)
 unfolding voted
 voted-tree need [] l x m = absurd m
-voted-tree need (took_block a ∷ c) l x m = voted-tree-step a c x a.voted (λ v. (l.0.0 v).taken) (λ k. tree-grows (took_block a) c x (voted-tree need c l.1 x k)) m
+voted-tree need (took_block a ∷ c) l x m =
+    voted-tree-step a c x a.voted (λ v. (l.0.0 v).taken)
+    (λ k. tree-grows (took_block a) c x (voted-tree need c l.1 x k)) m
 voted-tree need (noted n ∷ c) l x m = tree-grows (noted n) c x (voted-tree need c l.1 x m)
 
 -- ---- what a chronicle's law says of all of it
 
-pub taken-step : (a : Admitted) (c : Chronicle) (x : Admitted) (t : Bool) → Among x (taken c) → Among x (cond t (a ∷ taken c) (taken c))
+pub taken-step : (a : Admitted) (c : Chronicle) (x : Admitted) (t : Bool) → Among x (taken c)
+    → Among x (cond t (a ∷ taken c) (taken c))
 taken-step a c x true m = inr m
 taken-step a c x false m = m
 
@@ -58,17 +74,20 @@ taken-grows (noted n) c x m = m
 
 -- ---- counted votes, in an order
 
-pub taken-now : (st : Step) (c : Chronicle) (a : Admitted) → Among a (taken (st ∷ c)) → ((st ≡ took_block a) × (a.new ≡ true)) ⊎ Among a (taken c)
+pub taken-now : (st : Step) (c : Chronicle) (a : Admitted) → Among a (taken (st ∷ c))
+    → ((st ≡ took_block a) × (a.new ≡ true)) ⊎ Among a (taken c)
 unfolding taken
 taken-now (took_block b) c a m = by b.new refl m
   where
-    by : (t : Bool) → b.new ≡ t → Among a (cond t (b ∷ taken c) (taken c)) → ((took_block b ≡ took_block a) × (a.new ≡ true)) ⊎ Among a (taken c)
+    by : (t : Bool) → b.new ≡ t → Among a (cond t (b ∷ taken c) (taken c))
+        → ((took_block b ≡ took_block a) × (a.new ≡ true)) ⊎ Among a (taken c)
     by true n (inl e) = inl (ap (λ (x : Admitted). took_block x) (sym e), ap (λ (x : Admitted). x.new) e ∙ n)
     by true n (inr k) = inr k
     by false n k = inr k
 taken-now (noted n) c a m = inr m
 
-pub tree-cases : (c : Chronicle) (b : Branch) → Among b (tree c) → (b ≡ []) ⊎ ((a : Admitted) × Among a (taken c) × (a.branch ≡ b))
+pub tree-cases : (c : Chronicle) (b : Branch) → Among b (tree c)
+    → (b ≡ []) ⊎ ((a : Admitted) × Among a (taken c) × (a.branch ≡ b))
 unfolding tree stored
 tree-cases c b m =
     elim (Among-either b (map (λ s. s.branch) (map stored_of (taken c))) ([] ∷ []) m) [
@@ -81,9 +100,15 @@ tree-cases c b m =
 
 -- what was taken has a certificate
 abbrev pub Certifies : Sizes → Admitted → Type 0
-Certifies s a = (AreDistinct a.counted × AllByRecursion (λ v. v < replicas s) a.counted × (quorum s ≤ length a.counted)) ⊎ (just1 a.branch ≡ [])
+Certifies s a =
+    (AreDistinct a.counted × AllByRecursion (λ v. v < replicas s) a.counted × (quorum s ≤ length a.counted))
+    ⊎ (just1 a.branch ≡ [])
 
-pub take-step : (s : Sizes) (a : Admitted) (c : Chronicle) (x : Admitted) (t : Bool) → a.new ≡ t → (a.new ≡ true → IsLawfulTake s a c) → (Among x (taken c) → Certifies s x × (IsBranch x.branch) × (x.new ≡ true)) → ((b : Branch) → Among b (tree c) → IsBranch b) → Among x (cond t (a ∷ taken c) (taken c)) → Certifies s x × IsBranch x.branch × (x.new ≡ true)
+pub take-step : (s : Sizes) (a : Admitted) (c : Chronicle) (x : Admitted) (t : Bool) → a.new ≡ t
+    → (a.new ≡ true → IsLawfulTake s a c)
+    → (Among x (taken c) → Certifies s x × (IsBranch x.branch) × (x.new ≡ true))
+    → ((b : Branch) → Among b (tree c) → IsBranch b) → Among x (cond t (a ∷ taken c) (taken c))
+    → Certifies s x × IsBranch x.branch × (x.new ≡ true)
 take-step s a c x true e law rest br (inl i) =
     let l = law e in
     subst (λ (y : Admitted). Certifies s y × IsBranch y.branch × (y.new ≡ true)) (sym i)
@@ -91,14 +116,19 @@ take-step s a c x true e law rest br (inl i) =
 take-step s a c x true e law rest br (inr m) = rest m
 take-step s a c x false e law rest br m = rest m
 
-pub tree-branch : (s : Sizes) (c : Chronicle) → ((x : Admitted) → Among x (taken c) → Certifies s x × IsBranch x.branch × (x.new ≡ true)) → (b : Branch) → Among b (tree c) → IsBranch b
+pub tree-branch : (s : Sizes) (c : Chronicle)
+    → ((x : Admitted) → Among x (taken c) → Certifies s x × IsBranch x.branch × (x.new ≡ true))
+    → (b : Branch) → Among b (tree c) → IsBranch b
 tree-branch s c f b m =
     elim (tree-cases c b m) [ inl e ↦ subst IsBranch (sym e) tt | inr r ↦ subst IsBranch r.2 (f r.0 r.1).1 ]
 
-pub lawful-taken : (s : Sizes) (c : Chronicle) → IsLawful s c → (x : Admitted) → Among x (taken c) → Certifies s x × IsBranch x.branch × (x.new ≡ true)
+pub lawful-taken : (s : Sizes) (c : Chronicle) → IsLawful s c → (x : Admitted) → Among x (taken c)
+    → Certifies s x × IsBranch x.branch × (x.new ≡ true)
 unfolding taken
 lawful-taken s [] l x m = absurd m
-lawful-taken s (took_block a ∷ c) l x m = take-step s a c x a.new refl l.0.1 (lawful-taken s c l.1 x) (λ b k. tree-branch s c (λ y n. lawful-taken s c l.1 y n) b k) m
+lawful-taken s (took_block a ∷ c) l x m =
+    take-step s a c x a.new refl l.0.1 (lawful-taken s c l.1 x)
+    (λ b k. tree-branch s c (λ y n. lawful-taken s c l.1 y n) b k) m
 lawful-taken s (noted n ∷ c) l x m = lawful-taken s c l.1 x m
 
 -- ---- votes
@@ -113,7 +143,8 @@ unfolding vheight
 voted-height c b m = greatest-above (map length (voted c)) (length b) (Among-mapped length (voted c) b m)
 
 -- the newest vote is higher than each earlier one
-pub vote-higher : (b x : Branch) (now earlier : Chronicle) → IsVote b now earlier → Among x (voted earlier) → length x < length b
+pub vote-higher : (b x : Branch) (now earlier : Chronicle) → IsVote b now earlier → Among x (voted earlier)
+    → length x < length b
 vote-higher b x now earlier v m = omega (arith, v.law.higher, voted-height earlier x m)
 
 -- a step has one vote
@@ -121,12 +152,14 @@ pub same-vote : (a b : Branch) (now earlier : Chronicle) → IsVote a now earlie
 same-vote a b now earlier v w = let e = v.voted_is in let f = w.voted_is in cc
 
 -- the lock is as high as just2 of each block taken
-pub lock-above : (c : Chronicle) (a : Admitted) → Among a (taken c) → length (just2 a.branch) ≤ length (lock c)
+pub lock-above : (c : Chronicle) (a : Admitted) → Among a (taken c)
+    → length (just2 a.branch) ≤ length (lock c)
 unfolding lock
 lock-above c a m = highest-above _ _ (Among-mapped (λ (x : Admitted). just2 x.branch) (taken c) a m)
 
 -- the lock is genesis, or just2 of a block taken
-pub lock-cases : (c : Chronicle) → (lock c ≡ []) ⊎ ((a : Admitted) × Among a (taken c) × (lock c ≡ just2 a.branch))
+pub lock-cases : (c : Chronicle)
+    → (lock c ≡ []) ⊎ ((a : Admitted) × Among a (taken c) × (lock c ≡ just2 a.branch))
 unfolding lock
 lock-cases c =
     elim (highest-among (map (λ (x : Admitted). just2 x.branch) (taken c))) [
@@ -137,21 +170,28 @@ lock-cases c =
 -- ---- the tree
 
 -- what a taken block stands on is in the tree
-pub taken-parent : (s : Sizes) (c : Chronicle) → IsLawful s c → (a : Admitted) → Among a (taken c) → (b : Block) × (parent : Branch) × (a.branch ≡ b ∷ parent) × Among parent (tree c)
+pub taken-parent : (s : Sizes) (c : Chronicle) → IsLawful s c → (a : Admitted) → Among a (taken c)
+    → (b : Block) × (parent : Branch) × (a.branch ≡ b ∷ parent) × Among parent (tree c)
 unfolding taken
 taken-parent s [] l a m = absurd m
 taken-parent s (st ∷ c) l a m =
     elim (taken-now st c a m) [
-      | inl now ↦ (let p = ((subst (λ (x : Step). IsLawfulStep s x c) now.0 l.0).1 now.1).parent in (p.0, p.1, p.2, tree-grows st c p.1 p.4))
+      | inl now ↦
+          (let p =
+          ((subst (λ (x : Step). IsLawfulStep s x c) now.0 l.0).1 now.1).parent in
+          (p.0, p.1, p.2, tree-grows st c p.1 p.4))
       | inr k ↦ (let p = taken-parent s c l.1 a k in (p.0, p.1, p.2, tree-grows st c p.1 p.3))
     ]
 
 -- a block of the tree above genesis was taken
-pub tree-taken : (c : Chronicle) (b : Branch) → Among b (tree c) → 0 < length b → (a : Admitted) × Among a (taken c) × (a.branch ≡ b)
-tree-taken c b m h = elim (tree-cases c b m) [ inl e ↦ absurd (omega (arith, ap (λ (z : Branch). length z) e)) | inr r ↦ r ]
+pub tree-taken : (c : Chronicle) (b : Branch) → Among b (tree c) → 0 < length b
+    → (a : Admitted) × Among a (taken c) × (a.branch ≡ b)
+tree-taken c b m h =
+    elim (tree-cases c b m) [ inl e ↦ absurd (omega (arith, ap (λ (z : Branch). length z) e)) | inr r ↦ r ]
 
 -- the tree has the parent of each of its blocks
-pub tree-parent : (s : Sizes) (c : Chronicle) → IsLawful s c → (b : Block) (parent : Branch) → Among (b ∷ parent) (tree c) → Among parent (tree c)
+pub tree-parent : (s : Sizes) (c : Chronicle) → IsLawful s c → (b : Block) (parent : Branch)
+    → Among (b ∷ parent) (tree c) → Among parent (tree c)
 tree-parent s c l b parent m =
     let a = tree-taken c (b ∷ parent) m (omega arith) in
     let p = taken-parent s c l a.0 a.1 in
@@ -159,7 +199,8 @@ tree-parent s c l b parent m =
     subst (λ (x : Branch). Among x (tree c)) e p.3
 
 -- all below a block of the tree stands in it
-pub tree-extends : (s : Sizes) (c : Chronicle) → IsLawful s c → (b x : Branch) → Among b (tree c) → Extends b x → Among x (tree c)
+pub tree-extends : (s : Sizes) (c : Chronicle) → IsLawful s c → (b x : Branch) → Among b (tree c)
+    → Extends b x → Among x (tree c)
 tree-extends s c l [] x m ([], e) = subst (λ (y : Branch). Among y (tree c)) (sym e) m
 tree-extends s c l [] x m (d ∷ added, e) = absurd (nil (sym e))
   where
@@ -171,7 +212,8 @@ tree-extends s c l (b ∷ parent) x m h =
       | inr k ↦ tree-extends s c l parent x (tree-parent s c l b parent m) k
     ]
 
-pub tree-just1 : (s : Sizes) (c : Chronicle) → IsLawful s c → (b : Branch) → Among b (tree c) → Among (just1 b) (tree c)
+pub tree-just1 : (s : Sizes) (c : Chronicle) → IsLawful s c → (b : Branch) → Among b (tree c)
+    → Among (just1 b) (tree c)
 tree-just1 s c l b m = tree-extends s c l b (just1 b) m (just1-extends b)
 
 -- a taken block is in the tree
@@ -179,16 +221,20 @@ pub taken-tree : (c : Chronicle) (a : Admitted) → Among a (taken c) → Among 
 unfolding tree stored
 taken-tree c a m =
     Among-before a.branch (map (λ (s : Stored). s.branch) (map stored_of (taken c))) ([] ∷ [])
-    (Among-mapped (λ (s : Stored). s.branch) (map stored_of (taken c)) (stored_of a) (Among-mapped stored_of (taken c) a m))
+    (Among-mapped (λ (s : Stored). s.branch) (map stored_of (taken c)) (stored_of a)
+    (Among-mapped stored_of (taken c) a m))
 
 -- ---- decisions
 
-pub decided-step : (a : Admitted) (before : List Admitted) (b : Branch) (t : Bool) → decides a.branch ≡ t → Among b (cond t (just3 a.branch ∷ decided_by before) (decided_by before)) → ((b ≡ just3 a.branch) × (decides a.branch ≡ true)) ⊎ Among b (decided_by before)
+pub decided-step : (a : Admitted) (before : List Admitted) (b : Branch) (t : Bool) → decides a.branch ≡ t
+    → Among b (cond t (just3 a.branch ∷ decided_by before) (decided_by before))
+    → ((b ≡ just3 a.branch) × (decides a.branch ≡ true)) ⊎ Among b (decided_by before)
 decided-step a before b true d (inl e) = inl (e, d)
 decided-step a before b true d (inr m) = inr m
 decided-step a before b false d m = inr m
 
-pub decided_by-cases : (xs : List Admitted) (b : Branch) → Among b (decided_by xs) → (a : Admitted) × Among a xs × (b ≡ just3 a.branch) × (decides a.branch ≡ true)
+pub decided_by-cases : (xs : List Admitted) (b : Branch) → Among b (decided_by xs)
+    → (a : Admitted) × Among a xs × (b ≡ just3 a.branch) × (decides a.branch ≡ true)
 unfolding decided_by
 decided_by-cases [] b m = absurd m
 decided_by-cases (a ∷ before) b m =
@@ -198,7 +244,8 @@ decided_by-cases (a ∷ before) b m =
     ]
 
 -- what is decided is genesis, or the third below a taken block that decides it
-pub decided-cases : (c : Chronicle) (b : Branch) → Among b (decided c) → (b ≡ []) ⊎ ((a : Admitted) × Among a (taken c) × (b ≡ just3 a.branch) × (decides a.branch ≡ true))
+pub decided-cases : (c : Chronicle) (b : Branch) → Among b (decided c)
+    → (b ≡ []) ⊎ ((a : Admitted) × Among a (taken c) × (b ≡ just3 a.branch) × (decides a.branch ≡ true))
 unfolding decided
 decided-cases c b m =
     elim (Among-either b (decided_by (taken c)) ([] ∷ []) m) [
@@ -206,26 +253,39 @@ decided-cases c b m =
       | inr k ↦ (elim k [ inl e ↦ inl e | inr n ↦ absurd n ])
     ]
 
-pub vote-cases : (a : Admitted) (c : Chronicle) (b : Branch) (t : Bool) → a.voted ≡ t → voted (took_block a ∷ c) ≡ cond t (a.branch ∷ voted c) (voted c) → (a.voted ≡ true → IsLawfulVote a.branch (took_block a ∷ c) c)
+pub vote-cases : (a : Admitted) (c : Chronicle) (b : Branch) (t : Bool) → a.voted ≡ t
+    → voted (took_block a ∷ c) ≡ cond t (a.branch ∷ voted c) (voted c)
+    → (a.voted ≡ true → IsLawfulVote a.branch (took_block a ∷ c) c)
     → Among b (cond t (a.branch ∷ voted c) (voted c)) → IsVote b (took_block a ∷ c) c ⊎ Among b (voted c)
-vote-cases a c b true e same law (inl i) = inl (subst (λ (x : Branch). IsVote x (took_block a ∷ c) c) (sym i) (record { voted_is = same; law = law e }))
+vote-cases a c b true e same law (inl i) =
+    inl (subst (λ (x : Branch). IsVote x (took_block a ∷ c) c) (sym i)
+    (record { voted_is = same; law = law e }))
 vote-cases a c b true e same law (inr m) = inr m
 vote-cases a c b false e same law m = inr m
 
 -- a vote is the newest step's, or an earlier one
-pub voted-cases : (s : Sizes) (st : Step) (c : Chronicle) (b : Branch) → IsLawful s (st ∷ c) → Among b (voted (st ∷ c)) → IsVote b (st ∷ c) c ⊎ Among b (voted c)
+pub voted-cases : (s : Sizes) (st : Step) (c : Chronicle) (b : Branch) → IsLawful s (st ∷ c)
+    → Among b (voted (st ∷ c)) → IsVote b (st ∷ c) c ⊎ Among b (voted c)
 unfolding voted
 voted-cases s (took_block a) c b l m = vote-cases a c b a.voted refl refl l.0.0 m
 voted-cases s (noted n) c b l m = inr m
 
 -- one height is voted for once
-pub one-vote : (s : Sizes) (c : Chronicle) → IsLawful s c → (a b : Branch) → Among a (voted c) → Among b (voted c) → length a ≡ length b → a ≡ b
+pub one-vote : (s : Sizes) (c : Chronicle) → IsLawful s c → (a b : Branch) → Among a (voted c)
+    → Among b (voted c) → length a ≡ length b → a ≡ b
 unfolding voted
 one-vote s [] l a b m n e = absurd m
 one-vote s (st ∷ c) l a b m n e =
     elim (voted-cases s st c a l m) [
-      | inl v ↦ (elim (voted-cases s st c b l n) [ inl w ↦ same-vote a b (st ∷ c) c v w | inr k ↦ absurd (omega (arith, vote-higher a b (st ∷ c) c v k)) ])
-      | inr h ↦ (elim (voted-cases s st c b l n) [ inl w ↦ absurd (omega (arith, vote-higher b a (st ∷ c) c w h)) | inr k ↦ one-vote s c l.1 a b h k e ])
+      | inl v ↦ (elim (voted-cases s st c b l n) [
+        | inl w ↦ same-vote a b (st ∷ c) c v w
+        | inr k ↦ absurd (omega (arith, vote-higher a b (st ∷ c) c v k))
+      ])
+      | inr h ↦ (elim (voted-cases s st c b l n) [
+        | inl w ↦
+            absurd (omega (arith, vote-higher b a (st ∷ c) c w h))
+        | inr k ↦ one-vote s c l.1 a b h k e
+      ])
     ]
 
 pub decided-genesis : (c : Chronicle) → Among [] (decided c)
@@ -234,4 +294,5 @@ decided-genesis c = Among-after [] _ ([] ∷ []) (inl refl)
 
 pub executed-decided : (c : Chronicle) → Among (executed c) (decided c)
 unfolding executed
-executed-decided c = elim (highest-among (decided c)) [ inl e ↦ subst (λ (x : Branch). Among x (decided c)) (sym e) (decided-genesis c) | inr m ↦ m ]
+executed-decided c = elim (highest-among (decided c))
+    [ inl e ↦ subst (λ (x : Branch). Among x (decided c)) (sym e) (decided-genesis c) | inr m ↦ m ]

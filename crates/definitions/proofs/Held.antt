@@ -1,7 +1,8 @@
 -- What a chronicle's tree holds: the blocks that are stored, the lock and the last executed block.
 use Rattle.std.proofs.Common.{◌≡◌, ◌⊎◌, [], refl, sym, subst, inl, inr}
 use Rattle.definitions.proofs.Branches.{just1-extends, just3-below, Extends-trans}
-use Rattle.definitions.proofs.Chronicles.{tree-genesis, taken-tree, lock-cases, decided-cases, executed-decided}
+use Rattle.definitions.proofs.Chronicles.{tree-genesis, taken-tree, lock-cases, decided-cases}
+use Rattle.definitions.proofs.Chronicles.{executed-decided}
 use Rattle.definitions.proofs.Trees.{tree-below}
 use Rattle.definitions.specs.Lists.{Among}
 use Rattle.definitions.specs.Branches.{Branch, just1, just2, just3, Extends}
@@ -22,12 +23,16 @@ pub lock-tree : (c : Chronicle) → IsTree (tree c) → Among (lock c) (tree c)
 lock-tree c tr =
     elim (lock-cases c) [
       | inl e ↦ subst (λ (x : Branch). Among x (tree c)) (sym e) (tree-genesis c)
-      | inr r ↦ subst (λ (x : Branch). Among x (tree c)) (sym r.2) (tree-below (tree c) tr r.0.branch (just2 r.0.branch) (taken-tree c r.0 r.1) (just2-extends r.0.branch))
+      | inr r ↦ subst (λ (x : Branch). Among x (tree c)) (sym r.2)
+          (tree-below (tree c) tr r.0.branch (just2 r.0.branch) (taken-tree c r.0 r.1)
+          (just2-extends r.0.branch))
     ]
 
 -- what was executed was decided by a taken block, unless it is genesis
-pub executed-cases : (c : Chronicle) → (executed c ≡ []) ⊎ ((a : Admitted) × Among a (taken c) × (executed c ≡ just3 a.branch))
-executed-cases c = elim (decided-cases c (executed c) (executed-decided c)) [ inl e ↦ inl e | inr r ↦ inr (r.0, r.1, r.2) ]
+pub executed-cases : (c : Chronicle)
+    → (executed c ≡ []) ⊎ ((a : Admitted) × Among a (taken c) × (executed c ≡ just3 a.branch))
+executed-cases c =
+    elim (decided-cases c (executed c) (executed-decided c)) [ inl e ↦ inl e | inr r ↦ inr (r.0, r.1, r.2) ]
 
 -- the last executed block stands in the tree
 pub executed-tree : (c : Chronicle) → IsTree (tree c) → Among (executed c) (tree c)
@@ -36,5 +41,6 @@ executed-tree c tr =
       | inl e ↦ subst (λ (x : Branch). Among x (tree c)) (sym e) (tree-genesis c)
       | inr r ↦ subst (λ (x : Branch). Among x (tree c)) (sym r.2)
           (tree-below (tree c) tr r.0.branch (just3 r.0.branch) (taken-tree c r.0 r.1)
-          (Extends-trans r.0.branch (just1 r.0.branch) (just3 r.0.branch) (just1-extends r.0.branch) (just3-below r.0.branch)))
+          (Extends-trans r.0.branch (just1 r.0.branch) (just3 r.0.branch) (just1-extends r.0.branch)
+          (just3-below r.0.branch)))
     ]

@@ -7,7 +7,8 @@ use Rattle.definitions.specs.Lists.{Among, AreDistinct, count_below}
 use Rattle.ids.specs.Sizes.{Sizes, replicas, quorum}
 
 -- three quorums share a replica
-pub shared : (s : Sizes) (m p q : ℕ → Bool) → quorum s ≤ count_below (replicas s) m → quorum s ≤ count_below (replicas s) p → quorum s ≤ count_below (replicas s) q
+pub shared : (s : Sizes) (m p q : ℕ → Bool) → quorum s ≤ count_below (replicas s) m
+    → quorum s ≤ count_below (replicas s) p → quorum s ≤ count_below (replicas s) q
     → (i : ℕ) × (m i ≡ true) × (p i ≡ true) × (q i ≡ true)
 shared s m p q hm hp hq =
     let n : ℕ = replicas s in
@@ -19,6 +20,9 @@ shared s m p q hm hp hq =
     (some.0, outer.0, inner.0, inner.1)
 
 -- a quorum has a member
-pub quorum-member : (s : Sizes) (p : ℕ → Bool) (vs : List ℕ) → quorum s ≤ count_below (replicas s) p → AreDistinct vs → AllByRecursion (λ v. v < replicas s) vs → quorum s ≤ length vs → (v : ℕ) × Among v vs × (p v ≡ true)
+pub quorum-member : (s : Sizes) (p : ℕ → Bool) (vs : List ℕ) → quorum s ≤ count_below (replicas s) p
+    → AreDistinct vs → AllByRecursion (λ v. v < replicas s) vs → quorum s ≤ length vs
+    → (v : ℕ) × Among v vs × (p v ≡ true)
 quorum-member s p vs q d l k =
-    elim (first-passing p vs) [ inl r ↦ r | inr f ↦ absurd (let h = apart-count (replicas s) p vs d l f in omega (arith, h, q, k)) ]
+    elim (first-passing p vs)
+    [ inl r ↦ r | inr f ↦ absurd (let h = apart-count (replicas s) p vs d l f in omega (arith, h, q, k)) ]

@@ -1,6 +1,9 @@
 -- How long the text of a reply can be: what a cache holds stays within the limits of requests.
 use Rattle.ids.specs.declared.limits.TheConstants.{MOST_DATA, MOST_KEYS, MOST_TEXT}
-use Rattle.std.proofs.Common.{ℕ, ◌≡◌, ◌+◌, ◌*◌, ◌^◌, ◌%◌, ◌-◌, ◌<◌, ◌≤◌, ◌&&◌, ◌||◌, ◌==◌, Bool, true, false, List, [], ◌∷◌, ◌++◌, length, cond, refl, sym, subst, ◌∙◌, arith, inl, inr, Option, Some, None, nat_lt, nat_le, length-append, bytes_eq, decimal, codes}
+use Rattle.std.proofs.Common.{ℕ, ◌≡◌, ◌+◌, ◌*◌, ◌^◌, ◌%◌, ◌-◌, ◌<◌, ◌≤◌, ◌&&◌, ◌||◌, ◌==◌, Bool, true}
+use Rattle.std.proofs.Common.{false, List, [], ◌∷◌, ◌++◌, length, cond, refl, sym, subst, ◌∙◌, arith, inl}
+use Rattle.std.proofs.Common.{inr, Option, Some, None, nat_lt, nat_le, length-append, bytes_eq, decimal}
+use Rattle.std.proofs.Common.{codes}
 use Rattle.std.specs.Bool.{⊤}
 use Rattle.std.specs.Ordering.{eq_by_cmp}
 use Rattle.std.specs.List.{AllByRecursion, flat_map, cons_option}
@@ -12,11 +15,14 @@ use Rattle.std.proofs.lemmas.Bool.{and_parts, cond_both, ltb-true, leb-true, eqb
 use Rattle.std.proofs.lemmas.Fmt.{length-decimal-le}
 use Rattle.definitions.specs.Lists.{Among}
 use Rattle.definitions.specs.Bytes.{Bytes}
-use Rattle.definitions.specs.Requests.{Verb, set, add, replace, append, prepend, Asked, store, cas, get, gets, delete, incr, decr, IsKey, IsRequest}
+use Rattle.definitions.specs.Requests.{Verb, set, add, replace, append, prepend, Asked, store, cas, get}
+use Rattle.definitions.specs.Requests.{gets, delete, incr, decr, IsKey, IsRequest}
 use Rattle.definitions.specs.Canonical.{request_of}
 use Rattle.definitions.specs.Replies.{Value, Reply, value_text, reply_text}
 use Rattle.definitions.specs.Replies as reply
-use Rattle.definitions.specs.Cache.{Entry, Cache, key_cmp, most_changes, find, has, Outcome, change, number_in, if_present, store_it, count_it, values_of, apply, apply_payload}
+use Rattle.definitions.specs.Cache.{Entry, Cache, key_cmp, most_changes, find, has, Outcome, change}
+use Rattle.definitions.specs.Cache.{number_in, if_present, store_it, count_it, values_of, apply}
+use Rattle.definitions.specs.Cache.{apply_payload}
 use Rattle.definitions.specs.Histories.{History, Answer, answers, cache_after, is_fresh}
 use Rattle.definitions.proofs.Certificates.{all-implied}
 use Rattle.definitions.proofs.RequestTexts.{request_of_some}
@@ -71,12 +77,18 @@ stored-fits = omega arith
 
 -- what incr and decr reply
 number-fits : (n : ℕ) → n < 2 ^ 64 → FitsReply (reply.number n)
-number-fits n l = let k = length-decimal-le 20 n (omega arith) (omega (arith, l)) l in let a = length-append (decimal n) (13 ∷ 10 ∷ []) in omega (arith, k, a)
+number-fits n l =
+    let k =
+    length-decimal-le 20 n (omega arith) (omega (arith, l)) l in let a =
+    length-append (decimal n) (13 ∷ 10 ∷ []) in omega (arith, k, a)
 
 -- an entry more
-insert-within : (cache : Cache) (key : Bytes) (e : Entry) (changes : ℕ) → IsCacheWithin cache → IsEntryWithin e → changes < 2 ^ 64 → IsCacheWithin (record { entries = map.insert cache.entries key e; changes = changes })
+insert-within : (cache : Cache) (key : Bytes) (e : Entry) (changes : ℕ) → IsCacheWithin cache
+    → IsEntryWithin e → changes < 2 ^ 64
+    → IsCacheWithin (record { entries = map.insert cache.entries key e; changes = changes })
 insert-within cache key e changes h k l = record {
-  entries = λ q x f. by (eq_by_cmp key_cmp q key) q x (sym (map.get-insert nat_list_cmp_total cache.entries key e q) ∙ f);
+  entries = λ q x f. by (eq_by_cmp key_cmp q key) q x
+      (sym (map.get-insert nat_list_cmp_total cache.entries key e q) ∙ f);
   changes = l;
 }
   where
@@ -85,9 +97,11 @@ insert-within cache key e changes h k l = record {
     by false q x f = h.entries q x f
 
 -- an entry less
-remove-within : (cache : Cache) (key : Bytes) → IsCacheWithin cache → IsCacheWithin (record cache { entries = map.remove cache.entries key })
+remove-within : (cache : Cache) (key : Bytes) → IsCacheWithin cache
+    → IsCacheWithin (record cache { entries = map.remove cache.entries key })
 remove-within cache key h = record {
-  entries = λ q x f. by (eq_by_cmp key_cmp q key) q x (sym (map.get-remove nat_list_cmp_total cache.entries key q) ∙ f);
+  entries = λ q x f. by (eq_by_cmp key_cmp q key) q x
+      (sym (map.get-remove nat_list_cmp_total cache.entries key q) ∙ f);
   changes = h.changes;
 }
   where
@@ -103,16 +117,26 @@ stays-within : (cache : Cache) (r : Reply) → IsCacheWithin cache → FitsReply
 stays-within cache r h k = record { cache = h; text = k }
 
 -- a change within the limits
-change-within : (cache : Cache) (key : Bytes) (flags : ℕ) (stored : Bytes) (told : Reply) → IsCacheWithin cache → flags < 2 ^ 32 → length stored ≤ MOST_DATA → FitsReply told → IsOutcomeWithin (change cache key flags stored told)
+change-within : (cache : Cache) (key : Bytes) (flags : ℕ) (stored : Bytes) (told : Reply)
+    → IsCacheWithin cache → flags < 2 ^ 32 → length stored ≤ MOST_DATA → FitsReply told
+    → IsOutcomeWithin (change cache key flags stored told)
 change-within cache key flags stored told h f l t =
     cond_both (cache.changes == most_changes) (cache, reply.no_room) _ IsOutcomeWithin
     (λ e. stays-within cache reply.no_room h (omega arith))
     (λ e. let n = eqb-false cache.changes most_changes e in let c = h.changes in
     let more : cache.changes + 1 < 2 ^ 64 = omega (arith, n, c) in
-    record { cache = insert-within cache key (record { flags = flags; stored = stored; unique = cache.changes + 1 }) (cache.changes + 1) h (record { flags = f; stored = l; unique = more }) more; text = t })
+    record {
+      cache = insert-within cache key
+          (record { flags = flags; stored = stored; unique = cache.changes + 1 }) (cache.changes + 1) h
+          (record { flags = f; stored = l; unique = more }) more;
+      text = t;
+    })
 
 -- what is done with an entry that is there
-present-within : (cache : Cache) (key : Bytes) (absent : Outcome) (present : Entry → Outcome) → IsCacheWithin cache → IsOutcomeWithin absent → ((e : Entry) → IsEntryWithin e → IsOutcomeWithin (present e)) → IsOutcomeWithin (if_present cache key absent present)
+present-within : (cache : Cache) (key : Bytes) (absent : Outcome) (present : Entry → Outcome)
+    → IsCacheWithin cache → IsOutcomeWithin absent
+    → ((e : Entry) → IsEntryWithin e → IsOutcomeWithin (present e))
+    → IsOutcomeWithin (if_present cache key absent present)
 present-within cache key absent present h a p = by (find cache key) refl
   where
     by : (o : Option Entry) → find cache key ≡ o → IsOutcomeWithin (option_map_or present o absent)
@@ -122,7 +146,9 @@ present-within cache key absent present h a p = by (find cache key) refl
 -- ---- what a request does
 
 -- a storage command keeps the limits
-store-within : (most : ℕ) (cache : Cache) (verb : Verb) (key : Bytes) (flags : ℕ) (stored : Bytes) → IsCacheWithin cache → flags < 2 ^ 32 → length stored ≤ MOST_DATA → IsOutcomeWithin (store_it most cache verb key flags stored)
+store-within : (most : ℕ) (cache : Cache) (verb : Verb) (key : Bytes) (flags : ℕ) (stored : Bytes)
+    → IsCacheWithin cache → flags < 2 ^ 32 → length stored ≤ MOST_DATA
+    → IsOutcomeWithin (store_it most cache verb key flags stored)
 store-within most cache set key flags stored h f l =
     cond_both (has cache key || nat_lt (map.len cache.entries) most) _ _ IsOutcomeWithin
     (λ e. change-within cache key flags stored reply.stored h f l stored-fits)
@@ -137,35 +163,47 @@ store-within most cache replace key flags stored h f l =
     cond_both (has cache key) _ _ IsOutcomeWithin
     (λ e. change-within cache key flags stored reply.stored h f l stored-fits)
     (λ e. stays-within cache reply.not_stored h (omega arith))
-store-within most cache append key flags stored h f l = present-within cache key _ _ h (stays-within cache reply.not_stored h (omega arith)) (λ x k.
+store-within most cache append key flags stored h f l =
+    present-within cache key _ _ h (stays-within cache reply.not_stored h (omega arith)) (λ x k.
     cond_both (nat_le (length (x.stored ++ stored)) MOST_DATA) _ _ IsOutcomeWithin
-    (λ e. change-within cache key x.flags (x.stored ++ stored) reply.stored h k.flags (leb-true _ _ e) stored-fits)
+    (λ e. change-within cache key x.flags (x.stored ++ stored) reply.stored h k.flags (leb-true _ _ e)
+    stored-fits)
     (λ e. stays-within cache reply.too_long h (omega arith)))
-store-within most cache prepend key flags stored h f l = present-within cache key _ _ h (stays-within cache reply.not_stored h (omega arith)) (λ x k.
+store-within most cache prepend key flags stored h f l =
+    present-within cache key _ _ h (stays-within cache reply.not_stored h (omega arith)) (λ x k.
     cond_both (nat_le (length (stored ++ x.stored)) MOST_DATA) _ _ IsOutcomeWithin
-    (λ e. change-within cache key x.flags (stored ++ x.stored) reply.stored h k.flags (leb-true _ _ e) stored-fits)
+    (λ e. change-within cache key x.flags (stored ++ x.stored) reply.stored h k.flags (leb-true _ _ e)
+    stored-fits)
     (λ e. stays-within cache reply.too_long h (omega arith)))
 
 -- the number that an entry writes is below 2 ^ 64
 number_in-within : (text : Bytes) (n : ℕ) → number_in text ≡ Some n → n < 2 ^ 64
 number_in-within text n =
-    cond_both (nat_lt (digits_value 10 text) (2 ^ 64) && bytes_eq text (decimal (digits_value 10 text))) _ _ (λ (o : Option ℕ). o ≡ Some n → n < 2 ^ 64)
-    (λ t e. (let k : digits_value 10 text ≡ n = cc in let l = ltb-true (digits_value 10 text) (2 ^ 64) (and_parts _ _ t).0 in omega (arith, k, l)))
+    cond_both (nat_lt (digits_value 10 text) (2 ^ 64) && bytes_eq text (decimal (digits_value 10 text))) _ _
+    (λ (o : Option ℕ). o ≡ Some n → n < 2 ^ 64)
+    (λ t e. (let k : digits_value 10 text ≡ n =
+    cc in let l = ltb-true (digits_value 10 text) (2 ^ 64) (and_parts _ _ t).0 in omega (arith, k, l)))
     (λ t e. absurd (none e))
   where
     none : None ≡ Some n → ⊥
     none j = cc
 
 -- so does a count whose numbers stay below 2 ^ 64
-count-within : (cache : Cache) (key : Bytes) (f : ℕ → ℕ) → IsCacheWithin cache → ((n : ℕ) → n < 2 ^ 64 → f n < 2 ^ 64) → IsOutcomeWithin (count_it cache key f)
-count-within cache key f h small = present-within cache key _ _ h (stays-within cache reply.not_found h (omega arith)) (λ e k. by e k (number_in e.stored) refl)
+count-within : (cache : Cache) (key : Bytes) (f : ℕ → ℕ) → IsCacheWithin cache
+    → ((n : ℕ) → n < 2 ^ 64 → f n < 2 ^ 64) → IsOutcomeWithin (count_it cache key f)
+count-within cache key f h small =
+    present-within cache key _ _ h (stays-within cache reply.not_found h (omega arith))
+    (λ e k. by e k (number_in e.stored) refl)
   where
-    by : (e : Entry) → IsEntryWithin e → (o : Option ℕ) → number_in e.stored ≡ o → IsOutcomeWithin (option_map_or (λ n. change cache key e.flags (decimal (f n)) (reply.number (f n))) o (cache, reply.no_number))
+    by : (e : Entry) → IsEntryWithin e → (o : Option ℕ) → number_in e.stored ≡ o
+        → IsOutcomeWithin (option_map_or
+        (λ n. change cache key e.flags (decimal (f n)) (reply.number (f n))) o (cache, reply.no_number))
     by e k None i = stays-within cache reply.no_number h (omega arith)
     by e k (Some n) i =
         let l = small n (number_in-within e.stored n i) in
         let d = length-decimal-le 20 (f n) (omega arith) (omega (arith, l)) l in
-        change-within cache key e.flags (decimal (f n)) (reply.number (f n)) h k.flags (omega (arith, d)) (number-fits (f n) l)
+        change-within cache key e.flags (decimal (f n)) (reply.number (f n)) h k.flags (omega (arith, d))
+        (number-fits (f n) l)
 
 -- ---- values
 
@@ -185,47 +223,63 @@ value-fits : (u : Bool) (v : Value) → IsValueWithin v → length (value_text u
 value-fits true v h =
     let k = h.key in
     let s = h.stored in
-    let f = length-decimal-le 10 v.flags (omega arith) (let l = h.flags in omega (arith, l)) (let l = h.flags in omega (arith, l)) in
+    let f = length-decimal-le 10 v.flags (omega arith) (let l = h.flags in omega (arith, l))
+    (let l = h.flags in omega (arith, l)) in
     let n = length-decimal-le 4 (length v.stored) (omega arith) (omega (arith, s)) (omega (arith, s)) in
     let q = length-decimal-le 20 v.unique (omega arith) (let l = h.unique in omega (arith, l)) h.unique in
     simp length-append (omega (arith, k, s, f, n, q))
 value-fits false v h =
     let k = h.key in
     let s = h.stored in
-    let f = length-decimal-le 10 v.flags (omega arith) (let l = h.flags in omega (arith, l)) (let l = h.flags in omega (arith, l)) in
+    let f = length-decimal-le 10 v.flags (omega arith) (let l = h.flags in omega (arith, l))
+    (let l = h.flags in omega (arith, l)) in
     let n = length-decimal-le 4 (length v.stored) (omega arith) (omega (arith, s)) (omega (arith, s)) in
     simp length-append (omega (arith, k, s, f, n))
 
 -- the values of some keys
-values-fit : (u : Bool) (cache : Cache) (keys : List Bytes) → IsCacheWithin cache → AllByRecursion (λ key. length key ≤ 250) keys → length (flat_map (value_text u) (values_of cache keys)) ≤ most_value * length keys
+values-fit : (u : Bool) (cache : Cache) (keys : List Bytes) → IsCacheWithin cache
+    → AllByRecursion (λ key. length key ≤ 250) keys
+    → length (flat_map (value_text u) (values_of cache keys)) ≤ most_value * length keys
 values-fit u cache [] h k = omega arith
 values-fit u cache (key ∷ keys) h k = by (values-fit u cache keys h k.1) (find cache key) refl
   where
-    by : length (flat_map (value_text u) (values_of cache keys)) ≤ most_value * length keys → (o : Option Entry) → find cache key ≡ o → length (flat_map (value_text u) (cons_option (option_map (λ e. record { key = key; flags = e.flags; stored = e.stored; unique = e.unique }) o) (values_of cache keys))) ≤ most_value * length (key ∷ keys)
+    by : length (flat_map (value_text u) (values_of cache keys)) ≤ most_value * length keys
+        → (o : Option Entry) → find cache key ≡ o
+        → length (flat_map (value_text u) (cons_option (option_map
+        (λ e. record { key = key; flags = e.flags; stored = e.stored; unique = e.unique }) o)
+        (values_of cache keys))) ≤ most_value * length (key ∷ keys)
     by rest None f = omega (arith, rest)
     by rest (Some e) f =
         let x = h.entries key e f in
         let v : Value = record { key = key; flags = e.flags; stored = e.stored; unique = e.unique } in
-        let l = value-fits u v (record { key = k.0; flags = x.flags; stored = x.stored; unique = x.unique }) in
+        let l =
+        value-fits u v (record { key = k.0; flags = x.flags; stored = x.stored; unique = x.unique }) in
         let a = length-append (value_text u v) (flat_map (value_text u) (values_of cache keys)) in
         omega (arith, rest, l, a)
 
 -- a retrieval of at most 16 keys
-get-within : (u : Bool) (cache : Cache) (keys : List Bytes) → IsCacheWithin cache → length keys ≤ 16 → AllByRecursion (λ key. length key ≤ 250) keys → IsOutcomeWithin (cache, reply.values (values_of cache keys) u)
+get-within : (u : Bool) (cache : Cache) (keys : List Bytes) → IsCacheWithin cache → length keys ≤ 16
+    → AllByRecursion (λ key. length key ≤ 250) keys
+    → IsOutcomeWithin (cache, reply.values (values_of cache keys) u)
 get-within u cache keys h n k =
     let l = values-fit u cache keys h k in
     let a = length-append (flat_map (value_text u) (values_of cache keys)) (codes "END" ++ 13 ∷ 10 ∷ []) in
     stays-within cache (reply.values (values_of cache keys) u) h (omega (arith, l, a, n))
 
 -- what a request within the limits does
-apply-within : (most : ℕ) (cache : Cache) (r : Asked) → IsCacheWithin cache → IsWithin r → IsOutcomeWithin (apply most cache r)
-apply-within most cache (store verb key flags stored) h w = store-within most cache verb key flags stored h w.0 w.1
-apply-within most cache (cas key flags stored unique) h w = present-within cache key _ _ h (stays-within cache reply.not_found h (omega arith)) (λ x k.
+apply-within : (most : ℕ) (cache : Cache) (r : Asked) → IsCacheWithin cache → IsWithin r
+    → IsOutcomeWithin (apply most cache r)
+apply-within most cache (store verb key flags stored) h w =
+    store-within most cache verb key flags stored h w.0 w.1
+apply-within most cache (cas key flags stored unique) h w =
+    present-within cache key _ _ h (stays-within cache reply.not_found h (omega arith)) (λ x k.
     cond_both (x.unique == unique) _ _ IsOutcomeWithin
     (λ e. change-within cache key flags stored reply.stored h w.0 w.1 stored-fits)
     (λ e. stays-within cache reply.exists h (omega arith)))
-apply-within most cache (incr key value) h w = count-within cache key (λ n. (n + value) % 2 ^ 64) h (λ n l. omega arith)
-apply-within most cache (decr key value) h w = count-within cache key (λ n. n - value) h (λ n l. omega (arith, l))
+apply-within most cache (incr key value) h w =
+    count-within cache key (λ n. (n + value) % 2 ^ 64) h (λ n l. omega arith)
+apply-within most cache (decr key value) h w =
+    count-within cache key (λ n. n - value) h (λ n l. omega (arith, l))
 apply-within most cache (delete key) h w =
     cond_both (has cache key) _ _ IsOutcomeWithin
     (λ e. record { cache = remove-within cache key h; text = omega arith })
@@ -234,11 +288,13 @@ apply-within most cache (get keys) h w = get-within false cache keys h w.0 w.1
 apply-within most cache (gets keys) h w = get-within true cache keys h w.0 w.1
 
 -- what a payload does
-pub payload-within : (most : ℕ) (cache : Cache) (payload : Bytes) → IsCacheWithin cache → IsOutcomeWithin (apply_payload most cache payload)
+pub payload-within : (most : ℕ) (cache : Cache) (payload : Bytes) → IsCacheWithin cache
+    → IsOutcomeWithin (apply_payload most cache payload)
 unfolding apply_payload
 payload-within most cache payload h = by (request_of payload) refl
   where
-    by : (o : Option Asked) → request_of payload ≡ o → IsOutcomeWithin (option_map_or (apply most cache) o (cache, reply.no_request))
+    by : (o : Option Asked) → request_of payload ≡ o
+        → IsOutcomeWithin (option_map_or (apply most cache) o (cache, reply.no_request))
     by None e = stays-within cache reply.no_request h (omega arith)
     by (Some r) e = apply-within most cache r h (request-within r (request_of_some payload r e).0)
 
@@ -247,20 +303,29 @@ payload-within most cache payload h = by (request_of payload) refl
 -- the cache after a history keeps the limits
 pub cache_after-within : (h : History) → IsCacheWithin (cache_after h)
 unfolding cache_after
-cache_after-within [] = record { entries = λ key e f. absurd (none e (sym (map.get-empty key_cmp key) ∙ f)); changes = omega arith }
+cache_after-within [] = record {
+  entries = λ key e f. absurd (none e (sym (map.get-empty key_cmp key) ∙ f));
+  changes = omega arith;
+}
   where
     none : (e : Entry) → None ≡ Some e → ⊥
     none e j = cc
-cache_after-within (e ∷ h) = cond_both (is_fresh e h) _ _ IsCacheWithin (λ t. (payload-within MOST_KEYS (cache_after h) e.payload (cache_after-within h)).cache) (λ t. cache_after-within h)
+cache_after-within (e ∷ h) =
+    cond_both (is_fresh e h) _ _ IsCacheWithin
+    (λ t. (payload-within MOST_KEYS (cache_after h) e.payload (cache_after-within h)).cache)
+    (λ t. cache_after-within h)
 
 -- the text of each answer is one that a reply may have
 pub answer-text : (h : History) (a : Answer) → Among a (answers h) → length a.text ≤ MOST_TEXT
 unfolding answers
 answer-text [] a m = absurd m
 answer-text (e ∷ h) a m =
-    by (answer-text h a) (is_fresh e h) _ (payload-within MOST_KEYS (cache_after h) e.payload (cache_after-within h)).text m
+    by (answer-text h a) (is_fresh e h) _
+    (payload-within MOST_KEYS (cache_after h) e.payload (cache_after-within h)).text m
   where
-    by : (Among a (answers h) → length a.text ≤ MOST_TEXT) → (t : Bool) (new : Answer) → length new.text ≤ MOST_TEXT → Among a (cond t (new ∷ answers h) (answers h)) → length a.text ≤ MOST_TEXT
+    by : (Among a (answers h) → length a.text ≤ MOST_TEXT) → (t : Bool) (new : Answer)
+        → length new.text ≤ MOST_TEXT → Among a (cond t (new ∷ answers h) (answers h))
+        → length a.text ≤ MOST_TEXT
     by older true new l (inl i) = subst (λ (x : Answer). length x.text ≤ MOST_TEXT) (sym i) l
     by older true new l (inr k) = older k
     by older false new l k = older k

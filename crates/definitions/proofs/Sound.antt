@@ -1,9 +1,12 @@
 -- Each step that stands keeps a replica's chronicle lawful.
 use Rattle.ids.specs.declared.limits.TheConstants.{MOST_BLOCKS}
-use Rattle.definitions.proofs.Branches.{just1-extends, branch_eq-decides, extends-true, extends-cases, length-extends, justify_height-just1}
+use Rattle.definitions.proofs.Branches.{just1-extends, branch_eq-decides, extends-true, extends-cases}
+use Rattle.definitions.proofs.Branches.{length-extends, justify_height-just1}
 use Rattle.ids.specs.declared.fault.Fault.{Fault}
 use Rattle.ids.specs.declared.fault.Fault.TheVariants as fault
-use Rattle.std.proofs.Common.{ℕ, suc, ◌≡◌, ◌<◌, ◌≤◌, ◌⊎◌, ◌&&◌, not, Bool, true, false, List, [], ◌∷◌, length, cond, refl, sym, ap, subst, ◌∙◌, arith, inl, inr, map, Option, Some, None, true≢false, nat_lt, ◌+◌, min, if◌then◌else◌}
+use Rattle.std.proofs.Common.{ℕ, suc, ◌≡◌, ◌<◌, ◌≤◌, ◌⊎◌, ◌&&◌, not, Bool, true, false, List, [], ◌∷◌}
+use Rattle.std.proofs.Common.{length, cond, refl, sym, ap, subst, ◌∙◌, arith, inl, inr, map, Option, Some}
+use Rattle.std.proofs.Common.{None, true≢false, nat_lt, ◌+◌, min, if◌then◌else◌}
 use Rattle.std.specs.Bool.{⊤}
 use Rattle.std.specs.List.{list_any, AllByRecursion}
 use Rattle.std.proofs.lemmas.Bool.{and_parts, or_cases, cond_both, ltb-true, ltb-false, cases_Bool, cond-true}
@@ -14,16 +17,30 @@ use Rattle.definitions.specs.Branches.{Branch, justify_height, just1, Extends, I
 use Rattle.definitions.specs.Bytes.{Bytes}
 use Rattle.ids.specs.Sizes.{Sizes, replicas, quorum}
 use Rattle.definitions.specs.Digests.{digest, digest_of}
-use Rattle.definitions.specs.Trees.{block_of, is_clear, clear_above, Placing, Placing.stands, Placing.grows, Placing.lacks_parent, Placing.unfit, placing, IsTree}
-use Rattle.definitions.proofs.Trees.{same_bytes, found-in, unfit-calm, IsPlaced, placed, tree-below, growth-tree, growth-new, grown-heights}
-use Rattle.definitions.specs.Chronicles.{Admitted, Step, Step.took_block, Step.noted, Note.got_vote, Note.got_new_view, Note.got_request, Note.timed_out, Note.beat, Chronicle, taken, stored, stored_of, tree, lock, history, may_vote, IsLawfulVote, IsLawfulStep, IsSound}
+use Rattle.definitions.specs.Trees.{block_of, is_clear, clear_above, Placing, Placing.stands, Placing.grows}
+use Rattle.definitions.specs.Trees.{Placing.lacks_parent, Placing.unfit, placing, IsTree}
+use Rattle.definitions.proofs.Trees.{same_bytes, found-in, unfit-calm, IsPlaced, placed, tree-below}
+use Rattle.definitions.proofs.Trees.{growth-tree, growth-new, grown-heights}
+use Rattle.definitions.specs.Chronicles.{Admitted, Step, Step.took_block, Step.noted, Note.got_vote}
+use Rattle.definitions.specs.Chronicles.{Note.got_new_view, Note.got_request, Note.timed_out, Note.beat}
+use Rattle.definitions.specs.Chronicles.{Chronicle, taken, stored, stored_of, tree, lock, history, may_vote}
+use Rattle.definitions.specs.Chronicles.{IsLawfulVote, IsLawfulStep, IsSound}
 use Rattle.definitions.specs.Checks.{Identity, Findings, is_genesis}
 use Rattle.definitions.specs.States.{find_block, is_due, pending, is_same_request}
-use Rattle.definitions.specs.Rulings.{Input, Input.proposal_in, Input.block_in, Input.vote_in, Input.new_view_in, Input.request_in, Input.fetch_in, Input.timeout_in, Input.beat_in, Ruling, Ruling.due, Ruling.missing, Ruling.refusing, admitted, votes_for, take_block, on_placing, on_block, on_request, conflicts, with_block, ruling}
+use Rattle.definitions.specs.Rulings.{Input, Input.proposal_in, Input.block_in, Input.vote_in}
+use Rattle.definitions.specs.Rulings.{Input.new_view_in, Input.request_in, Input.fetch_in, Input.timeout_in}
+use Rattle.definitions.specs.Rulings.{Input.beat_in, Ruling, Ruling.due, Ruling.missing, Ruling.refusing}
+use Rattle.definitions.specs.Rulings.{admitted, votes_for, take_block, on_placing, on_block, on_request}
+use Rattle.definitions.specs.Rulings.{conflicts, with_block, ruling}
 use Rattle.definitions.specs.Sendings.{sendings}
-use Rattle.definitions.specs.Replicas.{on_ruling, on_step, step, Memory, Memory.ample, Memory.refused_at_once, Memory.refused_after, Replica, Standing, Standing.running, Standing.stopped, Standing.cut_short, Reaction, Reaction.fails, Reaction.sends_out, Reaction.asks_for, stopped_at, stops, executes}
+use Rattle.definitions.specs.Replicas.{on_ruling, on_step, step, Memory, Memory.ample}
+use Rattle.definitions.specs.Replicas.{Memory.refused_at_once, Memory.refused_after, Replica, Standing}
+use Rattle.definitions.specs.Replicas.{Standing.running, Standing.stopped, Standing.cut_short, Reaction}
+use Rattle.definitions.specs.Replicas.{Reaction.fails, Reaction.sends_out, Reaction.asks_for, stopped_at}
+use Rattle.definitions.specs.Replicas.{stops, executes}
 
--- what is known of a core, a certificate and what was found of them, where they were read and checked at these sizes
+-- what is known of a core, a certificate and what was found of them, where they were read and checked at
+-- these sizes
 pub record IsChecked (sizes : Sizes) (core : Core) (q : Certificate) (f : Findings) : Type 0 where
   pub below : core.justify_height < core.height
   pub distinct : AreDistinct f.counted
@@ -36,7 +53,8 @@ IsCheckedInput sizes (block_in sender core q f) = IsChecked sizes core q f
 IsCheckedInput sizes i = ⊤
 
 -- a clear block was taken as one
-pub clear-taken : (x : Branch) (ys : List Admitted) → is_clear x (map stored_of ys) ≡ true → (a : Admitted) × Among a ys × (a.branch ≡ x) × (a.clear ≡ true)
+pub clear-taken : (x : Branch) (ys : List Admitted) → is_clear x (map stored_of ys) ≡ true
+    → (a : Admitted) × Among a ys × (a.branch ≡ x) × (a.clear ≡ true)
 unfolding is_clear
 clear-taken x [] h = absurd (true≢false (sym h))
 clear-taken x (y ∷ ys) h =
@@ -46,7 +64,9 @@ clear-taken x (y ∷ ys) h =
     ]
 
 -- so was each block of a branch that is clear above a height
-pub clear_above-each : (height : ℕ) (b : Branch) (c : Chronicle) → clear_above height b (stored c) ≡ true → (x : Branch) → Extends b x → height < length x → (a : Admitted) × Among a (taken c) × (a.branch ≡ x) × (a.clear ≡ true)
+pub clear_above-each : (height : ℕ) (b : Branch) (c : Chronicle) → clear_above height b (stored c) ≡ true
+    → (x : Branch) → Extends b x → height < length x
+    → (a : Admitted) × Among a (taken c) × (a.branch ≡ x) × (a.clear ≡ true)
 unfolding clear_above stored
 clear_above-each height [] c h x e l = absurd (let k = length-extends [] x e in omega (arith, k))
 clear_above-each height (b ∷ parent) c h x e l =
@@ -56,24 +76,36 @@ clear_above-each height (b ∷ parent) c h x e l =
             | inl i ↦ (let r = clear-taken (b ∷ parent) (taken c) p.0 in (r.0, r.1, r.2 ∙ sym i, r.3))
             | inr k ↦ clear_above-each height parent c p.1 x k l
           ])
-      | inr f ↦ absurd (let k = length-extends (b ∷ parent) x e in let m = ltb-false height (suc (length parent)) f in omega (arith, k, m))
+      | inr f ↦ absurd (let k = length-extends (b ∷ parent) x e in let m = ltb-false height
+          (suc (length parent)) f in omega (arith, k, m))
     ]
 
 -- whether the vote was given changes nothing of what was taken
 abbrev with_vote : Admitted → Bool → Admitted
 with_vote a v = record a { voted = v }
 
-taken-voted : (a : Admitted) (v : Bool) (c : Chronicle) (x : Branch) → ((y : Admitted) × Among y (taken (took_block a ∷ c)) × (y.branch ≡ x) × (y.clear ≡ true)) → (y : Admitted) × Among y (taken (took_block (with_vote a v) ∷ c)) × (y.branch ≡ x) × (y.clear ≡ true)
+taken-voted : (a : Admitted) (v : Bool) (c : Chronicle) (x : Branch)
+    → ((y : Admitted) × Among y (taken (took_block a ∷ c)) × (y.branch ≡ x) × (y.clear ≡ true))
+    → (y : Admitted) × Among y (taken (took_block (with_vote a v) ∷ c)) × (y.branch ≡ x) × (y.clear ≡ true)
 unfolding taken
 taken-voted a v c x h = go a.new refl h.1
   where
-    go : (n : Bool) → a.new ≡ n → Among h.0 (cond n (a ∷ taken c) (taken c)) → (y : Admitted) × Among y (cond n (with_vote a v ∷ taken c) (taken c)) × (y.branch ≡ x) × (y.clear ≡ true)
-    go true e (inl i) = (with_vote a v, inl refl, (sym (ap (λ (y : Admitted). y.branch) i) ∙ h.2), (sym (ap (λ (y : Admitted). y.clear) i) ∙ h.3))
+    go : (n : Bool) → a.new ≡ n → Among h.0 (cond n (a ∷ taken c) (taken c))
+        → (y : Admitted) × Among y (cond n (with_vote a v ∷ taken c) (taken c)) × (y.branch ≡ x)
+        × (y.clear ≡ true)
+    go true e (inl i) = (
+      with_vote a v,
+      inl refl,
+      (sym (ap (λ (y : Admitted). y.branch) i) ∙ h.2),
+      (sym (ap (λ (y : Admitted). y.clear) i) ∙ h.3),
+    )
     go true e (inr m) = (h.0, inr m, h.2, h.3)
     go false e m = (h.0, m, h.2, h.3)
 
 -- a vote that the rules give is lawful
-pub vote-lawful : (s : Sizes) (w : Option ℕ) (a : Admitted) (c : Chronicle) → IsBranch a.branch → Among a.branch (tree (took_block (with_vote a (votes_for s w a c)) ∷ c)) → votes_for s w a c ≡ true → IsLawfulVote a.branch (took_block (with_vote a (votes_for s w a c)) ∷ c) c
+pub vote-lawful : (s : Sizes) (w : Option ℕ) (a : Admitted) (c : Chronicle) → IsBranch a.branch
+    → Among a.branch (tree (took_block (with_vote a (votes_for s w a c)) ∷ c)) → votes_for s w a c ≡ true
+    → IsLawfulVote a.branch (took_block (with_vote a (votes_for s w a c)) ∷ c) c
 unfolding votes_for may_vote
 vote-lawful s None a c br t h = absurd (true≢false (sym h))
 vote-lawful s (Some w) a c br t h =
@@ -81,8 +113,13 @@ vote-lawful s (Some w) a c br t h =
     let q = and_parts _ _ p.0 in
     record {
       higher = ltb-true _ _ q.0;
-      safe = elim (or_cases _ _ q.1) [ inl k ↦ inl (extends-true a.branch (lock c) k) | inr k ↦ inr (let m : length (lock c) < justify_height a.branch = ltb-true _ _ k in let n = justify_height-just1 a.branch br in omega (arith, m, n)) ];
-      clear = λ x e l. taken-voted a _ c x (clear_above-each (justify_height a.branch) a.branch (took_block a ∷ c) p.1 x e (let n = justify_height-just1 a.branch br in omega (arith, l, n)));
+      safe = elim (or_cases _ _ q.1) [
+        | inl k ↦ inl (extends-true a.branch (lock c) k)
+        | inr k ↦ inr (let m : length (lock c) < justify_height a.branch =
+            ltb-true _ _ k in let n = justify_height-just1 a.branch br in omega (arith, m, n))
+      ];
+      clear = λ x e l. taken-voted a _ c x (clear_above-each (justify_height a.branch) a.branch
+          (took_block a ∷ c) p.1 x e (let n = justify_height-just1 a.branch br in omega (arith, l, n)));
       taken = t;
     }
 
@@ -93,8 +130,10 @@ OnStands P (missing sender d) = ⊤
 OnStands P (refusing n) = n ≡ fault.Conflict → ⊥
 
 -- what a good certificate of the justified block gives
-certified : (sizes : Sizes) (core : Core) (q : Certificate) (f : Findings) (j : Branch) (t : List Branch) → IsTree t → Among j t → IsChecked sizes core q f → q.digest ≡ digest_of j
-    → (AreDistinct f.counted × AllByRecursion (λ v. v < replicas sizes) f.counted × (quorum sizes ≤ length f.counted)) ⊎ (j ≡ [])
+certified : (sizes : Sizes) (core : Core) (q : Certificate) (f : Findings) (j : Branch) (t : List Branch)
+    → IsTree t → Among j t → IsChecked sizes core q f → q.digest ≡ digest_of j
+    → (AreDistinct f.counted × AllByRecursion (λ v. v < replicas sizes) f.counted
+    × (quorum sizes ≤ length f.counted)) ⊎ (j ≡ [])
 unfolding digest_of
 certified sizes core q f j t tr m ch e =
     elim ch.good [
@@ -103,18 +142,24 @@ certified sizes core q f j t tr m ch e =
     ]
 
 -- a new block that passes the tests
-new-step : (self : Identity) (w : Option ℕ) (parent : Branch) (core : Core) (q : Certificate) (f : Findings) (c : Chronicle) → IsSound self.sizes c → IsTree ((block_of core ∷ parent) ∷ tree c) → (Among (block_of core ∷ parent) (tree c) → ⊥) → Among parent (tree c) → IsChecked self.sizes core q f → q.digest ≡ digest_of (just1 (block_of core ∷ parent)) → length (tree c) < MOST_BLOCKS →
-    OnStands (λ st. IsSound self.sizes (st ∷ c)) (take_block self w (admitted (block_of core ∷ parent) core q f true) c)
+new-step : (self : Identity) (w : Option ℕ) (parent : Branch) (core : Core) (q : Certificate) (f : Findings)
+    (c : Chronicle) → IsSound self.sizes c → IsTree ((block_of core ∷ parent) ∷ tree c)
+    → (Among (block_of core ∷ parent) (tree c) → ⊥) → Among parent (tree c) → IsChecked self.sizes core q f
+    → q.digest ≡ digest_of (just1 (block_of core ∷ parent)) → length (tree c) < MOST_BLOCKS →
+    OnStands (λ st. IsSound self.sizes (st ∷ c))
+    (take_block self w (admitted (block_of core ∷ parent) core q f true) c)
 unfolding admitted tree stored taken
 new-step self w parent core q f c so tr fresh m ch e room = record {
   is_tree = tr;
   lawful = (
     (
-      λ v. vote-lawful self.sizes w (admitted (block_of core ∷ parent) core q f true) c (tr.branches _ (inl refl)) (inl refl) v,
+      λ v. vote-lawful self.sizes w (admitted (block_of core ∷ parent) core q f true) c
+          (tr.branches _ (inl refl)) (inl refl) v,
       λ n. record {
         new = fresh;
         parent = (block_of core, parent, refl, (tr.branches _ (inl refl)).0, m);
-        certified = certified self.sizes core q f (just1 (block_of core ∷ parent)) _ tr (tree-below _ tr (block_of core ∷ parent) _ (inl refl) (just1-extends _)) ch e;
+        certified = certified self.sizes core q f (just1 (block_of core ∷ parent)) _ tr
+            (tree-below _ tr (block_of core ∷ parent) _ (inl refl) (just1-extends _)) ch e;
       },
     ),
     so.lawful,
@@ -126,34 +171,50 @@ new-step self w parent core q f c so tr fresh m ch e room = record {
 abbrev pub Keeps : Identity → Chronicle → Ruling → Type 0
 Keeps self c v = OnStands (λ st. IsSound self.sizes (st ∷ c)) v
 
-pub found : (d : Bytes) (c : Chronicle) (b : Branch) → find_block d c ≡ Some b → Among b (tree c) × (digest_of b ≡ d)
+pub found : (d : Bytes) (c : Chronicle) (b : Branch) → find_block d c ≡ Some b
+    → Among b (tree c) × (digest_of b ≡ d)
 unfolding find_block
 found d c b e = found-in d (tree c) b e
 
-placed-sound : (self : Identity) (w : Option ℕ) (sender : ℕ) (core : Core) (q : Certificate) (f : Findings) (c : Chronicle) → IsChecked self.sizes core q f → IsSound self.sizes c → (p : Placing) → IsPlaced MOST_BLOCKS core q (tree c) p → Keeps self c (on_placing self w sender core q f c p)
+placed-sound : (self : Identity) (w : Option ℕ) (sender : ℕ) (core : Core) (q : Certificate) (f : Findings)
+    (c : Chronicle) → IsChecked self.sizes core q f → IsSound self.sizes c → (p : Placing)
+    → IsPlaced MOST_BLOCKS core q (tree c) p → Keeps self c (on_placing self w sender core q f c p)
 unfolding on_placing admitted tree stored taken
 placed-sound self w sender core q f c ch so (stands b) h =
     let m = (found-in (digest core) (tree c) b h.0).0 in
     record {
       is_tree = so.is_tree;
-      lawful = ((λ v. vote-lawful self.sizes w (admitted b core q f false) c (so.is_tree.branches b m) m v, λ n. absurd (true≢false (sym n))), so.lawful);
+      lawful = (
+        (
+          λ v. vote-lawful self.sizes w (admitted b core q f false) c (so.is_tree.branches b m) m v,
+          λ n. absurd (true≢false (sym n)),
+        ),
+        so.lawful,
+      );
       bounded = so.bounded;
       heights = so.heights;
     }
 placed-sound self w sender core q f c ch so (grows b) (parent, g) =
-    subst (λ (x : Branch). OnStands (λ st. IsSound self.sizes (st ∷ c)) (take_block self w (admitted x core q f true) c)) (sym g.is)
+    subst (λ (x : Branch). OnStands (λ st. IsSound self.sizes (st ∷ c))
+    (take_block self w (admitted x core q f true) c)) (sym g.is)
     (new-step self w parent core q f c so
-    (subst (λ (x : Branch). IsTree (x ∷ tree c)) g.is (growth-tree MOST_BLOCKS core q (tree c) b parent so.is_tree ch.below g))
+    (subst (λ (x : Branch). IsTree (x ∷ tree c)) g.is
+    (growth-tree MOST_BLOCKS core q (tree c) b parent so.is_tree ch.below g))
     (subst (λ (x : Branch). Among x (tree c) → ⊥) g.is (growth-new MOST_BLOCKS core q (tree c) b parent g))
     (found-in core.parent (tree c) parent g.parent_found).0 ch g.justified g.room)
 placed-sound self w sender core q f c ch so lacks_parent h = tt
 placed-sound self w sender core q f c ch so (unfit n) h = unfit-calm n h
 
-block-sound : (self : Identity) (w : Option ℕ) (sender : ℕ) (core : Core) (q : Certificate) (f : Findings) (c : Chronicle) → IsChecked self.sizes core q f → IsSound self.sizes c → Keeps self c (on_block self w sender core q f c)
-block-sound self w sender core q f c ch so = placed-sound self w sender core q f c ch so (placing MOST_BLOCKS core q (tree c)) (placed MOST_BLOCKS core q (tree c))
+block-sound : (self : Identity) (w : Option ℕ) (sender : ℕ) (core : Core) (q : Certificate) (f : Findings)
+    (c : Chronicle) → IsChecked self.sizes core q f → IsSound self.sizes c
+    → Keeps self c (on_block self w sender core q f c)
+block-sound self w sender core q f c ch so =
+    placed-sound self w sender core q f c ch so (placing MOST_BLOCKS core q (tree c))
+    (placed MOST_BLOCKS core q (tree c))
 
 -- a step that takes no block
-other-sound : (need : Sizes) (c : Chronicle) (st : Step) → tree (st ∷ c) ≡ tree c → IsLawfulStep need st c → IsSound need c → IsSound need (st ∷ c)
+other-sound : (need : Sizes) (c : Chronicle) (st : Step) → tree (st ∷ c) ≡ tree c → IsLawfulStep need st c
+    → IsSound need c → IsSound need (st ∷ c)
 other-sound need c st e l so = record {
   is_tree = subst IsTree (sym e) so.is_tree;
   lawful = (l, so.lawful);
@@ -161,24 +222,34 @@ other-sound need c st e l so = record {
   heights = subst (λ (t : List Branch). (x : Branch) → Among x t → length x < length t) (sym e) so.heights;
 }
 
-vote-sound : (self : Identity) (o : Option Branch) (b : Vote) (d : Bytes) (c : Chronicle) → IsSound self.sizes c → Keeps self c (with_block o b.voter d (λ x. due (noted (got_vote b.voter b.vector x))))
+vote-sound : (self : Identity) (o : Option Branch) (b : Vote) (d : Bytes) (c : Chronicle)
+    → IsSound self.sizes c
+    → Keeps self c (with_block o b.voter d (λ x. due (noted (got_vote b.voter b.vector x))))
 unfolding tree stored taken
 vote-sound self None b d c so = tt
 vote-sound self (Some x) b d c so = other-sound _ c _ refl tt so
 
-new_view-sound : (self : Identity) (o : Option Branch) (w sender : ℕ) (q : Certificate) (d : Bytes) (c : Chronicle) → IsSound self.sizes c → Keeps self c (with_block o sender d (λ x. due (noted (got_new_view w sender q x))))
+new_view-sound :
+    (self : Identity) (o : Option Branch) (w sender : ℕ) (q : Certificate) (d : Bytes) (c : Chronicle)
+    → IsSound self.sizes c
+    → Keeps self c (with_block o sender d (λ x. due (noted (got_new_view w sender q x))))
 unfolding tree stored taken
 new_view-sound self None w sender q d c so = tt
 new_view-sound self (Some x) w sender q d c so = other-sound _ c _ refl tt so
 
-request-sound : (self : Identity) (r : Command) (c : Chronicle) → IsSound self.sizes c → Keeps self c (on_request r c)
+request-sound : (self : Identity) (r : Command) (c : Chronicle) → IsSound self.sizes c
+    → Keeps self c (on_request r c)
 unfolding tree stored taken on_request
-request-sound self r c so = cond_both (is_due (history c) r && (not (list_any (is_same_request r) (pending c)) && not (nat_lt (length (pending c)) 4096))) _ _ P (λ e k. cc) (λ e. other-sound _ c (noted (got_request r)) refl tt so)
+request-sound self r c so =
+    cond_both (is_due (history c) r
+    && (not (list_any (is_same_request r) (pending c)) && not (nat_lt (length (pending c)) 4096))) _ _ P
+    (λ e k. cc) (λ e. other-sound _ c (noted (got_request r)) refl tt so)
   where
     P : Ruling → Type 0
     P = Keeps self c
 
-pub ruling-sound : (self : Identity) (i : Input) (c : Chronicle) → IsCheckedInput self.sizes i → IsSound self.sizes c → Keeps self c (ruling self i c)
+pub ruling-sound : (self : Identity) (i : Input) (c : Chronicle) → IsCheckedInput self.sizes i
+    → IsSound self.sizes c → Keeps self c (ruling self i c)
 unfolding ruling tree stored taken
 ruling-sound self (proposal_in w core q f) c ch so = block-sound self _ _ core q f c ch so
 ruling-sound self (block_in sender core q f) c ch so = block-sound self _ _ core q f c ch so
@@ -192,32 +263,60 @@ ruling-sound self beat_in c ch so = other-sound _ c (noted beat) refl tt so
 -- ---- the whole step
 
 -- what a step comes to
-pub data Outcome (self : Identity) (c : Chronicle) (v : Ruling) (r : Replica) : Replica × Reaction → Type 0 where
+pub data Outcome (self : Identity) (c : Chronicle) (v : Ruling) (r : Replica) : Replica × Reaction
+    → Type 0 where
   unchanged : (n : Fault) → (n ≡ fault.Conflict → ⊥) → Outcome self c v r (r, fails n)
-  refused : (stopping : Bool) (n : Fault) → r.standing ≡ running → (n ≡ fault.Conflict → ⊥) → Outcome self c v r (record { chronicle = c; standing = if stopping then stopped else running }, fails n)
-  lacks : (sender : ℕ) (d : Bytes) → r.standing ≡ running → Outcome self c v r (record { chronicle = c; standing = running }, asks_for sender d)
-  conflict : (st : Step) → r.standing ≡ running → v ≡ due st → conflicts st c ≡ true → Outcome self c v r (stopped_at c, fails fault.Conflict)
-  stood : (st : Step) → r.standing ≡ running → v ≡ due st → conflicts st c ≡ false → Outcome self c v r (record { chronicle = st ∷ c; standing = running }, sends_out (sendings self st c))
-  cut : (st : Step) (k : ℕ) → r.standing ≡ running → v ≡ due st → conflicts st c ≡ false → Outcome self c v r (record { chronicle = st ∷ c; standing = cut_short (min (length (history c) + k) (length (history (st ∷ c)))) }, fails fault.Memory)
+  refused : (stopping : Bool) (n : Fault) → r.standing ≡ running → (n ≡ fault.Conflict → ⊥)
+      → Outcome self c v r
+      (record { chronicle = c; standing = if stopping then stopped else running }, fails n)
+  lacks : (sender : ℕ) (d : Bytes) → r.standing ≡ running
+      → Outcome self c v r (record { chronicle = c; standing = running }, asks_for sender d)
+  conflict : (st : Step) → r.standing ≡ running → v ≡ due st → conflicts st c ≡ true
+      → Outcome self c v r (stopped_at c, fails fault.Conflict)
+  stood : (st : Step) → r.standing ≡ running → v ≡ due st → conflicts st c ≡ false
+      → Outcome self c v r
+      (record { chronicle = st ∷ c; standing = running }, sends_out (sendings self st c))
+  cut : (st : Step) (k : ℕ) → r.standing ≡ running → v ≡ due st → conflicts st c ≡ false
+      → Outcome self c v r (
+        record {
+          chronicle = st ∷ c;
+          standing = cut_short (min (length (history c) + k) (length (history (st ∷ c))));
+        },
+        fails fault.Memory,
+      )
 
-on_step-outcome : (self : Identity) (m : Memory) (st : Step) (c : Chronicle) (r : Replica) → r.standing ≡ running → Outcome self c (due st) r (on_step self m st c)
+on_step-outcome : (self : Identity) (m : Memory) (st : Step) (c : Chronicle) (r : Replica)
+    → r.standing ≡ running → Outcome self c (due st) r (on_step self m st c)
 unfolding on_step
-on_step-outcome self ample st c r u = cond_both (conflicts st c) _ _ (Outcome self c (due st) r) (λ e. conflict st u refl e) (λ e. stood st u refl e)
+on_step-outcome self ample st c r u =
+    cond_both (conflicts st c) _ _ (Outcome self c (due st) r) (λ e. conflict st u refl e)
+    (λ e. stood st u refl e)
 on_step-outcome self refused_at_once st c r u = refused true fault.Memory u (λ k. cc)
 on_step-outcome self (refused_after k) st c r u =
     cond_both (conflicts st c) _ _ (Outcome self c (due st) r) (λ e. conflict st u refl e)
-    (λ e. cond_both (executes st c) _ _ (Outcome self c (due st) r) (λ x. cut st k u refl e) (λ x. refused true fault.Memory u (λ k. cc)))
+    (λ e. cond_both (executes st c) _ _ (Outcome self c (due st) r) (λ x. cut st k u refl e)
+    (λ x. refused true fault.Memory u (λ k. cc)))
 
-pub step-outcome : (self : Identity) (m : Memory) (i : Input) (r : Replica) → IsCheckedInput self.sizes i → IsSound self.sizes r.chronicle → Outcome self r.chronicle (ruling self i r.chronicle) r (step self m i r)
+pub step-outcome : (self : Identity) (m : Memory) (i : Input) (r : Replica) → IsCheckedInput self.sizes i
+    → IsSound self.sizes r.chronicle
+    → Outcome self r.chronicle (ruling self i r.chronicle) r (step self m i r)
 unfolding step on_ruling
 step-outcome self m i r ch so = by r.standing refl
   where
-    when : r.standing ≡ running → (v : Ruling) → Keeps self r.chronicle v → Outcome self r.chronicle v r (on_ruling self m v r.chronicle)
+    when : r.standing ≡ running → (v : Ruling) → Keeps self r.chronicle v
+        → Outcome self r.chronicle v r (on_ruling self m v r.chronicle)
     when u (due st) k = on_step-outcome self m st r.chronicle r u
     when u (missing sender d) k = lacks sender d u
     when u (refusing n) k = refused (stops n) n u k
 
-    by : (st : Standing) → r.standing ≡ st → Outcome self r.chronicle (ruling self i r.chronicle) r (elim st as (λ x. Replica × Reaction) [ running ↦ on_ruling self m (ruling self i r.chronicle) r.chronicle | stopped ↦ (r, fails fault.Stopped) | cut_short held ↦ (r, fails fault.Stopped) ])
+    by : (st : Standing) → r.standing ≡ st
+        → Outcome self r.chronicle (ruling self i r.chronicle) r
+        (elim st as (λ x. Replica × Reaction) [
+          | running ↦
+              on_ruling self m (ruling self i r.chronicle) r.chronicle
+          | stopped ↦ (r, fails fault.Stopped)
+          | cut_short held ↦ (r, fails fault.Stopped)
+        ])
     by running e = when e (ruling self i r.chronicle) (ruling-sound self i r.chronicle ch so)
     by stopped e = unchanged fault.Stopped (λ k. cc)
     by (cut_short held) e = unchanged fault.Stopped (λ k. cc)

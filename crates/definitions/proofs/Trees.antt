@@ -2,7 +2,9 @@
 use Rattle.ids.specs.declared.limits.TheConstants.{MOST_OF_HEIGHT}
 use Rattle.ids.specs.declared.fault.Fault.{Fault}
 use Rattle.ids.specs.declared.fault.Fault.TheVariants as fault
-use Rattle.std.proofs.Common.{ℕ, suc, ◌≡◌, ◌<◌, ◌==◌, not, true, List, [], ◌∷◌, ◌++◌, length, refl, sym, ap, subst, ◌∙◌, arith, ◌⊎◌, inl, inr, Option, Some, None, nat_lt, count_by, bytes_eq}
+use Rattle.std.proofs.Common.{ℕ, suc, ◌≡◌, ◌<◌, ◌==◌, not, true, List, [], ◌∷◌, ◌++◌, length, refl, sym, ap}
+use Rattle.std.proofs.Common.{subst, ◌∙◌, arith, ◌⊎◌, inl, inr, Option, Some, None, nat_lt, count_by}
+use Rattle.std.proofs.Common.{bytes_eq}
 use Rattle.std.proofs.lemmas.Bool.{cond_both, not-false, eqb-true, ltb-true}
 use lib.Pointwise.{bytes_decides}
 use Rattle.definitions.proofs.Lists.{find_some, find_none}
@@ -11,7 +13,9 @@ use Rattle.definitions.specs.Frames.{Core, Certificate}
 use Rattle.definitions.specs.Branches.{Block, Branch, just1, Extends, IsBranch}
 use Rattle.definitions.specs.Bytes.{Bytes}
 use Rattle.definitions.specs.Digests.{digest, core_over, digest_of, core_of}
-use Rattle.definitions.specs.Trees.{find_in, block_of, justifies, Placing, Placing.stands, Placing.grows, Placing.lacks_parent, Placing.unfit, placing_known, placing_new, placing, IsTree}
+use Rattle.definitions.specs.Trees.{find_in, block_of, justifies, Placing, Placing.stands, Placing.grows}
+use Rattle.definitions.specs.Trees.{Placing.lacks_parent, Placing.unfit, placing_known, placing_new}
+use Rattle.definitions.specs.Trees.{placing, IsTree}
 
 pub same_bytes : (a b : Bytes) → bytes_eq a b ≡ true → a ≡ b
 same_bytes a b h = (bytes_decides a b).0 h
@@ -19,12 +23,16 @@ same_bytes a b h = (bytes_decides a b).0 h
 -- ---- finding
 
 -- what is found stands in the tree and has the digest
-pub found-in : (d : Bytes) (t : List Branch) (b : Branch) → find_in d t ≡ Some b → Among b t × (digest_of b ≡ d)
-found-in d t b e = let r = find_some (λ (x : Branch). bytes_eq (digest_of x) d) t b e in (r.0, same_bytes _ _ r.1)
+pub found-in : (d : Bytes) (t : List Branch) (b : Branch) → find_in d t ≡ Some b
+    → Among b t × (digest_of b ≡ d)
+found-in d t b e =
+    let r = find_some (λ (x : Branch). bytes_eq (digest_of x) d) t b e in (r.0, same_bytes _ _ r.1)
 
 -- where nothing is found no block has the digest
-pub not-found : (d : Bytes) (t : List Branch) (b : Branch) → find_in d t ≡ None → Among b t → digest_of b ≡ d → ⊥
-not-found d t b e m k = find_none (λ (x : Branch). bytes_eq (digest_of x) d) t b e m ((bytes_decides (digest_of b) d).1 k)
+pub not-found : (d : Bytes) (t : List Branch) (b : Branch) → find_in d t ≡ None → Among b t
+    → digest_of b ≡ d → ⊥
+not-found d t b e m k =
+    find_none (λ (x : Branch). bytes_eq (digest_of x) d) t b e m ((bytes_decides (digest_of b) d).1 k)
 
 -- in a tree each block is found by its digest
 pub found-itself : (t : List Branch) → IsTree t → (b : Branch) → Among b t → find_in (digest_of b) t ≡ Some b
@@ -36,18 +44,33 @@ found-itself t tr b m = go (find_in (digest_of b) t) refl
 
 -- ---- a core's block over its parent
 
-pub digest-core : (core : Core) (parent : Branch) → core.parent ≡ digest_of parent → core.height ≡ suc (length parent) → digest_of (block_of core ∷ parent) ≡ digest core
+pub digest-core : (core : Core) (parent : Branch) → core.parent ≡ digest_of parent
+    → core.height ≡ suc (length parent) → digest_of (block_of core ∷ parent) ≡ digest core
 unfolding digest_of core_over
-digest-core core parent ep eh = λ i. digest (record { parent = sym ep i; height = sym eh i; justify_height = core.justify_height; commands = core.commands })
+digest-core core parent ep eh =
+    λ i. digest (record {
+      parent = sym ep i;
+      height = sym eh i;
+      justify_height = core.justify_height;
+      commands = core.commands;
+    })
 
-pub core-known : (core : Core) (parent : Branch) → core.parent ≡ digest_of parent → core.height ≡ suc (length parent) → core_of (block_of core ∷ parent) ≡ core
+pub core-known : (core : Core) (parent : Branch) → core.parent ≡ digest_of parent
+    → core.height ≡ suc (length parent) → core_of (block_of core ∷ parent) ≡ core
 unfolding core_of core_over
-core-known core parent ep eh = λ i. record { parent = sym ep i; height = sym eh i; justify_height = core.justify_height; commands = core.commands }
+core-known core parent ep eh =
+    λ i. record {
+      parent = sym ep i;
+      height = sym eh i;
+      justify_height = core.justify_height;
+      commands = core.commands;
+    }
 
 -- ---- the tests
 
 -- what was found of a block that may stand over its parent
-pub record IsGrowth (most : ℕ) (core : Core) (q : Certificate) (t : List Branch) (b parent : Branch) : Type 0 where
+pub record IsGrowth (most : ℕ) (core : Core) (q : Certificate) (t : List Branch) (b parent : Branch) :
+    Type 0 where
   pub is : b ≡ block_of core ∷ parent
   pub parent_found : find_in core.parent t ≡ Some parent
   pub new : find_in (digest core) t ≡ None
@@ -73,32 +96,54 @@ IsPlaced most core q t (grows b) = (parent : Branch) × IsGrowth most core q t b
 IsPlaced most core q t lacks_parent = find_in core.parent t ≡ None
 IsPlaced most core q t (unfit n) = IsUnfit n
 
-placed-known : (most : ℕ) (core : Core) (q : Certificate) (t : List Branch) (b : Branch) → find_in (digest core) t ≡ Some b → IsPlaced most core q t (placing_known b q)
+placed-known : (most : ℕ) (core : Core) (q : Certificate) (t : List Branch) (b : Branch)
+    → find_in (digest core) t ≡ Some b → IsPlaced most core q t (placing_known b q)
 unfolding placing_known
-placed-known most core q t b e = cond_both (justifies q b) _ _ (IsPlaced most core q t) (λ j. (e, same_bytes _ _ j)) (λ j. inl refl)
+placed-known most core q t b e =
+    cond_both (justifies q b) _ _ (IsPlaced most core q t) (λ j. (e, same_bytes _ _ j)) (λ j. inl refl)
 
-placed-new : (most : ℕ) (core : Core) (q : Certificate) (t : List Branch) (parent : Branch) → find_in core.parent t ≡ Some parent → find_in (digest core) t ≡ None → IsPlaced most core q t (placing_new most parent core q t)
+placed-new : (most : ℕ) (core : Core) (q : Certificate) (t : List Branch) (parent : Branch)
+    → find_in core.parent t ≡ Some parent → find_in (digest core) t ≡ None
+    → IsPlaced most core q t (placing_new most parent core q t)
 unfolding placing_new
 placed-new most core q t parent found none =
     cond_both (not (core.height == suc (length parent))) _ _ P (λ e. inr (inl refl)) (λ h.
     cond_both (not (justifies q (block_of core ∷ parent))) _ _ P (λ e. inl refl) (λ j.
-    cond_both (not (nat_lt (count_by (λ x. length x == suc (length parent)) t) MOST_OF_HEIGHT)) _ _ P (λ e. inr (inr (inl refl))) (λ r.
-    cond_both (not (nat_lt (length t) most)) _ _ P (λ e. inr (inr (inr refl))) (λ f.
-    (parent, record { is = refl; parent_found = found; new = none; height = eqb-true core.height (suc (length parent)) (not-false _ h); justified = same_bytes _ _ (not-false _ j); room = ltb-true _ _ (not-false _ f) })))))
+    cond_both (not (nat_lt (count_by (λ x. length x == suc (length parent)) t) MOST_OF_HEIGHT)) _ _ P
+    (λ e. inr (inr (inl refl))) (λ r.
+    cond_both (not (nat_lt (length t) most)) _ _ P (λ e. inr (inr (inr refl))) (λ f. (
+      parent,
+      record {
+        is = refl;
+        parent_found = found;
+        new = none;
+        height = eqb-true core.height (suc (length parent)) (not-false _ h);
+        justified = same_bytes _ _ (not-false _ j);
+        room = ltb-true _ _ (not-false _ f);
+      },
+    )))))
   where
     P : Placing → Type 0
     P = IsPlaced most core q t
 
 -- the place of a block is what the tests establish
-pub placed : (most : ℕ) (core : Core) (q : Certificate) (t : List Branch) → IsPlaced most core q t (placing most core q t)
+pub placed : (most : ℕ) (core : Core) (q : Certificate) (t : List Branch)
+    → IsPlaced most core q t (placing most core q t)
 unfolding placing
 placed most core q t = known (find_in (digest core) t) refl
   where
-    over : find_in (digest core) t ≡ None → (o : Option Branch) → find_in core.parent t ≡ o → IsPlaced most core q t (elim o [ Some parent ↦ placing_new most parent core q t | None ↦ lacks_parent ])
+    over : find_in (digest core) t ≡ None → (o : Option Branch) → find_in core.parent t ≡ o
+        → IsPlaced most core q t
+        (elim o [ Some parent ↦ placing_new most parent core q t | None ↦ lacks_parent ])
     over n None e = e
     over n (Some parent) e = placed-new most core q t parent e n
 
-    known : (o : Option Branch) → find_in (digest core) t ≡ o → IsPlaced most core q t (elim o [ Some b ↦ placing_known b q | None ↦ elim (find_in core.parent t) [ Some parent ↦ placing_new most parent core q t | None ↦ lacks_parent ] ])
+    known : (o : Option Branch) → find_in (digest core) t ≡ o
+        → IsPlaced most core q t (elim o [
+          | Some b ↦ placing_known b q
+          | None ↦ elim (find_in core.parent t)
+              [ Some parent ↦ placing_new most parent core q t | None ↦ lacks_parent ]
+        ])
     known (Some b) e = placed-known most core q t b e
     known None e = over e (find_in core.parent t) refl
 
@@ -111,10 +156,13 @@ tree-below t tr [] x m (c ∷ added, e) = absurd (nil (sym e))
   where
     nil : [] ≡ c ∷ (added ++ x) → ⊥
     nil h = cc
-tree-below t tr (b ∷ parent) x m (c ∷ added, e) = tree-below t tr parent x (tr.parents b parent m) (added, (cc))
+tree-below t tr (b ∷ parent) x m (c ∷ added, e) =
+    tree-below t tr parent x (tr.parents b parent m) (added, (cc))
 
 -- a block that is put on its parent keeps the tree one
-grown : (t : List Branch) (b : Block) (parent : Branch) → IsTree t → Among parent t → b.justify < suc (length parent) → ((x : Branch) → Among x t → digest_of x ≡ digest_of (b ∷ parent) → ⊥) → IsTree ((b ∷ parent) ∷ t)
+grown : (t : List Branch) (b : Block) (parent : Branch) → IsTree t → Among parent t
+    → b.justify < suc (length parent)
+    → ((x : Branch) → Among x t → digest_of x ≡ digest_of (b ∷ parent) → ⊥) → IsTree ((b ∷ parent) ∷ t)
 grown t b parent tr m below fresh = record {
   branches = branches;
   one = one;
@@ -126,7 +174,8 @@ grown t b parent tr m below fresh = record {
     branches x (inl e) = subst IsBranch (sym e) (below, tr.branches parent m)
     branches x (inr k) = tr.branches x k
 
-    one : (x y : Branch) → Among x ((b ∷ parent) ∷ t) → Among y ((b ∷ parent) ∷ t) → digest_of x ≡ digest_of y → x ≡ y
+    one : (x y : Branch) → Among x ((b ∷ parent) ∷ t) → Among y ((b ∷ parent) ∷ t)
+        → digest_of x ≡ digest_of y → x ≡ y
     one x y (inl e) (inl k) d = e ∙ sym k
     one x y (inl e) (inr k) d = absurd (fresh y k (sym d ∙ ap digest_of e))
     one x y (inr e) (inl k) d = absurd (fresh x e (d ∙ ap digest_of k))
@@ -137,21 +186,27 @@ grown t b parent tr m below fresh = record {
     parents a p (inr k) = inr (tr.parents a p k)
 
 -- a block that the tests let stand keeps the tree one
-pub growth-tree : (most : ℕ) (core : Core) (q : Certificate) (t : List Branch) (b parent : Branch) → IsTree t → core.justify_height < core.height → IsGrowth most core q t b parent → IsTree (b ∷ t)
+pub growth-tree : (most : ℕ) (core : Core) (q : Certificate) (t : List Branch) (b parent : Branch)
+    → IsTree t → core.justify_height < core.height → IsGrowth most core q t b parent → IsTree (b ∷ t)
 growth-tree most core q t b parent tr below g =
     let ep = sym (found-in core.parent t parent g.parent_found).1 in
     let of : digest_of (block_of core ∷ parent) ≡ digest core = digest-core core parent ep g.height in
     subst (λ (x : Branch). IsTree (x ∷ t)) (sym g.is)
-    (grown t (block_of core) parent tr (found-in core.parent t parent g.parent_found).0 (subst (λ (h : ℕ). core.justify_height < h) g.height below)
+    (grown t (block_of core) parent tr (found-in core.parent t parent g.parent_found).0
+    (subst (λ (h : ℕ). core.justify_height < h) g.height below)
     (λ x k d. not-found (digest core) t x g.new k (d ∙ of)))
 
 -- and was none of it
-pub growth-new : (most : ℕ) (core : Core) (q : Certificate) (t : List Branch) (b parent : Branch) → IsGrowth most core q t b parent → Among b t → ⊥
+pub growth-new : (most : ℕ) (core : Core) (q : Certificate) (t : List Branch) (b parent : Branch)
+    → IsGrowth most core q t b parent → Among b t → ⊥
 growth-new most core q t b parent g k =
     let ep = sym (found-in core.parent t parent g.parent_found).1 in
     not-found (digest core) t b g.new k (ap digest_of g.is ∙ digest-core core parent ep g.height)
 
 -- each height of such a tree is below the number of its blocks
-pub grown-heights : (t : List Branch) (b : Block) (parent : Branch) → Among parent t → ((x : Branch) → Among x t → length x < length t) → (x : Branch) → Among x ((b ∷ parent) ∷ t) → length x < length ((b ∷ parent) ∷ t)
-grown-heights t b parent m h x (inl e) = let k = h parent m in let l = ap (λ (y : Branch). length y) e in omega (arith, k, l)
+pub grown-heights : (t : List Branch) (b : Block) (parent : Branch) → Among parent t
+    → ((x : Branch) → Among x t → length x < length t) → (x : Branch) → Among x ((b ∷ parent) ∷ t)
+    → length x < length ((b ∷ parent) ∷ t)
+grown-heights t b parent m h x (inl e) =
+    let k = h parent m in let l = ap (λ (y : Branch). length y) e in omega (arith, k, l)
 grown-heights t b parent m h x (inr n) = let k = h x n in omega (arith, k)

@@ -38,7 +38,8 @@ steps_of i (p ∷ earlier) = if p.0 == i then p.1 ∷ steps_of i earlier else st
 -- each vote that a step counts in a member's name is an earlier vote of it
 abbrev pub IsBacked : (ℕ → Bool) → Step → Order → Type 0
 IsBacked is_member (took_block a) earlier =
-    a.new ≡ true → (v : ℕ) → Among v a.counted → is_member v ≡ true → Among (just1 a.branch) (voted (steps_of v earlier))
+    a.new ≡ true → (v : ℕ) → Among v a.counted → is_member v ≡ true
+    → Among (just1 a.branch) (voted (steps_of v earlier))
 IsBacked is_member s earlier = ⊤
 
 -- each step in the order is backed by the earlier ones

@@ -1,6 +1,7 @@
--- The audit of kept replicas: what their chronicles say of one another, by the digests that they stored. Steps are
--- counted from 0, the oldest.
-use Rattle.std.specs.Prelude.{ℕ, suc, ◌≡◌, ◌≤◌, ◌==◌, ◌⊎◌, ◌&&◌, ◌||◌, not, Bool, true, false, List, [], ◌∷◌, length, if◌then◌else◌, Option, None, Some, ⊤}
+-- The audit of kept replicas: what their chronicles say of one another, by the digests that they stored.
+-- Steps are counted from 0, the oldest.
+use Rattle.std.specs.Prelude.{ℕ, suc, ◌≡◌, ◌≤◌, ◌==◌, ◌⊎◌, ◌&&◌, ◌||◌, not, Bool, true, false, List, []}
+use Rattle.std.specs.Prelude.{◌∷◌, length, if◌then◌else◌, Option, None, Some, ⊤}
 use Rattle.std.specs.List.{list_any, list_all}
 use Rattle.std.specs.Str.{bytes_eq}
 use Rattle.definitions.specs.Bytes.{Bytes}
@@ -151,7 +152,8 @@ Holds ks (collision p q) = IsCollision ks p q
 -- the histories are pairwise beginnings of one another
 abbrev pub HistoriesAgree : Judged → Type 0
 HistoriesAgree ks = (a b : Member) → Among a ks → Among b ks →
-    IsBeginning (held_history a.replica) (held_history b.replica) ⊎ IsBeginning (held_history b.replica) (held_history a.replica)
+    IsBeginning (held_history a.replica) (held_history b.replica)
+    ⊎ IsBeginning (held_history b.replica) (held_history a.replica)
 
 -- what an audit may answer: agree exactly where the histories agree, else a reason that holds
 abbrev pub IsVerdict : Judged → Verdict → Type 0

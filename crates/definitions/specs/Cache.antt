@@ -1,7 +1,9 @@
 -- The sequential cache: what each request does to it and what it replies (protocol.txt, with this
 -- project's own choices where the cache is full).
 use Rattle.ids.specs.declared.limits.TheConstants.{MOST_DATA}
-use Rattle.std.specs.Prelude.{ℕ, ◌+◌, ◌-◌, ◌%◌, ◌^◌, Bool, true, false, ◌||◌, ◌&&◌, List, ◌++◌, length, Option, Some, None, option_map, decimal, nat_lt, nat_le, ◌==◌, bytes_eq, if◌then◌else◌, filter_map}
+use Rattle.std.specs.Prelude.{ℕ, ◌+◌, ◌-◌, ◌%◌, ◌^◌, Bool, true, false, ◌||◌, ◌&&◌, List, ◌++◌, length}
+use Rattle.std.specs.Prelude.{Option, Some, None, option_map, decimal, nat_lt, nat_le, ◌==◌, bytes_eq}
+use Rattle.std.specs.Prelude.{if◌then◌else◌, filter_map}
 use Rattle.std.specs.Option.{option_map_or}
 use Rattle.std.specs.Str.Parse.{digits_value}
 use Rattle.std.specs.Ordering.{nat_cmp}
@@ -9,7 +11,8 @@ use Rattle.std.specs.declared.cmp.Ordering.{Ordering}
 use Rattle.std.specs.Cmp.Lexicographic.{slice_cmp}
 use Rattle.std.specs.FinMap.{FinMap}
 use Rattle.std.specs.FinMap as map
-use Rattle.definitions.specs.Requests.{Verb, set, add, replace, append, prepend, Asked, store, cas, get, gets, delete, incr, decr}
+use Rattle.definitions.specs.Requests.{Verb, set, add, replace, append, prepend, Asked, store, cas, get}
+use Rattle.definitions.specs.Requests.{gets, delete, incr, decr}
 use Rattle.definitions.specs.Canonical.{request_of}
 use Rattle.definitions.specs.Replies.{Value, Reply}
 use Rattle.definitions.specs.Replies as reply
@@ -55,11 +58,19 @@ abbrev pub change : Cache → Bytes → ℕ → Bytes → Reply → Outcome
 change cache key flags stored told =
     let count = cache.changes + 1 in
     if cache.changes == most_changes then (cache, reply.no_room)
-    else (record { entries = map.insert cache.entries key (record { flags = flags; stored = stored; unique = count }); changes = count }, told)
+    else (
+      record {
+        entries = map.insert cache.entries key
+            (record { flags = flags; stored = stored; unique = count });
+        changes = count;
+      },
+      told,
+    )
 
 -- the number that the data writes, where it is a decimal below 2 ^ 64
 abbrev pub number_in : Bytes → Option ℕ
-number_in text = let n = digits_value 10 text in if nat_lt n (2 ^ 64) && bytes_eq text (decimal n) then Some n else None
+number_in text =
+    let n = digits_value 10 text in if nat_lt n (2 ^ 64) && bytes_eq text (decimal n) then Some n else None
 
 -- with the entry of the key, or another outcome where there is none
 abbrev pub if_present : Cache → Bytes → Outcome → (Entry → Outcome) → Outcome
@@ -77,20 +88,24 @@ store_it most cache add key flags stored =
 store_it most cache replace key flags stored =
     if has cache key then change cache key flags stored reply.stored else (cache, reply.not_stored)
 store_it most cache append key flags stored = if_present cache key (cache, reply.not_stored) (λ e.
-    if nat_le (length (e.stored ++ stored)) MOST_DATA then change cache key e.flags (e.stored ++ stored) reply.stored
+    if nat_le (length (e.stored ++ stored)) MOST_DATA then change cache key e.flags (e.stored ++ stored)
+    reply.stored
     else (cache, reply.too_long))
 store_it most cache prepend key flags stored = if_present cache key (cache, reply.not_stored) (λ e.
-    if nat_le (length (stored ++ e.stored)) MOST_DATA then change cache key e.flags (stored ++ e.stored) reply.stored
+    if nat_le (length (stored ++ e.stored)) MOST_DATA then change cache key e.flags (stored ++ e.stored)
+    reply.stored
     else (cache, reply.too_long))
 
 -- a number takes another one's place
 abbrev pub count_it : Cache → Bytes → (ℕ → ℕ) → Outcome
 count_it cache key f = if_present cache key (cache, reply.not_found) (λ e.
-    option_map_or (λ n. change cache key e.flags (decimal (f n)) (reply.number (f n))) (number_in e.stored) (cache, reply.no_number))
+    option_map_or (λ n. change cache key e.flags (decimal (f n)) (reply.number (f n))) (number_in e.stored)
+    (cache, reply.no_number))
 
 -- what an asked key has
 abbrev pub value_of : Cache → Bytes → Option Value
-value_of cache key = option_map (λ e. record { key = key; flags = e.flags; stored = e.stored; unique = e.unique }) (find cache key)
+value_of cache key = option_map
+    (λ e. record { key = key; flags = e.flags; stored = e.stored; unique = e.unique }) (find cache key)
 
 -- what the asked keys have that are present, in the order asked
 abbrev pub values_of : Cache → List Bytes → List Value
@@ -104,10 +119,12 @@ apply most cache (cas key flags stored unique) = if_present cache key (cache, re
 apply most cache (incr key value) = count_it cache key (λ n. (n + value) % 2 ^ 64)
 apply most cache (decr key value) = count_it cache key (λ n. n - value)
 apply most cache (delete key) =
-    if has cache key then (record cache { entries = map.remove cache.entries key }, reply.deleted) else (cache, reply.not_found)
+    if has cache key then (record cache { entries = map.remove cache.entries key }, reply.deleted) else
+    (cache, reply.not_found)
 apply most cache (get keys) = (cache, reply.values (values_of cache keys) false)
 apply most cache (gets keys) = (cache, reply.values (values_of cache keys) true)
 
 -- what a payload does: its request, where it is the canonical text of one, and else nothing
 unfoldable pub apply_payload : ℕ → Cache → Bytes → Outcome
-apply_payload most cache payload = option_map_or (apply most cache) (request_of payload) (cache, reply.no_request)
+apply_payload most cache payload =
+    option_map_or (apply most cache) (request_of payload) (cache, reply.no_request)

@@ -1,9 +1,12 @@
 -- The request that a payload spells, as a function. There are eleven guesses, one a command, made of the
 -- fields of the first line; the payload spells the one that is a request and has it as its canonical text.
-use Rattle.std.specs.Prelude.{ℕ, ◌+◌, ◌-◌, ◌^◌, Bool, ◌&&◌, not, List, [], ◌∷◌, length, take, drop, Option, nat_lt, nat_le, ◌==◌, bytes_eq, if◌then◌else◌, slice_index, slice_index_or, find, is_some}
+use Rattle.std.specs.Prelude.{ℕ, ◌+◌, ◌-◌, ◌^◌, Bool, ◌&&◌, not, List, [], ◌∷◌, length, take, drop, Option}
+use Rattle.std.specs.Prelude.{nat_lt, nat_le, ◌==◌, bytes_eq, if◌then◌else◌, slice_index, slice_index_or}
+use Rattle.std.specs.Prelude.{find, is_some}
 use Rattle.std.specs.List.{slice_split, list_all}
 use Rattle.std.specs.Str.Parse.{digits_value}
-use Rattle.definitions.specs.Requests.{Asked, set, add, replace, append, prepend, store, cas, get, gets, delete, incr, decr, canonical, space}
+use Rattle.definitions.specs.Requests.{Asked, set, add, replace, append, prepend, store, cas, get, gets}
+use Rattle.definitions.specs.Requests.{delete, incr, decr, canonical, space}
 use Rattle.ids.specs.declared.limits.TheConstants.{MOST_ASKED, MOST_DATA, MOST_KEY}
 use Rattle.definitions.specs.Bytes.{Bytes}
 
@@ -20,18 +23,24 @@ guesses payload =
     let keys = drop 1 (slice_split (λ b. b == space) front) in
     let stored = take (length payload - length front - 4) (drop (length front + 2) payload) in
     let number = λ (i : ℕ). digits_value 10 (field i) in
-    store set (field 1) (number 2) stored ∷ store add (field 1) (number 2) stored ∷ store replace (field 1) (number 2) stored
-    ∷ store append (field 1) (number 2) stored ∷ store prepend (field 1) (number 2) stored ∷ cas (field 1) (number 2) stored (number 5)
+    store set (field 1) (number 2) stored ∷ store add (field 1) (number 2) stored
+    ∷ store replace (field 1) (number 2) stored
+    ∷ store append (field 1) (number 2) stored ∷ store prepend (field 1) (number 2) stored
+    ∷ cas (field 1) (number 2) stored (number 5)
     ∷ get keys ∷ gets keys ∷ delete (field 1) ∷ incr (field 1) (number 2) ∷ decr (field 1) (number 2) ∷ []
 
 -- the test of a key
 abbrev pub is_key : Bytes → Bool
-is_key key = nat_le 1 (length key) && nat_le (length key) MOST_KEY && list_all (λ b. nat_le 33 b && nat_lt b 256 && not (b == 127)) key
+is_key key =
+    nat_le 1 (length key) && nat_le (length key) MOST_KEY
+    && list_all (λ b. nat_le 33 b && nat_lt b 256 && not (b == 127)) key
 
 -- the test of a whole request
 abbrev pub is_request : Asked → Bool
-is_request (store verb key flags stored) = is_key key && nat_lt flags (2 ^ 32) && nat_le (length stored) MOST_DATA
-is_request (cas key flags stored unique) = is_key key && nat_lt flags (2 ^ 32) && nat_le (length stored) MOST_DATA && nat_lt unique (2 ^ 64)
+is_request (store verb key flags stored) =
+    is_key key && nat_lt flags (2 ^ 32) && nat_le (length stored) MOST_DATA
+is_request (cas key flags stored unique) =
+    is_key key && nat_lt flags (2 ^ 32) && nat_le (length stored) MOST_DATA && nat_lt unique (2 ^ 64)
 is_request (get keys) = nat_le 1 (length keys) && nat_le (length keys) MOST_ASKED && list_all is_key keys
 is_request (gets keys) = nat_le 1 (length keys) && nat_le (length keys) MOST_ASKED && list_all is_key keys
 is_request (delete key) = is_key key

@@ -35,12 +35,14 @@ is_genesis d = bytes_eq d (digest genesis_core)
 
 -- genesis has no votes; any other block has a quorum of counted ones
 unfoldable pub is_good : Identity → Certificate → Bool
-is_good self q = if is_genesis q.digest then length q.votes == 0 else nat_le (quorum self.sizes) (length (counted self q))
+is_good self q =
+    if is_genesis q.digest then length q.votes == 0 else nat_le (quorum self.sizes) (length (counted self q))
 
 -- the command's tag for this replica verifies
 abbrev pub command_verifies : Identity → Command → Bool
 command_verifies self c =
-    verify self.ring kind.Request (client_party c.client) (command_content c.client c.seq c.payload) (tag_of c.vector self.ring.party)
+    verify self.ring kind.Request (client_party c.client) (command_content c.client c.seq c.payload)
+    (tag_of c.vector self.ring.party)
 
 -- the tag of each command verifies
 unfoldable pub is_clear_core : Identity → Core → Bool

@@ -1,11 +1,13 @@
--- The chronicle of a replica: the steps that stand, newest first. Here is what it says of blocks: votes, lock,
--- decisions, and its law (HotStuff, PODC 2019, the safety rules, with this project's clear blocks).
+-- The chronicle of a replica: the steps that stand, newest first. Here is what it says of blocks: votes,
+-- lock, decisions, and its law (HotStuff, PODC 2019, the safety rules, with this project's clear blocks).
 use Rattle.ids.specs.declared.limits.TheConstants.{MOST_BLOCKS}
-use Rattle.std.specs.Prelude.{ℕ, suc, ◌≡◌, ◌<◌, ◌≤◌, ◌==◌, ◌⊎◌, ◌&&◌, ◌||◌, not, Bool, true, List, [], ◌∷◌, ◌++◌, map, length, if◌then◌else◌, nat_lt, Option, ⊤}
+use Rattle.std.specs.Prelude.{ℕ, suc, ◌≡◌, ◌<◌, ◌≤◌, ◌==◌, ◌⊎◌, ◌&&◌, ◌||◌, not, Bool, true, List, [], ◌∷◌}
+use Rattle.std.specs.Prelude.{◌++◌, map, length, if◌then◌else◌, nat_lt, Option, ⊤}
 use Rattle.std.specs.List.{AllByRecursion}
 use Rattle.definitions.specs.Lists.{Among, AreDistinct, greatest}
 use Rattle.definitions.specs.Frames.{Command, Core, Certificate}
-use Rattle.definitions.specs.Branches.{Block, Branch, justify_height, just1, just2, just3, Extends, extends, highest}
+use Rattle.definitions.specs.Branches.{Block, Branch, justify_height, just1, just2, just3, Extends, extends}
+use Rattle.definitions.specs.Branches.{highest}
 use Rattle.definitions.specs.Bytes.{Bytes}
 use Rattle.definitions.specs.Trees.{Stored, blocks, IsTree}
 use Rattle.ids.specs.Sizes.{Sizes, replicas, quorum}
@@ -26,7 +28,8 @@ pub data Note : Type 0 where
   got_vote : (voter : ℕ) → (vector : Bytes) → (block : Branch) → Note
   got_new_view : (view sender : ℕ) → (certificate : Certificate) → (block : Branch) → Note
   got_request : Command → Note
-  got_fetch : (sender : ℕ) → (block : Option Branch) → Note  -- the block of its digest, where it was in the tree
+  -- with the block of its digest, where it was in the tree
+  got_fetch : (sender : ℕ) → (block : Option Branch) → Note
   timed_out : Note
   beat : Note
 
@@ -69,11 +72,13 @@ tree c = blocks (stored c)
 unfoldable pub vheight : Chronicle → ℕ
 vheight c = greatest (map length (voted c))
 
--- the first of the greatest height among the second justified blocks of what it took (HotStuff, PODC 2019, b_lock)
+-- the first of the greatest height among the second justified blocks of what it took (HotStuff, PODC 2019,
+-- b_lock)
 unfoldable pub lock : Chronicle → Branch
 lock c = highest (map (λ a. just2 a.branch) (taken c))
 
--- three blocks in direct succession, each justified by the next, decide the first of them (HotStuff, PODC 2019, three-chain)
+-- three blocks in direct succession, each justified by the next, decide the first of them (HotStuff, PODC
+-- 2019, three-chain)
 unfoldable pub decides : Branch → Bool
 decides x = (length (just2 x) == suc (length (just3 x))) && (length (just1 x) == suc (length (just2 x)))
 
@@ -84,7 +89,8 @@ decides_against last x = decides x && (not (extends (just3 x) last) && not (exte
 -- what was decided by these blocks
 unfoldable pub decided_by : List Admitted → List Branch
 decided_by [] = []
-decided_by (a ∷ earlier) = if decides a.branch then just3 a.branch ∷ decided_by earlier else decided_by earlier
+decided_by (a ∷ earlier) =
+    if decides a.branch then just3 a.branch ∷ decided_by earlier else decided_by earlier
 
 -- what was decided, with genesis
 unfoldable pub decided : Chronicle → List Branch
@@ -100,7 +106,8 @@ history c = history_of (executed c)
 
 -- a block may be voted for by height and lock
 unfoldable pub may_vote : Branch → Chronicle → Bool
-may_vote b c = nat_lt (vheight c) (length b) && (extends b (lock c) || nat_lt (length (lock c)) (justify_height b))
+may_vote b c =
+    nat_lt (vheight c) (length b) && (extends b (lock c) || nat_lt (length (lock c)) (justify_height b))
 
 -- ---- the law of a chronicle
 
@@ -115,14 +122,18 @@ pub record IsLawfulVote (b : Branch) (now earlier : Chronicle) : Type 0 where
 -- a taken block is new, stands on its parent, and justifies a certified block or genesis
 pub record IsLawfulTake (sizes : Sizes) (a : Admitted) (earlier : Chronicle) : Type 0 where
   pub new : Among a.branch (tree earlier) → ⊥
-  pub parent : (b : Block) × (parent : Branch) × (a.branch ≡ b ∷ parent) × (b.justify < suc (length parent)) × Among parent (tree earlier)
-  pub certified : (AreDistinct a.counted × AllByRecursion (λ v. v < replicas sizes) a.counted × (quorum sizes ≤ length a.counted))
+  pub parent : (b : Block) × (parent : Branch) × (a.branch ≡ b ∷ parent) × (b.justify < suc (length parent))
+      × Among parent (tree earlier)
+  pub certified :
+      (AreDistinct a.counted × AllByRecursion (λ v. v < replicas sizes) a.counted
+      × (quorum sizes ≤ length a.counted))
       ⊎ (just1 a.branch ≡ [])
 
 -- what a step has to be
 abbrev pub IsLawfulStep : Sizes → Step → Chronicle → Type 0
 IsLawfulStep sizes (took_block a) earlier =
-    (a.voted ≡ true → IsLawfulVote a.branch (took_block a ∷ earlier) earlier) × (a.new ≡ true → IsLawfulTake sizes a earlier)
+    (a.voted ≡ true → IsLawfulVote a.branch (took_block a ∷ earlier) earlier)
+    × (a.new ≡ true → IsLawfulTake sizes a earlier)
 IsLawfulStep sizes s earlier = ⊤
 
 -- each step of a chronicle is lawful
@@ -130,8 +141,8 @@ abbrev pub IsLawful : Sizes → Chronicle → Type 0
 IsLawful sizes [] = ⊤
 IsLawful sizes (s ∷ earlier) = IsLawfulStep sizes s earlier × IsLawful sizes earlier
 
--- What is kept of a replica's chronicle at these sizes: each step is lawful, and the blocks that it knows are a tree
--- of at most so many as a tree may have, in which each height is below their number.
+-- What is kept of a replica's chronicle at these sizes: each step is lawful, and the blocks that it knows
+-- are a tree of at most so many as a tree may have, in which each height is below their number.
 pub record IsSound (sizes : Sizes) (c : Chronicle) : Type 0 where
   pub is_tree : IsTree (tree c)
   pub lawful : IsLawful sizes c

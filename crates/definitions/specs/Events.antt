@@ -1,7 +1,8 @@
 -- One event of a run: what it does to the party that it names.
 use Rattle.ids.specs.declared.fault.Fault.{Fault}
 use Rattle.ids.specs.declared.fault.Fault.TheVariants as fault
-use Rattle.std.specs.Prelude.{ℕ, suc, ◌==◌, ◌&&◌, not, List, [], ◌∷◌, ◌++◌, map, if◌then◌else◌, Option, Some, None, slice_get, option_map}
+use Rattle.std.specs.Prelude.{ℕ, suc, ◌==◌, ◌&&◌, not, List, [], ◌∷◌, ◌++◌, map, if◌then◌else◌, Option}
+use Rattle.std.specs.Prelude.{Some, None, slice_get, option_map}
 use Rattle.definitions.specs.Frames.{Frame}
 use Rattle.definitions.specs.Bytes.{Bytes}
 use Rattle.ids.specs.Sizes.{client_party}
@@ -9,14 +10,19 @@ use Rattle.definitions.specs.Keyrings.{client_at}
 use Rattle.definitions.specs.Checks.{Identity}
 use Rattle.definitions.specs.Rulings.{Input, Input.timeout_in, Input.beat_in}
 use Rattle.definitions.specs.Sendings.{To.to_all, To.to_party, Sending, fetch_frame}
-use Rattle.definitions.specs.Replicas.{Memory, Replica, Reaction, Reaction.sends_out, Reaction.fails, Reaction.asks_for, step}
-use Rattle.definitions.specs.Sessions.{Session, Receipt, Submitted, Submitted.sent_request, Submitted.not_sent, Heard, Heard.gives_receipt, Heard.only_counts, Heard.not_counted, is_ample, submission, on_reply}
-use Rattle.definitions.specs.Worlds.{World, Event, Happening, is_replica, self_of, client_of, put, submit, relay, inject, timeout, beat}
+use Rattle.definitions.specs.Replicas.{Memory, Replica, Reaction, Reaction.sends_out, Reaction.fails}
+use Rattle.definitions.specs.Replicas.{Reaction.asks_for, step}
+use Rattle.definitions.specs.Sessions.{Session, Receipt, Submitted, Submitted.sent_request}
+use Rattle.definitions.specs.Sessions.{Submitted.not_sent, Heard, Heard.gives_receipt, Heard.only_counts}
+use Rattle.definitions.specs.Sessions.{Heard.not_counted, is_ample, submission, on_reply}
+use Rattle.definitions.specs.Worlds.{World, Event, Happening, is_replica, self_of, client_of, put, submit}
+use Rattle.definitions.specs.Worlds.{relay, inject, timeout, beat}
 use Rattle.definitions.specs.Admission.{Checked, passes, rejected, check}
 
 -- ---- one event
 
--- What an event does: the replicas and sessions after it, what its party sends and accepts, and the refusal that it is answered, if any.
+-- What an event does: the replicas and sessions after it, what its party sends and accepts, and the refusal
+-- that it is answered, if any.
 pub record Effect : Type 0 where
   pub replica : ℕ → Replica
   pub session : ℕ → Session
@@ -32,7 +38,9 @@ nothing w a = record { replica = w.replica; session = w.session; out = []; accep
 abbrev pub out_of : Identity → Memory → Reaction → List Sending
 out_of self m (sends_out out) = out
 out_of self m (fails n) = []
-out_of self m (asks_for sender d) = if is_ample m && not (sender == self.ring.party) then (to_party sender, fetch_frame self sender d) ∷ [] else []
+out_of self m (asks_for sender d) =
+    if is_ample m
+    && not (sender == self.ring.party) then (to_party sender, fetch_frame self sender d) ∷ [] else []
 
 -- the refusal of a reaction
 abbrev pub answer_of : Reaction → Option Fault
@@ -73,7 +81,13 @@ heard_answer (not_counted n) = Some n
 
 -- a client heard a frame
 unfoldable pub told : World → ℕ → Session × Heard → Effect
-told w c r = record { replica = w.replica; session = put c r.0 w.session; out = []; accepted = accepted_of r.1; answer = heard_answer r.1 }
+told w c r = record {
+  replica = w.replica;
+  session = put c r.0 w.session;
+  out = [];
+  accepted = accepted_of r.1;
+  answer = heard_answer r.1;
+}
 
 -- a client takes a frame
 abbrev pub hears : ℕ → Memory → Frame → World → Effect
@@ -91,7 +105,13 @@ submitted_answer (not_sent n) = Some n
 
 -- a client submitted
 unfoldable pub submitted : World → ℕ → Session × Submitted → Effect
-submitted w c r = record { replica = w.replica; session = put c r.0 w.session; out = submitted_out r.1; accepted = []; answer = submitted_answer r.1 }
+submitted w c r = record {
+  replica = w.replica;
+  session = put c r.0 w.session;
+  out = submitted_out r.1;
+  accepted = [];
+  answer = submitted_answer r.1;
+}
 
 -- a client takes a payload
 abbrev pub submits : ℕ → Memory → Bytes → World → Effect
@@ -100,7 +120,8 @@ submits c m payload w = submitted w c (submission (client_of w c) m payload (w.s
 -- a frame comes to a correct party
 unfoldable pub comes : ℕ → Memory → Option Frame → World → Effect
 comes p m None w = nothing w (Some fault.NotAFrame)
-comes p m (Some f) w = if is_replica w p then on_checked p m (check (self_of w p) f) w else hears (client_at p) m f w
+comes p m (Some f) w =
+    if is_replica w p then on_checked p m (check (self_of w p) f) w else hears (client_at p) m f w
 
 -- the party that an event names
 unfoldable pub party_of : Event → ℕ
@@ -144,8 +165,12 @@ happens w h = record {
   ring = w.ring;
   replica = (effect w h).replica;
   session = (effect w h).session;
-  sent = w.sent ++ map (λ o. record { event = w.now; sender = party_of h.0; to = o.0; frame = o.1 }) (effect w h).out;
-  receipts = map (λ r. record { event = w.now; client = client_number h.0; receipt = r }) (effect w h).accepted ++ w.receipts;
+  sent =
+      w.sent
+      ++ map (λ o. record { event = w.now; sender = party_of h.0; to = o.0; frame = o.1 }) (effect w h).out;
+  receipts =
+      map (λ r. record { event = w.now; client = client_number h.0; receipt = r }) (effect w h).accepted
+      ++ w.receipts;
   answers = (effect w h).answer ∷ w.answers;
   now = suc w.now;
 }

@@ -5,7 +5,8 @@ use Rattle.ids.specs.Sizes.{Sizes, replicas, quorum}
 use Rattle.ids.specs.declared.limits.TheConstants.{MOST_COMMANDS, MOST_PAYLOAD, MOST_TEXT}
 use Rattle.definitions.specs.Bytes.{Bytes}
 use Rattle.definitions.specs.Tags.{tag_len}
-use Rattle.definitions.specs.Frames.{Command, Core, Vote, Certificate, Frame, request, proposal, vote, new_view, reply, fetch, block, spelling}
+use Rattle.definitions.specs.Frames.{Command, Core, Vote, Certificate, Frame, request, proposal, vote}
+use Rattle.definitions.specs.Frames.{new_view, reply, fetch, block, spelling}
 
 -- a digest of SHA-256 (FIPS 180-4)
 abbrev pub IsDigest : Bytes → Type 0
@@ -55,13 +56,17 @@ pub record IsCertificate (sizes : Sizes) (q : Certificate) : Type 0 where
 -- the frames that there are
 abbrev pub IsFrame : Sizes → Frame → Type 0
 IsFrame sizes (request c) = IsCommand sizes c
-IsFrame sizes (proposal view k q vector) = (view < 2 ^ 64) × IsCore sizes k × IsCertificate sizes q × IsVector sizes vector
+IsFrame sizes (proposal view k q vector) =
+    (view < 2 ^ 64) × IsCore sizes k × IsCertificate sizes q × IsVector sizes vector
 IsFrame sizes (vote digest v) = IsDigest digest × IsVote sizes v
-IsFrame sizes (new_view view sender q vector) = (view < 2 ^ 64) × (sender < replicas sizes) × IsCertificate sizes q × IsVector sizes vector
-IsFrame sizes (reply replica client seq place text tag) = (replica < replicas sizes) × (client < sizes.clients)
+IsFrame sizes (new_view view sender q vector) =
+    (view < 2 ^ 64) × (sender < replicas sizes) × IsCertificate sizes q × IsVector sizes vector
+IsFrame sizes (reply replica client seq place text tag) =
+    (replica < replicas sizes) × (client < sizes.clients)
     × ((1 ≤ seq) × (seq < 2 ^ 64)) × ((1 ≤ place) × (place < 2 ^ 64)) × (length text ≤ MOST_TEXT) × IsTag tag
 IsFrame sizes (fetch sender digest tag) = (sender < replicas sizes) × IsDigest digest × IsTag tag
-IsFrame sizes (block sender k q tag) = (sender < replicas sizes) × IsCore sizes k × IsCertificate sizes q × IsTag tag
+IsFrame sizes (block sender k q tag) =
+    (sender < replicas sizes) × IsCore sizes k × IsCertificate sizes q × IsTag tag
 
 -- the bytes are a frame, and which one: a relation between bytes and values
 abbrev pub Spells : Sizes → Bytes → Frame → Type 0

@@ -50,7 +50,8 @@ pub data Frame : Type 0 where
 
 -- what a client's tags for a command speak of
 abbrev pub command_content : ℕ → ℕ → Bytes → Bytes
-command_content client seq payload = to_be_bytes w16 client ++ to_be_bytes w64 seq ++ to_be_bytes w16 (length payload) ++ payload
+command_content client seq payload =
+    to_be_bytes w16 client ++ to_be_bytes w64 seq ++ to_be_bytes w16 (length payload) ++ payload
 
 -- a command and its vector
 abbrev pub command_bytes : Command → Bytes
@@ -58,11 +59,13 @@ command_bytes c = command_content c.client c.seq c.payload ++ c.vector
 
 -- a core that has so many commands, of their bytes
 abbrev pub core_text : (parent : Bytes) (height justify_height count : ℕ) (commands : Bytes) → Bytes
-core_text parent height justify_height count commands = parent ++ to_be_bytes w64 height ++ to_be_bytes w64 justify_height ++ count ∷ commands
+core_text parent height justify_height count commands =
+    parent ++ to_be_bytes w64 height ++ to_be_bytes w64 justify_height ++ count ∷ commands
 
 -- the bytes of a core
 abbrev pub core_bytes : Core → Bytes
-core_bytes k = core_text k.parent k.height k.justify_height (length k.commands) (flat_map command_bytes k.commands)
+core_bytes k =
+    core_text k.parent k.height k.justify_height (length k.commands) (flat_map command_bytes k.commands)
 
 -- the bytes of a vote
 abbrev pub vote_bytes : Vote → Bytes
@@ -92,7 +95,8 @@ new_view_content view sender q = new_view_text view sender (certificate_bytes q)
 
 -- what a reply's tag speaks of
 abbrev pub reply_content : ℕ → ℕ → ℕ → ℕ → Bytes → Bytes
-reply_content replica client seq place text = to_be_bytes w16 replica ++ to_be_bytes w16 client ++ to_be_bytes w64 seq
+reply_content replica client seq place text =
+    to_be_bytes w16 replica ++ to_be_bytes w16 client ++ to_be_bytes w64 seq
     ++ to_be_bytes w64 place ++ to_be_bytes w32 (length text) ++ text
 
 -- what a fetch's tag speaks of

@@ -1,6 +1,7 @@
--- Histories of executed commands, newest first, and the replies of the one sequential cache. Freshness is this
--- project's own rule for requests that come again.
-use Rattle.std.specs.Prelude.{ℕ, suc, ◌==◌, ◌||◌, not, Bool, List, [], ◌∷◌, ◌++◌, map, filter, reverse, length, if◌then◌else◌, nat_lt, Option, Some, None, find}
+-- Histories of executed commands, newest first, and the replies of the one sequential cache. Freshness is
+-- this project's own rule for requests that come again.
+use Rattle.std.specs.Prelude.{ℕ, suc, ◌==◌, ◌||◌, not, Bool, List, [], ◌∷◌, ◌++◌, map, filter, reverse}
+use Rattle.std.specs.Prelude.{length, if◌then◌else◌, nat_lt, Option, Some, None, find}
 use Rattle.std.specs.List.{list_all}
 use Rattle.ids.specs.declared.limits.TheConstants.{MOST_KEYS}
 use Rattle.definitions.specs.Lists.{greatest}
@@ -42,7 +43,9 @@ last_seq client h = greatest (map (λ e. e.seq) (filter (λ e. e.client == clien
 -- the cache after the fresh entries
 unfoldable pub cache_after : History → Cache
 cache_after [] = empty_cache
-cache_after (e ∷ earlier) = if is_fresh e earlier then (apply_payload MOST_KEYS (cache_after earlier) e.payload).0 else cache_after earlier
+cache_after (e ∷ earlier) =
+    if is_fresh e earlier then (apply_payload MOST_KEYS (cache_after earlier) e.payload).0 else cache_after
+    earlier
 
 -- the reply to an entry, and its place
 pub record Answer : Type 0 where

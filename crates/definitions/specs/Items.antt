@@ -1,16 +1,20 @@
 -- The items of a text that a connection brings: requests, the end, and lines that are neither (protocol.txt).
 use Rattle.ids.specs.declared.limits.TheConstants.{MOST_DATA, MOST_LINE}
-use Rattle.std.specs.Prelude.{◌≡◌, ◌≢◌, ℕ, ◌+◌, ◌<◌, ◌≤◌, ◌==◌, Bool, true, false, ◌⊎◌, List, [], ◌∷◌, ◌++◌, length, take, drop, slice_index, Contains, IsSomeAnd, MatchBool, codes}
+use Rattle.std.specs.Prelude.{◌≡◌, ◌≢◌, ℕ, ◌+◌, ◌<◌, ◌≤◌, ◌==◌, Bool, true, false, ◌⊎◌, List, [], ◌∷◌, ◌++◌}
+use Rattle.std.specs.Prelude.{length, take, drop, slice_index, Contains, IsSomeAnd, MatchBool, codes}
 use Rattle.std.specs.List.{before_first}
 use Rattle.ids.specs.declared.line_fault.LineFault.{LineFault}
-use Rattle.ids.specs.declared.line_fault.LineFault.TheVariants.{UnknownName, BadFields, TooLarge, BadChunk, LineTooLong}
+use Rattle.ids.specs.declared.line_fault.LineFault.TheVariants.{UnknownName, BadFields, TooLarge, BadChunk}
+use Rattle.ids.specs.declared.line_fault.LineFault.TheVariants.{LineTooLong}
 use Rattle.definitions.specs.Bytes.{Bytes}
-use Rattle.definitions.specs.Requests.{Asked, Head, stored_of, line, spelling, crlf, space, HasForm, MayHave, IsRequest}
+use Rattle.definitions.specs.Requests.{Asked, Head, stored_of, line, spelling, crlf, space, HasForm}
+use Rattle.definitions.specs.Requests.{MayHave, IsRequest}
 
 -- the twelve names (protocol.txt)
 abbrev pub names : List Bytes
 names =
-    codes "get" ∷ codes "gets" ∷ codes "set" ∷ codes "add" ∷ codes "replace" ∷ codes "append" ∷ codes "prepend"
+    codes "get" ∷ codes "gets" ∷ codes "set" ∷ codes "add" ∷ codes "replace" ∷ codes "append"
+    ∷ codes "prepend"
     ∷ codes "cas" ∷ codes "incr" ∷ codes "decr" ∷ codes "delete" ∷ codes "quit" ∷ []
 
 -- what stands before the first space of a line, or the whole line
@@ -49,9 +53,11 @@ IsItemAt text (asked request noreply) used = IsRequest request noreply
     × StartsWith text (spelling request noreply) × (used ≡ length (spelling request noreply))
 IsItemAt text quit used = StartsWith text (codes "quit" ++ crlf) × (used ≡ length (codes "quit" ++ crlf))
 -- 2: the name of the first line is none of the twelve
-IsItemAt text (bad UnknownName) used = (l : Bytes) × FirstLine text l × ¬ (Contains names (name_of l)) × (used ≡ length l + 2)
+IsItemAt text (bad UnknownName) used =
+    (l : Bytes) × FirstLine text l × ¬ (Contains names (name_of l)) × (used ≡ length l + 2)
 -- 3: the name is one of the twelve, and the line has none of the forms
-IsItemAt text (bad BadFields) used = (l : Bytes) × FirstLine text l × Contains names (name_of l) × (l ≢ codes "quit")
+IsItemAt text (bad BadFields) used =
+    (l : Bytes) × FirstLine text l × Contains names (name_of l) × (l ≢ codes "quit")
     × ((head : Head) (noreply : Bool) → ¬ (IsLineOf l head noreply)) × (used ≡ 0)
 -- 4: the line announces more data than may be
 IsItemAt text (bad TooLarge) used = (l : Bytes) × FirstLine text l × (head : Head) × (noreply : Bool)
@@ -59,7 +65,8 @@ IsItemAt text (bad TooLarge) used = (l : Bytes) × FirstLine text l × (head : H
 -- 5: the data is there, and the two bytes after it aren't CR LF
 IsItemAt text (bad BadChunk) used = (l : Bytes) × (rest : Bytes) × (head : Head) × (noreply : Bool)
     × IsLineOf l head noreply × (text ≡ l ++ crlf ++ rest)
-    × IsSomeAnd (stored_of head) (λ bytes. (bytes ≤ MOST_DATA) × (bytes + 2 ≤ length rest) × (take 2 (drop bytes rest) ≢ crlf))
+    × IsSomeAnd (stored_of head)
+    (λ bytes. (bytes ≤ MOST_DATA) × (bytes + 2 ≤ length rest) × (take 2 (drop bytes rest) ≢ crlf))
     × (used ≡ 0)
 -- 6: no line ends within the most bytes that a line may have
 IsItemAt text (bad LineTooLong) used = (MOST_LINE ≤ length text) × HasNoEnd (take MOST_LINE text) × (used ≡ 0)
@@ -67,7 +74,8 @@ IsItemAt text (bad LineTooLong) used = (MOST_LINE ≤ length text) × HasNoEnd (
 -- The line has no end yet, or the data hasn't.
 abbrev pub IsUnfinished : Bytes → Type 0
 IsUnfinished text = ((length text < MOST_LINE) × HasNoEnd text)
-    ⊎ ((l : Bytes) × (rest : Bytes) × (head : Head) × (noreply : Bool) × IsLineOf l head noreply × (text ≡ l ++ crlf ++ rest)
+    ⊎ ((l : Bytes) × (rest : Bytes) × (head : Head) × (noreply : Bool) × IsLineOf l head noreply
+    × (text ≡ l ++ crlf ++ rest)
     × IsSomeAnd (stored_of head) (λ bytes. (bytes ≤ MOST_DATA) × (length rest < bytes + 2)))
 
 -- nothing follows quit and the faults 3 to 6

@@ -1,5 +1,6 @@
 -- Keyrings, and the tags that a party makes and tests.
-use Rattle.std.specs.Prelude.{ℕ, zero, suc, ◌+◌, ◌-◌, Bool, ◌&&◌, ◌||◌, List, [], ◌++◌, bytes_eq, nat_lt, nat_le, if◌then◌else◌, slice_index_or}
+use Rattle.std.specs.Prelude.{ℕ, zero, suc, ◌+◌, ◌-◌, Bool, ◌&&◌, ◌||◌, List, [], ◌++◌, bytes_eq, nat_lt}
+use Rattle.std.specs.Prelude.{nat_le, if◌then◌else◌, slice_index_or}
 use Rattle.ids.specs.declared.kind.Kind.{Kind}
 use Rattle.ids.specs.Sizes.{Sizes, replicas, client_party}
 use Rattle.definitions.specs.Bytes.{Bytes}
@@ -16,7 +17,8 @@ tag_for ring label receiver content = tag (ring.key receiver) label ring.party r
 
 -- whether these bytes are the tag that a sender makes for the keyring's party
 unfoldable pub verify : Keyring → Kind → ℕ → Bytes → Bytes → Bool
-verify ring label sender content bytes = bytes_eq bytes (tag (ring.key sender) label sender ring.party content)
+verify ring label sender content bytes =
+    bytes_eq bytes (tag (ring.key sender) label sender ring.party content)
 
 -- the tags for the first replicas, one after the other
 unfoldable pub tags_for : Keyring → Kind → Bytes → ℕ → Bytes
@@ -57,7 +59,8 @@ keys_due sizes party = if is_replica_of sizes party then replicas sizes + sizes.
 
 -- the party exchanges frames with this one: of the two, one is a replica
 abbrev pub is_peer : Keys → ℕ → Bool
-is_peer ring party = is_replica_of ring.sizes party || (is_replica_of ring.sizes ring.party && is_client_of ring.sizes party)
+is_peer ring party =
+    is_replica_of ring.sizes party || (is_replica_of ring.sizes ring.party && is_client_of ring.sizes party)
 
 -- the place of a party among them
 abbrev pub place_of : Sizes → ℕ → ℕ
@@ -65,4 +68,5 @@ place_of sizes party = if nat_lt party (client_party 0) then party else replicas
 
 -- the keyring that they are
 abbrev pub keyring_of : Keys → Keyring
-keyring_of ring = record { party = ring.party; key = λ party. slice_index_or ring.keys (place_of ring.sizes party) [] }
+keyring_of ring =
+    record { party = ring.party; key = λ party. slice_index_or ring.keys (place_of ring.sizes party) [] }

@@ -10,7 +10,8 @@ use Rattle.definitions.specs.Worlds.{Sent, AcceptedBy, World, is_correct}
 
 -- a client's command of this number has its place in h
 abbrev pub HasPlace : History → ℕ → ℕ → ℕ → Type 0
-HasPlace h client seq place = (a : Answer) × Among a (answers h) × (a.client ≡ client) × (a.seq ≡ seq) × (a.place ≡ place)
+HasPlace h client seq place =
+    (a : Answer) × Among a (answers h) × (a.client ≡ client) × (a.seq ≡ seq) × (a.place ≡ place)
 
 -- its client submitted the entry in the event of this number
 pub record WasSubmitted (w : World) (e : Entry) (event : ℕ) : Type 0 where
@@ -30,12 +31,16 @@ pub record IsLinearBy (w : World) (h : History) : Type 0 where
   pub histories : (i : ℕ) → is_correct w i ≡ true → IsBeginning (held_history (w.replica i)) h
   -- each receipt is the sequential reply to its command, at the command's place in it
   pub receipts : (r : AcceptedBy) → Among r w.receipts →
-      Among (record { client = r.client; seq = r.receipt.seq; place = r.receipt.place; text = r.receipt.text }) (answers h)
+      Among
+      (record { client = r.client; seq = r.receipt.seq; place = r.receipt.place; text = r.receipt.text })
+      (answers h)
   -- each fresh entry in a correct client's name was submitted by it
-  pub submitted : (e : Entry) (earlier : History) → IsBeginning (e ∷ earlier) h → is_fresh e earlier ≡ true → e.client < w.sizes.clients
+  pub submitted : (e : Entry) (earlier : History) → IsBeginning (e ∷ earlier) h → is_fresh e earlier ≡ true
+      → e.client < w.sizes.clients
       → w.is_faulty (client_party e.client) ≡ false → (event : ℕ) × WasSubmitted w e event
   -- what was submitted after an acceptance stands later
-  pub in_order : (r : AcceptedBy) (e : Entry) (event place : ℕ) → Among r w.receipts → w.is_faulty (client_party e.client) ≡ false
+  pub in_order : (r : AcceptedBy) (e : Entry) (event place : ℕ) → Among r w.receipts
+      → w.is_faulty (client_party e.client) ≡ false
       → WasSubmitted w e event → r.event < event → HasPlace h e.client e.seq place → r.receipt.place < place
 
 -- there is one history of the run

@@ -1,5 +1,6 @@
 -- Lists that grow are kept newest first: `x ∷ older` is `older` with x added, and [] is the start.
-use Rattle.std.specs.Prelude.{ℕ, zero, suc, ◌≡◌, ◌⊎◌, Bool, List, [], ◌∷◌, ◌++◌, length, if◌then◌else◌, nat_lt, max, ⊤}
+use Rattle.std.specs.Prelude.{ℕ, zero, suc, ◌≡◌, ◌⊎◌, Bool, List, [], ◌∷◌, ◌++◌, length, if◌then◌else◌}
+use Rattle.std.specs.Prelude.{nat_lt, max, ⊤}
 
 -- the oldest k elements
 unfoldable pub beginning : {A : Type 0} → ℕ → List A → List A

@@ -1,10 +1,13 @@
--- What is assumed of a run: injected bytes are read rightly, no tag is forged, and which cores must not collide.
+-- What is assumed of a run: injected bytes are read rightly, no tag is forged, and which cores must not
+-- collide.
 use Rattle.ids.specs.declared.kind.Kind.{Kind}
 use Rattle.ids.specs.declared.kind.Kind.TheVariants as kind
-use Rattle.std.specs.Prelude.{ℕ, ◌≡◌, ◌==◌, ◌⊎◌, ◌&&◌, not, Bool, true, false, List, [], ◌∷◌, ◌++◌, map, filter, Some, ⊤, ◌≤◌}
+use Rattle.std.specs.Prelude.{ℕ, ◌≡◌, ◌==◌, ◌⊎◌, ◌&&◌, not, Bool, true, false, List, [], ◌∷◌, ◌++◌, map}
+use Rattle.std.specs.Prelude.{filter, Some, ⊤, ◌≤◌}
 use Rattle.std.specs.List.{AllByRecursion}
 use Rattle.definitions.specs.Lists.{Among, count_below}
-use Rattle.definitions.specs.Frames.{Command, Vote, Core, Certificate, Frame, kind_of, sender_of, content_of, own_tag, genesis_core, command_content, reply_content}
+use Rattle.definitions.specs.Frames.{Command, Vote, Core, Certificate, Frame, kind_of, sender_of}
+use Rattle.definitions.specs.Frames.{content_of, own_tag, genesis_core, command_content, reply_content}
 use Rattle.definitions.specs.FrameLimits.{IsReadAs}
 use Rattle.definitions.specs.Tags.{tag_of}
 use Rattle.definitions.specs.Bytes.{Bytes}
@@ -39,7 +42,13 @@ own_claim self f = record {
 
 -- a vote's tag for the party
 abbrev pub vote_claim : Identity → Bytes → Vote → Claim
-vote_claim self d b = record { label = kind.Vote; sender = b.voter; receiver = self.ring.party; content = d; tag = tag_of b.vector self.ring.party }
+vote_claim self d b = record {
+  label = kind.Vote;
+  sender = b.voter;
+  receiver = self.ring.party;
+  content = d;
+  tag = tag_of b.vector self.ring.party;
+}
 
 -- the votes of a certificate whose tags for the party verify
 abbrev pub vote_claims : Identity → Certificate → List Claim
@@ -61,11 +70,15 @@ command_claims self core = map (command_claim self) (filter (command_verifies se
 
 -- the tags that a party relies on where it admits the frame
 unfoldable pub accepted_tags : Identity → Frame → List Claim
-accepted_tags self (frame.proposal view core q v) = own_claim self (frame.proposal view core q v) ∷ vote_claims self q ++ command_claims self core
-accepted_tags self (frame.block sender core q t) = own_claim self (frame.block sender core q t) ∷ vote_claims self q ++ command_claims self core
-accepted_tags self (frame.new_view view sender q v) = own_claim self (frame.new_view view sender q v) ∷ vote_claims self q
+accepted_tags self (frame.proposal view core q v) =
+    own_claim self (frame.proposal view core q v) ∷ vote_claims self q ++ command_claims self core
+accepted_tags self (frame.block sender core q t) =
+    own_claim self (frame.block sender core q t) ∷ vote_claims self q ++ command_claims self core
+accepted_tags self (frame.new_view view sender q v) =
+    own_claim self (frame.new_view view sender q v) ∷ vote_claims self q
 accepted_tags self (frame.reply replica client seq place text t) =
-    record (own_claim self (frame.reply replica client seq place text t)) { receiver = client_party client } ∷ []
+    record (own_claim self (frame.reply replica client seq place text t)) { receiver = client_party client }
+    ∷ []
 accepted_tags self f = own_claim self f ∷ []
 
 -- a frame that was sent to this destination has its own tag for this party; a vector has one for each replica
@@ -78,7 +91,9 @@ IsFor party to f = ⊤
 -- The tag is one of the frame's own. Those of a block's commands and of a certificate's votes are not: the
 -- sender only passes them on.
 abbrev pub IsTagOf : Claim → Sent → Frame → Type 0
-IsTagOf x s f = (x.label ≡ kind_of f) × (x.content ≡ content_of f) × (x.tag ≡ own_tag f x.receiver) × IsFor x.receiver s.to f
+IsTagOf x s f =
+    (x.label ≡ kind_of f) × (x.content ≡ content_of f) × (x.tag ≡ own_tag f x.receiver)
+    × IsFor x.receiver s.to f
 
 -- a party of the record sent this tag as its own
 abbrev pub WasSent : List Sent → Claim → Type 0
@@ -87,7 +102,9 @@ WasSent sent x = (s : Sent) × Among s sent × (s.sender ≡ x.sender) × IsTagO
 -- whether a correct party admits the frame
 abbrev pub admits : World → ℕ → Frame → Bool
 admits w p (frame.reply replica client seq place text t) =
-    not (is_replica w p) && ((client == client_at p) && verify (w.ring p) kind.Reply replica (reply_content replica client seq place text) t)
+    not (is_replica w p)
+    && ((client == client_at p) && verify (w.ring p) kind.Reply replica
+    (reply_content replica client seq place text) t)
 admits w p f = is_replica w p && is_passed (check (self_of w p) f)
 
 -- injected bytes are read as the frame that they spell, and as none where they spell none
@@ -101,8 +118,10 @@ AllRead sizes hs = AllByRecursion (λ h. IsReadIn sizes h.0) hs
 
 -- each right tag in a correct party's name was sent by it before
 abbrev pub NoForgeryIn : World → Event → Type 0
-NoForgeryIn w e = (f : Frame) → brought w e ≡ Some f → w.is_faulty (party_of e) ≡ false → admits w (party_of e) f ≡ true →
-    (x : Claim) → Among x (accepted_tags (self_of w (party_of e)) f) → w.is_faulty x.sender ≡ false → WasSent w.sent x
+NoForgeryIn w e =
+    (f : Frame) → brought w e ≡ Some f → w.is_faulty (party_of e) ≡ false → admits w (party_of e) f ≡ true →
+    (x : Claim) → Among x (accepted_tags (self_of w (party_of e)) f) → w.is_faulty x.sender ≡ false
+    → WasSent w.sent x
 
 -- no event of the run brings a forged tag
 abbrev pub NoForgery : World → List Happening → Type 0
@@ -118,14 +137,16 @@ CoreOf c f = ⊥
 -- the cores of a run: genesis's, those of its frames, and those of the frames brought in it
 abbrev pub CoreBrought : Core → World → List Happening → Type 0
 CoreBrought c w [] = ⊥
-CoreBrought c w (h ∷ hs) = ((f : Frame) × (brought w h.0 ≡ Some f) × CoreOf c f) ⊎ CoreBrought c (happens w h) hs
+CoreBrought c w (h ∷ hs) =
+    ((f : Frame) × (brought w h.0 ≡ Some f) × CoreOf c f) ⊎ CoreBrought c (happens w h) hs
 
 -- the core is one of the run
 abbrev pub CoreOfRun : World → List Happening → Core → Type 0
-CoreOfRun w hs c = (c ≡ genesis_core) ⊎ (((s : Sent) × Among s (after w hs).sent × CoreOf c s.frame) ⊎ CoreBrought c w hs)
+CoreOfRun w hs c =
+    (c ≡ genesis_core) ⊎ (((s : Sent) × Among s (after w hs).sent × CoreOf c s.frame) ⊎ CoreBrought c w hs)
 
--- What is assumed of a schedule that begins in this world: at most f replicas are faulty, each correct one has its
--- own keys, injected bytes are read rightly, no tag is forged and no two cores collide.
+-- What is assumed of a schedule that begins in this world: at most f replicas are faulty, each correct one
+-- has its own keys, injected bytes are read rightly, no tag is forged and no two cores collide.
 pub record ArePremises (start : World) (hs : List Happening) : Type 0 where
   pub few : count_below (replicas start.sizes) start.is_faulty ≤ start.sizes.faults
   pub keys : (p : ℕ) → is_correct start p ≡ true → (start.ring p).party ≡ p

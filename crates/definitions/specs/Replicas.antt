@@ -1,7 +1,8 @@
 -- The step of a replica. Its state is its chronicle, and whether it goes on.
 use Rattle.ids.specs.declared.fault.Fault.{Fault}
 use Rattle.ids.specs.declared.fault.Fault.TheVariants as fault
-use Rattle.std.specs.Prelude.{ℕ, ◌+◌, Bool, true, false, List, [], ◌∷◌, filter, length, min, if◌then◌else◌, nat_lt, nat_le}
+use Rattle.std.specs.Prelude.{ℕ, ◌+◌, Bool, true, false, List, [], ◌∷◌, filter, length, min, if◌then◌else◌}
+use Rattle.std.specs.Prelude.{nat_lt, nat_le}
 use Rattle.definitions.specs.Lists.{beginning}
 use Rattle.definitions.specs.Frames.{Command}
 use Rattle.definitions.specs.Branches.{Branch}
@@ -10,12 +11,14 @@ use Rattle.definitions.specs.Histories.{History, history_of}
 use Rattle.definitions.specs.Chronicles.{Step, Chronicle, executed, history}
 use Rattle.definitions.specs.Checks.{Identity}
 use Rattle.definitions.specs.States.{is_due, pending}
-use Rattle.definitions.specs.Rulings.{Input, Ruling, ruling, conflicts, Ruling.due, Ruling.missing, Ruling.refusing}
+use Rattle.definitions.specs.Rulings.{Input, Ruling, ruling, conflicts, Ruling.due, Ruling.missing}
+use Rattle.definitions.specs.Rulings.{Ruling.refusing}
 use Rattle.definitions.specs.Sendings.{Sending, sendings}
 
 -- ---- the whole step
 
--- How an event meets the allocator: nothing is refused, something before any change, or something after that many more commands were executed.
+-- How an event meets the allocator: nothing is refused, something before any change, or something after
+-- that many more commands were executed.
 pub data Memory : Type 0 where
   ample : Memory
   refused_at_once : Memory
@@ -63,7 +66,13 @@ on_step self refused_at_once s c = (stopped_at c, fails fault.Memory)
 on_step self (refused_after k) s c =
     if conflicts s c then (stopped_at c, fails fault.Conflict)
     else (if executes s c
-    then (record { chronicle = s ∷ c; standing = cut_short (min (length (history c) + k) (length (history (s ∷ c)))) }, fails fault.Memory)
+    then (
+      record {
+        chronicle = s ∷ c;
+        standing = cut_short (min (length (history c) + k) (length (history (s ∷ c))));
+      },
+      fails fault.Memory,
+    )
     else (stopped_at c, fails fault.Memory))
 
 -- a full tree stops the replica
@@ -75,7 +84,8 @@ stops f = false
 unfoldable pub on_ruling : Identity → Memory → Ruling → Chronicle → Replica × Reaction
 on_ruling self m (due s) c = on_step self m s c
 on_ruling self m (missing sender d) c = (record { chronicle = c; standing = running }, asks_for sender d)
-on_ruling self m (refusing n) c = (record { chronicle = c; standing = if stops n then stopped else running }, fails n)
+on_ruling self m (refusing n) c =
+    (record { chronicle = c; standing = if stops n then stopped else running }, fails n)
 
 -- one input of a replica; a stopped one never changes
 unfoldable pub step : Identity → Memory → Input → Replica → Replica × Reaction
@@ -91,7 +101,8 @@ step self m input r =
 -- the greatest block whose whole history is held
 unfoldable pub whole_blocks : ℕ → Branch → Branch
 whole_blocks held [] = []
-whole_blocks held (b ∷ parent) = if nat_le (length (history_of (b ∷ parent))) held then b ∷ parent else whole_blocks held parent
+whole_blocks held (b ∷ parent) =
+    if nat_le (length (history_of (b ∷ parent))) held then b ∷ parent else whole_blocks held parent
 
 -- the last block that was executed whole
 unfoldable pub held_executed : Replica → Branch

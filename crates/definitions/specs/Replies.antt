@@ -2,7 +2,8 @@
 use Rattle.std.specs.Prelude.{ℕ, Bool, true, false, List, [], ◌∷◌, ◌++◌, length, decimal, codes}
 use Rattle.std.specs.List.{join_with_byte, flat_map}
 use Rattle.ids.specs.declared.line_fault.LineFault.{LineFault}
-use Rattle.ids.specs.declared.line_fault.LineFault.TheVariants.{UnknownName, BadFields, TooLarge, BadChunk, LineTooLong}
+use Rattle.ids.specs.declared.line_fault.LineFault.TheVariants.{UnknownName, BadFields, TooLarge, BadChunk}
+use Rattle.ids.specs.declared.line_fault.LineFault.TheVariants.{LineTooLong}
 use Rattle.definitions.specs.Requests.{crlf, space}
 use Rattle.definitions.specs.Bytes.{Bytes}
 
@@ -33,7 +34,8 @@ ended text = text ++ crlf
 
 -- the word and three or four fields of a value's line
 abbrev pub value_fields : Value → Bool → List Bytes
-value_fields v true = codes "VALUE" ∷ v.key ∷ decimal v.flags ∷ decimal (length v.stored) ∷ decimal v.unique ∷ []
+value_fields v true =
+    codes "VALUE" ∷ v.key ∷ decimal v.flags ∷ decimal (length v.stored) ∷ decimal v.unique ∷ []
 value_fields v false = codes "VALUE" ∷ v.key ∷ decimal v.flags ∷ decimal (length v.stored) ∷ []
 
 -- a value: its line, and the data with CR LF behind it

@@ -1,6 +1,7 @@
 -- Requests of memcached's text protocol, and their texts (protocol.txt, "Storage commands", "Retrieval
 -- command", "Deletion", "Increment/Decrement").
-use Rattle.std.specs.Prelude.{◌≢◌, ℕ, ◌^◌, ◌<◌, ◌≤◌, Bool, true, false, List, [], ◌∷◌, ◌++◌, length, All, IsTrue, Option, Some, None, IfSome, decimal, codes}
+use Rattle.std.specs.Prelude.{◌≢◌, ℕ, ◌^◌, ◌<◌, ◌≤◌, Bool, true, false, List, [], ◌∷◌, ◌++◌, length, All}
+use Rattle.std.specs.Prelude.{IsTrue, Option, Some, None, IfSome, decimal, codes}
 use Rattle.std.specs.List.{join_with_byte, AllByRecursion}
 use Rattle.std.specs.Option.{option_map_or}
 use Rattle.ids.specs.declared.limits.TheConstants.{MOST_ASKED, MOST_DATA, MOST_KEY, MOST_LINE}
@@ -77,7 +78,8 @@ verb_name prepend = codes "prepend"
 -- the fields of a line: the name, and what the command takes. The 0 is the time of expiry
 abbrev pub fields : Head → List Bytes
 fields (store verb key flags bytes) = verb_name verb ∷ key ∷ decimal flags ∷ codes "0" ∷ decimal bytes ∷ []
-fields (cas key flags bytes unique) = codes "cas" ∷ key ∷ decimal flags ∷ codes "0" ∷ decimal bytes ∷ decimal unique ∷ []
+fields (cas key flags bytes unique) =
+    codes "cas" ∷ key ∷ decimal flags ∷ codes "0" ∷ decimal bytes ∷ decimal unique ∷ []
 fields (get keys) = codes "get" ∷ keys
 fields (gets keys) = codes "gets" ∷ keys
 fields (delete key) = codes "delete" ∷ key ∷ []

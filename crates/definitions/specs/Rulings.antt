@@ -2,14 +2,19 @@
 use Rattle.ids.specs.declared.fault.Fault.{Fault}
 use Rattle.ids.specs.declared.fault.Fault.TheVariants as fault
 use Rattle.ids.specs.declared.limits.TheConstants.{MOST_BLOCKS, MOST_PENDING}
-use Rattle.std.specs.Prelude.{ℕ, ◌==◌, ◌&&◌, not, Bool, true, false, ◌∷◌, length, if◌then◌else◌, nat_lt, Option, Some, None}
+use Rattle.std.specs.Prelude.{ℕ, ◌==◌, ◌&&◌, not, Bool, true, false, ◌∷◌, length, if◌then◌else◌, nat_lt}
+use Rattle.std.specs.Prelude.{Option, Some, None}
 use Rattle.std.specs.List.{list_any}
 use Rattle.definitions.specs.Frames.{Command, Core, Vote, Certificate}
 use Rattle.definitions.specs.Branches.{Branch, justify_height}
 use Rattle.definitions.specs.Bytes.{Bytes}
 use Rattle.ids.specs.Sizes.{Sizes, leader}
-use Rattle.definitions.specs.Trees.{Placing, Placing.stands, Placing.grows, Placing.lacks_parent, Placing.unfit, placing, clear_above}
-use Rattle.definitions.specs.Chronicles.{Admitted, Step, Step.took_block, Step.noted, Note.got_vote, Note.got_new_view, Note.got_request, Note.got_fetch, Note.timed_out, Note.beat, Chronicle, stored, tree, decides_against, executed, history, may_vote}
+use Rattle.definitions.specs.Trees.{Placing, Placing.stands, Placing.grows, Placing.lacks_parent}
+use Rattle.definitions.specs.Trees.{Placing.unfit, placing, clear_above}
+use Rattle.definitions.specs.Chronicles.{Admitted, Step, Step.took_block, Step.noted, Note.got_vote}
+use Rattle.definitions.specs.Chronicles.{Note.got_new_view, Note.got_request, Note.got_fetch}
+use Rattle.definitions.specs.Chronicles.{Note.timed_out, Note.beat, Chronicle, stored, tree}
+use Rattle.definitions.specs.Chronicles.{decides_against, executed, history, may_vote}
 use Rattle.definitions.specs.Checks.{Identity, Findings}
 use Rattle.definitions.specs.States.{view, find_block, is_same_request, is_due, pending}
 
@@ -45,14 +50,17 @@ admitted b core q found new = record {
 -- the vote on a proposal of view w, if it is one
 unfoldable pub votes_for : Sizes → Option ℕ → Admitted → Chronicle → Bool
 votes_for s None a c = false
-votes_for s (Some w) a c = (w == view s c) && (may_vote a.branch c && clear_above (justify_height a.branch) a.branch (stored (took_block a ∷ c)))
+votes_for s (Some w) a c =
+    (w == view s c)
+    && (may_vote a.branch c && clear_above (justify_height a.branch) a.branch (stored (took_block a ∷ c)))
 
 -- the block is admitted, with or without a vote
 abbrev pub take_block : Identity → Option ℕ → Admitted → Chronicle → Ruling
 take_block self w a c = due (took_block (record a { voted = votes_for self.sizes w a c }))
 
 -- what follows from the place of a block in the tree
-unfoldable pub on_placing : Identity → Option ℕ → ℕ → Core → Certificate → Findings → Chronicle → Placing → Ruling
+unfoldable pub on_placing : Identity → Option ℕ → ℕ → Core → Certificate → Findings → Chronicle → Placing
+    → Ruling
 on_placing self w sender core q found c (stands b) = take_block self w (admitted b core q found false) c
 on_placing self w sender core q found c (grows b) = take_block self w (admitted b core q found true) c
 on_placing self w sender core q found c lacks_parent = missing sender core.parent
@@ -60,12 +68,14 @@ on_placing self w sender core q found c (unfit n) = refusing n
 
 -- a block with its certificate, as a proposal of this view or on its own
 abbrev pub on_block : Identity → Option ℕ → ℕ → Core → Certificate → Findings → Chronicle → Ruling
-on_block self w sender core q found c = on_placing self w sender core q found c (placing MOST_BLOCKS core q (tree c))
+on_block self w sender core q found c =
+    on_placing self w sender core q found c (placing MOST_BLOCKS core q (tree c))
 
 -- a request, where there is room for it
 unfoldable pub on_request : Command → Chronicle → Ruling
 on_request r c =
-    if is_due (history c) r && (not (list_any (is_same_request r) (pending c)) && not (nat_lt (length (pending c)) MOST_PENDING))
+    if is_due (history c) r
+    && (not (list_any (is_same_request r) (pending c)) && not (nat_lt (length (pending c)) MOST_PENDING))
     then refusing fault.PoolFull else due (noted (got_request r))
 
 -- what follows where the block stands in the tree
@@ -77,8 +87,10 @@ with_block (Some b) sender d follows = follows b
 unfoldable pub ruling : Identity → Input → Chronicle → Ruling
 ruling self (proposal_in w core q found) c = on_block self (Some w) (leader self.sizes w) core q found c
 ruling self (block_in sender core q found) c = on_block self None sender core q found c
-ruling self (vote_in d b) c = with_block (find_block d c) b.voter d (λ x. due (noted (got_vote b.voter b.vector x)))
-ruling self (new_view_in w sender q) c = with_block (find_block q.digest c) sender q.digest (λ x. due (noted (got_new_view w sender q x)))
+ruling self (vote_in d b) c =
+    with_block (find_block d c) b.voter d (λ x. due (noted (got_vote b.voter b.vector x)))
+ruling self (new_view_in w sender q) c =
+    with_block (find_block q.digest c) sender q.digest (λ x. due (noted (got_new_view w sender q x)))
 ruling self (request_in r) c = on_request r c
 ruling self (fetch_in sender d) c = due (noted (got_fetch sender (find_block d c)))
 ruling self timeout_in c = due (noted timed_out)

@@ -1,9 +1,11 @@
 -- A run of a world: every schedule of events.
 use Rattle.ids.specs.declared.fault.Fault.{Fault}
 use Rattle.ids.specs.declared.fault.Fault.TheVariants as fault
-use Rattle.std.specs.Prelude.{not, Bool, true, List, [], ◌∷◌, length, if◌then◌else◌, nat_lt, Option, Some, None, Result, Ok, Err}
+use Rattle.std.specs.Prelude.{not, Bool, true, List, [], ◌∷◌, length, if◌then◌else◌, nat_lt, Option, Some}
+use Rattle.std.specs.Prelude.{None, Result, Ok, Err}
 use Rattle.definitions.specs.Canonical.{is_canonical}
-use Rattle.definitions.specs.Worlds.{World, Event, Happening, is_replica, is_party, submit, relay, inject, timeout, beat}
+use Rattle.definitions.specs.Worlds.{World, Event, Happening, is_replica, is_party, submit, relay, inject}
+use Rattle.definitions.specs.Worlds.{timeout, beat}
 use Rattle.definitions.specs.Events.{happens}
 
 -- what the run refuses

@@ -1,14 +1,19 @@
 -- What a step that stands sends.
 use Rattle.ids.specs.declared.kind.Kind.TheVariants as kind
-use Rattle.std.specs.Prelude.{ℕ, ◌-◌, ◌==◌, List, [], ◌∷◌, ◌++◌, map, reverse, take, length, if◌then◌else◌, nat_lt, Option, Some, None, find}
-use Rattle.definitions.specs.Frames.{Command, Core, Vote, Certificate, Frame, genesis_core, command_content, proposal_content, new_view_content, reply_content, fetch_content, block_content}
+use Rattle.std.specs.Prelude.{ℕ, ◌-◌, ◌==◌, List, [], ◌∷◌, ◌++◌, map, reverse, take, length, if◌then◌else◌}
+use Rattle.std.specs.Prelude.{nat_lt, Option, Some, None, find}
+use Rattle.definitions.specs.Frames.{Command, Core, Vote, Certificate, Frame, genesis_core, command_content}
+use Rattle.definitions.specs.Frames.{proposal_content, new_view_content, reply_content, fetch_content}
+use Rattle.definitions.specs.Frames.{block_content}
 use Rattle.definitions.specs.Branches.{Branch, branch_eq}
 use Rattle.definitions.specs.Bytes.{Bytes}
 use Rattle.ids.specs.Sizes.{leader, client_party}
 use Rattle.definitions.specs.Digests.{digest_of, core_of}
 use Rattle.definitions.specs.Keyrings.{tag_for, vector_for}
 use Rattle.definitions.specs.Histories.{Answer, last_seq, answers, answer_to}
-use Rattle.definitions.specs.Chronicles.{Admitted, Step, Step.took_block, Step.noted, Note.got_vote, Note.got_new_view, Note.got_request, Note.got_fetch, Note.timed_out, Note.beat, Chronicle, taken, history}
+use Rattle.definitions.specs.Chronicles.{Admitted, Step, Step.took_block, Step.noted, Note.got_vote}
+use Rattle.definitions.specs.Chronicles.{Note.got_new_view, Note.got_request, Note.got_fetch}
+use Rattle.definitions.specs.Chronicles.{Note.timed_out, Note.beat, Chronicle, taken, history}
 use Rattle.definitions.specs.Frames as frame
 use Rattle.definitions.specs.Checks.{Identity}
 use Rattle.definitions.specs.States.{view, Justified, qc_high, me, leads, proposed}
@@ -24,7 +29,8 @@ Sending = To × Frame
 
 -- the vote for a block
 unfoldable pub vote_frame : Identity → Branch → Frame
-vote_frame self b = frame.vote (digest_of b) (record { voter = me self; vector = vector_for self.sizes self.ring kind.Vote (digest_of b) })
+vote_frame self b = frame.vote (digest_of b)
+    (record { voter = me self; vector = vector_for self.sizes self.ring kind.Vote (digest_of b) })
 
 -- the proposal of a block
 unfoldable pub proposal_frame : Identity → ℕ → Justified → Frame
@@ -36,14 +42,17 @@ proposal_frame self w p =
 unfoldable pub new_view_frame : Identity → Chronicle → Frame
 new_view_frame self c =
     let q : Certificate = (qc_high self.sizes c).certificate in
-    frame.new_view (view self.sizes c) (me self) q (vector_for self.sizes self.ring kind.NewView (new_view_content (view self.sizes c) (me self) q))
+    frame.new_view (view self.sizes c) (me self) q
+    (vector_for self.sizes self.ring kind.NewView (new_view_content (view self.sizes c) (me self) q))
 
 -- the reply to an entry
 unfoldable pub reply_to : Identity → Answer → Sending
 reply_to self a =
     let content = reply_content (me self) a.client a.seq a.place a.text in
-    let client = client_party a.client in
-    (to_party client, frame.reply (me self) a.client a.seq a.place a.text (tag_for self.ring kind.Reply client content))
+    let client = client_party a.client in (
+      to_party client,
+      frame.reply (me self) a.client a.seq a.place a.text (tag_for self.ring kind.Reply client content),
+    )
 
 -- a block that was asked for
 unfoldable pub block_frame : Identity → ℕ → Admitted → Frame
@@ -84,12 +93,15 @@ proposes self w (Some p) = (to_all, proposal_frame self w p) ∷ []
 -- what a step that stands sends, after this chronicle
 unfoldable pub sendings : Identity → Step → Chronicle → List Sending
 sendings self (took_block a) c =
-    (if a.voted then (to_party (leader self.sizes (view self.sizes c)), vote_frame self a.branch) ∷ [] else []) ++ new_replies self (took_block a) c
+    (if a.voted then (to_party (leader self.sizes (view self.sizes c)), vote_frame self a.branch)
+    ∷ [] else []) ++ new_replies self (took_block a) c
 sendings self (noted (got_vote voter v b)) c = []
 sendings self (noted (got_new_view w sender q b)) c =
     if nat_lt (view self.sizes c) (view self.sizes (noted (got_new_view w sender q b) ∷ c))
     then (to_all, new_view_frame self (noted (got_new_view w sender q b) ∷ c)) ∷ [] else []
-sendings self (noted (got_request r)) c = if r.seq == last_seq r.client (history c) then again self (answer_to r.client r.seq (history c)) else []
+sendings self (noted (got_request r)) c =
+    if r.seq == last_seq r.client (history c) then again self (answer_to r.client r.seq (history c)) else []
 sendings self (noted (got_fetch to b)) c = supplies self to (as_taken b c)
 sendings self (noted timed_out) c = (to_all, new_view_frame self (noted timed_out ∷ c)) ∷ []
-sendings self (noted beat) c = if leads self c then proposes self (view self.sizes c) (proposed self (noted beat ∷ c)) else []
+sendings self (noted beat) c =
+    if leads self c then proposes self (view self.sizes c) (proposed self (noted beat ∷ c)) else []

@@ -2,7 +2,8 @@
 use Rattle.ids.specs.declared.kind.Kind.TheVariants as kind
 use Rattle.ids.specs.declared.fault.Fault.{Fault}
 use Rattle.ids.specs.declared.fault.Fault.TheVariants as fault
-use Rattle.std.specs.Prelude.{ℕ, suc, ◌-◌, ◌^◌, ◌==◌, ◌&&◌, not, Bool, true, false, List, [], ◌∷◌, if◌then◌else◌, nat_lt}
+use Rattle.std.specs.Prelude.{ℕ, suc, ◌-◌, ◌^◌, ◌==◌, ◌&&◌, not, Bool, true, false, List, [], ◌∷◌}
+use Rattle.std.specs.Prelude.{if◌then◌else◌, nat_lt}
 use Rattle.definitions.specs.Bytes.{Bytes}
 use Rattle.definitions.specs.Tally.{Told, is_counted, agreeing}
 use Rattle.ids.specs.Sizes.{Sizes}
@@ -59,7 +60,10 @@ submission me m payload s =
     if s.waiting then (s, not_sent fault.Busy)
     else (if s.used == (2 ^ 64 - 1) then (s, not_sent fault.Spent)
     else (if not (is_ample m) then (s, not_sent fault.Memory)
-    else (record { used = suc s.used; waiting = true; tally = [] }, sent_request (request_frame me (suc s.used) payload))))
+    else (
+      record { used = suc s.used; waiting = true; tally = [] },
+      sent_request (request_frame me (suc s.used) payload),
+    )))
 
 -- what a reply comes to
 pub data Heard : Type 0 where
@@ -71,14 +75,18 @@ pub data Heard : Type 0 where
 unfoldable pub count_reply : Client → Told → Session → Session × Heard
 count_reply me t s =
     if nat_lt me.sizes.faults (agreeing (t ∷ s.tally) t.place t.text)
-    then (record { used = s.used; waiting = false; tally = t ∷ s.tally }, gives_receipt (record { seq = s.used; place = t.place; text = t.text }))
+    then (
+      record { used = s.used; waiting = false; tally = t ∷ s.tally },
+      gives_receipt (record { seq = s.used; place = t.place; text = t.text }),
+    )
     else (record { used = s.used; waiting = true; tally = t ∷ s.tally }, only_counts)
 
 -- a frame comes to a client
 unfoldable pub on_reply : Client → Memory → Frame → Session → Session × Heard
 on_reply me m (frame.reply replica client seq place text t) s =
     if not (client == me.number) then (s, not_counted fault.NotMine)
-    else (if not (verify me.ring kind.Reply replica (reply_content replica client seq place text) t) then (s, not_counted fault.BadTag)
+    else (if not (verify me.ring kind.Reply replica (reply_content replica client seq place text) t) then
+    (s, not_counted fault.BadTag)
     else (if not (s.waiting && (seq == s.used)) then (s, not_counted fault.WrongSeq)
     else (if is_counted s.tally replica then (s, not_counted fault.Doubled)
     else (if not (is_ample m) then (s, not_counted fault.Memory)

@@ -1,7 +1,10 @@
--- The rest of a replica's state, read off its whole chronicle: views, votes, certificates, pending requests, and
--- what to propose (HotStuff, PODC 2019, the event-driven form; the pacemaker is this project's own).
+-- The rest of a replica's state, read off its whole chronicle: views, votes, certificates, pending
+-- requests, and what to propose (HotStuff, PODC 2019, the event-driven form; the pacemaker is this
+-- project's own).
 use Rattle.ids.specs.declared.limits.TheConstants.{MOST_COMMANDS}
-use Rattle.std.specs.Prelude.{ℕ, suc, ◌-◌, ◌^◌, ◌==◌, ◌&&◌, not, Bool, List, [], ◌∷◌, ◌++◌, map, filter, take, length, min, max, if◌then◌else◌, nat_lt, nat_le, Option, Some, None, is_some}
+use Rattle.std.specs.Prelude.{ℕ, suc, ◌-◌, ◌^◌, ◌==◌, ◌&&◌, not, Bool, List, [], ◌∷◌, ◌++◌, map, filter}
+use Rattle.std.specs.Prelude.{take, length, min, max, if◌then◌else◌, nat_lt, nat_le, Option, Some, None}
+use Rattle.std.specs.Prelude.{is_some}
 use Rattle.std.specs.List.{list_any}
 use Rattle.std.specs.Str.{bytes_eq}
 use Rattle.definitions.specs.Lists.{greatest, count_below}
@@ -12,7 +15,9 @@ use Rattle.ids.specs.Sizes.{Sizes, replicas, quorum, leader}
 use Rattle.definitions.specs.Digests.{digest, digest_of}
 use Rattle.definitions.specs.Trees.{find_in}
 use Rattle.definitions.specs.Histories.{History, last_seq, history_of}
-use Rattle.definitions.specs.Chronicles.{Step, Step.took_block, Step.noted, Note.got_vote, Note.got_new_view, Note.got_request, Note.timed_out, Note.beat, Chronicle, tree, history}
+use Rattle.definitions.specs.Chronicles.{Step, Step.took_block, Step.noted, Note.got_vote}
+use Rattle.definitions.specs.Chronicles.{Note.got_new_view, Note.got_request, Note.timed_out, Note.beat}
+use Rattle.definitions.specs.Chronicles.{Chronicle, tree, history}
 use Rattle.definitions.specs.Checks.{Identity}
 
 -- each view that a replica announced, with its number
@@ -28,20 +33,24 @@ announced replica c = greatest (map (λ p. p.1) (filter (λ p. p.0 == replica) (
 -- the greatest view that more than f replicas have announced or passed
 unfoldable pub reached : Sizes → Chronicle → ℕ
 reached s c =
-    greatest (filter (λ v. nat_lt s.faults (count_below (replicas s) (λ i. nat_le v (announced i c)))) (map (λ p. p.1) (announcements c)))
+    greatest (filter (λ v. nat_lt s.faults (count_below (replicas s) (λ i. nat_le v (announced i c))))
+    (map (λ p. p.1) (announcements c)))
 
 -- the view: a timeout adds one, and new-view messages raise it
 unfoldable pub view : Sizes → Chronicle → ℕ
 view s [] = 0
 view s (noted timed_out ∷ earlier) = min (suc (view s earlier)) (2 ^ 64 - 1)
-view s (noted (got_new_view w sender q b) ∷ earlier) = max (view s earlier) (reached s (noted (got_new_view w sender q b) ∷ earlier))
+view s (noted (got_new_view w sender q b) ∷ earlier) =
+    max (view s earlier) (reached s (noted (got_new_view w sender q b) ∷ earlier))
 view s (x ∷ earlier) = view s earlier
 
 -- the kept votes for a block, one a voter and at most a quorum, newest first
 unfoldable pub votes : Sizes → Bytes → Chronicle → List Vote
 votes s d [] = []
 votes s d (noted (got_vote voter v b) ∷ earlier) =
-    if bytes_eq (digest_of b) d && (not (list_any (λ x. x.voter == voter) (votes s d earlier)) && nat_lt (length (votes s d earlier)) (quorum s))
+    if bytes_eq (digest_of b) d
+    && (not (list_any (λ x. x.voter == voter) (votes s d earlier)) && nat_lt (length (votes s d earlier))
+    (quorum s))
     then record { voter = voter; vector = v } ∷ votes s d earlier
     else votes s d earlier
 votes s d (x ∷ earlier) = votes s d earlier
@@ -63,11 +72,20 @@ pub record Justified : Type 0 where
 
 -- the certificate that a step brings or completes, if any
 unfoldable pub raised : Sizes → Step → Chronicle → Option Justified
-raised s (took_block a) earlier = if a.new then Some (record { block = just1 a.branch; certificate = a.certificate }) else None
+raised s (took_block a) earlier =
+    if a.new then Some (record { block = just1 a.branch; certificate = a.certificate }) else None
 raised s (noted (got_new_view w sender q b)) earlier = Some (record { block = b; certificate = q })
 raised s (noted (got_vote voter v b)) earlier =
-    if nat_lt (length (votes s (digest_of b) earlier)) (quorum s) && (length (votes s (digest_of b) (noted (got_vote voter v b) ∷ earlier)) == quorum s)
-    then Some (record { block = b; certificate = record { digest = digest_of b; votes = by_voter (votes s (digest_of b) (noted (got_vote voter v b) ∷ earlier)) } })
+    if nat_lt (length (votes s (digest_of b) earlier)) (quorum s)
+    && (length (votes s (digest_of b) (noted (got_vote voter v b) ∷ earlier)) == quorum s)
+    then Some (record {
+      block = b;
+      certificate =
+          record {
+            digest = digest_of b;
+            votes = by_voter (votes s (digest_of b) (noted (got_vote voter v b) ∷ earlier));
+          };
+    })
     else None
 raised s x earlier = None
 
@@ -117,7 +135,8 @@ is_known d c = is_some (find_block d c)
 
 -- the pending requests that do not stand on the branch, 16 at most
 unfoldable pub picks : Chronicle → Branch → List Command
-picks c on = take MOST_COMMANDS (filter (λ r. not (list_any (λ e. (e.client == r.client) && (e.seq == r.seq)) (history_of on))) (pending c))
+picks c on = take MOST_COMMANDS (filter
+    (λ r. not (list_any (λ e. (e.client == r.client) && (e.seq == r.seq)) (history_of on))) (pending c))
 
 -- the first, where there is one
 abbrev pub or_else : {A : Type 0} → Option A → A → A
@@ -132,7 +151,10 @@ known_as leaf c = or_else (find_block (digest_of leaf) c) leaf
 unfoldable pub child : Identity → Chronicle → Branch → Option Branch
 child self c leaf =
     if leads self c && is_known (digest_of leaf) c
-    then Some (record { commands = picks c (known_as leaf c); justify = length (qc_high self.sizes c).block } ∷ leaf)
+    then Some (record {
+      commands = picks c (known_as leaf c);
+      justify = length (qc_high self.sizes c).block;
+    } ∷ leaf)
     else None
 
 -- the block that the next proposal stands on (HotStuff, PODC 2019, b_leaf)
@@ -152,5 +174,7 @@ made_with (Some b) q before = Some (record { block = b; certificate = q })
 -- the last block that it made, with the certificate that went along
 unfoldable pub proposed : Identity → Chronicle → Option Justified
 proposed self [] = None
-proposed self (noted beat ∷ earlier) = made_with (child self earlier (leaf self earlier)) (qc_high self.sizes earlier).certificate (proposed self earlier)
+proposed self (noted beat ∷ earlier) =
+    made_with (child self earlier (leaf self earlier)) (qc_high self.sizes earlier).certificate
+    (proposed self earlier)
 proposed self (s ∷ earlier) = proposed self earlier

@@ -1,5 +1,6 @@
 -- Tags: HMAC (RFC 2104) over SHA-256 (FIPS 180-4).
-use Rattle.std.specs.Prelude.{ℕ, ◌-◌, ◌*◌, take, drop, ◌∷◌, ◌++◌, length, map, replicate, bit_xor, nat_lt, if◌then◌else◌}
+use Rattle.std.specs.Prelude.{ℕ, ◌-◌, ◌*◌, take, drop, ◌∷◌, ◌++◌, length, map, replicate, bit_xor, nat_lt}
+use Rattle.std.specs.Prelude.{if◌then◌else◌}
 use Rattle.std.specs.Int.{w16, to_be_bytes}
 use Rattle.sha2.specs.Sha256.{sha256}
 use Rattle.ids.specs.declared.kind.Kind.{Kind}
@@ -28,7 +29,8 @@ hmac key text = sha256 (masked 0x5c key ++ sha256 (masked 0x36 key ++ text))
 
 -- what a tag is made of: the label, the sender, the receiver and the content
 abbrev pub tag_text : Kind → ℕ → ℕ → Bytes → Bytes
-tag_text label sender receiver content = kind_number label ∷ to_be_bytes w16 sender ++ to_be_bytes w16 receiver ++ content
+tag_text label sender receiver content =
+    kind_number label ∷ to_be_bytes w16 sender ++ to_be_bytes w16 receiver ++ content
 
 -- the tag of a sender for a receiver, under the key of the two
 abbrev pub tag : Bytes → Kind → ℕ → ℕ → Bytes → Bytes

@@ -1,9 +1,11 @@
--- Trees of blocks, as a replica keeps them: whole branches, newest first, with genesis at the end. What a further
--- block comes to there is this project's own list of tests (of HotStuff, PODC 2019, the tree of nodes).
+-- Trees of blocks, as a replica keeps them: whole branches, newest first, with genesis at the end. What a
+-- further block comes to there is this project's own list of tests (of HotStuff, PODC 2019, the tree of
+-- nodes).
 use Rattle.ids.specs.declared.fault.Fault.{Fault}
 use Rattle.ids.specs.declared.fault.Fault.TheVariants as fault
 use Rattle.ids.specs.declared.limits.TheConstants.{MOST_BLOCKS, MOST_OF_HEIGHT}
-use Rattle.std.specs.Prelude.{suc, ◌&&◌, true, ℕ, ◌≡◌, ◌==◌, not, Bool, List, [], ◌∷◌, ◌++◌, map, length, if◌then◌else◌, nat_lt, Option, Some, None, find, count_by}
+use Rattle.std.specs.Prelude.{suc, ◌&&◌, true, ℕ, ◌≡◌, ◌==◌, not, Bool, List, [], ◌∷◌, ◌++◌, map, length}
+use Rattle.std.specs.Prelude.{if◌then◌else◌, nat_lt, Option, Some, None, find, count_by}
 use Rattle.std.specs.List.{list_any}
 use Rattle.std.specs.Str.{bytes_eq}
 use Rattle.definitions.specs.Lists.{Among}
@@ -39,7 +41,8 @@ is_clear x stored = list_any (λ s. s.clear && branch_eq s.branch x) stored
 unfoldable pub clear_above : ℕ → Branch → List Stored → Bool
 clear_above height [] stored = true
 clear_above height (b ∷ parent) stored =
-    if nat_lt height (suc (length parent)) then is_clear (b ∷ parent) stored && clear_above height parent stored else true
+    if nat_lt height (suc (length parent)) then is_clear (b ∷ parent) stored
+    && clear_above height parent stored else true
 
 -- a core's own block, without those below it
 abbrev pub block_of : Core → Block
@@ -73,11 +76,14 @@ placing_new most parent core q tree =
 
 -- a block that doesn't stand in the tree
 abbrev pub placing_over : ℕ → Core → Certificate → List Branch → Placing
-placing_over most core q tree = elim (find_in core.parent tree) [ Some parent ↦ placing_new most parent core q tree | None ↦ lacks_parent ]
+placing_over most core q tree =
+    elim (find_in core.parent tree)
+    [ Some parent ↦ placing_new most parent core q tree | None ↦ lacks_parent ]
 
 -- a block with its certificate, in a tree of at most so many blocks
 unfoldable pub placing : ℕ → Core → Certificate → List Branch → Placing
-placing most core q tree = elim (find_in (digest core) tree) [ Some b ↦ placing_known b q | None ↦ placing_over most core q tree ]
+placing most core q tree =
+    elim (find_in (digest core) tree) [ Some b ↦ placing_known b q | None ↦ placing_over most core q tree ]
 
 -- one branch a digest, each with all below it, and genesis
 pub record IsTree (t : List Branch) : Type 0 where

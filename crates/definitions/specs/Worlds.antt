@@ -35,8 +35,8 @@ pub record World : Type 0 where
   pub answers : List (Option Fault)  -- none where the event stood, else its refusal
   pub now : ℕ  -- the number of the next event, from 1
 
--- A client submits a payload; a frame of the record comes to a party; any bytes come to a party, which reads them as
--- this frame or as none; a replica's time is out, or its beat comes.
+-- A client submits a payload; a frame of the record comes to a party; any bytes come to a party, which
+-- reads them as this frame or as none; a replica's time is out, or its beat comes.
 pub data Event : Type 0 where
   submit : (client : ℕ) → (payload : Bytes) → Event
   relay : (frame to : ℕ) → Event

@@ -1,4 +1,5 @@
-//! A whole deployment in one process: replicas in threads, their clock, and the front that clients connect to.
+//! A whole deployment in one process: replicas in threads, their clock, and the front that clients
+//! connect to.
 #![tactic(auto)]
 
 mod desk;

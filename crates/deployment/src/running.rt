@@ -69,10 +69,11 @@ fn serve_at<R: Threads + Wait + Clock + Sync + Send + AllocGlobal + Log + Clone 
     }
 }
 
-/// Runs replicas with these keys, of which replica 0 may lie, and serves so many connections that come to the listener.
-/// Answers how many were served.
+/// Runs replicas with these keys, of which replica 0 may lie, and serves so many connections that
+/// come to the listener. Answers how many were served.
 ///
-/// `AcceptFailed` where accepting failed, `Memory` where memory or a thread was refused before the first connection.
+/// `AcceptFailed` where accepting failed, `Memory` where memory or a thread was refused before the
+/// first connection.
 pub fn run<R: Threads + Wait + Clock + Sync + Send + AllocGlobal + Log + Clone + Drop>(
     rt: &R,
     keys: &PairKeys,

@@ -1,16 +1,19 @@
-//! Executes commands and prints what they are answered, and keeps pending requests: each line of standard input is a
-//! case, after the lines before it. What is wanted of each was computed by an independent program.
+//! Executes commands and prints what they are answered, and keeps pending requests: each line of
+//! standard input is a case, after the lines before it. What is wanted of each was computed by an
+//! independent program.
 //!
-//! `block BYTES` executes the commands of a Block frame, and `request BYTES` that of a Request frame, at one fault and
-//! eight clients. Printed are the length of the history and the answers, each with its client, number, place and text.
-//! `reply CLIENT SEQ` prints the answer that is kept for this number, or `none`; `last CLIENT` the client's last number;
-//! `history` the length and the first 16 bytes of the SHA-256 digest of all entries, one a line.
+//! `block BYTES` executes the commands of a Block frame, and `request BYTES` that of a Request
+//! frame, at one fault and eight clients. Printed are the length of the history and the answers,
+//! each with its client, number, place and text. `reply CLIENT SEQ` prints the answer that is kept
+//! for this number, or `none`; `last CLIENT` the client's last number; `history` the length and the
+//! first 16 bytes of the SHA-256 digest of all entries, one a line.
 //!
-//! `ask BYTES` adds the request of a Request frame to the pending ones, and says whether it is new; `fill COUNT BYTES`
-//! adds so many, all as this one but for their numbers from 1, and prints how many were new; `pick CLIENT SEQ`
-//! prints how many of them a block takes on whose branch this request stands, and these, each with its length;
-//! `drop CLIENT SEQ` drops those of a client up to a number, and says how many are left. `new` begins anew. Bytes and
-//! texts are hexadecimal. A line that is refused prints `refused` and the number of the refusal.
+//! `ask BYTES` adds the request of a Request frame to the pending ones, and says whether it is new;
+//! `fill COUNT BYTES` adds so many, all as this one but for their numbers from 1, and prints how
+//! many were new; `pick CLIENT SEQ` prints how many of them a block takes on whose branch this
+//! request stands, and these, each with its length; `drop CLIENT SEQ` drops those of a client up to
+//! a number, and says how many are left. `new` begins anew. Bytes and texts are hexadecimal. A line
+//! that is refused prints `refused` and the number of the refusal.
 #![tactic(auto)]
 
 mod pending;

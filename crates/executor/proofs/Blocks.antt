@@ -1,5 +1,7 @@
 -- Executing a block, command by command.
-use Rattle.std.proofs.Common.{ℕ, ◌≡◌, ◌-◌, ◌<◌, Bool, true, false, List, [], ◌∷◌, ◌++◌, cond, length, length-append, take, reverse, map, refl, sym, ap, ◌∙◌, arith, append_assoc, Option, Some, None, option_to_list}
+use Rattle.std.proofs.Common.{ℕ, ◌≡◌, ◌-◌, ◌<◌, Bool, true, false, List, [], ◌∷◌, ◌++◌, cond, length}
+use Rattle.std.proofs.Common.{length-append, take, reverse, map, refl, sym, ap, ◌∙◌, arith, append_assoc}
+use Rattle.std.proofs.Common.{Option, Some, None, option_to_list}
 use Rattle.std.proofs.lemmas.List.{reverse-append, map-append, append-nil}
 use Rattle.std.proofs.Math.Seq.{take-append_seam}
 use Rattle.definitions.specs.Frames.{Command}
@@ -39,7 +41,9 @@ added-one : (e : Entry) (h : History) → answers (e ∷ h) ≡ option_to_list (
 unfolding answers
 added-one e h = by (is_fresh e h)
   where
-    by : (t : Bool) → cond t (answer_in e h ∷ answers h) (answers h) ≡ option_to_list (cond t (Some (answer_in e h)) None) ++ answers h
+    by : (t : Bool)
+        → cond t (answer_in e h ∷ answers h) (answers h)
+        ≡ option_to_list (cond t (Some (answer_in e h)) None) ++ answers h
     by true = refl
     by false = refl
 
@@ -48,7 +52,9 @@ told-one : (o : Option Answer) (added : List Answer)
 told-one None added = append-nil (reverse added)
 told-one (Some a) added = sym (reverse-append (a ∷ []) added)
 
-pub run-goes_on : (all left rest : List Command) (old now new : History) (told more : List Answer) (c : Command) → IsRun all left old now told
+pub run-goes_on :
+    (all left rest : List Command) (old now new : History) (told more : List Answer) (c : Command)
+    → IsRun all left old now told
     → left ≡ c ∷ rest → new ≡ entry_of c ∷ now → more ≡ told ++ option_to_list (answer_at (entry_of c) now)
     → IsRun all rest old new more
 run-goes_on all left rest old now new told more c r l n m =

@@ -1,12 +1,14 @@
 -- The state of an executor after one more entry.
 use Rattle.ids.specs.declared.limits.TheConstants.{MOST_KEYS}
-use Rattle.std.proofs.Common.{ℕ, zero, ◌≡◌, ◌≢◌, ◌==◌, Bool, true, false, List, [], ◌∷◌, ◌++◌, cond, refl, sym, ap, ◌∙◌, Option, Some, None, reverse, length, suc}
+use Rattle.std.proofs.Common.{ℕ, zero, ◌≡◌, ◌≢◌, ◌==◌, Bool, true, false, List, [], ◌∷◌, ◌++◌, cond, refl}
+use Rattle.std.proofs.Common.{sym, ap, ◌∙◌, Option, Some, None, reverse, length, suc}
 use Rattle.std.proofs.lemmas.Bool.{cond-true, cond-false, eqb-true, eqb-false}
 use Rattle.std.proofs.lemmas.List.{reverse-append}
 use Rattle.cache.specs.Bounded.{Bounded}
 use Rattle.definitions.specs.Replies.{reply_text}
 use Rattle.definitions.specs.Cache.{Cache, empty_cache, apply_payload}
-use Rattle.definitions.specs.Histories.{Entry, History, Answer, is_fresh, last_seq, answer_in, last_answer, answer_to, if_numbered, cache_after}
+use Rattle.definitions.specs.Histories.{Entry, History, Answer, is_fresh, last_seq, answer_in, last_answer}
+use Rattle.definitions.specs.Histories.{answer_to, if_numbered, cache_after}
 use Rattle.executor.specs.Rows.{row, numbered_after, number_in}
 use Rattle.executor.specs.State.{IsStateOf, answer_at}
 use Rattle.executor.proofs.Told.{fresh-is, number-is, first-answer, stale-answer, fresh-answer, others-answer}
@@ -32,7 +34,8 @@ answer-is e h a place text i p t = i
     ∙ (λ j. record { client = e.client; seq = e.seq; place = p j; text = t j })
 
 -- the last answer is the one in the row
-pub last-is : (h value : History) (cache : Bounded) (rows : List (Option Answer)) (client : ℕ) (o : Option Answer)
+pub last-is :
+    (h value : History) (cache : Bounded) (rows : List (Option Answer)) (client : ℕ) (o : Option Answer)
     → IsStateOf h cache rows → h ≡ value → o ≡ row rows client → last_answer client value ≡ o
 last-is h value cache rows client o s e r = ap (last_answer client) (sym e) ∙ sym (s.rows_are client) ∙ sym r
 
@@ -82,7 +85,8 @@ module _ (h : History) (cache : Bounded) (rows : List (Option Answer)) (s : IsSt
 
   -- what the payload does, and its reply
   pub fresh-reply : (e : Entry)
-      → reply_text (apply_payload cache.most cache.cache e.payload).1 ≡ reply_text (apply_payload MOST_KEYS (cache_after h) e.payload).1
+      → reply_text (apply_payload cache.most cache.cache e.payload).1
+      ≡ reply_text (apply_payload MOST_KEYS (cache_after h) e.payload).1
   fresh-reply e = ap (λ (b : Bounded). reply_text (apply_payload b.most b.cache e.payload).1) s.cache_is
 
   -- a fresh entry

@@ -1,6 +1,8 @@
 -- How long the texts of replies are that come with a change of the cache.
 use Rattle.ids.specs.declared.limits.TheConstants.{MOST_DATA}
-use Rattle.std.proofs.Common.{ℕ, ◌≡◌, ◌⊎◌, ◌≤◌, ◌<◌, ◌+◌, ◌-◌, ◌%◌, ◌^◌, ◌==◌, ◌&&◌, ◌||◌, ◌++◌, [], ◌∷◌, length, length-append, refl, ap, ◌∙◌, arith, Result, Ok, Err, OnErr, inl, inr, Option, Some, None, nat_lt, nat_le, bytes_eq, decimal}
+use Rattle.std.proofs.Common.{ℕ, ◌≡◌, ◌⊎◌, ◌≤◌, ◌<◌, ◌+◌, ◌-◌, ◌%◌, ◌^◌, ◌==◌, ◌&&◌, ◌||◌, ◌++◌, [], ◌∷◌}
+use Rattle.std.proofs.Common.{length, length-append, refl, ap, ◌∙◌, arith, Result, Ok, Err, OnErr, inl, inr}
+use Rattle.std.proofs.Common.{Option, Some, None, nat_lt, nat_le, bytes_eq, decimal}
 use Rattle.std.specs.Option.{option_map_or}
 use Rattle.std.specs.Str.Parse.{digits_value}
 use Rattle.std.proofs.lemmas.Fmt.{length-decimal-le}
@@ -8,11 +10,13 @@ use Rattle.std.proofs.lemmas.Bool.{cond_both, ltb-true, and_parts}
 use Rattle.std.specs.FinMap as map
 use Rattle.cache.specs.Bounded.{Bounded}
 use Rattle.definitions.specs.Bytes.{Bytes}
-use Rattle.definitions.specs.Requests.{Asked, Verb, set, add, replace, append, prepend, store, cas, get, gets, delete, incr, decr}
+use Rattle.definitions.specs.Requests.{Asked, Verb, set, add, replace, append, prepend, store, cas, get}
+use Rattle.definitions.specs.Requests.{gets, delete, incr, decr}
 use Rattle.definitions.specs.Canonical.{request_of}
 use Rattle.definitions.specs.Replies.{Reply, reply_text}
 use Rattle.definitions.specs.Replies as reply
-use Rattle.definitions.specs.Cache.{Cache, Entry, Outcome, find, has, change, most_changes, number_in, if_present, store_it, count_it, apply, apply_payload}
+use Rattle.definitions.specs.Cache.{Cache, Entry, Outcome, find, has, change, most_changes, number_in}
+use Rattle.definitions.specs.Cache.{if_present, store_it, count_it, apply, apply_payload}
 
 -- the text is short, or the cache is left as it was
 abbrev pub IsShortOrSame : Cache → Outcome → Type 0
@@ -42,21 +46,27 @@ present-short cache key r present p = by (find cache key)
 store-short : (most : ℕ) (cache : Cache) (verb : Verb) (key : Bytes) (flags : ℕ) (stored : Bytes)
     → IsShortOrSame cache (store_it most cache verb key flags stored)
 store-short most cache set key flags stored =
-    cond_both (has cache key || nat_lt (map.len cache.entries) most) _ _ (IsShortOrSame cache) (λ e. stored-short cache key flags stored) (λ e. inr refl)
+    cond_both (has cache key || nat_lt (map.len cache.entries) most) _ _ (IsShortOrSame cache)
+    (λ e. stored-short cache key flags stored) (λ e. inr refl)
 store-short most cache add key flags stored =
     cond_both (has cache key) _ _ (IsShortOrSame cache) (λ e. inr refl)
-    (λ e. cond_both (nat_lt (map.len cache.entries) most) _ _ (IsShortOrSame cache) (λ k. stored-short cache key flags stored) (λ k. inr refl))
+    (λ e. cond_both (nat_lt (map.len cache.entries) most) _ _ (IsShortOrSame cache)
+    (λ k. stored-short cache key flags stored) (λ k. inr refl))
 store-short most cache replace key flags stored =
-    cond_both (has cache key) _ _ (IsShortOrSame cache) (λ e. stored-short cache key flags stored) (λ e. inr refl)
+    cond_both (has cache key) _ _ (IsShortOrSame cache) (λ e. stored-short cache key flags stored)
+    (λ e. inr refl)
 store-short most cache append key flags stored = present-short cache key reply.not_stored _ (λ x.
-    cond_both (nat_le (length (x.stored ++ stored)) MOST_DATA) _ _ (IsShortOrSame cache) (λ e. stored-short cache key x.flags (x.stored ++ stored)) (λ e. inr refl))
+    cond_both (nat_le (length (x.stored ++ stored)) MOST_DATA) _ _ (IsShortOrSame cache)
+    (λ e. stored-short cache key x.flags (x.stored ++ stored)) (λ e. inr refl))
 store-short most cache prepend key flags stored = present-short cache key reply.not_stored _ (λ x.
-    cond_both (nat_le (length (stored ++ x.stored)) MOST_DATA) _ _ (IsShortOrSame cache) (λ e. stored-short cache key x.flags (stored ++ x.stored)) (λ e. inr refl))
+    cond_both (nat_le (length (stored ++ x.stored)) MOST_DATA) _ _ (IsShortOrSame cache)
+    (λ e. stored-short cache key x.flags (stored ++ x.stored)) (λ e. inr refl))
 
 -- the number that data writes is below 2 ^ 64
 number_in-small : (text : Bytes) (n : ℕ) → number_in text ≡ Some n → n < 2 ^ 64
 number_in-small text n =
-    cond_both (nat_lt (digits_value 10 text) (2 ^ 64) && bytes_eq text (decimal (digits_value 10 text))) _ _ (λ (o : Option ℕ). o ≡ Some n → n < 2 ^ 64)
+    cond_both (nat_lt (digits_value 10 text) (2 ^ 64) && bytes_eq text (decimal (digits_value 10 text))) _ _
+    (λ (o : Option ℕ). o ≡ Some n → n < 2 ^ 64)
     (λ t e. (let k : digits_value 10 text ≡ n = cc in
     let l = ltb-true (digits_value 10 text) (2 ^ 64) (and_parts _ _ t).0 in omega (arith, k, l)))
     (λ t e. absurd (none e))
@@ -76,15 +86,18 @@ count-short cache key f small =
     present-short cache key reply.not_found _ (λ e. by e (number_in e.stored) refl)
   where
     by : (e : Entry) → (o : Option ℕ) → number_in e.stored ≡ o
-        → IsShortOrSame cache (option_map_or (λ n. change cache key e.flags (decimal (f n)) (reply.number (f n))) o (cache, reply.no_number))
+        → IsShortOrSame cache (option_map_or
+        (λ n. change cache key e.flags (decimal (f n)) (reply.number (f n))) o (cache, reply.no_number))
     by e None i = inr refl
-    by e (Some n) i = changed-short cache key e.flags (decimal (f n)) (reply.number (f n)) (number-short (f n) (small n (number_in-small e.stored n i)))
+    by e (Some n) i = changed-short cache key e.flags (decimal (f n)) (reply.number (f n))
+        (number-short (f n) (small n (number_in-small e.stored n i)))
 
 -- what a request does
 apply-short : (most : ℕ) (cache : Cache) (r : Asked) → IsShortOrSame cache (apply most cache r)
 apply-short most cache (store verb key flags stored) = store-short most cache verb key flags stored
 apply-short most cache (cas key flags stored unique) = present-short cache key reply.not_found _ (λ x.
-    cond_both (x.unique == unique) _ _ (IsShortOrSame cache) (λ e. stored-short cache key flags stored) (λ e. inr refl))
+    cond_both (x.unique == unique) _ _ (IsShortOrSame cache) (λ e. stored-short cache key flags stored)
+    (λ e. inr refl))
 apply-short most cache (incr key value) =
     count-short cache key (λ n. (n + value) % 2 ^ 64) (λ n l. omega arith)
 apply-short most cache (decr key value) = count-short cache key (λ n. n - value) (λ n l. omega (arith, l))

@@ -1,9 +1,13 @@
 -- What a history tells of its clients, entry by entry.
-use Rattle.std.proofs.Common.{ℕ, ◌≡◌, ◌≢◌, ◌==◌, ◌<◌, ◌≤◌, ◌&&◌, ◌||◌, not, Bool, true, false, List, [], ◌∷◌, cond, max, refl, sym, ap, ◌∙◌, arith, Option, Some, None, find, filter, map, nat_lt}
+use Rattle.std.proofs.Common.{ℕ, ◌≡◌, ◌≢◌, ◌==◌, ◌<◌, ◌≤◌, ◌&&◌, ◌||◌, not, Bool, true, false, List, []}
+use Rattle.std.proofs.Common.{◌∷◌, cond, max, refl, sym, ap, ◌∙◌, arith, Option, Some, None, find, filter}
+use Rattle.std.proofs.Common.{map, nat_lt}
 use Rattle.std.specs.List.{list_all}
-use Rattle.std.proofs.lemmas.Bool.{cond-true, cond-false, ltb-true, ltb-false, lt-ltb, le-ltb, eqb-true, eq-eqb, ne_eqb}
+use Rattle.std.proofs.lemmas.Bool.{cond-true, cond-false, ltb-true, ltb-false, lt-ltb, le-ltb, eqb-true}
+use Rattle.std.proofs.lemmas.Bool.{eq-eqb, ne_eqb}
 use Rattle.definitions.specs.Lists.{greatest}
-use Rattle.definitions.specs.Histories.{Entry, History, Answer, is_fresh, last_seq, answers, answer_in, last_answer}
+use Rattle.definitions.specs.Histories.{Entry, History, Answer, is_fresh, last_seq, answers, answer_in}
+use Rattle.definitions.specs.Histories.{last_answer}
 use Rattle.executor.specs.Rows.{numbered_after, number_in}
 
 -- one test after another
@@ -26,8 +30,8 @@ both-lower e s a l = by (nat_lt e s) refl
     by true k = refl
     by false k = let m = ltb-false e s k in sym (le-ltb a s (omega (arith, m, l)))
 
--- An entry more of the client, after the answer o: what is numbered after it and after o is numbered after the new
--- last answer.
+-- An entry more of the client, after the answer o: what is numbered after it and after o is numbered after
+-- the new last answer.
 after-one : (e s : ℕ) (o : Option Answer) (new : Answer) → new.seq ≡ e → (t : Bool) → numbered_after e o ≡ t
     → (nat_lt e s && numbered_after s o) ≡ numbered_after s (cond t (Some new) o)
 after-one e s None new i true h = and-true (nat_lt e s) ∙ ap (λ n. nat_lt n s) (sym i)
@@ -52,7 +56,9 @@ other-answer : (client : ℕ) (e : Entry) (h : History) → (e.client == client)
 unfolding last_answer answers
 other-answer client e h k = by (is_fresh e h)
   where
-    by : (t : Bool) → find (λ a. a.client == client) (cond t (answer_in e h ∷ answers h) (answers h)) ≡ find (λ a. a.client == client) (answers h)
+    by : (t : Bool)
+        → find (λ a. a.client == client) (cond t (answer_in e h ∷ answers h) (answers h))
+        ≡ find (λ a. a.client == client) (answers h)
     by true = cond-false _ _ _ k
     by false = refl
 
@@ -62,7 +68,9 @@ own-answer : (client : ℕ) (e : Entry) (h : History) → (e.client == client) �
 unfolding last_answer answers
 own-answer client e h k = by (is_fresh e h)
   where
-    by : (t : Bool) → find (λ a. a.client == client) (cond t (answer_in e h ∷ answers h) (answers h)) ≡ cond t (Some (answer_in e h)) (find (λ a. a.client == client) (answers h))
+    by : (t : Bool)
+        → find (λ a. a.client == client) (cond t (answer_in e h ∷ answers h) (answers h))
+        ≡ cond t (Some (answer_in e h)) (find (λ a. a.client == client) (answers h))
     by true = cond-true _ _ _ k
     by false = refl
 
@@ -86,7 +94,8 @@ unfolding greatest
 told-other client e h k t = record {
   fresh = λ seq. ap (λ b. (not b || nat_lt e.seq seq) && is_after client seq h) k ∙ t.fresh seq
       ∙ ap (numbered_after seq) (sym (other-answer client e h k));
-  number = ap (λ b. greatest (map (λ x. x.seq) (cond b (e ∷ filter (λ x. x.client == client) h) (filter (λ x. x.client == client) h)))) k
+  number = ap (λ b. greatest (map (λ x. x.seq)
+      (cond b (e ∷ filter (λ x. x.client == client) h) (filter (λ x. x.client == client) h)))) k
       ∙ t.number ∙ ap number_in (sym (other-answer client e h k));
 }
 
@@ -98,7 +107,8 @@ told-own client e h k f t = record {
       ∙ ap (λ b. nat_lt e.seq seq && b) (t.fresh seq)
       ∙ after-one e.seq seq (last_answer client h) (answer_in e h) refl (is_fresh e h) (sym f)
       ∙ ap (numbered_after seq) (sym (own-answer client e h k));
-  number = ap (λ b. greatest (map (λ x. x.seq) (cond b (e ∷ filter (λ x. x.client == client) h) (filter (λ x. x.client == client) h)))) k
+  number = ap (λ b. greatest (map (λ x. x.seq)
+      (cond b (e ∷ filter (λ x. x.client == client) h) (filter (λ x. x.client == client) h)))) k
       ∙ ap (max e.seq) t.number
       ∙ number-one e.seq (last_answer client h) (answer_in e h) refl (is_fresh e h) (sym f)
       ∙ ap number_in (sym (own-answer client e h k));

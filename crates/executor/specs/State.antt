@@ -1,8 +1,10 @@
 -- What an executor keeps beside its history.
 use Rattle.ids.specs.declared.limits.TheConstants.{MOST_KEYS}
-use Rattle.std.specs.Prelude.{ℕ, ◌≡◌, ◌++◌, ◌-◌, List, Option, Some, None, map, reverse, take, length, if◌then◌else◌}
+use Rattle.std.specs.Prelude.{ℕ, ◌≡◌, ◌++◌, ◌-◌, List, Option, Some, None, map, reverse, take, length}
+use Rattle.std.specs.Prelude.{if◌then◌else◌}
 use Rattle.definitions.specs.Frames.{Command}
-use Rattle.definitions.specs.Histories.{Entry, entry_of, History, Answer, is_fresh, answer_in, answers, last_answer, cache_after}
+use Rattle.definitions.specs.Histories.{Entry, entry_of, History, Answer, is_fresh, answer_in, answers}
+use Rattle.definitions.specs.Histories.{last_answer, cache_after}
 use Rattle.cache.specs.Bounded.{Bounded}
 use Rattle.executor.specs.Rows.{row}
 

@@ -26,7 +26,8 @@ impl Model for Answer {
 impl Answer {
     /// The answer of this text to an entry.
     pub(crate) fn to(entry: &Entry, place: Place, text: Vec<u8>) -> Answer
-        ensures { result ≡ record { client = entry.now.client; seq = entry.now.seq; place = place; text = text.items } }
+        ensures { result
+            ≡ record { client = entry.now.client; seq = entry.now.seq; place = place; text = text.items } }
     {
         Answer {
             client: entry.client(),

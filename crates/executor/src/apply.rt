@@ -45,8 +45,10 @@ pub(crate) fn apply(alloc: Global, cache: &mut Cache, payload: &[u8]) -> Result<
     ensures left { OnOk result (
         let outcome = apply_payload cache.old.most cache.old.cache payload.now in
         cache.new ≡ record cache.old { cache = outcome.0 }) }
-    ensures told { IfOk result (λ texts. texts.told.items ≡ reply_text (apply_payload cache.old.most cache.old.cache payload.now).1) }
-    ensures kept { IfOk result (λ texts. texts.kept.items ≡ reply_text (apply_payload cache.old.most cache.old.cache payload.now).1) }
+    ensures told { IfOk result (λ texts. texts.told.items
+        ≡ reply_text (apply_payload cache.old.most cache.old.cache payload.now).1) }
+    ensures kept { IfOk result (λ texts. texts.kept.items
+        ≡ reply_text (apply_payload cache.old.most cache.old.cache payload.now).1) }
     ensures unchanged { OnErr result (cache.new ≡ cache.old) }
     ensures memory { OnErr result (result ≡ Err Fault.Memory) }
 {

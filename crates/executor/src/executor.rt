@@ -1,6 +1,7 @@
 //! The execution of decided commands.
 
-ghost use Rattle.std.specs.Prelude.{◌≡◌, ◌==◌, ◌<◌, ℕ, vec_len, vec_capacity, option_to_list, true, false, [], ◌∷◌, ◌++◌, take, length, reverse, option_map, IfOk, OnOk, OnErr};
+ghost use Rattle.std.specs.Prelude.{◌≡◌, ◌==◌, ◌<◌, ℕ, vec_len, vec_capacity, option_to_list, true, false};
+ghost use Rattle.std.specs.Prelude.{[], ◌∷◌, ◌++◌, take, length, reverse, option_map, IfOk, OnOk, OnErr};
 ghost use Rattle.definitions.specs.Histories.{entry_of, is_fresh, last_seq, answer_in, answer_to};
 ghost use Rattle.frames_view.specs.Views.{command_of, commands_left};
 ghost use Rattle.executor.specs.State.{answer_at, with_commands, new_answers};

@@ -1,4 +1,5 @@
-//! How threads drive the replicas of one process: links between parties, and workers that take frames to replicas.
+//! How threads drive the replicas of one process: links between parties, and workers that take
+//! frames to replicas.
 #![tactic(auto)]
 
 mod links;

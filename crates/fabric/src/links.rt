@@ -20,7 +20,8 @@ pub const WORKERS: usize = 2;
 pub enum Parcel {
     /// A frame, as it was sent.
     Frame {
-        /// The frames that are handed to one replica's link are numbered from 1. At 2^64 - 1 the number stays.
+        /// The frames that are handed to one replica's link are numbered from 1. At 2^64 - 1 the
+        /// number stays.
         number: u64,
         bytes: Bytes,
     },
@@ -55,7 +56,8 @@ impl ReplicaLink {
 
 /// The ends at which parcels are handed in, of the links of all parties. Threads share them by reference.
 ///
-/// A link takes any number of parcels, and a call waits for nobody but those that use the same link just then.
+/// A link takes any number of parcels, and a call waits for nobody but those that use the same link
+/// just then.
 #[derive(Drop)]
 pub struct Links {
     config: Config,
@@ -73,8 +75,8 @@ impl Model for Links {
 
 /// The ends at which parcels come out, by number of party.
 ///
-/// A replica's workers share the one of their replica. A client waits at its own with `recv`, or with `recv_timeout`
-/// for at most some time. Once `Links` is dropped and all is taken, they fail.
+/// A replica's workers share the one of their replica. A client waits at its own with `recv`, or
+/// with `recv_timeout` for at most some time. Once `Links` is dropped and all is taken, they fail.
 #[derive(Drop)]
 pub struct Ends {
     pub replicas: Vec<Receiver<Parcel>>,
@@ -133,8 +135,9 @@ fn sent<T: Drop>(answer: Result<(), SendError<T>>) -> Result<(), Fault>
     }
 }
 
-/// Each call refuses with `NoSuchParty` where there is no such party or all its ends were dropped, and with `Memory`
-/// where memory was refused; what was to be handed in is then lost, as on any network.
+/// Each call refuses with `NoSuchParty` where there is no such party or all its ends were dropped,
+/// and with `Memory` where memory was refused; what was to be handed in is then lost, as on any
+/// network.
 impl Links {
     /// The links of all replicas and clients, with nothing in them.
     pub fn new(alloc: Global, config: Config) -> Result<(Links, Ends), Fault>

@@ -130,8 +130,8 @@ impl Queue {
             .any(|frame| frame.brings.serves_for(brings))
     }
 
-    /// Adds a frame, unless one waits that does all that this one would. Its sender is asked once so many parcels more
-    /// were done. Where the list is full the oldest goes.
+    /// Adds a frame, unless one waits that does all that this one would. Its sender is asked once
+    /// so many parcels more were done. Where the list is full the oldest goes.
     fn add(&mut self, mut frame: Waiting, parcels: u64) {
         if self.has_one_like(&frame) {
             return;
@@ -190,8 +190,9 @@ impl Queue {
 
 /// Where the frames of one replica's link wait that lack a block. Its workers share it by reference.
 ///
-/// At most 256 wait; one more drives out the oldest. What is driven out, or for which memory is refused, is lost, as on
-/// any network. Each call takes the lock once, and holds it while it looks at the list.
+/// At most 256 wait; one more drives out the oldest. What is driven out, or for which memory is
+/// refused, is lost, as on any network. Each call takes the lock once, and holds it while it looks
+/// at the list.
 #[derive(Drop)]
 pub struct WaitingRoom {
     queue: Mutex<Queue>,
@@ -218,8 +219,9 @@ impl WaitingRoom {
         self.busy.fetch_add(1, SeqCst);
     }
 
-    /// Lets a frame wait, unless one waits that does all that this one would. Its sender is asked once all workers that
-    /// are busy now are done: one of them may be taking the block that it lacks.
+    /// Lets a frame wait, unless one waits that does all that this one would. Its sender is asked
+    /// once all workers that are busy now are done: one of them may be taking the block that it
+    /// lacks.
     pub(crate) fn wait<R: Wait>(&self, rt: &R, frame: Waiting) {
         let busy = self.busy.load(SeqCst);
         self.queue.lock(rt).add(frame, busy);
@@ -235,8 +237,8 @@ impl WaitingRoom {
         self.queue.lock(rt).take_number(number)
     }
 
-    /// A worker is done with a parcel. Whom to ask now, and for which block, if for any: the first that no waiting frame
-    /// brings, from the one down that a frame lacks.
+    /// A worker is done with a parcel. Whom to ask now, and for which block, if for any: the first
+    /// that no waiting frame brings, from the one down that a frame lacks.
     pub(crate) fn end<R: Wait>(&self, rt: &R) -> Option<(ReplicaId, Digest)> {
         self.busy.fetch_sub(1, SeqCst);
         self.queue.lock(rt).next_question()

@@ -119,8 +119,8 @@ impl<'a, G: Gate, O: Outgoing> Post<'a, G, O> {
         Ok(())
     }
 
-    /// Brings the frames that lack this block, which the replica has by now, and those that lack a block that one of
-    /// them brought.
+    /// Brings the frames that lack this block, which the replica has by now, and those that lack a
+    /// block that one of them brought.
     fn release<R: Wait, S: Steps>(&self, rt: &R, steps: &mut S, share: &mut Share, block: Digest)
         ensures { HasGrown share.old share.new }
     {
@@ -141,8 +141,9 @@ impl<'a, G: Gate, O: Outgoing> Post<'a, G, O> {
         }
     }
 
-    /// Takes a frame that was refused with `UnknownParent`. It waits, and is brought once more: the replica's other
-    /// worker may have taken the block before the frame began to wait, and whoever takes it later finds the frame.
+    /// Takes a frame that was refused with `UnknownParent`. It waits, and is brought once more: the
+    /// replica's other worker may have taken the block before the frame began to wait, and whoever
+    /// takes it later finds the frame.
     fn take_later<R: Wait, S: Steps>(
         &self,
         rt: &R,
@@ -212,8 +213,8 @@ impl<'a, G: Gate, O: Outgoing> Post<'a, G, O> {
         }
     }
 
-    /// Takes what comes over the replica's link until it is told to stop, or the links are gone. It gives the share
-    /// back, with the steps that it made.
+    /// Takes what comes over the replica's link until it is told to stop, or the links are gone. It
+    /// gives the share back, with the steps that it made.
     pub fn work<R: Wait, S: Steps>(self, rt: &R, steps: &mut S, mut share: Share) -> Share
         ensures { HasGrown share result }
     {

@@ -9,7 +9,8 @@ use frames_view::{
 use ids::{Digest, Fault};
 use std::alloc::Global;
 
-/// Whether the frame is written as these bytes, and the core and the certificate in it also from copies that were kept.
+/// Whether the frame is written as these bytes, and the core and the certificate in it also from
+/// copies that were kept.
 pub(crate) fn is_written_again(alloc: Global, frame: &Frame, bytes: &[u8]) -> Result<bool, Fault> {
     let mut again = Vec::new(alloc);
     write_again(alloc, frame, &mut again)?;

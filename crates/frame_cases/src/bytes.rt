@@ -10,8 +10,8 @@ pub(crate) fn parse_byte(digits: &str) -> Result<u8> {
     Ok(byte)
 }
 
-/// The bytes that a field spells: hexadecimal, or parts with `+` between them, of which a part `HH*COUNT` is one byte
-/// so many times.
+/// The bytes that a field spells: hexadecimal, or parts with `+` between them, of which a part
+/// `HH*COUNT` is one byte so many times.
 pub(crate) fn parse_bytes(alloc: Global, field: &str) -> Result<Vec<u8>> {
     let mut bytes = Vec::new(alloc);
     for part in field.split('+') {

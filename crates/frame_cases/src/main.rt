@@ -1,14 +1,16 @@
-//! Reads frames and prints what they are: each line of standard input is a case, or a whole row of them. What is wanted
-//! of each was computed by an independent program.
+//! Reads frames and prints what they are: each line of standard input is a case, or a whole row of
+//! them. What is wanted of each was computed by an independent program.
 //!
-//! A line is `FAULTS CLIENTS whole BYTES`: the sizes, and bytes. Printed is the number of the refusal, where there are
-//! no such sizes or the bytes are no frame at them, and else what `show` says of the frame, and `again` where the same
-//! bytes are written of what was read, or `DIFFERENT`. Of `FAULTS CLIENTS cuts BYTES` each proper beginning of the
-//! bytes is such a case, and of `FAULTS CLIENTS changes BYTES MASK` the bytes with each byte in turn changed by
-//! exclusive or with the mask: printed are how many were refused, were frames and were written again, and the first
-//! half of the SHA-256 digest of what would be printed of all of them, line by line.
+//! A line is `FAULTS CLIENTS whole BYTES`: the sizes, and bytes. Printed is the number of the
+//! refusal, where there are no such sizes or the bytes are no frame at them, and else what `show`
+//! says of the frame, and `again` where the same bytes are written of what was read, or
+//! `DIFFERENT`. Of `FAULTS CLIENTS cuts BYTES` each proper beginning of the bytes is such a case,
+//! and of `FAULTS CLIENTS changes BYTES MASK` the bytes with each byte in turn changed by exclusive
+//! or with the mask: printed are how many were refused, were frames and were written again, and the
+//! first half of the SHA-256 digest of what would be printed of all of them, line by line.
 //!
-//! Bytes are hexadecimal, or parts with `+` between them, of which a part `HH*COUNT` is one byte so many times.
+//! Bytes are hexadecimal, or parts with `+` between them, of which a part `HH*COUNT` is one byte so
+//! many times.
 #![tactic(auto)]
 
 mod again;

@@ -1,17 +1,21 @@
 //! What a frame is, in words.
 //!
-//! That is its kind and its fields in the order in which they are spelled, a space before each. A field is a number, or
-//! bytes in hexadecimal, or a list: `[`, the fields of each element, and `]`. Of more than 64 bytes the length and the
-//! first half of the SHA-256 digest are told, with `:` between them; where there are no bytes stands `-`. Behind a core
-//! stands the digest of its block.
+//! That is its kind and its fields in the order in which they are spelled, a space before each. A
+//! field is a number, or bytes in hexadecimal, or a list: `[`, the fields of each element, and `]`.
+//! Of more than 64 bytes the length and the first half of the SHA-256 digest are told, with `:`
+//! between them; where there are no bytes stands `-`. Behind a core stands the digest of its block.
 //!
 //!     Request CLIENT SEQ PAYLOAD VECTOR
-//!     Proposal VIEW PARENT HEIGHT JUSTIFY-HEIGHT [ CLIENT SEQ PAYLOAD VECTOR .. ] BLOCK DIGEST [ VOTER VECTOR .. ] VECTOR
+//!     Proposal VIEW CORE BLOCK DIGEST [ VOTER VECTOR .. ] VECTOR
 //!     Vote DIGEST VOTER VECTOR
 //!     NewView VIEW SENDER DIGEST [ VOTER VECTOR .. ] VECTOR
 //!     Reply REPLICA CLIENT SEQ PLACE TEXT TAG
 //!     Fetch SENDER DIGEST TAG
-//!     Block SENDER PARENT HEIGHT JUSTIFY-HEIGHT [ CLIENT SEQ PAYLOAD VECTOR .. ] BLOCK DIGEST [ VOTER VECTOR .. ] TAG
+//!     Block SENDER CORE BLOCK DIGEST [ VOTER VECTOR .. ] TAG
+//!
+//! where `CORE` is
+//!
+//!     PARENT HEIGHT JUSTIFY-HEIGHT [ CLIENT SEQ PAYLOAD VECTOR .. ]
 
 use anyhow::Result;
 use frames_view::{CertificateView, CommandView, CoreView, Frame, ReplyView, VoteView};

@@ -5,7 +5,8 @@ ghost use Rattle.std.specs.Prelude.{◌∷◌, ◌≤◌, length};
 ghost use Rattle.ids.specs.Numbers.{kind_number};
 ghost use Rattle.ids.specs.declared.kind.Kind.TheVariants as kind;
 ghost use Rattle.definitions.specs.Writing.{IsAppended};
-ghost use Rattle.definitions.specs.Frames.{frame_text, proposal_text, new_view_text, block_text, spelling, vote, reply, fetch};
+ghost use Rattle.definitions.specs.Frames.{frame_text, proposal_text, new_view_text, block_text, spelling};
+ghost use Rattle.definitions.specs.Frames.{vote, reply, fetch};
 
 use crate::bounded::ReplyText;
 use appending::append;
@@ -27,7 +28,8 @@ pub fn write_proposal<'a>(
     out: &mut Vec<u8>,
 ) -> Result<(), Fault>
     ensures { IsAppended out.old out.new
-        (frame_text (kind_number kind.Proposal) (proposal_text view core.now certificate.now) vector.now) result }
+        (frame_text (kind_number kind.Proposal) (proposal_text view core.now certificate.now) vector.now)
+        result }
 {
     append(
         out,
@@ -71,7 +73,8 @@ pub fn write_new_view<'a>(
     out: &mut Vec<u8>,
 ) -> Result<(), Fault>
     ensures { IsAppended out.old out.new
-        (frame_text (kind_number kind.NewView) (new_view_text view sender certificate.now) vector.now) result }
+        (frame_text (kind_number kind.NewView) (new_view_text view sender certificate.now) vector.now)
+        result }
 {
     append(
         out,

@@ -18,7 +18,8 @@ pub fn write_command(
     out: &mut Vec<u8>,
 ) -> Result<(), Fault>
     ensures { IsAppended out.old out.new
-        (command_bytes (record { client = client; seq = seq; payload = payload.now; vector = vector.now })) result }
+        (command_bytes (record { client = client; seq = seq; payload = payload.now; vector = vector.now }))
+        result }
 {
     append_command(client, seq, payload.as_slice(), vector, out)
 }
@@ -33,7 +34,8 @@ fn append_command<'a>(
 ) -> Result<(), Fault>
     requires { length payload.now ≤ MOST_PAYLOAD }
     ensures { IsAppended out.old out.new
-        (command_bytes (record { client = client; seq = seq; payload = payload.now; vector = vector.now })) result }
+        (command_bytes (record { client = client; seq = seq; payload = payload.now; vector = vector.now }))
+        result }
 {
     append(
         out,
@@ -56,7 +58,8 @@ pub fn write_core(
     commands: &[u8],
     out: &mut Vec<u8>,
 ) -> Result<(), Fault>
-    ensures { IsAppended out.old out.new (core_text parent.now height justify_height count commands.now) result }
+    ensures { IsAppended out.old out.new (core_text parent.now height justify_height count commands.now)
+        result }
 {
     append(
         out,

@@ -11,7 +11,8 @@ use Rattle.frames_view.specs.declared.views.CertificateView.{CertificateView}
 use Rattle.frames_view.specs.declared.views.CommandView.{CommandView}
 use Rattle.frames_view.specs.declared.views.CoreView.{CoreView}
 use Rattle.frames_view.specs.declared.frame_views.Frame.{Frame}
-use Rattle.frames_view.specs.declared.frame_views.Frame.TheVariants.{Request, Proposal, Vote, NewView, Reply, Fetch, Block}
+use Rattle.frames_view.specs.declared.frame_views.Frame.TheVariants.{Request, Proposal, Vote, NewView}
+use Rattle.frames_view.specs.declared.frame_views.Frame.TheVariants.{Reply, Fetch, Block}
 use Rattle.frames_view.specs.Places.{IsCommandAt, IsVoteAt, AreFieldsAt, IsCoreAt, IsCertificateAt, IsFrameAt}
 
 module _ (s m : Bor Bytes) (i j k : ℕ) (sum : i + j ≡ k) (outer : LentAt s i m) where
@@ -20,19 +21,25 @@ module _ (s m : Bor Bytes) (i j k : ℕ) (sum : i + j ≡ k) (outer : LentAt s i
   lent n p inner = LentAt-behind s m p i (j + n) (k + n) (omega (arith, sum)) outer inner
 
   pub IsCommandAt-behind : (c : CommandView) → IsCommandAt m j c → IsCommandAt s k c
-  IsCommandAt-behind c h = (LentAt-behind s m c.content i j k sum outer h.0, lent 12 c.payload h.1, lent (length c.content.now) c.vector h.2)
+  IsCommandAt-behind c h = (
+    LentAt-behind s m c.content i j k sum outer h.0,
+    lent 12 c.payload h.1,
+    lent (length c.content.now) c.vector h.2,
+  )
 
   pub IsVoteAt-behind : (v : VoteView) → IsVoteAt m j v → IsVoteAt s k v
   IsVoteAt-behind v h = lent 2 v.vector h
 
   pub AreFieldsAt-behind : (f : CoreFields) → AreFieldsAt m j f → AreFieldsAt s k f
-  AreFieldsAt-behind f h = (LiesAt-behind s.now m.now f.parent.now i j k sum outer.0 h.0, lent 49 f.commands h.1)
+  AreFieldsAt-behind f h =
+      (LiesAt-behind s.now m.now f.parent.now i j k sum outer.0 h.0, lent 49 f.commands h.1)
 
   pub IsCoreAt-behind : (c : CoreView) → IsCoreAt m j c → IsCoreAt s k c
   IsCoreAt-behind c h = (LentAt-behind s m c.raw i j k sum outer h.0, AreFieldsAt-behind c.fields h.1)
 
   pub IsCertificateAt-behind : (q : CertificateView) → IsCertificateAt m j q → IsCertificateAt s k q
-  IsCertificateAt-behind q h = (LiesAt-behind s.now m.now q.digest.now i j k sum outer.0 h.0, lent 33 q.votes h.1)
+  IsCertificateAt-behind q h =
+      (LiesAt-behind s.now m.now q.digest.now i j k sum outer.0 h.0, lent 33 q.votes h.1)
 
 -- a frame that lies in a rest
 module _ (s m : Bor Bytes) (i : ℕ) (outer : LentAt s i m) where
@@ -47,26 +54,41 @@ module _ (s m : Bor Bytes) (i : ℕ) (outer : LentAt s i m) where
   IsFrameAt-behind (Proposal f) h = (
     part 0 i f.content (omega arith) h.0,
     IsCoreAt-behind s m i 8 (i + 8) (omega arith) outer f.core h.1,
-    IsCertificateAt-behind s m i (0 + 8 + length f.core.raw.now) (i + 8 + length f.core.raw.now) (omega arith) outer f.certificate h.2,
+    IsCertificateAt-behind s m i (0 + 8 + length f.core.raw.now) (i + 8 + length f.core.raw.now)
+        (omega arith) outer f.certificate h.2,
     part (0 + length f.content.now) (i + length f.content.now) f.vector (omega arith) h.3,
   )
-  IsFrameAt-behind (Vote f) h = (bytes 0 i f.digest.now (omega arith) h.0, IsVoteAt-behind s m i 32 (i + 32) (omega arith) outer f.vote h.1)
-  IsFrameAt-behind (NewView f) h =
-      (part 0 i f.content (omega arith) h.0, IsCertificateAt-behind s m i 10 (i + 10) (omega arith) outer f.certificate h.1, part (0 + length f.content.now) (i + length f.content.now) f.vector (omega arith) h.2)
-  IsFrameAt-behind (Reply f) h =
-      (part 0 i f.content (omega arith) h.0, part 24 (i + 24) f.text (omega arith) h.1, bytes (0 + length f.content.now) (i + length f.content.now) f.tag.now (omega arith) h.2)
-  IsFrameAt-behind (Fetch f) h =
-      (part 0 i f.content (omega arith) h.0, bytes 2 (i + 2) f.digest.now (omega arith) h.1, bytes (0 + length f.content.now) (i + length f.content.now) f.tag.now (omega arith) h.2)
+  IsFrameAt-behind (Vote f) h = (
+    bytes 0 i f.digest.now (omega arith) h.0,
+    IsVoteAt-behind s m i 32 (i + 32) (omega arith) outer f.vote h.1,
+  )
+  IsFrameAt-behind (NewView f) h = (
+    part 0 i f.content (omega arith) h.0,
+    IsCertificateAt-behind s m i 10 (i + 10) (omega arith) outer f.certificate h.1,
+    part (0 + length f.content.now) (i + length f.content.now) f.vector (omega arith) h.2,
+  )
+  IsFrameAt-behind (Reply f) h = (
+    part 0 i f.content (omega arith) h.0,
+    part 24 (i + 24) f.text (omega arith) h.1,
+    bytes (0 + length f.content.now) (i + length f.content.now) f.tag.now (omega arith) h.2,
+  )
+  IsFrameAt-behind (Fetch f) h = (
+    part 0 i f.content (omega arith) h.0,
+    bytes 2 (i + 2) f.digest.now (omega arith) h.1,
+    bytes (0 + length f.content.now) (i + length f.content.now) f.tag.now (omega arith) h.2,
+  )
   IsFrameAt-behind (Block f) h = (
     part 0 i f.content (omega arith) h.0,
     IsCoreAt-behind s m i 2 (i + 2) (omega arith) outer f.core h.1,
-    IsCertificateAt-behind s m i (0 + 2 + length f.core.raw.now) (i + 2 + length f.core.raw.now) (omega arith) outer f.certificate h.2,
+    IsCertificateAt-behind s m i (0 + 2 + length f.core.raw.now) (i + 2 + length f.core.raw.now)
+        (omega arith) outer f.certificate h.2,
     bytes (0 + length f.content.now) (i + length f.content.now) f.tag.now (omega arith) h.3,
   )
 
 -- ---- what stands before a rest, and what stands behind it
 
-module _ (s r : Bor Bytes) (k : ℕ) (left : LeftAt s k r) (front : Bytes) (cut : front ≡ take (length s.now - length r.now) s.now) where
+module _ (s r : Bor Bytes) (k : ℕ) (left : LeftAt s k r) (front : Bytes)
+    (cut : front ≡ take (length s.now - length r.now) s.now) where
   -- it is as long as the place of the rest
   pub front_len : length front ≡ k
   front_len = omega (arith, left.1, ap length cut, length-take (length s.now - length r.now) s.now)

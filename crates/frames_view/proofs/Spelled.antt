@@ -12,7 +12,8 @@ use Rattle.frames_view.specs.Spelled.{AreVotes}
 use Rattle.frames_view.proofs.Exact.{elements_again}
 use Rattle.frames_view.proofs.Parts.{AreFew, IsExact-vote}
 
-pub votes_again : (sizes : Sizes) → AreFew sizes → (count : ℕ) (bytes : Bytes) (vs : List Vote) → AreVotes sizes count bytes vs → elements (vote_in (replicas sizes)) count bytes ≡ vs
+pub votes_again : (sizes : Sizes) → AreFew sizes → (count : ℕ) (bytes : Bytes) (vs : List Vote)
+    → AreVotes sizes count bytes vs → elements (vote_in (replicas sizes)) count bytes ≡ vs
 votes_again sizes few count bytes vs h =
     let read = vote_in (replicas sizes) in
     let text = flat_map vote_bytes vs in

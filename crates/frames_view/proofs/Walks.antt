@@ -1,5 +1,6 @@
 -- Going over a list element by element, as a loop does.
-use Rattle.std.proofs.Common.{◌≡◌, ℕ, suc, ◌-◌, ◌+◌, ◌≤◌, ◌<◌, Option, Some, None, refl, sym, ◌∙◌, arith, add-one}
+use Rattle.std.proofs.Common.{◌≡◌, ℕ, suc, ◌-◌, ◌+◌, ◌≤◌, ◌<◌, Option, Some, None, refl, sym, ◌∙◌, arith}
+use Rattle.std.proofs.Common.{add-one}
 use Rattle.std.proofs.lemmas.Bool.{le-leb, lt-leb}
 use Rattle.definitions.specs.Bytes.{Bytes}
 use Rattle.frames_view.specs.Readings.{Reader, behind, behind_rising}
@@ -12,7 +13,8 @@ module _ {X : Type 0} (read : Reader X) (count i : ℕ) (bytes : Bytes) (total :
       sym so_far ∙ rw (k, none) refl
 
   -- behind one more
-  pub behind_goes_on : (x : X) (after : Bytes) → i < count → read bytes ≡ Some (x, after) → behind read (count - i) bytes ≡ total → behind read (count - (i + 1)) after ≡ total
+  pub behind_goes_on : (x : X) (after : Bytes) → i < count → read bytes ≡ Some (x, after)
+      → behind read (count - i) bytes ≡ total → behind read (count - (i + 1)) after ≡ total
   behind_goes_on x after lt some so_far =
       let k : count - i ≡ suc (count - (i + 1)) = omega arith in
       let one : behind read (count - i) bytes ≡ behind read (count - (i + 1)) after = rw (k, some) refl in
@@ -26,7 +28,8 @@ module _ {X : Type 0} (read : Reader X) (count i : ℕ) (bytes : Bytes) (total :
       sym one ∙ so_far
 
   module _ (rank : X → ℕ) (least : ℕ) where
-    pub rising_ends : i < count → read bytes ≡ None → behind_rising rank read least (count - i) bytes ≡ total → total ≡ None
+    pub rising_ends : i < count → read bytes ≡ None
+        → behind_rising rank read least (count - i) bytes ≡ total → total ≡ None
     rising_ends lt none so_far =
         let k : count - i ≡ suc (count - (i + 1)) = omega arith in
         sym so_far ∙ rw (k, none) refl
@@ -40,11 +43,13 @@ module _ {X : Type 0} (read : Reader X) (count i : ℕ) (bytes : Bytes) (total :
         sym so_far ∙ rw (k, some, test) refl
 
     pub rising_goes_on : (x : X) (after : Bytes) → i < count → read bytes ≡ Some (x, after) → least ≤ rank x
-        → behind_rising rank read least (count - i) bytes ≡ total → behind_rising rank read (rank x + 1) (count - (i + 1)) after ≡ total
+        → behind_rising rank read least (count - i) bytes ≡ total
+        → behind_rising rank read (rank x + 1) (count - (i + 1)) after ≡ total
     rising_goes_on x after lt some high so_far =
         let k : count - i ≡ suc (count - (i + 1)) = omega arith in
         let test = le-leb least (rank x) high in
-        let one : behind_rising rank read least (count - i) bytes ≡ behind_rising rank read (suc (rank x)) (count - (i + 1)) after = rw (k, some, test) refl in
+        let one : behind_rising rank read least (count - i) bytes
+        ≡ behind_rising rank read (suc (rank x)) (count - (i + 1)) after = rw (k, some, test) refl in
         rw add-one (sym one ∙ so_far)
 
     pub rising_all : count ≤ i → behind_rising rank read least (count - i) bytes ≡ total → Some bytes ≡ total

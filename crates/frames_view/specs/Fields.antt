@@ -1,7 +1,8 @@
 -- The fields of a frame by their names, of those kinds that have them.
 use Rattle.std.specs.Prelude.{ℕ, []}
 use Rattle.definitions.specs.Bytes.{Bytes}
-use Rattle.definitions.specs.Frames.{Core, Certificate, Vote, Frame, proposal, vote, new_view, reply, fetch, block, genesis_core}
+use Rattle.definitions.specs.Frames.{Core, Certificate, Vote, Frame, proposal, vote, new_view, reply, fetch}
+use Rattle.definitions.specs.Frames.{block, genesis_core}
 
 -- the view of a proposal or a new view
 abbrev pub frame_view : Frame → ℕ

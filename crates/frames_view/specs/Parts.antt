@@ -1,11 +1,13 @@
 -- How each part of a frame is read, where there are n replicas and so many clients.
 use Rattle.ids.specs.declared.limits.TheConstants.{MOST_COMMANDS, MOST_PAYLOAD, MOST_TEXT}
-use Rattle.std.specs.Prelude.{ℕ, ◌*◌, Bool, List, length, Option, Some, None, nat_lt, nat_le, ◌==◌, ◌&&◌, ◌||◌, if◌then◌else◌}
+use Rattle.std.specs.Prelude.{ℕ, ◌*◌, Bool, List, length, Option, Some, None, nat_lt, nat_le, ◌==◌, ◌&&◌}
+use Rattle.std.specs.Prelude.{◌||◌, if◌then◌else◌}
 use Rattle.std.specs.Option.{option_and_then}
 use Rattle.std.specs.Int.{w8, w16, w32, w64}
 use Rattle.ids.specs.Sizes.{Sizes, replicas, quorum}
 use Rattle.definitions.specs.Bytes.{Bytes}
-use Rattle.definitions.specs.Frames.{Command, Core, Vote, Certificate, Frame, request, proposal, vote, new_view, reply, fetch, block}
+use Rattle.definitions.specs.Frames.{Command, Core, Vote, Certificate, Frame, request, proposal, vote}
+use Rattle.definitions.specs.Frames.{new_view, reply, fetch, block}
 use Rattle.frames_view.specs.Readings.{Reader, number, chunk, tested, both, made, sized, many, many_rising}
 
 -- ---- fields
@@ -50,7 +52,8 @@ content_in clients = both (party_in clients) (both positive_in payload_in)
 
 -- a command
 unfoldable pub command_in : ℕ → ℕ → Reader Command
-command_in n clients = made (λ p. record { client = p.0.0; seq = p.0.1.0; payload = p.0.1.1; vector = p.1 }) (both (content_in clients) (vector_in n))
+command_in n clients = made (λ p. record { client = p.0.0; seq = p.0.1.0; payload = p.0.1.1; vector = p.1 })
+    (both (content_in clients) (vector_in n))
 
 -- how many votes a certificate may have: none, or a quorum to all
 abbrev pub is_count : Sizes → ℕ → Bool
@@ -58,7 +61,9 @@ is_count sizes count = (count == 0) || (nat_le (quorum sizes) count && nat_le co
 
 -- the votes of a certificate, behind their number
 unfoldable pub votes_in : Sizes → Reader (List Vote)
-votes_in sizes bytes = option_and_then (λ count. many_rising (λ v. v.voter) (vote_in (replicas sizes)) count.0 count.1) (tested (is_count sizes) (number w8) bytes)
+votes_in sizes bytes = option_and_then
+    (λ count. many_rising (λ v. v.voter) (vote_in (replicas sizes)) count.0 count.1)
+    (tested (is_count sizes) (number w8) bytes)
 
 -- a certificate
 unfoldable pub certificate_in : Sizes → Reader Certificate
@@ -66,11 +71,14 @@ certificate_in sizes = made (λ p. record { digest = p.0; votes = p.1 }) (both d
 
 -- the commands of a block, behind their number
 unfoldable pub commands_in : Sizes → Reader (List Command)
-commands_in sizes bytes = option_and_then (λ count. many (command_in (replicas sizes) sizes.clients) count.0 count.1) (tested (λ count. nat_le count MOST_COMMANDS) (number w8) bytes)
+commands_in sizes bytes = option_and_then
+    (λ count. many (command_in (replicas sizes) sizes.clients) count.0 count.1)
+    (tested (λ count. nat_le count MOST_COMMANDS) (number w8) bytes)
 
 -- a core
 unfoldable pub core_in : Sizes → Reader Core
-core_in sizes = made (λ p. record { parent = p.0; height = p.1.0.0; justify_height = p.1.0.1; commands = p.1.1 })
+core_in sizes =
+    made (λ p. record { parent = p.0; height = p.1.0.0; justify_height = p.1.0.1; commands = p.1.1 })
     (both digest_in (both heights_in (commands_in sizes)))
 
 -- ---- frames, behind the number of their kind
@@ -83,14 +91,18 @@ unfoldable pub vote_frame_in : Sizes → Reader Frame
 vote_frame_in sizes = made (λ p. vote p.0 p.1) (both digest_in (vote_in (replicas sizes)))
 
 unfoldable pub new_view_in : Sizes → Reader Frame
-new_view_in sizes = made (λ p. new_view p.0 p.1.0 p.1.1.0 p.1.1.1) (both (number w64) (both (party_in (replicas sizes)) (both (certificate_in sizes) (vector_in (replicas sizes)))))
+new_view_in sizes = made (λ p. new_view p.0 p.1.0 p.1.1.0 p.1.1.1)
+    (both (number w64)
+    (both (party_in (replicas sizes)) (both (certificate_in sizes) (vector_in (replicas sizes)))))
 
 unfoldable pub reply_in : Sizes → Reader Frame
 reply_in sizes = made (λ p. reply p.0 p.1.0 p.1.1.0 p.1.1.1.0 p.1.1.1.1.0 p.1.1.1.1.1)
-    (both (party_in (replicas sizes)) (both (party_in sizes.clients) (both positive_in (both positive_in (both text_in digest_in)))))
+    (both (party_in (replicas sizes))
+    (both (party_in sizes.clients) (both positive_in (both positive_in (both text_in digest_in)))))
 
 unfoldable pub fetch_in : Sizes → Reader Frame
-fetch_in sizes = made (λ p. fetch p.0 p.1.0 p.1.1) (both (party_in (replicas sizes)) (both digest_in digest_in))
+fetch_in sizes =
+    made (λ p. fetch p.0 p.1.0 p.1.1) (both (party_in (replicas sizes)) (both digest_in digest_in))
 
 unfoldable pub block_in : Sizes → Reader Frame
 block_in sizes = made (λ p. block p.0 p.1.0 p.1.1.0 p.1.1.1)
@@ -110,4 +122,5 @@ kind_in sizes kind bytes =
 -- the frame that the bytes are, all of them
 unfoldable pub frame_in : Sizes → Bytes → Option Frame
 frame_in sizes bytes =
-    option_and_then (λ kind. option_and_then (λ f. if length f.1 == 0 then Some f.0 else None) (kind_in sizes kind.0 kind.1)) (number w8 bytes)
+    option_and_then (λ kind. option_and_then (λ f. if length f.1 == 0 then Some f.0 else None)
+    (kind_in sizes kind.0 kind.1)) (number w8 bytes)

@@ -1,5 +1,5 @@
--- Where the parts of a frame lie in the bytes that it was read from. A digest and one tag are told by their bytes
--- alone, and all else by its address too: nothing was copied.
+-- Where the parts of a frame lie in the bytes that it was read from. A digest and one tag are told by their
+-- bytes alone, and all else by its address too: nothing was copied.
 use Rattle.std.specs.Prelude.{ℕ, ◌+◌, length}
 use Rattle.std.specs.Borrow.{Bor}
 use Rattle.definitions.specs.Bytes.{Bytes}
@@ -16,7 +16,8 @@ use Rattle.frames_view.specs.declared.frame_views.ReplyView.{ReplyView}
 use Rattle.frames_view.specs.declared.frame_views.FetchView.{FetchView}
 use Rattle.frames_view.specs.declared.frame_views.BlockView.{BlockView}
 use Rattle.frames_view.specs.declared.frame_views.Frame.{Frame}
-use Rattle.frames_view.specs.declared.frame_views.Frame.TheVariants.{Request, Proposal, Vote, NewView, Reply, Fetch, Block}
+use Rattle.frames_view.specs.declared.frame_views.Frame.TheVariants.{Request, Proposal, Vote, NewView}
+use Rattle.frames_view.specs.declared.frame_views.Frame.TheVariants.{Reply, Fetch, Block}
 
 -- the part is the source's front, and the rest all that stands behind it
 abbrev pub IsSplit : (source part rest : Bor Bytes) → Type 0
@@ -59,7 +60,8 @@ certificate_len q = 33 + length q.votes.now
 
 abbrev pub IsProposalAt : Bor Bytes → ℕ → ProposalView → Type 0
 IsProposalAt source place f = LentAt source place f.content × IsCoreAt source (place + 8) f.core
-    × IsCertificateAt source (place + 8 + length f.core.raw.now) f.certificate × LentAt source (place + length f.content.now) f.vector
+    × IsCertificateAt source (place + 8 + length f.core.raw.now) f.certificate
+    × LentAt source (place + length f.content.now) f.vector
 
 abbrev pub IsVoteFrameAt : Bor Bytes → ℕ → VoteFrameView → Type 0
 IsVoteFrameAt source place f = LiesAt source.now place f.digest.now × IsVoteAt source (place + 32) f.vote
@@ -78,7 +80,8 @@ IsFetchAt source place f = LentAt source place f.content × LiesAt source.now (p
 
 abbrev pub IsBlockAt : Bor Bytes → ℕ → BlockView → Type 0
 IsBlockAt source place f = LentAt source place f.content × IsCoreAt source (place + 2) f.core
-    × IsCertificateAt source (place + 2 + length f.core.raw.now) f.certificate × LiesAt source.now (place + length f.content.now) f.tag.now
+    × IsCertificateAt source (place + 2 + length f.core.raw.now) f.certificate
+    × LiesAt source.now (place + length f.content.now) f.tag.now
 
 -- a frame of any kind
 abbrev pub IsFrameAt : Bor Bytes → ℕ → Frame → Type 0

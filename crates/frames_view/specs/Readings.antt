@@ -1,5 +1,6 @@
 -- Reading from left to right, as functions of bytes: what stands at their front, and what is left behind it.
-use Rattle.std.specs.Prelude.{◌≡◌, ℕ, zero, suc, Bool, List, [], ◌∷◌, length, take, drop, Option, Some, None, nat_lt, nat_le, if◌then◌else◌, option_map}
+use Rattle.std.specs.Prelude.{◌≡◌, ℕ, zero, suc, Bool, List, [], ◌∷◌, length, take, drop, Option, Some}
+use Rattle.std.specs.Prelude.{None, nat_lt, nat_le, if◌then◌else◌, option_map}
 use Rattle.std.specs.Option.{option_and_then}
 use Rattle.std.specs.List.{flat_map}
 use Rattle.std.specs.Int.{Width, byte_len, from_be_bytes}
@@ -11,7 +12,8 @@ Reader X = Bytes → Option (X × Bytes)
 
 -- a number of this width
 abbrev pub number : Width → Reader ℕ
-number w bytes = if nat_lt (length bytes) (byte_len w) then None else Some (from_be_bytes w (take (byte_len w) bytes), drop (byte_len w) bytes)
+number w bytes = if nat_lt (length bytes) (byte_len w) then None else Some
+    (from_be_bytes w (take (byte_len w) bytes), drop (byte_len w) bytes)
 
 -- so many bytes
 abbrev pub chunk : ℕ → Reader Bytes
@@ -23,7 +25,8 @@ tested test read bytes = option_and_then (λ x. if test x.0 then Some x else Non
 
 -- one and then another
 abbrev pub both : {X Y : Type 0} → Reader X → Reader Y → Reader (X × Y)
-both first second bytes = option_and_then (λ x. option_map (λ y. ((x.0, y.0), y.1)) (second x.1)) (first bytes)
+both first second bytes =
+    option_and_then (λ x. option_map (λ y. ((x.0, y.0), y.1)) (second x.1)) (first bytes)
 
 -- what is made of what is read so
 abbrev pub made : {X Y : Type 0} → (X → Y) → Reader X → Reader Y
@@ -49,7 +52,9 @@ behind read (suc count) bytes = option_and_then (λ x. behind read count x.1) (r
 abbrev pub behind_rising : {X : Type 0} → (X → ℕ) → Reader X → (least : ℕ) → ℕ → Bytes → Option Bytes
 behind_rising rank read least zero bytes = Some bytes
 behind_rising rank read least (suc count) bytes =
-    option_and_then (λ x. if nat_le least (rank x.0) then behind_rising rank read (suc (rank x.0)) count x.1 else None) (read bytes)
+    option_and_then
+    (λ x. if nat_le least (rank x.0) then behind_rising rank read (suc (rank x.0)) count x.1 else None)
+    (read bytes)
 
 -- so many
 abbrev pub many : {X : Type 0} → Reader X → ℕ → Reader (List X)
@@ -57,12 +62,14 @@ many read count bytes = option_map (λ rest. (elements read count bytes, rest)) 
 
 -- so many of rising ranks
 abbrev pub many_rising : {X : Type 0} → (X → ℕ) → Reader X → ℕ → Reader (List X)
-many_rising rank read count bytes = option_map (λ rest. (elements read count bytes, rest)) (behind_rising rank read 0 count bytes)
+many_rising rank read count bytes =
+    option_map (λ rest. (elements read count bytes, rest)) (behind_rising rank read 0 count bytes)
 
 -- ---- what was taken of bytes
 
 -- the part is the spelling of all of so many, and reads as they do
-pub record IsRead {X : Type 0} (spell : X → Bytes) (read : Reader X) (count : ℕ) (bytes : Bytes) (part : Bytes) : Type 0 where
+pub record IsRead {X : Type 0} (spell : X → Bytes) (read : Reader X) (count : ℕ) (bytes : Bytes)
+    (part : Bytes) : Type 0 where
   pub same : elements read count part ≡ elements read count bytes
   pub counted : length (elements read count part) ≡ count
   pub trimmed : part ≡ flat_map spell (elements read count part)

@@ -8,4 +8,5 @@ use Rattle.definitions.specs.FrameLimits.{IsVote}
 
 -- the bytes spell so many votes, which are these
 abbrev pub AreVotes : Sizes → ℕ → Bytes → List Vote → Type 0
-AreVotes sizes count bytes vs = AllByRecursion (IsVote sizes) vs × (length vs ≡ count) × (bytes ≡ flat_map vote_bytes vs)
+AreVotes sizes count bytes vs =
+    AllByRecursion (IsVote sizes) vs × (length vs ≡ count) × (bytes ≡ flat_map vote_bytes vs)

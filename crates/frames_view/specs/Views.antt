@@ -13,7 +13,8 @@ use Rattle.frames_view.specs.declared.frame_views.ReplyView.{ReplyView}
 use Rattle.frames_view.specs.declared.frame_views.FetchView.{FetchView}
 use Rattle.frames_view.specs.declared.frame_views.BlockView.{BlockView}
 use Rattle.frames_view.specs.declared.frame_views.Frame.{Frame}
-use Rattle.frames_view.specs.declared.frame_views.Frame.TheVariants.{Request, Proposal, Vote as AVote, NewView, Reply, Fetch, Block}
+use Rattle.frames_view.specs.declared.frame_views.Frame.TheVariants.{Request, Proposal, Vote as AVote}
+use Rattle.frames_view.specs.declared.frame_views.Frame.TheVariants.{NewView, Reply, Fetch, Block}
 use Rattle.frames_view.specs.Readings.{elements}
 use Rattle.frames_view.specs.Parts.{vote_in, command_in}
 pub use Rattle.frames_view.specs.PartViews.{core_of, certificate_of}

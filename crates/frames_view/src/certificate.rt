@@ -47,7 +47,8 @@ impl<'a> CertificateView<'a> {
 
 /// What is left behind `count` votes whose voters rise.
 fn skip_votes(bytes: &[u8], replicas: u8, count: u8) -> Option<&[u8]>
-    ensures { Gives (λ rest. rest.now) result (behind_rising (λ v. v.voter) (vote_in replicas) 0 count bytes.now) }
+    ensures { Gives (λ rest. rest.now) result
+        (behind_rising (λ v. v.voter) (vote_in replicas) 0 count bytes.now) }
 {
     let mut rest = bytes;
     let mut least: u16 = 0;
@@ -65,8 +66,10 @@ fn skip_votes(bytes: &[u8], replicas: u8, count: u8) -> Option<&[u8]>
 
 /// `count` votes whose voters rise, and what is left behind them.
 fn take_votes<'a>(config: &Config, bytes: &'a [u8], count: u8) -> Option<(&'a [u8], &'a [u8])>
-    ensures left { Gives (λ p. p.1.now) result (behind_rising (λ v. v.voter) (vote_in (replicas config.now)) 0 count bytes.now) }
-    ensures taken { IfSome result (λ p. IsRead vote_bytes (vote_in (replicas config.now)) count bytes.now p.0.now) }
+    ensures left { Gives (λ p. p.1.now) result
+        (behind_rising (λ v. v.voter) (vote_in (replicas config.now)) 0 count bytes.now) }
+    ensures taken { IfSome result
+        (λ p. IsRead vote_bytes (vote_in (replicas config.now)) count bytes.now p.0.now) }
     ensures lent { IfSome result (λ p. IsSplit bytes.entry p.0 p.1) }
 {
     let rest = skip_votes(bytes, config.n(), count)?;
@@ -79,7 +82,8 @@ pub(crate) fn take_certificate<'a>(
     bytes: &'a [u8],
 ) -> Option<(CertificateView<'a>, &'a [u8])>
     ensures taken { Gives (λ p. (certificate_of p.0, p.1.now)) result (certificate_in config.now bytes.now) }
-    ensures lent { IfSome result (λ p. IsCertificateAt bytes.entry 0 p.0 × LeftAt bytes.entry (certificate_len p.0) p.1) }
+    ensures lent { IfSome result
+        (λ p. IsCertificateAt bytes.entry 0 p.0 × LeftAt bytes.entry (certificate_len p.0) p.1) }
 {
     let replicas = config.n();
     let (digest, rest) = take_32(bytes)?;

@@ -28,7 +28,8 @@ impl Model for CertificateBuf {
 
     ghost Value = { Certificate };
 
-    ghost view = { λ q. record { digest = q.digest; votes = elements (vote_in q.replicas) q.count q.votes.items } };
+    ghost view = { λ q.
+        record { digest = q.digest; votes = elements (vote_in q.replicas) q.count q.votes.items } };
 
     ghost invariant = { λ q. let votes = elements (vote_in q.replicas) q.count q.votes.items in
         (length q.digest ≡ 32) × (length votes ≡ q.count) × (q.votes.items ≡ flat_map vote_bytes votes) };
@@ -63,7 +64,8 @@ impl CertificateBuf {
     /// The certificate of `count` votes, spelled one after the other.
     pub fn of_votes(config: &Config, digest: Digest, count: u8, votes: Vec<u8>) -> CertificateBuf
         requires { (vs : List Vote) × AreVotes config.now count votes.items vs }
-        ensures { (vs : List Vote) → AreVotes config.now count votes.items vs → result ≡ record { digest = digest; votes = vs } }
+        ensures { (vs : List Vote) → AreVotes config.now count votes.items vs
+            → result ≡ record { digest = digest; votes = vs } }
     {
         // Both are bytes, so numbers of parties fit their fields.
         let (replicas, _clients) = (config.n(), config.clients());

@@ -63,8 +63,10 @@ impl<'a> CommandView<'a> {
 /// The client, the number and the payload of a command.
 #[tactic(auto, unfolding(crate::specs::Parts::content_in))]
 fn take_content(bytes: &[u8], clients: u8) -> Option<((u8, u64, &[u8]), &[u8])>
-    ensures taken { Gives (λ p. ((p.0.0, (p.0.1, p.0.2.now)), p.1.now)) result (content_in clients bytes.now) }
-    ensures lent { IfSome result (λ p. LentAt bytes.entry 12 p.0.2 × LeftAt bytes.entry (12 + length p.0.2.now) p.1) }
+    ensures taken { Gives (λ p. ((p.0.0, (p.0.1, p.0.2.now)), p.1.now)) result
+        (content_in clients bytes.now) }
+    ensures lent { IfSome result
+        (λ p. LentAt bytes.entry 12 p.0.2 × LeftAt bytes.entry (12 + length p.0.2.now) p.1) }
 {
     let (client, rest) = take_party(bytes, clients)?;
     let (seq, rest) = take_positive(rest)?;
@@ -80,7 +82,8 @@ pub(crate) fn take_command(
     clients: u8,
 ) -> Option<(CommandView<'_>, &[u8])>
     ensures taken { Gives (λ p. (command_of p.0, p.1.now)) result (command_in replicas clients bytes.now) }
-    ensures lent { IfSome result (λ p. IsCommandAt bytes.entry 0 p.0 × LeftAt bytes.entry (command_len p.0) p.1) }
+    ensures lent { IfSome result
+        (λ p. IsCommandAt bytes.entry 0 p.0 × LeftAt bytes.entry (command_len p.0) p.1) }
 {
     let ((client, seq, payload), rest) = take_content(bytes, clients)?;
     let content = before(bytes, rest);

@@ -40,9 +40,15 @@ impl Model for CoreBuf {
       commands = elements (command_in k.replicas k.clients) k.count (drop 49 k.raw.items);
     } };
 
-    ghost invariant = { λ k. let commands = elements (command_in k.replicas k.clients) k.count (drop 49 k.raw.items) in
+    ghost invariant = { λ k. let commands =
+        elements (command_in k.replicas k.clients) k.count (drop 49 k.raw.items) in
         (length k.parent ≡ 32) × (length commands ≡ k.count) × (k.justify_height < k.height)
-        × (k.raw.items ≡ core_bytes (record { parent = k.parent; height = k.height; justify_height = k.justify_height; commands = commands })) };
+        × (k.raw.items ≡ core_bytes (record {
+          parent = k.parent;
+          height = k.height;
+          justify_height = k.justify_height;
+          commands = commands;
+        })) };
 }
 
 impl CoreBuf {

@@ -18,5 +18,6 @@ pub(crate) struct CoreFields<'a> {
     ghost whole: { length parent.now ≡ 32 },
     ghost below: { justify_height < height },
     ghost counted: { length (elements (command_in replicas clients) count commands.now) ≡ count },
-    ghost trimmed: { commands.now ≡ flat_map command_bytes (elements (command_in replicas clients) count commands.now) },
+    ghost trimmed: { commands.now
+        ≡ flat_map command_bytes (elements (command_in replicas clients) count commands.now) },
 }

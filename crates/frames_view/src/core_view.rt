@@ -75,8 +75,10 @@ fn skip_commands(bytes: &[u8], replicas: u8, clients: u8, count: u8) -> Option<&
 
 /// `count` commands, and what is left behind them.
 fn take_commands<'a>(config: &Config, bytes: &'a [u8], count: u8) -> Option<(&'a [u8], &'a [u8])>
-    ensures left { Gives (λ p. p.1.now) result (behind (command_in (replicas config.now) config.now.clients) count bytes.now) }
-    ensures taken { IfSome result (λ p. IsRead command_bytes (command_in (replicas config.now) config.now.clients) count bytes.now p.0.now) }
+    ensures left { Gives (λ p. p.1.now) result
+        (behind (command_in (replicas config.now) config.now.clients) count bytes.now) }
+    ensures taken { IfSome result (λ p. IsRead command_bytes
+        (command_in (replicas config.now) config.now.clients) count bytes.now p.0.now) }
     ensures lent { IfSome result (λ p. IsSplit bytes.entry p.0 p.1) }
 {
     let (replicas, clients) = (config.n(), config.clients());
@@ -88,7 +90,8 @@ fn take_commands<'a>(config: &Config, bytes: &'a [u8], count: u8) -> Option<(&'a
 #[tactic(auto, unfolding(crate::specs::Parts::core_in, crate::specs::Parts::commands_in))]
 fn take_fields<'a>(config: &Config, bytes: &'a [u8]) -> Option<(CoreFields<'a>, &'a [u8])>
     ensures taken { Gives (λ p. (core_of_fields p.0, p.1.now)) result (core_in config.now bytes.now) }
-    ensures lent { IfSome result (λ p. AreFieldsAt bytes.entry 0 p.0 × LeftAt bytes.entry (49 + length p.0.commands.now) p.1) }
+    ensures lent { IfSome result
+        (λ p. AreFieldsAt bytes.entry 0 p.0 × LeftAt bytes.entry (49 + length p.0.commands.now) p.1) }
 {
     let (replicas, clients) = (config.n(), config.clients());
     let (parent, rest) = take_32(bytes)?;
@@ -112,7 +115,8 @@ fn take_fields<'a>(config: &Config, bytes: &'a [u8]) -> Option<(CoreFields<'a>, 
 
 pub(crate) fn take_core<'a>(config: &Config, bytes: &'a [u8]) -> Option<(CoreView<'a>, &'a [u8])>
     ensures taken { Gives (λ p. (core_of p.0, p.1.now)) result (core_in config.now bytes.now) }
-    ensures lent { IfSome result (λ p. IsCoreAt bytes.entry 0 p.0 × LeftAt bytes.entry (length p.0.raw.now) p.1) }
+    ensures lent { IfSome result
+        (λ p. IsCoreAt bytes.entry 0 p.0 × LeftAt bytes.entry (length p.0.raw.now) p.1) }
     ensures spelled { IfSome result (λ p. bytes.now ≡ core_bytes (core_of p.0) ++ p.1.now) }
 {
     // Both are bytes, so numbers of parties fit their fields.

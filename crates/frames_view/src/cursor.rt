@@ -4,7 +4,8 @@ ghost use Rattle.std.specs.Prelude.{◌<◌, ◌≡◌, ◌+◌, ◌-◌, ◌≤
 ghost use Rattle.std.specs.Int.{w8, w16, w32, w64};
 ghost use Rattle.definitions.specs.Slices.{LiesAt, LentAt, LeftAt};
 ghost use Rattle.frames_view.specs.Readings.{number, chunk};
-ghost use Rattle.frames_view.specs.Parts.{digest_in, party_in, vector_in, positive_in, payload_in, text_in, heights_in};
+ghost use Rattle.frames_view.specs.Parts.{digest_in, party_in, vector_in, positive_in, payload_in, text_in};
+ghost use Rattle.frames_view.specs.Parts.{heights_in};
 ghost use Rattle.frames_view.specs.Views.{Gives};
 ghost use Rattle.frames_view.specs.Places.{IsSplit};
 
@@ -116,7 +117,8 @@ pub(crate) fn take_positive(bytes: &[u8]) -> Option<(u64, &[u8])>
 #[tactic(auto, unfolding(crate::specs::Parts::payload_in))]
 pub(crate) fn take_payload(bytes: &[u8]) -> Option<(&[u8], &[u8])>
     ensures taken { Gives (λ p. (p.0.now, p.1.now)) result (payload_in bytes.now) }
-    ensures lent { IfSome result (λ p. LentAt bytes.entry 2 p.0 × LeftAt bytes.entry (2 + length p.0.now) p.1) }
+    ensures lent { IfSome result
+        (λ p. LentAt bytes.entry 2 p.0 × LeftAt bytes.entry (2 + length p.0.now) p.1) }
 {
     let (len, rest) = take_u16(bytes)?;
     let len = usize::from(len);
@@ -130,7 +132,8 @@ pub(crate) fn take_payload(bytes: &[u8]) -> Option<(&[u8], &[u8])>
 #[tactic(auto, unfolding(crate::specs::Parts::text_in))]
 pub(crate) fn take_text(bytes: &[u8]) -> Option<(&[u8], &[u8])>
     ensures taken { Gives (λ p. (p.0.now, p.1.now)) result (text_in bytes.now) }
-    ensures lent { IfSome result (λ p. LentAt bytes.entry 4 p.0 × LeftAt bytes.entry (4 + length p.0.now) p.1) }
+    ensures lent { IfSome result
+        (λ p. LentAt bytes.entry 4 p.0 × LeftAt bytes.entry (4 + length p.0.now) p.1) }
 {
     let (len, rest) = take_u32(bytes)?;
     let len = len as usize;

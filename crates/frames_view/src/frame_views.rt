@@ -1,7 +1,8 @@
 //! Frames, as they lie in the bytes that they were read from.
 
 ghost use Rattle.std.specs.Prelude.{◌≡◌};
-ghost use Rattle.definitions.specs.Frames.{proposal_content, new_view_content, reply_content, fetch_content, block_content};
+ghost use Rattle.definitions.specs.Frames.{proposal_content, new_view_content, reply_content};
+ghost use Rattle.definitions.specs.Frames.{fetch_content, block_content};
 ghost use Rattle.frames_view.specs.PartViews.{core_of, certificate_of};
 
 use crate::views::{CertificateView, CommandView, CoreView, VoteView};

@@ -1,7 +1,7 @@
 //! Frames, read where they lie: a reader of bytes that anyone may have sent.
 //!
-//! Reading takes no memory: what it gives are views that borrow from the bytes. The writers of frames stand in the
-//! crate `frame_writers`, and are passed on from here.
+//! Reading takes no memory: what it gives are views that borrow from the bytes. The writers of
+//! frames stand in the crate `frame_writers`, and are passed on from here.
 #![tactic(auto)]
 
 mod block;

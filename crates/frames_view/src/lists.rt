@@ -15,7 +15,8 @@ impl<'a> Votes<'a> {
     pub fn split_first(&self) -> Option<(VoteView<'a>, Votes<'a>)>
         ensures some { IfSome result (λ p. votes_left self.now ≡ vote_of p.0 ∷ votes_left p.1) }
         ensures none { IfNone result (votes_left self.now ≡ []) }
-        ensures lent { IfSome result (λ p. IsVoteAt self.now.rest 0 p.0 × LeftAt self.now.rest (vote_len p.0) p.1.rest) }
+        ensures lent { IfSome result
+            (λ p. IsVoteAt self.now.rest 0 p.0 × LeftAt self.now.rest (vote_len p.0) p.1.rest) }
     {
         if self.count == 0 {
             return None;
@@ -49,7 +50,8 @@ impl<'a> Commands<'a> {
     pub fn split_first(&self) -> Option<(CommandView<'a>, Commands<'a>)>
         ensures some { IfSome result (λ p. commands_left self.now ≡ command_of p.0 ∷ commands_left p.1) }
         ensures none { IfNone result (commands_left self.now ≡ []) }
-        ensures lent { IfSome result (λ p. IsCommandAt self.now.rest 0 p.0 × LeftAt self.now.rest (command_len p.0) p.1.rest) }
+        ensures lent { IfSome result
+            (λ p. IsCommandAt self.now.rest 0 p.0 × LeftAt self.now.rest (command_len p.0) p.1.rest) }
     {
         if self.count == 0 {
             return None;

@@ -1,7 +1,7 @@
 //! `hsim [FILE]` runs the schedule of a file, or of standard input, and prints what happened.
 //!
-//! Its exit status is 0; or 1 with one line on standard error, where the schedule has no outcome; or 2 for bad words
-//! on the command line.
+//! Its exit status is 0; or 1 with one line on standard error, where the schedule has no outcome;
+//! or 2 for bad words on the command line.
 #![tactic(auto)]
 
 use clap::error::ErrorKind;

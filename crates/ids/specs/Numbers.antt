@@ -1,7 +1,14 @@
 -- The numbers of refusals and of kinds of frames.
 use Rattle.std.specs.Prelude.{ℕ}
 use Rattle.ids.specs.declared.fault.Fault.{Fault}
-use Rattle.ids.specs.declared.fault.Fault.TheVariants.{BadSize, UnknownName, BadFields, TooLarge, BadChunk, LineTooLong, FeedFull, NotAFrame, BadTag, WrongJustify, UnknownParent, BadHeight, Crowded, PoolFull, Full, Conflict, Memory, Stopped, NotMine, WrongSeq, Doubled, Busy, Spent, NoSuchFrame, NoSuchParty, NotARequest, TooManyFaulty, TooFew, NotAll, BadKeys, ReadFailed, WriteFailed, AcceptFailed}
+use Rattle.ids.specs.declared.fault.Fault.TheVariants.{BadSize, UnknownName, BadFields, TooLarge, BadChunk}
+use Rattle.ids.specs.declared.fault.Fault.TheVariants.{LineTooLong, FeedFull, NotAFrame, BadTag}
+use Rattle.ids.specs.declared.fault.Fault.TheVariants.{WrongJustify, UnknownParent, BadHeight, Crowded}
+use Rattle.ids.specs.declared.fault.Fault.TheVariants.{PoolFull, Full, Conflict, Memory, Stopped, NotMine}
+use Rattle.ids.specs.declared.fault.Fault.TheVariants.{WrongSeq, Doubled, Busy, Spent, NoSuchFrame}
+use Rattle.ids.specs.declared.fault.Fault.TheVariants.{NoSuchParty, NotARequest, TooManyFaulty, TooFew}
+use Rattle.ids.specs.declared.fault.Fault.TheVariants.{NotAll, BadKeys, ReadFailed, WriteFailed}
+use Rattle.ids.specs.declared.fault.Fault.TheVariants.{AcceptFailed}
 use Rattle.ids.specs.declared.kind.Kind.{Kind}
 use Rattle.ids.specs.declared.kind.Kind.TheVariants.{Request, Proposal, Vote, NewView, Reply, Fetch, Block}
 use Rattle.ids.specs.declared.line_fault.LineFault.{LineFault}

@@ -1,4 +1,5 @@
-//! The limits that definitions or several crates know, each said once. Those of a deployment's sizes are `Config`'s.
+//! The limits that definitions or several crates know, each said once. Those of a deployment's
+//! sizes are `Config`'s.
 
 /// The most replicas that there are: the length of each fixed row over replicas.
 pub const MOST_REPLICAS: usize = 13;

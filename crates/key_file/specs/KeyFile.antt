@@ -1,5 +1,6 @@
 -- The key file, and what its keys are to each party.
-use Rattle.std.specs.Prelude.{◌≡◌, ℕ, ◌-◌, ◌&&◌, ◌==◌, min, max, List, [], ◌∷◌, ◌++◌, length, map, find, decimal, Option, option_map, unwrap_or, if◌then◌else◌, ⊤}
+use Rattle.std.specs.Prelude.{◌≡◌, ℕ, ◌-◌, ◌&&◌, ◌==◌, min, max, List, [], ◌∷◌, ◌++◌, length, map, find}
+use Rattle.std.specs.Prelude.{decimal, Option, option_map, unwrap_or, if◌then◌else◌, ⊤}
 use Rattle.std.specs.List.{range_with_len, flat_map}
 use Rattle.hex.specs.Hex.{encode_lower, IsBytes}
 use Rattle.ids.specs.Sizes.{Sizes, replicas, client_party}
@@ -35,7 +36,8 @@ pairs_with one first count = map (λ other. (one, other)) (range_with_len first 
 
 -- a replica with itself and the replicas behind it, then with all clients
 abbrev pub pairs_of : Sizes → ℕ → List (ℕ × ℕ)
-pairs_of sizes one = pairs_with one one (replicas sizes - one) ++ pairs_with one (client_party 0) sizes.clients
+pairs_of sizes one =
+    pairs_with one one (replicas sizes - one) ++ pairs_with one (client_party 0) sizes.clients
 
 -- all pairs, in the order of their lines
 abbrev pub pairs : Sizes → List (ℕ × ℕ)
@@ -76,5 +78,6 @@ keys_of_party all party = record {
   sizes = all.sizes;
   party = party;
   keys = keys_with all.keys party 0 (replicas all.sizes)
-      ++ (if is_replica_of all.sizes party then keys_with all.keys party (client_party 0) all.sizes.clients else []);
+      ++ (if is_replica_of all.sizes party then keys_with all.keys party (client_party 0) all.sizes.clients
+      else []);
 }

@@ -16,7 +16,8 @@ abbrev pub IsDigitsOf : Bytes → Option Bytes → Type 0
 IsDigitsOf digits None = (key : Bytes) → IsKey key → digits ≢ encode_lower key
 IsDigitsOf digits (Some key) = IsKey key × (digits ≡ encode_lower key)
 
--- the key in a line at the front of a text, and what stands behind the line, if the text begins with such a line
+-- the key in a line at the front of a text, and what stands behind the line, if the text begins with such a
+-- line
 abbrev pub IsKeyAt : (Bytes → Bytes) → Bytes → Option (Bytes × Bytes) → Type 0
 IsKeyAt line text None = (key : Bytes) (rest : Bytes) → IsKey key → text ≢ line key ++ rest
 IsKeyAt line text (Some (key, rest)) = IsKey key × (text ≡ line key ++ rest)

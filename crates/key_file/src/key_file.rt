@@ -1,4 +1,5 @@
-ghost use Rattle.std.specs.Prelude.{◌≡◌, ◌==◌, ◌&&◌, ◌⊎◌, ◌≤◌, ◌++◌, find, option_map, List, IfOk, OnOk, OnErr};
+ghost use Rattle.std.specs.Prelude.{◌≡◌, ◌==◌, ◌&&◌, ◌⊎◌, ◌≤◌, ◌++◌, find, option_map, List, IfOk, OnOk};
+ghost use Rattle.std.specs.Prelude.{OnErr};
 ghost use Rattle.ids.specs.Sizes.{replicas};
 ghost use Rattle.definitions.specs.Bytes.{Bytes};
 ghost use Rattle.key_file.specs.KeyFile.{IsFileOf, found_key, keys_with, keys_of_party};
@@ -79,7 +80,8 @@ impl PairKeys {
     /// Reads a key file of these sizes. All of the text is read.
     pub fn read(alloc: Global, config: Config, text: &[u8]) -> Result<PairKeys, KeyFileFault>
         ensures read { IfOk result (λ all. (all.sizes ≡ config) × IsFileOf config all.keys text.now) }
-        ensures bad { result ≡ Err KeyFileFault.NotOne → (keys : List PairKey) → IsFileOf config keys text.now → ⊥ }
+        ensures bad { result ≡ Err KeyFileFault.NotOne → (keys : List PairKey)
+            → IsFileOf config keys text.now → ⊥ }
     {
         let mut rest = text;
         let mut keys = Vec::new(alloc);
@@ -111,7 +113,8 @@ impl PairKeys {
         count: u8,
     ) -> Result<(), Fault>
         requires { first ≤ 256 }
-        ensures made { OnOk result (out.new.items ≡ out.old.items ++ keys_with self.now.keys party first count) }
+        ensures made { OnOk result
+            (out.new.items ≡ out.old.items ++ keys_with self.now.keys party first count) }
         ensures refused { OnErr result ((result ≡ Err Fault.Memory) ⊎ (result ≡ Err Fault.NoSuchParty)) }
     {
         for i in 0..u16::from(count) {

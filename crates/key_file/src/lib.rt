@@ -1,8 +1,9 @@
 //! The key file: the keys of all pairs of parties that exchange frames, and the keyrings that they make.
 //!
-//! One line for each pair, `P Q KEY` and LF: two party numbers in decimal, and 64 hexadecimal digits in lower case, with
-//! one space between fields. A replica is its number, client c is 256 + c. The pairs are those of a replica P with each
-//! replica from P on, itself included, and with each client, ordered by P and then by Q.
+//! One line for each pair, `P Q KEY` and LF: two party numbers in decimal, and 64 hexadecimal
+//! digits in lower case, with one space between fields. A replica is its number, client c is 256 +
+//! c. The pairs are those of a replica P with each replica from P on, itself included, and with
+//! each client, ordered by P and then by Q.
 #![tactic(auto)]
 
 mod key_file;

@@ -20,7 +20,8 @@ fn read_with<'a>(
     keys: &mut Vec<PairKey>,
 ) -> Result<&'a [u8], KeyFileFault>
     requires { first ≤ 256 }
-    ensures read { IfOk result (λ rest. (read : List PairKey) × (keys.new.items ≡ keys.old.items ++ read) × Reads (pairs_with one first count) text.now read rest.now) }
+    ensures read { IfOk result (λ rest. (read : List PairKey) × (keys.new.items ≡ keys.old.items ++ read)
+        × Reads (pairs_with one first count) text.now read rest.now) }
     ensures bad { result ≡ Err KeyFileFault.NotOne → HasNo (pairs_with one first count) text.now }
 {
     let mut rest = text;
@@ -44,7 +45,8 @@ pub(crate) fn read_row<'a>(
     keys: &mut Vec<PairKey>,
 ) -> Result<&'a [u8], KeyFileFault>
     requires { one < replicas config }
-    ensures read { IfOk result (λ rest. (read : List PairKey) × (keys.new.items ≡ keys.old.items ++ read) × Reads (pairs_of config one) text.now read rest.now) }
+    ensures read { IfOk result (λ rest. (read : List PairKey) × (keys.new.items ≡ keys.old.items ++ read)
+        × Reads (pairs_of config one) text.now read rest.now) }
     ensures bad { result ≡ Err KeyFileFault.NotOne → HasNo (pairs_of config one) text.now }
 {
     let party = one.into();

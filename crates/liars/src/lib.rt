@@ -1,4 +1,5 @@
-//! Lies that a replica can be made to tell: what it sends is changed on its way out. For demonstrations and tests.
+//! Lies that a replica can be made to tell: what it sends is changed on its way out. For
+//! demonstrations and tests.
 #![tactic(auto)]
 
 mod lying;

@@ -19,8 +19,8 @@ const BAD_REPLY: &[u8] = b"EXISTS\r\n";
 pub enum Liar {
     /// It sends nothing.
     Mute,
-    /// As a leader it sends replicas of odd number, in place of each proposal, one with the same parent and certificate
-    /// and no commands.
+    /// As a leader it sends replicas of odd number, in place of each proposal, one with the same
+    /// parent and certificate and no commands.
     TwoFaced,
     /// It tells each client `EXISTS`.
     BadReply,

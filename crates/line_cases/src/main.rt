@@ -1,10 +1,11 @@
-//! Runs the reader of request lines and the cache over cases: each line of standard input is a text in hexadecimal.
-//! Printed are what is read at its beginning, whether the whole text is a canonical request (`DIFFERENT` where it is one
-//! and is written otherwise), how many items stand in it, and the length and the first 8 bytes of the SHA-256 digest of
-//! what a connection would be written, where a cache with room for two keys answers. Of a line `cuts TEXT` what is read
-//! at each proper beginning of the text is a case: printed are how many there are, how many are unfinished, and the
-//! first 8 bytes of the digest of what would be printed of all of them, line by line. What is wanted of each case was
-//! computed by an independent program.
+//! Runs the reader of request lines and the cache over cases: each line of standard input is a text
+//! in hexadecimal. Printed are what is read at its beginning, whether the whole text is a canonical
+//! request (`DIFFERENT` where it is one and is written otherwise), how many items stand in it, and
+//! the length and the first 8 bytes of the SHA-256 digest of what a connection would be written,
+//! where a cache with room for two keys answers. Of a line `cuts TEXT` what is read at each proper
+//! beginning of the text is a case: printed are how many there are, how many are unfinished, and
+//! the first 8 bytes of the digest of what would be printed of all of them, line by line. What is
+//! wanted of each case was computed by an independent program.
 #![tactic(auto)]
 
 use anyhow::Result;
@@ -51,7 +52,8 @@ impl Told {
     }
 }
 
-/// The items of a text up to the one that ends the connection, each answered by a cache with room for two keys.
+/// The items of a text up to the one that ends the connection, each answered by a cache with room
+/// for two keys.
 fn tell(alloc: Global, bytes: &[u8]) -> Result<Told, Fault> {
     let mut cache = Cache::new(alloc, 2);
     let mut told = Told {

@@ -1,5 +1,6 @@
 ghost use Rattle.line_feed.specs.Feeding.{items_in, Gives, IsItemLent, IsGivenLent};
-ghost use Rattle.std.specs.Prelude.{◌≡◌, ◌+◌, ◌-◌, ◌<◌, ◌≤◌, ◌++◌, [], length, drop, vec_capacity, IfOk, IfSome, OnOk, OnErr, Err};
+ghost use Rattle.std.specs.Prelude.{◌≡◌, ◌+◌, ◌-◌, ◌<◌, ◌≤◌, ◌++◌, [], length, drop, vec_capacity, IfOk};
+ghost use Rattle.std.specs.Prelude.{IfSome, OnOk, OnErr, Err};
 
 use crate::item::Item;
 use appending::put;
@@ -10,9 +11,9 @@ use std::marker::Model;
 
 /// The bytes that a connection brought and whose items weren't given yet.
 ///
-/// What was given isn't moved: `start` goes behind it, and the rest is moved to the front only where new bytes
-/// find no room behind it. After the line `quit`, and after a fault that isn't of an unknown name, `start` stays, so
-/// that each further `next` reads the same again.
+/// What was given isn't moved: `start` goes behind it, and the rest is moved to the front only
+/// where new bytes find no room behind it. After the line `quit`, and after a fault that isn't of
+/// an unknown name, `start` stays, so that each further `next` reads the same again.
 #[derive(Drop)]
 pub struct Feed {
     bytes: Vec<u8>,
@@ -27,7 +28,8 @@ impl Model for Feed {
 
     ghost view = { λ f. drop f.start f.bytes.items };
 
-    ghost invariant = { λ f. (f.start ≤ length f.bytes.items) × (length f.bytes.items ≤ MOST_HELD) × (MOST_HELD ≤ vec_capacity f.bytes) };
+    ghost invariant = { λ f. (f.start ≤ length f.bytes.items) × (length f.bytes.items ≤ MOST_HELD)
+        × (MOST_HELD ≤ vec_capacity f.bytes) };
 }
 
 /// Keeps the bytes from this place on, at the front.
@@ -65,8 +67,8 @@ impl Feed {
     ghost use Rattle.std.specs.Io.BufRead.{Rests};
     ghost use Rattle.ids.specs.declared.fault.Fault.TheVariants.{FeedFull, Memory};
 
-    /// A feed that holds nothing, with room for the 16,384 bytes that it may hold. No other call takes memory.
-    /// `Memory` where that room is refused.
+    /// A feed that holds nothing, with room for the 16,384 bytes that it may hold. No other call
+    /// takes memory. `Memory` where that room is refused.
     pub fn new(alloc: Global) -> Result<Feed, Fault>
         ensures empty { IfOk result (λ feed. feed ≡ []) }
         ensures memory { OnErr result (result ≡ Err Memory) }
@@ -75,11 +77,13 @@ impl Feed {
         Ok(Feed { bytes, start: 0 })
     }
 
-    /// Takes in these bytes, behind those that are held. `FeedFull` exactly where they and the held ones exceed
-    /// 16,384 bytes, and nothing changes then.
+    /// Takes in these bytes, behind those that are held. `FeedFull` exactly where they and the held
+    /// ones exceed 16,384 bytes, and nothing changes then.
     pub fn push(&mut self, bytes: &[u8]) -> Result<(), Fault>
-        ensures pushed { OnOk result ((length self.old + length bytes.now ≤ MOST_HELD) × (self.new ≡ self.old ++ bytes.now)) }
-        ensures full { OnErr result ((MOST_HELD < length self.old + length bytes.now) × (result ≡ Err FeedFull) × (self.new ≡ self.old)) }
+        ensures pushed { OnOk result
+            ((length self.old + length bytes.now ≤ MOST_HELD) × (self.new ≡ self.old ++ bytes.now)) }
+        ensures full { OnErr result ((MOST_HELD < length self.old + length bytes.now)
+            × (result ≡ Err FeedFull) × (self.new ≡ self.old)) }
     {
         let held = self.bytes.len() - self.start;
         if MOST_HELD - held < bytes.len() {
@@ -93,9 +97,10 @@ impl Feed {
         Ok(())
     }
 
-    /// The first item of the bytes that are held, or `None` where it isn't whole yet. Its bytes are let go, and the
-    /// next call gives what stands behind them; but what ends all is given again by every call. What the item
-    /// lends lies in the feed's buffer, so the feed can't change while the item is in use.
+    /// The first item of the bytes that are held, or `None` where it isn't whole yet. Its bytes are
+    /// let go, and the next call gives what stands behind them; but what ends all is given again by
+    /// every call. What the item lends lies in the feed's buffer, so the feed can't change while
+    /// the item is in use.
     pub fn next(&mut self) -> Option<Item<'_>>
         ensures* gives { sem 𝓛 (Rests the_row self.entry (λ new. Gives self.old (items_in result) new)) }
         ensures lent { IsGivenLent self.old result }

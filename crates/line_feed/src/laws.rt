@@ -2,8 +2,8 @@
 
 ghost use Rattle.line_feed.specs.Feeding.{GivesWhatWasPushed, GivesTheEndAgain};
 
-/// Over all calls of a feed from the first on, the items that it gave are the first items of all that was pushed, in
-/// whatever pieces, and it holds what they leave.
+/// Over all calls of a feed from the first on, the items that it gave are the first items of all
+/// that was pushed, in whatever pieces, and it holds what they leave.
 pub fn a_feed_gives_what_was_pushed()
     ensures { GivesWhatWasPushed }
 {}

@@ -1,7 +1,7 @@
 //! Takes in what a connection brings, in pieces as they come, and gives its items one after the other.
 //!
-//! A [`Feed`] takes all its memory when it is made, and copies each byte once when it comes. What it gives is lent
-//! from its buffer.
+//! A [`Feed`] takes all its memory when it is made, and copies each byte once when it comes. What
+//! it gives is lent from its buffer.
 #![tactic(auto)]
 
 mod feed;

@@ -1,6 +1,8 @@
--- What holds in every run, whatever tags are forged and whatever cores collide: what correct parties send are frames.
+-- What holds in every run, whatever tags are forged and whatever cores collide: what correct parties send
+-- are frames.
 use Rattle.ids.specs.declared.limits.TheConstants.{MOST_BLOCKS}
-use Rattle.std.proofs.Common.{ℕ, suc, ◌≡◌, ◌+◌, ◌-◌, ◌<◌, ◌≤◌, ◌^◌, ◌==◌, not, true, Bool, List, [], ◌∷◌, length, refl, sym, ap, subst, arith, inl, inr, Option, Some, None, Ok}
+use Rattle.std.proofs.Common.{ℕ, suc, ◌≡◌, ◌+◌, ◌-◌, ◌<◌, ◌≤◌, ◌^◌, ◌==◌, not, true, Bool, List, [], ◌∷◌}
+use Rattle.std.proofs.Common.{length, refl, sym, ap, subst, arith, inl, inr, Option, Some, None, Ok}
 use Rattle.std.proofs.lemmas.Bool.{and_parts, cond_both, ltb-true}
 use Rattle.ids.specs.Sizes.{Sizes, replicas}
 use Rattle.definitions.specs.Lists.{Among}
@@ -8,7 +10,8 @@ use Rattle.definitions.specs.Bytes.{Bytes}
 use Rattle.definitions.specs.FrameLimits.{IsCore, IsFrame}
 use Rattle.definitions.specs.Branches.{Branch}
 use Rattle.definitions.specs.Digests.{AllKnown}
-use Rattle.definitions.specs.Chronicles.{Step, Step.took_block, Step.noted, Note.beat, Chronicle, taken, stored, tree, IsSound}
+use Rattle.definitions.specs.Chronicles.{Step, Step.took_block, Step.noted, Note.beat, Chronicle, taken}
+use Rattle.definitions.specs.Chronicles.{stored, tree, IsSound}
 use Rattle.definitions.specs.Checks.{Identity}
 use Rattle.definitions.specs.Keyrings.{Keyring}
 use Rattle.definitions.specs.States.{Justified, me, leaf, child, proposed, made_with, qc_high}
@@ -16,23 +19,30 @@ use Rattle.definitions.specs.Rulings.{Input, Ruling, ruling}
 use Rattle.definitions.specs.Sendings.{Sending}
 use Rattle.definitions.specs.Replicas.{Memory, Replica, Reaction, step}
 use Rattle.definitions.specs.Sessions.{Session, Submitted, is_ample, submission}
-use Rattle.definitions.specs.Worlds.{World, Sent, Event, Event.submit, Happening, self_of, client_of, new_world}
+use Rattle.definitions.specs.Worlds.{World, Sent, Event, Event.submit, Happening, self_of, client_of}
+use Rattle.definitions.specs.Worlds.{new_world}
 use Rattle.definitions.specs.Runs.{refusal, run}
-use Rattle.definitions.specs.Events.{Effect, nothing, stepped, out_of, told, submitted, party_of, effect, happens}
+use Rattle.definitions.specs.Events.{Effect, nothing, stepped, out_of, told, submitted, party_of, effect}
+use Rattle.definitions.specs.Events.{happens}
 use Rattle.definitions.specs.Premises.{IsReadIn, AllRead}
 use Rattle.definitions.proofs.Lists.{Among-either, Among-map}
-use Rattle.definitions.proofs.Sound.{Outcome, Outcome.unchanged, Outcome.refused, Outcome.lacks, Outcome.conflict, Outcome.stood, Outcome.cut, Keeps, IsCheckedInput, ruling-sound, step-outcome}
-use Rattle.linear_law.proofs.Effects.{is_member, Arises, Effects, Effects.idle, Effects.step_by, Effects.hearing, Effects.submitting, effects, named}
+use Rattle.definitions.proofs.Sound.{Outcome, Outcome.unchanged, Outcome.refused, Outcome.lacks}
+use Rattle.definitions.proofs.Sound.{Outcome.conflict, Outcome.stood, Outcome.cut, Keeps, IsCheckedInput}
+use Rattle.definitions.proofs.Sound.{ruling-sound, step-outcome}
+use Rattle.linear_law.proofs.Effects.{is_member, Arises, Effects, Effects.idle, Effects.step_by}
+use Rattle.linear_law.proofs.Effects.{Effects.hearing, Effects.submitting, effects, named}
 use Rattle.linear_law.proofs.Runs.{arises-checked}
 use Rattle.linear_law.proofs.Rows.{taken-known, step-known}
 use Rattle.linear_law.proofs.StoredFrames.{IsStored, AreStored, IsStoredRuling, arises-read, ruling-stored}
 use Rattle.linear_law.proofs.MadeCertificates.{qc_high-is}
-use Rattle.linear_law.proofs.Leaves.{LeafStep, LeafStep.raises, LeafStep.keeps, LeafStep.makes, leaf-step, child-is, child-core}
+use Rattle.linear_law.proofs.Leaves.{LeafStep, LeafStep.raises, LeafStep.keeps, LeafStep.makes, leaf-step}
+use Rattle.linear_law.proofs.Leaves.{child-is, child-core}
 use Rattle.linear_law.proofs.SentFrames.{IsFitProposal, sends-fit}
 use Rattle.linear_law.proofs.Sends.{sends}
 use Rattle.linear_law.proofs.FitAnswers.{answers-fit}
 use Rattle.linear_law.proofs.Accounts.{put-session, on_reply-used, next-fits}
-use Rattle.linear_law.proofs.FramedRuns.{AsksRightly, step-asks, lacks-fit, payload-short, submission-fits, requested, put-both}
+use Rattle.linear_law.proofs.FramedRuns.{AsksRightly, step-asks, lacks-fit, payload-short, submission-fits}
+use Rattle.linear_law.proofs.FramedRuns.{requested, put-both}
 use Rattle.linear_law.proofs.Linear.{run-step, new-row}
 use Rattle.linear_law.proofs.WholeRuns.{comes-framed}
 use Rattle.linear_law.specs.Law.{SentAreFrames, HaveOwnKeys, AnySentFramesAreFrames}
@@ -50,10 +60,19 @@ pub record IsPlain (self : Identity) (now : ℕ) (c : Chronicle) : Type 0 where
 
 -- it stays so
 later : (self : Identity) (now : ℕ) (c : Chronicle) → IsPlain self now c → IsPlain self (suc now) c
-later self now c p = record { sound = p.sound; stored_are = p.stored_are; fit = p.fit; short = (let l = p.short in omega (arith, l)); low = p.low; proposal = p.proposal }
+later self now c p = record {
+  sound = p.sound;
+  stored_are = p.stored_are;
+  fit = p.fit;
+  short = (let l = p.short in omega (arith, l));
+  low = p.low;
+  proposal = p.proposal;
+}
 
 -- the leaf is higher by one at most, or a certified block of the tree
-leaf-low : (self : Identity) (st : Step) (c : Chronicle) (b : Branch) → IsSound self.sizes (st ∷ c) → AreStored self (st ∷ c) → length (leaf self c) ≤ length c + MOST_BLOCKS → LeafStep self st c b → length b ≤ length (st ∷ c) + MOST_BLOCKS
+leaf-low : (self : Identity) (st : Step) (c : Chronicle) (b : Branch) → IsSound self.sizes (st ∷ c)
+    → AreStored self (st ∷ c) → length (leaf self c) ≤ length c + MOST_BLOCKS → LeafStep self st c b
+    → length b ≤ length (st ∷ c) + MOST_BLOCKS
 leaf-low self st c b so h low (raises l) =
     let m = (qc_high-is self (st ∷ c) so.lawful h).among in
     let k = so.heights (qc_high self.sizes (st ∷ c)).block m in
@@ -65,34 +84,42 @@ leaf-low self st c b so h low (makes x beats l e) =
     omega (arith, low, i)
 
 -- the proposal after a step
-proposal-now : (self : Identity) (now : ℕ) (st : Step) (c : Chronicle) → now ≤ 2 ^ 63 → IsPlain self now c → (j : Justified) → proposed self (st ∷ c) ≡ Some j → IsFitProposal self.sizes j
+proposal-now : (self : Identity) (now : ℕ) (st : Step) (c : Chronicle) → now ≤ 2 ^ 63 → IsPlain self now c
+    → (j : Justified) → proposed self (st ∷ c) ≡ Some j → IsFitProposal self.sizes j
 unfolding proposed
 proposal-now self now (noted beat) c few p j e = by (child self c (leaf self c)) refl e
   where
-    by : (o : Option Branch) → child self c (leaf self c) ≡ o → made_with o (qc_high self.sizes c).certificate (proposed self c) ≡ Some j → IsFitProposal self.sizes j
+    by : (o : Option Branch) → child self c (leaf self c) ≡ o
+        → made_with o (qc_high self.sizes c).certificate (proposed self c) ≡ Some j
+        → IsFitProposal self.sizes j
     by None i f = p.proposal j f
     by (Some b) i f =
         let is : record { block = b; certificate = (qc_high self.sizes c).certificate } ≡ j = cc in
         let l = p.low in
         let s = p.short in
         subst (IsFitProposal self.sizes) is (record {
-          core_is = child-core self c b p.stored_are (omega (arith, l, s, few)) (child-is self c (leaf self c) b i);
+          core_is =
+              child-core self c b p.stored_are (omega (arith, l, s, few)) (child-is self c (leaf self c) b i);
           certificate_is = (qc_high-is self c p.sound.lawful p.stored_are).certificate_is;
         })
 proposal-now self now (took_block a) c few p j e = p.proposal j e
 proposal-now self now (noted n) c few p j e = p.proposal j e
 
 -- the tree after a step
-fit-now : (self : Identity) (st : Step) (c : Chronicle) → IsSound self.sizes (st ∷ c) → IsStored self c st → ((x : Branch) → Among x (tree c) → AllKnown (IsCore self.sizes) x) → (x : Branch) → Among x (tree (st ∷ c)) → AllKnown (IsCore self.sizes) x
+fit-now : (self : Identity) (st : Step) (c : Chronicle) → IsSound self.sizes (st ∷ c) → IsStored self c st
+    → ((x : Branch) → Among x (tree c) → AllKnown (IsCore self.sizes) x) → (x : Branch)
+    → Among x (tree (st ∷ c)) → AllKnown (IsCore self.sizes) x
 unfolding tree stored taken
 fit-now self (took_block a) c so h fit x m =
     step-known (IsCore self.sizes) a c a.new refl
-    (λ n. taken-known (IsCore self.sizes) self.sizes a c (so.lawful.0.1 n) fit (subst (IsCore self.sizes) (sym (h.stored n)) h.core_is))
+    (λ n. taken-known (IsCore self.sizes) self.sizes a c (so.lawful.0.1 n) fit
+    (subst (IsCore self.sizes) (sym (h.stored n)) h.core_is))
     fit x m
 fit-now self (noted n) c so h fit x m = fit x m
 
 -- one step more
-grown : (self : Identity) (now : ℕ) (st : Step) (c : Chronicle) → now ≤ 2 ^ 63 → IsPlain self now c → IsSound self.sizes (st ∷ c) → IsStored self c st → IsPlain self (suc now) (st ∷ c)
+grown : (self : Identity) (now : ℕ) (st : Step) (c : Chronicle) → now ≤ 2 ^ 63 → IsPlain self now c
+    → IsSound self.sizes (st ∷ c) → IsStored self c st → IsPlain self (suc now) (st ∷ c)
 grown self now st c few p so h = record {
   sound = so;
   stored_are = (h, p.stored_are);
@@ -108,14 +135,26 @@ record IsPlainAfter (self : Identity) (now : ℕ) (m : Memory) (r : Replica × R
   out : (o : Sending) → Among o (out_of self m r.1) → IsFrame self.sizes o.1
 
 -- each outcome leaves it so
-after-plain : (self : Identity) (now : ℕ) (m : Memory) (v : Ruling) (before : Replica) (r : Replica × Reaction) → now ≤ 2 ^ 63 → me self < replicas self.sizes
-    → IsPlain self now before.chronicle → Keeps self before.chronicle v → IsStoredRuling self before.chronicle v → AsksRightly r.1 → Outcome self before.chronicle v before r → IsPlainAfter self now m r
-after-plain self now m v before r few number p kept h asks (unchanged n l) = record { left = later self now before.chronicle p; out = λ o k. absurd k }
-after-plain self now m v before r few number p kept h asks (refused s n u l) = record { left = later self now before.chronicle p; out = λ o k. absurd k }
-after-plain self now m v before r few number p kept h asks (lacks sender d u) = record { left = later self now before.chronicle p; out = λ o k. lacks-fit self m sender d o number asks k }
-after-plain self now m v before r few number p kept h asks (conflict st u e k) = record { left = later self now before.chronicle p; out = λ o k. absurd k }
+after-plain :
+    (self : Identity) (now : ℕ) (m : Memory) (v : Ruling) (before : Replica) (r : Replica × Reaction)
+    → now ≤ 2 ^ 63 → me self < replicas self.sizes
+    → IsPlain self now before.chronicle → Keeps self before.chronicle v
+    → IsStoredRuling self before.chronicle v → AsksRightly r.1
+    → Outcome self before.chronicle v before r → IsPlainAfter self now m r
+after-plain self now m v before r few number p kept h asks (unchanged n l) =
+    record { left = later self now before.chronicle p; out = λ o k. absurd k }
+after-plain self now m v before r few number p kept h asks (refused s n u l) =
+    record { left = later self now before.chronicle p; out = λ o k. absurd k }
+after-plain self now m v before r few number p kept h asks (lacks sender d u) =
+    record {
+      left = later self now before.chronicle p;
+      out = λ o k. lacks-fit self m sender d o number asks k;
+    }
+after-plain self now m v before r few number p kept h asks (conflict st u e k) =
+    record { left = later self now before.chronicle p; out = λ o k. absurd k }
 after-plain self now m v before r few number p kept h asks (cut st n u e k) = record {
-  left = grown self now st before.chronicle few p (subst (Keeps self before.chronicle) e kept) (subst (IsStoredRuling self before.chronicle) e h);
+  left = grown self now st before.chronicle few p (subst (Keeps self before.chronicle) e kept)
+      (subst (IsStoredRuling self before.chronicle) e h);
   out = λ o k. absurd k;
 }
 after-plain self now m v before r few number p kept h asks (stood st u e k) = record {
@@ -125,13 +164,15 @@ after-plain self now m v before r few number p kept h asks (stood st u e k) = re
     stored = next.stored_are;
     number = number;
     before = answers-fit (IsCore self.sizes) self.sizes (λ c x. inr x) before.chronicle p.sound p.fit;
-    now = answers-fit (IsCore self.sizes) self.sizes (λ c x. inr x) (st ∷ before.chronicle) next.sound next.fit;
+    now =
+        answers-fit (IsCore self.sizes) self.sizes (λ c x. inr x) (st ∷ before.chronicle) next.sound next.fit;
     proposal = next.proposal;
   }) (sends self st before.chronicle o k);
 }
   where
     next : IsPlain self (suc now) (st ∷ before.chronicle)
-    next = grown self now st before.chronicle few p (subst (Keeps self before.chronicle) e kept) (subst (IsStoredRuling self before.chronicle) e h)
+    next = grown self now st before.chronicle few p (subst (Keeps self before.chronicle) e kept)
+        (subst (IsStoredRuling self before.chronicle) e h)
 
 -- ---- a world
 
@@ -149,28 +190,40 @@ record IsPlainEffect (w : World) (f : Effect) : Type 0 where
   out : (o : Sending) → Among o f.out → IsFrame w.sizes o.1
 
 -- a correct replica's step
-step-plain : (w : World) (e : Event) (m : Memory) (i : Input) → w.now ≤ 2 ^ 63 → IsPlainWorld w → is_member w (party_of e) ≡ true → Arises w e i
-    → IsPlainAfter (self_of w (party_of e)) w.now m (step (self_of w (party_of e)) m i (w.replica (party_of e)))
+step-plain : (w : World) (e : Event) (m : Memory) (i : Input) → w.now ≤ 2 ^ 63 → IsPlainWorld w
+    → is_member w (party_of e) ≡ true → Arises w e i
+    → IsPlainAfter (self_of w (party_of e)) w.now m
+    (step (self_of w (party_of e)) m i (w.replica (party_of e)))
 step-plain w e m i few p mp ar =
     let self : Identity = self_of w (party_of e) in
     let r : Replica = w.replica (party_of e) in
     let k : IsPlain self w.now r.chronicle = p.each (party_of e) mp in
     let ch : IsCheckedInput w.sizes i = arises-checked w e i ar in
-    let h : IsStoredRuling self r.chronicle (ruling self i r.chronicle) = ruling-stored self i r.chronicle (arises-read w e i ar) k.sound in
-    let number : me self < replicas w.sizes = (let l = ltb-true (party_of e) (replicas w.sizes) (and_parts _ _ mp).0 in let n = p.rings (party_of e) mp in omega (arith, l, n)) in
-    after-plain self w.now m (ruling self i r.chronicle) r (step self m i r) few number k (ruling-sound self i r.chronicle ch k.sound) h (step-asks self m i r h) (step-outcome self m i r ch k.sound)
+    let h : IsStoredRuling self r.chronicle (ruling self i r.chronicle) =
+    ruling-stored self i r.chronicle (arises-read w e i ar) k.sound in
+    let number : me self < replicas w.sizes =
+    (let l =
+    ltb-true (party_of e) (replicas w.sizes) (and_parts _ _ mp).0 in let n =
+    p.rings (party_of e) mp in omega (arith, l, n)) in
+    after-plain self w.now m (ruling self i r.chronicle) r (step self m i r) few number k
+    (ruling-sound self i r.chronicle ch k.sound) h (step-asks self m i r h)
+    (step-outcome self m i r ch k.sound)
 
 -- it in the world
-stepped-plain : (w : World) (p : ℕ) (m : Memory) (r : Replica × Reaction) → IsPlainWorld w → IsPlainAfter (self_of w p) w.now m r → IsPlainEffect w (stepped w p m r)
+stepped-plain : (w : World) (p : ℕ) (m : Memory) (r : Replica × Reaction) → IsPlainWorld w
+    → IsPlainAfter (self_of w p) w.now m r → IsPlainEffect w (stepped w p m r)
 unfolding stepped
 stepped-plain w p m r a k = record {
-  each = λ q mq. put-both (λ (x : Replica). IsPlain (self_of w q) (suc w.now) x.chronicle) p r.0 w.replica q (λ e. subst (λ (n : ℕ). IsPlain (self_of w n) (suc w.now) r.0.chronicle) (sym e) k.left) (later (self_of w q) w.now (w.replica q).chronicle (a.each q mq));
+  each = λ q mq. put-both (λ (x : Replica). IsPlain (self_of w q) (suc w.now) x.chronicle) p r.0 w.replica q
+      (λ e. subst (λ (n : ℕ). IsPlain (self_of w n) (suc w.now) r.0.chronicle) (sym e) k.left)
+      (later (self_of w q) w.now (w.replica q).chronicle (a.each q mq));
   room = a.room;
   out = k.out;
 }
 
 -- a submission leaves room for its number
-submission-room : (w : World) (c : ℕ) (m : Memory) (payload : Bytes) → (w.session c).used < 2 ^ 64 → (submission (client_of w c) m payload (w.session c)).0.used < 2 ^ 64
+submission-room : (w : World) (c : ℕ) (m : Memory) (payload : Bytes) → (w.session c).used < 2 ^ 64
+    → (submission (client_of w c) m payload (w.session c)).0.used < 2 ^ 64
 unfolding submission
 submission-room w c m payload room =
     let s : Session = w.session c in
@@ -180,25 +233,39 @@ submission-room w c m payload room =
     cond_both (not (is_ample m)) _ _ P (λ e. room) (λ e. next-fits s.used last room)))
 
 -- each effect keeps it
-effect-plain : (w : World) (e : Event) (m : Memory) (f : Effect) → w.now ≤ 2 ^ 63 → IsPlainWorld w → refusal w e ≡ None → Effects w e m f → IsPlainEffect w f
+effect-plain : (w : World) (e : Event) (m : Memory) (f : Effect) → w.now ≤ 2 ^ 63 → IsPlainWorld w
+    → refusal w e ≡ None → Effects w e m f → IsPlainEffect w f
 unfolding nothing told submitted
-effect-plain w e m f few a ok (idle x h) = record { each = λ q mq. later (self_of w q) w.now (w.replica q).chronicle (a.each q mq); room = a.room; out = λ o k. absurd k }
-effect-plain w e m f few a ok (step_by i mp ar) = stepped-plain w (party_of e) m (step (self_of w (party_of e)) m i (w.replica (party_of e))) a (step-plain w e m i few a mp ar)
+effect-plain w e m f few a ok (idle x h) =
+    record {
+      each = λ q mq. later (self_of w q) w.now (w.replica q).chronicle (a.each q mq);
+      room = a.room;
+      out = λ o k. absurd k;
+    }
+effect-plain w e m f few a ok (step_by i mp ar) =
+    stepped-plain w (party_of e) m (step (self_of w (party_of e)) m i (w.replica (party_of e))) a
+    (step-plain w e m i few a mp ar)
 effect-plain w e m f few a ok (hearing g b r y pa) = record {
   each = λ q mq. later (self_of w q) w.now (w.replica q).chronicle (a.each q mq);
-  room = λ j. put-session _ _ w.session (λ (s : Session). s.used < 2 ^ 64) j (λ k. subst (λ (n : ℕ). n < 2 ^ 64) (sym (on_reply-used (client_of w _) m g (w.session _))) (a.room _)) (a.room j);
+  room = λ j. put-session _ _ w.session (λ (s : Session). s.used < 2 ^ 64) j
+      (λ k. subst (λ (n : ℕ). n < 2 ^ 64) (sym (on_reply-used (client_of w _) m g (w.session _)))
+      (a.room _)) (a.room j);
   out = λ o k. absurd k;
 }
 effect-plain w e m f few a ok (submitting c payload i y) = record {
   each = λ q mq. later (self_of w q) w.now (w.replica q).chronicle (a.each q mq);
-  room = λ j. put-session c _ w.session (λ (s : Session). s.used < 2 ^ 64) j (λ k. submission-room w c m payload (a.room c)) (a.room j);
+  room = λ j. put-session c _ w.session (λ (s : Session). s.used < 2 ^ 64) j
+      (λ k. submission-room w c m payload (a.room c)) (a.room j);
   out = λ o k.
       let ok' : refusal w (submit c payload) ≡ None = subst (λ (x : Event). refusal w x ≡ None) i ok in
-      submission-fits (client_of w c) m payload (w.session c) o (ltb-true c w.sizes.clients (named w (submit c payload) ok')) (a.room c) (payload-short payload (requested w c payload ok')) k;
+      submission-fits (client_of w c) m payload (w.session c) o
+      (ltb-true c w.sizes.clients (named w (submit c payload) ok')) (a.room c)
+      (payload-short payload (requested w c payload ok')) k;
 }
 
 -- each event keeps it
-happens-plain : (w : World) (e : Event) (m : Memory) → w.now ≤ 2 ^ 63 → IsPlainWorld w → IsReadIn w.sizes e → refusal w e ≡ None → IsPlainWorld (happens w (e, m))
+happens-plain : (w : World) (e : Event) (m : Memory) → w.now ≤ 2 ^ 63 → IsPlainWorld w → IsReadIn w.sizes e
+    → refusal w e ≡ None → IsPlainWorld (happens w (e, m))
 unfolding happens
 happens-plain w e m few a rd ok = record {
   rings = a.rings;
@@ -206,7 +273,10 @@ happens-plain w e m few a rd ok = record {
   room = k.room;
   sent = λ s j. elim (Among-either s w.sent _ j) [
     | inl x ↦ a.sent s x
-    | inr x ↦ (let r = Among-map sent (effect w (e, m)).out s x in subst (λ (y : Sent). IsFrame w.sizes y.frame) (sym r.2) (k.out r.0 r.1))
+    | inr x ↦
+        (let r =
+        Among-map sent (effect w (e, m)).out s x in
+        subst (λ (y : Sent). IsFrame w.sizes y.frame) (sym r.2) (k.out r.0 r.1))
   ];
 }
   where
@@ -219,15 +289,18 @@ happens-plain w e m few a rd ok = record {
 -- ---- a run
 
 -- a whole run
-run-plain : (hs : List Happening) (w last : World) → w.now + length hs ≤ 2 ^ 63 → IsPlainWorld w → AllRead w.sizes hs → run w hs ≡ Ok last → IsPlainWorld last
+run-plain : (hs : List Happening) (w last : World) → w.now + length hs ≤ 2 ^ 63 → IsPlainWorld w
+    → AllRead w.sizes hs → run w hs ≡ Ok last → IsPlainWorld last
 unfolding run happens
 run-plain [] w last few a rd e = let k : w ≡ last = cc in subst IsPlainWorld k a
 run-plain (h ∷ hs) w last few a rd e =
     let r = run-step (refusal w h.0) (run (happens w h) hs) last e in
-    run-plain hs (happens w h) last (omega (arith, few)) (happens-plain w h.0 h.1 (omega (arith, few)) a rd.0 r.0) rd.1 r.1
+    run-plain hs (happens w h) last (omega (arith, few))
+    (happens-plain w h.0 h.1 (omega (arith, few)) a rd.0 r.0) rd.1 r.1
 
 -- the world at its start
-new-plain : (sizes : Sizes) (is_faulty : ℕ → Bool) (ring : ℕ → Keyring) → HaveOwnKeys (new_world sizes is_faulty ring) → IsPlainWorld (new_world sizes is_faulty ring)
+new-plain : (sizes : Sizes) (is_faulty : ℕ → Bool) (ring : ℕ → Keyring)
+    → HaveOwnKeys (new_world sizes is_faulty ring) → IsPlainWorld (new_world sizes is_faulty ring)
 unfolding new_world leaf proposed tree stored taken
 new-plain sizes is_faulty ring keys = record {
   rings = keys;
@@ -250,4 +323,5 @@ new-plain sizes is_faulty ring keys = record {
 pub any-sent-are-frames : AnySentFramesAreFrames
 unfolding new_world
 any-sent-are-frames sizes is_faulty ring hs last few keys rd e =
-    (run-plain hs (new_world sizes is_faulty ring) last (omega (arith, few)) (new-plain sizes is_faulty ring keys) rd e).sent
+    (run-plain hs (new_world sizes is_faulty ring) last (omega (arith, few))
+    (new-plain sizes is_faulty ring keys) rd e).sent

@@ -3,12 +3,14 @@ use Rattle.definitions.proofs.Orders.{counted-voted}
 use Rattle.definitions.proofs.Chronicles.{tree-cases, lawful-taken, taken-grows, tree-grows}
 use Rattle.definitions.proofs.Branches.{extends-between, just1-below, length-extends, just1-extends}
 use Rattle.definitions.proofs.Quorums.{quorum-member}
-use Rattle.std.proofs.Common.{ℕ, zero, suc, ◌≡◌, ◌<◌, ◌≤◌, ◌⊎◌, Bool, true, false, [], ◌∷◌, length, cond, refl, sym, ap, subst, arith, inl, inr}
+use Rattle.std.proofs.Common.{ℕ, zero, suc, ◌≡◌, ◌<◌, ◌≤◌, ◌⊎◌, Bool, true, false, [], ◌∷◌, length, cond}
+use Rattle.std.proofs.Common.{refl, sym, ap, subst, arith, inl, inr}
 use Rattle.std.proofs.lemmas.Bool.{cases_lt}
 use Rattle.definitions.specs.Lists.{Among, count_below}
 use Rattle.definitions.specs.Branches.{Branch, just1, Extends, IsBranch}
 use Rattle.ids.specs.Sizes.{Sizes, replicas, quorum}
-use Rattle.definitions.specs.Chronicles.{Admitted, Step, Step.took_block, Step.noted, Chronicle, voted, taken, tree, IsLawful, IsLawfulVote}
+use Rattle.definitions.specs.Chronicles.{Admitted, Step, Step.took_block, Step.noted, Chronicle, voted}
+use Rattle.definitions.specs.Chronicles.{taken, tree, IsLawful, IsLawfulVote}
 use Rattle.definitions.specs.Agreement.{Family, IsOrderly}
 
 -- the block was taken, and as a clear one
@@ -21,10 +23,18 @@ record IsClearVote (b : Branch) (c : Chronicle) : Type 0 where
   taken : Among b (tree c)
 
 clear-vote-grows : (st : Step) (b : Branch) (c : Chronicle) → IsClearVote b c → IsClearVote b (st ∷ c)
-clear-vote-grows st b c h = record { clear = λ x e l. (let r = h.clear x e l in (r.0, taken-grows st c r.0 r.1, r.2, r.3)); taken = tree-grows st c b h.taken }
+clear-vote-grows st b c h =
+    record {
+      clear = λ x e l. (let r = h.clear x e l in (r.0, taken-grows st c r.0 r.1, r.2, r.3));
+      taken = tree-grows st c b h.taken;
+    }
 
-vote-step : (a : Admitted) (c : Chronicle) (x : Branch) (t : Bool) → a.voted ≡ t → (a.voted ≡ true → IsLawfulVote a.branch (took_block a ∷ c) c) → (Among x (voted c) → IsClearVote x c) → Among x (cond t (a.branch ∷ voted c) (voted c)) → IsClearVote x (took_block a ∷ c)
-vote-step a c x true e law rest (inl i) = subst (λ (y : Branch). IsClearVote y (took_block a ∷ c)) (sym i) (let l = law e in record { clear = l.clear; taken = l.taken })
+vote-step : (a : Admitted) (c : Chronicle) (x : Branch) (t : Bool) → a.voted ≡ t
+    → (a.voted ≡ true → IsLawfulVote a.branch (took_block a ∷ c) c) → (Among x (voted c) → IsClearVote x c)
+    → Among x (cond t (a.branch ∷ voted c) (voted c)) → IsClearVote x (took_block a ∷ c)
+vote-step a c x true e law rest (inl i) =
+    subst (λ (y : Branch). IsClearVote y (took_block a ∷ c)) (sym i)
+    (let l = law e in record { clear = l.clear; taken = l.taken })
 vote-step a c x true e law rest (inr m) = clear-vote-grows (took_block a) x c (rest m)
 vote-step a c x false e law rest m = clear-vote-grows (took_block a) x c (rest m)
 
@@ -44,26 +54,42 @@ abbrev pub IsClearSomewhere : Family → Branch → Type 0
 IsClearSomewhere fam y = (v : ℕ) × (fam.is_member v ≡ true) × IsClearIn (fam.chronicle v) y
 
 -- a member voted for the block that a taken one justifies
-justified-vote : (fam : Family) → IsCourse fam → (p : ℕ) (a : Admitted) → fam.is_member p ≡ true → Among a (taken (fam.chronicle p)) → ((v : ℕ) × (fam.is_member v ≡ true) × IsClearVote (just1 a.branch) (fam.chronicle v)) ⊎ (just1 a.branch ≡ [])
+justified-vote : (fam : Family) → IsCourse fam → (p : ℕ) (a : Admitted) → fam.is_member p ≡ true
+    → Among a (taken (fam.chronicle p))
+    → ((v : ℕ) × (fam.is_member v ≡ true) × IsClearVote (just1 a.branch) (fam.chronicle v))
+    ⊎ (just1 a.branch ≡ [])
 justified-vote fam co p a mp m =
     let t = lawful-taken fam.sizes (fam.chronicle p) (co.lawful p mp) a m in
     elim t.0 [
       | inl q ↦ (
           let v = quorum-member fam.sizes fam.is_member a.counted co.enough q.0 q.1 q.2 in
-          let vote = counted-voted fam.is_member co.orderly.order co.orderly.ordered p a (subst (λ (c : Chronicle). Among a (taken c)) (sym (co.orderly.whole p mp)) m) t.2 v.0 v.1 v.2 in
-          inl (v.0, v.2, vote-clear fam.sizes (fam.chronicle v.0) (co.lawful v.0 v.2) (just1 a.branch) (subst (λ (c : Chronicle). Among (just1 a.branch) (voted c)) (co.orderly.whole v.0 v.2) vote)))
+          let vote = counted-voted fam.is_member co.orderly.order co.orderly.ordered p a
+          (subst (λ (c : Chronicle). Among a (taken c)) (sym (co.orderly.whole p mp)) m) t.2 v.0 v.1 v.2
+          in
+          inl (
+            v.0,
+            v.2,
+            vote-clear fam.sizes (fam.chronicle v.0) (co.lawful v.0 v.2) (just1 a.branch)
+                (subst (λ (c : Chronicle). Among (just1 a.branch) (voted c)) (co.orderly.whole v.0 v.2)
+                vote),
+          ))
       | inr e ↦ inr e
     ]
 
-pub clear-below : (fuel : ℕ) (fam : Family) → IsCourse fam → (p : ℕ) (a : Admitted) → fam.is_member p ≡ true → Among a (taken (fam.chronicle p)) → length (just1 a.branch) ≤ fuel → (y : Branch) → Extends (just1 a.branch) y → 0 < length y → IsClearSomewhere fam y
-clear-below zero fam co p a mp m f y e l = absurd (let h = length-extends (just1 a.branch) y e in omega (arith, h, f, l))
+pub clear-below : (fuel : ℕ) (fam : Family) → IsCourse fam → (p : ℕ) (a : Admitted) → fam.is_member p ≡ true
+    → Among a (taken (fam.chronicle p)) → length (just1 a.branch) ≤ fuel → (y : Branch)
+    → Extends (just1 a.branch) y → 0 < length y → IsClearSomewhere fam y
+clear-below zero fam co p a mp m f y e l =
+    absurd (let h = length-extends (just1 a.branch) y e in omega (arith, h, f, l))
 clear-below (suc fuel) fam co p a mp m f y e l =
     elim (justified-vote fam co p a mp m) [
-      | inr z ↦ absurd (let h = length-extends (just1 a.branch) y e in let k = ap (λ (x : Branch). length x) z in omega (arith, h, k, l))
+      | inr z ↦ absurd (let h = length-extends (just1 a.branch) y e in let k = ap (λ (x : Branch). length x)
+          z in omega (arith, h, k, l))
       | inl v ↦ (elim (cases_lt (length (just1 (just1 a.branch))) (length y)) [
         | inl higher ↦ (v.0, v.1, v.2.clear y e higher)
         | inr lower ↦ (elim (tree-cases (fam.chronicle v.0) (just1 a.branch) v.2.taken) [
-          | inl z ↦ absurd (let h = length-extends (just1 a.branch) y e in let k = ap (λ (x : Branch). length x) z in omega (arith, h, k, l))
+          | inl z ↦ absurd (let h = length-extends (just1 a.branch) y e in let k = ap
+              (λ (x : Branch). length x) z in omega (arith, h, k, l))
           | inr r ↦ (
               let t = lawful-taken fam.sizes (fam.chronicle v.0) (co.lawful v.0 v.1) r.0 r.1 in
               let same : just1 r.0.branch ≡ just1 (just1 a.branch) = ap just1 r.2 in
@@ -71,7 +97,8 @@ clear-below (suc fuel) fam co p a mp m f y e l =
               let short = just1-below (just1 a.branch) (subst IsBranch r.2 t.1) (omega (arith, h, l)) in
               let long = ap (λ (x : Branch). length x) same in
               clear-below fuel fam co v.0 r.0 v.1 r.1 (omega (arith, short, long, f)) y
-              (subst (λ (x : Branch). Extends x y) (sym same) (extends-between (just1 a.branch) (just1 (just1 a.branch)) y (just1-extends (just1 a.branch)) e lower)) l)
+              (subst (λ (x : Branch). Extends x y) (sym same) (extends-between (just1 a.branch)
+              (just1 (just1 a.branch)) y (just1-extends (just1 a.branch)) e lower)) l)
         ])
       ])
     ]

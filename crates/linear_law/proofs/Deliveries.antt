@@ -2,7 +2,9 @@
 use Rattle.ids.specs.declared.limits.TheConstants.{MOST_BLOCKS}
 use Rattle.ids.specs.declared.fault.Fault.{Fault}
 use Rattle.ids.specs.declared.fault.Fault.TheVariants as fault
-use Rattle.std.proofs.Common.{ℕ, ◌≡◌, ◌⊎◌, ◌&&◌, not, ◌==◌, Bool, true, false, List, [], ◌∷◌, ◌++◌, map, filter, length, nat_lt, refl, sym, ap, subst, ◌∙◌, inl, inr, true≢false, Option, Some, None, Ok, option_map, slice_get}
+use Rattle.std.proofs.Common.{ℕ, ◌≡◌, ◌⊎◌, ◌&&◌, not, ◌==◌, Bool, true, false, List, [], ◌∷◌, ◌++◌, map}
+use Rattle.std.proofs.Common.{filter, length, nat_lt, refl, sym, ap, subst, ◌∙◌, inl, inr, true≢false}
+use Rattle.std.proofs.Common.{Option, Some, None, Ok, option_map, slice_get}
 use Rattle.std.specs.Bool.{⊤}
 use Rattle.std.specs.List.{list_any, AllByRecursion}
 use Rattle.std.specs.Str.{bytes_eq}
@@ -10,23 +12,41 @@ use Rattle.std.proofs.lemmas.Bool.{cond_both, and_parts, and_from, eqb-true, not
 use Rattle.definitions.specs.Lists.{Among}
 use Rattle.definitions.specs.Bytes.{Bytes}
 use Rattle.definitions.specs.Branches.{Branch}
-use Rattle.definitions.specs.Frames.{Command, Core, Vote, Certificate, Frame, sender_of, content_of, kind_of, own_tag}
+use Rattle.definitions.specs.Frames.{Command, Core, Vote, Certificate, Frame, sender_of, content_of}
+use Rattle.definitions.specs.Frames.{kind_of, own_tag}
 use Rattle.ids.specs.Sizes.{Sizes, quorum, client_party}
 use Rattle.definitions.specs.Digests.{digest_of, core_of, core_over}
 use Rattle.definitions.specs.Keyrings.{Keyring}
-use Rattle.definitions.specs.Chronicles.{Admitted, Step, Step.took_block, Step.noted, Note.got_vote, Note.got_new_view, Note.got_request, Note.got_fetch, Note.timed_out, Note.beat, Chronicle, taken, tree, history}
+use Rattle.definitions.specs.Chronicles.{Admitted, Step, Step.took_block, Step.noted, Note.got_vote}
+use Rattle.definitions.specs.Chronicles.{Note.got_new_view, Note.got_request, Note.got_fetch}
+use Rattle.definitions.specs.Chronicles.{Note.timed_out, Note.beat, Chronicle, taken, tree, history}
 use Rattle.definitions.specs.Checks.{Identity, Findings, vote_verifies, command_verifies}
-use Rattle.definitions.specs.States.{view, Justified, me, leads, leaf, child, known_as, proposed, made_with, raised, higher, qc_high, votes, pending, with_request, is_due, is_same_request, picks, find_block}
-use Rattle.definitions.specs.Trees.{Placing, Placing.stands, Placing.grows, Placing.lacks_parent, Placing.unfit, placing}
-use Rattle.definitions.specs.Rulings.{Input, Input.proposal_in, Input.block_in, Input.vote_in, Input.new_view_in, Input.request_in, Input.fetch_in, Input.timeout_in, Input.beat_in, Ruling, Ruling.due, Ruling.missing, Ruling.refusing, admitted, on_placing, on_request, with_block, ruling, conflicts}
-use Rattle.definitions.specs.Sendings.{To, To.to_party, Sending, reply_to, vote_frame, block_frame, new_view_frame, proposal_frame, fetch_frame}
-use Rattle.definitions.specs.Replicas.{Memory, Memory.ample, Memory.refused_at_once, Memory.refused_after, Replica, Reaction, Reaction.fails, Standing, Standing.running, Standing.stopped, Standing.cut_short, executes, on_step, on_ruling, step}
+use Rattle.definitions.specs.States.{view, Justified, me, leads, leaf, child, known_as, proposed, made_with}
+use Rattle.definitions.specs.States.{raised, higher, qc_high, votes, pending, with_request, is_due}
+use Rattle.definitions.specs.States.{is_same_request, picks, find_block}
+use Rattle.definitions.specs.Trees.{Placing, Placing.stands, Placing.grows, Placing.lacks_parent}
+use Rattle.definitions.specs.Trees.{Placing.unfit, placing}
+use Rattle.definitions.specs.Rulings.{Input, Input.proposal_in, Input.block_in, Input.vote_in}
+use Rattle.definitions.specs.Rulings.{Input.new_view_in, Input.request_in, Input.fetch_in, Input.timeout_in}
+use Rattle.definitions.specs.Rulings.{Input.beat_in, Ruling, Ruling.due, Ruling.missing, Ruling.refusing}
+use Rattle.definitions.specs.Rulings.{admitted, on_placing, on_request, with_block, ruling, conflicts}
+use Rattle.definitions.specs.Sendings.{To, To.to_party, Sending, reply_to, vote_frame, block_frame}
+use Rattle.definitions.specs.Sendings.{new_view_frame, proposal_frame, fetch_frame}
+use Rattle.definitions.specs.Replicas.{Memory, Memory.ample, Memory.refused_at_once, Memory.refused_after}
+use Rattle.definitions.specs.Replicas.{Replica, Reaction, Reaction.fails, Standing, Standing.running}
+use Rattle.definitions.specs.Replicas.{Standing.stopped, Standing.cut_short, executes, on_step, on_ruling}
+use Rattle.definitions.specs.Replicas.{step}
 use Rattle.definitions.specs.Sessions.{Session, Submitted, is_ample}
 use Rattle.definitions.specs.Admission.{Checked, Checked.passes, Checked.rejected, check}
-use Rattle.definitions.specs.Worlds.{World, Sent, Event, Event.submit, Event.relay, Event.inject, Event.timeout, Event.beat, Happening, is_replica, self_of, client_of, new_world}
-use Rattle.definitions.specs.Events.{Effect, nothing, stepped, told, submitted, out_of, on_checked, hears, submits, comes, recorded, brought, party_of, acts, effect, happens}
+use Rattle.definitions.specs.Worlds.{World, Sent, Event, Event.submit, Event.relay, Event.inject}
+use Rattle.definitions.specs.Worlds.{Event.timeout, Event.beat, Happening, is_replica, self_of, client_of}
+use Rattle.definitions.specs.Worlds.{new_world}
+use Rattle.definitions.specs.Events.{Effect, nothing, stepped, told, submitted, out_of, on_checked, hears}
+use Rattle.definitions.specs.Events.{submits, comes, recorded, brought, party_of, acts, effect, happens}
 use Rattle.definitions.specs.Runs.{refusal, run}
-use Rattle.definitions.specs.Premises.{Claim, IsFor, IsTagOf, WasSent, own_claim, vote_claim, vote_claims, command_claim, command_claims, accepted_tags, admits, IsReadIn, AllRead, NoForgeryIn, NoForgery}
+use Rattle.definitions.specs.Premises.{Claim, IsFor, IsTagOf, WasSent, own_claim, vote_claim, vote_claims}
+use Rattle.definitions.specs.Premises.{command_claim, command_claims, accepted_tags, admits, IsReadIn}
+use Rattle.definitions.specs.Premises.{AllRead, NoForgeryIn, NoForgery}
 use Rattle.definitions.proofs.Lists.{Among-either, Among-map, Among-before}
 use Rattle.definitions.proofs.Certificates.{all-filter, all-implied, all-by_voter}
 use Rattle.definitions.proofs.Checks.{when-good}
@@ -35,7 +55,8 @@ use Rattle.definitions.proofs.Sound.{found}
 use Rattle.definitions.proofs.Trees.{same_bytes, found-in, core-known, IsPlaced, placed}
 use Rattle.linear_law.proofs.Inputs.{all-among}
 use Rattle.linear_law.proofs.Effects.{is_member, named}
-use Rattle.linear_law.proofs.Sends.{Sends, Sends.its_vote, Sends.new_reply, Sends.old_reply, Sends.its_view, Sends.its_block, Sends.its_proposal, sends}
+use Rattle.linear_law.proofs.Sends.{Sends, Sends.its_vote, Sends.new_reply, Sends.old_reply, Sends.its_view}
+use Rattle.linear_law.proofs.Sends.{Sends.its_block, Sends.its_proposal, sends}
 use Rattle.linear_law.proofs.Submissions.{IsAsked, IsAsked.kept, IsAsked.given, submission-asked}
 use Rattle.linear_law.proofs.Linear.{run-step}
 use Rattle.linear_law.proofs.Leaves.{all-after, all-take, none-some, child-is}
@@ -52,7 +73,8 @@ VoteSent sent d b = (s : Sent) × Among s sent × (s.sender ≡ b.voter) × (s.f
 
 -- the client sent this command
 abbrev CommandSent : List Sent → Command → Type 0
-CommandSent sent k = (s : Sent) × Among s sent × (s.sender ≡ client_party k.client) × (s.frame ≡ frame.request k)
+CommandSent sent k =
+    (s : Sent) × Among s sent × (s.sender ≡ client_party k.client) × (s.frame ≡ frame.request k)
 
 abbrev VotesSent : List Sent → Certificate → Type 0
 VotesSent sent q = AllByRecursion (VoteSent sent q.digest) q.votes
@@ -78,7 +100,8 @@ IsMadeInput sent i = ⊤
 
 -- what a step stores
 abbrev IsMade : List Sent → Step → Type 0
-IsMade sent (took_block a) = (a.new ≡ true → CommandsSent sent (core_of a.branch).commands) × VotesSent sent a.certificate
+IsMade sent (took_block a) =
+    (a.new ≡ true → CommandsSent sent (core_of a.branch).commands) × VotesSent sent a.certificate
 IsMade sent (noted (got_vote voter v b)) = VoteSent sent (digest_of b) (record { voter = voter; vector = v })
 IsMade sent (noted (got_new_view w s q b)) = VotesSent sent q
 IsMade sent (noted (got_request k)) = CommandSent sent k
@@ -97,7 +120,8 @@ module _ (sent more : List Sent) where
   command-later k r = (r.0, Among-before r.0 sent more r.1, r.2, r.3)
 
   votes-later : (q : Certificate) → VotesSent sent q → VotesSent (sent ++ more) q
-  votes-later q h = all-implied (VoteSent sent q.digest) (VoteSent (sent ++ more) q.digest) (vote-later q.digest) q.votes h
+  votes-later q h =
+      all-implied (VoteSent sent q.digest) (VoteSent (sent ++ more) q.digest) (vote-later q.digest) q.votes h
 
   commands-later : (ks : List Command) → CommandsSent sent ks → CommandsSent (sent ++ more) ks
   commands-later ks h = all-implied (CommandSent sent) (CommandSent (sent ++ more)) command-later ks h
@@ -112,8 +136,10 @@ module _ (sent more : List Sent) where
   passed-later (frame.fetch s d t) h = tt
 
   step-later : (st : Step) → IsMade sent st → IsMade (sent ++ more) st
-  step-later (took_block a) h = (λ n. commands-later (core_of a.branch).commands (h.0 n), votes-later a.certificate h.1)
-  step-later (noted (got_vote voter v b)) h = vote-later (digest_of b) (record { voter = voter; vector = v }) h
+  step-later (took_block a) h =
+      (λ n. commands-later (core_of a.branch).commands (h.0 n), votes-later a.certificate h.1)
+  step-later (noted (got_vote voter v b)) h =
+      vote-later (digest_of b) (record { voter = voter; vector = v }) h
   step-later (noted (got_new_view w s q b)) h = votes-later q h
   step-later (noted (got_request k)) h = command-later k h
   step-later (noted (got_fetch to b)) h = tt
@@ -126,12 +152,19 @@ module _ (sent more : List Sent) where
 -- ---- what a chronicle keeps
 
 module _ (sent : List Sent) where
-  votes-made : (s : Sizes) (d : Bytes) (c : Chronicle) → AreMade sent c → AllByRecursion (VoteSent sent d) (votes s d c)
+  votes-made : (s : Sizes) (d : Bytes) (c : Chronicle) → AreMade sent c
+      → AllByRecursion (VoteSent sent d) (votes s d c)
   unfolding votes
   votes-made s d [] h = tt
   votes-made s d (noted (got_vote voter v b) ∷ c) h =
-      cond_both (bytes_eq (digest_of b) d && (not (list_any (λ x. x.voter == voter) (votes s d c)) && nat_lt (length (votes s d c)) (quorum s))) _ _ (AllByRecursion (VoteSent sent d))
-      (λ e. (subst (λ (y : Bytes). VoteSent sent y (record { voter = voter; vector = v })) (same_bytes _ _ (and_parts _ _ e).0) h.0, votes-made s d c h.1))
+      cond_both (bytes_eq (digest_of b) d
+      && (not (list_any (λ x. x.voter == voter) (votes s d c)) && nat_lt (length (votes s d c))
+      (quorum s))) _ _ (AllByRecursion (VoteSent sent d))
+      (λ e. (
+        subst (λ (y : Bytes). VoteSent sent y (record { voter = voter; vector = v }))
+            (same_bytes _ _ (and_parts _ _ e).0) h.0,
+        votes-made s d c h.1,
+      ))
       (λ e. votes-made s d c h.1)
   votes-made s d (took_block a ∷ c) h = votes-made s d c h.1
   votes-made s d (noted n ∷ c) h = votes-made s d c h.1
@@ -144,8 +177,11 @@ module _ (sent : List Sent) where
   unfolding raised
   raised-made s (took_block a) c h = cond_both a.new _ _ RaisedMade (λ e. h.0.1) (λ e. tt)
   raised-made s (noted (got_vote voter v b)) c h =
-      cond_both (nat_lt (length (votes s (digest_of b) c)) (quorum s) && (length (votes s (digest_of b) (noted (got_vote voter v b) ∷ c)) == quorum s)) _ _ RaisedMade
-      (λ e. all-by_voter (VoteSent sent (digest_of b)) (votes s (digest_of b) (noted (got_vote voter v b) ∷ c)) (votes-made s (digest_of b) (noted (got_vote voter v b) ∷ c) h))
+      cond_both (nat_lt (length (votes s (digest_of b) c)) (quorum s)
+      && (length (votes s (digest_of b) (noted (got_vote voter v b) ∷ c)) == quorum s)) _ _ RaisedMade
+      (λ e. all-by_voter (VoteSent sent (digest_of b))
+      (votes s (digest_of b) (noted (got_vote voter v b) ∷ c))
+      (votes-made s (digest_of b) (noted (got_vote voter v b) ∷ c) h))
       (λ e. tt)
   raised-made s (noted (got_new_view w r q b)) c h = h.0
   raised-made s (noted (got_request k)) c h = tt
@@ -153,47 +189,65 @@ module _ (sent : List Sent) where
   raised-made s (noted timed_out) c h = tt
   raised-made s (noted beat) c h = tt
 
-  higher-made : (o : Option Justified) (q : Justified) → RaisedMade o → VotesSent sent q.certificate → VotesSent sent (higher o q).certificate
+  higher-made : (o : Option Justified) (q : Justified) → RaisedMade o → VotesSent sent q.certificate
+      → VotesSent sent (higher o q).certificate
   higher-made None q r h = h
-  higher-made (Some p) q r h = cond_both (nat_lt (length q.block) (length p.block)) p q (λ (j : Justified). VotesSent sent j.certificate) (λ e. r) (λ e. h)
+  higher-made (Some p) q r h =
+      cond_both (nat_lt (length q.block) (length p.block)) p q
+      (λ (j : Justified). VotesSent sent j.certificate) (λ e. r) (λ e. h)
 
   high-made : (s : Sizes) (c : Chronicle) → AreMade sent c → VotesSent sent (qc_high s c).certificate
   unfolding qc_high
   high-made s [] h = tt
-  high-made s (st ∷ c) h = higher-made (raised s st c) (qc_high s c) (raised-made s st c h) (high-made s c h.1)
+  high-made s (st ∷ c) h =
+      higher-made (raised s st c) (qc_high s c) (raised-made s st c h) (high-made s c h.1)
 
-  with_request-made : (st : Step) (ps : List Command) → IsMade sent st → CommandsSent sent ps → CommandsSent sent (with_request st ps)
-  with_request-made (noted (got_request r)) ps h all = cond_both (list_any (is_same_request r) ps) ps (ps ++ r ∷ []) (CommandsSent sent) (λ e. all) (λ e. all-after (CommandSent sent) ps r all h)
+  with_request-made : (st : Step) (ps : List Command) → IsMade sent st → CommandsSent sent ps
+      → CommandsSent sent (with_request st ps)
+  with_request-made (noted (got_request r)) ps h all =
+      cond_both (list_any (is_same_request r) ps) ps (ps ++ r ∷ []) (CommandsSent sent) (λ e. all)
+      (λ e. all-after (CommandSent sent) ps r all h)
   with_request-made (took_block a) ps h all = all
   with_request-made (noted n) ps h all = all
 
   pending-made : (c : Chronicle) → AreMade sent c → CommandsSent sent (pending c)
   unfolding pending
   pending-made [] h = tt
-  pending-made (st ∷ c) h = all-filter (CommandSent sent) (is_due (history (st ∷ c))) (with_request st (pending c)) (with_request-made st (pending c) h.0 (pending-made c h.1))
+  pending-made (st ∷ c) h = all-filter (CommandSent sent) (is_due (history (st ∷ c)))
+      (with_request st (pending c)) (with_request-made st (pending c) h.0 (pending-made c h.1))
 
   picks-made : (c : Chronicle) (on : Branch) → AreMade sent c → CommandsSent sent (picks c on)
   unfolding picks
-  picks-made c on h = all-take (CommandSent sent) 16 _ (all-filter (CommandSent sent) _ (pending c) (pending-made c h))
+  picks-made c on h =
+      all-take (CommandSent sent) 16 _ (all-filter (CommandSent sent) _ (pending c) (pending-made c h))
 
   abbrev IsMadeProposal : Justified → Type 0
   IsMadeProposal j = CommandsSent sent (core_of j.block).commands × VotesSent sent j.certificate
 
-  proposed-made : (self : Identity) (c : Chronicle) (j : Justified) → AreMade sent c → proposed self c ≡ Some j → IsMadeProposal j
+  proposed-made : (self : Identity) (c : Chronicle) (j : Justified) → AreMade sent c
+      → proposed self c ≡ Some j → IsMadeProposal j
   unfolding proposed core_of core_over
   proposed-made self [] j h e = absurd (none-some j e)
-  proposed-made self (noted beat ∷ c) j h e = by (λ f. proposed-made self c j h.1 f) (child self c (leaf self c)) refl e
+  proposed-made self (noted beat ∷ c) j h e =
+      by (λ f. proposed-made self c j h.1 f) (child self c (leaf self c)) refl e
     where
-      by : (proposed self c ≡ Some j → IsMadeProposal j) → (o : Option Branch) → child self c (leaf self c) ≡ o → made_with o (qc_high self.sizes c).certificate (proposed self c) ≡ Some j → IsMadeProposal j
+      by : (proposed self c ≡ Some j → IsMadeProposal j) → (o : Option Branch)
+          → child self c (leaf self c) ≡ o
+          → made_with o (qc_high self.sizes c).certificate (proposed self c) ≡ Some j → IsMadeProposal j
       by old None i f = old f
       by old (Some b) i f =
           let is : record { block = b; certificate = (qc_high self.sizes c).certificate } ≡ j = cc in
           let k = (child-is self c (leaf self c) b i).is in
-          subst IsMadeProposal is (subst (λ (x : Branch). CommandsSent sent (core_of x).commands) (sym k) (picks-made c (known_as (leaf self c) c) h.1), high-made self.sizes c h.1)
+          subst IsMadeProposal is (
+            subst (λ (x : Branch). CommandsSent sent (core_of x).commands) (sym k)
+                (picks-made c (known_as (leaf self c) c) h.1),
+            high-made self.sizes c h.1,
+          )
   proposed-made self (took_block a ∷ c) j h e = proposed-made self c j h.1 e
   proposed-made self (noted n ∷ c) j h e = proposed-made self c j h.1 e
 
-  taken-made : (c : Chronicle) (a : Admitted) → AreMade sent c → Among a (taken c) → CommandsSent sent (core_of a.branch).commands × VotesSent sent a.certificate
+  taken-made : (c : Chronicle) (a : Admitted) → AreMade sent c → Among a (taken c)
+      → CommandsSent sent (core_of a.branch).commands × VotesSent sent a.certificate
   unfolding taken
   taken-made [] a h m = absurd m
   taken-made (st ∷ c) a h m =
@@ -203,7 +257,8 @@ module _ (sent : List Sent) where
       ]
 
   -- what a step sends is in its own name, and passes on what was sent
-  sends-made : (self : Identity) (st : Step) (c : Chronicle) (o : Sending) → AreMade sent (st ∷ c) → Sends self st c o → (me self ≡ sender_of self.sizes o.1) × Passed sent o.1
+  sends-made : (self : Identity) (st : Step) (c : Chronicle) (o : Sending) → AreMade sent (st ∷ c)
+      → Sends self st c o → (me self ≡ sender_of self.sizes o.1) × Passed sent o.1
   unfolding vote_frame reply_to new_view_frame block_frame proposal_frame leads
   sends-made self st c o h (its_vote a e v to) = (refl, tt)
   sends-made self st c o h (new_reply a m) = (refl, tt)
@@ -219,33 +274,47 @@ module _ (sent : List Sent) where
   AllMade (missing r d) = ⊤
   AllMade (refusing n) = ⊤
 
-  placed-made : (self : Identity) (w : Option ℕ) (sender : ℕ) (core : Core) (q : Certificate) (f : Findings) (c : Chronicle) → CommandsSent sent core.commands → VotesSent sent q → (p : Placing) → IsPlaced MOST_BLOCKS core q (tree c) p → AllMade (on_placing self w sender core q f c p)
+  placed-made : (self : Identity) (w : Option ℕ) (sender : ℕ) (core : Core) (q : Certificate) (f : Findings)
+      (c : Chronicle) → CommandsSent sent core.commands → VotesSent sent q → (p : Placing)
+      → IsPlaced MOST_BLOCKS core q (tree c) p → AllMade (on_placing self w sender core q f c p)
   unfolding on_placing admitted AllMade
   placed-made self w sender core q f c hk hq (stands b) h = (λ n. absurd (true≢false (sym n)), hq)
   placed-made self w sender core q f c hk hq (grows b) (parent, t) =
-      let ep = sym (found-in core.parent (tree c) parent t.parent_found).1 in
-      (λ n. subst (λ (x : Core). CommandsSent sent x.commands) (sym (ap core_of t.is ∙ core-known core parent ep t.height)) hk, hq)
+      let ep = sym (found-in core.parent (tree c) parent t.parent_found).1 in (
+        λ n. subst (λ (x : Core). CommandsSent sent x.commands)
+            (sym (ap core_of t.is ∙ core-known core parent ep t.height)) hk,
+        hq,
+      )
   placed-made self w sender core q f c hk hq lacks_parent h = tt
   placed-made self w sender core q f c hk hq (unfit n) h = tt
 
-  vote-made : (d : Bytes) (b : Vote) (c : Chronicle) → VoteSent sent d b → (o : Option Branch) → find_block d c ≡ o → AllMade (with_block o b.voter d (λ x. due (noted (got_vote b.voter b.vector x))))
+  vote-made : (d : Bytes) (b : Vote) (c : Chronicle) → VoteSent sent d b → (o : Option Branch)
+      → find_block d c ≡ o
+      → AllMade (with_block o b.voter d (λ x. due (noted (got_vote b.voter b.vector x))))
   unfolding AllMade
   vote-made d b c h None e = tt
   vote-made d b c h (Some x) e = subst (λ (y : Bytes). VoteSent sent y b) (sym (found d c x e).1) h
 
-  view-made : (w r : ℕ) (q : Certificate) (o : Option Branch) → VotesSent sent q → AllMade (with_block o r q.digest (λ x. due (noted (got_new_view w r q x))))
+  view-made : (w r : ℕ) (q : Certificate) (o : Option Branch) → VotesSent sent q
+      → AllMade (with_block o r q.digest (λ x. due (noted (got_new_view w r q x))))
   unfolding AllMade
   view-made w r q None h = tt
   view-made w r q (Some x) h = h
 
   request-made : (r : Command) (c : Chronicle) → CommandSent sent r → AllMade (on_request r c)
   unfolding on_request AllMade
-  request-made r c h = cond_both (is_due (history c) r && (not (list_any (is_same_request r) (pending c)) && not (nat_lt (length (pending c)) 4096))) _ _ AllMade (λ e. tt) (λ e. h)
+  request-made r c h = cond_both (is_due (history c) r
+      && (not (list_any (is_same_request r) (pending c)) && not (nat_lt (length (pending c)) 4096))) _ _
+      AllMade (λ e. tt) (λ e. h)
 
   ruling-made : (self : Identity) (i : Input) (c : Chronicle) → IsMadeInput sent i → AllMade (ruling self i c)
   unfolding ruling AllMade
-  ruling-made self (proposal_in w core q f) c h = placed-made self _ _ core q f c h.0 h.1 (placing MOST_BLOCKS core q (tree c)) (placed MOST_BLOCKS core q (tree c))
-  ruling-made self (block_in sender core q f) c h = placed-made self _ _ core q f c h.0 h.1 (placing MOST_BLOCKS core q (tree c)) (placed MOST_BLOCKS core q (tree c))
+  ruling-made self (proposal_in w core q f) c h =
+      placed-made self _ _ core q f c h.0 h.1 (placing MOST_BLOCKS core q (tree c))
+      (placed MOST_BLOCKS core q (tree c))
+  ruling-made self (block_in sender core q f) c h =
+      placed-made self _ _ core q f c h.0 h.1 (placing MOST_BLOCKS core q (tree c))
+      (placed MOST_BLOCKS core q (tree c))
   ruling-made self (vote_in d b) c h = vote-made d b c h _ refl
   ruling-made self (new_view_in w r q) c h = view-made w r q _ h
   ruling-made self (request_in r) c h = request-made r c h
@@ -260,35 +329,56 @@ module _ (sent : List Sent) where
     chronicle : AreMade sent r.0.chronicle
     out : (o : Sending) → Among o (out_of self m r.1) → (me self ≡ sender_of self.sizes o.1) × Passed sent o.1
 
-  on_step-made : (self : Identity) (m : Memory) (st : Step) (c : Chronicle) → AreMade sent c → IsMade sent st → IsMadeAfter self m (on_step self m st c)
+  on_step-made : (self : Identity) (m : Memory) (st : Step) (c : Chronicle) → AreMade sent c
+      → IsMade sent st → IsMadeAfter self m (on_step self m st c)
   unfolding on_step
   on_step-made self ample st c h k =
-      cond_both (conflicts st c) _ _ (IsMadeAfter self ample) (λ e. record { chronicle = h; out = λ o n. absurd n }) (λ e. record { chronicle = (k, h); out = λ o n. sends-made self st c o (k, h) (sends self st c o n) })
+      cond_both (conflicts st c) _ _ (IsMadeAfter self ample)
+      (λ e. record { chronicle = h; out = λ o n. absurd n })
+      (λ e.
+      record { chronicle = (k, h); out = λ o n. sends-made self st c o (k, h) (sends self st c o n) })
   on_step-made self refused_at_once st c h k = record { chronicle = h; out = λ o n. absurd n }
   on_step-made self (refused_after j) st c h k =
-      cond_both (conflicts st c) _ _ (IsMadeAfter self (refused_after j)) (λ e. record { chronicle = h; out = λ o n. absurd n })
-      (λ e. cond_both (executes st c) _ _ (IsMadeAfter self (refused_after j)) (λ x. record { chronicle = (k, h); out = λ o n. absurd n }) (λ x. record { chronicle = h; out = λ o n. absurd n }))
+      cond_both (conflicts st c) _ _ (IsMadeAfter self (refused_after j))
+      (λ e. record { chronicle = h; out = λ o n. absurd n })
+      (λ e. cond_both (executes st c) _ _ (IsMadeAfter self (refused_after j))
+      (λ x. record { chronicle = (k, h); out = λ o n. absurd n })
+      (λ x. record { chronicle = h; out = λ o n. absurd n }))
 
-  fetch-made : (self : Identity) (to : ℕ) (d : Bytes) (o : Sending) → Among o ((to_party to, fetch_frame self to d) ∷ []) → (me self ≡ sender_of self.sizes o.1) × Passed sent o.1
+  fetch-made : (self : Identity) (to : ℕ) (d : Bytes) (o : Sending)
+      → Among o ((to_party to, fetch_frame self to d) ∷ [])
+      → (me self ≡ sender_of self.sizes o.1) × Passed sent o.1
   unfolding fetch_frame
-  fetch-made self to d o (inl i) = subst (λ (x : Sending). (me self ≡ sender_of self.sizes x.1) × Passed sent x.1) (sym i) (refl, tt)
+  fetch-made self to d o (inl i) =
+      subst (λ (x : Sending). (me self ≡ sender_of self.sizes x.1) × Passed sent x.1) (sym i) (refl, tt)
   fetch-made self to d o (inr n) = absurd n
 
-  on_ruling-made : (self : Identity) (m : Memory) (v : Ruling) (c : Chronicle) → AreMade sent c → AllMade v → IsMadeAfter self m (on_ruling self m v c)
+  on_ruling-made : (self : Identity) (m : Memory) (v : Ruling) (c : Chronicle) → AreMade sent c → AllMade v
+      → IsMadeAfter self m (on_ruling self m v c)
   unfolding on_ruling AllMade
   on_ruling-made self m (due st) c h k = on_step-made self m st c h k
   on_ruling-made self m (missing to d) c h k = record {
     chronicle = h;
-    out = λ o. cond_both (is_ample m && not (to == self.ring.party)) ((to_party to, fetch_frame self to d) ∷ []) [] (λ (l : List Sending). Among o l → (me self ≡ sender_of self.sizes o.1) × Passed sent o.1) (λ e n. fetch-made self to d o n) (λ e n. absurd n);
+    out = λ o. cond_both (is_ample m && not (to == self.ring.party))
+        ((to_party to, fetch_frame self to d) ∷ []) []
+        (λ (l : List Sending). Among o l → (me self ≡ sender_of self.sizes o.1) × Passed sent o.1)
+        (λ e n. fetch-made self to d o n) (λ e n. absurd n);
   }
   on_ruling-made self m (refusing n) c h k = record { chronicle = h; out = λ o j. absurd j }
 
-  step-made : (self : Identity) (m : Memory) (i : Input) (r : Replica) → AreMade sent r.chronicle → IsMadeInput sent i → IsMadeAfter self m (step self m i r)
+  step-made : (self : Identity) (m : Memory) (i : Input) (r : Replica) → AreMade sent r.chronicle
+      → IsMadeInput sent i → IsMadeAfter self m (step self m i r)
   unfolding step
   step-made self m i r h k = by r.standing
     where
-      by : (s : Standing) → IsMadeAfter self m (elim s as (λ x. Replica × Reaction) [ running ↦ on_ruling self m (ruling self i r.chronicle) r.chronicle | stopped ↦ (r, fails fault.Stopped) | cut_short held ↦ (r, fails fault.Stopped) ])
-      by running = on_ruling-made self m (ruling self i r.chronicle) r.chronicle h (ruling-made self i r.chronicle k)
+      by : (s : Standing)
+          → IsMadeAfter self m (elim s as (λ x. Replica × Reaction) [
+            | running ↦ on_ruling self m (ruling self i r.chronicle) r.chronicle
+            | stopped ↦ (r, fails fault.Stopped)
+            | cut_short held ↦ (r, fails fault.Stopped)
+          ])
+      by running =
+          on_ruling-made self m (ruling self i r.chronicle) r.chronicle h (ruling-made self i r.chronicle k)
       by stopped = record { chronicle = h; out = λ o n. absurd n }
       by (cut_short held) = record { chronicle = h; out = λ o n. absurd n }
 
@@ -298,11 +388,15 @@ module _ (sent : List Sent) where
   abbrev IsOwn : Sizes → Sent → Type 0
   IsOwn sizes s = (s.sender ≡ sender_of sizes s.frame) × Passed sent s.frame
 
-  check-made : (self : Identity) (s : Sent) (f : Frame) (i : Input) → Among s sent → s.frame ≡ f → (s.sender ≡ sender_of self.sizes f) × Passed sent f → check self f ≡ passes i → IsMadeInput sent i
+  check-made : (self : Identity) (s : Sent) (f : Frame) (i : Input) → Among s sent → s.frame ≡ f
+      → (s.sender ≡ sender_of self.sizes f) × Passed sent f → check self f ≡ passes i → IsMadeInput sent i
   unfolding check
-  check-made self s (frame.proposal view core q v) i m j h e = let g = when-good _ _ _ e in subst (IsMadeInput sent) g.1 h.1
-  check-made self s (frame.block sender core q t) i m j h e = let g = when-good _ _ _ e in subst (IsMadeInput sent) g.1 h.1
-  check-made self s (frame.request c) i m j h e = subst (IsMadeInput sent) (when-good _ _ _ e).1 (s, m, h.0, j)
+  check-made self s (frame.proposal view core q v) i m j h e =
+      let g = when-good _ _ _ e in subst (IsMadeInput sent) g.1 h.1
+  check-made self s (frame.block sender core q t) i m j h e =
+      let g = when-good _ _ _ e in subst (IsMadeInput sent) g.1 h.1
+  check-made self s (frame.request c) i m j h e =
+      subst (IsMadeInput sent) (when-good _ _ _ e).1 (s, m, h.0, j)
   check-made self s (frame.vote d b) i m j h e = subst (IsMadeInput sent) (when-good _ _ _ e).1 (s, m, h.0, j)
   check-made self s (frame.new_view w r q v) i m j h e = subst (IsMadeInput sent) (when-good _ _ _ e).1 h.1
   check-made self s (frame.fetch r d t) i m j h e = subst (IsMadeInput sent) (when-good _ _ _ e).1 tt
@@ -316,7 +410,10 @@ module _ (sent : List Sent) where
 -- nothing to replicas, or a correct replica takes a recorded frame, a timeout or a beat, or a client submits
 data Moves (w : World) (e : Event) (m : Memory) : Effect → Type 0 where
   still : (f : Effect) → f.replica ≡ w.replica → f.out ≡ [] → Moves w e m f
-  taking : (i : Input) → is_member w (party_of e) ≡ true → ((f : Frame) × (brought w e ≡ Some f) × (check (self_of w (party_of e)) f ≡ passes i)) ⊎ ((i ≡ timeout_in) ⊎ (i ≡ beat_in)) → Moves w e m (stepped w (party_of e) m (step (self_of w (party_of e)) m i (w.replica (party_of e))))
+  taking : (i : Input) → is_member w (party_of e) ≡ true
+      → ((f : Frame) × (brought w e ≡ Some f) × (check (self_of w (party_of e)) f ≡ passes i))
+      ⊎ ((i ≡ timeout_in) ⊎ (i ≡ beat_in))
+      → Moves w e m (stepped w (party_of e) m (step (self_of w (party_of e)) m i (w.replica (party_of e))))
   asking : (c : ℕ) (payload : Bytes) → e ≡ submit c payload → Moves w e m (submits c m payload w)
 
 nothing-moves : (w : World) (e : Event) (m : Memory) (a : Option Fault) → Moves w e m (nothing w a)
@@ -327,45 +424,57 @@ hears-moves : (w : World) (e : Event) (m : Memory) (c : ℕ) (f : Frame) → Mov
 unfolding told
 hears-moves w e m c f = still _ refl refl
 
-comes-moves : (w : World) (e : Event) (m : Memory) → w.is_faulty (party_of e) ≡ false → (o : Option Frame) → brought w e ≡ o → Moves w e m (comes (party_of e) m o w)
+comes-moves : (w : World) (e : Event) (m : Memory) → w.is_faulty (party_of e) ≡ false → (o : Option Frame)
+    → brought w e ≡ o → Moves w e m (comes (party_of e) m o w)
 unfolding comes
 comes-moves w e m ok None b = nothing-moves w e m (Some fault.NotAFrame)
 comes-moves w e m ok (Some f) b =
-    cond_both (is_replica w (party_of e)) (on_checked (party_of e) m (check (self_of w (party_of e)) f) w) (hears _ m f w) (Moves w e m)
+    cond_both (is_replica w (party_of e)) (on_checked (party_of e) m (check (self_of w (party_of e)) f) w)
+    (hears _ m f w) (Moves w e m)
     (λ r. checked (check (self_of w (party_of e)) f) refl r) (λ r. hears-moves w e m _ f)
   where
-    checked : (x : Checked) → check (self_of w (party_of e)) f ≡ x → is_replica w (party_of e) ≡ true → Moves w e m (on_checked (party_of e) m x w)
+    checked : (x : Checked) → check (self_of w (party_of e)) f ≡ x → is_replica w (party_of e) ≡ true
+        → Moves w e m (on_checked (party_of e) m x w)
     checked (passes i) g r = taking i (and_from _ _ r (not_from_false _ ok)) (inl (f, b, g))
     checked (rejected n) g r = nothing-moves w e m (Some n)
 
-acts-moves : (w : World) (e : Event) (m : Memory) → refusal w e ≡ None → w.is_faulty (party_of e) ≡ false → Moves w e m (acts w e m)
+acts-moves : (w : World) (e : Event) (m : Memory) → refusal w e ≡ None → w.is_faulty (party_of e) ≡ false
+    → Moves w e m (acts w e m)
 unfolding acts party_of brought
 acts-moves w (submit c payload) m n ok = asking c payload refl
 acts-moves w (relay k to) m n ok = comes-moves w (relay k to) m ok (recorded w k) refl
 acts-moves w (inject to bytes f) m n ok = comes-moves w (inject to bytes f) m ok f refl
-acts-moves w (timeout r) m n ok = taking timeout_in (and_from _ _ (named w (timeout r) n) (not_from_false _ ok)) (inr (inl refl))
-acts-moves w (beat r) m n ok = taking beat_in (and_from _ _ (named w (beat r) n) (not_from_false _ ok)) (inr (inr refl))
+acts-moves w (timeout r) m n ok =
+    taking timeout_in (and_from _ _ (named w (timeout r) n) (not_from_false _ ok)) (inr (inl refl))
+acts-moves w (beat r) m n ok =
+    taking beat_in (and_from _ _ (named w (beat r) n) (not_from_false _ ok)) (inr (inr refl))
 
 effect-moves : (w : World) (e : Event) (m : Memory) → refusal w e ≡ None → Moves w e m (effect w (e, m))
 unfolding effect
-effect-moves w e m n = cond_both (w.is_faulty (party_of e)) (nothing w None) (acts w e m) (Moves w e m) (λ f. nothing-moves w e m None) (λ ok. acts-moves w e m n ok)
+effect-moves w e m n = cond_both (w.is_faulty (party_of e)) (nothing w None) (acts w e m) (Moves w e m)
+    (λ f. nothing-moves w e m None) (λ ok. acts-moves w e m n ok)
 
 -- ---- a world
 
--- each correct replica keeps what was sent by its makers, and each frame of the record is its sender's own and passes that on
+-- each correct replica keeps what was sent by its makers, and each frame of the record is its sender's own
+-- and passes that on
 record IsPassedOn (w : World) : Type 0 where
   keys : HaveOwnKeys w
   made : (p : ℕ) → is_member w p ≡ true → AreMade w.sent (w.replica p).chronicle
   sent : (s : Sent) → Among s w.sent → (s.sender ≡ sender_of w.sizes s.frame) × Passed w.sent s.frame
 
 -- what is brought is a recorded frame, for this party
-brings-sent : (w : World) (e : Event) (f : Frame) → IsDelivered w e → brought w e ≡ Some f → (s : Sent) × Among s w.sent × (s.frame ≡ f) × IsFor (party_of e) s.to f
+brings-sent : (w : World) (e : Event) (f : Frame) → IsDelivered w e → brought w e ≡ Some f
+    → (s : Sent) × Among s w.sent × (s.frame ≡ f) × IsFor (party_of e) s.to f
 unfolding brought party_of
 brings-sent w (relay k to) f d b = by (slice_get w.sent k) refl b
   where
-    by : (o : Option Sent) → slice_get w.sent k ≡ o → option_map (λ s. s.frame) o ≡ Some f → (s : Sent) × Among s w.sent × (s.frame ≡ f) × IsFor to s.to f
+    by : (o : Option Sent) → slice_get w.sent k ≡ o → option_map (λ s. s.frame) o ≡ Some f
+        → (s : Sent) × Among s w.sent × (s.frame ≡ f) × IsFor to s.to f
     by None i j = absurd (none-some f j)
-    by (Some s) i j = let here : s.frame ≡ f = cc in (s, slice_get-among w.sent k s i, here, subst (λ (g : Frame). IsFor to s.to g) here (d s i))
+    by (Some s) i j =
+        let here : s.frame ≡ f =
+        cc in (s, slice_get-among w.sent k s i, here, subst (λ (g : Frame). IsFor to s.to g) here (d s i))
 brings-sent w (submit c payload) f d b = absurd (none-some f b)
 brings-sent w (inject to bytes read) f d b = absurd d
 brings-sent w (timeout r) f d b = absurd (none-some f b)
@@ -376,42 +485,55 @@ record KeepsMade (w : World) (e : Event) (f : Effect) : Type 0 where
   made : (p : ℕ) → is_member w p ≡ true → AreMade w.sent (f.replica p).chronicle
   out : (o : Sending) → Among o f.out → (party_of e ≡ sender_of w.sizes o.1) × Passed w.sent o.1
 
-stepped-made : (w : World) (e : Event) (m : Memory) (r : Replica × Reaction) → IsPassedOn w → is_member w (party_of e) ≡ true → IsMadeAfter w.sent (self_of w (party_of e)) m r → KeepsMade w e (stepped w (party_of e) m r)
+stepped-made : (w : World) (e : Event) (m : Memory) (r : Replica × Reaction) → IsPassedOn w
+    → is_member w (party_of e) ≡ true → IsMadeAfter w.sent (self_of w (party_of e)) m r
+    → KeepsMade w e (stepped w (party_of e) m r)
 unfolding stepped
 stepped-made w e m r a me k = record {
-  made = λ q mq. put-both (λ (x : Replica). AreMade w.sent x.chronicle) (party_of e) r.0 w.replica q (λ i. k.chronicle) (a.made q mq);
+  made = λ q mq. put-both (λ (x : Replica). AreMade w.sent x.chronicle) (party_of e) r.0 w.replica q
+      (λ i. k.chronicle) (a.made q mq);
   out = λ o n. (let h = k.out o n in (sym (a.keys (party_of e) me) ∙ h.0, h.1));
 }
 
-asked-made : (w : World) (e : Event) (c : ℕ) (payload : Bytes) (x : Session × Submitted) → IsPassedOn w → e ≡ submit c payload → IsAsked (client_of w c) payload (w.session c) x → KeepsMade w e (submitted w c x)
+asked-made : (w : World) (e : Event) (c : ℕ) (payload : Bytes) (x : Session × Submitted) → IsPassedOn w
+    → e ≡ submit c payload → IsAsked (client_of w c) payload (w.session c) x
+    → KeepsMade w e (submitted w c x)
 unfolding submitted party_of
 asked-made w e c payload x a i (kept n) = record { made = a.made; out = λ o k. absurd k }
 asked-made w e c payload x a i given = record {
   made = a.made;
   out = λ o k. elim k [
-    | inl j ↦ subst (λ (y : Sending). (party_of e ≡ sender_of w.sizes y.1) × Passed w.sent y.1) (sym j) (ap party_of i, tt)
+    | inl j ↦ subst (λ (y : Sending). (party_of e ≡ sender_of w.sizes y.1) × Passed w.sent y.1) (sym j)
+        (ap party_of i, tt)
     | inr n ↦ absurd n
   ];
 }
 
-input-made : (w : World) (e : Event) (i : Input) → IsPassedOn w → IsDelivered w e → ((f : Frame) × (brought w e ≡ Some f) × (check (self_of w (party_of e)) f ≡ passes i)) ⊎ ((i ≡ timeout_in) ⊎ (i ≡ beat_in)) → IsMadeInput w.sent i
+input-made : (w : World) (e : Event) (i : Input) → IsPassedOn w → IsDelivered w e
+    → ((f : Frame) × (brought w e ≡ Some f) × (check (self_of w (party_of e)) f ≡ passes i))
+    ⊎ ((i ≡ timeout_in) ⊎ (i ≡ beat_in)) → IsMadeInput w.sent i
 input-made w e i a d (inl b) =
     let s = brings-sent w e b.0 d b.1 in
-    check-made w.sent (self_of w (party_of e)) s.0 b.0 i s.1 s.2 (subst (λ (f : Frame). (s.0.sender ≡ sender_of w.sizes f) × Passed w.sent f) s.2 (a.sent s.0 s.1)) b.2
+    check-made w.sent (self_of w (party_of e)) s.0 b.0 i s.1 s.2
+    (subst (λ (f : Frame). (s.0.sender ≡ sender_of w.sizes f) × Passed w.sent f) s.2 (a.sent s.0 s.1)) b.2
 input-made w e i a d (inr (inl t)) = subst (IsMadeInput w.sent) (sym t) tt
 input-made w e i a d (inr (inr t)) = subst (IsMadeInput w.sent) (sym t) tt
 
-moves-made : (w : World) (e : Event) (m : Memory) (f : Effect) → IsPassedOn w → IsDelivered w e → Moves w e m f → KeepsMade w e f
+moves-made : (w : World) (e : Event) (m : Memory) (f : Effect) → IsPassedOn w → IsDelivered w e
+    → Moves w e m f → KeepsMade w e f
 moves-made w e m f a d (still g r o) = record {
   made = λ p mp. subst (λ (row : ℕ → Replica). AreMade w.sent (row p).chronicle) (sym r) (a.made p mp);
   out = λ x k. absurd (subst (λ (l : List Sending). Among x l) o k);
 }
 moves-made w e m f a d (taking i me ar) =
-    stepped-made w e m _ a me (step-made w.sent (self_of w (party_of e)) m i (w.replica (party_of e)) (a.made (party_of e) me) (input-made w e i a d ar))
-moves-made w e m f a d (asking c payload i) = asked-made w e c payload _ a i (submission-asked (client_of w c) m payload (w.session c))
+    stepped-made w e m _ a me (step-made w.sent (self_of w (party_of e)) m i (w.replica (party_of e))
+    (a.made (party_of e) me) (input-made w e i a d ar))
+moves-made w e m f a d (asking c payload i) =
+    asked-made w e c payload _ a i (submission-asked (client_of w c) m payload (w.session c))
 
 -- each event keeps it
-happens-passed : (w : World) (e : Event) (m : Memory) → IsPassedOn w → IsDelivered w e → refusal w e ≡ None → IsPassedOn (happens w (e, m))
+happens-passed : (w : World) (e : Event) (m : Memory) → IsPassedOn w → IsDelivered w e → refusal w e ≡ None
+    → IsPassedOn (happens w (e, m))
 unfolding happens
 happens-passed w e m a d ok = record {
   keys = a.keys;
@@ -421,7 +543,9 @@ happens-passed w e m a d ok = record {
     | inr x ↦ (
         let i = Among-map record_of f.out s x in
         let h = k.out i.0 i.1 in
-        subst (λ (y : Sent). (y.sender ≡ sender_of w.sizes y.frame) × Passed (w.sent ++ map record_of f.out) y.frame) (sym i.2) (h.0, passed-later w.sent (map record_of f.out) i.0.1 h.1)
+        subst (λ (y : Sent). (y.sender ≡ sender_of w.sizes y.frame)
+        × Passed (w.sent ++ map record_of f.out) y.frame) (sym i.2)
+        (h.0, passed-later w.sent (map record_of f.out) i.0.1 h.1)
         )
   ];
 }
@@ -444,9 +568,14 @@ IsOwnFor party to (frame.block sender core q t) = to ≡ to_party party
 IsOwnFor party to f = ⊤
 
 -- so is one that a correct replica with its own keys admits
-own-for : (w : World) (p : ℕ) (to : To) (f : Frame) → HaveOwnKeys w → w.is_faulty p ≡ false → admits w p f ≡ true → IsFor p to f → IsOwnFor (w.ring p).party to f
-own-for w p to (frame.fetch r d t) keys ok ad h = subst (λ (n : ℕ). to ≡ to_party n) (sym (keys p (and_from _ _ (and_parts _ _ ad).0 (not_from_false _ ok)))) h
-own-for w p to (frame.block r core q t) keys ok ad h = subst (λ (n : ℕ). to ≡ to_party n) (sym (keys p (and_from _ _ (and_parts _ _ ad).0 (not_from_false _ ok)))) h
+own-for : (w : World) (p : ℕ) (to : To) (f : Frame) → HaveOwnKeys w → w.is_faulty p ≡ false
+    → admits w p f ≡ true → IsFor p to f → IsOwnFor (w.ring p).party to f
+own-for w p to (frame.fetch r d t) keys ok ad h =
+    subst (λ (n : ℕ). to ≡ to_party n)
+    (sym (keys p (and_from _ _ (and_parts _ _ ad).0 (not_from_false _ ok)))) h
+own-for w p to (frame.block r core q t) keys ok ad h =
+    subst (λ (n : ℕ). to ≡ to_party n)
+    (sym (keys p (and_from _ _ (and_parts _ _ ad).0 (not_from_false _ ok)))) h
 own-for w p to (frame.request c) keys ok ad h = tt
 own-for w p to (frame.proposal v core q t) keys ok ad h = tt
 own-for w p to (frame.vote d b) keys ok ad h = tt
@@ -455,22 +584,39 @@ own-for w p to (frame.reply r c q x t g) keys ok ad h = tt
 
 module _ (sent : List Sent) (self : Identity) where
   -- the frame's own
-  own-sent : (s : Sent) (f : Frame) → Among s sent → s.frame ≡ f → s.sender ≡ sender_of self.sizes f → IsFor self.ring.party s.to f → WasSent sent (own_claim self f)
-  own-sent s f m is by to = (s, m, by, subst (λ (g : Frame). IsTagOf (own_claim self f) s g) (sym is) (refl, refl, refl, to))
+  own-sent : (s : Sent) (f : Frame) → Among s sent → s.frame ≡ f → s.sender ≡ sender_of self.sizes f
+      → IsFor self.ring.party s.to f → WasSent sent (own_claim self f)
+  own-sent s f m is by to =
+      (s, m, by, subst (λ (g : Frame). IsTagOf (own_claim self f) s g) (sym is) (refl, refl, refl, to))
 
   -- those of a certificate's votes
-  votes-sent : (q : Certificate) (x : Claim) → VotesSent sent q → Among x (vote_claims self q) → WasSent sent x
+  votes-sent : (q : Certificate) (x : Claim) → VotesSent sent q → Among x (vote_claims self q)
+      → WasSent sent x
   votes-sent q x h m =
       let b = Among-map (vote_claim self q.digest) (filter (vote_verifies self q.digest) q.votes) x m in
-      let r = all-among (VoteSent sent q.digest) (filter (vote_verifies self q.digest) q.votes) b.0 (all-filter (VoteSent sent q.digest) (vote_verifies self q.digest) q.votes h) b.1 in
-      subst (WasSent sent) (sym b.2) (r.0, r.1, r.2, subst (λ (g : Frame). IsTagOf (vote_claim self q.digest b.0) r.0 g) (sym r.3) (refl, refl, refl, tt))
+      let r = all-among (VoteSent sent q.digest) (filter (vote_verifies self q.digest) q.votes) b.0
+      (all-filter (VoteSent sent q.digest) (vote_verifies self q.digest) q.votes h) b.1 in
+      subst (WasSent sent) (sym b.2) (
+        r.0,
+        r.1,
+        r.2,
+        subst (λ (g : Frame). IsTagOf (vote_claim self q.digest b.0) r.0 g) (sym r.3)
+            (refl, refl, refl, tt),
+      )
 
   -- those of a block's commands
-  commands-sent : (core : Core) (x : Claim) → CommandsSent sent core.commands → Among x (command_claims self core) → WasSent sent x
+  commands-sent : (core : Core) (x : Claim) → CommandsSent sent core.commands
+      → Among x (command_claims self core) → WasSent sent x
   commands-sent core x h m =
       let b = Among-map (command_claim self) (filter (command_verifies self) core.commands) x m in
-      let r = all-among (CommandSent sent) (filter (command_verifies self) core.commands) b.0 (all-filter (CommandSent sent) (command_verifies self) core.commands h) b.1 in
-      subst (WasSent sent) (sym b.2) (r.0, r.1, r.2, subst (λ (g : Frame). IsTagOf (command_claim self b.0) r.0 g) (sym r.3) (refl, refl, refl, tt))
+      let r = all-among (CommandSent sent) (filter (command_verifies self) core.commands) b.0
+      (all-filter (CommandSent sent) (command_verifies self) core.commands h) b.1 in
+      subst (WasSent sent) (sym b.2) (
+        r.0,
+        r.1,
+        r.2,
+        subst (λ (g : Frame). IsTagOf (command_claim self b.0) r.0 g) (sym r.3) (refl, refl, refl, tt),
+      )
 
   -- one alone
   one-sent : (y x : Claim) → WasSent sent y → Among x (y ∷ []) → WasSent sent x
@@ -478,28 +624,49 @@ module _ (sent : List Sent) (self : Identity) where
   one-sent y x h (inr n) = absurd n
 
   -- all of a frame's
-  tags-sent : (f : Frame) (x : Claim) → (s : Sent) → Among s sent → s.frame ≡ f → s.sender ≡ sender_of self.sizes f → IsOwnFor self.ring.party s.to f → Passed sent f → Among x (accepted_tags self f) → WasSent sent x
+  tags-sent : (f : Frame) (x : Claim) → (s : Sent) → Among s sent → s.frame ≡ f
+      → s.sender ≡ sender_of self.sizes f → IsOwnFor self.ring.party s.to f → Passed sent f
+      → Among x (accepted_tags self f) → WasSent sent x
   unfolding accepted_tags
-  tags-sent (frame.proposal v core q t) x s m is by to h (inl i) = subst (WasSent sent) (sym i) (own-sent s (frame.proposal v core q t) m is by to)
-  tags-sent (frame.proposal v core q t) x s m is by to h (inr n) = elim (Among-either x (vote_claims self q) (command_claims self core) n) [ inl j ↦ votes-sent q x h.1 j | inr j ↦ commands-sent core x h.0 j ]
-  tags-sent (frame.block r core q t) x s m is by to h (inl i) = subst (WasSent sent) (sym i) (own-sent s (frame.block r core q t) m is by to)
-  tags-sent (frame.block r core q t) x s m is by to h (inr n) = elim (Among-either x (vote_claims self q) (command_claims self core) n) [ inl j ↦ votes-sent q x h.1 j | inr j ↦ commands-sent core x h.0 j ]
-  tags-sent (frame.new_view v r q t) x s m is by to h (inl i) = subst (WasSent sent) (sym i) (own-sent s (frame.new_view v r q t) m is by to)
+  tags-sent (frame.proposal v core q t) x s m is by to h (inl i) =
+      subst (WasSent sent) (sym i) (own-sent s (frame.proposal v core q t) m is by to)
+  tags-sent (frame.proposal v core q t) x s m is by to h (inr n) =
+      elim (Among-either x (vote_claims self q) (command_claims self core) n)
+      [ inl j ↦ votes-sent q x h.1 j | inr j ↦ commands-sent core x h.0 j ]
+  tags-sent (frame.block r core q t) x s m is by to h (inl i) =
+      subst (WasSent sent) (sym i) (own-sent s (frame.block r core q t) m is by to)
+  tags-sent (frame.block r core q t) x s m is by to h (inr n) =
+      elim (Among-either x (vote_claims self q) (command_claims self core) n)
+      [ inl j ↦ votes-sent q x h.1 j | inr j ↦ commands-sent core x h.0 j ]
+  tags-sent (frame.new_view v r q t) x s m is by to h (inl i) =
+      subst (WasSent sent) (sym i) (own-sent s (frame.new_view v r q t) m is by to)
   tags-sent (frame.new_view v r q t) x s m is by to h (inr n) = votes-sent q x h n
-  tags-sent (frame.reply r c q p t g) x s m is by to h n = one-sent _ x (s, m, by, subst (λ (y : Frame). IsTagOf (record (own_claim self (frame.reply r c q p t g)) { receiver = client_party c }) s y) (sym is) (refl, refl, refl, refl)) n
+  tags-sent (frame.reply r c q p t g) x s m is by to h n =
+      one-sent _ x (
+        s,
+        m,
+        by,
+        subst (λ (y : Frame). IsTagOf
+            (record (own_claim self (frame.reply r c q p t g)) { receiver = client_party c }) s y) (sym is)
+            (refl, refl, refl, refl),
+      ) n
   tags-sent (frame.request c) x s m is by to h n = one-sent _ x (own-sent s (frame.request c) m is by to) n
   tags-sent (frame.vote d b) x s m is by to h n = one-sent _ x (own-sent s (frame.vote d b) m is by to) n
-  tags-sent (frame.fetch r d t) x s m is by to h n = one-sent _ x (own-sent s (frame.fetch r d t) m is by to) n
+  tags-sent (frame.fetch r d t) x s m is by to h n =
+      one-sent _ x (own-sent s (frame.fetch r d t) m is by to) n
 
 -- no event of such a world brings a forged tag
 no-forgery : (w : World) (e : Event) → IsPassedOn w → IsDelivered w e → NoForgeryIn w e
 no-forgery w e a d f b ok ad x n correct =
     let s = brings-sent w e f d b in
-    let h = subst (λ (g : Frame). (s.0.sender ≡ sender_of w.sizes g) × Passed w.sent g) s.2 (a.sent s.0 s.1) in
-    tags-sent w.sent (self_of w (party_of e)) f x s.0 s.1 s.2 h.0 (own-for w (party_of e) s.0.to f a.keys ok ad s.3) h.1 n
+    let h =
+    subst (λ (g : Frame). (s.0.sender ≡ sender_of w.sizes g) × Passed w.sent g) s.2 (a.sent s.0 s.1) in
+    tags-sent w.sent (self_of w (party_of e)) f x s.0 s.1 s.2 h.0
+    (own-for w (party_of e) s.0.to f a.keys ok ad s.3) h.1 n
 
 -- a whole run
-run-forges : (hs : List Happening) (w last : World) → IsPassedOn w → AllDelivered w hs → run w hs ≡ Ok last → NoForgery w hs
+run-forges : (hs : List Happening) (w last : World) → IsPassedOn w → AllDelivered w hs → run w hs ≡ Ok last
+    → NoForgery w hs
 unfolding run
 run-forges [] w last a d e = tt
 run-forges (h ∷ hs) w last a d e =
@@ -519,7 +686,8 @@ all-read sizes [] w d = tt
 all-read sizes (h ∷ hs) w d = (delivered-read sizes w h.0 d.0, all-read sizes hs (happens w h) d.1)
 
 -- the world at its start
-new-passed : (sizes : Sizes) (is_faulty : ℕ → Bool) (ring : ℕ → Keyring) → HaveOwnKeys (new_world sizes is_faulty ring) → IsPassedOn (new_world sizes is_faulty ring)
+new-passed : (sizes : Sizes) (is_faulty : ℕ → Bool) (ring : ℕ → Keyring)
+    → HaveOwnKeys (new_world sizes is_faulty ring) → IsPassedOn (new_world sizes is_faulty ring)
 unfolding new_world
 new-passed sizes is_faulty ring keys = record { keys = keys; made = λ p m. tt; sent = λ s m. absurd m }
 

@@ -1,5 +1,6 @@
 -- Each answer of a replica's history can be a reply: its command came in a frame, and its text is bounded.
-use Rattle.std.proofs.Common.{ℕ, suc, ◌≡◌, ◌<◌, ◌≤◌, ◌^◌, Bool, true, false, [], ◌∷◌, length, cond, refl, sym, ap, subst, ◌∙◌, arith, inl, inr, map, reverse}
+use Rattle.std.proofs.Common.{ℕ, suc, ◌≡◌, ◌<◌, ◌≤◌, ◌^◌, Bool, true, false, [], ◌∷◌, length, cond, refl}
+use Rattle.std.proofs.Common.{sym, ap, subst, ◌∙◌, arith, inl, inr, map, reverse}
 use Rattle.ids.specs.Sizes.{Sizes}
 use Rattle.definitions.specs.Lists.{Among}
 use Rattle.definitions.specs.Frames.{Core, Command}
@@ -21,14 +22,16 @@ unfolding answers
 answers-place [] a m = absurd m
 answers-place (e ∷ h) a m = by (answers-place h a) (is_fresh e h) _ refl m
   where
-    by : (Among a (answers h) → 1 ≤ a.place) → (t : Bool) (new : Answer) → new.place ≡ suc (length h) → Among a (cond t (new ∷ answers h) (answers h)) → 1 ≤ a.place
+    by : (Among a (answers h) → 1 ≤ a.place) → (t : Bool) (new : Answer) → new.place ≡ suc (length h)
+        → Among a (cond t (new ∷ answers h) (answers h)) → 1 ≤ a.place
     by older true new p (inl i) = let q = ap (λ (x : Answer). x.place) i in omega (arith, p, q)
     by older true new p (inr k) = older k
     by older false new p k = older k
 
 module _ (Known : Core → Type 0) (s : Sizes) (cores : (c : Core) → Known c → IsCoreOrGenesis s c) where
   -- each entry of a history is a command of a frame
-  history-command : (x : Branch) → AllKnown Known x → (e : Entry) → Among e (history_of x) → (k : Command) × IsCommand s k × (e ≡ entry_of k)
+  history-command : (x : Branch) → AllKnown Known x → (e : Entry) → Among e (history_of x)
+      → (k : Command) × IsCommand s k × (e ≡ entry_of k)
   unfolding history_of
   history-command [] h e m = absurd m
   history-command (b ∷ parent) h e m =
@@ -39,7 +42,8 @@ module _ (Known : Core → Type 0) (s : Sizes) (cores : (c : Core) → Known c �
       ]
 
   -- each answer of a chronicle can be a reply
-  pub answers-fit : (c : Chronicle) → IsSound s c → ((x : Branch) → Among x (tree c) → AllKnown Known x) → (a : Answer) → Among a (answers (history c)) → IsFitAnswer s a
+  pub answers-fit : (c : Chronicle) → IsSound s c → ((x : Branch) → Among x (tree c) → AllKnown Known x)
+      → (a : Answer) → Among a (answers (history c)) → IsFitAnswer s a
   unfolding history
   answers-fit c so known a m =
       let x : Branch = executed c in

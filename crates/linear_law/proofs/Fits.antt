@@ -1,5 +1,8 @@
--- The numbers in a member's answers fit into eight bytes: its tree is bounded, and its commands are those of frames.
-use Rattle.std.proofs.Common.{ℕ, suc, ◌≡◌, ◌*◌, ◌^◌, ◌<◌, ◌≤◌, ◌⊎◌, Bool, true, false, List, [], ◌∷◌, length, cond, refl, sym, ap, subst, ◌∙◌, arith, inl, inr, map, reverse, length-append}
+-- The numbers in a member's answers fit into eight bytes: its tree is bounded, and its commands are those
+-- of frames.
+use Rattle.std.proofs.Common.{ℕ, suc, ◌≡◌, ◌*◌, ◌^◌, ◌<◌, ◌≤◌, ◌⊎◌, Bool, true, false, List, [], ◌∷◌}
+use Rattle.std.proofs.Common.{length, cond, refl, sym, ap, subst, ◌∙◌, arith, inl, inr, map, reverse}
+use Rattle.std.proofs.Common.{length-append}
 use Rattle.std.specs.List.{AllByRecursion}
 use Rattle.std.proofs.lemmas.List.{length-reverse, length-map}
 use Rattle.ids.specs.Sizes.{Sizes}
@@ -39,7 +42,8 @@ core-frame s (frame.fetch r d t) c fr o = absurd o
 
 -- ---- histories of branches of such cores
 
-pub core-block : (s : Sizes) (b : Block) (parent : Branch) → IsCoreOrGenesis s (core_of (b ∷ parent)) → (length b.commands ≤ 16) × AllByRecursion (IsCommand s) b.commands
+pub core-block : (s : Sizes) (b : Block) (parent : Branch) → IsCoreOrGenesis s (core_of (b ∷ parent))
+    → (length b.commands ≤ 16) × AllByRecursion (IsCommand s) b.commands
 unfolding core_of core_over
 core-block s b parent (inl e) = absurd (apart (ap (λ (c : Core). c.height) e))
   where
@@ -82,10 +86,25 @@ pub record IsAnswerOf (a : Answer) (h : History) : Type 0 where
   pub place : a.place ≤ length h
 
 later-answer : (a : Answer) (e : Entry) (h : History) → IsAnswerOf a h → IsAnswerOf a (e ∷ h)
-later-answer a e h x = record { entry = x.entry; among = inr x.among; client = x.client; seq = x.seq; place = (let p = x.place in omega (arith, p)) }
+later-answer a e h x = record {
+  entry = x.entry;
+  among = inr x.among;
+  client = x.client;
+  seq = x.seq;
+  place = (let p = x.place in omega (arith, p));
+}
 
-answer-step : (e : Entry) (h : History) (new a : Answer) (t : Bool) → new.client ≡ e.client → new.seq ≡ e.seq → new.place ≡ suc (length h) → (Among a (answers h) → IsAnswerOf a h) → Among a (cond t (new ∷ answers h) (answers h)) → IsAnswerOf a (e ∷ h)
-answer-step e h new a true c s p rest (inl i) = record { entry = e; among = inl refl; client = sym c ∙ ap (λ (x : Answer). x.client) (sym i); seq = sym s ∙ ap (λ (x : Answer). x.seq) (sym i); place = (let q = ap (λ (x : Answer). x.place) i in omega (arith, q, p)) }
+answer-step : (e : Entry) (h : History) (new a : Answer) (t : Bool) → new.client ≡ e.client
+    → new.seq ≡ e.seq → new.place ≡ suc (length h) → (Among a (answers h) → IsAnswerOf a h)
+    → Among a (cond t (new ∷ answers h) (answers h)) → IsAnswerOf a (e ∷ h)
+answer-step e h new a true c s p rest (inl i) =
+    record {
+      entry = e;
+      among = inl refl;
+      client = sym c ∙ ap (λ (x : Answer). x.client) (sym i);
+      seq = sym s ∙ ap (λ (x : Answer). x.seq) (sym i);
+      place = (let q = ap (λ (x : Answer). x.place) i in omega (arith, q, p));
+    }
 answer-step e h new a true c s p rest (inr m) = later-answer a e h (rest m)
 answer-step e h new a false c s p rest m = later-answer a e h (rest m)
 
@@ -96,9 +115,12 @@ answers-entry (e ∷ h) a m = answer-step e h _ a (is_fresh e h) refl refl refl 
 
 -- the seq and the place of each answer of a member
 abbrev pub AnswersFit : World → Type 0
-AnswersFit w = (p : ℕ) → is_member w p ≡ true → (a : Answer) → Among a (answers (held_history (w.replica p))) → (a.seq < 2 ^ 64) × (a.place < 2 ^ 64)
+AnswersFit w =
+    (p : ℕ) → is_member w p ≡ true → (a : Answer) → Among a (answers (held_history (w.replica p)))
+    → (a.seq < 2 ^ 64) × (a.place < 2 ^ 64)
 
-pub answers-fit : (Known : Core → Type 0) (w : World) → IsRun Known w → ((c : Core) → Known c → IsCoreOrGenesis w.sizes c) → AnswersFit w
+pub answers-fit : (Known : Core → Type 0) (w : World) → IsRun Known w
+    → ((c : Core) → Known c → IsCoreOrGenesis w.sizes c) → AnswersFit w
 unfolding history
 answers-fit Known w run cores p mp a m =
     let c : Chronicle = chronicles w p in
@@ -106,9 +128,13 @@ answers-fit Known w run cores p mp a m =
     let x : Branch = executed c in
     let t : Among x (tree c) = executed-tree c so.is_tree in
     let known : AllKnown Known x = run.row.known p mp x t in
-    let i : IsAnswerOf a (history_of x) = answers-entry (history_of x) a (answers-grow (held_history (w.replica p)) (history c) (held-begins (w.replica p)) a m) in
+    let i : IsAnswerOf a (history_of x) =
+    answers-entry (history_of x) a
+    (answers-grow (held_history (w.replica p)) (history c) (held-begins (w.replica p)) a m) in
     let l = history-length Known w.sizes cores x known in
     let h = so.heights x t in
     let f = so.bounded in
-    let q = i.place in
-    (subst (λ (n : ℕ). n < 2 ^ 64) i.seq (history-seq Known w.sizes cores x known i.entry i.among), omega (arith, l, h, f, q))
+    let q = i.place in (
+      subst (λ (n : ℕ). n < 2 ^ 64) i.seq (history-seq Known w.sizes cores x known i.entry i.among),
+      omega (arith, l, h, f, q),
+    )

@@ -1,6 +1,9 @@
--- Views, waiting requests and the block that the next proposal stands on, of a chronicle whose steps came in frames.
+-- Views, waiting requests and the block that the next proposal stands on, of a chronicle whose steps came
+-- in frames.
 use Rattle.ids.specs.declared.limits.TheConstants.{MOST_COMMANDS}
-use Rattle.std.proofs.Common.{ℕ, zero, suc, if◌then◌else◌, ◌≡◌, ◌<◌, ◌≤◌, ◌^◌, ◌&&◌, not, true, List, [], ◌∷◌, ◌++◌, length, refl, sym, ap, subst, arith, Option, Some, None, true≢false, ◌==◌, nat_lt, nat_le, map, filter, take, is_some}
+use Rattle.std.proofs.Common.{ℕ, zero, suc, if◌then◌else◌, ◌≡◌, ◌<◌, ◌≤◌, ◌^◌, ◌&&◌, not, true, List, []}
+use Rattle.std.proofs.Common.{◌∷◌, ◌++◌, length, refl, sym, ap, subst, arith, Option, Some, None}
+use Rattle.std.proofs.Common.{true≢false, ◌==◌, nat_lt, nat_le, map, filter, take, is_some}
 use Rattle.std.specs.List.{list_any, AllByRecursion}
 use Rattle.std.proofs.lemmas.Bool.{and_parts, cond_both, ltb-true, ltb-false}
 use Rattle.std.proofs.lemmas.List.{length-take}
@@ -12,9 +15,13 @@ use Rattle.definitions.specs.FrameLimits.{IsCommand, IsCore}
 use Rattle.definitions.specs.Branches.{Branch}
 use Rattle.definitions.specs.Digests.{digest_of, core_of, core_over}
 use Rattle.definitions.specs.Histories.{history_of}
-use Rattle.definitions.specs.Chronicles.{Step, Step.took_block, Step.noted, Note.got_new_view, Note.got_request, Note.timed_out, Note.beat, Chronicle, tree, history}
+use Rattle.definitions.specs.Chronicles.{Step, Step.took_block, Step.noted, Note.got_new_view}
+use Rattle.definitions.specs.Chronicles.{Note.got_request, Note.timed_out, Note.beat, Chronicle, tree}
+use Rattle.definitions.specs.Chronicles.{history}
 use Rattle.definitions.specs.Checks.{Identity}
-use Rattle.definitions.specs.States.{known_as, announcements, announced, reached, view, raised, qc_high, is_same_request, is_due, with_request, pending, leads, find_block, is_known, picks, child, leaf, or_else}
+use Rattle.definitions.specs.States.{known_as, announcements, announced, reached, view, raised, qc_high}
+use Rattle.definitions.specs.States.{is_same_request, is_due, with_request, pending, leads, find_block}
+use Rattle.definitions.specs.States.{is_known, picks, child, leaf, or_else}
 use Rattle.std.proofs.lemmas.Option.{same_Some}
 use Rattle.definitions.proofs.Sound.{found}
 use Rattle.definitions.proofs.Certificates.{IsDigest-digest_of, all-filter}
@@ -23,7 +30,8 @@ use Rattle.linear_law.proofs.StoredFrames.{AreStored}
 -- ---- views
 
 -- each view that was announced fits into eight bytes
-announced-fit : (self : Identity) (c : Chronicle) → AreStored self c → AllByRecursion (λ v. v < 2 ^ 64) (map (λ p. p.1) (announcements c))
+announced-fit : (self : Identity) (c : Chronicle) → AreStored self c
+    → AllByRecursion (λ v. v < 2 ^ 64) (map (λ p. p.1) (announcements c))
 unfolding announcements
 announced-fit self [] h = tt
 announced-fit self (noted (got_new_view w r q b) ∷ c) h = (h.0.view_is, announced-fit self c h.1)
@@ -40,49 +48,71 @@ greatest-below n (x ∷ xs) l h = let k = greatest-below n xs l h.1 in let j = h
 reached-fits : (self : Identity) (c : Chronicle) → AreStored self c → reached self.sizes c < 2 ^ 64
 unfolding reached
 reached-fits self c h =
-    greatest-below (2 ^ 64) (filter (λ v. nat_lt self.sizes.faults (count_below (replicas self.sizes) (λ i. nat_le v (announced i c)))) (map (λ p. p.1) (announcements c))) (omega arith)
-    (all-filter (λ v. v < 2 ^ 64) (λ v. nat_lt self.sizes.faults (count_below (replicas self.sizes) (λ i. nat_le v (announced i c)))) (map (λ p. p.1) (announcements c)) (announced-fit self c h))
+    greatest-below (2 ^ 64) (filter
+    (λ v. nat_lt self.sizes.faults (count_below (replicas self.sizes) (λ i. nat_le v (announced i c))))
+    (map (λ p. p.1) (announcements c))) (omega arith)
+    (all-filter (λ v. v < 2 ^ 64)
+    (λ v. nat_lt self.sizes.faults (count_below (replicas self.sizes) (λ i. nat_le v (announced i c))))
+    (map (λ p. p.1) (announcements c)) (announced-fit self c h))
 
 -- the view fits into eight bytes
 pub view-fits : (self : Identity) (c : Chronicle) → AreStored self c → view self.sizes c < 2 ^ 64
 unfolding view
 view-fits self [] h = omega arith
 view-fits self (noted timed_out ∷ c) h = omega arith
-view-fits self (noted (got_new_view w r q b) ∷ c) h = let k = view-fits self c h.1 in let l = reached-fits self (noted (got_new_view w r q b) ∷ c) h in omega (arith, k, l)
+view-fits self (noted (got_new_view w r q b) ∷ c) h =
+    let k =
+    view-fits self c h.1 in let l =
+    reached-fits self (noted (got_new_view w r q b) ∷ c) h in omega (arith, k, l)
 view-fits self (took_block a ∷ c) h = view-fits self c h.1
 view-fits self (noted n ∷ c) h = view-fits self c h.1
 
 -- ---- requests that wait
 
 -- a list with one more element
-pub all-after : {A : Type 0} (P : A → Type 0) (xs : List A) (x : A) → AllByRecursion P xs → P x → AllByRecursion P (xs ++ x ∷ [])
+pub all-after : {A : Type 0} (P : A → Type 0) (xs : List A) (x : A) → AllByRecursion P xs → P x
+    → AllByRecursion P (xs ++ x ∷ [])
 all-after P [] x h k = (k, tt)
 all-after P (y ∷ xs) x h k = (h.0, all-after P xs x h.1 k)
 
 -- a new request is added last
-all-with_request : (self : Identity) (st : Step) (c : Chronicle) (ps : List Command) → AreStored self (st ∷ c) → AllByRecursion (IsCommand self.sizes) ps → AllByRecursion (IsCommand self.sizes) (with_request st ps)
-all-with_request self (noted (got_request r)) c ps h all = cond_both (list_any (is_same_request r) ps) ps (ps ++ r ∷ []) (AllByRecursion (IsCommand self.sizes)) (λ e. all) (λ e. all-after (IsCommand self.sizes) ps r all h.0)
+all-with_request : (self : Identity) (st : Step) (c : Chronicle) (ps : List Command)
+    → AreStored self (st ∷ c) → AllByRecursion (IsCommand self.sizes) ps
+    → AllByRecursion (IsCommand self.sizes) (with_request st ps)
+all-with_request self (noted (got_request r)) c ps h all =
+    cond_both (list_any (is_same_request r) ps) ps (ps ++ r ∷ []) (AllByRecursion (IsCommand self.sizes))
+    (λ e. all) (λ e. all-after (IsCommand self.sizes) ps r all h.0)
 all-with_request self (took_block a) c ps h all = all
 all-with_request self (noted n) c ps h all = all
 
 -- each request that waits came in a frame
-pub pending-fit : (self : Identity) (c : Chronicle) → AreStored self c → AllByRecursion (IsCommand self.sizes) (pending c)
+pub pending-fit : (self : Identity) (c : Chronicle) → AreStored self c
+    → AllByRecursion (IsCommand self.sizes) (pending c)
 unfolding pending
 pending-fit self [] h = tt
-pending-fit self (st ∷ c) h = all-filter (IsCommand self.sizes) (is_due (history (st ∷ c))) (with_request st (pending c)) (all-with_request self st c (pending c) h (pending-fit self c h.1))
+pending-fit self (st ∷ c) h =
+    all-filter (IsCommand self.sizes) (is_due (history (st ∷ c))) (with_request st (pending c))
+    (all-with_request self st c (pending c) h (pending-fit self c h.1))
 
 -- the first of a list of which each element has a property
-pub all-take : {A : Type 0} (P : A → Type 0) (n : ℕ) (xs : List A) → AllByRecursion P xs → AllByRecursion P (take n xs)
+pub all-take : {A : Type 0} (P : A → Type 0) (n : ℕ) (xs : List A) → AllByRecursion P xs
+    → AllByRecursion P (take n xs)
 all-take P zero xs h = tt
 all-take P (suc n) [] h = tt
 all-take P (suc n) (x ∷ xs) h = (h.0, all-take P n xs h.1)
 
 -- so do those of a new block, 16 at most
-pub picks-fit : (self : Identity) (c : Chronicle) (on : Branch) → AreStored self c → AllByRecursion (IsCommand self.sizes) (picks c on) × (length (picks c on) ≤ MOST_COMMANDS)
+pub picks-fit : (self : Identity) (c : Chronicle) (on : Branch) → AreStored self c
+    → AllByRecursion (IsCommand self.sizes) (picks c on) × (length (picks c on) ≤ MOST_COMMANDS)
 unfolding picks
 picks-fit self c on h =
-    let kept : List Command = filter (λ r. not (list_any (λ e. (e.client == r.client) && (e.seq == r.seq)) (history_of on))) (pending c) in (
-      all-take (IsCommand self.sizes) MOST_COMMANDS kept (all-filter (IsCommand self.sizes) (λ r. not (list_any (λ e. (e.client == r.client) && (e.seq == r.seq)) (history_of on))) (pending c) (pending-fit self c h)),
+    let kept : List Command =
+    filter (λ r. not (list_any (λ e. (e.client == r.client) && (e.seq == r.seq)) (history_of on)))
+    (pending c) in (
+      all-take (IsCommand self.sizes) MOST_COMMANDS kept
+          (all-filter (IsCommand self.sizes)
+          (λ r. not (list_any (λ e. (e.client == r.client) && (e.seq == r.seq)) (history_of on)))
+          (pending c) (pending-fit self c h)),
       (let l = length-take MOST_COMMANDS kept in omega (arith, l)),
     )
 
@@ -90,7 +120,8 @@ picks-fit self c on h =
 
 -- a block that a beat makes
 pub record IsChild (self : Identity) (c : Chronicle) (on b : Branch) : Type 0 where
-  pub is : b ≡ record { commands = picks c (known_as on c); justify = length (qc_high self.sizes c).block } ∷ on
+  pub is : b
+      ≡ record { commands = picks c (known_as on c); justify = length (qc_high self.sizes c).block } ∷ on
   pub leads_view : leads self c ≡ true
   pub known : is_known (digest_of on) c ≡ true
 
@@ -99,28 +130,40 @@ pub none-some : {A : Type 0} (x : A) → None ≡ Some x → ⊥
 none-some x e = cc
 
 -- a child that is made is one
-pub child-is : (self : Identity) (c : Chronicle) (on b : Branch) → child self c on ≡ Some b → IsChild self c on b
+pub child-is : (self : Identity) (c : Chronicle) (on b : Branch) → child self c on ≡ Some b
+    → IsChild self c on b
 unfolding child
 child-is self c on b =
-    cond_both (leads self c && is_known (digest_of on) c) _ _ (λ (o : Option Branch). o ≡ Some b → IsChild self c on b)
-    (λ t e. record { is = sym (same_Some _ b e); leads_view = (and_parts _ _ t).0; known = (and_parts _ _ t).1 })
+    cond_both (leads self c && is_known (digest_of on) c) _ _
+    (λ (o : Option Branch). o ≡ Some b → IsChild self c on b)
+    (λ t e.
+    record { is = sym (same_Some _ b e); leads_view = (and_parts _ _ t).0; known = (and_parts _ _ t).1 })
     (λ t e. absurd (none-some b e))
 
 -- how a step leaves it
 pub data LeafStep (self : Identity) (st : Step) (c : Chronicle) : Branch → Type 0 where
-  raises : length (qc_high self.sizes c).block < length (qc_high self.sizes (st ∷ c)).block → LeafStep self st c (qc_high self.sizes (st ∷ c)).block
-  keeps : length (qc_high self.sizes (st ∷ c)).block ≤ length (qc_high self.sizes c).block → LeafStep self st c (leaf self c)
-  makes : (b : Branch) → st ≡ (noted beat) → length (qc_high self.sizes (st ∷ c)).block ≤ length (qc_high self.sizes c).block → child self c (leaf self c) ≡ Some b → LeafStep self st c b
+  raises : length (qc_high self.sizes c).block < length (qc_high self.sizes (st ∷ c)).block
+      → LeafStep self st c (qc_high self.sizes (st ∷ c)).block
+  keeps : length (qc_high self.sizes (st ∷ c)).block ≤ length (qc_high self.sizes c).block
+      → LeafStep self st c (leaf self c)
+  makes : (b : Branch) → st ≡ (noted beat)
+      → length (qc_high self.sizes (st ∷ c)).block ≤ length (qc_high self.sizes c).block
+      → child self c (leaf self c) ≡ Some b → LeafStep self st c b
 
 -- a step that is no beat
-leaf-either : (self : Identity) (st : Step) (c : Chronicle) → LeafStep self st c (if nat_lt (length (qc_high self.sizes c).block) (length (qc_high self.sizes (st ∷ c)).block) then (qc_high self.sizes (st ∷ c)).block else leaf self c)
+leaf-either : (self : Identity) (st : Step) (c : Chronicle)
+    → LeafStep self st c (if nat_lt (length (qc_high self.sizes c).block)
+    (length (qc_high self.sizes (st ∷ c)).block) then (qc_high self.sizes (st ∷ c)).block else leaf self
+    c)
 leaf-either self st c =
-    cond_both (nat_lt (length (qc_high self.sizes c).block) (length (qc_high self.sizes (st ∷ c)).block)) _ _ (LeafStep self st c)
+    cond_both (nat_lt (length (qc_high self.sizes c).block) (length (qc_high self.sizes (st ∷ c)).block)) _
+    _ (LeafStep self st c)
     (λ e. raises (ltb-true _ _ e))
     (λ e. keeps (ltb-false _ _ e))
 
 -- a beat raises no certificate
-beat-same : (self : Identity) (c : Chronicle) → length (qc_high self.sizes (noted beat ∷ c)).block ≤ length (qc_high self.sizes c).block
+beat-same : (self : Identity) (c : Chronicle)
+    → length (qc_high self.sizes (noted beat ∷ c)).block ≤ length (qc_high self.sizes c).block
 unfolding qc_high raised
 beat-same self c = omega arith
 
@@ -129,14 +172,17 @@ pub leaf-step : (self : Identity) (st : Step) (c : Chronicle) → LeafStep self 
 unfolding leaf
 leaf-step self (noted beat) c = by (child self c (leaf self c)) refl
   where
-    by : (o : Option Branch) → child self c (leaf self c) ≡ o → LeafStep self (noted beat) c (or_else o (leaf self c))
+    by : (o : Option Branch) → child self c (leaf self c) ≡ o
+        → LeafStep self (noted beat) c (or_else o (leaf self c))
     by None e = keeps (beat-same self c)
     by (Some b) e = makes b refl (beat-same self c) e
 leaf-step self (took_block a) c = leaf-either self (took_block a) c
 leaf-step self (noted n) c = leaf-either self (noted n) c
 
 -- each step leaves it as high as the highest certified block
-above-step : (self : Identity) (st : Step) (c : Chronicle) (b : Branch) → length (qc_high self.sizes c).block ≤ length (leaf self c) → LeafStep self st c b → length (qc_high self.sizes (st ∷ c)).block ≤ length b
+above-step : (self : Identity) (st : Step) (c : Chronicle) (b : Branch)
+    → length (qc_high self.sizes c).block ≤ length (leaf self c) → LeafStep self st c b
+    → length (qc_high self.sizes (st ∷ c)).block ≤ length b
 above-step self st c b h (raises l) = omega arith
 above-step self st c b h (keeps l) = omega (arith, h, l)
 above-step self st c b h (makes x e l k) =
@@ -149,23 +195,27 @@ unfolding qc_high leaf
 genesis-above self = omega arith
 
 -- it is as high as the block of the highest certificate
-pub leaf-above : (self : Identity) (c : Chronicle) → length (qc_high self.sizes c).block ≤ length (leaf self c)
+pub leaf-above : (self : Identity) (c : Chronicle)
+    → length (qc_high self.sizes c).block ≤ length (leaf self c)
 leaf-above self [] = genesis-above self
 leaf-above self (st ∷ c) = above-step self st c (leaf self (st ∷ c)) (leaf-above self c) (leaf-step self st c)
 
 -- ---- the core of a new block
 
 -- the leaf's digest is that of a block of the tree
-pub known-block : (d : Bytes) (c : Chronicle) → is_known d c ≡ true → (x : Branch) × Among x (tree c) × (digest_of x ≡ d)
+pub known-block : (d : Bytes) (c : Chronicle) → is_known d c ≡ true
+    → (x : Branch) × Among x (tree c) × (digest_of x ≡ d)
 unfolding is_known
 known-block d c h = by (find_block d c) refl h
   where
-    by : (o : Option Branch) → find_block d c ≡ o → is_some o ≡ true → (x : Branch) × Among x (tree c) × (digest_of x ≡ d)
+    by : (o : Option Branch) → find_block d c ≡ o → is_some o ≡ true
+        → (x : Branch) × Among x (tree c) × (digest_of x ≡ d)
     by None e t = absurd (true≢false (sym t))
     by (Some x) e t = (let r = found d c x e in (x, r.0, r.1))
 
 -- the core of a block that a beat makes on a leaf of this height is one of a frame
-pub child-core : (self : Identity) (c : Chronicle) (b : Branch) → AreStored self c → suc (length (leaf self c)) < 2 ^ 64 → IsChild self c (leaf self c) b → IsCore self.sizes (core_of b)
+pub child-core : (self : Identity) (c : Chronicle) (b : Branch) → AreStored self c
+    → suc (length (leaf self c)) < 2 ^ 64 → IsChild self c (leaf self c) b → IsCore self.sizes (core_of b)
 unfolding core_of core_over
 child-core self c b h low ch =
     subst (λ (x : Branch). IsCore self.sizes (core_of x)) (sym ch.is) (record {

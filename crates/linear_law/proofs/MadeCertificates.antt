@@ -1,8 +1,11 @@
 -- The certificates of a chronicle: those that came in frames, and those that a quorum of votes completes.
-use Rattle.std.proofs.Common.{ℕ, ◌≡◌, ◌<◌, ◌&&◌, not, true, false, List, [], ◌∷◌, ◌++◌, length, refl, sym, ap, subst, ◌∙◌, arith, inl, inr, Option, Some, None, true≢false, ◌==◌, nat_lt, bytes_eq}
+use Rattle.std.proofs.Common.{ℕ, ◌≡◌, ◌<◌, ◌&&◌, not, true, false, List, [], ◌∷◌, ◌++◌, length, refl, sym}
+use Rattle.std.proofs.Common.{ap, subst, ◌∙◌, arith, inl, inr, Option, Some, None, true≢false, ◌==◌, nat_lt}
+use Rattle.std.proofs.Common.{bytes_eq}
 use Rattle.std.specs.List.{list_any, AllByRecursion}
 use Rattle.std.specs.Bool.{⊤}
-use Rattle.std.proofs.lemmas.Bool.{and_parts, eqb-true, eq-eqb, cond_both, cond-true, cases_Bool, ltb-true, not-true, or_parts}
+use Rattle.std.proofs.lemmas.Bool.{and_parts, eqb-true, eq-eqb, cond_both, cond-true, cases_Bool, ltb-true}
+use Rattle.std.proofs.lemmas.Bool.{not-true, or_parts}
 use lib.Pointwise.{bytes_decides}
 use Rattle.ids.specs.Sizes.{Sizes, quorum}
 use Rattle.definitions.specs.Lists.{Among}
@@ -11,11 +14,13 @@ use Rattle.definitions.specs.Frames.{Vote, genesis_core}
 use Rattle.definitions.specs.FrameLimits.{IsVote, IsCertificate}
 use Rattle.definitions.specs.Branches.{Branch}
 use Rattle.definitions.specs.Digests.{digest, digest_of}
-use Rattle.definitions.specs.Chronicles.{Admitted, Step, Step.took_block, Step.noted, Note.got_vote, Note.got_new_view, Chronicle, taken, tree, IsLawful}
+use Rattle.definitions.specs.Chronicles.{Admitted, Step, Step.took_block, Step.noted, Note.got_vote}
+use Rattle.definitions.specs.Chronicles.{Note.got_new_view, Chronicle, taken, tree, IsLawful}
 use Rattle.definitions.specs.Checks.{Identity, is_good, is_genesis, vote_verifies}
 use Rattle.definitions.specs.States.{votes, by_voter, Justified, raised, higher, qc_high}
 use Rattle.definitions.proofs.Chronicles.{tree-genesis, tree-grows, taken-tree, tree-just1}
-use Rattle.definitions.proofs.Certificates.{AreOfEach, IsDigest-digest, IsDigest-digest_of, IsCertificate-by_voter, is_good-by_voter, all-implied}
+use Rattle.definitions.proofs.Certificates.{AreOfEach, IsDigest-digest, IsDigest-digest_of}
+use Rattle.definitions.proofs.Certificates.{IsCertificate-by_voter, is_good-by_voter, all-implied}
 use Rattle.linear_law.specs.Law.{HasCertificates}
 use Rattle.definitions.proofs.Trees.{same_bytes}
 use Rattle.linear_law.proofs.StoredFrames.{AreStored}
@@ -23,16 +28,22 @@ use Rattle.linear_law.proofs.StoredFrames.{AreStored}
 -- ---- the votes that are kept
 
 -- no vote of this voter was kept
-not-kept : (voter : ℕ) (bs : List Vote) → list_any (λ x. x.voter == voter) bs ≡ false → AllByRecursion (λ x. x.voter ≡ voter → ⊥) bs
+not-kept : (voter : ℕ) (bs : List Vote) → list_any (λ x. x.voter == voter) bs ≡ false
+    → AllByRecursion (λ x. x.voter ≡ voter → ⊥) bs
 not-kept voter [] h = tt
-not-kept voter (b ∷ bs) h = ((λ e. true≢false (sym (eq-eqb b.voter voter e) ∙ (or_parts _ _ h).0)), not-kept voter bs (or_parts _ _ h).1)
+not-kept voter (b ∷ bs) h = (
+  (λ e. true≢false (sym (eq-eqb b.voter voter e) ∙ (or_parts _ _ h).0)),
+  not-kept voter bs (or_parts _ _ h).1,
+)
 
 -- the votes for a block are of distinct voters
 pub votes-each : (s : Sizes) (d : Bytes) (c : Chronicle) → AreOfEach (votes s d c)
 unfolding votes
 votes-each s d [] = tt
 votes-each s d (noted (got_vote voter v b) ∷ c) =
-    cond_both (bytes_eq (digest_of b) d && (not (list_any (λ x. x.voter == voter) (votes s d c)) && nat_lt (length (votes s d c)) (quorum s))) _ _ AreOfEach
+    cond_both (bytes_eq (digest_of b) d
+    && (not (list_any (λ x. x.voter == voter) (votes s d c)) && nat_lt (length (votes s d c))
+    (quorum s))) _ _ AreOfEach
     (λ e. (not-kept voter (votes s d c) (not-true _ (and_parts _ _ (and_parts _ _ e).1).0), votes-each s d c))
     (λ e. votes-each s d c)
 votes-each s d (took_block a ∷ c) = votes-each s d c
@@ -43,12 +54,22 @@ abbrev pub Counts : Identity → Bytes → Vote → Type 0
 Counts self d b = IsVote self.sizes b × (vote_verifies self d b ≡ true)
 
 -- each vote for a block is one of a frame, and verifies
-pub votes-count : (self : Identity) (d : Bytes) (c : Chronicle) → AreStored self c → AllByRecursion (Counts self d) (votes self.sizes d c)
+pub votes-count : (self : Identity) (d : Bytes) (c : Chronicle) → AreStored self c
+    → AllByRecursion (Counts self d) (votes self.sizes d c)
 unfolding votes
 votes-count self d [] h = tt
 votes-count self d (noted (got_vote voter v b) ∷ c) h =
-    cond_both (bytes_eq (digest_of b) d && (not (list_any (λ x. x.voter == voter) (votes self.sizes d c)) && nat_lt (length (votes self.sizes d c)) (quorum self.sizes))) _ _ (AllByRecursion (Counts self d))
-    (λ e. ((h.0.vote_is, subst (λ (y : Bytes). vote_verifies self y (record { voter = voter; vector = v }) ≡ true) (same_bytes _ _ (and_parts _ _ e).0) h.0.verifies), votes-count self d c h.1))
+    cond_both (bytes_eq (digest_of b) d
+    && (not (list_any (λ x. x.voter == voter) (votes self.sizes d c)) && nat_lt
+    (length (votes self.sizes d c)) (quorum self.sizes))) _ _ (AllByRecursion (Counts self d))
+    (λ e. (
+      (
+        h.0.vote_is,
+        subst (λ (y : Bytes). vote_verifies self y (record { voter = voter; vector = v }) ≡ true)
+            (same_bytes _ _ (and_parts _ _ e).0) h.0.verifies,
+      ),
+      votes-count self d c h.1,
+    ))
     (λ e. votes-count self d c h.1)
 votes-count self d (took_block a ∷ c) h = votes-count self d c h.1
 votes-count self d (noted n ∷ c) h = votes-count self d c h.1
@@ -67,15 +88,31 @@ above-genesis : (b : Branch) → b ≡ [] → 0 < length b → ⊥
 above-genesis b e l = let k = ap (λ (x : Branch). length x) e in omega (arith, k, l)
 
 -- the certificate that a quorum of votes completes
-completed : (self : Identity) (voter : ℕ) (v : Bytes) (b : Branch) (c : Chronicle) → AreStored self (noted (got_vote voter v b) ∷ c) → length (votes self.sizes (digest_of b) (noted (got_vote voter v b) ∷ c)) ≡ quorum self.sizes
-    → IsRaised self (noted (got_vote voter v b) ∷ c) (record { block = b; certificate = record { digest = digest_of b; votes = by_voter (votes self.sizes (digest_of b) (noted (got_vote voter v b) ∷ c)) } })
+completed : (self : Identity) (voter : ℕ) (v : Bytes) (b : Branch) (c : Chronicle)
+    → AreStored self (noted (got_vote voter v b) ∷ c)
+    → length (votes self.sizes (digest_of b) (noted (got_vote voter v b) ∷ c)) ≡ quorum self.sizes
+    → IsRaised self (noted (got_vote voter v b) ∷ c)
+    (record {
+      block = b;
+      certificate =
+          record {
+            digest = digest_of b;
+            votes = by_voter (votes self.sizes (digest_of b) (noted (got_vote voter v b) ∷ c));
+          };
+    })
 completed self voter v b c h enough =
     let bs : List Vote = votes self.sizes (digest_of b) (noted (got_vote voter v b) ∷ c) in
-    let each : AllByRecursion (Counts self (digest_of b)) bs = votes-count self (digest_of b) (noted (got_vote voter v b) ∷ c) h in
+    let each : AllByRecursion (Counts self (digest_of b)) bs =
+    votes-count self (digest_of b) (noted (got_vote voter v b) ∷ c) h in
     record {
-      certificate_is = IsCertificate-by_voter self.sizes (digest_of b) bs (IsDigest-digest_of b) (all-implied (Counts self (digest_of b)) (IsVote self.sizes) (λ x k. k.0) bs each) (votes-each self.sizes (digest_of b) (noted (got_vote voter v b) ∷ c)) enough;
-      good = λ l. is_good-by_voter self (digest_of b) bs (all-implied (Counts self (digest_of b)) (λ x. vote_verifies self (digest_of b) x ≡ true) (λ x k. k.1) bs each) enough
-          (elim (cases_Bool (is_genesis (digest_of b))) [ inl t ↦ absurd (above-genesis b (h.0.genesis t) l) | inr f ↦ f ]);
+      certificate_is = IsCertificate-by_voter self.sizes (digest_of b) bs (IsDigest-digest_of b)
+          (all-implied (Counts self (digest_of b)) (IsVote self.sizes) (λ x k. k.0) bs each)
+          (votes-each self.sizes (digest_of b) (noted (got_vote voter v b) ∷ c)) enough;
+      good = λ l. is_good-by_voter self (digest_of b) bs
+          (all-implied (Counts self (digest_of b)) (λ x. vote_verifies self (digest_of b) x ≡ true)
+          (λ x k. k.1) bs each) enough
+          (elim (cases_Bool (is_genesis (digest_of b)))
+          [ inl t ↦ absurd (above-genesis b (h.0.genesis t) l) | inr f ↦ f ]);
       justified = refl;
       among = tree-grows (noted (got_vote voter v b)) c b h.0.among;
     }
@@ -86,7 +123,8 @@ AllRaised self c None = ⊤
 AllRaised self c (Some j) = IsRaised self c j
 
 -- each step of a chronicle whose steps came in frames
-raised-all : (self : Identity) (st : Step) (c : Chronicle) → IsLawful self.sizes (st ∷ c) → AreStored self (st ∷ c) → AllRaised self (st ∷ c) (raised self.sizes st c)
+raised-all : (self : Identity) (st : Step) (c : Chronicle) → IsLawful self.sizes (st ∷ c)
+    → AreStored self (st ∷ c) → AllRaised self (st ∷ c) (raised self.sizes st c)
 unfolding raised taken
 raised-all self (took_block a) c l h =
     cond_both a.new _ _ (AllRaised self (took_block a ∷ c))
@@ -94,18 +132,29 @@ raised-all self (took_block a) c l h =
       certificate_is = h.0.certificate_is;
       good = λ k. h.0.good;
       justified = h.0.justified;
-      among = tree-just1 self.sizes (took_block a ∷ c) l a.branch (taken-tree (took_block a ∷ c) a (subst (λ (xs : List Admitted). Among a xs) (sym (cond-true a.new (a ∷ taken c) (taken c) e)) (inl refl)));
+      among = tree-just1 self.sizes (took_block a ∷ c) l a.branch
+          (taken-tree (took_block a ∷ c) a (subst (λ (xs : List Admitted). Among a xs)
+          (sym (cond-true a.new (a ∷ taken c) (taken c) e)) (inl refl)));
     })
     (λ e. tt)
 raised-all self (noted (got_vote voter v b)) c l h =
-    cond_both (nat_lt (length (votes self.sizes (digest_of b) c)) (quorum self.sizes) && (length (votes self.sizes (digest_of b) (noted (got_vote voter v b) ∷ c)) == quorum self.sizes)) _ _ (AllRaised self (noted (got_vote voter v b) ∷ c))
+    cond_both (nat_lt (length (votes self.sizes (digest_of b) c)) (quorum self.sizes)
+    && (length (votes self.sizes (digest_of b) (noted (got_vote voter v b) ∷ c)) == quorum self.sizes))
+    _ _ (AllRaised self (noted (got_vote voter v b) ∷ c))
     (λ e. completed self voter v b c h (eqb-true _ _ (and_parts _ _ e).1))
     (λ e. tt)
-raised-all self (noted (got_new_view w r q b)) c l h = record { certificate_is = h.0.certificate_is; good = λ k. h.0.good; justified = h.0.justified; among = tree-grows (noted (got_new_view w r q b)) c b h.0.among }
+raised-all self (noted (got_new_view w r q b)) c l h =
+    record {
+      certificate_is = h.0.certificate_is;
+      good = λ k. h.0.good;
+      justified = h.0.justified;
+      among = tree-grows (noted (got_new_view w r q b)) c b h.0.among;
+    }
 raised-all self (noted n) c l h = tt
 
 -- the certificate that a step brings or completes
-pub raised-is : (self : Identity) (st : Step) (c : Chronicle) (j : Justified) → IsLawful self.sizes (st ∷ c) → AreStored self (st ∷ c) → raised self.sizes st c ≡ Some j → IsRaised self (st ∷ c) j
+pub raised-is : (self : Identity) (st : Step) (c : Chronicle) (j : Justified) → IsLawful self.sizes (st ∷ c)
+    → AreStored self (st ∷ c) → raised self.sizes st c ≡ Some j → IsRaised self (st ∷ c) j
 raised-is self st c j l h e = subst (AllRaised self (st ∷ c)) e (raised-all self st c l h)
 
 -- ---- the highest certificate
@@ -118,31 +167,46 @@ pub record IsHigh (self : Identity) (c : Chronicle) (j : Justified) : Type 0 whe
   pub among : Among j.block (tree c)
 
 -- the higher one of two
-higher-high : (self : Identity) (c : Chronicle) (o : Option Justified) (q : Justified) → AllRaised self c o → IsHigh self c q → IsHigh self c (higher o q)
+higher-high : (self : Identity) (c : Chronicle) (o : Option Justified) (q : Justified) → AllRaised self c o
+    → IsHigh self c q → IsHigh self c (higher o q)
 higher-high self c None q r h = h
 higher-high self c (Some p) q r h =
     cond_both (nat_lt (length q.block) (length p.block)) p q (IsHigh self c)
-    (λ e. record { certificate_is = r.certificate_is; good = r.good (let l = ltb-true (length q.block) (length p.block) e in omega (arith, l)); justified = r.justified; among = r.among })
+    (λ e. record {
+      certificate_is = r.certificate_is;
+      good = r.good (let l = ltb-true (length q.block) (length p.block) e in omega (arith, l));
+      justified = r.justified;
+      among = r.among;
+    })
     (λ e. h)
 
 -- genesis's certificate has no votes
-genesis-high : (self : Identity) → IsHigh self [] (record { block = []; certificate = record { digest = digest genesis_core; votes = [] } })
+genesis-high : (self : Identity)
+    → IsHigh self []
+    (record { block = []; certificate = record { digest = digest genesis_core; votes = [] } })
 unfolding is_good digest_of
 genesis-high self = record {
-  certificate_is = record { digest = IsDigest-digest genesis_core; count = inl refl; votes = tt; rising = tt };
+  certificate_is =
+      record { digest = IsDigest-digest genesis_core; count = inl refl; votes = tt; rising = tt };
   good = cond-true _ _ _ ((bytes_decides (digest genesis_core) (digest genesis_core)).1 refl);
   justified = refl;
   among = tree-genesis [];
 }
 
 -- of a chronicle whose steps came in frames
-pub qc_high-is : (self : Identity) (c : Chronicle) → IsLawful self.sizes c → AreStored self c → IsHigh self c (qc_high self.sizes c)
+pub qc_high-is : (self : Identity) (c : Chronicle) → IsLawful self.sizes c → AreStored self c
+    → IsHigh self c (qc_high self.sizes c)
 unfolding qc_high
 qc_high-is self [] l h = genesis-high self
 qc_high-is self (st ∷ c) l h =
     let old = qc_high-is self c l.1 h.1 in
     higher-high self (st ∷ c) (raised self.sizes st c) (qc_high self.sizes c) (raised-all self st c l h)
-    (record { certificate_is = old.certificate_is; good = old.good; justified = old.justified; among = tree-grows st c (qc_high self.sizes c).block old.among })
+    (record {
+      certificate_is = old.certificate_is;
+      good = old.good;
+      justified = old.justified;
+      among = tree-grows st c (qc_high self.sizes c).block old.among;
+    })
 
 -- ---- all of a chronicle
 
@@ -157,13 +221,16 @@ lawful-beginning s [] c h = h
 lawful-beginning s (st ∷ added) c h = lawful-beginning s added c h.1
 
 -- the certificates of a chronicle whose steps came in frames
-pub has-certificates : (self : Identity) (c : Chronicle) → IsLawful self.sizes c → AreStored self c → HasCertificates self c
+pub has-certificates : (self : Identity) (c : Chronicle) → IsLawful self.sizes c → AreStored self c
+    → HasCertificates self c
 has-certificates self c l h =
     let high = qc_high-is self c l h in
     record {
       each = λ st earlier j b e.
-          let k : AreStored self (st ∷ earlier) = stored-beginning self b.0 (st ∷ earlier) (subst (AreStored self) (sym b.1) h) in
-          let m : IsLawful self.sizes (st ∷ earlier) = lawful-beginning self.sizes b.0 (st ∷ earlier) (subst (IsLawful self.sizes) (sym b.1) l) in
+          let k : AreStored self (st ∷ earlier) =
+          stored-beginning self b.0 (st ∷ earlier) (subst (AreStored self) (sym b.1) h) in
+          let m : IsLawful self.sizes (st ∷ earlier) =
+          lawful-beginning self.sizes b.0 (st ∷ earlier) (subst (IsLawful self.sizes) (sym b.1) l) in
           let r = raised-is self st earlier j m k e in
           record { certificate = r.certificate_is; digest = r.justified; good = r.good };
       highest = record { certificate = high.certificate_is; digest = high.justified; good = λ n. high.good };

@@ -1,28 +1,38 @@
 -- What each frame is that a step sends.
 use Rattle.definitions.proofs.Histories.{numbered-is}
 use Rattle.definitions.proofs.Lists.{Among-take, Among-either, Among-map, Among-reverse, find_some}
-use Rattle.std.proofs.Common.{ℕ, ◌≡◌, ◌-◌, ◌==◌, Bool, true, List, [], ◌∷◌, length, cond, refl, sym, subst, inl, inr, Option, Some, None, nat_lt, reverse, take}
+use Rattle.std.proofs.Common.{ℕ, ◌≡◌, ◌-◌, ◌==◌, Bool, true, List, [], ◌∷◌, length, cond, refl, sym, subst}
+use Rattle.std.proofs.Common.{inl, inr, Option, Some, None, nat_lt, reverse, take}
 use Rattle.std.proofs.lemmas.Bool.{cond_both}
 use Rattle.definitions.specs.Lists.{Among}
 use Rattle.ids.specs.Sizes.{leader}
 use Rattle.definitions.specs.Branches.{Branch, branch_eq}
 use Rattle.definitions.specs.Histories.{Answer, answers, History, last_seq, last_answer, answer_to}
-use Rattle.definitions.specs.Chronicles.{Admitted, Step, Step.took_block, Step.noted, Note.got_vote, Note.got_new_view, Note.got_request, Note.got_fetch, Note.timed_out, Note.beat, Chronicle, taken, history}
+use Rattle.definitions.specs.Chronicles.{Admitted, Step, Step.took_block, Step.noted, Note.got_vote}
+use Rattle.definitions.specs.Chronicles.{Note.got_new_view, Note.got_request, Note.got_fetch}
+use Rattle.definitions.specs.Chronicles.{Note.timed_out, Note.beat, Chronicle, taken, history}
 use Rattle.definitions.specs.Checks.{Identity}
 use Rattle.definitions.specs.States.{Justified, view, leads, proposed}
-use Rattle.definitions.specs.Sendings.{To, To.to_all, To.to_party, Sending, sendings, vote_frame, proposal_frame, new_view_frame, reply_to, block_frame, new_replies, as_taken, supplies, again, proposes}
+use Rattle.definitions.specs.Sendings.{To, To.to_all, To.to_party, Sending, sendings, vote_frame}
+use Rattle.definitions.specs.Sendings.{proposal_frame, new_view_frame, reply_to, block_frame, new_replies}
+use Rattle.definitions.specs.Sendings.{as_taken, supplies, again, proposes}
 
--- the vote for a block, a reply that is new or was given before, the view, a block that was taken, or a proposal
+-- the vote for a block, a reply that is new or was given before, the view, a block that was taken, or a
+-- proposal
 pub data Sends (self : Identity) (st : Step) (c : Chronicle) : Sending → Type 0 where
-  its_vote : (a : Admitted) → st ≡ took_block a → a.voted ≡ true → (to : To) → Sends self st c (to, vote_frame self a.branch)
+  its_vote : (a : Admitted) → st ≡ took_block a → a.voted ≡ true → (to : To)
+      → Sends self st c (to, vote_frame self a.branch)
   new_reply : (a : Answer) → Among a (answers (history (st ∷ c))) → Sends self st c (reply_to self a)
   old_reply : (a : Answer) → Among a (answers (history c)) → Sends self st c (reply_to self a)
   its_view : Sends self st c (to_all, new_view_frame self (st ∷ c))
-  its_block : (to : ℕ) (a : Admitted) → Among a (taken c) → Sends self st c (to_party to, block_frame self to a)
-  its_proposal : (j : Justified) → leads self c ≡ true → proposed self (st ∷ c) ≡ Some j → Sends self st c (to_all, proposal_frame self (view self.sizes c) j)
+  its_block : (to : ℕ) (a : Admitted) → Among a (taken c)
+      → Sends self st c (to_party to, block_frame self to a)
+  its_proposal : (j : Justified) → leads self c ≡ true → proposed self (st ∷ c) ≡ Some j
+      → Sends self st c (to_all, proposal_frame self (view self.sizes c) j)
 
 -- what is kept as taken was taken
-as_taken-among : (b : Option Branch) (c : Chronicle) (a : Admitted) → as_taken b c ≡ Some a → Among a (taken c)
+as_taken-among : (b : Option Branch) (c : Chronicle) (a : Admitted) → as_taken b c ≡ Some a
+    → Among a (taken c)
 as_taken-among None c a e = absurd (none e)
   where
     none : None ≡ Some a → ⊥
@@ -30,9 +40,11 @@ as_taken-among None c a e = absurd (none e)
 as_taken-among (Some b) c a e = (find_some (λ a. branch_eq a.branch b) (taken c) a e).0
 
 -- a reply that is given again is one of the answers
-pub answer_to-among : (client seq : ℕ) (h : History) (a : Answer) → answer_to client seq h ≡ Some a → Among a (answers h)
+pub answer_to-among : (client seq : ℕ) (h : History) (a : Answer) → answer_to client seq h ≡ Some a
+    → Among a (answers h)
 unfolding answer_to last_answer
-answer_to-among client seq h a e = (find_some (λ a. a.client == client) (answers h) a (numbered-is seq (last_answer client h) a e)).0
+answer_to-among client seq h a e =
+    (find_some (λ a. a.client == client) (answers h) a (numbered-is seq (last_answer client h) a e)).0
 
 module _ (self : Identity) (st : Step) (c : Chronicle) where
   -- one frame alone
@@ -46,42 +58,58 @@ module _ (self : Identity) (st : Step) (c : Chronicle) where
   replies-sent o m =
       let n : ℕ = length (answers (history (st ∷ c))) - length (answers (history c)) in
       let r = Among-map (reply_to self) (reverse (take n (answers (history (st ∷ c))))) o m in
-      subst (Sends self st c) (sym r.2) (new_reply r.0 (Among-take n (answers (history (st ∷ c))) r.0 (Among-reverse (take n (answers (history (st ∷ c)))) r.0 r.1)))
+      subst (Sends self st c) (sym r.2) (new_reply r.0 (Among-take n (answers (history (st ∷ c))) r.0
+      (Among-reverse (take n (answers (history (st ∷ c)))) r.0 r.1)))
 
   -- the proposal, where there is one
-  proposal-sent : (p : Option Justified) (o : Sending) → leads self c ≡ true → proposed self (st ∷ c) ≡ p → Among o (proposes self (view self.sizes c) p) → Sends self st c o
+  proposal-sent : (p : Option Justified) (o : Sending) → leads self c ≡ true → proposed self (st ∷ c) ≡ p
+      → Among o (proposes self (view self.sizes c) p) → Sends self st c o
   proposal-sent None o l e m = absurd m
   proposal-sent (Some j) o l e m = only _ o (its_proposal j l e) m
 
   -- a reply that is given again
-  again-sent : (r : Option Answer) (o : Sending) → ((a : Answer) → r ≡ Some a → Among a (answers (history c))) → Among o (again self r) → Sends self st c o
+  again-sent : (r : Option Answer) (o : Sending)
+      → ((a : Answer) → r ≡ Some a → Among a (answers (history c))) → Among o (again self r)
+      → Sends self st c o
   again-sent None o h m = absurd m
   again-sent (Some a) o h m = only _ o (old_reply a (h a refl)) m
 
   -- a block that was asked for, where it was taken
-  block-sent : (to : ℕ) (r : Option Admitted) (o : Sending) → ((a : Admitted) → r ≡ Some a → Among a (taken c)) → Among o (supplies self to r) → Sends self st c o
+  block-sent : (to : ℕ) (r : Option Admitted) (o : Sending)
+      → ((a : Admitted) → r ≡ Some a → Among a (taken c)) → Among o (supplies self to r) → Sends self st c o
   block-sent to None o h m = absurd m
   block-sent to (Some a) o h m = only _ o (its_block to a (h a refl)) m
 
   -- what is sent under a condition
-  sent-if : (t : Bool) (xs : List Sending) (o : Sending) → (t ≡ true → Among o xs → Sends self st c o) → Among o (cond t xs []) → Sends self st c o
-  sent-if t xs o h = cond_both t xs [] (λ (l : List Sending). Among o l → Sends self st c o) (λ e m. h e m) (λ e m. absurd m)
+  sent-if : (t : Bool) (xs : List Sending) (o : Sending) → (t ≡ true → Among o xs → Sends self st c o)
+      → Among o (cond t xs []) → Sends self st c o
+  sent-if t xs o h =
+      cond_both t xs [] (λ (l : List Sending). Among o l → Sends self st c o) (λ e m. h e m) (λ e m. absurd m)
 
 -- each frame that a step sends
-pub sends : (self : Identity) (st : Step) (c : Chronicle) (o : Sending) → Among o (sendings self st c) → Sends self st c o
+pub sends : (self : Identity) (st : Step) (c : Chronicle) (o : Sending) → Among o (sendings self st c)
+    → Sends self st c o
 unfolding sendings
 sends self (took_block a) c o m =
-    elim (Among-either o (cond a.voted ((to_party (leader self.sizes (view self.sizes c)), vote_frame self a.branch) ∷ []) []) (new_replies self (took_block a) c) m) [
-      | inl k ↦ sent-if self (took_block a) c a.voted _ o (λ e n. only self (took_block a) c _ o (its_vote a refl e _) n) k
+    elim (Among-either o (cond a.voted
+    ((to_party (leader self.sizes (view self.sizes c)), vote_frame self a.branch) ∷ []) [])
+    (new_replies self (took_block a) c) m) [
+      | inl k ↦ sent-if self (took_block a) c a.voted _ o
+          (λ e n. only self (took_block a) c _ o (its_vote a refl e _) n) k
       | inr k ↦ replies-sent self (took_block a) c o k
     ]
 sends self (noted (got_vote v t b)) c o m = absurd m
 sends self (noted (got_new_view w s q b)) c o m =
-    sent-if self (noted (got_new_view w s q b)) c (nat_lt (view self.sizes c) (view self.sizes (noted (got_new_view w s q b) ∷ c))) _ o (λ e n. only self (noted (got_new_view w s q b)) c _ o its_view n) m
+    sent-if self (noted (got_new_view w s q b)) c
+    (nat_lt (view self.sizes c) (view self.sizes (noted (got_new_view w s q b) ∷ c))) _ o
+    (λ e n. only self (noted (got_new_view w s q b)) c _ o its_view n) m
 sends self (noted (got_request r)) c o m =
     sent-if self (noted (got_request r)) c (r.seq == last_seq r.client (history c)) _ o
-    (λ e n. again-sent self (noted (got_request r)) c (answer_to r.client r.seq (history c)) o (λ a k. answer_to-among r.client r.seq (history c) a k) n) m
-sends self (noted (got_fetch to b)) c o m = block-sent self (noted (got_fetch to b)) c to (as_taken b c) o (λ a e. as_taken-among b c a e) m
+    (λ e n. again-sent self (noted (got_request r)) c (answer_to r.client r.seq (history c)) o
+    (λ a k. answer_to-among r.client r.seq (history c) a k) n) m
+sends self (noted (got_fetch to b)) c o m =
+    block-sent self (noted (got_fetch to b)) c to (as_taken b c) o (λ a e. as_taken-among b c a e) m
 sends self (noted timed_out) c o m = only self (noted timed_out) c _ o its_view m
 sends self (noted beat) c o m =
-    sent-if self (noted beat) c (leads self c) _ o (λ e n. proposal-sent self (noted beat) c (proposed self (noted beat ∷ c)) o e refl n) m
+    sent-if self (noted beat) c (leads self c) _ o
+    (λ e n. proposal-sent self (noted beat) c (proposed self (noted beat ∷ c)) o e refl n) m

@@ -5,7 +5,8 @@ use Rattle.ids.specs.declared.kind.Kind.TheVariants as kind
 use Rattle.ids.specs.Sizes.{Sizes, replicas, client_party}
 use Rattle.definitions.specs.Lists.{Among}
 use Rattle.definitions.specs.Bytes.{Bytes}
-use Rattle.definitions.specs.Frames.{reply_content, fetch_content, block_content, proposal_content, new_view_content, Certificate}
+use Rattle.definitions.specs.Frames.{reply_content, fetch_content, block_content, proposal_content}
+use Rattle.definitions.specs.Frames.{new_view_content, Certificate}
 use Rattle.definitions.specs.FrameLimits.{IsDigest, IsFrame, IsCore, IsCertificate}
 use Rattle.definitions.specs.Branches.{Branch}
 use Rattle.definitions.specs.Digests.{digest_of, core_of}
@@ -13,11 +14,13 @@ use Rattle.definitions.specs.Histories.{Answer, answers}
 use Rattle.definitions.specs.Chronicles.{Admitted, Step, Chronicle, taken, history, IsLawful}
 use Rattle.definitions.specs.Checks.{Identity}
 use Rattle.definitions.specs.States.{Justified, view, qc_high, me, proposed}
-use Rattle.definitions.specs.Sendings.{Sending, vote_frame, proposal_frame, new_view_frame, reply_to, block_frame, fetch_frame}
+use Rattle.definitions.specs.Sendings.{Sending, vote_frame, proposal_frame, new_view_frame, reply_to}
+use Rattle.definitions.specs.Sendings.{block_frame, fetch_frame}
 use Rattle.definitions.proofs.Vectors.{IsVector-vector_for, length-tag_for}
 use Rattle.definitions.proofs.Certificates.{IsDigest-digest_of}
 use Rattle.definitions.proofs.Chronicles.{taken-now}
-use Rattle.linear_law.proofs.Sends.{Sends, Sends.its_vote, Sends.new_reply, Sends.old_reply, Sends.its_view, Sends.its_block, Sends.its_proposal}
+use Rattle.linear_law.proofs.Sends.{Sends, Sends.its_vote, Sends.new_reply, Sends.old_reply, Sends.its_view}
+use Rattle.linear_law.proofs.Sends.{Sends.its_block, Sends.its_proposal}
 use Rattle.linear_law.proofs.StoredFrames.{IsStored, AreStored}
 use Rattle.linear_law.proofs.MadeCertificates.{qc_high-is}
 use Rattle.linear_law.proofs.Leaves.{view-fits}
@@ -49,7 +52,10 @@ module _ (self : Identity) (number : me self < replicas self.sizes) where
   -- a vote
   vote-fits : (b : Branch) → IsFrame self.sizes (vote_frame self b)
   unfolding vote_frame
-  vote-fits b = (IsDigest-digest_of b, record { voter = number; vector = IsVector-vector_for self.sizes self.ring kind.Vote (digest_of b) })
+  vote-fits b = (
+    IsDigest-digest_of b,
+    record { voter = number; vector = IsVector-vector_for self.sizes self.ring kind.Vote (digest_of b) },
+  )
 
   -- a question for a block
   pub fetch-fits : (to : ℕ) (d : Bytes) → IsDigest d → IsFrame self.sizes (fetch_frame self to d)
@@ -57,46 +63,80 @@ module _ (self : Identity) (number : me self < replicas self.sizes) where
   fetch-fits to d h = (number, h, length-tag_for self.ring kind.Fetch (fetch_content (me self) d) to)
 
   -- an announcement of the view
-  new_view-fits : (c : Chronicle) → IsLawful self.sizes c → AreStored self c → IsFrame self.sizes (new_view_frame self c)
+  new_view-fits : (c : Chronicle) → IsLawful self.sizes c → AreStored self c
+      → IsFrame self.sizes (new_view_frame self c)
   unfolding new_view_frame
   new_view-fits c l h =
-      let q : Certificate = (qc_high self.sizes c).certificate in
-      (view-fits self c h, number, (qc_high-is self c l h).certificate_is, IsVector-vector_for self.sizes self.ring kind.NewView (new_view_content (view self.sizes c) (me self) q))
+      let q : Certificate = (qc_high self.sizes c).certificate in (
+        view-fits self c h,
+        number,
+        (qc_high-is self c l h).certificate_is,
+        IsVector-vector_for self.sizes self.ring kind.NewView
+            (new_view_content (view self.sizes c) (me self) q),
+      )
 
   -- a block that was asked for
-  block-fits : (to : ℕ) (a : Admitted) → IsCore self.sizes (core_of a.branch) → IsCertificate self.sizes a.certificate → IsFrame self.sizes (block_frame self to a)
+  block-fits : (to : ℕ) (a : Admitted) → IsCore self.sizes (core_of a.branch)
+      → IsCertificate self.sizes a.certificate → IsFrame self.sizes (block_frame self to a)
   unfolding block_frame
-  block-fits to a hk hq = (number, hk, hq, length-tag_for self.ring kind.Block (block_content (me self) (core_of a.branch) a.certificate) to)
+  block-fits to a hk hq = (
+    number,
+    hk,
+    hq,
+    length-tag_for self.ring kind.Block (block_content (me self) (core_of a.branch) a.certificate) to,
+  )
 
   -- a proposal
-  proposal-fits : (w : ℕ) (j : Justified) → w < 2 ^ 64 → IsFitProposal self.sizes j → IsFrame self.sizes (proposal_frame self w j)
+  proposal-fits : (w : ℕ) (j : Justified) → w < 2 ^ 64 → IsFitProposal self.sizes j
+      → IsFrame self.sizes (proposal_frame self w j)
   unfolding proposal_frame
-  proposal-fits w j l h = (l, h.core_is, h.certificate_is, IsVector-vector_for self.sizes self.ring kind.Proposal (proposal_content w (core_of j.block) j.certificate))
+  proposal-fits w j l h = (
+    l,
+    h.core_is,
+    h.certificate_is,
+    IsVector-vector_for self.sizes self.ring kind.Proposal
+        (proposal_content w (core_of j.block) j.certificate),
+  )
 
   -- a reply
   reply-fits : (a : Answer) → IsFitAnswer self.sizes a → IsFrame self.sizes (reply_to self a).1
   unfolding reply_to
-  reply-fits a h = (number, h.client, h.seq, h.place, h.text, length-tag_for self.ring kind.Reply (reply_content (me self) a.client a.seq a.place a.text) (client_party a.client))
+  reply-fits a h = (
+    number,
+    h.client,
+    h.seq,
+    h.place,
+    h.text,
+    length-tag_for self.ring kind.Reply (reply_content (me self) a.client a.seq a.place a.text)
+        (client_party a.client),
+  )
 
 -- ---- what is looked up
 
 -- a block that was taken has the core and the certificate of a frame
-taken-fit : (self : Identity) (c : Chronicle) (a : Admitted) → AreStored self c → Among a (taken c) → IsCore self.sizes (core_of a.branch) × IsCertificate self.sizes a.certificate
+taken-fit : (self : Identity) (c : Chronicle) (a : Admitted) → AreStored self c → Among a (taken c)
+    → IsCore self.sizes (core_of a.branch) × IsCertificate self.sizes a.certificate
 unfolding taken
 taken-fit self [] a h m = absurd m
 taken-fit self (st ∷ c) a h m =
     elim (taken-now st c a m) [
-      | inl now ↦ (let s = subst (IsStored self c) now.0 h.0 in (subst (IsCore self.sizes) (sym (s.stored now.1)) s.core_is, s.certificate_is))
+      | inl now ↦
+          (let s =
+          subst (IsStored self c) now.0 h.0 in
+          (subst (IsCore self.sizes) (sym (s.stored now.1)) s.core_is, s.certificate_is))
       | inr k ↦ taken-fit self c a h.1 k
     ]
 
 -- ---- what a step sends
 
 -- each frame that a step sends
-pub sends-fit : (self : Identity) (st : Step) (c : Chronicle) (o : Sending) → IsReady self st c → Sends self st c o → IsFrame self.sizes o.1
+pub sends-fit : (self : Identity) (st : Step) (c : Chronicle) (o : Sending) → IsReady self st c
+    → Sends self st c o → IsFrame self.sizes o.1
 sends-fit self st c o r (its_vote a e v to) = vote-fits self r.number a.branch
 sends-fit self st c o r (new_reply a m) = reply-fits self r.number a (r.now a m)
 sends-fit self st c o r (old_reply a m) = reply-fits self r.number a (r.before a m)
 sends-fit self st c o r its_view = new_view-fits self r.number (st ∷ c) r.lawful r.stored
-sends-fit self st c o r (its_block to a m) = let k = taken-fit self c a r.stored.1 m in block-fits self r.number to a k.0 k.1
-sends-fit self st c o r (its_proposal j l e) = proposal-fits self r.number (view self.sizes c) j (view-fits self c r.stored.1) (r.proposal j e)
+sends-fit self st c o r (its_block to a m) =
+    let k = taken-fit self c a r.stored.1 m in block-fits self r.number to a k.0 k.1
+sends-fit self st c o r (its_proposal j l e) =
+    proposal-fits self r.number (view self.sizes c) j (view-fits self c r.stored.1) (r.proposal j e)

@@ -1,7 +1,8 @@
 -- What a replica stores comes from frames that were read and admitted.
 use Rattle.ids.specs.declared.limits.TheConstants.{MOST_BLOCKS}
 use Rattle.ids.specs.declared.fault.Fault.TheVariants as fault
-use Rattle.std.proofs.Common.{ℕ, ◌≡◌, ◌<◌, ◌^◌, ◌&&◌, not, true, [], ◌∷◌, length, refl, sym, subst, inl, inr, Option, Some, None, true≢false, nat_lt, ◌∙◌, ap}
+use Rattle.std.proofs.Common.{ℕ, ◌≡◌, ◌<◌, ◌^◌, ◌&&◌, not, true, [], ◌∷◌, length, refl, sym, subst, inl}
+use Rattle.std.proofs.Common.{inr, Option, Some, None, true≢false, nat_lt, ◌∙◌, ap}
 use Rattle.std.specs.Bool.{⊤}
 use Rattle.std.specs.List.{list_any}
 use Rattle.std.proofs.lemmas.Bool.{and_parts, cond_both}
@@ -12,15 +13,21 @@ use Rattle.definitions.specs.Frames as frame
 use Rattle.definitions.specs.FrameLimits.{IsDigest, IsCommand, IsCore, IsVote, IsCertificate, IsFrame}
 use Rattle.definitions.specs.Branches.{Branch, just1}
 use Rattle.definitions.specs.Digests.{digest_of, core_of}
-use Rattle.definitions.specs.Chronicles.{Admitted, Step, Step.took_block, Step.noted, Note.got_vote, Note.got_new_view, Note.got_request, Chronicle, tree, history, IsSound}
+use Rattle.definitions.specs.Chronicles.{Admitted, Step, Step.took_block, Step.noted, Note.got_vote}
+use Rattle.definitions.specs.Chronicles.{Note.got_new_view, Note.got_request, Chronicle, tree, history}
+use Rattle.definitions.specs.Chronicles.{IsSound}
 use Rattle.definitions.specs.Checks.{Identity, Findings, is_good, is_genesis, vote_verifies}
 use Rattle.definitions.specs.States.{find_block, is_due, pending, is_same_request}
-use Rattle.definitions.specs.Rulings.{Input, Input.proposal_in, Input.block_in, Input.vote_in, Input.new_view_in, Input.request_in, Input.fetch_in, Input.timeout_in, Input.beat_in, Ruling, Ruling.due, Ruling.missing, Ruling.refusing, admitted, on_placing, on_block, on_request, with_block, ruling}
+use Rattle.definitions.specs.Rulings.{Input, Input.proposal_in, Input.block_in, Input.vote_in}
+use Rattle.definitions.specs.Rulings.{Input.new_view_in, Input.request_in, Input.fetch_in, Input.timeout_in}
+use Rattle.definitions.specs.Rulings.{Input.beat_in, Ruling, Ruling.due, Ruling.missing, Ruling.refusing}
+use Rattle.definitions.specs.Rulings.{admitted, on_placing, on_block, on_request, with_block, ruling}
 use Rattle.definitions.specs.Admission.{check, Checked.passes, Checked.rejected}
 use Rattle.definitions.specs.Worlds.{World, Event, self_of}
 use Rattle.definitions.specs.Events.{party_of}
 use Rattle.definitions.proofs.Sound.{found}
-use Rattle.definitions.specs.Trees.{Placing, Placing.stands, Placing.grows, Placing.lacks_parent, Placing.unfit, placing, IsTree}
+use Rattle.definitions.specs.Trees.{Placing, Placing.stands, Placing.grows, Placing.lacks_parent}
+use Rattle.definitions.specs.Trees.{Placing.unfit, placing, IsTree}
 use Rattle.definitions.proofs.Trees.{same_bytes, found-in, core-known, IsPlaced, placed}
 use Rattle.definitions.proofs.Checks.{when-good}
 use Rattle.linear_law.proofs.Effects.{Arises}
@@ -43,7 +50,8 @@ pub record IsStoredVote (self : Identity) (v : Vote) (b : Branch) (c : Chronicle
   pub among : Among b (tree c)
 
 -- a view that was announced, with a certificate of a block of the tree
-pub record IsStoredView (self : Identity) (view : ℕ) (q : Certificate) (b : Branch) (c : Chronicle) : Type 0 where
+pub record IsStoredView (self : Identity) (view : ℕ) (q : Certificate) (b : Branch) (c : Chronicle) :
+    Type 0 where
   pub view_is : view < 2 ^ 64
   pub certificate_is : IsCertificate self.sizes q
   pub good : is_good self q ≡ true
@@ -65,10 +73,13 @@ AreStored self (st ∷ c) = IsStored self c st × AreStored self c
 
 -- what an input says, where it was a frame
 abbrev pub IsReadInput : Identity → Input → Type 0
-IsReadInput self (proposal_in w core q f) = IsCore self.sizes core × IsCertificate self.sizes q × (is_good self q ≡ true)
-IsReadInput self (block_in sender core q f) = IsCore self.sizes core × IsCertificate self.sizes q × (is_good self q ≡ true)
+IsReadInput self (proposal_in w core q f) =
+    IsCore self.sizes core × IsCertificate self.sizes q × (is_good self q ≡ true)
+IsReadInput self (block_in sender core q f) =
+    IsCore self.sizes core × IsCertificate self.sizes q × (is_good self q ≡ true)
 IsReadInput self (vote_in d b) = IsDigest d × IsVote self.sizes b × (vote_verifies self d b ≡ true)
-IsReadInput self (new_view_in w sender q) = (w < 2 ^ 64) × IsCertificate self.sizes q × (is_good self q ≡ true)
+IsReadInput self (new_view_in w sender q) =
+    (w < 2 ^ 64) × IsCertificate self.sizes q × (is_good self q ≡ true)
 IsReadInput self (request_in r) = IsCommand self.sizes r
 IsReadInput self i = ⊤
 
@@ -81,13 +92,18 @@ IsStoredRuling self c (refusing n) = ⊤
 -- ---- inputs
 
 -- a frame that was checked is an input of this kind
-pub check-read : (self : Identity) (f : Frame) (i : Input) → IsFrame self.sizes f → check self f ≡ passes i → IsReadInput self i
+pub check-read : (self : Identity) (f : Frame) (i : Input) → IsFrame self.sizes f → check self f ≡ passes i
+    → IsReadInput self i
 unfolding check
-check-read self (frame.proposal view core q v) i fr e = let g = when-good _ _ _ e in subst (IsReadInput self) g.1 (fr.1, fr.2, (and_parts _ _ g.0).1)
-check-read self (frame.block sender core q t) i fr e = let g = when-good _ _ _ e in subst (IsReadInput self) g.1 (fr.1, fr.2, (and_parts _ _ g.0).1)
+check-read self (frame.proposal view core q v) i fr e =
+    let g = when-good _ _ _ e in subst (IsReadInput self) g.1 (fr.1, fr.2, (and_parts _ _ g.0).1)
+check-read self (frame.block sender core q t) i fr e =
+    let g = when-good _ _ _ e in subst (IsReadInput self) g.1 (fr.1, fr.2, (and_parts _ _ g.0).1)
 check-read self (frame.request c) i fr e = subst (IsReadInput self) (when-good _ _ _ e).1 fr
-check-read self (frame.vote d b) i fr e = let g = when-good _ _ _ e in subst (IsReadInput self) g.1 (fr.0, fr.1, g.0)
-check-read self (frame.new_view w s q v) i fr e = let g = when-good _ _ _ e in subst (IsReadInput self) g.1 (fr.0, fr.2, (and_parts _ _ g.0).1)
+check-read self (frame.vote d b) i fr e =
+    let g = when-good _ _ _ e in subst (IsReadInput self) g.1 (fr.0, fr.1, g.0)
+check-read self (frame.new_view w s q v) i fr e =
+    let g = when-good _ _ _ e in subst (IsReadInput self) g.1 (fr.0, fr.2, (and_parts _ _ g.0).1)
 check-read self (frame.fetch s d t) i fr e = subst (IsReadInput self) (when-good _ _ _ e).1 tt
 check-read self (frame.reply r c s p t g) i fr e = absurd (apart e)
   where
@@ -103,14 +119,25 @@ arises-read w e i (inr (inr t)) = subst (IsReadInput (self_of w (party_of e))) (
 -- ---- rulings
 
 -- a block of the tree with genesis's digest is genesis
-genesis-only : (c : Chronicle) (b : Branch) → IsTree (tree c) → Among b (tree c) → is_genesis (digest_of b) ≡ true → b ≡ []
+genesis-only : (c : Chronicle) (b : Branch) → IsTree (tree c) → Among b (tree c)
+    → is_genesis (digest_of b) ≡ true → b ≡ []
 unfolding digest_of
 genesis-only c b tr m h = tr.one b [] m tr.genesis (same_bytes _ _ h)
 
 -- a block with its certificate
-placed-stored : (self : Identity) (w : Option ℕ) (sender : ℕ) (core : Core) (q : Certificate) (f : Findings) (c : Chronicle) → IsCore self.sizes core → IsCertificate self.sizes q → is_good self q ≡ true → (p : Placing) → IsPlaced MOST_BLOCKS core q (tree c) p → IsStoredRuling self c (on_placing self w sender core q f c p)
+placed-stored : (self : Identity) (w : Option ℕ) (sender : ℕ) (core : Core) (q : Certificate) (f : Findings)
+    (c : Chronicle) → IsCore self.sizes core → IsCertificate self.sizes q → is_good self q ≡ true
+    → (p : Placing) → IsPlaced MOST_BLOCKS core q (tree c) p
+    → IsStoredRuling self c (on_placing self w sender core q f c p)
 unfolding on_placing admitted
-placed-stored self w sender core q f c hk hq g (stands b) h = record { core_is = hk; certificate_is = hq; good = g; justified = h.1; stored = λ n. absurd (true≢false (sym n)) }
+placed-stored self w sender core q f c hk hq g (stands b) h =
+    record {
+      core_is = hk;
+      certificate_is = hq;
+      good = g;
+      justified = h.1;
+      stored = λ n. absurd (true≢false (sym n));
+    }
 placed-stored self w sender core q f c hk hq g (grows b) (parent, t) =
     let ep = sym (found-in core.parent (tree c) parent t.parent_found).1 in
     record {
@@ -123,28 +150,49 @@ placed-stored self w sender core q f c hk hq g (grows b) (parent, t) =
 placed-stored self w sender core q f c hk hq g lacks_parent h = hk.parent
 placed-stored self w sender core q f c hk hq g (unfit n) h = tt
 
-block-stored : (self : Identity) (w : Option ℕ) (sender : ℕ) (core : Core) (q : Certificate) (f : Findings) (c : Chronicle) → IsCore self.sizes core → IsCertificate self.sizes q → is_good self q ≡ true → IsStoredRuling self c (on_block self w sender core q f c)
-block-stored self w sender core q f c hk hq g = placed-stored self w sender core q f c hk hq g (placing MOST_BLOCKS core q (tree c)) (placed MOST_BLOCKS core q (tree c))
+block-stored : (self : Identity) (w : Option ℕ) (sender : ℕ) (core : Core) (q : Certificate) (f : Findings)
+    (c : Chronicle) → IsCore self.sizes core → IsCertificate self.sizes q → is_good self q ≡ true
+    → IsStoredRuling self c (on_block self w sender core q f c)
+block-stored self w sender core q f c hk hq g =
+    placed-stored self w sender core q f c hk hq g (placing MOST_BLOCKS core q (tree c))
+    (placed MOST_BLOCKS core q (tree c))
 
 -- a vote
-vote-stored : (self : Identity) (b : Vote) (d : Bytes) (c : Chronicle) → IsSound self.sizes c → IsDigest d → IsVote self.sizes b → vote_verifies self d b ≡ true → (o : Option Branch) → find_block d c ≡ o → IsStoredRuling self c (with_block o b.voter d (λ x. due (noted (got_vote b.voter b.vector x))))
+vote-stored : (self : Identity) (b : Vote) (d : Bytes) (c : Chronicle) → IsSound self.sizes c → IsDigest d
+    → IsVote self.sizes b → vote_verifies self d b ≡ true → (o : Option Branch) → find_block d c ≡ o
+    → IsStoredRuling self c (with_block o b.voter d (λ x. due (noted (got_vote b.voter b.vector x))))
 vote-stored self b d c so hd hb v None e = hd
 vote-stored self b d c so hd hb v (Some x) e =
     let r = found d c x e in
-    record { vote_is = hb; verifies = subst (λ (y : Bytes). vote_verifies self y b ≡ true) (sym r.1) v; genesis = genesis-only c x so.is_tree r.0; among = r.0 }
+    record {
+      vote_is = hb;
+      verifies = subst (λ (y : Bytes). vote_verifies self y b ≡ true) (sym r.1) v;
+      genesis = genesis-only c x so.is_tree r.0;
+      among = r.0;
+    }
 
 -- a view that is announced
-view-stored : (self : Identity) (w sender : ℕ) (q : Certificate) (c : Chronicle) → w < 2 ^ 64 → IsCertificate self.sizes q → is_good self q ≡ true → (o : Option Branch) → find_block q.digest c ≡ o → IsStoredRuling self c (with_block o sender q.digest (λ x. due (noted (got_new_view w sender q x))))
+view-stored : (self : Identity) (w sender : ℕ) (q : Certificate) (c : Chronicle) → w < 2 ^ 64
+    → IsCertificate self.sizes q → is_good self q ≡ true → (o : Option Branch) → find_block q.digest c ≡ o
+    → IsStoredRuling self c (with_block o sender q.digest (λ x. due (noted (got_new_view w sender q x))))
 view-stored self w sender q c l hq g None e = hq.digest
-view-stored self w sender q c l hq g (Some x) e = let r = found q.digest c x e in record { view_is = l; certificate_is = hq; good = g; justified = sym r.1; among = r.0 }
+view-stored self w sender q c l hq g (Some x) e =
+    let r =
+    found q.digest c x e in
+    record { view_is = l; certificate_is = hq; good = g; justified = sym r.1; among = r.0 }
 
 -- a request
-request-stored : (self : Identity) (r : Command) (c : Chronicle) → IsCommand self.sizes r → IsStoredRuling self c (on_request r c)
+request-stored : (self : Identity) (r : Command) (c : Chronicle) → IsCommand self.sizes r
+    → IsStoredRuling self c (on_request r c)
 unfolding on_request
-request-stored self r c h = cond_both (is_due (history c) r && (not (list_any (is_same_request r) (pending c)) && not (nat_lt (length (pending c)) 4096))) _ _ (IsStoredRuling self c) (λ e. tt) (λ e. h)
+request-stored self r c h =
+    cond_both (is_due (history c) r
+    && (not (list_any (is_same_request r) (pending c)) && not (nat_lt (length (pending c)) 4096))) _ _
+    (IsStoredRuling self c) (λ e. tt) (λ e. h)
 
 -- what an input comes to
-pub ruling-stored : (self : Identity) (i : Input) (c : Chronicle) → IsReadInput self i → IsSound self.sizes c → IsStoredRuling self c (ruling self i c)
+pub ruling-stored : (self : Identity) (i : Input) (c : Chronicle) → IsReadInput self i
+    → IsSound self.sizes c → IsStoredRuling self c (ruling self i c)
 unfolding ruling
 ruling-stored self (proposal_in w core q f) c h so = block-stored self _ _ core q f c h.0 h.1 h.2
 ruling-stored self (block_in sender core q f) c h so = block-stored self _ _ core q f c h.0 h.1 h.2

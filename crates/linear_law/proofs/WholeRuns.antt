@@ -1,5 +1,7 @@
--- Whole runs: what holds of their beginning and is kept by each event holds at their end. From this each law follows.
-use Rattle.std.proofs.Common.{ℕ, zero, suc, slice_get, option_map, ◌≡◌, Bool, List, [], ◌∷◌, refl, sym, subst, inl, inr, Option, Some, None, Ok}
+-- Whole runs: what holds of their beginning and is kept by each event holds at their end. From this each
+-- law follows.
+use Rattle.std.proofs.Common.{ℕ, zero, suc, slice_get, option_map, ◌≡◌, Bool, List, [], ◌∷◌, refl, sym}
+use Rattle.std.proofs.Common.{subst, inl, inr, Option, Some, None, Ok}
 use Rattle.std.specs.Bool.{⊤}
 use Rattle.ids.specs.Sizes.{Sizes}
 use Rattle.definitions.specs.Lists.{Among}
@@ -8,10 +10,12 @@ use Rattle.definitions.specs.FrameLimits.{IsReadAs, IsCore, IsFrame}
 use Rattle.definitions.specs.Digests.{NoCollision}
 use Rattle.definitions.specs.Keyrings.{Keyring}
 use Rattle.definitions.specs.States.{Justified, leaf, proposed}
-use Rattle.definitions.specs.Worlds.{World, Sent, Event, Event.submit, Event.relay, Event.inject, Event.timeout, Event.beat, Happening, self_of, new_world}
+use Rattle.definitions.specs.Worlds.{World, Sent, Event, Event.submit, Event.relay, Event.inject}
+use Rattle.definitions.specs.Worlds.{Event.timeout, Event.beat, Happening, self_of, new_world}
 use Rattle.definitions.specs.Events.{brought, happens}
 use Rattle.definitions.specs.Runs.{refusal, run, after}
-use Rattle.definitions.specs.Premises.{CoreOf, CoreBrought, CoreOfRun, IsReadIn, AllRead, NoForgeryIn, NoForgery, ArePremises}
+use Rattle.definitions.specs.Premises.{CoreOf, CoreBrought, CoreOfRun, IsReadIn, AllRead, NoForgeryIn}
+use Rattle.definitions.specs.Premises.{NoForgery, ArePremises}
 use Rattle.definitions.proofs.Lists.{Among-before}
 use Rattle.definitions.proofs.Spellings.{IsReadAs-unique}
 use Rattle.linear_law.proofs.Runs.{chronicles, IsHonest}
@@ -21,7 +25,9 @@ use Rattle.linear_law.proofs.Linear.{IsGood, ground, good-happens, run-step, new
 use Rattle.linear_law.proofs.Final.{IsAccount, account-happens, correct-quorum, new-account, linear}
 use Rattle.linear_law.proofs.FramedRuns.{IsFramed, happens-framed}
 use Rattle.linear_law.proofs.MadeCertificates.{has-certificates}
-use Rattle.linear_law.specs.Law.{SentAreFrames, EveryRunIsLinear, ChroniclesAreLawful, ChroniclesAreAFamily, NoEventConflicts, SentFramesAreFrames, SentFramesAreRead, MadeCertificatesAreCertificates}
+use Rattle.linear_law.specs.Law.{SentAreFrames, EveryRunIsLinear, ChroniclesAreLawful, ChroniclesAreAFamily}
+use Rattle.linear_law.specs.Law.{NoEventConflicts, SentFramesAreFrames, SentFramesAreRead}
+use Rattle.linear_law.specs.Law.{MadeCertificatesAreCertificates}
 
 -- ---- what comes
 
@@ -35,7 +41,9 @@ slice_get-among (y ∷ xs) zero x e = inl (cc)
 slice_get-among (y ∷ xs) (suc i) x e = inr (slice_get-among xs i x e)
 
 -- a recorded frame is one that was sent
-recorded-framed : (sizes : Sizes) (xs : List Sent) (k : ℕ) (f : Frame) → ((s : Sent) → Among s xs → IsFrame sizes s.frame) → option_map (λ s. s.frame) (slice_get xs k) ≡ Some f → IsFrame sizes f
+recorded-framed : (sizes : Sizes) (xs : List Sent) (k : ℕ) (f : Frame)
+    → ((s : Sent) → Among s xs → IsFrame sizes s.frame)
+    → option_map (λ s. s.frame) (slice_get xs k) ≡ Some f → IsFrame sizes f
 recorded-framed sizes xs k f sent e = by (slice_get xs k) refl e
   where
     by : (o : Option Sent) → slice_get xs k ≡ o → option_map (λ s. s.frame) o ≡ Some f → IsFrame sizes f
@@ -43,7 +51,8 @@ recorded-framed sizes xs k f sent e = by (slice_get xs k) refl e
       where
         none : None ≡ Some f → ⊥
         none h = cc
-    by (Some s) i j = let here : s.frame ≡ f = cc in subst (IsFrame sizes) here (sent s (slice_get-among xs k s i))
+    by (Some s) i j =
+        let here : s.frame ≡ f = cc in subst (IsFrame sizes) here (sent s (slice_get-among xs k s i))
 
 -- what comes is a frame, where each frame that was sent is one
 pub comes-framed : (w : World) (e : Event) → IsReadIn w.sizes e → SentAreFrames w → ComesFramed w e
@@ -60,7 +69,8 @@ comes-framed w (beat r) rd sent f b = absurd (let k : None ≡ Some f = b in cc)
 abbrev SentKnown : (Core → Type 0) → World → Type 0
 SentKnown Known w = (s : Sent) → Among s w.sent → (x : Core) → CoreOf x s.frame → IsCore w.sizes x → Known x
 
--- of an event: what is injected is read rightly, no tag is forged, and the cores that come in it or are sent are known
+-- of an event: what is injected is read rightly, no tag is forged, and the cores that come in it or are
+-- sent are known
 record IsAssumed (Known : Core → Type 0) (w : World) (h : Happening) : Type 0 where
   read : IsReadIn w.sizes h.0
   forgery : NoForgeryIn w h.0
@@ -79,8 +89,11 @@ sent-stays w [] s m = m
 sent-stays w (h ∷ hs) s m = sent-stays (happens w h) hs s (Among-before s w.sent _ m)
 
 -- the premises, event by event
-assumed-along : (Known : Core → Type 0) (sizes : Sizes) (w : World) (hs : List Happening) → w.sizes ≡ sizes → AllRead sizes hs → NoForgery w hs
-    → ((c : Core) → CoreBrought c w hs → IsCore sizes c → Known c) → ((s : Sent) → Among s (after w hs).sent → (x : Core) → CoreOf x s.frame → IsCore sizes x → Known x) → AssumedAlong Known w hs
+assumed-along : (Known : Core → Type 0) (sizes : Sizes) (w : World) (hs : List Happening) → w.sizes ≡ sizes
+    → AllRead sizes hs → NoForgery w hs
+    → ((c : Core) → CoreBrought c w hs → IsCore sizes c → Known c)
+    → ((s : Sent) → Among s (after w hs).sent → (x : Core) → CoreOf x s.frame → IsCore sizes x
+    → Known x) → AssumedAlong Known w hs
 unfolding after happens
 assumed-along Known sizes w [] e rd n come sent = tt
 assumed-along Known sizes w (h ∷ hs) e rd n come sent = (
@@ -94,15 +107,21 @@ assumed-along Known sizes w (h ∷ hs) e rd n come sent = (
 )
 
 -- an event is honest where each frame that was sent is one
-honest-now : (Known : Core → Type 0) (w : World) (h : Happening) → IsAssumed Known w h → SentAreFrames w → IsHonest Known w h.0
+honest-now : (Known : Core → Type 0) (w : World) (h : Happening) → IsAssumed Known w h → SentAreFrames w
+    → IsHonest Known w h.0
 honest-now Known w h a sent =
     let framed : ComesFramed w h.0 = comes-framed w h.0 a.read sent in
-    record { framed = framed; forgery = a.forgery; cores = λ f b c o. a.come f b c o (core-frame w.sizes f c (framed f b) o) }
+    record {
+      framed = framed;
+      forgery = a.forgery;
+      cores = λ f b c o. a.come f b c o (core-frame w.sizes f c (framed f b) o);
+    }
 
 -- ---- from the beginning to the end
 
 -- the world at its start
-new-framed : (Known : Core → Type 0) (sizes : Sizes) (is_faulty : ℕ → Bool) (ring : ℕ → Keyring) → IsFramed Known (new_world sizes is_faulty ring)
+new-framed : (Known : Core → Type 0) (sizes : Sizes) (is_faulty : ℕ → Bool) (ring : ℕ → Keyring)
+    → IsFramed Known (new_world sizes is_faulty ring)
 unfolding new_world leaf proposed
 new-framed Known sizes is_faulty ring = record {
   stored = λ p m. tt;
@@ -121,7 +140,8 @@ record IsWell (Known : Core → Type 0) (w : World) : Type 0 where
 
 module _ (Known : Core → Type 0) (apart : NoCollision Known) (genesis : Known genesis_core) where
   -- one event
-  well-happens : (w : World) (h : Happening) → IsWell Known w → IsAssumed Known w h → refusal w h.0 ≡ None → IsWell Known (happens w h)
+  well-happens : (w : World) (h : Happening) → IsWell Known w → IsAssumed Known w h → refusal w h.0 ≡ None
+      → IsWell Known (happens w h)
   unfolding happens
   well-happens w h g a ok =
       let honest : IsHonest Known w h.0 = honest-now Known w h a g.framed.sent in
@@ -132,7 +152,8 @@ module _ (Known : Core → Type 0) (apart : NoCollision Known) (genesis : Known 
       }
 
   -- a whole run
-  well-run : (hs : List Happening) (w last : World) → IsWell Known w → AssumedAlong Known w hs → run w hs ≡ Ok last → IsWell Known last
+  well-run : (hs : List Happening) (w last : World) → IsWell Known w → AssumedAlong Known w hs
+      → run w hs ≡ Ok last → IsWell Known last
   unfolding run
   well-run [] w last g a e = let k : w ≡ last = cc in subst (IsWell Known) k g
   well-run (h ∷ hs) w last g a e =
@@ -144,7 +165,9 @@ unfoldable KnownIn : (sizes : Sizes) (w : World) (hs : List Happening) → Core 
 KnownIn sizes w hs c = CoreOfRun w hs c × IsCoreOrGenesis sizes c
 
 -- what a run whose premises hold comes to
-run-is-well : (sizes : Sizes) (is_faulty : ℕ → Bool) (ring : ℕ → Keyring) (hs : List Happening) (last : World) → ArePremises (new_world sizes is_faulty ring) hs → run (new_world sizes is_faulty ring) hs ≡ Ok last
+run-is-well :
+    (sizes : Sizes) (is_faulty : ℕ → Bool) (ring : ℕ → Keyring) (hs : List Happening) (last : World)
+    → ArePremises (new_world sizes is_faulty ring) hs → run (new_world sizes is_faulty ring) hs ≡ Ok last
     → IsWell (KnownIn sizes (new_world sizes is_faulty ring) hs) last
 unfolding KnownIn new_world
 run-is-well sizes is_faulty ring hs last met e =
@@ -155,39 +178,50 @@ run-is-well sizes is_faulty ring hs last met e =
       account = new-account sizes is_faulty ring;
       framed = new-framed _ sizes is_faulty ring;
     })
-    (assumed-along _ sizes w hs refl met.read met.no_forgery (λ c b k. (inr (inr b), inr k)) (λ s m x o k. (inr (inl (s, m, o)), inr k))) e
+    (assumed-along _ sizes w hs refl met.read met.no_forgery (λ c b k. (inr (inr b), inr k))
+    (λ s m x o k. (inr (inl (s, m, o)), inr k))) e
 
 -- ---- the laws
 
 -- every run is linear
 pub every-run-linear : EveryRunIsLinear
-every-run-linear sizes is_faulty ring hs last met e = let r = run-is-well sizes is_faulty ring hs last met e in linear _ last r.good r.account
+every-run-linear sizes is_faulty ring hs last met e =
+    let r = run-is-well sizes is_faulty ring hs last met e in linear _ last r.good r.account
 
 -- the correct replicas' chronicles are lawful
 pub chronicles-lawful : ChroniclesAreLawful
-chronicles-lawful sizes is_faulty ring hs last met e = let r = run-is-well sizes is_faulty ring hs last met e in λ i c. (r.good.run.row.sound i c).lawful
+chronicles-lawful sizes is_faulty ring hs last met e =
+    let r = run-is-well sizes is_faulty ring hs last met e in λ i c. (r.good.run.row.sound i c).lawful
 
 -- and an orderly family
 pub chronicles-family : ChroniclesAreAFamily
 chronicles-family sizes is_faulty ring hs last met e =
     let r = (run-is-well sizes is_faulty ring hs last met e).good in
-    record { enough = r.made.enough; lawful = λ i c. (r.run.row.sound i c).lawful; orderly = r.run.row.orderly }
+    record {
+      enough = r.made.enough;
+      lawful = λ i c. (r.run.row.sound i c).lawful;
+      orderly = r.run.row.orderly;
+    }
 
 -- no event of a run is answered with a conflict
 pub none-conflicts : NoEventConflicts
-none-conflicts sizes is_faulty ring hs last met e = (run-is-well sizes is_faulty ring hs last met e).good.answers
+none-conflicts sizes is_faulty ring hs last met e =
+    (run-is-well sizes is_faulty ring hs last met e).good.answers
 
 -- each frame that was sent is a frame
 pub sent-are-frames : SentFramesAreFrames
-sent-are-frames sizes is_faulty ring hs last met e = (run-is-well sizes is_faulty ring hs last met e).framed.sent
+sent-are-frames sizes is_faulty ring hs last met e =
+    (run-is-well sizes is_faulty ring hs last met e).framed.sent
 
 -- and its bytes are read as it
 pub sent-are-read : SentFramesAreRead
 sent-are-read sizes is_faulty ring hs last met e are s read m rd =
-    IsReadAs-unique last.sizes are (spelling s.frame) read (Some s.frame) rd (sent-are-frames sizes is_faulty ring hs last met e s m, refl)
+    IsReadAs-unique last.sizes are (spelling s.frame) read (Some s.frame) rd
+    (sent-are-frames sizes is_faulty ring hs last met e s m, refl)
 
 -- the certificates of each correct replica
 pub made-are-certificates : MadeCertificatesAreCertificates
 made-are-certificates sizes is_faulty ring hs last met e =
     let r = run-is-well sizes is_faulty ring hs last met e in
-    λ i c. has-certificates (self_of last i) (chronicles last i) (r.good.run.row.sound i c).lawful (r.framed.stored i c)
+    λ i c. has-certificates (self_of last i) (chronicles last i) (r.good.run.row.sound i c).lawful
+    (r.framed.stored i c)

@@ -1,5 +1,6 @@
 -- The laws of every run, as clauses.
-use Rattle.std.specs.Prelude.{ℕ, ◌≡◌, ◌≢◌, ◌<◌, ◌^◌, Bool, true, List, [], ◌∷◌, length, Option, Some, Ok, ⊤, slice_get}
+use Rattle.std.specs.Prelude.{ℕ, ◌≡◌, ◌≢◌, ◌<◌, ◌^◌, Bool, true, List, [], ◌∷◌, length, Option, Some, Ok, ⊤}
+use Rattle.std.specs.Prelude.{slice_get}
 use Rattle.std.specs.List.{AllByRecursion}
 use Rattle.ids.specs.declared.fault.Fault.TheVariants as fault
 use Rattle.ids.specs.Sizes.{Sizes, AreSizes}
@@ -11,7 +12,8 @@ use Rattle.definitions.specs.Checks.{Identity, is_good}
 use Rattle.definitions.specs.States.{Justified, raised, qc_high}
 use Rattle.definitions.specs.Chronicles.{Step, Chronicle, IsLawful}
 use Rattle.definitions.specs.Agreement.{Family, IsLawfulFamily}
-use Rattle.definitions.specs.Worlds.{World, Sent, AcceptedBy, Event, relay, inject, Happening, new_world, is_correct, self_of}
+use Rattle.definitions.specs.Worlds.{World, Sent, AcceptedBy, Event, relay, inject, Happening, new_world}
+use Rattle.definitions.specs.Worlds.{is_correct, self_of}
 use Rattle.definitions.specs.Frames.{Command, Frame, spelling}
 use Rattle.definitions.specs.Frames as frame
 use Rattle.definitions.specs.Histories.{Entry}
@@ -22,12 +24,15 @@ use Rattle.definitions.specs.Linearity.{WasSubmitted, IsLinear}
 
 -- P holds at the end of each run whose premises hold and that refuses no event
 abbrev pub AfterEachRun : (World → Type 0) → Type 0
-AfterEachRun P = (sizes : Sizes) (is_faulty : ℕ → Bool) (ring : ℕ → Keyring) (hs : List Happening) (last : World) →
-    ArePremises (new_world sizes is_faulty ring) hs → run (new_world sizes is_faulty ring) hs ≡ Ok last → P last
+AfterEachRun P =
+    (sizes : Sizes) (is_faulty : ℕ → Bool) (ring : ℕ → Keyring) (hs : List Happening) (last : World) →
+    ArePremises (new_world sizes is_faulty ring) hs → run (new_world sizes is_faulty ring) hs ≡ Ok last
+    → P last
 
 -- the chronicles of the correct replicas
 abbrev pub correct_family : World → Family
-correct_family w = record { sizes = w.sizes; is_member = is_correct w; chronicle = λ i. (w.replica i).chronicle }
+correct_family w =
+    record { sizes = w.sizes; is_member = is_correct w; chronicle = λ i. (w.replica i).chronicle }
 
 -- a correct replica's chronicle is lawful
 abbrev pub AreLawful : World → Type 0
@@ -65,14 +70,20 @@ SentFramesAreFrames = AfterEachRun SentAreFrames
 abbrev pub HaveOwnKeys : World → Type 0
 HaveOwnKeys w = (p : ℕ) → is_correct w p ≡ true → (w.ring p).party ≡ p
 
--- so is each frame of each run of fewer than 2^63 events, whatever tags are forged and whatever cores collide in it
+-- so is each frame of each run of fewer than 2^63 events, whatever tags are forged and whatever cores
+-- collide in it
 abbrev pub AnySentFramesAreFrames : Type 0
-AnySentFramesAreFrames = (sizes : Sizes) (is_faulty : ℕ → Bool) (ring : ℕ → Keyring) (hs : List Happening) (last : World) → length hs < 2 ^ 63 →
-    HaveOwnKeys (new_world sizes is_faulty ring) → AllRead sizes hs → run (new_world sizes is_faulty ring) hs ≡ Ok last → SentAreFrames last
+AnySentFramesAreFrames =
+    (sizes : Sizes) (is_faulty : ℕ → Bool) (ring : ℕ → Keyring) (hs : List Happening) (last : World)
+    → length hs < 2 ^ 63 →
+    HaveOwnKeys (new_world sizes is_faulty ring) → AllRead sizes hs
+    → run (new_world sizes is_faulty ring) hs ≡ Ok last → SentAreFrames last
 
 -- the bytes of each frame that a correct party sent are read as that frame
 abbrev pub AreReadAsSent : World → Type 0
-AreReadAsSent w = (s : Sent) (read : Option Frame) → Among s w.sent → IsReadAs w.sizes (spelling s.frame) read → read ≡ Some s.frame
+AreReadAsSent w =
+    (s : Sent) (read : Option Frame) → Among s w.sent → IsReadAs w.sizes (spelling s.frame) read
+    → read ≡ Some s.frame
 
 -- so are those of each such run
 abbrev pub SentFramesAreRead : Type 0
@@ -84,30 +95,39 @@ pub record IsCertified (self : Identity) (j : Justified) : Type 0 where
   pub digest : j.certificate.digest ≡ digest_of j.block
   pub good : 0 < length j.block → is_good self j.certificate ≡ true
 
--- each certificate that a step brought, or completed by the last vote of a quorum, is one; so is the highest, and it is good
+-- each certificate that a step brought, or completed by the last vote of a quorum, is one; so is the
+-- highest, and it is good
 pub record HasCertificates (self : Identity) (c : Chronicle) : Type 0 where
-  pub each : (s : Step) (earlier : Chronicle) (j : Justified) → IsBeginning (s ∷ earlier) c → raised self.sizes s earlier ≡ Some j → IsCertified self j
+  pub each : (s : Step) (earlier : Chronicle) (j : Justified) → IsBeginning (s ∷ earlier) c
+      → raised self.sizes s earlier ≡ Some j → IsCertified self j
   pub highest : IsCertified self (qc_high self.sizes c)
   pub good : is_good self (qc_high self.sizes c).certificate ≡ true
 
 -- each correct replica has such certificates at the end of each such run
 abbrev pub MadeCertificatesAreCertificates : Type 0
-MadeCertificatesAreCertificates = AfterEachRun (λ w. (i : ℕ) → is_correct w i ≡ true → HasCertificates (self_of w i) (w.replica i).chronicle)
+MadeCertificatesAreCertificates =
+    AfterEachRun
+    (λ w. (i : ℕ) → is_correct w i ≡ true → HasCertificates (self_of w i) (w.replica i).chronicle)
 
 -- P holds at the end of each run that refuses no event, whatever is faulty, forged or collides in it
 abbrev pub AfterAnyRun : (World → Type 0) → Type 0
-AfterAnyRun P = (sizes : Sizes) (is_faulty : ℕ → Bool) (ring : ℕ → Keyring) (hs : List Happening) (last : World) → run (new_world sizes is_faulty ring) hs ≡ Ok last → P last
+AfterAnyRun P =
+    (sizes : Sizes) (is_faulty : ℕ → Bool) (ring : ℕ → Keyring) (hs : List Happening) (last : World)
+    → run (new_world sizes is_faulty ring) hs ≡ Ok last → P last
 
 -- two recorded requests of one sender and one seq are the same: of one event, with one payload
 abbrev pub RequestsDiffer : World → Type 0
-RequestsDiffer w = (s t : Sent) (c d : Command) → Among s w.sent → Among t w.sent → s.frame ≡ frame.request c → t.frame ≡ frame.request d
+RequestsDiffer w =
+    (s t : Sent) (c d : Command) → Among s w.sent → Among t w.sent → s.frame ≡ frame.request c
+    → t.frame ≡ frame.request d
     → s.sender ≡ t.sender → c.seq ≡ d.seq → s ≡ t
 
 -- no two submissions of a client have one seq
 abbrev pub NoSeqIsGivenTwice : Type 0
 NoSeqIsGivenTwice = AfterAnyRun RequestsDiffer
 
--- The client of the receipt submitted a command of its seq before it was accepted, and no other one of that seq.
+-- The client of the receipt submitted a command of its seq before it was accepted, and no other one of that
+-- seq.
 pub record NamesOneCommand (w : World) (r : AcceptedBy) : Type 0 where
   pub entry : Entry
   pub event : ℕ
@@ -115,7 +135,8 @@ pub record NamesOneCommand (w : World) (r : AcceptedBy) : Type 0 where
   pub seq : entry.seq ≡ r.receipt.seq
   pub submitted : WasSubmitted w entry event
   pub before : event < r.event
-  pub alone : (e : Entry) (n : ℕ) → e.client ≡ r.client → e.seq ≡ r.receipt.seq → WasSubmitted w e n → (e ≡ entry) × (n ≡ event)
+  pub alone : (e : Entry) (n : ℕ) → e.client ≡ r.client → e.seq ≡ r.receipt.seq → WasSubmitted w e n
+      → (e ≡ entry) × (n ≡ event)
 
 -- each accepted receipt names one submitted command
 abbrev pub ReceiptsNameCommands : Type 0
@@ -132,8 +153,11 @@ abbrev pub AllDelivered : World → List Happening → Type 0
 AllDelivered w [] = ⊤
 AllDelivered w (h ∷ hs) = IsDelivered w h.0 × AllDelivered (happens w h) hs
 
--- In a run in which recorded frames alone come, each to a party that it was sent to, no tag is forged, if each correct
--- replica has its own keys.
+-- In a run in which recorded frames alone come, each to a party that it was sent to, no tag is forged, if
+-- each correct replica has its own keys.
 abbrev pub DeliveriesForgeNothing : Type 0
-DeliveriesForgeNothing = (sizes : Sizes) (is_faulty : ℕ → Bool) (ring : ℕ → Keyring) (hs : List Happening) (last : World) → HaveOwnKeys (new_world sizes is_faulty ring)
-    → AllDelivered (new_world sizes is_faulty ring) hs → run (new_world sizes is_faulty ring) hs ≡ Ok last → AllRead sizes hs × NoForgery (new_world sizes is_faulty ring) hs
+DeliveriesForgeNothing =
+    (sizes : Sizes) (is_faulty : ℕ → Bool) (ring : ℕ → Keyring) (hs : List Happening) (last : World)
+    → HaveOwnKeys (new_world sizes is_faulty ring)
+    → AllDelivered (new_world sizes is_faulty ring) hs → run (new_world sizes is_faulty ring) hs ≡ Ok last
+    → AllRead sizes hs × NoForgery (new_world sizes is_faulty ring) hs

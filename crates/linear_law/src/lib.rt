@@ -1,9 +1,12 @@
-//! The laws of every run of a world, over the definitions alone; no code runs here. Each stands as the contract of
-//! a function with an empty body. A run is any list of submissions, deliveries, losses, repeats, timeouts, beats and
-//! invented frames; refused memory is its one free choice.
+//! The laws of every run of a world, over the definitions alone; no code runs here. Each stands as
+//! the contract of a function with an empty body. A run is any list of submissions, deliveries,
+//! losses, repeats, timeouts, beats and invented frames; refused memory is its one free choice.
 #![tactic(auto)]
 
-ghost use Rattle.linear_law.specs.Law.{EveryRunIsLinear, ChroniclesAreLawful, ChroniclesAreAFamily, NoEventConflicts, SentFramesAreFrames, AnySentFramesAreFrames, SentFramesAreRead, MadeCertificatesAreCertificates, NoSeqIsGivenTwice, ReceiptsNameCommands, DeliveriesForgeNothing};
+ghost use Rattle.linear_law.specs.Law.{EveryRunIsLinear, ChroniclesAreLawful, ChroniclesAreAFamily};
+ghost use Rattle.linear_law.specs.Law.{NoEventConflicts, SentFramesAreFrames, AnySentFramesAreFrames};
+ghost use Rattle.linear_law.specs.Law.{SentFramesAreRead, MadeCertificatesAreCertificates};
+ghost use Rattle.linear_law.specs.Law.{NoSeqIsGivenTwice, ReceiptsNameCommands, DeliveriesForgeNothing};
 
 /// Every run is linear.
 pub fn every_run_is_linear()
@@ -30,7 +33,8 @@ pub fn sent_frames_are_frames()
     ensures { SentFramesAreFrames }
 {}
 
-/// So is each frame of a run of fewer than 2^63 events, whatever tags are forged in it and whatever cores collide.
+/// So is each frame of a run of fewer than 2^63 events, whatever tags are forged in it and whatever
+/// cores collide.
 pub fn any_sent_frames_are_frames()
     ensures { AnySentFramesAreFrames }
 {}
@@ -40,26 +44,27 @@ pub fn sent_frames_are_read()
     ensures { SentFramesAreRead }
 {}
 
-/// Each certificate that a correct replica keeps, or makes from votes, is a certificate at the run's sizes, for its
-/// block and good for the replica.
+/// Each certificate that a correct replica keeps, or makes from votes, is a certificate at the
+/// run's sizes, for its block and good for the replica.
 pub fn made_certificates_are_certificates()
     ensures { MadeCertificatesAreCertificates }
 {}
 
-/// No two submissions of a client have one seq: two recorded requests of one sender and one seq are of the same event,
-/// with the same payload. Nothing is assumed of the run.
+/// No two submissions of a client have one seq: two recorded requests of one sender and one seq are
+/// of the same event, with the same payload. Nothing is assumed of the run.
 pub fn no_seq_is_given_twice()
     ensures { NoSeqIsGivenTwice }
 {}
 
-/// Each accepted receipt names one submitted command: its client submitted one of the receipt's seq before it accepted
-/// the receipt, and no other one of that seq in the whole run. Nothing is assumed of the run.
+/// Each accepted receipt names one submitted command: its client submitted one of the receipt's seq
+/// before it accepted the receipt, and no other one of that seq in the whole run. Nothing is
+/// assumed of the run.
 pub fn receipts_name_commands()
     ensures { ReceiptsNameCommands }
 {}
 
-/// No tag is forged in a run in which recorded frames alone come, each to a party that it was sent to, if each correct
-/// replica has its own keys.
+/// No tag is forged in a run in which recorded frames alone come, each to a party that it was sent
+/// to, if each correct replica has its own keys.
 pub fn deliveries_forge_nothing()
     ensures { DeliveriesForgeNothing }
 {}

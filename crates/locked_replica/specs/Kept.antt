@@ -1,5 +1,6 @@
 -- A replica that is kept for several threads, and the shares that count its steps.
-use Rattle.std.specs.Prelude.{◌≡◌, ◌⊎◌, ℕ, ◌-◌, ◌+◌, ◌<◌, ◌==◌, Bool, ◌&&◌, IsTrue, List, length, sum, slice_index, nat_lt, All, EachIndex, count_by, Result, Ok, Err}
+use Rattle.std.specs.Prelude.{◌≡◌, ◌⊎◌, ℕ, ◌-◌, ◌+◌, ◌<◌, ◌==◌, Bool, ◌&&◌, IsTrue, List, length, sum}
+use Rattle.std.specs.Prelude.{slice_index, nat_lt, All, EachIndex, count_by, Result, Ok, Err}
 use Rattle.ids.specs.declared.fault.Fault.{Fault}
 use Rattle.ids.specs.declared.fault.Fault.TheVariants as fault
 use Rattle.definitions.specs.Keyrings.{Keys}
@@ -19,8 +20,8 @@ pub record KeptState : Type 0 where
 abbrev pub mark_of : Replica → ℕ
 mark_of replica = length (held_history replica)
 
--- What holds of each kept replica: its chronicle is lawful, the shares count its steps together, and its eye owns its
--- mark and has put there how far it has executed.
+-- What holds of each kept replica: its chronicle is lawful, the shares count its steps together, and its
+-- eye owns its mark and has put there how far it has executed.
 pub record Holds (kept : KeptState) : Type 0 where
   pub lawful : IsLawful kept.keys.sizes kept.replica.chronicle
   pub counts : sum kept.shares ≡ length kept.replica.chronicle
@@ -52,8 +53,8 @@ counted share more = record share { count = share.count + more }
 abbrev pub gained : Replica → Replica → ℕ
 gained old new = length new.chronicle - length old.chronicle
 
--- what a share counts of an answer: an answer that sends something is one step; want of memory may be one, while it is
--- executed; and another refusal is none
+-- what a share counts of an answer: an answer that sends something is one step; want of memory may be one,
+-- while it is executed; and another refusal is none
 abbrev pub Counts : ShareState → Result (List Sent) Fault → ShareState → Type 0
 Counts old (Ok out) new = new ≡ counted old 1
 Counts old (Err n) new = (new ≡ old) ⊎ ((n ≡ fault.Memory) × (new ≡ counted old 1))

@@ -1,6 +1,7 @@
 //! A replica that is kept for several threads.
 
-ghost use Rattle.std.specs.Prelude.{◌≡◌, ◌<◌, ◌+◌, ◌↔◌, ◌++◌, [], ◌∷◌, length, sum, sum_by, IsTrue, IsOk, IfOk, IfErr, OnOk, OnErr, IsErrOf, slice_set, All};
+ghost use Rattle.std.specs.Prelude.{◌≡◌, ◌<◌, ◌+◌, ◌↔◌, ◌++◌, [], ◌∷◌, length, sum, sum_by, IsTrue, IsOk};
+ghost use Rattle.std.specs.Prelude.{IfOk, IfErr, OnOk, OnErr, IsErrOf, slice_set, All};
 ghost use Rattle.std.specs.Bool.{OnTrue, OnFalse};
 ghost use Rattle.definitions.specs.Checks.{identity_of};
 ghost use Rattle.definitions.specs.Chronicles.{IsLawful};
@@ -41,9 +42,16 @@ impl<'a> Model for Kept<'a> {
 
     ghost Value = { KeptState };
 
-    ghost view = { λ k. record { keys = k.replica.keys; replica = k.replica.replica; shares = k.shares.items; eye = k.eye } };
+    ghost view = { λ k.
+        record { keys = k.replica.keys; replica = k.replica.replica; shares = k.shares.items; eye = k.eye } };
 
-    ghost invariant = { λ k. (k.eye.marks ≡ k.marks.now) × Holds (record { keys = k.replica.keys; replica = k.replica.replica; shares = k.shares.items; eye = k.eye }) };
+    ghost invariant = { λ k. (k.eye.marks ≡ k.marks.now)
+        × Holds (record {
+          keys = k.replica.keys;
+          replica = k.replica.replica;
+          shares = k.shares.items;
+          eye = k.eye;
+        }) };
 }
 
 /// How many commands a replica has executed, as its mark is to say.
@@ -113,7 +121,8 @@ impl<'a> Kept<'a> {
 
     /// The next share, which counts no step yet.
     pub fn share(&mut self) -> Result<Share, Fault>
-        ensures made { IfOk result (λ s. s ≡ record { replica = self.old.keys.party; number = length self.old.shares; count = 0 }) }
+        ensures made { IfOk result
+            (λ s. s ≡ record { replica = self.old.keys.party; number = length self.old.shares; count = 0 }) }
         ensures kept { OnOk result (self.new ≡ record self.old { shares = self.old.shares ++ 0 ∷ [] }) }
         ensures unchanged { OnErr result (self.new ≡ self.old) }
         ensures memory { OnErr result (result ≡ Err Fault.Memory) }
@@ -162,18 +171,24 @@ impl<'a> Kept<'a> {
 
     /// One step of the replica, counted by a share. How far it has executed is put into its mark.
     ///
-    /// It is refused with `NotMine` where the input is for another replica, and else with `NotAll` where the share
-    /// isn't one of this replica's own.
+    /// It is refused with `NotMine` where the input is for another replica, and else with `NotAll`
+    /// where the share isn't one of this replica's own.
     #[tactic(auto, using(crate::proofs::Growth::mark_grows))]
     pub fn step(&mut self, share: &mut Share, input: Input<'_>) -> Result<Out, Fault>
         ensures not_mine { OnFalse (is_addressed self.old.keys input.entry) (IsErrOf result Fault.NotMine) }
-        ensures not_all { OnTrue (is_addressed self.old.keys input.entry) (OnFalse (is_own self.old share.old) (IsErrOf result Fault.NotAll)) }
+        ensures not_all { OnTrue (is_addressed self.old.keys input.entry)
+            (OnFalse (is_own self.old share.old) (IsErrOf result Fault.NotAll)) }
         ensures unchanged { OnFalse (may_step self.old share.old input.entry) (self.new ≡ self.old) }
         ensures same_share { OnFalse (may_step self.old share.old input.entry) (share.new ≡ share.old) }
-        ensures stepped { OnTrue (may_step self.old share.old input.entry) (Stepped (identity_of self.old.keys) (input_of input.entry) self.old.replica result self.new.replica) }
-        ensures share { OnTrue (may_step self.old share.old input.entry) (share.new ≡ counted share.old (gained self.old.replica self.new.replica)) }
-        ensures shares { OnTrue (may_step self.old share.old input.entry) (self.new.shares ≡ slice_set self.old.shares share.old.number share.new.count) }
-        ensures eye { OnTrue (may_step self.old share.old input.entry) (self.new.eye ≡ putting self.old.eye self.old.keys.party (mark_of self.new.replica)) }
+        ensures stepped { OnTrue (may_step self.old share.old input.entry)
+            (Stepped (identity_of self.old.keys) (input_of input.entry) self.old.replica result
+            self.new.replica) }
+        ensures share { OnTrue (may_step self.old share.old input.entry)
+            (share.new ≡ counted share.old (gained self.old.replica self.new.replica)) }
+        ensures shares { OnTrue (may_step self.old share.old input.entry)
+            (self.new.shares ≡ slice_set self.old.shares share.old.number share.new.count) }
+        ensures eye { OnTrue (may_step self.old share.old input.entry)
+            (self.new.eye ≡ putting self.old.eye self.old.keys.party (mark_of self.new.replica)) }
         ensures keys { self.new.keys ≡ self.old.keys }
         ensures counts { Counts share.old result share.new }
     {
@@ -214,14 +229,17 @@ impl<'a> Kept<'a> {
         self.owns_all(shares) && each_once(self.made(), shares)
     }
 
-    /// Gives the replica and its eye back for all the shares made, each once. Without them all it hands back what it
-    /// got.
+    /// Gives the replica and its eye back for all the shares made, each once. Without them all it
+    /// hands back what it got.
     pub fn close(self, shares: Vec<Share>) -> Result<Closed, NotAll<'a>>
         ensures exactly { IsOk result ↔ AreAll self.entry shares.items }
-        ensures closed { IfOk result (λ c. c.replica ≡ record { keys = self.entry.keys; replica = self.entry.replica }) }
-        ensures counted { IfOk result (λ c. sum_by (λ s. s.count) shares.items ≡ length c.replica.replica.chronicle) }
+        ensures closed { IfOk result
+            (λ c. c.replica ≡ record { keys = self.entry.keys; replica = self.entry.replica }) }
+        ensures counted { IfOk result
+            (λ c. sum_by (λ s. s.count) shares.items ≡ length c.replica.replica.chronicle) }
         ensures eye { IfOk result (λ c. c.eye ≡ self.entry.eye) }
-        ensures owner { IfOk result (λ c. IsOwnerOf c.replica.keys.party c.eye.sight × (c.eye.sight.put ≡ mark_of c.replica.replica)) }
+        ensures owner { IfOk result (λ c. IsOwnerOf c.replica.keys.party c.eye.sight
+            × (c.eye.sight.put ≡ mark_of c.replica.replica)) }
         ensures kept_back { IfErr result (λ e. e.kept ≡ self.entry) }
         ensures shares_back { IfErr result (λ e. e.shares ≡ shares) }
     {

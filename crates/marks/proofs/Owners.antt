@@ -1,5 +1,6 @@
 -- The eyes of the words, one after another.
-use Rattle.std.proofs.Common.{◌≡◌, ℕ, zero, suc, ◌+◌, ◌-◌, ◌<◌, List, [], ◌∷◌, map, take, length, refl, subst, ap, ◌∙◌, arith}
+use Rattle.std.proofs.Common.{◌≡◌, ℕ, zero, suc, ◌+◌, ◌-◌, ◌<◌, List, [], ◌∷◌, map, take, length, refl}
+use Rattle.std.proofs.Common.{subst, ap, ◌∙◌, arith}
 use Rattle.std.proofs.lemmas.List.FromFn.{take-map-range_with_len, length-map-range_with_len}
 use Rattle.std.specs.List.{range_with_len}
 use Rattle.atomic_table.specs.Seated.{TableId}
@@ -10,15 +11,20 @@ abbrev pub Owners : TableId → ℕ → List EyeState → Type 0
 Owners z k [] = k ≡ z.words
 Owners z k (e ∷ es) = (e ≡ first_eye z k) × (k < z.words) × Owners z (k + 1) es
 
-pub owners_from : (z : TableId) (n k : ℕ) → k + n ≡ z.words → Owners z k (map (first_eye z) (range_with_len k n))
+pub owners_from : (z : TableId) (n k : ℕ) → k + n ≡ z.words
+    → Owners z k (map (first_eye z) (range_with_len k n))
 owners_from z zero k e = omega (arith, e)
 owners_from z (suc n) k e = (refl, omega (arith, e), owners_from z n (k + 1) (omega (arith, e)))
 
-pub owners_next : (z : TableId) (k : ℕ) (all es : List EyeState) (e : EyeState) → all ≡ e ∷ es → Owners z k all → (e ≡ first_eye z k) × (k < z.words) × Owners z (k + 1) es
+pub owners_next : (z : TableId) (k : ℕ) (all es : List EyeState) (e : EyeState) → all ≡ e ∷ es
+    → Owners z k all → (e ≡ first_eye z k) × (k < z.words) × Owners z (k + 1) es
 owners_next z k all es e is owners = subst (Owners z k) is owners
 
 -- without the last, which owns none
-pub all_owners : (z : TableId) (all owners : List EyeState) (n : ℕ) → all ≡ first_eyes z → n ≡ length all → owners ≡ take (n - 1) all → owners ≡ map (first_eye z) (range_with_len 0 z.words)
+pub all_owners : (z : TableId) (all owners : List EyeState) (n : ℕ) → all ≡ first_eyes z → n ≡ length all
+    → owners ≡ take (n - 1) all → owners ≡ map (first_eye z) (range_with_len 0 z.words)
 all_owners z all owners n made len rest =
-    let less : n - 1 ≡ z.words = omega (arith, len, ap length made ∙ length-map-range_with_len (first_eye z) 0 (z.words + 1)) in
-    rest ∙ (λ i. take (less i) (made i)) ∙ take-map-range_with_len (first_eye z) 0 (z.words + 1) z.words (omega arith)
+    let less : n - 1 ≡ z.words =
+    omega (arith, len, ap length made ∙ length-map-range_with_len (first_eye z) 0 (z.words + 1)) in
+    rest ∙ (λ i. take (less i) (made i))
+    ∙ take-map-range_with_len (first_eye z) 0 (z.words + 1) z.words (omega arith)

@@ -29,7 +29,10 @@ onlooker_of e = record e { sight = onlooker e.sight }
 
 -- the eye of a number, which owns that word; where there is no such word, it owns none. All words are 0
 abbrev pub first_eye : TableId → ℕ → EyeState
-first_eye z i = record { marks = z; sight = record { first = i; end = min (i + 1) z.words; put = 0; seen = replicate z.words 0 } }
+first_eye z i = record {
+  marks = z;
+  sight = record { first = i; end = min (i + 1) z.words; put = 0; seen = replicate z.words 0 };
+}
 
 -- an eye for each word, and one that owns none
 abbrev pub first_eyes : TableId → List EyeState

@@ -4,7 +4,8 @@ use crate::rule::Sight;
 use atomic_table::Seat;
 use std::marker::Model;
 
-/// What a thread reads the marks with. It may own a replica's word, and then that replica's length is put with it.
+/// What a thread reads the marks with. It may own a replica's word, and then that replica's length
+/// is put with it.
 ///
 /// It can't be copied, and has no bytes: what it has seen is known to proofs alone.
 #[derive(Drop)]

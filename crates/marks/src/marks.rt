@@ -25,12 +25,13 @@ impl Model for Marks {
 
     ghost view = { λ m. m.table.shared.table_id };
 
-    ghost invariant = { λ m. (m.table.shared.key ≡ m.table.shared.table_id.words) × (0 < m.table.shared.table_id.words) };
+    ghost invariant = { λ m. (m.table.shared.key ≡ m.table.shared.table_id.words)
+        × (0 < m.table.shared.table_id.words) };
 }
 
 impl Marks {
-    /// A word for each of `n` replicas, all at 0, and `n + 1` eyes: the eye of each number owns that replica's word,
-    /// and the last owns none.
+    /// A word for each of `n` replicas, all at 0, and `n + 1` eyes: the eye of each number owns
+    /// that replica's word, and the last owns none.
     pub fn new(alloc: Global, n: u8) -> Result<(Marks, Vec<Eye>), Fault>
         requires { 0 < n }
         ensures words { IfOk result (λ r. r.0.words ≡ n) }
@@ -52,8 +53,8 @@ impl Marks {
 
     /// How far a replica has executed. It takes no memory and waits for nobody.
     ///
-    /// It is at least what this eye has seen of that replica, and is seen from then on. It is exactly the owner's put
-    /// where the eye owns the word.
+    /// It is at least what this eye has seen of that replica, and is seen from then on. It is
+    /// exactly the owner's put where the eye owns the word.
     pub fn executed(&self, eye: &mut Eye, replica: ReplicaId) -> u64
         requires from { eye.old.marks ≡ self.now }
         requires number { replica < self.now.words }

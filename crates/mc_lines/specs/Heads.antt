@@ -1,6 +1,8 @@
 -- Lines and what they say: what the steps of the reader give.
 use Rattle.ids.specs.declared.limits.TheConstants.{MOST_ASKED, MOST_DATA}
-use Rattle.std.specs.Prelude.{◌≡◌, ◌≢◌, ℕ, ◌+◌, Bool, false, List, [], length, take, drop, nat_lt, Contains, codes, bytes_eq, Option, Some, None, Result, Ok, Err, if◌then◌else◌, option_map}
+use Rattle.std.specs.Prelude.{◌≡◌, ◌≢◌, ℕ, ◌+◌, Bool, false, List, [], length, take, drop, nat_lt, Contains}
+use Rattle.std.specs.Prelude.{codes, bytes_eq, Option, Some, None, Result, Ok, Err, if◌then◌else◌}
+use Rattle.std.specs.Prelude.{option_map}
 use Rattle.std.specs.Borrow.{Bor}
 use Rattle.ids.specs.declared.line_fault.LineFault.{LineFault}
 use Rattle.ids.specs.declared.line_fault.LineFault.TheVariants.{TooLarge, BadChunk}
@@ -18,7 +20,8 @@ use Rattle.mc_lines.specs.declared.line.Line.{Line}
 use Rattle.mc_lines.specs.declared.line.Line.TheVariants as lines
 use Rattle.mc_lines.specs.declared.read.Read.{Read}
 use Rattle.mc_lines.specs.declared.read.Read.TheVariants as reads
-use Rattle.mc_lines.specs.Fields.{keys_pass, ◌>>=◌, key_first, number_first, flags_first, expiry_first, noreply_in}
+use Rattle.mc_lines.specs.Fields.{keys_pass, ◌>>=◌, key_first, number_first, flags_first, expiry_first}
+use Rattle.mc_lines.specs.Fields.{noreply_in}
 use Rattle.mc_lines.specs.Meaning.{verb_of, keys_of, asked_of}
 
 -- what a line says
@@ -85,22 +88,28 @@ name_in word =
 -- a storage command by the fields behind its name
 abbrev pub store_in : requests.Verb → List Bytes → Option (requests.Head × Bool)
 store_in verb fields =
-    key_first fields >>= λ key. flags_first key.1 >>= λ flags. expiry_first flags.1 >>= λ rest. number_first rest >>= λ bytes.
+    key_first fields >>= λ key. flags_first key.1 >>= λ flags. expiry_first flags.1
+    >>= λ rest. number_first rest >>= λ bytes.
     noreply_in bytes.1 >>= λ noreply. Some (requests.store verb key.0 flags.0 bytes.0, noreply)
 
 -- cas by the fields behind its name
 abbrev pub cas_in : List Bytes → Option (requests.Head × Bool)
 cas_in fields =
-    key_first fields >>= λ key. flags_first key.1 >>= λ flags. expiry_first flags.1 >>= λ rest. number_first rest >>= λ bytes.
-    number_first bytes.1 >>= λ unique. noreply_in unique.1 >>= λ noreply. Some (requests.cas key.0 flags.0 bytes.0 unique.0, noreply)
+    key_first fields >>= λ key. flags_first key.1 >>= λ flags. expiry_first flags.1
+    >>= λ rest. number_first rest >>= λ bytes.
+    number_first bytes.1 >>= λ unique. noreply_in unique.1
+    >>= λ noreply. Some (requests.cas key.0 flags.0 bytes.0 unique.0, noreply)
 
 -- delete by the fields behind its name
 abbrev pub delete_in : List Bytes → Option (requests.Head × Bool)
-delete_in fields = key_first fields >>= λ key. noreply_in key.1 >>= λ noreply. Some (requests.delete key.0, noreply)
+delete_in fields =
+    key_first fields >>= λ key. noreply_in key.1 >>= λ noreply. Some (requests.delete key.0, noreply)
 
 -- a key, a number, and noreply or nothing
 abbrev pub counted_in : List Bytes → Option (Bytes × ℕ × Bool)
-counted_in fields = key_first fields >>= λ key. number_first key.1 >>= λ value. noreply_in value.1 >>= λ noreply. Some (key.0, value.0, noreply)
+counted_in fields =
+    key_first fields >>= λ key. number_first key.1 >>= λ value. noreply_in value.1
+    >>= λ noreply. Some (key.0, value.0, noreply)
 
 -- the keys of a retrieval
 abbrev pub keys_in : List Bytes → Option (List Bytes)
@@ -147,7 +156,8 @@ data_seen (Err fault) = Err fault
 
 -- the item that a line and its data make
 abbrev pub item_from : requests.Head → Bool → ℕ → ℕ → Result (Option Bytes) LineFault → Option (Item × ℕ)
-item_from head noreply start bytes (Ok (Some stored)) = Some (asked (filled head stored) noreply, start + (bytes + 2))
+item_from head noreply start bytes (Ok (Some stored)) =
+    Some (asked (filled head stored) noreply, start + (bytes + 2))
 item_from head noreply start bytes (Ok None) = None
 item_from head noreply start bytes (Err fault) = Some (bad fault, 0)
 

@@ -15,7 +15,9 @@ use Rattle.mc_lines.specs.declared.request.Request.{Request}
 use Rattle.mc_lines.specs.declared.request.Request.TheVariants.{Store, Cas, Get, Gets, Delete, Incr, Decr}
 use Rattle.mc_lines.specs.declared.reply.Value.{Value}
 use Rattle.mc_lines.specs.declared.reply.Reply.{Reply}
-use Rattle.mc_lines.specs.declared.reply.Reply.TheVariants.{Stored, NotStored, Exists, NotFound, Deleted, Number, Values, NoRoom, TooLong, NoNumber, NoRequest}
+use Rattle.mc_lines.specs.declared.reply.Reply.TheVariants.{Stored, NotStored, Exists, NotFound, Deleted}
+use Rattle.mc_lines.specs.declared.reply.Reply.TheVariants.{Number, Values, NoRoom, TooLong, NoNumber}
+use Rattle.mc_lines.specs.declared.reply.Reply.TheVariants.{NoRequest}
 use Rattle.mc_lines.specs.declared.read.Read.{Read}
 use Rattle.mc_lines.specs.declared.read.Read.TheVariants.{Whole, Quit, More, Bad}
 
@@ -119,7 +121,8 @@ IsStoredLent source (Decr key value) used = Unit {0}
 
 -- the parts of a request that takes so many bytes of the source are lent from their places in it
 abbrev pub AreLent : Bor Bytes → Request → ℕ → Type 0
-AreLent source request used = LentAt source (key_place request) (key_of request) × IsStoredLent source request used
+AreLent source request used =
+    LentAt source (key_place request) (key_of request) × IsStoredLent source request used
 
 -- what is read is lent
 abbrev pub IsLent : Bor Bytes → Read → Type 0

@@ -10,7 +10,8 @@ use Rattle.mc_lines.specs.Meaning.{value_of}
 -- the canonical text of a storage command of this name
 abbrev pub store_text : Bytes → Bytes → ℕ → Bytes → Bytes
 store_text name key flags stored =
-    join_with_byte space (name ∷ key ∷ decimal flags ∷ codes "0" ∷ decimal (length stored) ∷ []) ++ crlf ++ (stored ++ crlf)
+    join_with_byte space (name ∷ key ∷ decimal flags ∷ codes "0" ∷ decimal (length stored) ∷ []) ++ crlf
+    ++ (stored ++ crlf)
 
 -- the texts of values, one after the other
 abbrev pub values_text : Bool → List Value → Bytes

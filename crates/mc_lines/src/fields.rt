@@ -1,6 +1,7 @@
 ghost use Rattle.std.specs.Prelude.{◌≡◌, ◌+◌, ◌∷◌, ◌==◌, length, position, option_map, IfSome};
 ghost use Rattle.definitions.specs.Slices.{LentAt};
-ghost use Rattle.mc_lines.specs.Fields.{parts, parts_after, key_first, number_first, flags_first, expiry_first, noreply_in};
+ghost use Rattle.mc_lines.specs.Fields.{parts, parts_after, key_first, number_first, flags_first};
+ghost use Rattle.mc_lines.specs.Fields.{expiry_first, noreply_in};
 ghost use Rattle.mc_lines.specs.Meaning.{LentIn};
 
 use crate::keys::is_key;

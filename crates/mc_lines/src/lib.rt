@@ -1,8 +1,9 @@
 //! Requests and replies of memcached's text protocol, and their texts (protocol.txt).
 //!
-//! `read_request` reads what a connection brings, from any sender: eleven commands (set, add, replace, append,
-//! prepend, cas, get, gets, delete, incr, decr) and quit. It takes no memory, looks at no more than a line of
-//! 4,096 bytes and the data behind it, and lends what it reads from its input. The time of expiry is always 0.
+//! `read_request` reads what a connection brings, from any sender: eleven commands (set, add,
+//! replace, append, prepend, cas, get, gets, delete, incr, decr) and quit. It takes no memory,
+//! looks at no more than a line of 4,096 bytes and the data behind it, and lends what it reads from
+//! its input. The time of expiry is always 0.
 #![tactic(auto)]
 
 mod decimal;

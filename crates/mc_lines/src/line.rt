@@ -4,7 +4,9 @@ ghost use Rattle.definitions.specs.Bytes.{Bytes};
 ghost use Rattle.definitions.specs.Requests.{stored_of};
 ghost use Rattle.definitions.specs.Slices.{LentAt};
 ghost use Rattle.mc_lines.specs.Fields.{parts_after};
-ghost use Rattle.mc_lines.specs.Heads.{head_of, head_key, head_place, filled, seen, name_in, head_for, store_in, cas_in, delete_in, counted_in, keys_in, IsLineRead, IsLineLent};
+ghost use Rattle.mc_lines.specs.Heads.{head_of, head_key, head_place, filled, seen, name_in, head_for};
+ghost use Rattle.mc_lines.specs.Heads.{store_in, cas_in, delete_in, counted_in, keys_in, IsLineRead};
+ghost use Rattle.mc_lines.specs.Heads.{IsLineLent};
 ghost use Rattle.mc_lines.specs.Meaning.{verb_of, asked_of, keys_of, LentIn, AreLent};
 
 use crate::fields::{cut, expiry, flags, key, noreply, value};

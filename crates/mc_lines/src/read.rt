@@ -1,5 +1,6 @@
 ghost use Rattle.ids.specs.declared.limits.TheConstants.{MOST_LINE};
-ghost use Rattle.std.specs.Prelude.{◌≡◌, ◌+◌, ◌≤◌, length, take, slice_index, option_map, IfSome, IfNone, IfOk};
+ghost use Rattle.std.specs.Prelude.{◌≡◌, ◌+◌, ◌≤◌, length, take, slice_index, option_map, IfSome, IfNone};
+ghost use Rattle.std.specs.Prelude.{IfOk};
 ghost use Rattle.std.specs.Borrow.{Bor};
 ghost use Rattle.definitions.specs.Bytes.{Bytes};
 ghost use Rattle.definitions.specs.Requests.{stored_of};

@@ -1,6 +1,8 @@
 -- The pool after a step of its replica.
 use Rattle.ids.specs.declared.limits.TheConstants.{MOST_COMMANDS}
-use Rattle.std.proofs.Common.{sym, true≢false, arith, ◌≡◌, ℕ, max, nat_lt, nat_le, Bool, true, false, cond, ◌&&◌, ◌||◌, ◌==◌, not, List, [], ◌∷◌, ◌++◌, map, filter, take, refl, ap, ◌∙◌, if◌then◌else◌}
+use Rattle.std.proofs.Common.{sym, true≢false, arith, ◌≡◌, ℕ, max, nat_lt, nat_le, Bool, true, false, cond}
+use Rattle.std.proofs.Common.{◌&&◌, ◌||◌, ◌==◌, not, List, [], ◌∷◌, ◌++◌, map, filter, take, refl, ap, ◌∙◌}
+use Rattle.std.proofs.Common.{if◌then◌else◌}
 use Rattle.std.proofs.lemmas.List.{append-nil}
 use Rattle.std.proofs.lemmas.List.Elements.{filter-append}
 use Rattle.std.specs.List.{list_any}
@@ -8,12 +10,14 @@ use Rattle.definitions.specs.Frames.{Command}
 use Rattle.definitions.specs.Branches.{Branch}
 use Rattle.definitions.specs.Lists.{greatest}
 use Rattle.definitions.specs.Histories.{Entry, History, last_seq, history_of}
-use Rattle.definitions.specs.Chronicles.{Chronicle, Step, Step.noted, Note.got_request, history, executed, decided, taken}
+use Rattle.definitions.specs.Chronicles.{Chronicle, Step, Step.noted, Note.got_request, history, executed}
+use Rattle.definitions.specs.Chronicles.{decided, taken}
 use Rattle.definitions.specs.States.{is_due, is_same_request, pending, picks, with_request}
 use Rattle.mempool.specs.Laws.{FollowsRequest, IsLeftBy, IsPicked}
 use Rattle.mempool.specs.Pool.{is_up_to, left_after, first_beside}
 
-pub filter-alike : {A : Type 0} (p q : A → Bool) → ((x : A) → p x ≡ q x) → (xs : List A) → filter p xs ≡ filter q xs
+pub filter-alike : {A : Type 0} (p q : A → Bool) → ((x : A) → p x ≡ q x) → (xs : List A)
+    → filter p xs ≡ filter q xs
 filter-alike p q h [] = refl
 filter-alike p q h (x ∷ xs) = λ i. cond (h x i) (x ∷ filter-alike p q h xs i) (filter-alike p q h xs i)
 
@@ -22,8 +26,11 @@ filter-twice : {A : Type 0} (p : A → Bool) (xs : List A) → filter p (filter 
 filter-twice p [] = refl
 filter-twice p (x ∷ xs) = by (p x) refl (filter-twice p xs)
   where
-    by : (b : Bool) → p x ≡ b → filter p (filter p xs) ≡ filter p xs → filter p (if b then x ∷ filter p xs else filter p xs) ≡ (if b then x ∷ filter p xs else filter p xs)
-    by true e rest = ap (λ b. if b then x ∷ filter p (filter p xs) else filter p (filter p xs)) e ∙ ap (λ l. x ∷ l) rest
+    by : (b : Bool) → p x ≡ b → filter p (filter p xs) ≡ filter p xs
+        → filter p (if b then x ∷ filter p xs else filter p xs)
+        ≡ (if b then x ∷ filter p xs else filter p xs)
+    by true e rest =
+        ap (λ b. if b then x ∷ filter p (filter p xs) else filter p (filter p xs)) e ∙ ap (λ l. x ∷ l) rest
     by false e rest = rest
 
 -- the pending ones are due
@@ -41,27 +48,34 @@ and-true true = refl
 and-true false = refl
 
 -- what is due after one more entry was due before, and isn't overtaken by it
-due-after : (e : Entry) (h : History) (r : Command) → is_due (e ∷ h) r ≡ (is_due h r && not (is_up_to e.client e.seq r))
+due-after : (e : Entry) (h : History) (r : Command)
+    → is_due (e ∷ h) r ≡ (is_due h r && not (is_up_to e.client e.seq r))
 unfolding is_due last_seq greatest
 due-after e h r = by (e.client == r.client)
   where
-    by : (b : Bool) → nat_lt (greatest (map (λ x. x.seq) (if b then e ∷ filter (λ x. x.client == r.client) h else filter (λ x. x.client == r.client) h))) r.seq
-        ≡ (nat_lt (greatest (map (λ x. x.seq) (filter (λ x. x.client == r.client) h))) r.seq && not (b && nat_le r.seq e.seq))
+    by : (b : Bool)
+        → nat_lt (greatest (map (λ x. x.seq) (if b then e
+        ∷ filter (λ x. x.client == r.client) h else filter (λ x. x.client == r.client) h))) r.seq
+        ≡ (nat_lt (greatest (map (λ x. x.seq) (filter (λ x. x.client == r.client) h))) r.seq && not
+        (b && nat_le r.seq e.seq))
     by true = above-both e.seq (greatest (map (λ x. x.seq) (filter (λ x. x.client == r.client) h))) r.seq
     by false = and-true _
 
 -- two tests in one
-filter-both : {A : Type 0} (p q : A → Bool) (xs : List A) → filter (λ x. p x && q x) xs ≡ filter q (filter p xs)
+filter-both : {A : Type 0} (p q : A → Bool) (xs : List A)
+    → filter (λ x. p x && q x) xs ≡ filter q (filter p xs)
 filter-both p q [] = refl
 filter-both p q (x ∷ xs) = by (p x) (filter-both p q xs)
   where
     by : (b : Bool) → filter (λ x. p x && q x) xs ≡ filter q (filter p xs)
-        → (if b && q x then x ∷ filter (λ x. p x && q x) xs else filter (λ x. p x && q x) xs) ≡ filter q (if b then x ∷ filter p xs else filter p xs)
+        → (if b && q x then x ∷ filter (λ x. p x && q x) xs else filter (λ x. p x && q x) xs)
+        ≡ filter q (if b then x ∷ filter p xs else filter p xs)
     by true rest = λ i. if q x then x ∷ rest i else rest i
     by false rest = rest
 
 -- what is due after more entries
-pub due-left : (new h : History) (rs : List Command) → filter (is_due (new ++ h)) rs ≡ left_after new (filter (is_due h) rs)
+pub due-left : (new h : History) (rs : List Command)
+    → filter (is_due (new ++ h)) rs ≡ left_after new (filter (is_due h) rs)
 unfolding left_after
 due-left [] h rs = refl
 due-left (e ∷ earlier) h rs =
@@ -72,7 +86,8 @@ due-left (e ∷ earlier) h rs =
 pub left_by : (c : Chronicle) (s : Step) (new : History) → IsLeftBy c s new
 unfolding pending
 left_by c s new w h =
-    ap (filter (is_due (history (s ∷ c)))) w ∙ ap (λ l. filter (is_due l) (pending c)) h ∙ due-left new (history c) (pending c)
+    ap (filter (is_due (history (s ∷ c)))) w ∙ ap (λ l. filter (is_due l) (pending c)) h
+    ∙ due-left new (history c) (pending c)
     ∙ ap (left_after new) (pending-due c)
 
 -- a request changes no history
@@ -86,26 +101,39 @@ same_branches false x = refl
 
 module _ (c : Chronicle) (r : Command) where
   -- the new one passes or not, the others do
-  last-kept : (b : Bool) → is_due (history c) r ≡ b → filter (is_due (history c)) (pending c ++ r ∷ []) ≡ (if b then pending c ++ r ∷ [] else pending c)
-  last-kept true e = filter-append (is_due (history c)) (pending c) (r ∷ []) ∙ ap (λ l. l ++ filter (is_due (history c)) (r ∷ [])) (pending-due c) ∙ ap (λ b. pending c ++ (if b then r ∷ [] else [])) e
-  last-kept false e = filter-append (is_due (history c)) (pending c) (r ∷ []) ∙ ap (λ l. l ++ filter (is_due (history c)) (r ∷ [])) (pending-due c) ∙ ap (λ b. pending c ++ (if b then r ∷ [] else [])) e ∙ append-nil (pending c)
+  last-kept : (b : Bool) → is_due (history c) r ≡ b
+      → filter (is_due (history c)) (pending c ++ r ∷ []) ≡ (if b then pending c ++ r ∷ [] else pending c)
+  last-kept true e =
+      filter-append (is_due (history c)) (pending c) (r ∷ [])
+      ∙ ap (λ l. l ++ filter (is_due (history c)) (r ∷ [])) (pending-due c)
+      ∙ ap (λ b. pending c ++ (if b then r ∷ [] else [])) e
+  last-kept false e =
+      filter-append (is_due (history c)) (pending c) (r ∷ [])
+      ∙ ap (λ l. l ++ filter (is_due (history c)) (r ∷ [])) (pending-due c)
+      ∙ ap (λ b. pending c ++ (if b then r ∷ [] else [])) e ∙ append-nil (pending c)
 
   joined : (b : Bool) → is_due (history c) r ≡ b → (known : Bool)
-      → filter (is_due (history c)) (if known then pending c else pending c ++ r ∷ []) ≡ (if known then pending c else (if b then pending c ++ r ∷ [] else pending c))
+      → filter (is_due (history c)) (if known then pending c else pending c ++ r ∷ [])
+      ≡ (if known then pending c else (if b then pending c ++ r ∷ [] else pending c))
   joined b e true = pending-due c
   joined b e false = last-kept b e
 
-  at_request : pending (noted (got_request r) ∷ c) ≡ filter (is_due (history c)) (with_request (noted (got_request r)) (pending c))
+  at_request : pending (noted (got_request r) ∷ c)
+      ≡ filter (is_due (history c)) (with_request (noted (got_request r)) (pending c))
   unfolding pending
-  at_request = ap (λ h. filter (is_due h) (with_request (noted (got_request r)) (pending c))) (request-history c r)
+  at_request =
+      ap (λ h. filter (is_due h) (with_request (noted (got_request r)) (pending c))) (request-history c r)
 
   pub follows_request : FollowsRequest c r
   follows_request = record {
     due = λ e. at_request ∙ joined true e (list_any (is_same_request r) (pending c));
-    late = λ e. at_request ∙ joined false e (list_any (is_same_request r) (pending c)) ∙ same_branches (list_any (is_same_request r) (pending c)) (pending c);
+    late =
+        λ e. at_request ∙ joined false e (list_any (is_same_request r) (pending c))
+        ∙ same_branches (list_any (is_same_request r) (pending c)) (pending c);
   }
 
-any-mapped : {A B : Type 0} (f : A → B) (p : B → Bool) (xs : List A) → list_any p (map f xs) ≡ list_any (λ x. p (f x)) xs
+any-mapped : {A B : Type 0} (f : A → B) (p : B → Bool) (xs : List A)
+    → list_any p (map f xs) ≡ list_any (λ x. p (f x)) xs
 any-mapped f p [] = refl
 any-mapped f p (x ∷ xs) = ap (λ b. p (f x) || b) (any-mapped f p xs)
 
@@ -113,9 +141,12 @@ any-mapped f p (x ∷ xs) = ap (λ b. p (f x) || b) (any-mapped f p xs)
 abbrev is_entry_of : Command → Entry → Bool
 is_entry_of r e = (e.client == r.client) && (e.seq == r.seq)
 
-picked-whole : (c : Chronicle) (on : Branch) → first_beside (map (λ e. (e.client, e.seq)) (history_of on)) (pending c) ≡ picks c on
+picked-whole : (c : Chronicle) (on : Branch)
+    → first_beside (map (λ e. (e.client, e.seq)) (history_of on)) (pending c) ≡ picks c on
 unfolding picks
-picked-whole c on = ap (take MOST_COMMANDS) (filter-alike _ _ (λ r. ap not (any-mapped (λ (e : Entry). (e.client, e.seq)) (λ e. (e.0 == r.client) && (e.1 == r.seq)) (history_of on))) (pending c))
+picked-whole c on = ap (take MOST_COMMANDS) (filter-alike _ _
+    (λ r. ap not (any-mapped (λ (e : Entry). (e.client, e.seq)) (λ e. (e.0 == r.client) && (e.1 == r.seq))
+    (history_of on))) (pending c))
 
 -- a request that isn't overtaken by an entry is another one
 apart : (a : Bool) (m n : ℕ) → not (a && nat_le n m) ≡ true → (a && (m == n)) ≡ false
@@ -131,19 +162,23 @@ not-executed : (h : History) (r : Command) → is_due h r ≡ true → list_any 
 not-executed [] r d = refl
 not-executed (e ∷ h) r d =
     let two = both (is_due h r) (not (is_up_to e.client e.seq r)) (sym (due-after e h r) ∙ d) in
-    ap (λ b. b || list_any (is_entry_of r) h) (apart (e.client == r.client) e.seq r.seq two.1) ∙ not-executed h r two.0
+    ap (λ b. b || list_any (is_entry_of r) h) (apart (e.client == r.client) e.seq r.seq two.1)
+    ∙ not-executed h r two.0
 
-any-appended : {A : Type 0} (p : A → Bool) (xs ys : List A) → list_any p ys ≡ false → list_any p (xs ++ ys) ≡ list_any p xs
+any-appended : {A : Type 0} (p : A → Bool) (xs ys : List A) → list_any p ys ≡ false
+    → list_any p (xs ++ ys) ≡ list_any p xs
 any-appended p [] ys none = none
 any-appended p (x ∷ xs) ys none = ap (λ b. p x || b) (any-appended p xs ys none)
 
 -- tests that agree where a third one passes
-filter-alike-where : {A : Type 0} (d p q : A → Bool) → ((x : A) → d x ≡ true → p x ≡ q x) → (xs : List A) → filter p (filter d xs) ≡ filter q (filter d xs)
+filter-alike-where : {A : Type 0} (d p q : A → Bool) → ((x : A) → d x ≡ true → p x ≡ q x) → (xs : List A)
+    → filter p (filter d xs) ≡ filter q (filter d xs)
 filter-alike-where d p q h [] = refl
 filter-alike-where d p q h (x ∷ xs) = by (d x) (h x) (filter-alike-where d p q h xs)
   where
     by : (b : Bool) → (b ≡ true → p x ≡ q x) → filter p (filter d xs) ≡ filter q (filter d xs)
-        → filter p (if b then x ∷ filter d xs else filter d xs) ≡ filter q (if b then x ∷ filter d xs else filter d xs)
+        → filter p (if b then x ∷ filter d xs else filter d xs)
+        ≡ filter q (if b then x ∷ filter d xs else filter d xs)
     by true same rest = λ i. cond (same refl i) (x ∷ rest i) (rest i)
     by false same rest = rest
 
@@ -152,10 +187,14 @@ picked-above : (c : Chronicle) (on : Branch) (new : History) → history_of on �
 unfolding picks
 picked-above c on new goes =
     let beside : History → Command → Bool = λ h r. not (list_any (is_entry_of r) h) in
-    ap (take MOST_COMMANDS) (filter-alike _ (beside new) (λ r. ap not (any-mapped (λ (e : Entry). (e.client, e.seq)) (λ e. (e.0 == r.client) && (e.1 == r.seq)) new)) (pending c)
+    ap (take MOST_COMMANDS) (filter-alike _ (beside new)
+    (λ r. ap not
+    (any-mapped (λ (e : Entry). (e.client, e.seq)) (λ e. (e.0 == r.client) && (e.1 == r.seq)) new))
+    (pending c)
     ∙ ap (filter (beside new)) (sym (pending-due c))
     ∙ filter-alike-where (is_due (history c)) (beside new) (beside (new ++ history c))
-    (λ r d. ap not (sym (any-appended (is_entry_of r) new (history c) (not-executed (history c) r d)))) (pending c)
+    (λ r d. ap not (sym (any-appended (is_entry_of r) new (history c) (not-executed (history c) r d))))
+    (pending c)
     ∙ ap (filter (beside (new ++ history c))) (pending-due c)
     ∙ ap (λ h. filter (beside h) (pending c)) (sym goes))
 

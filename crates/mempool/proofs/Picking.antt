@@ -1,5 +1,7 @@
 -- The first commands that pass a test, one after the other.
-use Rattle.std.proofs.Common.{◌≡◌, ℕ, suc, ◌+◌, ◌-◌, ◌<◌, ◌≤◌, Bool, true, false, not, List, [], ◌∷◌, ◌++◌, length, take, drop, filter, refl, sym, ap, ◌∙◌, get_or, if◌then◌else◌, append_assoc, add-one, length-append, arith}
+use Rattle.std.proofs.Common.{◌≡◌, ℕ, suc, ◌+◌, ◌-◌, ◌<◌, ◌≤◌, Bool, true, false, not, List, [], ◌∷◌, ◌++◌}
+use Rattle.std.proofs.Common.{length, take, drop, filter, refl, sym, ap, ◌∙◌, get_or, if◌then◌else◌}
+use Rattle.std.proofs.Common.{append_assoc, add-one, length-append, arith}
 use Rattle.std.proofs.Math.Seq.{drop-cons}
 use Rattle.std.proofs.Math.ListN.{drop_of_length-le}
 use Rattle.std.proofs.lemmas.List.{append-nil}
@@ -28,17 +30,22 @@ module _ (on : List (ℕ × ℕ)) where
       let none : 16 - length done ≡ 0 = omega (arith, h) in
       ap (λ n. done ++ take n (filter (λ r. not (stands_among on r)) rest)) none ∙ append-nil done
 
-  pub rest-skips : (done rest : List Command) (r : Command) → stands_among on r ≡ true → with_rest on done (r ∷ rest) ≡ with_rest on done rest
+  pub rest-skips : (done rest : List Command) (r : Command) → stands_among on r ≡ true
+      → with_rest on done (r ∷ rest) ≡ with_rest on done rest
   unfolding with_rest
   rest-skips done rest r h =
-      ap (λ (b : Bool). done ++ take (16 - length done) (if not b then r ∷ filter (λ r. not (stands_among on r)) rest else filter (λ r. not (stands_among on r)) rest)) h
+      ap (λ (b : Bool). done
+      ++ take (16 - length done) (if not b then r
+      ∷ filter (λ r. not (stands_among on r)) rest else filter (λ r. not (stands_among on r)) rest))
+      h
 
   pub rest-takes : (done rest : List Command) (r : Command) → stands_among on r ≡ false → length done < 16
       → with_rest on done (r ∷ rest) ≡ with_rest on (done ++ r ∷ []) rest
   unfolding with_rest
   rest-takes done rest r h few =
       let kept = filter (λ r. not (stands_among on r)) rest in
-      let one_less : 16 - length done ≡ suc (16 - length (done ++ r ∷ [])) = omega (arith, few, length-append done (r ∷ [])) in
+      let one_less : 16 - length done ≡ suc (16 - length (done ++ r ∷ [])) =
+      omega (arith, few, length-append done (r ∷ [])) in
       ap (λ (b : Bool). done ++ take (16 - length done) (if not b then r ∷ kept else kept)) h
       ∙ ap (λ n. done ++ take n (r ∷ kept)) one_less
       ∙ sym (append_assoc done (r ∷ []) (take (16 - length (done ++ r ∷ [])) kept))
@@ -46,20 +53,31 @@ module _ (on : List (ℕ × ℕ)) where
   module _ (all : List Command) (i : ℕ) where
     -- the one at i, and those behind it
     opened : (r : Command) → i < length all → r ≡ get_or all i r → drop i all ≡ r ∷ drop (i + 1) all
-    opened r h e = drop-cons all i r h ∙ ap (λ n. get_or all i r ∷ drop n all) (sym (add-one i)) ∙ ap (λ x. x ∷ drop (i + 1) all) (sym e)
+    opened r h e =
+        drop-cons all i r h ∙ ap (λ n. get_or all i r ∷ drop n all) (sym (add-one i))
+        ∙ ap (λ x. x ∷ drop (i + 1) all) (sym e)
 
-    pub turn-skips : (done : List Command) (r : Command) → i < length all → r ≡ get_or all i r → stands_among on r ≡ true
-        → with_rest on done (drop i all) ≡ first_beside on all → with_rest on done (drop (i + 1) all) ≡ first_beside on all
+    pub turn-skips : (done : List Command) (r : Command) → i < length all → r ≡ get_or all i r
+        → stands_among on r ≡ true
+        → with_rest on done (drop i all) ≡ first_beside on all
+        → with_rest on done (drop (i + 1) all) ≡ first_beside on all
     turn-skips done r h e stands before =
-        sym (rest-skips done (drop (i + 1) all) r stands) ∙ ap (with_rest on done) (sym (opened r h e)) ∙ before
+        sym (rest-skips done (drop (i + 1) all) r stands) ∙ ap (with_rest on done) (sym (opened r h e))
+        ∙ before
 
-    pub turn-takes : (done : List Command) (r : Command) → i < length all → r ≡ get_or all i r → stands_among on r ≡ false → length done < 16
-        → with_rest on done (drop i all) ≡ first_beside on all → with_rest on (done ++ r ∷ []) (drop (i + 1) all) ≡ first_beside on all
+    pub turn-takes : (done : List Command) (r : Command) → i < length all → r ≡ get_or all i r
+        → stands_among on r ≡ false → length done < 16
+        → with_rest on done (drop i all) ≡ first_beside on all
+        → with_rest on (done ++ r ∷ []) (drop (i + 1) all) ≡ first_beside on all
     turn-takes done r h e stands few before =
-        sym (rest-takes done (drop (i + 1) all) r stands few) ∙ ap (with_rest on done) (sym (opened r h e)) ∙ before
+        sym (rest-takes done (drop (i + 1) all) r stands few) ∙ ap (with_rest on done) (sym (opened r h e))
+        ∙ before
 
-    pub turns-end : (done : List Command) → length all ≤ i → with_rest on done (drop i all) ≡ first_beside on all → done ≡ first_beside on all
-    turns-end done h before = sym (rest-ends done) ∙ ap (with_rest on done) (sym (drop_of_length-le all h)) ∙ before
+    pub turns-end : (done : List Command) → length all ≤ i
+        → with_rest on done (drop i all) ≡ first_beside on all → done ≡ first_beside on all
+    turns-end done h before =
+        sym (rest-ends done) ∙ ap (with_rest on done) (sym (drop_of_length-le all h)) ∙ before
 
-    pub turns-full : (done : List Command) → 16 ≤ length done → with_rest on done (drop i all) ≡ first_beside on all → done ≡ first_beside on all
+    pub turns-full : (done : List Command) → 16 ≤ length done
+        → with_rest on done (drop i all) ≡ first_beside on all → done ≡ first_beside on all
     turns-full done h before = sym (rest-full done (drop i all) h) ∙ before

@@ -9,15 +9,19 @@ use Rattle.mempool.specs.Pool.{first_beside, left_after}
 
 -- a request that is stored joins the pending ones where it is due, and where it isn't they stay
 pub record FollowsRequest (c : Chronicle) (r : Command) : Type 0 where
-  pub due : is_due (history c) r ≡ true → pending (noted (got_request r) ∷ c) ≡ with_request (noted (got_request r)) (pending c)
+  pub due : is_due (history c) r ≡ true
+      → pending (noted (got_request r) ∷ c) ≡ with_request (noted (got_request r)) (pending c)
   pub late : is_due (history c) r ≡ false → pending (noted (got_request r) ∷ c) ≡ pending c
 
 -- a step that brings no request takes out what it executes, and leaves the others
 abbrev pub IsLeftBy : Chronicle → Step → History → Type 0
-IsLeftBy c s new = with_request s (pending c) ≡ pending c → history (s ∷ c) ≡ new ++ history c → pending (s ∷ c) ≡ left_after new (pending c)
+IsLeftBy c s new =
+    with_request s (pending c) ≡ pending c → history (s ∷ c) ≡ new ++ history c
+    → pending (s ∷ c) ≡ left_after new (pending c)
 
--- What is picked beside the clients and numbers of a branch is what a child of it takes; where the branch goes on from
--- what was executed, those of its commands above that are enough.
+-- What is picked beside the clients and numbers of a branch is what a child of it takes; where the branch
+-- goes on from what was executed, those of its commands above that are enough.
 pub record IsPicked (c : Chronicle) (on : Branch) : Type 0 where
   pub whole : first_beside (map (λ e. (e.client, e.seq)) (history_of on)) (pending c) ≡ picks c on
-  pub above : (new : History) → history_of on ≡ new ++ history c → first_beside (map (λ e. (e.client, e.seq)) new) (pending c) ≡ picks c on
+  pub above : (new : History) → history_of on ≡ new ++ history c
+      → first_beside (map (λ e. (e.client, e.seq)) new) (pending c) ≡ picks c on

@@ -1,13 +1,15 @@
 -- What stands in a pool of pending requests.
 use Rattle.ids.specs.declared.limits.TheConstants.{MOST_COMMANDS}
-use Rattle.std.specs.Prelude.{ℕ, ◌+◌, ◌==◌, ◌&&◌, not, Bool, List, [], ◌∷◌, take, drop, map, filter, nat_le, Option, Some, None, if◌then◌else◌}
+use Rattle.std.specs.Prelude.{ℕ, ◌+◌, ◌==◌, ◌&&◌, not, Bool, List, [], ◌∷◌, take, drop, map, filter, nat_le}
+use Rattle.std.specs.Prelude.{Option, Some, None, if◌then◌else◌}
 use Rattle.std.specs.List.{list_any}
 use Rattle.definitions.specs.Bytes.{Bytes}
 use Rattle.definitions.specs.Frames.{Command}
 use Rattle.definitions.specs.States.{is_same_request}
 use Rattle.definitions.specs.Histories.{History}
 
--- the command of these bytes, whose client, number and length of payload are known: its payload begins at byte 12
+-- the command of these bytes, whose client, number and length of payload are known: its payload begins at
+-- byte 12
 abbrev pub command_at : (client seq payload_len : ℕ) → Bytes → Command
 command_at client seq payload_len bytes = record {
   client = client;

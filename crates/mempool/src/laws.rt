@@ -6,20 +6,20 @@ ghost use Rattle.definitions.specs.Histories.{History};
 ghost use Rattle.definitions.specs.Chronicles.{Chronicle, Step};
 ghost use Rattle.mempool.specs.Laws.{FollowsRequest, IsLeftBy, IsPicked};
 
-/// After a step that stores a request, the pending requests are those that `insert` leaves where the request is due, and
-/// stay where it isn't.
+/// After a step that stores a request, the pending requests are those that `insert` leaves where
+/// the request is due, and stay where it isn't.
 pub fn request_joins_pending()
     ensures { (c : Chronicle) (r : Command) → FollowsRequest c r }
 {}
 
-/// After a step that brings no request, the pending requests are those that `drop_executed` leaves, called for each
-/// command that the step executes, in their order.
+/// After a step that brings no request, the pending requests are those that `drop_executed` leaves,
+/// called for each command that the step executes, in their order.
 pub fn executed_leave_pending()
     ensures { (c : Chronicle) (s : Step) (new : History) → IsLeftBy c s new }
 {}
 
-/// What `pick` gives beside the commands along a branch is what a child of it takes. Where the branch goes on from what
-/// was executed, its commands above that are enough.
+/// What `pick` gives beside the commands along a branch is what a child of it takes. Where the
+/// branch goes on from what was executed, its commands above that are enough.
 pub fn pick_is_for_child()
     ensures { (c : Chronicle) (on : Branch) → IsPicked c on }
 {}

@@ -1,5 +1,5 @@
-//! The pending requests of a replica: what clients asked for and no executed block has answered yet, in order of
-//! arrival.
+//! The pending requests of a replica: what clients asked for and no executed block has answered
+//! yet, in order of arrival.
 #![tactic(auto)]
 
 mod laws;

@@ -1,7 +1,8 @@
 //! The pool of pending requests.
 
 ghost use Rattle.ids.specs.declared.limits.TheConstants.{MOST_PENDING};
-ghost use Rattle.std.specs.Prelude.{◌≡◌, ◌==◌, ◌≤◌, ◌↔◌, ◌⊎◌, [], not, false, length, map, filter, IfOk, OnOk, OnErr};
+ghost use Rattle.std.specs.Prelude.{◌≡◌, ◌==◌, ◌≤◌, ◌↔◌, ◌⊎◌, [], not, false, length, map, filter, IfOk};
+ghost use Rattle.std.specs.Prelude.{OnOk, OnErr};
 ghost use Rattle.std.specs.List.{list_any};
 ghost use Rattle.definitions.specs.Chronicles.{Step.noted, Note.got_request};
 ghost use Rattle.definitions.specs.States.{is_same_request, with_request};
@@ -72,7 +73,9 @@ impl Mempool {
     /// `PoolFull` comes where 4,096 others are pending, and `Memory` where its bytes find no room.
     pub fn plan(&self, request: &CommandView<'_>) -> Result<Option<Pending>, Fault>
         ensures planned { IfOk result (λ planned. planned ≡ planned_for (command_of request.now) self.now) }
-        ensures full { (result ≡ Err Fault.PoolFull) ↔ ((list_any (is_same_request (command_of request.now)) self.now ≡ false) × (MOST_PENDING ≤ length self.now)) }
+        ensures full { (result ≡ Err Fault.PoolFull)
+            ↔ ((list_any (is_same_request (command_of request.now)) self.now ≡ false)
+            × (MOST_PENDING ≤ length self.now)) }
         ensures refused { OnErr result ((result ≡ Err Fault.PoolFull) ⊎ (result ≡ Err Fault.Memory)) }
     {
         if self.contains(request.client(), request.seq()) {
@@ -84,8 +87,8 @@ impl Mempool {
         Ok(Some(Pending::new(self.alloc, request)?))
     }
 
-    /// Adds a request last; one whose client and number are pending changes nothing. At `Memory`, its one refusal, the
-    /// pool is as before.
+    /// Adds a request last; one whose client and number are pending changes nothing. At `Memory`,
+    /// its one refusal, the pool is as before.
     pub fn insert(&mut self, request: Pending) -> Result<(), Fault>
         ensures added { OnOk result (self.new ≡ with_request (noted (got_request request)) self.old) }
         ensures unchanged { OnErr result (self.new ≡ self.old) }
@@ -110,8 +113,8 @@ impl Mempool {
         );
     }
 
-    /// The first 16 requests whose client and number are not among those of `on`, in order of arrival. `on` is of the
-    /// commands that stand on a branch, in any order.
+    /// The first 16 requests whose client and number are not among those of `on`, in order of
+    /// arrival. `on` is of the commands that stand on a branch, in any order.
     pub fn pick(&self, on: &[(ClientId, Seq)]) -> Result<Vec<&Pending>, Fault>
         ensures picked { IfOk result (λ v. map (λ r. r.now) v.items ≡ first_beside on.now self.now) }
         ensures memory { OnErr result (result ≡ Err Fault.Memory) }

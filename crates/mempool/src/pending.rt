@@ -11,8 +11,8 @@ use ids::{ClientId, Fault, Seq};
 use std::alloc::Global;
 use std::marker::Model;
 
-/// A pending request. It keeps the bytes of its command once, as a frame spells them, so that a proposal copies them
-/// from here.
+/// A pending request. It keeps the bytes of its command once, as a frame spells them, so that a
+/// proposal copies them from here.
 #[derive(Debug, Drop)]
 pub struct Pending {
     client: ClientId,
@@ -30,7 +30,8 @@ impl Model for Pending {
 
     ghost view = { λ p. command_at p.client p.seq p.payload_len p.bytes.items };
 
-    ghost invariant = { λ p. p.bytes.items ≡ command_bytes (command_at p.client p.seq p.payload_len p.bytes.items) };
+    ghost invariant = { λ p. p.bytes.items
+        ≡ command_bytes (command_at p.client p.seq p.payload_len p.bytes.items) };
 }
 
 impl Pending {

@@ -1,5 +1,6 @@
 -- How many numbers are at least a bound, and which of these is the least.
-use Rattle.std.proofs.Common.{ℕ, zero, suc, ◌≡◌, ◌+◌, ◌<◌, ◌≤◌, ◌⊎◌, Bool, true, false, cond, leb, refl, subst, arith, inl, inr}
+use Rattle.std.proofs.Common.{ℕ, zero, suc, ◌≡◌, ◌+◌, ◌<◌, ◌≤◌, ◌⊎◌, Bool, true, false, cond, leb, refl}
+use Rattle.std.proofs.Common.{subst, arith, inl, inr}
 use Rattle.std.proofs.lemmas.Bool.{cases_lt, cond_both, leb-true, le-leb}
 use Rattle.definitions.specs.Lists.{count_below}
 
@@ -11,7 +12,8 @@ pub count-zero : (p : ℕ → Bool) → count_below 0 p ≡ 0
 unfolding count_below
 count-zero p = refl
 
-pub count-next : (n : ℕ) (p : ℕ → Bool) → count_below (n + 1) p ≡ cond (p n) (count_below n p + 1) (count_below n p)
+pub count-next : (n : ℕ) (p : ℕ → Bool)
+    → count_below (n + 1) p ≡ cond (p n) (count_below n p + 1) (count_below n p)
 unfolding count_below
 count-next n p = grind arith
 
@@ -22,10 +24,12 @@ mono-step false true x y h l = omega arith
 mono-step false false x y h l = l
 
 -- where each that passes one test passes the other, the other counts no fewer
-pub count-mono : (n : ℕ) (p q : ℕ → Bool) → ((i : ℕ) → i < n → p i ≡ true → q i ≡ true) → count_below n p ≤ count_below n q
+pub count-mono : (n : ℕ) (p q : ℕ → Bool) → ((i : ℕ) → i < n → p i ≡ true → q i ≡ true)
+    → count_below n p ≤ count_below n q
 unfolding count_below
 count-mono zero p q h = omega arith
-count-mono (suc n) p q h = mono-step (p n) (q n) _ _ (h n (omega arith)) (count-mono n p q (λ i l. h i (omega (arith, l))))
+count-mono (suc n) p q h =
+    mono-step (p n) (q n) _ _ (h n (omega arith)) (count-mono n p q (λ i l. h i (omega (arith, l))))
 
 -- where none passes, none is counted
 pub count-none : (n : ℕ) (p : ℕ → Bool) → ((i : ℕ) → i < n → p i ≡ true → ⊥) → count_below n p ≡ 0
@@ -44,7 +48,8 @@ pub record IsLeast (n : ℕ) (a : ℕ → ℕ) (v i : ℕ) : Type 0 where
 
 -- every number below the successor is the last one, or below it
 each_below : (n : ℕ) (P : ℕ → Type 0) → P n → ((j : ℕ) → j < n → P j) → (j : ℕ) → j < suc n → P j
-each_below n P last before j l = elim (cases_lt j n) [ inl below ↦ before j below | inr above ↦ subst P (omega arith) last ]
+each_below n P last before j l =
+    elim (cases_lt j n) [ inl below ↦ before j below | inr above ↦ subst P (omega arith) last ]
 
 pub find_least : (n : ℕ) (a : ℕ → ℕ) (v : ℕ) → ((i : ℕ) × IsLeast n a v i) ⊎ ((j : ℕ) → j < n → a j < v)
 find_least zero a v = inr (λ j l. absurd (omega (arith, l)))
@@ -64,7 +69,8 @@ find_least (suc n) a v = elim (find_least n a v) [
         record {
           below = omega arith;
           enough = high;
-          least = each_below n (λ j. v ≤ a j → a n ≤ a j) (λ h. omega arith) (λ j l h. let k = r.1.least j l h in omega (arith, k, less));
+          least = each_below n (λ j. v ≤ a j → a n ≤ a j) (λ h. omega arith)
+              (λ j l h. let k = r.1.least j l h in omega (arith, k, less));
         },
       )
       | inr more ↦ inl (
@@ -84,19 +90,24 @@ find_least (suc n) a v = elim (find_least n a v) [
       record {
         below = omega arith;
         enough = high;
-        least = each_below n (λ j. v ≤ a j → a n ≤ a j) (λ h. omega arith) (λ j l h. let k = none j l in absurd (omega (arith, k, h)));
+        least = each_below n (λ j. v ≤ a j → a n ≤ a j) (λ h. omega arith)
+            (λ j l h. let k = none j l in absurd (omega (arith, k, h)));
       },
     )
   ]
 ]
 
 -- what more than f have passed, one of them has passed that more than f have announced or passed
-pub passed_least : (n f : ℕ) (a : ℕ → ℕ) (v : ℕ) → f < at_least n a v → (i : ℕ) × (i < n) × (v ≤ a i) × (f < at_least n a (a i))
+pub passed_least : (n f : ℕ) (a : ℕ → ℕ) (v : ℕ) → f < at_least n a v
+    → (i : ℕ) × (i < n) × (v ≤ a i) × (f < at_least n a (a i))
 passed_least n f a v h = elim (find_least n a v) [
   | inl r ↦
-      let more = count-mono n (λ i. leb v (a i)) (λ i. leb (a r.0) (a i)) (λ i l e. le-leb (a r.0) (a i) (r.1.least i l (leb-true v (a i) e))) in
+      let more = count-mono n (λ i. leb v (a i)) (λ i. leb (a r.0) (a i))
+      (λ i l e. le-leb (a r.0) (a i) (r.1.least i l (leb-true v (a i) e))) in
       (r.0, r.1.below, r.1.enough, omega (arith, more, h))
   | inr none ↦
-      let zero : at_least n a v ≡ 0 = count-none n (λ i. leb v (a i)) (λ i l e. let k = none i l in let m = leb-true v (a i) e in omega (arith, k, m)) in
+      let zero : at_least n a v ≡ 0 =
+      count-none n (λ i. leb v (a i))
+      (λ i l e. let k = none i l in let m = leb-true v (a i) e in omega (arith, k, m)) in
       absurd (omega (arith, zero, h))
 ]

@@ -30,5 +30,8 @@ passed_by p v = count_below (replicas p.sizes) (λ i. nat_le v (slice_index p.an
 
 -- the greatest announced view that more than f replicas have announced or passed, 0 where there is none
 pub record IsReached (p : Pace) (v : ℕ) : Type 0 where
-  pub some : (v ≡ 0) ⊎ ((i : ℕ) × (i < replicas p.sizes) × (slice_index p.announced i ≡ v) × (p.sizes.faults < passed_by p v))
-  pub most : (i : ℕ) → i < replicas p.sizes → p.sizes.faults < passed_by p (slice_index p.announced i) → slice_index p.announced i ≤ v
+  pub some : (v ≡ 0)
+      ⊎ ((i : ℕ) × (i < replicas p.sizes) × (slice_index p.announced i ≡ v)
+      × (p.sizes.faults < passed_by p v))
+  pub most : (i : ℕ) → i < replicas p.sizes → p.sizes.faults < passed_by p (slice_index p.announced i)
+      → slice_index p.announced i ≤ v

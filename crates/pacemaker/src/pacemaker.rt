@@ -69,7 +69,8 @@ impl Pacemaker {
     pub fn on_new_view(&mut self, sender: ReplicaId, view: View) -> bool
         requires { sender < replicas self.old.sizes }
         ensures sizes { self.new.sizes ≡ self.old.sizes }
-        ensures paced { (c : Chronicle) (q : Certificate) (b : Branch) → IsPaceOf c self.old → IsPaceOf (noted (got_new_view view sender q b) ∷ c) self.new }
+        ensures paced { (c : Chronicle) (q : Certificate) (b : Branch) → IsPaceOf c self.old
+            → IsPaceOf (noted (got_new_view view sender q b) ∷ c) self.new }
         ensures moved { IsTrue result ↔ (self.old.view < self.new.view) }
     {
         let _n = self.config.n();
@@ -92,7 +93,11 @@ impl Pacemaker {
     /// Keeps what a replica announced, where it announced nothing greater before.
     fn note(&mut self, sender: ReplicaId, view: u64)
         requires { sender < replicas self.old.sizes }
-        ensures { self.new ≡ record self.old { announced = slice_set self.old.announced sender (max view (slice_index self.old.announced sender)) } }
+        ensures { self.new
+            ≡ record self.old {
+              announced =
+                  slice_set self.old.announced sender (max view (slice_index self.old.announced sender));
+            } }
     {
         let _n = self.config.n();
         let place = usize::from(sender.0);
@@ -112,7 +117,8 @@ impl Pacemaker {
         count
     }
 
-    /// The greatest view that more than f replicas have announced or passed, of those that were announced last.
+    /// The greatest view that more than f replicas have announced or passed, of those that were
+    /// announced last.
     fn reached(&self) -> u64
         ensures { IsReached self.now result }
     {

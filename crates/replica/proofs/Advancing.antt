@@ -2,7 +2,9 @@
 use Rattle.ids.specs.declared.limits.TheConstants.{MOST_TEXT}
 use Rattle.ids.specs.declared.fault.Fault.{Fault}
 use Rattle.ids.specs.declared.fault.Fault.TheVariants as fault
-use Rattle.std.proofs.Common.{ℕ, ◌≡◌, ◌+◌, ◌-◌, ◌<◌, ◌≤◌, ◌&&◌, ◌++◌, Bool, true, false, List, [], ◌∷◌, length, map, cond, refl, sym, ap, ◌∙◌, subst, arith, min, option_to_list, Some, None, Ok, Err, inl, inr}
+use Rattle.std.proofs.Common.{ℕ, ◌≡◌, ◌+◌, ◌-◌, ◌<◌, ◌≤◌, ◌&&◌, ◌++◌, Bool, true, false, List, [], ◌∷◌}
+use Rattle.std.proofs.Common.{length, map, cond, refl, sym, ap, ◌∙◌, subst, arith, min, option_to_list}
+use Rattle.std.proofs.Common.{Some, None, Ok, Err, inl, inr}
 use Rattle.std.proofs.lemmas.Bool.{lt-ltb, le-leb}
 use Rattle.std.proofs.lemmas.List.{map-append, append-nil}
 use Rattle.ids.specs.Sizes.{Sizes}
@@ -14,13 +16,18 @@ use Rattle.mempool.proofs.Following.{pending-due}
 use Rattle.definitions.specs.FrameLimits.{IsCore}
 use Rattle.definitions.specs.Branches.{Branch}
 use Rattle.definitions.specs.Digests.{digest_of}
-use Rattle.definitions.specs.Chronicles.{Note, Step, Step.took_block, Step.noted, Chronicle, taken, stored, tree, decided, executed, history, IsSound}
+use Rattle.definitions.specs.Chronicles.{Note, Step, Step.took_block, Step.noted, Chronicle, taken, stored}
+use Rattle.definitions.specs.Chronicles.{tree, decided, executed, history, IsSound}
 use Rattle.definitions.specs.Histories.{History, history_of, Answer, answers}
 use Rattle.definitions.specs.Keyrings.{Keys}
 use Rattle.definitions.specs.Checks.{Findings, identity_of}
-use Rattle.definitions.specs.Rulings.{Input, Input.proposal_in, Input.block_in, Input.vote_in, Input.new_view_in, Input.request_in, Input.fetch_in, Input.timeout_in, Input.beat_in, Ruling, Ruling.due, ruling, conflicts}
+use Rattle.definitions.specs.Rulings.{Input, Input.proposal_in, Input.block_in, Input.vote_in}
+use Rattle.definitions.specs.Rulings.{Input.new_view_in, Input.request_in, Input.fetch_in, Input.timeout_in}
+use Rattle.definitions.specs.Rulings.{Input.beat_in, Ruling, Ruling.due, ruling, conflicts}
 use Rattle.definitions.specs.Sendings.{reply_to, new_replies, sendings}
-use Rattle.definitions.specs.Replicas.{ample, refused_after, running, stopped, cut_short, stopped_at, Replica, Reaction, sends_out, fails, held_history, held_pending, whole_blocks, executes, on_step, on_ruling}
+use Rattle.definitions.specs.Replicas.{ample, refused_after, running, stopped, cut_short, stopped_at}
+use Rattle.definitions.specs.Replicas.{Replica, Reaction, sends_out, fails, held_history, held_pending}
+use Rattle.definitions.specs.Replicas.{whole_blocks, executes, on_step, on_ruling}
 use Rattle.definitions.proofs.Lists.{beginning-whole, IsBeginning-beginning, Among-before, Among-reverse}
 use Rattle.definitions.proofs.Branches.{length-extends}
 use Rattle.definitions.proofs.Held.{executed-tree}
@@ -42,7 +49,8 @@ use Rattle.replica.proofs.Executing.{new-are, answers-more, above-appended, hist
 
 -- ---- the cores of the tree's blocks
 
-fit-carried : (s : Sizes) (i : Input) (core : Core) (q : Certificate) (f : Findings) → Carries i core q f → IsFitInput s i → IsCore s core
+fit-carried : (s : Sizes) (i : Input) (core : Core) (q : Certificate) (f : Findings) → Carries i core q f
+    → IsFitInput s i → IsCore s core
 fit-carried s (proposal_in w k p g) core q f c h = subst (IsCore s) c.0 h
 fit-carried s (block_in sender k p g) core q f c h = subst (IsCore s) c.0 h
 fit-carried s (vote_in d b) core q f c h = absurd c
@@ -52,42 +60,54 @@ fit-carried s (fetch_in sender d) core q f c h = absurd c
 fit-carried s timeout_in core q f c h = absurd c
 fit-carried s beat_in core q f c h = absurd c
 
-fit-from : (s : Sizes) (i : Input) (st : Step) (c : Chronicle) → IsFitInput s i → FromInput i st → IsSound s (st ∷ c) → AreFit s c → AreFit s (st ∷ c)
+fit-from : (s : Sizes) (i : Input) (st : Step) (c : Chronicle) → IsFitInput s i → FromInput i st
+    → IsSound s (st ∷ c) → AreFit s c → AreFit s (st ∷ c)
 unfolding tree stored taken
 fit-from s i (took_block a) c h from so fit x m =
     step-known (IsCore s) a c a.new refl
-    (λ n. taken-known (IsCore s) s a c (so.lawful.0.1 n) fit (subst (IsCore s) (sym (from.4.core_is n)) (fit-carried s i from.0 from.1 from.2 from.3 h)))
+    (λ n. taken-known (IsCore s) s a c (so.lawful.0.1 n) fit
+    (subst (IsCore s) (sym (from.4.core_is n)) (fit-carried s i from.0 from.1 from.2 from.3 h)))
     fit x m
 fit-from s i (noted n) c h from so fit x m = fit x m
 
-fit-step : (keys : Keys) (i : Input) (st : Step) (c : Chronicle) → ruling (identity_of keys) i c ≡ due st → IsFitInput keys.sizes i → IsSound keys.sizes (st ∷ c) → AreFit keys.sizes c → AreFit keys.sizes (st ∷ c)
-fit-step keys i st c e h so fit = fit-from keys.sizes i st c h (subst (AllStanding (FromInput i)) e (ruling-from (identity_of keys) i c)) so fit
+fit-step : (keys : Keys) (i : Input) (st : Step) (c : Chronicle) → ruling (identity_of keys) i c ≡ due st
+    → IsFitInput keys.sizes i → IsSound keys.sizes (st ∷ c) → AreFit keys.sizes c
+    → AreFit keys.sizes (st ∷ c)
+fit-step keys i st c e h so fit =
+    fit-from keys.sizes i st c h (subst (AllStanding (FromInput i)) e (ruling-from (identity_of keys) i c)) so
+    fit
 
 -- ---- the replies
 
-pub sendable-is : (keys : Keys) (c : Chronicle) → IsSound keys.sizes c → AreFit keys.sizes c → (a : Answer) → Among a (answers (history c)) → is_sendable keys.sizes a ≡ true
+pub sendable-is : (keys : Keys) (c : Chronicle) → IsSound keys.sizes c → AreFit keys.sizes c → (a : Answer)
+    → Among a (answers (history c)) → is_sendable keys.sizes a ≡ true
 sendable-is keys c so fit a m =
     let f = answers-fit (IsCore keys.sizes) keys.sizes (λ k known. inr known) c so fit a m in
     let client = lt-ltb a.client keys.sizes.clients f.client in
     let text = le-leb (length a.text) MOST_TEXT f.text in
     λ i. client i && text i
 
-told-all : (keys : Keys) (xs : List Answer) → ((a : Answer) → Among a xs → is_sendable keys.sizes a ≡ true) → told keys xs ≡ shown (map (reply_to (identity_of keys)) xs)
+told-all : (keys : Keys) (xs : List Answer) → ((a : Answer) → Among a xs → is_sendable keys.sizes a ≡ true)
+    → told keys xs ≡ shown (map (reply_to (identity_of keys)) xs)
 unfolding told
 told-all keys [] h = refl
 told-all keys (a ∷ xs) h =
-    λ i. option_to_list (cond (h a (inl refl) i) (Some (bytes_of (reply_to (identity_of keys) a))) None) ++ told-all keys xs (λ x m. h x (inr m)) i
+    λ i. option_to_list (cond (h a (inl refl) i) (Some (bytes_of (reply_to (identity_of keys) a))) None)
+    ++ told-all keys xs (λ x m. h x (inr m)) i
 
 history-noted : (n : Note) (c : Chronicle) → history (noted n ∷ c) ≡ history c
 unfolding history executed decided taken
 history-noted n c = refl
 
 -- what is sent first, and then the replies
-sent-whole : (keys : Keys) (st : Step) (c : Chronicle) → conflicts st c ≡ false → IsSound keys.sizes (st ∷ c) → AreFit keys.sizes (st ∷ c)
-    → shown (sent_first (identity_of keys) st c) ++ told keys (new_answers (history c) (history (st ∷ c))) ≡ shown (sendings (identity_of keys) st c)
+sent-whole : (keys : Keys) (st : Step) (c : Chronicle) → conflicts st c ≡ false
+    → IsSound keys.sizes (st ∷ c) → AreFit keys.sizes (st ∷ c)
+    → shown (sent_first (identity_of keys) st c) ++ told keys (new_answers (history c) (history (st ∷ c)))
+    ≡ shown (sendings (identity_of keys) st c)
 unfolding sendings new_replies told
 sent-whole keys (noted n) c k so fit =
-    ap (λ (l : List Answer). shown (sendings (identity_of keys) (noted n) c) ++ told keys l) (new-are (history c) (history (noted n ∷ c)) [] (ap answers (history-noted n c)))
+    ap (λ (l : List Answer). shown (sendings (identity_of keys) (noted n) c) ++ told keys l)
+    (new-are (history c) (history (noted n ∷ c)) [] (ap answers (history-noted n c)))
     ∙ append-nil (shown (sendings (identity_of keys) (noted n) c))
 sent-whole keys (took_block a) c k so fit =
     let self = identity_of keys in
@@ -96,25 +116,31 @@ sent-whole keys (took_block a) c k so fit =
     let z = answers-more g.0 (history c) in
     let same : answers (history (st ∷ c)) ≡ z.0 ++ answers (history c) = ap answers (sym g.1) ∙ z.1 in
     let new = new-are (history c) (history (st ∷ c)) z.0 same in
-    let among : (x : Answer) → Among x (new_answers (history c) (history (st ∷ c))) → Among x (answers (history (st ∷ c))) =
-    λ x m. subst (Among x) (sym same) (Among-before x z.0 (answers (history c)) (Among-reverse z.0 x (subst (Among x) new m))) in
+    let among : (x : Answer) → Among x (new_answers (history c) (history (st ∷ c)))
+    → Among x (answers (history (st ∷ c))) =
+    λ x m. subst (Among x) (sym same)
+    (Among-before x z.0 (answers (history c)) (Among-reverse z.0 x (subst (Among x) new m))) in
     ap (λ (l : List Sent). shown (sent_first self st c) ++ l)
-    (told-all keys (new_answers (history c) (history (st ∷ c))) (λ x m. sendable-is keys (st ∷ c) so fit x (among x m)))
+    (told-all keys (new_answers (history c) (history (st ∷ c)))
+    (λ x m. sendable-is keys (st ∷ c) so fit x (among x m)))
     ∙ sym (map-append bytes_of (sent_first self st c) (new_replies self st c))
 
 -- ---- the step
 
 -- what is kept of a replica that goes on
-pub state-going : (keys : Keys) (c : Chronicle) (s : Kept) (h : History) → IsWholeOf keys (going c) s h → IsStateOf keys c s
+pub state-going : (keys : Keys) (c : Chronicle) (s : Kept) (h : History) → IsWholeOf keys (going c) s h
+    → IsStateOf keys c s
 unfolding held_pending
 state-going keys c s h o = subst (λ (l : List Command). IsStateOf keys c (waiting l s)) (sym o.waits) o.state
 
-pub history-going : (keys : Keys) (c : Chronicle) (s : Kept) (h : History) → IsWholeOf keys (going c) s h → h ≡ history c
+pub history-going : (keys : Keys) (c : Chronicle) (s : Kept) (h : History) → IsWholeOf keys (going c) s h
+    → h ≡ history c
 unfolding held_history
 history-going keys c s h o = o.history
 
 -- the last executed block before and after a step
-module _ (keys : Keys) (st : Step) (c : Chronicle) (calm : conflicts st c ≡ false) (s : Kept) (is : IsStateOf keys (st ∷ c) s) where
+module _ (keys : Keys) (st : Step) (c : Chronicle) (calm : conflicts st c ≡ false) (s : Kept)
+    (is : IsStateOf keys (st ∷ c) s) where
   top : Branch
   top = executed (st ∷ c)
 
@@ -132,33 +158,51 @@ module _ (keys : Keys) (st : Step) (c : Chronicle) (calm : conflicts st c ≡ fa
 
   -- the history up to the last decided block
   history-up : (h new : History) → h ≡ history c
-      → new ≡ history_above s.variables.rules.executed.digest s.variables.stored (length (executed c)) (s.variables.rules.executed.height - length (executed c)) h → new ≡ history (st ∷ c)
+      → new
+      ≡ history_above s.variables.rules.executed.digest s.variables.stored (length (executed c))
+      (s.variables.rules.executed.height - length (executed c)) h → new ≡ history (st ∷ c)
   unfolding top history
   history-up h new e n =
       let low = low-in in
-      let whole : length (executed c) + (length top - length (executed c)) ≡ length top = omega (arith, low) in
-      n ∙ (λ i. history_above (is.same i).rules.executed.digest (is.same i).stored (length (executed c)) ((is.same i).rules.executed.height - length (executed c)) (e i))
-      ∙ ap (λ (b : Branch). history_above (digest_of top) (stored (st ∷ c)) (length (executed c)) (length top - length (executed c)) (history_of b)) (sym begins)
-      ∙ history-is keys.sizes (st ∷ c) is.sound top top-in (length (executed c)) (length top - length (executed c)) (omega (arith, whole))
+      let whole : length (executed c) + (length top - length (executed c)) ≡ length top =
+      omega (arith, low) in
+      n
+      ∙ (λ i. history_above (is.same i).rules.executed.digest (is.same i).stored (length (executed c))
+      ((is.same i).rules.executed.height - length (executed c)) (e i))
+      ∙ ap (λ (b : Branch). history_above (digest_of top) (stored (st ∷ c)) (length (executed c))
+      (length top - length (executed c)) (history_of b)) (sym begins)
+      ∙ history-is keys.sizes (st ∷ c) is.sound top top-in (length (executed c))
+      (length top - length (executed c)) (omega (arith, whole))
       ∙ ap (λ (n : ℕ). history_of (beginning n top)) whole ∙ ap history_of (beginning-whole top)
 
   -- what waits after it
   waits-up : (waits left : List Command) → waits ≡ asked st c
-      → left ≡ left_after (history_above s.variables.rules.executed.digest s.variables.stored (length (executed c)) (s.variables.rules.executed.height - length (executed c)) []) waits → left ≡ pending (st ∷ c)
+      → left
+      ≡ left_after (history_above s.variables.rules.executed.digest s.variables.stored
+      (length (executed c)) (s.variables.rules.executed.height - length (executed c)) []) waits
+      → left ≡ pending (st ∷ c)
   waits-up waits left w n =
       let v = s.variables in
-      let new = history_above v.rules.executed.digest v.stored (length (executed c)) (v.rules.executed.height - length (executed c)) [] in
+      let new = history_above v.rules.executed.digest v.stored (length (executed c))
+      (v.rules.executed.height - length (executed c)) [] in
       let all = history-up (history c) _ refl refl in
-      let goes : history (st ∷ c) ≡ new ++ history c = sym all ∙ above-appended v.rules.executed.digest v.stored (length (executed c)) (v.rules.executed.height - length (executed c)) (history c) in
+      let goes : history (st ∷ c) ≡ new ++ history c =
+      sym all
+      ∙ above-appended v.rules.executed.digest v.stored (length (executed c))
+      (v.rules.executed.height - length (executed c)) (history c) in
       n ∙ ap (left_after new) w ∙ sym (waits-on st c new goes)
 
   -- or a part of it
-  history-part : (h new : History) (waits left : List Command) → h ≡ history c → IsCut s.variables.rules.executed.digest s.variables.stored (length (executed c)) s.variables.rules.executed.height h new waits left
+  history-part : (h new : History) (waits left : List Command) → h ≡ history c
+      → IsCut s.variables.rules.executed.digest s.variables.stored (length (executed c))
+      s.variables.rules.executed.height h new waits left
       → IsBetween (st ∷ c) top (length (executed c)) new waits left
   unfolding top history
   history-part h new waits left e k =
-      let cut = subst (λ (b : History). IsCut (digest_of top) (stored (st ∷ c)) (length (executed c)) (length top) b new waits left) (e ∙ ap history_of (sym begins))
-      (subst (λ (v : Variables). IsCut v.rules.executed.digest v.stored (length (executed c)) v.rules.executed.height h new waits left) is.same k) in
+      let cut = subst (λ (b : History). IsCut (digest_of top) (stored (st ∷ c)) (length (executed c))
+      (length top) b new waits left) (e ∙ ap history_of (sym begins))
+      (subst (λ (v : Variables). IsCut v.rules.executed.digest v.stored (length (executed c))
+      v.rules.executed.height h new waits left) is.same k) in
       cut-is keys.sizes (st ∷ c) is.sound top top-in (length (executed c)) new waits left low-in cut
 
   low-history : history_of (beginning (length (executed c)) top) ≡ history c
@@ -174,15 +218,24 @@ module _ (keys : Keys) (st : Step) (c : Chronicle) (calm : conflicts st c ≡ fa
   top-executed = refl
 
 -- a step that executes brings no request
-asked-executing : (st : Step) (c : Chronicle) → length (history c) < length (history (st ∷ c)) → asked st c ≡ pending c
+asked-executing : (st : Step) (c : Chronicle) → length (history c) < length (history (st ∷ c))
+    → asked st c ≡ pending c
 asked-executing (took_block a) c l = pending-due c
-asked-executing (noted n) c l = absurd (let e = ap (λ (h : History). length h) (history-noted n c) in omega (arith, e, l))
+asked-executing (noted n) c l =
+    absurd (let e = ap (λ (h : History). length h) (history-noted n c) in omega (arith, e, l))
 
-module _ (keys : Keys) (i : Input) (c : Chronicle) (h : History) (before : h ≡ history c) (fit : AreFit keys.sizes c) (well : AreStored c) (frame : IsFitInput keys.sizes i) where
+module _ (keys : Keys) (i : Input) (c : Chronicle) (h : History) (before : h ≡ history c)
+    (fit : AreFit keys.sizes c) (well : AreStored c) (frame : IsFitInput keys.sizes i) where
   -- what was decided is executed
-  pub sends-all : (out more : List Sent) (s after : Kept) (new : History) → Stands keys (ruling (identity_of keys) i c) c out s
-      → new ≡ history_above s.variables.rules.executed.digest s.variables.stored (length (executed c)) (s.variables.rules.executed.height - length (executed c)) h
-      → after ≡ waiting (left_after (history_above s.variables.rules.executed.digest s.variables.stored (length (executed c)) (s.variables.rules.executed.height - length (executed c)) []) s.pending) s
+  pub sends-all : (out more : List Sent) (s after : Kept) (new : History)
+      → Stands keys (ruling (identity_of keys) i c) c out s
+      → new
+      ≡ history_above s.variables.rules.executed.digest s.variables.stored (length (executed c))
+      (s.variables.rules.executed.height - length (executed c)) h
+      → after
+      ≡ waiting (left_after (history_above s.variables.rules.executed.digest s.variables.stored
+      (length (executed c)) (s.variables.rules.executed.height - length (executed c)) []) s.pending)
+      s
       → more ≡ out ++ told keys (new_answers h new) → Advances keys i c (Sends more) after new
   unfolding on_ruling on_step held_history held_pending
   sends-all out more s after new t n a o =
@@ -190,22 +243,37 @@ module _ (keys : Keys) (i : Input) (c : Chronicle) (h : History) (before : h ≡
       let st = t.step in
       let fits = fit-step keys i st c t.is_due frame t.state.sound fit in
       let is = history-up keys st c t.calm (waiting (pending (st ∷ c)) s) t.state h new before n in
-      let left = waits-up keys st c t.calm (waiting (pending (st ∷ c)) s) t.state s.pending after.pending t.waits (ap (λ (k : Kept). k.pending) a) in
-      let both : Bool → Replica × Reaction = λ b. cond b (stopped_at c, fails fault.Conflict) (record { chronicle = st ∷ c; standing = running }, sends_out (sendings self st c)) in
-      let done : on_ruling self ample (ruling self i c) c ≡ both false = ap (λ (v : Ruling). on_ruling self ample v c) t.is_due ∙ ap both t.calm in
+      let left = waits-up keys st c t.calm (waiting (pending (st ∷ c)) s) t.state s.pending after.pending
+      t.waits (ap (λ (k : Kept). k.pending) a) in
+      let both : Bool → Replica × Reaction =
+      λ b. cond b (stopped_at c, fails fault.Conflict)
+      (record { chronicle = st ∷ c; standing = running }, sends_out (sendings self st c)) in
+      let done : on_ruling self ample (ruling self i c) c ≡ both false =
+      ap (λ (v : Ruling). on_ruling self ample v c) t.is_due ∙ ap both t.calm in
       record {
         memory = ample;
         replica = record { chronicle = st ∷ c; standing = running };
         replica_is = ap (λ (r : Replica × Reaction). r.0) done;
-        whole = record { state = subst (λ (k : Kept). IsStateOf keys (st ∷ c) (waiting (pending (st ∷ c)) k)) (sym a) t.state; waits = left; history = is; fit = fits; stored = stores-on self i st c t.is_due well };
+        whole = record {
+          state = subst
+              (λ (k : Kept). IsStateOf keys (st ∷ c) (waiting (pending (st ∷ c)) k)) (sym a) t.state;
+          waits = left;
+          history = is;
+          fit = fits;
+          stored = stores-on self i st c t.is_due well;
+        };
         standing = refl;
         answer = subst (λ (r : Replica × Reaction). Shows r.1 (Ok more)) (sym done)
-            (o ∙ (λ j. t.sent j ++ told keys (new_answers (before j) (is j))) ∙ sent-whole keys st c t.calm t.state.sound fits);
+            (o ∙ (λ j. t.sent j ++ told keys (new_answers (before j) (is j)))
+            ∙ sent-whole keys st c t.calm t.state.sound fits);
       }
 
   -- memory was refused in between
-  pub stops-short : (out : List Sent) (s after : Kept) (new : History) → Stands keys (ruling (identity_of keys) i c) c out s → after ≡ waiting after.pending s
-      → IsCut s.variables.rules.executed.digest s.variables.stored (length (executed c)) s.variables.rules.executed.height h new s.pending after.pending → Advances keys i c CutShort after new
+  pub stops-short : (out : List Sent) (s after : Kept) (new : History)
+      → Stands keys (ruling (identity_of keys) i c) c out s → after ≡ waiting after.pending s
+      → IsCut s.variables.rules.executed.digest s.variables.stored (length (executed c))
+      s.variables.rules.executed.height h new s.pending after.pending
+      → Advances keys i c CutShort after new
   unfolding on_ruling on_step executes held_history
   stops-short out s after new t a k =
       let self = identity_of keys in
@@ -218,22 +286,41 @@ module _ (keys : Keys) (i : Input) (c : Chronicle) (h : History) (before : h ≡
       let more = length new - length (history c) in
       let low = subst (λ (x : History). length x ≤ length new) old b.low in
       let high = subst (λ (x : History). length new ≤ length x) full b.high in
-      let some = subst (λ (x : History). length x < length (history (st ∷ c))) old (subst (λ (x : History). length (history_of (beginning (length (executed c)) (top keys st c t.calm kept is))) < length x) full b.some) in
-      let held : min (length (history c) + more) (length (history (st ∷ c))) ≡ length new = omega (arith, low, high) in
-      let cut : Replica × Reaction = (record { chronicle = st ∷ c; standing = cut_short (min (length (history c) + more) (length (history (st ∷ c)))) }, fails fault.Memory) in
-      let by : Bool → Bool → Replica × Reaction = λ x y. cond x (stopped_at c, fails fault.Conflict) (cond y cut (stopped_at c, fails fault.Memory)) in
+      let some = subst (λ (x : History). length x < length (history (st ∷ c))) old
+      (subst (λ (x : History). length
+      (history_of (beginning (length (executed c)) (top keys st c t.calm kept is))) < length x)
+      full b.some) in
+      let held : min (length (history c) + more) (length (history (st ∷ c))) ≡ length new =
+      omega (arith, low, high) in
+      let cut : Replica × Reaction = (
+        record {
+          chronicle = st ∷ c;
+          standing = cut_short (min (length (history c) + more) (length (history (st ∷ c))));
+        },
+        fails fault.Memory,
+      ) in
+      let by : Bool → Bool → Replica × Reaction =
+      λ x y. cond x (stopped_at c, fails fault.Conflict) (cond y cut (stopped_at c, fails fault.Memory))
+      in
       let executing : executes st c ≡ true = lt-ltb (length (history c)) (length (history (st ∷ c))) some in
       let done : on_ruling self (refused_after more) (ruling self i c) c ≡ cut =
-      ap (λ (v : Ruling). on_ruling self (refused_after more) v c) t.is_due ∙ (λ j. by (t.calm j) (executing j)) in
+      ap (λ (v : Ruling). on_ruling self (refused_after more) v c) t.is_due
+      ∙ (λ j. by (t.calm j) (executing j)) in
       let whole : history_of (whole_blocks (length new) (executed (st ∷ c))) ≡ b.new ++ history c =
-      ap (λ (x : Branch). history_of (whole_blocks (length new) x)) (sym (top-executed keys st c t.calm kept is)) ∙ b.whole ∙ ap (λ (x : History). b.new ++ x) old in
+      ap (λ (x : Branch). history_of (whole_blocks (length new) x))
+      (sym (top-executed keys st c t.calm kept is)) ∙ b.whole ∙ ap (λ (x : History). b.new ++ x) old in
       record {
         memory = refused_after more;
         replica = record { chronicle = st ∷ c; standing = cut_short (length new) };
-        replica_is = ap (λ (r : Replica × Reaction). r.0) done ∙ ap (λ (n : ℕ). record { chronicle = st ∷ c; standing = cut_short n }) held;
+        replica_is =
+            ap (λ (r : Replica × Reaction). r.0) done
+            ∙ ap (λ (n : ℕ). record { chronicle = st ∷ c; standing = cut_short n }) held;
         whole = record {
-          state = subst (λ (x : Kept). IsStateOf keys (st ∷ c) (waiting (pending (st ∷ c)) x)) (sym a) t.state;
-          waits = b.left_are ∙ ap (left_after b.new) (t.waits ∙ asked-executing st c some) ∙ sym (held-waits st c (length new) b.new whole);
+          state =
+              subst (λ (x : Kept). IsStateOf keys (st ∷ c) (waiting (pending (st ∷ c)) x)) (sym a) t.state;
+          waits =
+              b.left_are ∙ ap (left_after b.new) (t.waits ∙ asked-executing st c some)
+              ∙ sym (held-waits st c (length new) b.new whole);
           history = b.cut ∙ ap (beginning (length new)) full;
           fit = fit-step keys i st c t.is_due frame t.state.sound fit;
           stored = stores-on self i st c t.is_due well;
@@ -242,18 +329,21 @@ module _ (keys : Keys) (i : Input) (c : Chronicle) (h : History) (before : h ≡
         answer = subst (λ (r : Replica × Reaction). Shows r.1 (Err fault.Memory)) (sym done) refl;
       }
 
-  held-all : (b : Bool) → history c ≡ held_history (record { chronicle = c; standing = cond b stopped running })
+  held-all : (b : Bool)
+      → history c ≡ held_history (record { chronicle = c; standing = cond b stopped running })
   unfolding held_history
   held-all true = refl
   held-all false = refl
 
-  waits-all : (b : Bool) → pending c ≡ held_pending (record { chronicle = c; standing = cond b stopped running })
+  waits-all : (b : Bool)
+      → pending c ≡ held_pending (record { chronicle = c; standing = cond b stopped running })
   unfolding held_pending
   waits-all true = refl
   waits-all false = refl
 
   -- nothing changed
-  pub refuses : (n : Fault) (s : Kept) → IsRefused keys (ruling (identity_of keys) i c) c n s → Advances keys i c (Refused n) s h
+  pub refuses : (n : Fault) (s : Kept) → IsRefused keys (ruling (identity_of keys) i c) c n s
+      → Advances keys i c (Refused n) s h
   refuses n s r = record {
     memory = r.memory;
     replica = record { chronicle = c; standing = cond (halts n) stopped running };

@@ -1,7 +1,9 @@
 -- What a timeout and an announced view change is what their steps change.
 use Rattle.ids.specs.declared.fault.Fault.{Fault}
 use Rattle.ids.specs.declared.fault.Fault.TheVariants as fault
-use Rattle.std.proofs.Common.{ℕ, ◌≡◌, ◌<◌, Bool, true, false, true≢false, List, [], ◌∷◌, length, cond, nat_lt, refl, sym, ap, ◌∙◌, subst, Option, Some, None, Result, Ok, Err, IfOk, OnErr}
+use Rattle.std.proofs.Common.{ℕ, ◌≡◌, ◌<◌, Bool, true, false, true≢false, List, [], ◌∷◌, length, cond}
+use Rattle.std.proofs.Common.{nat_lt, refl, sym, ap, ◌∙◌, subst, Option, Some, None, Result, Ok, Err, IfOk}
+use Rattle.std.proofs.Common.{OnErr}
 use Rattle.std.specs.Option.{unwrap_or}
 use Rattle.std.specs.Prelude.{IsTrue, ◌↔◌}
 use Rattle.std.proofs.lemmas.Bool.{lt-ltb, ltb-true, false_from_ne_true}
@@ -11,9 +13,11 @@ use Rattle.definitions.specs.Branches.{Branch}
 use Rattle.definitions.specs.Keyrings.{Keys}
 use Rattle.definitions.specs.Checks.{identity_of}
 use Rattle.definitions.specs.Trees.{blocks, find_in}
-use Rattle.definitions.specs.Chronicles.{Note, Step.noted, Note.got_new_view, Note.timed_out, Chronicle, stored, tree, IsSound}
+use Rattle.definitions.specs.Chronicles.{Note, Step.noted, Note.got_new_view, Note.timed_out, Chronicle}
+use Rattle.definitions.specs.Chronicles.{stored, tree, IsSound}
 use Rattle.definitions.specs.States.{Justified, view, qc_high, find_block, raised, leaf}
-use Rattle.definitions.specs.Rulings.{Input.timeout_in, Input.new_view_in, Ruling, ruling, conflicts, with_block}
+use Rattle.definitions.specs.Rulings.{Input.timeout_in, Input.new_view_in, Ruling, ruling, conflicts}
+use Rattle.definitions.specs.Rulings.{with_block}
 use Rattle.definitions.specs.Rulings as rulings
 use Rattle.definitions.specs.Sendings.{Sending, to_all, new_view_frame, sendings}
 use Rattle.definitions.proofs.Chronicles.{tree-grows}
@@ -29,7 +33,8 @@ use Rattle.replica.specs.Replay.{or_genesis}
 use Rattle.replica.specs.Steps.{Sent, shown}
 use Rattle.replica.specs.Kept.{Variables, Kept, high_of, variables_of, IsStateOf}
 use Rattle.replica.specs.Changes.{changed_variables, raise_of, IsStep}
-use Rattle.replica.specs.Announcements.{new_view_sent, timeout_change, IsTimeout, new_view_change, IsAnnounced, IsNewViewAt, IsNewView}
+use Rattle.replica.specs.Announcements.{new_view_sent, timeout_change, IsTimeout, new_view_change}
+use Rattle.replica.specs.Announcements.{IsAnnounced, IsNewViewAt, IsNewView}
 use Rattle.replica.specs.StepsTo.{Follows, StepsTo, answer, after}
 use Rattle.replica.proofs.Steps.{shown-if, is_beat, collects, BringsKnown, refused-for-memory, stands, asks}
 use Rattle.replica.proofs.Stays.{calm, same-some, AreHigh, raise-is, variables-calm, variables-noted}
@@ -37,10 +42,14 @@ use Rattle.replica.proofs.Stays.{calm, same-some, AreHigh, raise-is, variables-c
 -- ---- a timeout
 
 -- the view after a note, by the pace
-view-after : (keys : Keys) (c : Chronicle) (p : Pace) → p.sizes ≡ keys.sizes → IsPaceOf c p → p.view ≡ view keys.sizes c
+view-after : (keys : Keys) (c : Chronicle) (p : Pace) → p.sizes ≡ keys.sizes → IsPaceOf c p
+    → p.view ≡ view keys.sizes c
 view-after keys c p e h = h.view ∙ ap (λ (s : Sizes). view s c) e
 
-timeout-sent : (keys : Keys) (c : Chronicle) → new_view_sent keys (view keys.sizes (noted timed_out ∷ c)) (qc_high keys.sizes (noted timed_out ∷ c)).certificate ∷ [] ≡ shown (sendings (identity_of keys) (noted timed_out) c)
+timeout-sent : (keys : Keys) (c : Chronicle)
+    → new_view_sent keys (view keys.sizes (noted timed_out ∷ c))
+    (qc_high keys.sizes (noted timed_out ∷ c)).certificate ∷ []
+    ≡ shown (sendings (identity_of keys) (noted timed_out) c)
 unfolding sendings Rattle.definitions.specs.Sendings.new_view_frame
 timeout-sent keys c = refl
 
@@ -48,16 +57,21 @@ qc-timeout : (s : Sizes) (c : Chronicle) → qc_high s (noted timed_out ∷ c) �
 unfolding qc_high raised
 qc-timeout s c = refl
 
-timeout-step : (keys : Keys) (c : Chronicle) (s : Kept) (d : Change) → IsStateOf keys c s → IsTimeout keys s d → IsStep keys c (noted timed_out) s.pace d
+timeout-step : (keys : Keys) (c : Chronicle) (s : Kept) (d : Change) → IsStateOf keys c s
+    → IsTimeout keys s d → IsStep keys c (noted timed_out) s.pace d
 unfolding Rattle.replica.proofs.Steps.is_beat raised
 timeout-step keys c s d o t =
     let sizes : t.pace.sizes ≡ keys.sizes = t.its_pace.sizes ∙ o.sizes in
     let pace = t.its_pace.paced c timed_out refl o.pace in
     let at = view-after keys (noted timed_out ∷ c) t.pace sizes pace in
-    let q : s.variables.high.certificate ≡ (qc_high keys.sizes (noted timed_out ∷ c)).certificate = ap (λ (v : Variables). v.high.certificate) o.same ∙ ap (λ (j : Justified). j.certificate) (sym (qc-timeout keys.sizes c)) in
+    let q : s.variables.high.certificate ≡ (qc_high keys.sizes (noted timed_out ∷ c)).certificate =
+    ap (λ (v : Variables). v.high.certificate) o.same
+    ∙ ap (λ (j : Justified). j.certificate) (sym (qc-timeout keys.sizes c)) in
     subst (IsStep keys c (noted timed_out) s.pace) (sym t.change)
     (record {
-      variables = (λ i. changed_variables (timeout_change keys (record s { variables = o.same i }) t.pace) (variables_of keys c)) ∙ sym (variables-calm keys timed_out c refl refl);
+      variables =
+          (λ i. changed_variables (timeout_change keys (record s { variables = o.same i }) t.pace)
+          (variables_of keys c)) ∙ sym (variables-calm keys timed_out c refl refl);
       sizes = sizes;
       pace = pace;
       out = (λ i. new_view_sent keys (at i) (q i) ∷ []) ∙ timeout-sent keys c;
@@ -67,16 +81,23 @@ timeout-brings : (keys : Keys) (c : Chronicle) → BringsKnown keys.sizes (noted
 unfolding raised
 timeout-brings keys c q e = absurd (let k : None ≡ Some q = e in cc)
 
-pub timeout-decided : (keys : Keys) (c : Chronicle) (s : Kept) (result : Result Change Fault) → IfOk result (IsTimeout keys s) → OnErr result (result ≡ Err fault.Memory) → IsStateOf keys c s → StepsTo keys timeout_in c (answer result) (after result s)
+pub timeout-decided : (keys : Keys) (c : Chronicle) (s : Kept) (result : Result Change Fault)
+    → IfOk result (IsTimeout keys s) → OnErr result (result ≡ Err fault.Memory) → IsStateOf keys c s
+    → StepsTo keys timeout_in c (answer result) (after result s)
 unfolding ruling conflicts
 timeout-decided keys c s (Ok d) made memory o =
-    stands keys _ c (noted timed_out) d s refl refl (ruling-sound (identity_of keys) timeout_in c tt o.sound) (timeout-brings keys c) (calm (noted timed_out) c s.pending refl o.waits) o (timeout-step keys c s d o made) tt (ap (λ (x : Change). collects x.growth) made.change)
+    stands keys _ c (noted timed_out) d s refl refl
+    (ruling-sound (identity_of keys) timeout_in c tt o.sound) (timeout-brings keys c)
+    (calm (noted timed_out) c s.pending refl o.waits) o (timeout-step keys c s d o made) tt
+    (ap (λ (x : Change). collects x.growth) made.change)
 timeout-decided keys c s (Err n) made memory o =
-    subst (λ (x : Result (List Sent) Fault). StepsTo keys timeout_in c x s) (sym (ap answer memory)) (refused-for-memory keys _ c (noted timed_out) s refl o)
+    subst (λ (x : Result (List Sent) Fault). StepsTo keys timeout_in c x s) (sym (ap answer memory))
+    (refused-for-memory keys _ c (noted timed_out) s refl o)
 
 -- ---- an announced view
 
-module _ (keys : Keys) (c : Chronicle) (n : GotNewView) (b : Branch) (found : find_in n.certificate.digest (tree c) ≡ Some b) where
+module _ (keys : Keys) (c : Chronicle) (n : GotNewView) (b : Branch)
+    (found : find_in n.certificate.digest (tree c) ≡ Some b) where
   note : Note
   note = got_new_view n.view n.sender n.certificate b
 
@@ -93,25 +114,35 @@ module _ (keys : Keys) (c : Chronicle) (n : GotNewView) (b : Branch) (found : fi
 
   block-is : block ≡ ref_of b
   unfolding block
-  block-is = λ i. record { digest = sym (found-in n.certificate.digest (tree c) b found).1 i; height = length b }
+  block-is =
+      λ i. record { digest = sym (found-in n.certificate.digest (tree c) b found).1 i; height = length b }
 
   brought : raised keys.sizes (noted note) c ≡ Some (record { block = b; certificate = n.certificate })
   unfolding raised note
   brought = refl
 
-  high-is : AreHigh keys (noted note) c (raise_of (record { block = block; certificate = n.certificate }) (high_of (qc_high keys.sizes c)))
-  high-is = raise-is keys (noted note) c (record { block = b; certificate = n.certificate }) block is-note brought block-is
+  high-is : AreHigh keys (noted note) c
+      (raise_of (record { block = block; certificate = n.certificate }) (high_of (qc_high keys.sizes c)))
+  high-is = raise-is keys (noted note) c (record { block = b; certificate = n.certificate }) block is-note
+      brought block-is
 
-  sent-is : cond (nat_lt (view keys.sizes c) (view keys.sizes (noted note ∷ c))) (new_view_sent keys (view keys.sizes (noted note ∷ c)) (qc_high keys.sizes (noted note ∷ c)).certificate ∷ []) [] ≡ shown (sendings (identity_of keys) (noted note) c)
+  sent-is : cond (nat_lt (view keys.sizes c) (view keys.sizes (noted note ∷ c)))
+      (new_view_sent keys (view keys.sizes (noted note ∷ c))
+      (qc_high keys.sizes (noted note ∷ c)).certificate ∷ []) []
+      ≡ shown (sendings (identity_of keys) (noted note) c)
   unfolding note sendings Rattle.definitions.specs.Sendings.new_view_frame
-  sent-is = sym (shown-if (nat_lt (view keys.sizes c) (view keys.sizes (noted note ∷ c))) (to_all, new_view_frame (identity_of keys) (noted note ∷ c)))
+  sent-is = sym (shown-if (nat_lt (view keys.sizes c) (view keys.sizes (noted note ∷ c)))
+      (to_all, new_view_frame (identity_of keys) (noted note ∷ c)))
 
   -- the announcement as it is stored
-  note-is : noted (got_new_view n.view n.sender n.certificate (or_genesis (find_in n.certificate.digest (blocks (stored c))))) ≡ noted note
+  note-is : noted (got_new_view n.view n.sender n.certificate
+      (or_genesis (find_in n.certificate.digest (blocks (stored c))))) ≡ noted note
   unfolding note tree
-  note-is = ap (λ (o : Option Branch). noted (got_new_view n.view n.sender n.certificate (or_genesis o))) found
+  note-is =
+      ap (λ (o : Option Branch). noted (got_new_view n.view n.sender n.certificate (or_genesis o))) found
 
-  announced-step : (s : Kept) (d : Change) → IsStateOf keys c s → IsAnnounced keys s block n d → IsStep keys c (noted note) s.pace d
+  announced-step : (s : Kept) (d : Change) → IsStateOf keys c s → IsAnnounced keys s block n d
+      → IsStep keys c (noted note) s.pace d
   unfolding block Rattle.replica.proofs.Steps.is_beat
   announced-step s d o t =
       let sizes : t.pace.sizes ≡ keys.sizes = t.its_pace.sizes ∙ o.sizes in
@@ -119,50 +150,74 @@ module _ (keys : Keys) (c : Chronicle) (n : GotNewView) (b : Branch) (found : fi
       let was = view-after keys c s.pace o.sizes o.pace in
       let at = view-after keys (noted note ∷ c) t.pace sizes pace in
       let r : High → Option High = λ h. raise_of (record { block = block; certificate = n.certificate }) h in
-      let q : (unwrap_or (r s.variables.high) s.variables.high).certificate ≡ (qc_high keys.sizes (noted note ∷ c)).certificate =
-      ap (λ (v : Variables). (unwrap_or (r v.high) v.high).certificate) o.same ∙ ap (λ (h : High). h.certificate) high-is.high in
+      let q : (unwrap_or (r s.variables.high) s.variables.high).certificate
+      ≡ (qc_high keys.sizes (noted note ∷ c)).certificate =
+      ap (λ (v : Variables). (unwrap_or (r v.high) v.high).certificate) o.same
+      ∙ ap (λ (h : High). h.certificate) high-is.high in
       subst (IsStep keys c (noted note) s.pace) (sym t.change)
       (record {
-        variables = (λ i. changed_variables (new_view_change keys (record s { variables = o.same i }) block n t.pace) (variables_of keys c))
-            ∙ (λ i. record (variables_of keys c) { chronicle = note-is i ∷ c; high = high-is.high i; leaf = high-is.its_leaf i })
-            ∙ sym (variables-noted keys note c (qc_high keys.sizes (noted note ∷ c)) (leaf (identity_of keys) (noted note ∷ c)) is-note refl refl);
+        variables = (λ i. changed_variables
+            (new_view_change keys (record s { variables = o.same i }) block n t.pace) (variables_of keys c))
+            ∙ (λ i. record (variables_of keys c)
+            { chronicle = note-is i ∷ c; high = high-is.high i; leaf = high-is.its_leaf i })
+            ∙ sym (variables-noted keys note c (qc_high keys.sizes (noted note ∷ c))
+            (leaf (identity_of keys) (noted note ∷ c)) is-note refl refl);
         sizes = sizes;
         pace = pace;
         out = (λ i. cond (nat_lt (was i) (at i)) (new_view_sent keys (at i) (q i) ∷ []) []) ∙ sent-is;
       })
 
-  announced-block : (s : Kept) (d : Change) → IsAnnounced keys s (record { digest = n.certificate.digest; height = length b }) n d → IsAnnounced keys s block n d
+  announced-block : (s : Kept) (d : Change)
+      → IsAnnounced keys s (record { digest = n.certificate.digest; height = length b }) n d
+      → IsAnnounced keys s block n d
   unfolding block
   announced-block s d h = h
 
   note-sound : IsSound keys.sizes c → IsSound keys.sizes (noted note ∷ c)
   unfolding note ruling find_block
-  note-sound so = subst (OnStands (λ st. IsSound keys.sizes (st ∷ c))) (ap (λ (o : Option Branch). with_block o n.sender n.certificate.digest (λ x. rulings.due (noted (got_new_view n.view n.sender n.certificate x)))) found)
+  note-sound so = subst (OnStands (λ st. IsSound keys.sizes (st ∷ c)))
+      (ap (λ (o : Option Branch). with_block o n.sender n.certificate.digest
+      (λ x. rulings.due (noted (got_new_view n.view n.sender n.certificate x)))) found)
       (ruling-sound (identity_of keys) (new_view_in n.view n.sender n.certificate) c tt so)
 
   new-view-brings : BringsKnown keys.sizes (noted note) c
   new-view-brings q e =
-      let k : record { block = b; certificate = n.certificate } ≡ q = same-some (record { block = b; certificate = n.certificate }) q (sym brought ∙ e) in
-      subst (λ (j : Justified). Among j.block (tree (noted note ∷ c))) k (tree-grows (noted note) c b (found-in n.certificate.digest (tree c) b found).0)
+      let k : record { block = b; certificate = n.certificate } ≡ q =
+      same-some (record { block = b; certificate = n.certificate }) q (sym brought ∙ e) in
+      subst (λ (j : Justified). Among j.block (tree (noted note ∷ c))) k
+      (tree-grows (noted note) c b (found-in n.certificate.digest (tree c) b found).0)
 
 -- by what is found
-new-view-by : (keys : Keys) (c : Chronicle) (s : Kept) (n : GotNewView) (result : Result Change Fault) → IsStateOf keys c s → (o : Option Branch) → find_in n.certificate.digest (tree c) ≡ o → IsNewViewAt keys s n result o
-    → Follows keys (with_block o n.sender n.certificate.digest (λ x. rulings.due (noted (got_new_view n.view n.sender n.certificate x)))) c (answer result) (after result s)
+new-view-by : (keys : Keys) (c : Chronicle) (s : Kept) (n : GotNewView) (result : Result Change Fault)
+    → IsStateOf keys c s → (o : Option Branch) → find_in n.certificate.digest (tree c) ≡ o
+    → IsNewViewAt keys s n result o
+    → Follows keys (with_block o n.sender n.certificate.digest
+    (λ x. rulings.due (noted (got_new_view n.view n.sender n.certificate x)))) c (answer result)
+    (after result s)
 unfolding note conflicts
 new-view-by keys c s n result o None e h =
-    subst (λ (r : Result Change Fault). Follows keys (rulings.missing n.sender n.certificate.digest) c (answer r) (after r s)) (sym h) (asks keys _ c n.sender n.certificate.digest s refl o)
+    subst (λ (r : Result Change Fault). Follows keys (rulings.missing n.sender n.certificate.digest) c
+    (answer r) (after r s)) (sym h) (asks keys _ c n.sender n.certificate.digest s refl o)
 new-view-by keys c s n (Ok d) o (Some b) e h =
     let st = noted (note keys c n b e) in
-    stands keys (rulings.due st) c st d s refl refl (note-sound keys c n b e o.sound) (new-view-brings keys c n b e) (calm st c s.pending refl o.waits) o (announced-step keys c n b e s d o (announced-block keys c n b e s d h)) tt (ap (λ (x : Change). collects x.growth) h.change)
+    stands keys (rulings.due st) c st d s refl refl (note-sound keys c n b e o.sound)
+    (new-view-brings keys c n b e) (calm st c s.pending refl o.waits) o
+    (announced-step keys c n b e s d o (announced-block keys c n b e s d h)) tt
+    (ap (λ (x : Change). collects x.growth) h.change)
 new-view-by keys c s n (Err f) o (Some b) e h =
-    subst (λ (m : Fault). Follows keys (rulings.due (noted (got_new_view n.view n.sender n.certificate b))) c (Err m) s) (sym h) (refused-for-memory keys _ c (noted (got_new_view n.view n.sender n.certificate b)) s refl o)
+    subst (λ (m : Fault). Follows keys (rulings.due (noted (got_new_view n.view n.sender n.certificate b)))
+    c (Err m) s) (sym h)
+    (refused-for-memory keys _ c (noted (got_new_view n.view n.sender n.certificate b)) s refl o)
 
-pub new-view-decided : (keys : Keys) (c : Chronicle) (s : Kept) (n : GotNewView) (result : Result Change Fault) → IsNewView keys s n result → IsStateOf keys c s
+pub new-view-decided :
+    (keys : Keys) (c : Chronicle) (s : Kept) (n : GotNewView) (result : Result Change Fault)
+    → IsNewView keys s n result → IsStateOf keys c s
     → StepsTo keys (new_view_in n.view n.sender n.certificate) c (answer result) (after result s)
 unfolding ruling find_block tree
 new-view-decided keys c s n result h o =
     let same = ap (λ (v : Variables). find_in n.certificate.digest (blocks v.stored)) o.same in
-    new-view-by keys c s n result o (find_in n.certificate.digest (blocks (stored c))) refl (subst (IsNewViewAt keys s n result) same h)
+    new-view-by keys c s n result o (find_in n.certificate.digest (blocks (stored c))) refl
+    (subst (IsNewViewAt keys s n result) same h)
 
 -- whether it moved, as a test
 pub moved-is : (t : Bool) (a b : ℕ) → (IsTrue t ↔ (a < b)) → t ≡ nat_lt a b

@@ -1,6 +1,7 @@
 -- What a vote changes is what its step changes.
 use Rattle.ids.specs.declared.fault.Fault.{Fault}
-use Rattle.std.proofs.Common.{◌≡◌, ◌<◌, ◌≤◌, Bool, true, false, ◌∷◌, length, cond, nat_lt, refl, sym, ap, ◌∙◌, arith, subst, Option, Some, None, Result, Ok, Err}
+use Rattle.std.proofs.Common.{◌≡◌, ◌<◌, ◌≤◌, Bool, true, false, ◌∷◌, length, cond, nat_lt, refl, sym, ap}
+use Rattle.std.proofs.Common.{◌∙◌, arith, subst, Option, Some, None, Result, Ok, Err}
 use Rattle.std.proofs.lemmas.Bool.{cond_both, ltb-true, ltb-false}
 use Rattle.ids.specs.Sizes.{Sizes, quorum}
 use Rattle.definitions.specs.Bytes.{Bytes}
@@ -40,7 +41,8 @@ made-by : (t : Bool) (p q : Justified) → cond t (Some p) None ≡ Some q → p
 made-by true p q e = same-some p q e
 made-by false p q e = absurd (let k : None ≡ Some q = e in cc)
 
-module _ (keys : Keys) (c : Chronicle) (s : Kept) (is : IsStateOf keys c s) (d : Bytes) (vote : Vote) (b : Branch) (found : find_in d (tree c) ≡ Some b) where
+module _ (keys : Keys) (c : Chronicle) (s : Kept) (is : IsStateOf keys c s) (d : Bytes) (vote : Vote)
+    (b : Branch) (found : find_in d (tree c) ≡ Some b) where
   note : Note
   note = got_vote vote.voter vote.vector b
 
@@ -69,41 +71,58 @@ module _ (keys : Keys) (c : Chronicle) (s : Kept) (is : IsStateOf keys c s) (d :
     votes : IsVotesOf keys.sizes (noted note ∷ c) (votes_after x s.votes.kept)
 
   -- where the highest certificate stays
-  noted-step : qc_high keys.sizes (noted note ∷ c) ≡ qc_high keys.sizes c → IsStep keys c (noted note) s.pace (vote_noted s block vote)
+  noted-step : qc_high keys.sizes (noted note ∷ c) ≡ qc_high keys.sizes c
+      → IsStep keys c (noted note) s.pace (vote_noted s block vote)
   unfolding block sendings note
   noted-step q = record {
-    variables = (λ i. changed_variables (vote_noted (record s { variables = is.same i }) block vote) (variables_of keys c))
+    variables = (λ i. changed_variables (vote_noted (record s { variables = is.same i }) block vote)
+        (variables_of keys c))
         ∙ (λ i. record (variables_of keys c) { chronicle = note-is i ∷ c })
-        ∙ sym (variables-noted keys note c (qc_high keys.sizes c) (leaf (identity_of keys) c) is-note q (leaf-same (identity_of keys) (noted note) c is-note q));
+        ∙ sym (variables-noted keys note c (qc_high keys.sizes c) (leaf (identity_of keys) c) is-note q
+        (leaf-same (identity_of keys) (noted note) c is-note q));
     sizes = is.sizes;
     pace = paced-still (noted note) c s.pace tt is.pace;
     out = refl;
   }
 
   -- the first vote of a voter
-  first-step : qc_high keys.sizes (noted note ∷ c) ≡ qc_high keys.sizes c → IsStep keys c (noted note) s.pace (vote_counted s block vote First)
-  first-step q = let x = noted-step q in record { variables = x.variables; sizes = x.sizes; pace = x.pace; out = x.out }
+  first-step : qc_high keys.sizes (noted note ∷ c) ≡ qc_high keys.sizes c
+      → IsStep keys c (noted note) s.pace (vote_counted s block vote First)
+  first-step q =
+      let x = noted-step q in record { variables = x.variables; sizes = x.sizes; pace = x.pace; out = x.out }
 
   -- the one that completes a quorum
-  complete-step : certified keys.sizes c < length b → qc_high keys.sizes (noted note ∷ c) ≡ record { block = b; certificate = made_with d vote s.votes.kept } → IsStep keys c (noted note) s.pace (vote_counted s block vote Complete)
+  complete-step : certified keys.sizes c < length b
+      → qc_high keys.sizes (noted note ∷ c)
+      ≡ record { block = b; certificate = made_with d vote s.votes.kept }
+      → IsStep keys c (noted note) s.pace (vote_counted s block vote Complete)
   unfolding block sendings note
   complete-step lt q =
       let made : Justified = record { block = b; certificate = made_with d vote s.votes.kept } in
       record {
-        variables = (λ i. changed_variables (vote_counted (record s { variables = is.same i }) block vote Complete) (variables_of keys c))
-            ∙ (λ i. record (variables_of keys c) { chronicle = note-is i ∷ c; high = record { block = block-is i; certificate = made.certificate }; leaf = block-is i })
-            ∙ sym (variables-noted keys note c made b is-note q (leaf-raised (identity_of keys) (noted note) c made is-note q lt));
+        variables = (λ i. changed_variables
+            (vote_counted (record s { variables = is.same i }) block vote Complete) (variables_of keys c))
+            ∙ (λ i. record (variables_of keys c) {
+              chronicle = note-is i ∷ c;
+              high = record { block = block-is i; certificate = made.certificate };
+              leaf = block-is i;
+            })
+            ∙ sym (variables-noted keys note c made b is-note q
+            (leaf-raised (identity_of keys) (noted note) c made is-note q lt));
         sizes = is.sizes;
         pace = paced-still (noted note) c s.pace tt is.pace;
         out = refl;
       }
 
   -- by what the vote is to those that are kept
-  counted-comes : certified keys.sizes c < length b → (a : Added) → judged (quorum keys.sizes) vote.voter (votes_for d s.votes.kept) ≡ a → Comes (vote_counted s block vote a)
+  counted-comes : certified keys.sizes c < length b → (a : Added)
+      → judged (quorum keys.sizes) vote.voter (votes_for d s.votes.kept) ≡ a
+      → Comes (vote_counted s block vote a)
   unfolding block note
   counted-comes lt Doubled e = let l = follows.doubled lt e in record { step = noted-step l.1; votes = l.0 }
   counted-comes lt First e = let l = follows.first lt e in record { step = first-step l.1; votes = l.0 }
-  counted-comes lt Complete e = let l = follows.complete lt e in record { step = complete-step lt l.1; votes = l.0 }
+  counted-comes lt Complete e =
+      let l = follows.complete lt e in record { step = complete-step lt l.1; votes = l.0 }
 
   low-comes : length b ≤ certified keys.sizes c → Comes (vote_noted s block vote)
   unfolding block note
@@ -120,23 +139,32 @@ module _ (keys : Keys) (c : Chronicle) (s : Kept) (is : IsStateOf keys c s) (d :
       judgement = judged (quorum s.votes.sizes) vote.voter (votes_for d s.votes.kept)
 
       same-judgement : judged (quorum keys.sizes) vote.voter (votes_for d s.votes.kept) ≡ judgement
-      same-judgement = ap (λ (z : Sizes). judged (quorum z) vote.voter (votes_for d s.votes.kept)) (sym is.vote_sizes)
+      same-judgement =
+          ap (λ (z : Sizes). judged (quorum z) vote.voter (votes_for d s.votes.kept)) (sym is.vote_sizes)
 
-      by : (t : Bool) → nat_lt s.variables.high.block.height (length b) ≡ t → Comes (cond t (vote_counted s block vote judgement) (vote_noted s block vote))
-      by true t = counted-comes (let k = ltb-true s.variables.high.block.height (length b) t in omega (arith, k, height)) judgement same-judgement
-      by false t = low-comes (let k = ltb-false s.variables.high.block.height (length b) t in omega (arith, k, height))
+      by : (t : Bool) → nat_lt s.variables.high.block.height (length b) ≡ t
+          → Comes (cond t (vote_counted s block vote judgement) (vote_noted s block vote))
+      by true t = counted-comes
+          (let k = ltb-true s.variables.high.block.height (length b) t in omega (arith, k, height))
+          judgement same-judgement
+      by false t =
+          low-comes (let k = ltb-false s.variables.high.block.height (length b) t in omega (arith, k, height))
 
   vote-brings : BringsKnown keys.sizes (noted note) c
   unfolding raised note
-  vote-brings q e = subst (λ (j : Justified). Among j.block (tree (noted note ∷ c))) (made-by _ _ q e) (tree-grows (noted note) c b (found-in d (tree c) b found).0)
+  vote-brings q e = subst (λ (j : Justified). Among j.block (tree (noted note ∷ c))) (made-by _ _ q e)
+      (tree-grows (noted note) c b (found-in d (tree c) b found).0)
 
   vote-sound : IsSound keys.sizes (noted note ∷ c)
   unfolding note ruling find_block
-  vote-sound = subst (OnStands (λ st. IsSound keys.sizes (st ∷ c))) (ap (λ (o : Option Branch). with_block o vote.voter d (λ x. rulings.due (noted (got_vote vote.voter vote.vector x)))) found)
+  vote-sound = subst (OnStands (λ st. IsSound keys.sizes (st ∷ c)))
+      (ap (λ (o : Option Branch). with_block o vote.voter d
+      (λ x. rulings.due (noted (got_vote vote.voter vote.vector x)))) found)
       (ruling-sound (identity_of keys) (vote_in d vote) c tt is.sound)
 
 -- it leaves the requests that wait
-counted-waits : (s : Kept) (block : BlockRef) (vote : Vote) → pended (vote_change s block vote).growth s.pending ≡ s.pending
+counted-waits : (s : Kept) (block : BlockRef) (vote : Vote)
+    → pended (vote_change s block vote).growth s.pending ≡ s.pending
 counted-waits s block vote =
     cond_both (nat_lt s.variables.high.block.height block.height) _ (vote_noted s block vote) P
     (λ t. by (judged (quorum s.votes.sizes) vote.voter (votes_for block.digest s.votes.kept))) (λ t. refl)
@@ -150,22 +178,36 @@ counted-waits s block vote =
     by Complete = refl
 
 -- by what is found
-vote-by : (keys : Keys) (c : Chronicle) (s : Kept) (d : Bytes) (vote : Vote) (result : Result Change Fault) → IsStateOf keys c s → (o : Option Branch) → find_in d (tree c) ≡ o → IsVoteAt s d vote result o
-    → Follows keys (with_block o vote.voter d (λ x. rulings.due (noted (got_vote vote.voter vote.vector x)))) c (answer result) (after result s)
+vote-by : (keys : Keys) (c : Chronicle) (s : Kept) (d : Bytes) (vote : Vote) (result : Result Change Fault)
+    → IsStateOf keys c s → (o : Option Branch) → find_in d (tree c) ≡ o → IsVoteAt s d vote result o
+    → Follows keys
+    (with_block o vote.voter d (λ x. rulings.due (noted (got_vote vote.voter vote.vector x)))) c
+    (answer result) (after result s)
 unfolding note block conflicts
 vote-by keys c s d vote result is None e h =
-    subst (λ (r : Result Change Fault). Follows keys (rulings.missing vote.voter d) c (answer r) (after r s)) (sym h) (asks keys _ c vote.voter d s refl is)
+    subst
+    (λ (r : Result Change Fault). Follows keys (rulings.missing vote.voter d) c (answer r) (after r s))
+    (sym h) (asks keys _ c vote.voter d s refl is)
 vote-by keys c s d vote (Ok x) is (Some b) e h =
     let st = noted (note keys c s is d vote b e) in
     let comes = change-comes keys c s is d vote b e in
     subst (λ (y : Change). Follows keys (rulings.due st) c (Ok y.out) (changed y s)) (sym h)
-    (stands-with keys (rulings.due st) c st (vote_change s (record { digest = d; height = length b }) vote) s refl refl (vote-sound keys c s is d vote b e) (vote-brings keys c s is d vote b e) (counted-waits s (record { digest = d; height = length b }) vote ∙ calm st c s.pending refl is.waits) is comes.step comes.votes)
+    (stands-with keys (rulings.due st) c st (vote_change s (record { digest = d; height = length b }) vote)
+    s refl refl (vote-sound keys c s is d vote b e) (vote-brings keys c s is d vote b e)
+    (counted-waits s (record { digest = d; height = length b }) vote ∙ calm st c s.pending refl is.waits)
+    is comes.step comes.votes)
 vote-by keys c s d vote (Err f) is (Some b) e h =
-    subst (λ (m : Fault). Follows keys (rulings.due (noted (got_vote vote.voter vote.vector b))) c (Err m) s) (sym h) (refused-for-memory keys _ c (noted (got_vote vote.voter vote.vector b)) s refl is)
+    subst
+    (λ (m : Fault). Follows keys (rulings.due (noted (got_vote vote.voter vote.vector b))) c (Err m) s)
+    (sym h) (refused-for-memory keys _ c (noted (got_vote vote.voter vote.vector b)) s refl is)
 
 -- what a vote comes to
-pub vote-decided : (keys : Keys) (c : Chronicle) (s : Kept) (d : Bytes) (vote : Vote) (result : Result Change Fault) → IsVoteDecided s d vote result → IsStateOf keys c s → StepsTo keys (vote_in d vote) c (answer result) (after result s)
+pub vote-decided :
+    (keys : Keys) (c : Chronicle) (s : Kept) (d : Bytes) (vote : Vote) (result : Result Change Fault)
+    → IsVoteDecided s d vote result → IsStateOf keys c s
+    → StepsTo keys (vote_in d vote) c (answer result) (after result s)
 unfolding ruling find_block tree
 vote-decided keys c s d vote result h is =
     let same = ap (λ (v : Variables). find_in d (blocks v.stored)) is.same in
-    vote-by keys c s d vote result is (find_in d (blocks (stored c))) refl (subst (IsVoteAt s d vote result) same h)
+    vote-by keys c s d vote result is (find_in d (blocks (stored c))) refl
+    (subst (IsVoteAt s d vote result) same h)

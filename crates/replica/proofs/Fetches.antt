@@ -1,7 +1,8 @@
 -- What a question for a block changes is what its step changes.
 use Rattle.ids.specs.declared.fault.Fault.{Fault}
 use Rattle.ids.specs.declared.fault.Fault.TheVariants as fault
-use Rattle.std.proofs.Common.{ℕ, ◌≡◌, Bool, true, false, true≢false, List, [], ◌∷◌, map, find, cond, refl, sym, ap, ◌∙◌, subst, Option, Some, None, Result, Ok, Err, IfOk, OnErr}
+use Rattle.std.proofs.Common.{ℕ, ◌≡◌, Bool, true, false, true≢false, List, [], ◌∷◌, map, find, cond, refl}
+use Rattle.std.proofs.Common.{sym, ap, ◌∙◌, subst, Option, Some, None, Result, Ok, Err, IfOk, OnErr}
 use Rattle.std.specs.Prelude.{option_map, bytes_eq}
 use Rattle.std.proofs.lemmas.Bool.{false_from_ne_true}
 use Rattle.std.proofs.lemmas.Slice.Eq.{bytes_eq-Decides}
@@ -11,7 +12,8 @@ use Rattle.definitions.specs.Digests.{digest_of}
 use Rattle.definitions.specs.Keyrings.{Keys}
 use Rattle.definitions.specs.Checks.{identity_of}
 use Rattle.definitions.specs.Trees.{blocks, find_in}
-use Rattle.definitions.specs.Chronicles.{Admitted, Step.noted, Note.got_fetch, Chronicle, taken, stored, stored_of, tree}
+use Rattle.definitions.specs.Chronicles.{Admitted, Step.noted, Note.got_fetch, Chronicle, taken, stored}
+use Rattle.definitions.specs.Chronicles.{stored_of, tree}
 use Rattle.definitions.specs.States.{find_block, raised}
 use Rattle.definitions.specs.Rulings.{Input.fetch_in, ruling, conflicts}
 use Rattle.definitions.specs.Sendings.{as_taken, supplies, sendings}
@@ -40,15 +42,21 @@ named (Some b) xs = find (λ a. branch_eq a.branch b) xs
 find-first : (p : Admitted → Bool) (a : Admitted) (xs : List Admitted) → p a ≡ true → find p (a ∷ xs) ≡ Some a
 find-first p a xs e = rw e refl
 
-find-next : (p : Admitted → Bool) (a : Admitted) (xs : List Admitted) → p a ≡ false → find p (a ∷ xs) ≡ find p xs
+find-next : (p : Admitted → Bool) (a : Admitted) (xs : List Admitted) → p a ≡ false
+    → find p (a ∷ xs) ≡ find p xs
 find-next p a xs e = rw e refl
 
 -- one of another digest isn't of this branch
-not-same : (d : Bytes) (a b : Branch) → bytes_eq (digest_of a) d ≡ false → digest_of b ≡ d → branch_eq a b ≡ false
-not-same d a b t e = false_from_ne_true (branch_eq a b) (λ h. true≢false (sym ((bytes_eq-Decides (digest_of a) d).1 (ap digest_of ((branch_eq-decides a b).0 h) ∙ e)) ∙ t))
+not-same : (d : Bytes) (a b : Branch) → bytes_eq (digest_of a) d ≡ false → digest_of b ≡ d
+    → branch_eq a b ≡ false
+not-same d a b t e = false_from_ne_true (branch_eq a b)
+    (λ h. true≢false
+    (sym ((bytes_eq-Decides (digest_of a) d).1 (ap digest_of ((branch_eq-decides a b).0 h) ∙ e)) ∙ t))
 
 -- it is the one of this digest
-named-stored : (d : Bytes) (xs : List Admitted) → option_map stored_of (named (find_in d (blocks (map stored_of xs))) xs) ≡ stored_in d (map stored_of xs)
+named-stored : (d : Bytes) (xs : List Admitted)
+    → option_map stored_of (named (find_in d (blocks (map stored_of xs))) xs)
+    ≡ stored_in d (map stored_of xs)
 named-stored d [] = by (bytes_eq (digest_of []) d)
   where
     by : (t : Bool) → option_map stored_of (named (cond t (Some []) None) []) ≡ None
@@ -56,52 +64,79 @@ named-stored d [] = by (bytes_eq (digest_of []) d)
     by false = refl
 named-stored d (a ∷ xs) = by (bytes_eq (digest_of a.branch) d) refl (named-stored d xs)
   where
-    next : (o : Option Branch) → bytes_eq (digest_of a.branch) d ≡ false → find_in d (blocks (map stored_of xs)) ≡ o → option_map stored_of (named o (a ∷ xs)) ≡ option_map stored_of (named o xs)
+    next : (o : Option Branch) → bytes_eq (digest_of a.branch) d ≡ false
+        → find_in d (blocks (map stored_of xs)) ≡ o
+        → option_map stored_of (named o (a ∷ xs)) ≡ option_map stored_of (named o xs)
     next None t e = refl
-    next (Some b) t e = ap (option_map stored_of) (find-next (λ (x : Admitted). branch_eq x.branch b) a xs (not-same d a.branch b t (found-in d (blocks (map stored_of xs)) b e).1))
+    next (Some b) t e = ap (option_map stored_of) (find-next (λ (x : Admitted). branch_eq x.branch b) a xs
+        (not-same d a.branch b t (found-in d (blocks (map stored_of xs)) b e).1))
 
-    by : (t : Bool) → bytes_eq (digest_of a.branch) d ≡ t → option_map stored_of (named (find_in d (blocks (map stored_of xs))) xs) ≡ stored_in d (map stored_of xs)
-        → option_map stored_of (named (cond t (Some a.branch) (find_in d (blocks (map stored_of xs)))) (a ∷ xs)) ≡ cond t (Some (stored_of a)) (stored_in d (map stored_of xs))
-    by true t rest = ap (option_map stored_of) (find-first (λ (x : Admitted). branch_eq x.branch a.branch) a xs ((branch_eq-decides a.branch a.branch).1 refl))
+    by : (t : Bool) → bytes_eq (digest_of a.branch) d ≡ t
+        → option_map stored_of (named (find_in d (blocks (map stored_of xs))) xs)
+        ≡ stored_in d (map stored_of xs)
+        → option_map stored_of
+        (named (cond t (Some a.branch) (find_in d (blocks (map stored_of xs)))) (a ∷ xs))
+        ≡ cond t (Some (stored_of a)) (stored_in d (map stored_of xs))
+    by true t rest = ap (option_map stored_of) (find-first (λ (x : Admitted). branch_eq x.branch a.branch) a
+        xs ((branch_eq-decides a.branch a.branch).1 refl))
     by false t rest = next (find_in d (blocks (map stored_of xs))) t refl ∙ rest
 
 as-named : (o : Option Branch) (c : Chronicle) → as_taken o c ≡ named o (taken c)
 as-named None c = refl
 as-named (Some b) c = refl
 
-taken-stored : (d : Bytes) (c : Chronicle) → option_map stored_of (as_taken (find_block d c) c) ≡ stored_in d (stored c)
+taken-stored : (d : Bytes) (c : Chronicle)
+    → option_map stored_of (as_taken (find_block d c) c) ≡ stored_in d (stored c)
 unfolding find_block tree stored
-taken-stored d c = ap (option_map stored_of) (as-named (find_in d (blocks (map stored_of (taken c)))) c) ∙ named-stored d (taken c)
+taken-stored d c =
+    ap (option_map stored_of) (as-named (find_in d (blocks (map stored_of (taken c)))) c)
+    ∙ named-stored d (taken c)
 
-shown-supplied : (keys : Keys) (to : ℕ) (o : Option Admitted) → shown (supplies (identity_of keys) to o) ≡ supplied keys to (option_map stored_of o)
+shown-supplied : (keys : Keys) (to : ℕ) (o : Option Admitted)
+    → shown (supplies (identity_of keys) to o) ≡ supplied keys to (option_map stored_of o)
 unfolding Rattle.definitions.specs.Sendings.block_frame
 shown-supplied keys to None = refl
 shown-supplied keys to (Some a) = refl
 
 -- ---- the step
 
-fetch-step : (keys : Keys) (c : Chronicle) (s : Kept) (f : GotFetch) → IsStateOf keys c s → IsStep keys c (noted (got_fetch f.sender (find_block f.block c))) s.pace (fetch_change keys s.variables f)
+fetch-step : (keys : Keys) (c : Chronicle) (s : Kept) (f : GotFetch) → IsStateOf keys c s
+    → IsStep keys c (noted (got_fetch f.sender (find_block f.block c))) s.pace
+    (fetch_change keys s.variables f)
 unfolding sendings find_block tree Rattle.replica.proofs.Steps.is_beat raised
 fetch-step keys c s f o =
     let st = got_fetch f.sender (find_block f.block c) in
     record {
-      variables = (λ i. changed_variables (fetch_change keys (o.same i) f) (variables_of keys c)) ∙ sym (variables-calm keys st c refl refl);
+      variables =
+          (λ i. changed_variables (fetch_change keys (o.same i) f) (variables_of keys c))
+          ∙ sym (variables-calm keys st c refl refl);
       sizes = o.sizes;
       pace = paced-still (noted st) c s.pace tt o.pace;
-      out = ap (λ (v : Variables). supplied keys f.sender (stored_in f.block v.stored)) o.same ∙ ap (supplied keys f.sender) (sym (taken-stored f.block c)) ∙ sym (shown-supplied keys f.sender (as_taken (find_block f.block c) c));
+      out =
+          ap (λ (v : Variables). supplied keys f.sender (stored_in f.block v.stored)) o.same
+          ∙ ap (supplied keys f.sender) (sym (taken-stored f.block c))
+          ∙ sym (shown-supplied keys f.sender (as_taken (find_block f.block c) c));
     }
 
 -- a question brings no certificate
-brings-none : (keys : Keys) (c : Chronicle) (to : ℕ) (o : Option Branch) → BringsKnown keys.sizes (noted (got_fetch to o)) c
+brings-none : (keys : Keys) (c : Chronicle) (to : ℕ) (o : Option Branch)
+    → BringsKnown keys.sizes (noted (got_fetch to o)) c
 unfolding raised
 brings-none keys c to o q e = absurd (let k : None ≡ Some q = e in cc)
 
-pub fetch-decided : (keys : Keys) (c : Chronicle) (s : Kept) (f : GotFetch) (result : Result Change Fault) → IfOk result (λ d. d ≡ fetch_change keys s.variables f) → OnErr result (result ≡ Err fault.Memory) → IsStateOf keys c s
+pub fetch-decided : (keys : Keys) (c : Chronicle) (s : Kept) (f : GotFetch) (result : Result Change Fault)
+    → IfOk result (λ d. d ≡ fetch_change keys s.variables f) → OnErr result (result ≡ Err fault.Memory)
+    → IsStateOf keys c s
     → StepsTo keys (fetch_in f.sender f.block) c (answer result) (after result s)
 unfolding ruling conflicts
 fetch-decided keys c s f (Ok d) made memory o =
     let st = got_fetch f.sender (find_block f.block c) in
-    stands keys _ c (noted st) d s refl refl (ruling-sound (identity_of keys) (fetch_in f.sender f.block) c tt o.sound) (brings-none keys c f.sender (find_block f.block c)) (calm (noted st) c s.pending refl o.waits) o
-    (subst (IsStep keys c (noted st) s.pace) (sym made) (fetch-step keys c s f o)) tt (ap (λ (x : Change). collects x.growth) made)
+    stands keys _ c (noted st) d s refl refl
+    (ruling-sound (identity_of keys) (fetch_in f.sender f.block) c tt o.sound)
+    (brings-none keys c f.sender (find_block f.block c)) (calm (noted st) c s.pending refl o.waits) o
+    (subst (IsStep keys c (noted st) s.pace) (sym made) (fetch-step keys c s f o)) tt
+    (ap (λ (x : Change). collects x.growth) made)
 fetch-decided keys c s f (Err n) made memory o =
-    subst (λ (x : Result (List Sent) Fault). StepsTo keys (fetch_in f.sender f.block) c x s) (sym (ap answer memory)) (refused-for-memory keys _ c (noted (got_fetch f.sender (find_block f.block c))) s refl o)
+    subst (λ (x : Result (List Sent) Fault). StepsTo keys (fetch_in f.sender f.block) c x s)
+    (sym (ap answer memory))
+    (refused-for-memory keys _ c (noted (got_fetch f.sender (find_block f.block c))) s refl o)

@@ -49,8 +49,20 @@ first-sound s = record {
 }
 
 -- the state at the start
-pub first : (keys : Keys) (s : Kept) → s.variables ≡ record { chronicle = []; most = MOST_BLOCKS; stored = []; rules = ruled_by []; high = record { block = ref_of []; certificate = record { digest = digest genesis_core; votes = [] } }; leaf = ref_of []; own = None }
-    → s.pace.sizes ≡ keys.sizes → IsPaceOf [] s.pace → s.votes ≡ record { sizes = keys.sizes; kept = [] } → s.pending ≡ [] → IsStateOf keys [] s
+pub first : (keys : Keys) (s : Kept)
+    → s.variables
+    ≡ record {
+      chronicle = [];
+      most = MOST_BLOCKS;
+      stored = [];
+      rules = ruled_by [];
+      high =
+          record { block = ref_of []; certificate = record { digest = digest genesis_core; votes = [] } };
+      leaf = ref_of [];
+      own = None;
+    }
+    → s.pace.sizes ≡ keys.sizes → IsPaceOf [] s.pace → s.votes ≡ record { sizes = keys.sizes; kept = [] }
+    → s.pending ≡ [] → IsStateOf keys [] s
 unfolding qc_high leaf proposed pending stored taken tree
 first keys s e z p v w = record {
   same = e;
@@ -65,6 +77,14 @@ first keys s e z p v w = record {
 }
 
 -- with nothing executed
-pub first-whole : (keys : Keys) (s : Kept) (h : History) → IsStateOf keys [] s → h ≡ [] → IsWholeOf keys (record { chronicle = []; standing = running }) s h
+pub first-whole : (keys : Keys) (s : Kept) (h : History) → IsStateOf keys [] s → h ≡ []
+    → IsWholeOf keys (record { chronicle = []; standing = running }) s h
 unfolding held_history held_pending history history_of executed decided highest decided_by tree stored taken
-first-whole keys s h is e = record { state = subst (λ (l : List Command). IsStateOf keys [] (record s { pending = l })) is.waits is; waits = is.waits; history = e; fit = λ x m. subst (AllKnown (IsCore keys.sizes)) (sym (only-genesis x m)) tt; stored = λ a m. absurd m }
+first-whole keys s h is e =
+    record {
+      state = subst (λ (l : List Command). IsStateOf keys [] (record s { pending = l })) is.waits is;
+      waits = is.waits;
+      history = e;
+      fit = λ x m. subst (AllKnown (IsCore keys.sizes)) (sym (only-genesis x m)) tt;
+      stored = λ a m. absurd m;
+    }

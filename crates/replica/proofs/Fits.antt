@@ -7,7 +7,8 @@ use Rattle.ids.specs.declared.fault.Fault.{Fault}
 use Rattle.ids.specs.declared.fault.Fault.TheVariants as fault
 use Rattle.definitions.specs.Branches.{Branch}
 use Rattle.definitions.specs.Keyrings.{Keys}
-use Rattle.definitions.specs.Trees.{blocks, find_in, Placing, Placing.stands, Placing.grows, Placing.lacks_parent, Placing.unfit, placing}
+use Rattle.definitions.specs.Trees.{blocks, find_in, Placing, Placing.stands, Placing.grows}
+use Rattle.definitions.specs.Trees.{Placing.lacks_parent, Placing.unfit, placing}
 use Rattle.replica.specs.declared.change.Change.{Change}
 use Rattle.replica.specs.declared.stored.GotNewView.{GotNewView}
 use Rattle.replica.specs.declared.stored.GotFetch.{GotFetch}
@@ -34,23 +35,28 @@ beat-fits keys s =
     let v : Variables = s.variables in
     let P : Change → Type 0 = λ d. Fits s d in
     cond_both (leader keys.sizes s.pace.view == keys.party) _ (noting v Beat []) P
-    (λ l. cond_both (is_some (find_in v.leaf.digest (blocks v.stored))) (proposing keys s) (noting v Beat (own_sent keys s.pace.view v.own)) P
+    (λ l. cond_both (is_some (find_in v.leaf.digest (blocks v.stored))) (proposing keys s)
+    (noting v Beat (own_sent keys s.pace.view v.own)) P
     (λ k. record { growth = tt; step = refl }) (λ k. record { growth = tt; step = refl }))
     (λ l. record { growth = tt; step = refl })
 
-pub fits-beat : (keys : Keys) (s : Kept) (result : Result Change Fault) → IfOk result (λ d. d ≡ beat_change keys s) → IfOk result (λ d. Fits s d)
+pub fits-beat : (keys : Keys) (s : Kept) (result : Result Change Fault)
+    → IfOk result (λ d. d ≡ beat_change keys s) → IfOk result (λ d. Fits s d)
 fits-beat keys s (Ok d) e = subst (Fits s) (sym e) (beat-fits keys s)
 fits-beat keys s (Err n) e = tt
 
-pub fits-timeout : (keys : Keys) (s : Kept) (result : Result Change Fault) → IfOk result (IsTimeout keys s) → IfOk result (λ d. Fits s d)
+pub fits-timeout : (keys : Keys) (s : Kept) (result : Result Change Fault) → IfOk result (IsTimeout keys s)
+    → IfOk result (λ d. Fits s d)
 fits-timeout keys s (Ok d) t = subst (Fits s) (sym t.change) (record { growth = tt; step = refl })
 fits-timeout keys s (Err n) t = tt
 
-pub fits-fetch : (keys : Keys) (s : Kept) (f : GotFetch) (result : Result Change Fault) → IfOk result (λ d. d ≡ fetch_change keys s.variables f) → IfOk result (λ d. Fits s d)
+pub fits-fetch : (keys : Keys) (s : Kept) (f : GotFetch) (result : Result Change Fault)
+    → IfOk result (λ d. d ≡ fetch_change keys s.variables f) → IfOk result (λ d. Fits s d)
 fits-fetch keys s f (Ok d) e = subst (Fits s) (sym e) (record { growth = tt; step = refl })
 fits-fetch keys s f (Err n) e = tt
 
-pub fits-new-view : (keys : Keys) (s : Kept) (n : GotNewView) (result : Result Change Fault) → IsNewView keys s n result → IfOk result (λ d. Fits s d)
+pub fits-new-view : (keys : Keys) (s : Kept) (n : GotNewView) (result : Result Change Fault)
+    → IsNewView keys s n result → IfOk result (λ d. Fits s d)
 fits-new-view keys s n result h = by result (find_in n.certificate.digest (blocks s.variables.stored)) h
   where
     by : (r : Result Change Fault) (o : Option Branch) → IsNewViewAt keys s n r o → IfOk r (λ d. Fits s d)
@@ -58,30 +64,42 @@ fits-new-view keys s n result h = by result (find_in n.certificate.digest (block
     by (Ok d) (Some b) h = subst (Fits s) (sym h.change) (record { growth = tt; step = refl })
     by (Err n) o h = tt
 
-pub fits-block : (keys : Keys) (s : Kept) (o : Offered) (result : Result Change Fault) → IsDecided keys s o result → IfOk result (λ d. Fits s d)
-fits-block keys s o result h = by result (placing s.variables.most o.core o.certificate (blocks s.variables.stored)) h
+pub fits-block : (keys : Keys) (s : Kept) (o : Offered) (result : Result Change Fault)
+    → IsDecided keys s o result → IfOk result (λ d. Fits s d)
+fits-block keys s o result h =
+    by result (placing s.variables.most o.core o.certificate (blocks s.variables.stored)) h
   where
     by : (r : Result Change Fault) (p : Placing) → IsDecidedAt keys s o r p → IfOk r (λ d. Fits s d)
     by (Ok d) (stands b) h = subst (Fits s) (sym h) (record { growth = tt; step = refl })
-    by (Ok d) (grows b) h = subst (Fits s) (sym h.change) (record { growth = h.its_node.may_stand; step = refl })
+    by (Ok d) (grows b) h =
+        subst (Fits s) (sym h.change) (record { growth = h.its_node.may_stand; step = refl })
     by (Ok d) lacks_parent h = absurd (let k : Ok d ≡ Err fault.UnknownParent = h in cc)
     by (Ok d) (unfit n) h = absurd (let k : Ok d ≡ Err n = h in cc)
     by (Err n) p h = tt
 
-counted-fits : (s : Kept) (block : BlockRef) (vote : Vote) (a : Added) → IsVote s.votes.sizes vote → Fits s (vote_counted s block vote a)
+counted-fits : (s : Kept) (block : BlockRef) (vote : Vote) (a : Added) → IsVote s.votes.sizes vote
+    → Fits s (vote_counted s block vote a)
 counted-fits s block vote First h = record { growth = h; step = refl }
 counted-fits s block vote Doubled h = record { growth = tt; step = refl }
 counted-fits s block vote Complete h = record { growth = tt; step = refl }
 
-vote-fits : (s : Kept) (block : BlockRef) (vote : Vote) → IsVote s.votes.sizes vote → Fits s (vote_change s block vote)
+vote-fits : (s : Kept) (block : BlockRef) (vote : Vote) → IsVote s.votes.sizes vote
+    → Fits s (vote_change s block vote)
 vote-fits s block vote h =
-    cond_both (nat_lt s.variables.high.block.height block.height) (vote_counted s block vote (judged (quorum s.votes.sizes) vote.voter (votes_for block.digest s.votes.kept))) (vote_noted s block vote) (λ d. Fits s d)
-    (λ t. counted-fits s block vote (judged (quorum s.votes.sizes) vote.voter (votes_for block.digest s.votes.kept)) h) (λ t. record { growth = tt; step = refl })
+    cond_both (nat_lt s.variables.high.block.height block.height)
+    (vote_counted s block vote
+    (judged (quorum s.votes.sizes) vote.voter (votes_for block.digest s.votes.kept)))
+    (vote_noted s block vote) (λ d. Fits s d)
+    (λ t. counted-fits s block vote
+    (judged (quorum s.votes.sizes) vote.voter (votes_for block.digest s.votes.kept)) h)
+    (λ t. record { growth = tt; step = refl })
 
-pub fits-vote : (s : Kept) (d : Bytes) (vote : Vote) (result : Result Change Fault) → IsVote s.votes.sizes vote → IsVoteDecided s d vote result → IfOk result (λ x. Fits s x)
+pub fits-vote : (s : Kept) (d : Bytes) (vote : Vote) (result : Result Change Fault)
+    → IsVote s.votes.sizes vote → IsVoteDecided s d vote result → IfOk result (λ x. Fits s x)
 fits-vote s d vote result v h = by result (find_in d (blocks s.variables.stored)) h
   where
     by : (r : Result Change Fault) (o : Option Branch) → IsVoteAt s d vote r o → IfOk r (λ x. Fits s x)
     by (Ok x) None h = absurd (let k : Ok x ≡ Err fault.UnknownParent = h in cc)
-    by (Ok x) (Some b) h = subst (Fits s) (sym h) (vote-fits s (record { digest = d; height = length b }) vote v)
+    by (Ok x) (Some b) h =
+        subst (Fits s) (sym h) (vote-fits s (record { digest = d; height = length b }) vote v)
     by (Err n) o h = tt

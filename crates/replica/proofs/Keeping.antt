@@ -1,6 +1,8 @@
--- Each block that a replica takes in is stored under its own digest, with a certificate of the block that it justifies.
+-- Each block that a replica takes in is stored under its own digest, with a certificate of the block that
+-- it justifies.
 use Rattle.ids.specs.declared.limits.TheConstants.{MOST_BLOCKS, MOST_PENDING}
-use Rattle.std.proofs.Common.{ℕ, ◌≡◌, ◌&&◌, not, true≢false, ◌∷◌, length, refl, sym, ap, ◌∙◌, subst, inl, inr, nat_lt, Option, Some, None}
+use Rattle.std.proofs.Common.{ℕ, ◌≡◌, ◌&&◌, not, true≢false, ◌∷◌, length, refl, sym, ap, ◌∙◌, subst, inl}
+use Rattle.std.proofs.Common.{inr, nat_lt, Option, Some, None}
 use Rattle.std.specs.Bool.{⊤}
 use Rattle.std.specs.List.{list_any}
 use Rattle.std.proofs.lemmas.Bool.{cond_both}
@@ -8,11 +10,16 @@ use Rattle.definitions.specs.Bytes.{Bytes}
 use Rattle.definitions.specs.Frames.{Command, Core, Certificate}
 use Rattle.definitions.specs.Branches.{Branch, just1}
 use Rattle.definitions.specs.Digests.{digest, digest_of, core_of}
-use Rattle.definitions.specs.Trees.{Placing, Placing.stands, Placing.grows, Placing.lacks_parent, Placing.unfit, placing}
+use Rattle.definitions.specs.Trees.{Placing, Placing.stands, Placing.grows, Placing.lacks_parent}
+use Rattle.definitions.specs.Trees.{Placing.unfit, placing}
 use Rattle.definitions.specs.Checks.{Identity, Findings}
-use Rattle.definitions.specs.Chronicles.{Admitted, Step, Step.took_block, Step.noted, Note, Chronicle, history, tree, stored, taken}
+use Rattle.definitions.specs.Chronicles.{Admitted, Step, Step.took_block, Step.noted, Note, Chronicle}
+use Rattle.definitions.specs.Chronicles.{history, tree, stored, taken}
 use Rattle.definitions.specs.States.{is_due, is_same_request, pending}
-use Rattle.definitions.specs.Rulings.{Input, Input.proposal_in, Input.block_in, Input.vote_in, Input.new_view_in, Input.request_in, Input.fetch_in, Input.timeout_in, Input.beat_in, Ruling.due, admitted, on_placing, on_block, on_request, with_block, ruling}
+use Rattle.definitions.specs.Rulings.{Input, Input.proposal_in, Input.block_in, Input.vote_in}
+use Rattle.definitions.specs.Rulings.{Input.new_view_in, Input.request_in, Input.fetch_in, Input.timeout_in}
+use Rattle.definitions.specs.Rulings.{Input.beat_in, Ruling.due, admitted, on_placing, on_block, on_request}
+use Rattle.definitions.specs.Rulings.{with_block, ruling}
 use Rattle.definitions.proofs.Trees.{found-in, core-known, digest-core, IsPlaced, placed}
 use Rattle.definitions.proofs.Chronicles.{tree-grows}
 use Rattle.linear_law.proofs.Inputs.{AllStanding}
@@ -24,7 +31,8 @@ abbrev Stores : Chronicle → Step → Type 0
 Stores c (took_block a) = IsStored (took_block a ∷ c) a
 Stores c (noted n) = ⊤
 
-placed-stored : (self : Identity) (w : Option ℕ) (sender : ℕ) (core : Core) (q : Certificate) (f : Findings) (c : Chronicle) (p : Placing)
+placed-stored : (self : Identity) (w : Option ℕ) (sender : ℕ) (core : Core) (q : Certificate) (f : Findings)
+    (c : Chronicle) (p : Placing)
     → IsPlaced MOST_BLOCKS core q (tree c) p → AllStanding (Stores c) (on_placing self w sender core q f c p)
 unfolding on_placing admitted tree stored taken
 placed-stored self w sender core q f c (stands b) h =
@@ -41,10 +49,12 @@ placed-stored self w sender core q f c (grows b) (parent, g) =
 placed-stored self w sender core q f c lacks_parent h = tt
 placed-stored self w sender core q f c (unfit n) h = tt
 
-block-stored : (self : Identity) (w : Option ℕ) (sender : ℕ) (core : Core) (q : Certificate) (f : Findings) (c : Chronicle)
+block-stored : (self : Identity) (w : Option ℕ) (sender : ℕ) (core : Core) (q : Certificate) (f : Findings)
+    (c : Chronicle)
     → AllStanding (Stores c) (on_block self w sender core q f c)
 block-stored self w sender core q f c =
-    placed-stored self w sender core q f c (placing MOST_BLOCKS core q (tree c)) (placed MOST_BLOCKS core q (tree c))
+    placed-stored self w sender core q f c (placing MOST_BLOCKS core q (tree c))
+    (placed MOST_BLOCKS core q (tree c))
 
 noted-stored : (c : Chronicle) (o : Option Branch) (sender : ℕ) (d : Bytes) (note : Branch → Note)
     → AllStanding (Stores c) (with_block o sender d (λ x. due (noted (note x))))
@@ -54,7 +64,9 @@ noted-stored c (Some x) sender d note = tt
 request-stored : (r : Command) (c : Chronicle) → AllStanding (Stores c) (on_request r c)
 unfolding on_request
 request-stored r c =
-    cond_both (is_due (history c) r && (not (list_any (is_same_request r) (pending c)) && not (nat_lt (length (pending c)) MOST_PENDING))) _ _
+    cond_both (is_due (history c) r
+    && (not (list_any (is_same_request r) (pending c)) && not
+    (nat_lt (length (pending c)) MOST_PENDING))) _ _
     (AllStanding (Stores c)) (λ e. tt) (λ e. tt)
 
 -- what an input comes to stores so
@@ -71,11 +83,17 @@ ruling-stored self beat_in c = tt
 
 -- what was stored so stays so
 still-stored : (st : Step) (c : Chronicle) (a : Admitted) → IsStored c a → IsStored (st ∷ c) a
-still-stored st c a s = record { stands = tree-grows st c a.branch s.stands; named = s.named; justified = s.justified; own = s.own }
+still-stored st c a s = record {
+  stands = tree-grows st c a.branch s.stands;
+  named = s.named;
+  justified = s.justified;
+  own = s.own;
+}
 
 step-stored : (st : Step) (c : Chronicle) → Stores c st → AreStored c → AreStored (st ∷ c)
 step-stored st c new old a (inl e) = subst (λ (x : Step). IsStored (x ∷ c) a) e (subst (Stores c) (sym e) new)
 step-stored st c new old a (inr m) = still-stored st c a (old a m)
 
-pub stores-on : (self : Identity) (i : Input) (st : Step) (c : Chronicle) → ruling self i c ≡ due st → AreStored c → AreStored (st ∷ c)
+pub stores-on : (self : Identity) (i : Input) (st : Step) (c : Chronicle) → ruling self i c ≡ due st
+    → AreStored c → AreStored (st ∷ c)
 stores-on self i st c e old = step-stored st c (subst (AllStanding (Stores c)) e (ruling-stored self i c)) old

@@ -8,12 +8,14 @@ use Rattle.replica.specs.declared.change.Growth.TheVariants.{Nothing, Block, Vot
 use Rattle.replica.specs.Replay.{is_new, step_of, before, replay}
 use Rattle.replica.specs.Changes.{adds, grown}
 
-pub replay-push : (xs : List StoredStep) (s : StoredStep) (stored : List Stored) → replay (reverse (xs ++ s ∷ [])) stored ≡ step_of s stored ∷ replay (reverse xs) (before s stored)
+pub replay-push : (xs : List StoredStep) (s : StoredStep) (stored : List Stored)
+    → replay (reverse (xs ++ s ∷ [])) stored ≡ step_of s stored ∷ replay (reverse xs) (before s stored)
 unfolding replay
 replay-push xs s stored = rw (reverse-append xs (s ∷ [])) refl
 
 -- before a step stands what it was added to
-pub before-grown : (s : StoredStep) (g : Growth) (stored : List Stored) → is_new s ≡ adds g → before s (grown g stored) ≡ stored
+pub before-grown : (s : StoredStep) (g : Growth) (stored : List Stored) → is_new s ≡ adds g
+    → before s (grown g stored) ≡ stored
 before-grown s Nothing stored e = rw e refl
 before-grown s (Block n) stored e = rw e refl
 before-grown s (Vote b v) stored e = rw e refl

@@ -1,14 +1,18 @@
 -- What steps leave as it was.
 use Rattle.ids.specs.declared.limits.TheConstants.{MOST_BLOCKS}
-use Rattle.std.proofs.Common.{◌≡◌, ◌<◌, ◌≤◌, Bool, true, false, true≢false, List, ◌∷◌, filter, length, cond, refl, sym, ap, ◌∙◌, arith, nat_lt, Option, Some, None}
+use Rattle.std.proofs.Common.{◌≡◌, ◌<◌, ◌≤◌, Bool, true, false, true≢false, List, ◌∷◌, filter, length, cond}
+use Rattle.std.proofs.Common.{refl, sym, ap, ◌∙◌, arith, nat_lt, Option, Some, None}
 use Rattle.std.specs.Prelude.{option_map}
 use Rattle.std.proofs.lemmas.Bool.{lt-ltb, le-ltb, ltb-true, ltb-false}
 use Rattle.ids.specs.Sizes.{Sizes}
 use Rattle.definitions.specs.Branches.{Branch}
 use Rattle.definitions.specs.Keyrings.{Keys}
 use Rattle.definitions.specs.Checks.{Identity, identity_of}
-use Rattle.definitions.specs.Chronicles.{Note, Step, Step.took_block, Step.noted, Note.got_vote, Note.got_new_view, Note.got_request, Note.got_fetch, Note.timed_out, Note.beat, Chronicle, taken, stored, history}
-use Rattle.definitions.specs.States.{Justified, raised, higher, qc_high, leaf, proposed, is_due, pending, with_request}
+use Rattle.definitions.specs.Chronicles.{Note, Step, Step.took_block, Step.noted, Note.got_vote}
+use Rattle.definitions.specs.Chronicles.{Note.got_new_view, Note.got_request, Note.got_fetch}
+use Rattle.definitions.specs.Chronicles.{Note.timed_out, Note.beat, Chronicle, taken, stored, history}
+use Rattle.definitions.specs.States.{Justified, raised, higher, qc_high, leaf, proposed, is_due, pending}
+use Rattle.definitions.specs.States.{with_request}
 use Rattle.definitions.specs.Frames.{Command}
 use Rattle.replica_rules.specs.Ruled.{ref_of}
 use Rattle.replica_rules.proofs.Takes.{ruled-noted}
@@ -23,30 +27,43 @@ use Rattle.replica.proofs.Steps.{is_beat, leaf-other}
 -- ---- the highest certificate
 
 -- what it was, where none was brought or none that is higher
-pub qc-same : (s : Sizes) (st : Step) (c : Chronicle) → raised s st c ≡ None → qc_high s (st ∷ c) ≡ qc_high s c
+pub qc-same : (s : Sizes) (st : Step) (c : Chronicle) → raised s st c ≡ None
+    → qc_high s (st ∷ c) ≡ qc_high s c
 unfolding qc_high
 qc-same s st c e = ap (λ (o : Option Justified). higher o (qc_high s c)) e
 
-pub qc-lower : (s : Sizes) (st : Step) (c : Chronicle) (q : Justified) → raised s st c ≡ Some q → length q.block ≤ length (qc_high s c).block → qc_high s (st ∷ c) ≡ qc_high s c
+pub qc-lower : (s : Sizes) (st : Step) (c : Chronicle) (q : Justified) → raised s st c ≡ Some q
+    → length q.block ≤ length (qc_high s c).block → qc_high s (st ∷ c) ≡ qc_high s c
 unfolding qc_high
-qc-lower s st c q e le = ap (λ (o : Option Justified). higher o (qc_high s c)) e ∙ (rw (le-ltb (length (qc_high s c).block) (length q.block) le) refl)
+qc-lower s st c q e le =
+    ap (λ (o : Option Justified). higher o (qc_high s c)) e
+    ∙ (rw (le-ltb (length (qc_high s c).block) (length q.block) le) refl)
 
-pub qc-higher : (s : Sizes) (st : Step) (c : Chronicle) (q : Justified) → raised s st c ≡ Some q → length (qc_high s c).block < length q.block → qc_high s (st ∷ c) ≡ q
+pub qc-higher : (s : Sizes) (st : Step) (c : Chronicle) (q : Justified) → raised s st c ≡ Some q
+    → length (qc_high s c).block < length q.block → qc_high s (st ∷ c) ≡ q
 unfolding qc_high
-qc-higher s st c q e lt = ap (λ (o : Option Justified). higher o (qc_high s c)) e ∙ (rw (lt-ltb (length (qc_high s c).block) (length q.block) lt) refl)
+qc-higher s st c q e lt =
+    ap (λ (o : Option Justified). higher o (qc_high s c)) e
+    ∙ (rw (lt-ltb (length (qc_high s c).block) (length q.block) lt) refl)
 
 -- ---- the leaf
 
-pub leaf-same : (self : Identity) (st : Step) (c : Chronicle) → is_beat st ≡ false → qc_high self.sizes (st ∷ c) ≡ qc_high self.sizes c → leaf self (st ∷ c) ≡ leaf self c
+pub leaf-same : (self : Identity) (st : Step) (c : Chronicle) → is_beat st ≡ false
+    → qc_high self.sizes (st ∷ c) ≡ qc_high self.sizes c → leaf self (st ∷ c) ≡ leaf self c
 leaf-same self st c n e =
     leaf-other self st c n
-    ∙ ap (λ (q : Justified). cond (nat_lt (length (qc_high self.sizes c).block) (length q.block)) q.block (leaf self c)) e
-    ∙ (rw (le-ltb (length (qc_high self.sizes c).block) (length (qc_high self.sizes c).block) (omega arith)) refl)
+    ∙ ap (λ (q : Justified). cond (nat_lt (length (qc_high self.sizes c).block) (length q.block)) q.block
+    (leaf self c)) e
+    ∙ (rw (le-ltb (length (qc_high self.sizes c).block) (length (qc_high self.sizes c).block) (omega arith))
+    refl)
 
-pub leaf-raised : (self : Identity) (st : Step) (c : Chronicle) (q : Justified) → is_beat st ≡ false → qc_high self.sizes (st ∷ c) ≡ q → length (qc_high self.sizes c).block < length q.block → leaf self (st ∷ c) ≡ q.block
+pub leaf-raised : (self : Identity) (st : Step) (c : Chronicle) (q : Justified) → is_beat st ≡ false
+    → qc_high self.sizes (st ∷ c) ≡ q → length (qc_high self.sizes c).block < length q.block
+    → leaf self (st ∷ c) ≡ q.block
 leaf-raised self st c q n e h =
     leaf-other self st c n
-    ∙ ap (λ (q : Justified). cond (nat_lt (length (qc_high self.sizes c).block) (length q.block)) q.block (leaf self c)) e
+    ∙ ap (λ (q : Justified). cond (nat_lt (length (qc_high self.sizes c).block) (length q.block)) q.block
+    (leaf self c)) e
     ∙ (rw (lt-ltb (length (qc_high self.sizes c).block) (length q.block) h) refl)
 
 -- ---- a certificate that is brought
@@ -59,27 +76,36 @@ pub record AreHigh (keys : Keys) (st : Step) (c : Chronicle) (r : Option High) :
   pub high : unwrap_or r (high_of (qc_high keys.sizes c)) ≡ high_of (qc_high keys.sizes (st ∷ c))
   pub its_leaf : leaf_after r (ref_of (leaf (identity_of keys) c)) ≡ ref_of (leaf (identity_of keys) (st ∷ c))
 
-pub unraised : (keys : Keys) (st : Step) (c : Chronicle) → is_beat st ≡ false → qc_high keys.sizes (st ∷ c) ≡ qc_high keys.sizes c → AreHigh keys st c None
-unraised keys st c n e = record { high = ap high_of (sym e); its_leaf = ap ref_of (sym (leaf-same (identity_of keys) st c n e)) }
+pub unraised : (keys : Keys) (st : Step) (c : Chronicle) → is_beat st ≡ false
+    → qc_high keys.sizes (st ∷ c) ≡ qc_high keys.sizes c → AreHigh keys st c None
+unraised keys st c n e =
+    record { high = ap high_of (sym e); its_leaf = ap ref_of (sym (leaf-same (identity_of keys) st c n e)) }
 
 -- it is raised where its block is higher
-pub raise-is : (keys : Keys) (st : Step) (c : Chronicle) (q : Justified) (block : BlockRef) → is_beat st ≡ false → raised keys.sizes st c ≡ Some q → block ≡ ref_of q.block
-    → AreHigh keys st c (raise_of (record { block = block; certificate = q.certificate }) (high_of (qc_high keys.sizes c)))
+pub raise-is : (keys : Keys) (st : Step) (c : Chronicle) (q : Justified) (block : BlockRef)
+    → is_beat st ≡ false → raised keys.sizes st c ≡ Some q → block ≡ ref_of q.block
+    → AreHigh keys st c
+    (raise_of (record { block = block; certificate = q.certificate }) (high_of (qc_high keys.sizes c)))
 raise-is keys st c q block n e b = by (nat_lt (length (qc_high keys.sizes c).block) block.height) refl
   where
     height : block.height ≡ length q.block
     height = ap (λ (x : BlockRef). x.height) b
 
-    by : (t : Bool) → nat_lt (length (qc_high keys.sizes c).block) block.height ≡ t → AreHigh keys st c (cond t (Some (record { block = block; certificate = q.certificate })) None)
+    by : (t : Bool) → nat_lt (length (qc_high keys.sizes c).block) block.height ≡ t
+        → AreHigh keys st c (cond t (Some (record { block = block; certificate = q.certificate })) None)
     by true t =
-        let lt : length (qc_high keys.sizes c).block < length q.block = (let k = ltb-true (length (qc_high keys.sizes c).block) block.height t in omega (arith, k, height)) in
+        let lt : length (qc_high keys.sizes c).block < length q.block =
+        (let k =
+        ltb-true (length (qc_high keys.sizes c).block) block.height t in omega (arith, k, height)) in
         let h = qc-higher keys.sizes st c q e lt in
         record {
           high = (λ i. record { block = b i; certificate = q.certificate }) ∙ ap high_of (sym h);
           its_leaf = b ∙ ap ref_of (sym (leaf-raised (identity_of keys) st c q n h lt));
         }
     by false t =
-        let le : length q.block ≤ length (qc_high keys.sizes c).block = (let k = ltb-false (length (qc_high keys.sizes c).block) block.height t in omega (arith, k, height)) in
+        let le : length q.block ≤ length (qc_high keys.sizes c).block =
+        (let k =
+        ltb-false (length (qc_high keys.sizes c).block) block.height t in omega (arith, k, height)) in
         unraised keys st c n (qc-lower keys.sizes st c q e le)
 
 -- ---- the rest
@@ -88,7 +114,8 @@ pub stored-noted : (n : Note) (c : Chronicle) → stored (noted n ∷ c) ≡ sto
 unfolding stored taken
 stored-noted n c = refl
 
-pub proposed-same : (self : Identity) (st : Step) (c : Chronicle) → is_beat st ≡ false → proposed self (st ∷ c) ≡ proposed self c
+pub proposed-same : (self : Identity) (st : Step) (c : Chronicle) → is_beat st ≡ false
+    → proposed self (st ∷ c) ≡ proposed self c
 unfolding proposed is_beat
 proposed-same self (took_block a) c e = refl
 proposed-same self (noted (got_vote voter v b)) c e = refl
@@ -99,8 +126,11 @@ proposed-same self (noted timed_out) c e = refl
 proposed-same self (noted beat) c e = absurd (true≢false e)
 
 -- the variables after a note that is no beat, by highest certificate and leaf
-pub variables-noted : (keys : Keys) (n : Note) (c : Chronicle) (h : Justified) (b : Branch) → is_beat (noted n) ≡ false → qc_high keys.sizes (noted n ∷ c) ≡ h → leaf (identity_of keys) (noted n ∷ c) ≡ b
-    → variables_of keys (noted n ∷ c) ≡ record (variables_of keys c) { chronicle = noted n ∷ c; high = high_of h; leaf = ref_of b }
+pub variables-noted : (keys : Keys) (n : Note) (c : Chronicle) (h : Justified) (b : Branch)
+    → is_beat (noted n) ≡ false → qc_high keys.sizes (noted n ∷ c) ≡ h
+    → leaf (identity_of keys) (noted n ∷ c) ≡ b
+    → variables_of keys (noted n ∷ c)
+    ≡ record (variables_of keys c) { chronicle = noted n ∷ c; high = high_of h; leaf = ref_of b }
 variables-noted keys n c h b e eh el = λ i. record {
   chronicle = noted n ∷ c;
   most = MOST_BLOCKS;
@@ -112,11 +142,15 @@ variables-noted keys n c h b e eh el = λ i. record {
 }
 
 -- where it brings no certificate
-pub variables-calm : (keys : Keys) (n : Note) (c : Chronicle) → is_beat (noted n) ≡ false → raised keys.sizes (noted n) c ≡ None → variables_of keys (noted n ∷ c) ≡ record (variables_of keys c) { chronicle = noted n ∷ c }
+pub variables-calm : (keys : Keys) (n : Note) (c : Chronicle) → is_beat (noted n) ≡ false
+    → raised keys.sizes (noted n) c ≡ None
+    → variables_of keys (noted n ∷ c) ≡ record (variables_of keys c) { chronicle = noted n ∷ c }
 variables-calm keys n c e r =
     let q = qc-same keys.sizes (noted n) c r in
-    variables-noted keys n c (qc_high keys.sizes c) (leaf (identity_of keys) c) e q (leaf-same (identity_of keys) (noted n) c e q)
+    variables-noted keys n c (qc_high keys.sizes c) (leaf (identity_of keys) c) e q
+    (leaf-same (identity_of keys) (noted n) c e q)
 
 -- the requests that wait, where none came
-pub calm : (st : Step) (c : Chronicle) (waits : List Command) → with_request st (pending c) ≡ pending c → waits ≡ pending c → waits ≡ asked st c
+pub calm : (st : Step) (c : Chronicle) (waits : List Command) → with_request st (pending c) ≡ pending c
+    → waits ≡ pending c → waits ≡ asked st c
 calm st c waits e w = w ∙ sym (ap (filter (is_due (history c))) e ∙ pending-due c)

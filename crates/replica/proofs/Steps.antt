@@ -2,7 +2,9 @@
 use Rattle.ids.specs.declared.limits.TheConstants.{MOST_BLOCKS}
 use Rattle.ids.specs.declared.fault.Fault.{Fault}
 use Rattle.ids.specs.declared.fault.Fault.TheVariants as fault
-use Rattle.std.proofs.Common.{ℕ, suc, ◌≡◌, ◌≤◌, ◌+◌, ◌&&◌, Bool, false, true, true≢false, List, [], ◌∷◌, length, cond, refl, sym, ap, ◌∙◌, subst, arith, nat_lt, Option, Some, None, Result, Ok, Err, IfOk, OnOk, OnErr}
+use Rattle.std.proofs.Common.{ℕ, suc, ◌≡◌, ◌≤◌, ◌+◌, ◌&&◌, Bool, false, true, true≢false, List, [], ◌∷◌}
+use Rattle.std.proofs.Common.{length, cond, refl, sym, ap, ◌∙◌, subst, arith, nat_lt, Option, Some, None}
+use Rattle.std.proofs.Common.{Result, Ok, Err, IfOk, OnOk, OnErr}
 use Rattle.std.proofs.lemmas.Bool.{cond_both}
 use Rattle.definitions.specs.Lists.{Among}
 use Rattle.definitions.specs.Bytes.{Bytes}
@@ -10,13 +12,17 @@ use Rattle.ids.specs.Sizes.{Sizes}
 use Rattle.definitions.specs.Branches.{Branch}
 use Rattle.definitions.specs.Keyrings.{Keys}
 use Rattle.definitions.specs.Checks.{Identity, identity_of}
-use Rattle.definitions.specs.Chronicles.{Step, Step.took_block, Step.noted, Note.got_vote, Note.got_new_view, Note.got_request, Note.got_fetch, Note.timed_out, Note.beat, Chronicle, tree, IsSound}
-use Rattle.definitions.specs.States.{Justified, raised, higher, qc_high, leaf, child, or_else, is_known, leads}
+use Rattle.definitions.specs.Chronicles.{Step, Step.took_block, Step.noted, Note.got_vote}
+use Rattle.definitions.specs.Chronicles.{Note.got_new_view, Note.got_request, Note.got_fetch}
+use Rattle.definitions.specs.Chronicles.{Note.timed_out, Note.beat, Chronicle, tree, IsSound}
+use Rattle.definitions.specs.States.{Justified, raised, higher, qc_high, leaf, child, or_else, is_known}
+use Rattle.definitions.specs.States.{leads}
 use Rattle.definitions.specs.Frames.{Command}
 use Rattle.definitions.specs.Digests.{digest_of}
 use Rattle.definitions.specs.Rulings.{Ruling, Ruling.due, Ruling.missing, conflicts}
 use Rattle.definitions.specs.Sendings.{Sending, sendings}
-use Rattle.definitions.specs.Replicas.{ample, refused_at_once, running, stopped_at, Replica, Reaction, sends_out, fails, on_step, on_ruling}
+use Rattle.definitions.specs.Replicas.{ample, refused_at_once, running, stopped_at, Replica, Reaction}
+use Rattle.definitions.specs.Replicas.{sends_out, fails, on_step, on_ruling}
 use Rattle.definitions.proofs.Chronicles.{tree-grows}
 use Rattle.std.specs.Option.{unwrap_or}
 use Rattle.definitions.specs.Trees.{IsTree}
@@ -30,7 +36,8 @@ use Rattle.replica.specs.declared.change.Growth.TheVariants.{Nothing, Block, Vot
 use Rattle.replica.specs.declared.change.Change.{Change}
 use Rattle.replica.specs.Steps.{Sent, bytes_of, shown, Shows}
 use Rattle.replica.specs.Kept.{Variables, Kept, high_of, IsStateOf}
-use Rattle.replica.specs.Changes.{asked, pended, collected, left_above, votes_after, changed, changed_variables, IsStep}
+use Rattle.replica.specs.Changes.{asked, pended, collected, left_above, votes_after, changed}
+use Rattle.replica.specs.Changes.{changed_variables, IsStep}
 use Rattle.replica.specs.StepsTo.{IsRefused, Follows}
 
 -- ---- the highest certificate and the leaf
@@ -39,7 +46,8 @@ use Rattle.replica.specs.StepsTo.{IsRefused, Follows}
 abbrev pub BringsKnown : Sizes → Step → Chronicle → Type 0
 BringsKnown s st c = (q : Justified) → raised s st c ≡ Some q → Among q.block (tree (st ∷ c))
 
-pub certified-step : (s : Sizes) (st : Step) (c : Chronicle) → Among (qc_high s c).block (tree c) → BringsKnown s st c → Among (qc_high s (st ∷ c)).block (tree (st ∷ c))
+pub certified-step : (s : Sizes) (st : Step) (c : Chronicle) → Among (qc_high s c).block (tree c)
+    → BringsKnown s st c → Among (qc_high s (st ∷ c)).block (tree (st ∷ c))
 unfolding qc_high
 certified-step s st c m h = go (raised s st c) refl
   where
@@ -48,16 +56,19 @@ certified-step s st c m h = go (raised s st c) refl
 
     go : (o : Option Justified) → raised s st c ≡ o → P (higher o (qc_high s c))
     go None e = tree-grows st c (qc_high s c).block m
-    go (Some q) e = cond_both (nat_lt (length (qc_high s c).block) (length q.block)) q (qc_high s c) P (λ t. h q e) (λ t. tree-grows st c (qc_high s c).block m)
+    go (Some q) e = cond_both (nat_lt (length (qc_high s c).block) (length q.block)) q (qc_high s c) P
+        (λ t. h q e) (λ t. tree-grows st c (qc_high s c).block m)
 
 -- a block of the tree isn't high
 low : (s : Sizes) (c : Chronicle) (x : Branch) → IsSound s c → Among x (tree c) → length x ≤ MOST_BLOCKS
 low s c x so m = let h = so.heights x m in let b = so.bounded in omega (arith, h, b)
 
 -- the child of a leaf is one higher
-child-low : (self : Identity) (c : Chronicle) (x : Branch) → length (or_else (child self c x) x) ≤ suc (length x)
+child-low : (self : Identity) (c : Chronicle) (x : Branch)
+    → length (or_else (child self c x) x) ≤ suc (length x)
 unfolding child
-child-low self c x = cond_both (leads self c && is_known (digest_of x) c) _ None P (λ t. omega arith) (λ t. omega arith)
+child-low self c x =
+    cond_both (leads self c && is_known (digest_of x) c) _ None P (λ t. omega arith) (λ t. omega arith)
   where
     P : Option Branch → Type 0
     P o = length (or_else o x) ≤ suc (length x)
@@ -68,7 +79,9 @@ is_beat (noted beat) = true
 is_beat s = false
 
 pub leaf-other : (self : Identity) (st : Step) (c : Chronicle) → is_beat st ≡ false
-    → leaf self (st ∷ c) ≡ cond (nat_lt (length (qc_high self.sizes c).block) (length (qc_high self.sizes (st ∷ c)).block)) (qc_high self.sizes (st ∷ c)).block (leaf self c)
+    → leaf self (st ∷ c)
+    ≡ cond (nat_lt (length (qc_high self.sizes c).block) (length (qc_high self.sizes (st ∷ c)).block))
+    (qc_high self.sizes (st ∷ c)).block (leaf self c)
 unfolding leaf is_beat
 leaf-other self (took_block a) c e = refl
 leaf-other self (noted (got_vote voter v b)) c e = refl
@@ -78,7 +91,8 @@ leaf-other self (noted (got_fetch to b)) c e = refl
 leaf-other self (noted timed_out) c e = refl
 leaf-other self (noted beat) c e = absurd (true≢false e)
 
-leaf-beat : (self : Identity) (st : Step) (c : Chronicle) → is_beat st ≡ true → leaf self (st ∷ c) ≡ or_else (child self c (leaf self c)) (leaf self c)
+leaf-beat : (self : Identity) (st : Step) (c : Chronicle) → is_beat st ≡ true
+    → leaf self (st ∷ c) ≡ or_else (child self c (leaf self c)) (leaf self c)
 unfolding leaf is_beat
 leaf-beat self (took_block a) c e = absurd (true≢false (sym e))
 leaf-beat self (noted (got_vote voter v b)) c e = absurd (true≢false (sym e))
@@ -89,7 +103,9 @@ leaf-beat self (noted timed_out) c e = absurd (true≢false (sym e))
 leaf-beat self (noted beat) c e = refl
 
 -- each step makes the leaf higher by one at most, or a certified block of the tree is the leaf
-pub leaf-low-step : (self : Identity) (st : Step) (c : Chronicle) → length (leaf self c) ≤ length c + MOST_BLOCKS → IsSound self.sizes (st ∷ c) → Among (qc_high self.sizes (st ∷ c)).block (tree (st ∷ c))
+pub leaf-low-step : (self : Identity) (st : Step) (c : Chronicle)
+    → length (leaf self c) ≤ length c + MOST_BLOCKS → IsSound self.sizes (st ∷ c)
+    → Among (qc_high self.sizes (st ∷ c)).block (tree (st ∷ c))
     → length (leaf self (st ∷ c)) ≤ length (st ∷ c) + MOST_BLOCKS
 leaf-low-step self st c l so m = go (is_beat st) refl
   where
@@ -97,11 +113,15 @@ leaf-low-step self st c l so m = go (is_beat st) refl
     P b = length b ≤ suc (length c) + MOST_BLOCKS
 
     go : (t : Bool) → is_beat st ≡ t → P (leaf self (st ∷ c))
-    go true e = let k = child-low self c (leaf self c) in subst P (sym (leaf-beat self st c e)) (omega (arith, k, l))
+    go true e =
+        let k = child-low self c (leaf self c) in subst P (sym (leaf-beat self st c e)) (omega (arith, k, l))
     go false e =
         let k = low self.sizes (st ∷ c) (qc_high self.sizes (st ∷ c)).block so m in
         subst P (sym (leaf-other self st c e))
-        (cond_both (nat_lt (length (qc_high self.sizes c).block) (length (qc_high self.sizes (st ∷ c)).block)) (qc_high self.sizes (st ∷ c)).block (leaf self c) P (λ t. omega (arith, k)) (λ t. omega (arith, l)))
+        (cond_both
+        (nat_lt (length (qc_high self.sizes c).block) (length (qc_high self.sizes (st ∷ c)).block))
+        (qc_high self.sizes (st ∷ c)).block (leaf self c) P (λ t. omega (arith, k))
+        (λ t. omega (arith, l)))
 
 -- ---- what a ruling comes to
 
@@ -111,12 +131,16 @@ shown-if true x = refl
 shown-if false x = refl
 
 -- want of memory, where a step was due
-pub refused-for-memory : (keys : Keys) (v : Ruling) (c : Chronicle) (st : Step) (s : Kept) → v ≡ due st → IsStateOf keys c s → Follows keys v c (Err fault.Memory) s
+pub refused-for-memory : (keys : Keys) (v : Ruling) (c : Chronicle) (st : Step) (s : Kept) → v ≡ due st
+    → IsStateOf keys c s → Follows keys v c (Err fault.Memory) s
 unfolding on_ruling on_step
-refused-for-memory keys v c st s e o = subst (λ (x : Ruling). IsRefused keys x c fault.Memory s) (sym e) (record { memory = refused_at_once; state = o; left = refl; answer = refl })
+refused-for-memory keys v c st s e o =
+    subst (λ (x : Ruling). IsRefused keys x c fault.Memory s) (sym e)
+    (record { memory = refused_at_once; state = o; left = refl; answer = refl })
 
 -- want of memory in place of a step that would stand
-pub memory-instead : (keys : Keys) (v : Ruling) (c : Chronicle) (out : List Sent) (s new : Kept) → Follows keys v c (Ok out) new → IsStateOf keys c s → Follows keys v c (Err fault.Memory) s
+pub memory-instead : (keys : Keys) (v : Ruling) (c : Chronicle) (out : List Sent) (s new : Kept)
+    → Follows keys v c (Ok out) new → IsStateOf keys c s → Follows keys v c (Err fault.Memory) s
 memory-instead keys v c out s new t o = refused-for-memory keys v c t.step s t.is_due o
 
 -- ---- the collected votes
@@ -141,24 +165,33 @@ pended-quiet (Vote b v) waits e = refl
 pended-quiet (Request r) waits e = absurd (true≢false e)
 
 -- after a step that brings no vote, by what is raised
-left-above-is : (s : Sizes) (st : Step) (c : Chronicle) (kept : List (Bytes × Entry)) (r : Option High) → BringsNoVote st → IsTree (tree (st ∷ c)) → IsVotesOf s c kept → unwrap_or r (high_of (qc_high s c)) ≡ high_of (qc_high s (st ∷ c))
+left-above-is : (s : Sizes) (st : Step) (c : Chronicle) (kept : List (Bytes × Entry)) (r : Option High)
+    → BringsNoVote st → IsTree (tree (st ∷ c)) → IsVotesOf s c kept
+    → unwrap_or r (high_of (qc_high s c)) ≡ high_of (qc_high s (st ∷ c))
     → IsVotesOf s (st ∷ c) (left_above r kept)
 left-above-is s st c kept None b tr is e =
     let h : certified s c ≡ certified s (st ∷ c) = ap (λ (x : High). x.block.height) e in
-    subst (IsVotesOf s (st ∷ c)) (none-low s c kept (certified s (st ∷ c)) is (omega (arith, h))) (followed-else s c kept st b tr is)
+    subst (IsVotesOf s (st ∷ c)) (none-low s c kept (certified s (st ∷ c)) is (omega (arith, h)))
+    (followed-else s c kept st b tr is)
 left-above-is s st c kept (Some r) b tr is e =
     let h : r.block.height ≡ certified s (st ∷ c) = ap (λ (x : High). x.block.height) e in
     subst (λ (n : ℕ). IsVotesOf s (st ∷ c) (kept_above n kept)) (sym h) (followed-else s c kept st b tr is)
 
-pub votes-else : (keys : Keys) (st : Step) (c : Chronicle) (d : Change) (s : Kept) → BringsNoVote st → collected d.growth s.votes.kept ≡ s.votes.kept → IsTree (tree (st ∷ c)) → IsVotesOf keys.sizes c s.votes.kept → IsStep keys c st s.pace d
+pub votes-else : (keys : Keys) (st : Step) (c : Chronicle) (d : Change) (s : Kept) → BringsNoVote st
+    → collected d.growth s.votes.kept ≡ s.votes.kept → IsTree (tree (st ∷ c))
+    → IsVotesOf keys.sizes c s.votes.kept → IsStep keys c st s.pace d
     → IsVotesOf keys.sizes (st ∷ c) (votes_after d s.votes.kept)
 votes-else keys st c d s b q tr is x =
     subst (λ (k : List (Bytes × Entry)). IsVotesOf keys.sizes (st ∷ c) (left_above d.high k)) (sym q)
     (left-above-is keys.sizes st c s.votes.kept d.high b tr is (ap (λ (v : Variables). v.high) x.variables))
 
 -- a step that stands
-pub stands-with : (keys : Keys) (v : Ruling) (c : Chronicle) (st : Step) (d : Change) (s : Kept) → v ≡ due st → conflicts st c ≡ false → IsSound keys.sizes (st ∷ c) → BringsKnown keys.sizes st c → pended d.growth s.pending ≡ asked st c
-    → IsStateOf keys c s → IsStep keys c st s.pace d → IsVotesOf keys.sizes (st ∷ c) (votes_after d s.votes.kept) → Follows keys v c (Ok d.out) (changed d s)
+pub stands-with : (keys : Keys) (v : Ruling) (c : Chronicle) (st : Step) (d : Change) (s : Kept)
+    → v ≡ due st → conflicts st c ≡ false → IsSound keys.sizes (st ∷ c) → BringsKnown keys.sizes st c
+    → pended d.growth s.pending ≡ asked st c
+    → IsStateOf keys c s → IsStep keys c st s.pace d
+    → IsVotesOf keys.sizes (st ∷ c) (votes_after d s.votes.kept)
+    → Follows keys v c (Ok d.out) (changed d s)
 stands-with keys v c st d s e k so known p o x votes =
     let block = certified-step keys.sizes st c o.certified known in
     record {
@@ -181,28 +214,48 @@ stands-with keys v c st d s e k so known p o x votes =
     }
 
 -- one that brings no vote
-pub stands : (keys : Keys) (v : Ruling) (c : Chronicle) (st : Step) (d : Change) (s : Kept) → v ≡ due st → conflicts st c ≡ false → IsSound keys.sizes (st ∷ c) → BringsKnown keys.sizes st c → s.pending ≡ asked st c
-    → IsStateOf keys c s → IsStep keys c st s.pace d → BringsNoVote st → collects d.growth ≡ false → Follows keys v c (Ok d.out) (changed d s)
-stands keys v c st d s e k so known p o x b q = stands-with keys v c st d s e k so known (pended-quiet d.growth s.pending q ∙ p) o x (votes-else keys st c d s b (collected-quiet d.growth s.votes.kept q) so.is_tree o.votes x)
+pub stands : (keys : Keys) (v : Ruling) (c : Chronicle) (st : Step) (d : Change) (s : Kept) → v ≡ due st
+    → conflicts st c ≡ false → IsSound keys.sizes (st ∷ c) → BringsKnown keys.sizes st c
+    → s.pending ≡ asked st c
+    → IsStateOf keys c s → IsStep keys c st s.pace d → BringsNoVote st → collects d.growth ≡ false
+    → Follows keys v c (Ok d.out) (changed d s)
+stands keys v c st d s e k so known p o x b q =
+    stands-with keys v c st d s e k so known (pended-quiet d.growth s.pending q ∙ p) o x
+    (votes-else keys st c d s b (collected-quiet d.growth s.votes.kept q) so.is_tree o.votes x)
 
 -- a step that decides against what was executed
-pub refused-for-conflict : (keys : Keys) (v : Ruling) (c : Chronicle) (st : Step) (s : Kept) → v ≡ due st → conflicts st c ≡ true → IsStateOf keys c s → Follows keys v c (Err fault.Conflict) s
+pub refused-for-conflict : (keys : Keys) (v : Ruling) (c : Chronicle) (st : Step) (s : Kept) → v ≡ due st
+    → conflicts st c ≡ true → IsStateOf keys c s → Follows keys v c (Err fault.Conflict) s
 unfolding on_ruling on_step
 refused-for-conflict keys v c st s e k o =
-    let both : Bool → Replica × Reaction = λ b. cond b (stopped_at c, fails fault.Conflict) (record { chronicle = st ∷ c; standing = running }, sends_out (sendings (identity_of keys) st c)) in
+    let both : Bool → Replica × Reaction =
+    λ b. cond b (stopped_at c, fails fault.Conflict)
+    (record { chronicle = st ∷ c; standing = running }, sends_out (sendings (identity_of keys) st c)) in
     subst (λ (x : Ruling). IsRefused keys x c fault.Conflict s) (sym e)
-    (record { memory = ample; state = o; left = ap (λ (b : Bool). (both b).0) k; answer = subst (λ (b : Bool). Shows (both b).1 (Err fault.Conflict)) (sym k) refl })
+    (record {
+      memory = ample;
+      state = o;
+      left = ap (λ (b : Bool). (both b).0) k;
+      answer = subst (λ (b : Bool). Shows (both b).1 (Err fault.Conflict)) (sym k) refl;
+    })
 
 -- a block that isn't in the tree
-pub asks : (keys : Keys) (v : Ruling) (c : Chronicle) (sender : ℕ) (d : Bytes) (s : Kept) → v ≡ missing sender d → IsStateOf keys c s → Follows keys v c (Err fault.UnknownParent) s
+pub asks : (keys : Keys) (v : Ruling) (c : Chronicle) (sender : ℕ) (d : Bytes) (s : Kept)
+    → v ≡ missing sender d → IsStateOf keys c s → Follows keys v c (Err fault.UnknownParent) s
 unfolding on_ruling
-asks keys v c sender d s e o = subst (λ (x : Ruling). IsRefused keys x c fault.UnknownParent s) (sym e) (record { memory = ample; state = o; left = refl; answer = refl })
+asks keys v c sender d s e o =
+    subst (λ (x : Ruling). IsRefused keys x c fault.UnknownParent s) (sym e)
+    (record { memory = ample; state = o; left = refl; answer = refl })
 
 -- a change that was decided is made, or memory is refused and all is as before
-pub committed : (keys : Keys) (v : Ruling) (c : Chronicle) (d : Change) (s new : Kept) (result : Result (List Sent) Fault) → Follows keys v c (Ok d.out) (changed d s) → IsStateOf keys c s
-    → OnOk result (new ≡ changed d s) → IfOk result (λ out. out ≡ d.out) → OnErr result (new ≡ s) → OnErr result (result ≡ Err fault.Memory) → Follows keys v c result new
+pub committed : (keys : Keys) (v : Ruling) (c : Chronicle) (d : Change) (s new : Kept)
+    (result : Result (List Sent) Fault) → Follows keys v c (Ok d.out) (changed d s) → IsStateOf keys c s
+    → OnOk result (new ≡ changed d s) → IfOk result (λ out. out ≡ d.out) → OnErr result (new ≡ s)
+    → OnErr result (result ≡ Err fault.Memory) → Follows keys v c result new
 committed keys v c d s new (Ok out) f o made sent unchanged memory =
-    subst (λ (x : Kept). Follows keys v c (Ok out) x) (sym made) (subst (λ (x : List Sent). Follows keys v c (Ok x) (changed d s)) (sym sent) f)
+    subst (λ (x : Kept). Follows keys v c (Ok out) x) (sym made)
+    (subst (λ (x : List Sent). Follows keys v c (Ok x) (changed d s)) (sym sent) f)
 committed keys v c d s new (Err n) f o made sent unchanged memory =
     subst (λ (x : Kept). Follows keys v c (Err n) x) (sym unchanged)
-    (subst (λ (r : Result (List Sent) Fault). Follows keys v c r s) (sym memory) (memory-instead keys v c d.out s (changed d s) f o))
+    (subst (λ (r : Result (List Sent) Fault). Follows keys v c r s) (sym memory)
+    (memory-instead keys v c d.out s (changed d s) f o))

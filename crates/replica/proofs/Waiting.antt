@@ -1,6 +1,7 @@
 -- What waits after a step: what was executed of its blocks waits no more.
 use Rattle.ids.specs.declared.limits.TheConstants.{MOST_COMMANDS}
-use Rattle.std.proofs.Common.{ℕ, suc, ◌≡◌, ◌<◌, ◌≤◌, Bool, List, [], ◌∷◌, ◌++◌, length, filter, reverse, take, not, refl, sym, ap, subst, ◌∙◌, arith, ◌&&◌, ◌==◌, inl, inr}
+use Rattle.std.proofs.Common.{ℕ, suc, ◌≡◌, ◌<◌, ◌≤◌, Bool, List, [], ◌∷◌, ◌++◌, length, filter, reverse}
+use Rattle.std.proofs.Common.{take, not, refl, sym, ap, subst, ◌∙◌, arith, ◌&&◌, ◌==◌, inl, inr}
 use Rattle.std.specs.List.{list_any}
 use Rattle.std.proofs.lemmas.Bool.{cond-true, cond-false, cases_lt, le-ltb, le-leb, lt-leb}
 use Rattle.std.proofs.lemmas.List.Sorted.{list_any-IsPermutation, IsPermutation-reverse}

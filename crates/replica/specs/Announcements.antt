@@ -3,7 +3,8 @@ use Rattle.ids.specs.declared.fault.Fault.{Fault}
 use Rattle.ids.specs.declared.fault.Fault.TheVariants as fault
 use Rattle.ids.specs.declared.kind.Kind.TheVariants as kind
 use Rattle.ids.specs.Numbers.{kind_number}
-use Rattle.std.specs.Prelude.{ℕ, ◌≡◌, [], ◌∷◌, length, nat_lt, if◌then◌else◌, Option, Some, None, Result, Err, MatchResult}
+use Rattle.std.specs.Prelude.{ℕ, ◌≡◌, [], ◌∷◌, length, nat_lt, if◌then◌else◌, Option, Some, None, Result}
+use Rattle.std.specs.Prelude.{Err, MatchResult}
 use Rattle.std.specs.Option.{unwrap_or}
 use Rattle.definitions.specs.Frames.{Certificate, certificate_bytes, new_view_text, frame_text}
 use Rattle.definitions.specs.Keyrings.{Keys, keyring_of, vector_for}
@@ -23,8 +24,11 @@ use Rattle.replica.specs.Changes.{noting, raise_of, leaf_after}
 -- the view goes to all, with the highest certificate
 abbrev pub new_view_sent : Keys → ℕ → Certificate → Sent
 new_view_sent keys view q =
-    let content = new_view_text view keys.party (certificate_bytes q) in
-    (to_all, frame_text (kind_number kind.NewView) content (vector_for keys.sizes (keyring_of keys) kind.NewView content))
+    let content = new_view_text view keys.party (certificate_bytes q) in (
+      to_all,
+      frame_text (kind_number kind.NewView) content
+          (vector_for keys.sizes (keyring_of keys) kind.NewView content),
+    )
 
 -- the pace of one note more, of whatever chronicle it was
 pub record IsPacedBy (old new : Pace) (Notes : Note → Type 0) : Type 0 where
@@ -33,7 +37,8 @@ pub record IsPacedBy (old new : Pace) (Notes : Note → Type 0) : Type 0 where
 
 abbrev pub timeout_change : Keys → Kept → Pace → Change
 timeout_change keys s pace =
-    record (noting s.variables TimedOut (new_view_sent keys pace.view s.variables.high.certificate ∷ [])) { pace = Some pace }
+    record (noting s.variables TimedOut (new_view_sent keys pace.view s.variables.high.certificate ∷ []))
+    { pace = Some pace }
 
 -- a timeout goes on by a view, and announces it
 pub record IsTimeout (keys : Keys) (s : Kept) (d : Change) : Type 0 where
@@ -53,16 +58,20 @@ new_view_change keys s block n pace =
     }
 
 -- a view that was announced, with a certificate for this block
-pub record IsAnnounced (keys : Keys) (s : Kept) (block : BlockRef) (n : GotNewView) (d : Change) : Type 0 where
+pub record IsAnnounced (keys : Keys) (s : Kept) (block : BlockRef) (n : GotNewView) (d : Change) :
+    Type 0 where
   pub pace : Pace
-  pub its_pace : IsPacedBy s.pace pace (λ x. (q : Certificate) × (b : Branch) × (x ≡ got_new_view n.view n.sender q b))
+  pub its_pace :
+      IsPacedBy s.pace pace (λ x. (q : Certificate) × (b : Branch) × (x ≡ got_new_view n.view n.sender q b))
   pub change : d ≡ new_view_change keys s block n pace
 
 -- what an announced view comes to, where this was found of the block of its certificate
 abbrev pub IsNewViewAt : Keys → Kept → GotNewView → Result Change Fault → Option Branch → Type 0
 IsNewViewAt keys s n result None = result ≡ Err fault.UnknownParent
 IsNewViewAt keys s n result (Some b) =
-    MatchResult result (IsAnnounced keys s (record { digest = n.certificate.digest; height = length b }) n) (λ f. f ≡ fault.Memory)
+    MatchResult result (IsAnnounced keys s (record { digest = n.certificate.digest; height = length b }) n)
+    (λ f. f ≡ fault.Memory)
 
 abbrev pub IsNewView : Keys → Kept → GotNewView → Result Change Fault → Type 0
-IsNewView keys s n result = IsNewViewAt keys s n result (find_in n.certificate.digest (blocks s.variables.stored))
+IsNewView keys s n result =
+    IsNewViewAt keys s n result (find_in n.certificate.digest (blocks s.variables.stored))

@@ -1,7 +1,8 @@
 -- What a vote changes.
 use Rattle.ids.specs.declared.fault.Fault.{Fault}
 use Rattle.ids.specs.declared.fault.Fault.TheVariants as fault
-use Rattle.std.specs.Prelude.{◌≡◌, [], length, nat_lt, if◌then◌else◌, Option, Some, None, Result, Err, MatchResult}
+use Rattle.std.specs.Prelude.{◌≡◌, [], length, nat_lt, if◌then◌else◌, Option, Some, None, Result, Err}
+use Rattle.std.specs.Prelude.{MatchResult}
 use Rattle.ids.specs.Sizes.{quorum}
 use Rattle.definitions.specs.Bytes.{Bytes}
 use Rattle.definitions.specs.Frames.{Vote}
@@ -22,8 +23,8 @@ use Rattle.replica.specs.Changes.{noting}
 abbrev pub vote_noted : Kept → BlockRef → Vote → Change
 vote_noted s block vote = noting s.variables (GotVote (record { block = block.digest; vote = vote })) []
 
--- by what it is to the votes that are kept: a first one is kept too, and one that completes a quorum makes the highest
--- certificate
+-- by what it is to the votes that are kept: a first one is kept too, and one that completes a quorum makes
+-- the highest certificate
 abbrev pub vote_counted : Kept → BlockRef → Vote → Added → Change
 vote_counted s block vote Doubled = vote_noted s block vote
 vote_counted s block vote First = record (vote_noted s block vote) { growth = AVote block vote }
@@ -36,13 +37,16 @@ vote_counted s block vote Complete = record (vote_noted s block vote) {
 abbrev pub vote_change : Kept → BlockRef → Vote → Change
 vote_change s block vote =
     if nat_lt s.variables.high.block.height block.height
-    then vote_counted s block vote (judged (quorum s.votes.sizes) vote.voter (votes_for block.digest s.votes.kept))
+    then vote_counted s block vote
+    (judged (quorum s.votes.sizes) vote.voter (votes_for block.digest s.votes.kept))
     else vote_noted s block vote
 
 -- what a vote comes to, where this was found of its block
 abbrev pub IsVoteAt : Kept → Bytes → Vote → Result Change Fault → Option Branch → Type 0
 IsVoteAt s d vote result None = result ≡ Err fault.UnknownParent
-IsVoteAt s d vote result (Some b) = MatchResult result (λ x. x ≡ vote_change s (record { digest = d; height = length b }) vote) (λ f. f ≡ fault.Memory)
+IsVoteAt s d vote result (Some b) =
+    MatchResult result (λ x. x ≡ vote_change s (record { digest = d; height = length b }) vote)
+    (λ f. f ≡ fault.Memory)
 
 abbrev pub IsVoteDecided : Kept → Bytes → Vote → Result Change Fault → Type 0
 IsVoteDecided s d vote result = IsVoteAt s d vote result (find_in d (blocks s.variables.stored))

@@ -1,11 +1,13 @@
 -- What a beat changes.
-use Rattle.std.specs.Prelude.{ℕ, suc, ◌-◌, ◌^◌, ◌==◌, min, List, [], ◌∷◌, length, map, Option, Some, None, is_some, if◌then◌else◌}
+use Rattle.std.specs.Prelude.{ℕ, suc, ◌-◌, ◌^◌, ◌==◌, min, List, [], ◌∷◌, length, map, Option, Some, None}
+use Rattle.std.specs.Prelude.{is_some, if◌then◌else◌}
 use Rattle.std.specs.List.{flat_map}
 use Rattle.ids.specs.Sizes.{leader}
 use Rattle.ids.specs.Numbers.{kind_number}
 use Rattle.ids.specs.declared.kind.Kind.TheVariants as kind
 use Rattle.sha2.specs.Sha256.{sha256}
-use Rattle.definitions.specs.Frames.{Command, command_bytes, core_text, certificate_bytes, proposal_text, frame_text}
+use Rattle.definitions.specs.Frames.{Command, command_bytes, core_text, certificate_bytes, proposal_text}
+use Rattle.definitions.specs.Frames.{frame_text}
 use Rattle.definitions.specs.Keyrings.{Keys, keyring_of, vector_for}
 use Rattle.definitions.specs.Sendings.{to_all}
 use Rattle.definitions.specs.Histories.{History}
@@ -33,7 +35,8 @@ keys_of h = map (λ e. (e.client, e.seq)) h
 
 -- the height above which requests that wait may stand on the leaf's branch: nothing that was executed waits
 abbrev pub executed_below : Variables → ℕ
-executed_below v = if extends_in v.leaf.digest v.rules.executed.digest (blocks v.stored) then v.rules.executed.height else 0
+executed_below v =
+    if extends_in v.leaf.digest v.rules.executed.digest (blocks v.stored) then v.rules.executed.height else 0
 
 -- the height of the tree's block that has the leaf's digest
 abbrev pub known_height : Variables → ℕ
@@ -41,7 +44,8 @@ known_height v = elim (find_in v.leaf.digest (blocks v.stored)) [ Some b ↦ len
 
 -- what stands there of them
 abbrev pub proposed_above : Variables → List (ℕ × ℕ)
-proposed_above v = keys_of (history_above v.leaf.digest v.stored (executed_below v) (known_height v - executed_below v) [])
+proposed_above v =
+    keys_of (history_above v.leaf.digest v.stored (executed_below v) (known_height v - executed_below v) [])
 
 -- the first requests that wait and don't stand there
 abbrev pub picked : Kept → List Command
@@ -52,7 +56,8 @@ abbrev pub child_of : Kept → Own
 child_of s =
     let v = s.variables in
     record {
-      core = core_text v.leaf.digest (child_height v.leaf) v.high.block.height (length (picked s)) (flat_map command_bytes (picked s));
+      core = core_text v.leaf.digest (child_height v.leaf) v.high.block.height (length (picked s))
+          (flat_map command_bytes (picked s));
       certificate = certificate_bytes v.high.certificate;
     }
 
@@ -63,8 +68,11 @@ child_ref s = record { digest = sha256 (child_of s).core; height = child_height 
 -- a proposal goes to all
 abbrev pub proposal_sent : Keys → ℕ → Own → Sent
 proposal_sent keys view own =
-    let content = proposal_text view own.core own.certificate in
-    (to_all, frame_text (kind_number kind.Proposal) content (vector_for keys.sizes (keyring_of keys) kind.Proposal content))
+    let content = proposal_text view own.core own.certificate in (
+      to_all,
+      frame_text (kind_number kind.Proposal) content
+          (vector_for keys.sizes (keyring_of keys) kind.Proposal content),
+    )
 
 -- the last one, where there is one
 abbrev pub own_sent : Keys → ℕ → Option Own → List Sent
@@ -83,5 +91,6 @@ abbrev pub beat_change : Keys → Kept → Change
 beat_change keys s =
     let v = s.variables in
     if leader keys.sizes s.pace.view == keys.party
-    then (if is_some (find_in v.leaf.digest (blocks v.stored)) then proposing keys s else noting v Beat (own_sent keys s.pace.view v.own))
+    then (if is_some (find_in v.leaf.digest (blocks v.stored)) then proposing keys s else noting v Beat
+    (own_sent keys s.pace.view v.own))
     else noting v Beat []

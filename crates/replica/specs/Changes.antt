@@ -1,5 +1,6 @@
 -- What a step changes, as functions of what is kept.
-use Rattle.std.specs.Prelude.{◌≡◌, Bool, true, false, List, [], ◌∷◌, filter, nat_lt, if◌then◌else◌, Option, Some, None, ⊤}
+use Rattle.std.specs.Prelude.{◌≡◌, Bool, true, false, List, [], ◌∷◌, filter, nat_lt, if◌then◌else◌, Option}
+use Rattle.std.specs.Prelude.{Some, None, ⊤}
 use Rattle.std.specs.Option.{option_or, unwrap_or}
 use Rattle.ids.specs.Sizes.{Sizes, leader}
 use Rattle.definitions.specs.Bytes.{Bytes}
@@ -10,7 +11,8 @@ use Rattle.block_tree.specs.Nodes.{stored_as}
 use Rattle.block_tree.specs.Insertions.{MayStand}
 use Rattle.definitions.specs.Keyrings.{Keys}
 use Rattle.definitions.specs.Checks.{Identity, identity_of}
-use Rattle.definitions.specs.Chronicles.{Step, Step.took_block, Step.noted, Note.got_request, Chronicle, history}
+use Rattle.definitions.specs.Chronicles.{Step, Step.took_block, Step.noted, Note.got_request, Chronicle}
+use Rattle.definitions.specs.Chronicles.{history}
 use Rattle.definitions.specs.Sendings.{to_party, Sending, vote_frame, sendings}
 use Rattle.definitions.specs.States.{view, is_due, pending, with_request}
 use Rattle.definitions.specs.Frames.{Command}
@@ -122,7 +124,8 @@ leaf_after None leaf = leaf
 
 -- what a step sends before anything is executed
 abbrev pub sent_first : Identity → Step → Chronicle → List Sending
-sent_first self (took_block a) c = if a.voted then (to_party (leader self.sizes (view self.sizes c)), vote_frame self a.branch) ∷ [] else []
+sent_first self (took_block a) c =
+    if a.voted then (to_party (leader self.sizes (view self.sizes c)), vote_frame self a.branch) ∷ [] else []
 sent_first self (noted n) c = sendings self (noted n) c
 
 -- the requests that wait after a step and before anything is executed

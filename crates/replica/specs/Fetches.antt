@@ -18,8 +18,10 @@ use Rattle.replica.specs.Changes.{noting}
 -- a block with its certificate goes to the one who asked
 abbrev pub block_sent : Keys → ℕ → Core → Certificate → Sent
 block_sent keys to core q =
-    let content = block_text keys.party (core_bytes core) (certificate_bytes q) in
-    (to_party to, frame_text (kind_number kind.Block) content (tag_for (keyring_of keys) kind.Block to content))
+    let content = block_text keys.party (core_bytes core) (certificate_bytes q) in (
+      to_party to,
+      frame_text (kind_number kind.Block) content (tag_for (keyring_of keys) kind.Block to content),
+    )
 
 -- where it stands in the tree
 abbrev pub supplied : Keys → ℕ → Option Stored → List Sent

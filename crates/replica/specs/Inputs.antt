@@ -11,12 +11,14 @@ use Rattle.frames_view.specs.declared.frame_views.ProposalView.{ProposalView}
 use Rattle.frames_view.specs.declared.frame_views.BlockView.{BlockView}
 use Rattle.frames_view.specs.declared.frame_views.NewViewView.{NewViewView}
 use Rattle.frames_view.specs.declared.frame_views.FetchView.{FetchView}
-use Rattle.frames_view.specs.Fields.{frame_view, frame_replica, frame_core, frame_certificate, frame_digest, frame_vote}
+use Rattle.frames_view.specs.Fields.{frame_view, frame_replica, frame_core, frame_certificate, frame_digest}
+use Rattle.frames_view.specs.Fields.{frame_vote}
 use Rattle.frames_view.specs.Views.{proposal_of, block_of, vote_frame_of, new_view_of, fetch_of, command_of}
 use Rattle.replica.specs.declared.stored.GotNewView.{GotNewView}
 use Rattle.replica.specs.declared.stored.GotFetch.{GotFetch}
 use Rattle.replica.specs.declared.input.Input.{Input}
-use Rattle.replica.specs.declared.input.Input.TheVariants.{Proposal, Block, Vote as AVote, NewView, Request, Fetch, Timeout, Beat}
+use Rattle.replica.specs.declared.input.Input.TheVariants.{Proposal, Block, Vote as AVote, NewView, Request}
+use Rattle.replica.specs.declared.input.Input.TheVariants.{Fetch, Timeout, Beat}
 use Rattle.replica.specs.Offers.{Offered}
 
 -- a proposed block, with what its check found
@@ -24,7 +26,12 @@ abbrev pub proposal_offered : CheckedView ProposalView → Offered
 proposal_offered p =
     let core : Core = frame_core (proposal_of p.view) in
     let q : Certificate = frame_certificate (proposal_of p.view) in
-    record { core = core; certificate = q; found = findings (identity_of p.keys) core q; view = Some (frame_view (proposal_of p.view)) }
+    record {
+      core = core;
+      certificate = q;
+      found = findings (identity_of p.keys) core q;
+      view = Some (frame_view (proposal_of p.view));
+    }
 
 -- a block that was asked for
 abbrev pub block_offered : CheckedView BlockView → Offered
@@ -35,7 +42,11 @@ block_offered b =
 
 -- what a view announces
 abbrev pub announced_by : NewViewView → GotNewView
-announced_by n = record { view = frame_view (new_view_of n); sender = frame_replica (new_view_of n); certificate = frame_certificate (new_view_of n) }
+announced_by n = record {
+  view = frame_view (new_view_of n);
+  sender = frame_replica (new_view_of n);
+  certificate = frame_certificate (new_view_of n);
+}
 
 -- what is asked for
 abbrev pub asked_by : FetchView → GotFetch

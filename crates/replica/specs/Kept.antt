@@ -70,7 +70,8 @@ variables_of keys c = record {
 abbrev pub AreFit : Sizes → Chronicle → Type 0
 AreFit sizes c = (x : Branch) → Among x (tree c) → AllKnown (IsCore sizes) x
 
--- each block that was taken stands in the tree under its own digest, with a certificate of the block that it justifies
+-- each block that was taken stands in the tree under its own digest, with a certificate of the block that
+-- it justifies
 abbrev pub AreStored : Chronicle → Type 0
 AreStored c = (a : Admitted) → Among (took_block a) c → IsStored c a
 

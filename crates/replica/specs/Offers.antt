@@ -3,14 +3,16 @@ use Rattle.ids.specs.declared.fault.Fault.{Fault}
 use Rattle.ids.specs.declared.fault.Fault.TheVariants as fault
 use Rattle.ids.specs.declared.kind.Kind.TheVariants as kind
 use Rattle.ids.specs.Sizes.{leader}
-use Rattle.std.specs.Prelude.{ℕ, ◌≡◌, ◌⊎◌, ◌==◌, ◌&&◌, Bool, false, List, [], ◌∷◌, length, if◌then◌else◌, Option, Some, None, Result, Ok, Err, MatchResult}
+use Rattle.std.specs.Prelude.{ℕ, ◌≡◌, ◌⊎◌, ◌==◌, ◌&&◌, Bool, false, List, [], ◌∷◌, length, if◌then◌else◌}
+use Rattle.std.specs.Prelude.{Option, Some, None, Result, Ok, Err, MatchResult}
 use Rattle.definitions.specs.Bytes.{Bytes}
 use Rattle.definitions.specs.Frames.{Core, Certificate, vote, spelling}
 use Rattle.definitions.specs.Keyrings.{Keys, keyring_of, vector_for}
 use Rattle.definitions.specs.Checks.{Findings}
 use Rattle.definitions.specs.Digests.{digest}
 use Rattle.definitions.specs.Sendings.{to_party}
-use Rattle.definitions.specs.Trees.{Stored, blocks, find_in, Placing, Placing.stands, Placing.grows, Placing.lacks_parent, Placing.unfit, placing}
+use Rattle.definitions.specs.Trees.{Stored, blocks, find_in, Placing, Placing.stands, Placing.grows}
+use Rattle.definitions.specs.Trees.{Placing.lacks_parent, Placing.unfit, placing}
 use Rattle.block_tree.specs.declared.node.Node.{Node}
 use Rattle.block_tree.specs.Insertions.{IsNodeFor}
 use Rattle.replica_rules.specs.declared.block_ref.BlockRef.{BlockRef}
@@ -26,7 +28,8 @@ use Rattle.replica.specs.Steps.{Sent}
 use Rattle.replica.specs.Kept.{Kept}
 use Rattle.replica.specs.Changes.{noting, tree_of, raise_of, leaf_after}
 
--- A block with its certificate and what a check found of them, and the view that it was proposed for, if it was.
+-- A block with its certificate and what a check found of them, and the view that it was proposed for, if it
+-- was.
 pub record Offered : Type 0 where
   pub core : Core
   pub certificate : Certificate
@@ -48,8 +51,11 @@ high_in o = record { block = justified_of o; certificate = o.certificate }
 
 -- a vote goes to the leader
 abbrev pub vote_sent : Keys → ℕ → Bytes → Sent
-vote_sent keys view d =
-    (to_party (leader keys.sizes view), spelling (vote d (record { voter = keys.party; vector = vector_for keys.sizes (keyring_of keys) kind.Vote d })))
+vote_sent keys view d = (
+  to_party (leader keys.sizes view),
+  spelling (vote d
+      (record { voter = keys.party; vector = vector_for keys.sizes (keyring_of keys) kind.Vote d })),
+)
 
 abbrev pub votes_sent : Keys → ℕ → Bytes → Bool → List Sent
 votes_sent keys view d voted = if voted then vote_sent keys view d ∷ [] else []
@@ -57,11 +63,13 @@ votes_sent keys view d voted = if voted then vote_sent keys view d ∷ [] else [
 -- ---- a block that stands in the tree
 
 abbrev pub votes_again : Kept → Offered → Bool
-votes_again s o = is_for s.pace.view o.view && may_vote_in s.variables.rules (digest o.core) s.variables.stored
+votes_again s o =
+    is_for s.pace.view o.view && may_vote_in s.variables.rules (digest o.core) s.variables.stored
 
 -- the rules after a vote for a block of the tree, if one was given
 abbrev pub with_vote_in : Bool → Bytes → List Stored → Ruled → Ruled
-with_vote_in voted d stored r = elim (find_in d (blocks stored)) [ Some b ↦ with_vote voted (length b) r | None ↦ r ]
+with_vote_in voted d stored r =
+    elim (find_in d (blocks stored)) [ Some b ↦ with_vote voted (length b) r | None ↦ r ]
 
 -- as it is stored
 abbrev pub again_step : Offered → Bool → StoredStep
@@ -84,7 +92,9 @@ again_change keys s o =
 -- ---- a new block
 
 abbrev pub votes_new : Kept → Offered → Bool
-votes_new s o = is_for s.pace.view o.view && may_vote_over s.variables.rules (candidate_of o.core o.found.clear) s.variables.stored
+votes_new s o =
+    is_for s.pace.view o.view
+    && may_vote_over s.variables.rules (candidate_of o.core o.found.clear) s.variables.stored
 
 abbrev pub new_change : Keys → Kept → Offered → Node → Ruled → Change
 new_change keys s o n rules =
@@ -110,11 +120,14 @@ pub record IsTaken (keys : Keys) (s : Kept) (o : Offered) (d : Change) : Type 0 
 -- ---- what is decided of a block that comes to this
 
 abbrev pub IsDecidedAt : Keys → Kept → Offered → Result Change Fault → Placing → Type 0
-IsDecidedAt keys s o result (stands b) = MatchResult result (λ d. d ≡ again_change keys s o) (λ n. n ≡ fault.Memory)
+IsDecidedAt keys s o result (stands b) =
+    MatchResult result (λ d. d ≡ again_change keys s o) (λ n. n ≡ fault.Memory)
 IsDecidedAt keys s o result (grows b) =
-    MatchResult result (IsTaken keys s o) (λ n. (n ≡ fault.Memory) ⊎ (ruled_after s.variables.rules (justified_of o) s.variables.stored ≡ Err n))
+    MatchResult result (IsTaken keys s o) (λ n. (n ≡ fault.Memory)
+    ⊎ (ruled_after s.variables.rules (justified_of o) s.variables.stored ≡ Err n))
 IsDecidedAt keys s o result lacks_parent = result ≡ Err fault.UnknownParent
 IsDecidedAt keys s o result (unfit n) = result ≡ Err n
 
 abbrev pub IsDecided : Keys → Kept → Offered → Result Change Fault → Type 0
-IsDecided keys s o result = IsDecidedAt keys s o result (placing s.variables.most o.core o.certificate (blocks s.variables.stored))
+IsDecided keys s o result =
+    IsDecidedAt keys s o result (placing s.variables.most o.core o.certificate (blocks s.variables.stored))

@@ -2,7 +2,8 @@
 use Rattle.ids.specs.declared.limits.TheConstants.{MOST_PENDING}
 use Rattle.ids.specs.declared.fault.Fault.{Fault}
 use Rattle.ids.specs.declared.fault.Fault.TheVariants as fault
-use Rattle.std.specs.Prelude.{◌≡◌, ◌==◌, ◌&&◌, not, Bool, true, false, List, [], length, nat_lt, if◌then◌else◌, option_to_list, Option, Some, None, Result, Err, MatchResult}
+use Rattle.std.specs.Prelude.{◌≡◌, ◌==◌, ◌&&◌, not, Bool, true, false, List, [], length, nat_lt}
+use Rattle.std.specs.Prelude.{if◌then◌else◌, option_to_list, Option, Some, None, Result, Err, MatchResult}
 use Rattle.std.specs.List.{list_any}
 use Rattle.definitions.specs.Frames.{Command}
 use Rattle.definitions.specs.Histories.{History, Answer, last_seq, answer_to}
@@ -28,7 +29,8 @@ growth_for None = Nothing
 growth_for (Some r) = Request r
 
 abbrev pub waiting_change : Kept → Command → Change
-waiting_change s r = record (noting s.variables (GotRequest r) []) { growth = growth_for (planned_for r s.pending) }
+waiting_change s r =
+    record (noting s.variables (GotRequest r) []) { growth = growth_for (planned_for r s.pending) }
 
 abbrev pub IsWaiting : Kept → Command → Result Change Fault → Bool → Type 0
 IsWaiting s r result true = result ≡ Err fault.PoolFull
@@ -40,7 +42,8 @@ reply_again keys None = []
 reply_again keys (Some a) = option_to_list (told_one keys a)
 
 abbrev pub again_sent : Keys → History → Command → List Sent
-again_sent keys h r = if r.seq == last_seq r.client h then reply_again keys (answer_to r.client r.seq h) else []
+again_sent keys h r =
+    if r.seq == last_seq r.client h then reply_again keys (answer_to r.client r.seq h) else []
 
 abbrev pub old_change : Keys → Kept → History → Command → Change
 old_change keys s h r = noting s.variables (GotRequest r) (again_sent keys h r)
@@ -48,7 +51,8 @@ old_change keys s h r = noting s.variables (GotRequest r) (again_sent keys h r)
 -- by whether it comes after all that was executed for its client
 abbrev pub IsRequestedIf : Keys → Kept → History → Command → Result Change Fault → Bool → Type 0
 IsRequestedIf keys s h r result true = IsWaiting s r result (is_full r s.pending)
-IsRequestedIf keys s h r result false = MatchResult result (λ d. d ≡ old_change keys s h r) (λ n. n ≡ fault.Memory)
+IsRequestedIf keys s h r result false =
+    MatchResult result (λ d. d ≡ old_change keys s h r) (λ n. n ≡ fault.Memory)
 
 abbrev pub IsRequested : Keys → Kept → History → Command → Result Change Fault → Type 0
 IsRequested keys s h r result = IsRequestedIf keys s h r result (is_due h r)

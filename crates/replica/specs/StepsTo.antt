@@ -1,14 +1,16 @@
 -- One step of a replica that runs, over what it keeps. What is decided is executed after the step.
 use Rattle.ids.specs.declared.fault.Fault.{Fault}
 use Rattle.ids.specs.declared.fault.Fault.TheVariants as fault
-use Rattle.std.specs.Prelude.{ℕ, ◌≡◌, Bool, true, false, List, ◌∷◌, length, if◌then◌else◌, Result, Ok, Err, MatchResult}
+use Rattle.std.specs.Prelude.{ℕ, ◌≡◌, Bool, true, false, List, ◌∷◌, length, if◌then◌else◌, Result, Ok, Err}
+use Rattle.std.specs.Prelude.{MatchResult}
 use Rattle.definitions.specs.Keyrings.{Keys}
 use Rattle.definitions.specs.Checks.{identity_of}
 use Rattle.definitions.specs.Chronicles.{Chronicle, Step}
 use Rattle.definitions.specs.Histories.{History}
 use Rattle.definitions.specs.States.{pending}
 use Rattle.definitions.specs.Rulings.{Input, Ruling, Ruling.due, ruling, conflicts}
-use Rattle.definitions.specs.Replicas.{Memory, Standing, running, stopped, cut_short, Replica, held_history, held_pending, on_ruling}
+use Rattle.definitions.specs.Replicas.{Memory, Standing, running, stopped, cut_short, Replica, held_history}
+use Rattle.definitions.specs.Replicas.{held_pending, on_ruling}
 use Rattle.replica.specs.Steps.{Sent, Shows, shown}
 use Rattle.replica.specs.Kept.{Kept, waiting, IsStateOf, AreFit, AreStored}
 use Rattle.replica.specs.Changes.{changed, asked, sent_first}
@@ -38,12 +40,14 @@ pub record Stands (keys : Keys) (v : Ruling) (c : Chronicle) (out : List Sent) (
 pub record IsRefused (keys : Keys) (v : Ruling) (c : Chronicle) (n : Fault) (new : Kept) : Type 0 where
   pub memory : Memory
   pub state : IsStateOf keys c new
-  pub left : (on_ruling (identity_of keys) memory v c).0 ≡ record { chronicle = c; standing = if halts n then stopped else running }
+  pub left : (on_ruling (identity_of keys) memory v c).0
+      ≡ record { chronicle = c; standing = if halts n then stopped else running }
   pub answer : Shows (on_ruling (identity_of keys) memory v c).1 (Err n)
 
 -- what a ruling gives where this chronicle stands
 abbrev pub Follows : Keys → Ruling → Chronicle → Result (List Sent) Fault → Kept → Type 0
-Follows keys v c result new = MatchResult result (λ out. Stands keys v c out new) (λ n. IsRefused keys v c n new)
+Follows keys v c result new =
+    MatchResult result (λ out. Stands keys v c out new) (λ n. IsRefused keys v c n new)
 
 -- what an input gives
 abbrev pub StepsTo : Keys → Input → Chronicle → Result (List Sent) Fault → Kept → Type 0
@@ -84,10 +88,12 @@ standing_after (Refused n) held = if halts n then stopped else running
 standing_after CutShort held = cut_short held
 
 -- what an input gives where this chronicle stands, with what memory there was
-pub record Advances (keys : Keys) (input : Input) (c : Chronicle) (taken : Taken) (new : Kept) (h : History) : Type 0 where
+pub record Advances (keys : Keys) (input : Input) (c : Chronicle) (taken : Taken) (new : Kept) (h : History)
+    : Type 0 where
   pub memory : Memory
   pub replica : Replica
   pub replica_is : (on_ruling (identity_of keys) memory (ruling (identity_of keys) input c) c).0 ≡ replica
   pub whole : IsWholeOf keys replica new h
   pub standing : replica.standing ≡ standing_after taken (length h)
-  pub answer : Shows (on_ruling (identity_of keys) memory (ruling (identity_of keys) input c) c).1 (answer_of taken)
+  pub answer :
+      Shows (on_ruling (identity_of keys) memory (ruling (identity_of keys) input c) c).1 (answer_of taken)

@@ -65,7 +65,8 @@ fn announcement_if(
     high: &High,
 ) -> Result<Out, Fault>
     requires { keyring.now.party < replicas keyring.now.sizes }
-    ensures made { IfOk result (λ out. out ≡ (if moved then new_view_sent keyring.now view high.now.certificate ∷ [] else [])) }
+    ensures made { IfOk result
+        (λ out. out ≡ (if moved then new_view_sent keyring.now view high.now.certificate ∷ [] else [])) }
     ensures memory { OnErr result (result ≡ Err Fault.Memory) }
 {
     if !moved {
@@ -74,8 +75,8 @@ fn announcement_if(
     announcement(alloc, keyring, view, high)
 }
 
-/// What an announced view comes to, whose certificate is for this block: the certificate is raised, and where the
-/// replica moves on to a greater view, it announces that.
+/// What an announced view comes to, whose certificate is for this block: the certificate is raised,
+/// and where the replica moves on to a greater view, it announces that.
 fn take_new_view(
     state: &State,
     keyring: &Keyring,

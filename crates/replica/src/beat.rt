@@ -4,7 +4,8 @@ ghost use Rattle.std.specs.Prelude.{◌≡◌, ◌<◌, ◌≤◌, ◌==◌, [],
 ghost use Rattle.std.specs.List.{flat_map};
 ghost use Rattle.definitions.specs.Frames.{command_bytes};
 ghost use Rattle.ids.specs.Sizes.{replicas, leader};
-ghost use Rattle.replica.specs.Beats.{beat_change, executed_below, proposed_above, child_height, child_of, child_ref, own_sent, proposal_sent, proposing};
+ghost use Rattle.replica.specs.Beats.{beat_change, executed_below, proposed_above, child_height, child_of};
+ghost use Rattle.replica.specs.Beats.{child_ref, own_sent, proposal_sent, proposing};
 
 use crate::branch::keys_between;
 use crate::change::Change;
@@ -53,7 +54,8 @@ fn proposed_above(state: &State) -> Result<Vec<(ClientId, Seq)>, Fault>
 
 /// The bytes of requests, one behind the other.
 fn bytes_of(alloc: Global, requests: &[&Pending]) -> Result<Vec<u8>, Fault>
-    ensures joined { IfOk result (λ bytes. bytes.items ≡ flat_map command_bytes (map (λ r. r.now) requests.now)) }
+    ensures joined { IfOk result
+        (λ bytes. bytes.items ≡ flat_map command_bytes (map (λ r. r.now) requests.now)) }
     ensures memory { OnErr result (result ≡ Err Fault.Memory) }
 {
     let mut bytes = Vec::new(alloc);
@@ -160,8 +162,8 @@ pub(crate) fn leads(state: &State, keyring: &Keyring) -> bool
     keyring.config().leader(state.pace.view()) == keyring.replica()
 }
 
-/// What a beat comes to: where the replica leads its view, it proposes a child of its leaf, or its last proposal again
-/// where the leaf isn't in the tree yet.
+/// What a beat comes to: where the replica leads its view, it proposes a child of its leaf, or its
+/// last proposal again where the leaf isn't in the tree yet.
 pub(crate) fn decide_beat(state: &State, keyring: &Keyring) -> Result<Change, Fault>
     requires { keyring.now.party < replicas keyring.now.sizes }
     ensures made { IfOk result (λ d. d ≡ beat_change keyring.now state.now) }

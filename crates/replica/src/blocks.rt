@@ -7,7 +7,8 @@ ghost use Rattle.frames_view.specs.Views.{certificate_of};
 ghost use Rattle.block_tree.specs.Insertions.{IsNodeFor};
 ghost use Rattle.replica_rules.specs.Ruled.{with_vote};
 ghost use Rattle.replica.specs.Changes.{raise_of, leaf_after, tree_of};
-ghost use Rattle.replica.specs.Offers.{votes_sent, with_vote_in, again_step, again_change, new_change, IsDecided};
+ghost use Rattle.replica.specs.Offers.{votes_sent, with_vote_in, again_step, again_change, new_change};
+ghost use Rattle.replica.specs.Offers.{IsDecided};
 
 use crate::change::{Change, Growth};
 use crate::offer::Offer;
@@ -101,7 +102,8 @@ pub(crate) fn raised(
     certificate: &CertificateView,
     high: &High,
 ) -> Result<Option<High>, Fault>
-    ensures made { IfOk result (λ r. r ≡ raise_of (record { block = block; certificate = certificate_of certificate.now }) high.now) }
+    ensures made { IfOk result (λ r. r
+        ≡ raise_of (record { block = block; certificate = certificate_of certificate.now }) high.now) }
     ensures memory { OnErr result (result ≡ Err Fault.Memory) }
 {
     if block.height <= high.block.height {
@@ -130,7 +132,8 @@ fn take_new(
     rules: Rules,
 ) -> Result<Change, Fault>
     requires replica { keyring.now.party < replicas keyring.now.sizes }
-    requires node { IsNodeFor (tree_of state.now.variables) offer.now.core offer.now.certificate offer.now.found.clear node }
+    requires node { IsNodeFor (tree_of state.now.variables) offer.now.core offer.now.certificate
+        offer.now.found.clear node }
     ensures made { IfOk result (λ d. d ≡ new_change keyring.now state.now offer.now node rules) }
     ensures memory { OnErr result (result ≡ Err Fault.Memory) }
 {

@@ -1,7 +1,8 @@
 //! Executing what was decided.
 
 ghost use Rattle.ids.specs.declared.limits.TheConstants.{MOST_TEXT};
-ghost use Rattle.std.specs.Prelude.{◌≡◌, ◌<◌, ◌≤◌, ◌-◌, ◌++◌, [], map, reverse, length, option_map, option_to_list, OnOk, OnErr, IfOk, IfSome, IfNone};
+ghost use Rattle.std.specs.Prelude.{◌≡◌, ◌<◌, ◌≤◌, ◌-◌, ◌++◌, [], map, reverse, length, option_map};
+ghost use Rattle.std.specs.Prelude.{option_to_list, OnOk, OnErr, IfOk, IfSome, IfNone};
 ghost use Rattle.ids.specs.Sizes.{replicas};
 ghost use Rattle.definitions.specs.Histories.{entry_of};
 ghost use Rattle.mempool.specs.Pool.{left_after};
@@ -34,8 +35,8 @@ fn text_of(answer: &Answer) -> Option<ReplyText<'_>>
     Some(text)
 }
 
-/// The reply to an executed command. Each such command came in a frame of these sizes, so it has a client to go to, and
-/// its text is short enough.
+/// The reply to an executed command. Each such command came in a frame of these sizes, so it has a
+/// client to go to, and its text is short enough.
 fn reply(alloc: Global, keyring: &Keyring, answer: &Answer) -> Result<Option<Sending>, Fault>
     requires { keyring.now.party < replicas keyring.now.sizes }
     ensures made { IfOk result (λ r. option_map sent_of r ≡ told_one keyring.now answer.now) }
@@ -93,8 +94,8 @@ fn forget(pool: &mut Mempool, commands: Commands<'_>)
     }
 }
 
-/// Executes the commands of a block, which wait no more then, and sends the replies. Where memory is refused, some of
-/// them were executed.
+/// Executes the commands of a block, which wait no more then, and sends the replies. Where memory
+/// is refused, some of them were executed.
 fn execute_block(
     executor: &mut Executor,
     pool: &mut Mempool,
@@ -105,8 +106,10 @@ fn execute_block(
 ) -> Result<(), Fault>
     requires { keyring.now.party < replicas keyring.now.sizes }
     ensures executed { OnOk result (executor.new ≡ with_commands block.now.core.commands executor.old) }
-    ensures left { OnOk result (pool.new ≡ left_after (reverse (map entry_of block.now.core.commands)) pool.old) }
-    ensures told { OnOk result (out.new ≡ out.old ++ told keyring.now (new_answers executor.old executor.new)) }
+    ensures left { OnOk result
+        (pool.new ≡ left_after (reverse (map entry_of block.now.core.commands)) pool.old) }
+    ensures told { OnOk result
+        (out.new ≡ out.old ++ told keyring.now (new_answers executor.old executor.new)) }
     ensures cut { OnErr result (IsCutIn block.now.core.commands executor.old executor.new pool.old pool.new) }
 {
     let answers = executor.run_block(block.core().commands())?;
@@ -114,8 +117,8 @@ fn execute_block(
     tell(alloc, keyring, &answers, out)
 }
 
-/// Executes the blocks of a branch above one height up to another, lowest first. Where memory is refused, some of their
-/// commands were executed.
+/// Executes the blocks of a branch above one height up to another, lowest first. Where memory is
+/// refused, some of their commands were executed.
 fn execute_between(
     executor: &mut Executor,
     pool: &mut Mempool,
@@ -128,10 +131,14 @@ fn execute_between(
     out: &mut Out,
 ) -> Result<(), Fault>
     requires { keyring.now.party < replicas keyring.now.sizes }
-    ensures executed { OnOk result (executor.new ≡ history_above tip.now tree.now.stored from (to - from) executor.old) }
-    ensures left { OnOk result (pool.new ≡ left_after (history_above tip.now tree.now.stored from (to - from) []) pool.old) }
-    ensures told { OnOk result (out.new ≡ out.old ++ told keyring.now (new_answers executor.old executor.new)) }
-    ensures cut { OnErr result (IsCut tip.now tree.now.stored from to executor.old executor.new pool.old pool.new) }
+    ensures executed { OnOk result
+        (executor.new ≡ history_above tip.now tree.now.stored from (to - from) executor.old) }
+    ensures left { OnOk result
+        (pool.new ≡ left_after (history_above tip.now tree.now.stored from (to - from) []) pool.old) }
+    ensures told { OnOk result
+        (out.new ≡ out.old ++ told keyring.now (new_answers executor.old executor.new)) }
+    ensures cut { OnErr result
+        (IsCut tip.now tree.now.stored from to executor.old executor.new pool.old pool.new) }
 {
     for height in from..to {
         if let Some(block) = block_at(tree, tip, Height(height + 1)) {
@@ -141,7 +148,8 @@ fn execute_between(
     Ok(())
 }
 
-/// Executes what was decided above a height, lowest first. Where memory is refused, some of the commands were executed.
+/// Executes what was decided above a height, lowest first. Where memory is refused, some of the
+/// commands were executed.
 pub(crate) fn execute(
     state: &mut State,
     keyring: &Keyring,
@@ -153,14 +161,19 @@ pub(crate) fn execute(
     ensures rest { state.new ≡ waiting state.new.pending state.old }
     ensures executed { OnOk result (
         let last = state.old.variables.rules.executed in
-        executor.new ≡ history_above last.digest state.old.variables.stored from (last.height - from) executor.old) }
+        executor.new
+        ≡ history_above last.digest state.old.variables.stored from (last.height - from) executor.old) }
     ensures left { OnOk result (
         let last = state.old.variables.rules.executed in
-        state.new.pending ≡ left_after (history_above last.digest state.old.variables.stored from (last.height - from) []) state.old.pending) }
-    ensures told { OnOk result (out.new ≡ out.old ++ told keyring.now (new_answers executor.old executor.new)) }
+        state.new.pending
+        ≡ left_after (history_above last.digest state.old.variables.stored from (last.height - from) [])
+        state.old.pending) }
+    ensures told { OnOk result
+        (out.new ≡ out.old ++ told keyring.now (new_answers executor.old executor.new)) }
     ensures cut { OnErr result (
         let last = state.old.variables.rules.executed in
-        IsCut last.digest state.old.variables.stored from last.height executor.old executor.new state.old.pending state.new.pending) }
+        IsCut last.digest state.old.variables.stored from last.height executor.old executor.new
+        state.old.pending state.new.pending) }
 {
     let last = state.rules.executed();
     execute_between(

@@ -19,7 +19,8 @@ use signed_frames::block_frame;
 fn supply(state: &State, keyring: &Keyring, to: ReplicaId, digest: &Digest) -> Result<Out, Fault>
     requires own { keyring.now.party < replicas keyring.now.sizes }
     requires other { to < replicas keyring.now.sizes }
-    ensures made { IfOk result (λ out. out ≡ supplied keyring.now to (stored_in digest.now state.now.variables.stored)) }
+    ensures made { IfOk result
+        (λ out. out ≡ supplied keyring.now to (stored_in digest.now state.now.variables.stored)) }
     ensures memory { OnErr result (result ≡ Err Fault.Memory) }
 {
     let Some(block) = state.tree.block(digest) else {

@@ -15,7 +15,8 @@ use ids::{Digest, ReplicaId, View};
 use replica_rules::{BlockRef, Candidate};
 use std::marker::Model;
 
-/// A block with its certificate and what a check found of them, and the view that it was proposed for, if it was.
+/// A block with its certificate and what a check found of them, and the view that it was proposed
+/// for, if it was.
 #[derive(Drop)]
 pub(crate) struct Offer<'a, 'b> {
     pub(crate) core: CoreView<'a>,
@@ -31,7 +32,12 @@ impl<'a, 'b> Model for Offer<'a, 'b> {
 
     ghost Value = { Offered };
 
-    ghost view = { λ o. record { core = core_of o.core; certificate = certificate_of o.certificate; found = record { counted = o.counted.now; clear = o.clear }; view = o.view } };
+    ghost view = { λ o. record {
+      core = core_of o.core;
+      certificate = certificate_of o.certificate;
+      found = record { counted = o.counted.now; clear = o.clear };
+      view = o.view;
+    } };
 }
 
 impl<'a, 'b> Offer<'a, 'b> {
@@ -39,7 +45,8 @@ impl<'a, 'b> Offer<'a, 'b> {
     pub(crate) fn of_proposal(proposal: &'b Checked<'a, ProposalView<'a>>) -> Offer<'a, 'b>
         ensures offered { result ≡ proposal_offered proposal.entry.now }
         ensures frame { IsFrame proposal.entry.now.keys.sizes (proposal_of proposal.entry.now.view) }
-        ensures passed { IsTrue (is_passed (check (identity_of proposal.entry.now.keys) (proposal_of proposal.entry.now.view))) }
+        ensures passed { IsTrue
+            (is_passed (check (identity_of proposal.entry.now.keys) (proposal_of proposal.entry.now.view))) }
     {
         let view = proposal.view();
         Offer {
@@ -55,7 +62,8 @@ impl<'a, 'b> Offer<'a, 'b> {
     pub(crate) fn of_block(block: &'b Checked<'a, BlockView<'a>>) -> Offer<'a, 'b>
         ensures offered { result ≡ block_offered block.entry.now }
         ensures frame { IsFrame block.entry.now.keys.sizes (block_of block.entry.now.view) }
-        ensures passed { IsTrue (is_passed (check (identity_of block.entry.now.keys) (block_of block.entry.now.view))) }
+        ensures passed { IsTrue
+            (is_passed (check (identity_of block.entry.now.keys) (block_of block.entry.now.view))) }
     {
         let view = block.view();
         Offer {

@@ -62,9 +62,20 @@ impl Model for Replica {
     ghost use Rattle.std.specs.Prelude.{length};
     ghost use Rattle.replica.specs.StepsTo.{IsWholeOf};
 
-    ghost view = { λ r. record { keys = r.keyring; replica = record { chronicle = r.state.variables.chronicle; standing = standing_of r.standing (length r.executor) } } };
+    ghost view = { λ r. record {
+      keys = r.keyring;
+      replica =
+          record {
+            chronicle = r.state.variables.chronicle;
+            standing = standing_of r.standing (length r.executor);
+          };
+    } };
 
-    ghost invariant = { λ r. IsWholeOf r.keyring (record { chronicle = r.state.variables.chronicle; standing = standing_of r.standing (length r.executor) }) r.state r.executor × (r.keyring.party < replicas r.keyring.sizes) };
+    ghost invariant = { λ r. IsWholeOf r.keyring (record {
+      chronicle = r.state.variables.chronicle;
+      standing = standing_of r.standing (length r.executor);
+    }) r.state r.executor
+        × (r.keyring.party < replicas r.keyring.sizes) };
 }
 
 /// What an input comes to: a change that is to be made, or a refusal.
@@ -78,7 +89,8 @@ fn decide(
     requires replica { keyring.now.party < replicas keyring.now.sizes }
     requires sizes { state.now.pace.sizes ≡ keyring.now.sizes }
     requires votes { state.now.votes.sizes ≡ keyring.now.sizes }
-    ensures decided { (c : Chronicle) → IsWholeOf keyring.now (going c) state.now executor.now → StepsTo keyring.now (input_of input.entry) c (answer result) (after result state.now) }
+    ensures decided { (c : Chronicle) → IsWholeOf keyring.now (going c) state.now executor.now
+        → StepsTo keyring.now (input_of input.entry) c (answer result) (after result state.now) }
     ensures fits { IfOk result (λ d. Fits state.now d) }
     ensures fit { IsFitInput keyring.now.sizes (input_of input.entry) }
 {
@@ -109,7 +121,8 @@ fn take(
     requires replica { keyring.now.party < replicas keyring.now.sizes }
     requires sizes { state.old.pace.sizes ≡ keyring.now.sizes }
     requires votes { state.old.votes.sizes ≡ keyring.now.sizes }
-    ensures steps { (c : Chronicle) → IsWholeOf keyring.now (going c) state.old executor.now → StepsTo keyring.now (input_of input.entry) c result state.new }
+    ensures steps { (c : Chronicle) → IsWholeOf keyring.now (going c) state.old executor.now
+        → StepsTo keyring.now (input_of input.entry) c result state.new }
     ensures fit { IsFitInput keyring.now.sizes (input_of input.entry) }
 {
     let change = decide(state, keyring, executor, input)?;
@@ -168,7 +181,8 @@ impl Replica {
         requires sizes { config ≡ keyring.sizes }
         requires number { number ≡ keyring.party }
         requires replica { number < replicas config }
-        ensures made { IfOk result (λ r. r ≡ record { keys = keyring; replica = record { chronicle = []; standing = running } }) }
+        ensures made { IfOk result
+            (λ r. r ≡ record { keys = keyring; replica = record { chronicle = []; standing = running } }) }
         ensures memory { OnErr result (result ≡ Err Fault.Memory) }
     {
         let executor = Executor::new(alloc)?;
@@ -230,11 +244,11 @@ impl Replica {
         leads(&self.state, &self.keyring) && !self.state.pool.is_empty()
     }
 
-    /// Whether a beat brings something at once: it wants one, and none of its proposals waits for votes, or the next one
-    /// would be too low to be voted for.
+    /// Whether a beat brings something at once: it wants one, and none of its proposals waits for
+    /// votes, or the next one would be too low to be voted for.
     ///
-    /// So it is after each certificate while requests wait, when a request comes to a leader that was idle, and when a
-    /// new leader begins below heights that were voted for in views before.
+    /// So it is after each certificate while requests wait, when a request comes to a leader that
+    /// was idle, and when a new leader begins below heights that were voted for in views before.
     pub fn wants_beat_now(&self) -> bool
         ensures { result ≡ wants_beat_now self.now }
     {
@@ -256,7 +270,8 @@ impl Replica {
     #[tactic(auto, unfolding(definitions::specs::Sendings::fetch_frame))]
     pub fn write_fetch(&self, to: ReplicaId, block: &Digest) -> Result<Vec<u8>, Fault>
         requires { to < replicas self.now.keys.sizes }
-        ensures made { IfOk result (λ frame. frame.items ≡ spelling (fetch_frame (identity_of self.now.keys) to block.now)) }
+        ensures made { IfOk result
+            (λ frame. frame.items ≡ spelling (fetch_frame (identity_of self.now.keys) to block.now)) }
         ensures memory { OnErr result (result ≡ Err Fault.Memory) }
     {
         fetch_frame(self.state.alloc, &self.keyring, to, block)
@@ -264,14 +279,17 @@ impl Replica {
 
     /// Takes an input: one step, which answers what goes out.
     ///
-    /// After `UnknownParent`, `BadHeight`, `WrongJustify`, `Crowded` and `PoolFull` it is as before. After `Full`,
-    /// `Conflict` and `Memory` it is stopped. Where memory is refused in between, to execute what the step decided, the
-    /// step stands, the history ends behind the last command that was executed, and nothing goes out.
+    /// After `UnknownParent`, `BadHeight`, `WrongJustify`, `Crowded` and `PoolFull` it is as
+    /// before. After `Full`, `Conflict` and `Memory` it is stopped. Where memory is refused in
+    /// between, to execute what the step decided, the step stands, the history ends behind the last
+    /// command that was executed, and nothing goes out.
     pub fn step(&mut self, input: Input<'_>) -> Result<Out, Fault>
         requires { IsTrue (is_addressed self.old.keys input) }
-        ensures stepped { Stepped (identity_of self.old.keys) (input_of input.entry) self.old.replica result self.new.replica }
+        ensures stepped { Stepped (identity_of self.old.keys) (input_of input.entry) self.old.replica result
+            self.new.replica }
         ensures keys { self.new.keys ≡ self.old.keys }
-        ensures grows { (length self.new.replica.chronicle ≡ length self.old.replica.chronicle) ⊎ (length self.new.replica.chronicle ≡ suc (length self.old.replica.chronicle)) }
+        ensures grows { (length self.new.replica.chronicle ≡ length self.old.replica.chronicle)
+            ⊎ (length self.new.replica.chronicle ≡ suc (length self.old.replica.chronicle)) }
     {
         if !self.standing.is_running() {
             return Err(Fault::Stopped);

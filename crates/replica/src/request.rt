@@ -18,7 +18,8 @@ use mempool::Pending;
 
 /// A request that comes after all that was executed for its client: it waits, unless it does so already.
 fn wait(state: &State, request: &CommandView) -> Result<Change, Fault>
-    ensures { IsWaiting state.now (command_of request.now) result (is_full (command_of request.now) state.now.pending) }
+    ensures { IsWaiting state.now (command_of request.now) result
+        (is_full (command_of request.now) state.now.pending) }
 {
     let growth = match state.pool.plan(request)? {
         Some(request) => Growth::Request(request),
@@ -52,7 +53,8 @@ fn again(
     Ok(out)
 }
 
-/// What a request comes to that comes no later than what was executed for its client: the last reply again, or nothing.
+/// What a request comes to that comes no later than what was executed for its client: the last
+/// reply again, or nothing.
 fn repeat(
     state: &State,
     keyring: &Keyring,
@@ -60,7 +62,8 @@ fn repeat(
     request: &CommandView,
 ) -> Result<Change, Fault>
     requires { keyring.now.party < replicas keyring.now.sizes }
-    ensures made { IfOk result (λ d. d ≡ old_change keyring.now state.now executor.now (command_of request.now)) }
+    ensures made { IfOk result
+        (λ d. d ≡ old_change keyring.now state.now executor.now (command_of request.now)) }
     ensures memory { OnErr result (result ≡ Err Fault.Memory) }
 {
     let out = again(state, keyring, executor, request)?;

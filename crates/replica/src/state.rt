@@ -91,7 +91,8 @@ fn grow(
 ) -> Result<(), Fault>
     requires { MayGrow tree.old votes.old.sizes growth }
     ensures grown { OnOk result (tree.new ≡ record tree.old { stored = grown growth tree.old.stored }) }
-    ensures collected { OnOk result (votes.new ≡ record votes.old { kept = collected growth votes.old.kept }) }
+    ensures collected { OnOk result
+        (votes.new ≡ record votes.old { kept = collected growth votes.old.kept }) }
     ensures pended { OnOk result (pool.new ≡ pended growth pool.old) }
     ensures same_tree { OnErr result (tree.new ≡ tree.old) }
     ensures same_votes { OnErr result (votes.new ≡ votes.old) }

@@ -51,12 +51,13 @@ fn certifying(noted: Change, high: High) -> Change
     }
 }
 
-/// A vote for a block that is higher than that of the highest certificate: each voter's first one is collected, and
-/// the one that completes a quorum makes the certificate.
+/// A vote for a block that is higher than that of the highest certificate: each voter's first one
+/// is collected, and the one that completes a quorum makes the certificate.
 fn count(state: &State, block: BlockRef, vote: &VoteView) -> Result<Change, Fault>
     requires { IsVote state.now.votes.sizes (vote_of vote.now) }
     ensures made { IfOk result (λ d. d ≡ vote_counted state.now block (vote_of vote.now)
-        (judged (quorum state.now.votes.sizes) (vote_of vote.now).voter (votes_for block.digest state.now.votes.kept))) }
+        (judged (quorum state.now.votes.sizes) (vote_of vote.now).voter
+        (votes_for block.digest state.now.votes.kept))) }
     ensures memory { OnErr result (result ≡ Err Fault.Memory) }
 {
     match state.votes.judge(&block.digest, vote.voter()) {
@@ -90,7 +91,8 @@ fn take_vote(state: &State, block: BlockRef, vote: &VoteView) -> Result<Change, 
 /// What a vote comes to: `UnknownParent` where its block isn't in the tree.
 pub(crate) fn decide_vote(state: &State, vote: &VoteFrameView) -> Result<Change, Fault>
     requires { IsVote state.now.votes.sizes (frame_vote (vote_frame_of vote.now)) }
-    ensures { IsVoteDecided state.now (frame_digest (vote_frame_of vote.now)) (frame_vote (vote_frame_of vote.now)) result }
+    ensures { IsVoteDecided state.now (frame_digest (vote_frame_of vote.now))
+        (frame_vote (vote_frame_of vote.now)) result }
 {
     let digest = Digest(*vote.digest());
     let Some(height) = state.tree.height(&digest) else {

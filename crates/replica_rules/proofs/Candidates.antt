@@ -1,13 +1,16 @@
 -- A new block over its parent in a tree that doesn't have it.
-use Rattle.std.proofs.Common.{ℕ, suc, ◌≡◌, ◌<◌, ◌&&◌, Bool, true, false, List, [], ◌∷◌, length, cond, refl, sym, ap, subst, ◌∙◌, arith, inl, inr, nat_lt}
+use Rattle.std.proofs.Common.{ℕ, suc, ◌≡◌, ◌<◌, ◌&&◌, Bool, true, false, List, [], ◌∷◌, length, cond, refl}
+use Rattle.std.proofs.Common.{sym, ap, subst, ◌∙◌, arith, inl, inr, nat_lt}
 use Rattle.std.specs.Prelude.{◌||◌}
 use Rattle.std.proofs.lemmas.Bool.{lt-ltb}
 use Rattle.definitions.specs.Branches.{Block, Branch, extends, branch_eq, justify_height, just1}
 use Rattle.definitions.specs.Digests.{digest_of}
 use Rattle.definitions.specs.Frames.{Core, Certificate}
 use Rattle.definitions.specs.Lists.{Among}
-use Rattle.definitions.specs.Trees.{Stored, blocks, block_of, is_clear, clear_above, Placing, Placing.grows, placing, IsTree}
-use Rattle.definitions.proofs.Branches.{extends-true, extends-from, extends-cases, Extends-trans, branch_eq-decides, just1-extends, justify_height-just1}
+use Rattle.definitions.specs.Trees.{Stored, blocks, block_of, is_clear, clear_above, Placing, Placing.grows}
+use Rattle.definitions.specs.Trees.{placing, IsTree}
+use Rattle.definitions.proofs.Branches.{extends-true, extends-from, extends-cases, Extends-trans}
+use Rattle.definitions.proofs.Branches.{branch_eq-decides, just1-extends, justify_height-just1}
 use Rattle.definitions.proofs.Trees.{IsGrowth, IsPlaced, placed, tree-below, growth-tree}
 use Rattle.block_tree.proofs.Clear.{branch-differs, absent-clear}
 use Rattle.replica_rules.specs.Ruled.{ref_of}
@@ -26,7 +29,8 @@ extends-over b parent x differs =
       | inl e ↦ absurd (differs e)
       | inr k ↦ extends-from parent x k
     ])
-    (λ h. extends-from (b ∷ parent) x (Extends-trans (b ∷ parent) parent x (b ∷ [], refl) (extends-true parent x h)))
+    (λ h. extends-from (b ∷ parent) x
+    (Extends-trans (b ∷ parent) parent x (b ∷ [], refl) (extends-true parent x h)))
 
 -- ---- clear marks
 
@@ -49,20 +53,23 @@ clear_below h (b ∷ p) s all lt =
     let other : s.branch ≡ b ∷ p → ⊥ =
     λ e. (let k = ap (λ (x : Branch). length x) e in omega (arith, k, lt)) in
     let mark =
-    skipped s.clear (branch_eq s.branch (b ∷ p)) (is_clear (b ∷ p) all) (branch-differs s.branch (b ∷ p) other) in
+    skipped s.clear (branch_eq s.branch (b ∷ p)) (is_clear (b ∷ p) all)
+    (branch-differs s.branch (b ∷ p) other) in
     let rest = clear_below h p s all (omega (arith, lt)) in
     λ i. cond (nat_lt h (suc (length p))) (mark i && rest i) true
 
 -- it is clear where its own mark is and its parent's branch
 pub clear-over : (b : Block) (parent : Branch) (q : Certificate) (clear : Bool) (all : List Stored)
     → b.justify < suc (length parent) → (Among (b ∷ parent) (blocks all) → ⊥)
-    → clear_above b.justify (b ∷ parent) (record { branch = b ∷ parent; certificate = q; clear = clear } ∷ all)
+    → clear_above b.justify (b ∷ parent)
+    (record { branch = b ∷ parent; certificate = q; clear = clear } ∷ all)
     ≡ (clear && clear_above b.justify parent all)
 unfolding clear_above is_clear
 clear-over b parent q clear all lt absent =
     let s : Stored = record { branch = b ∷ parent; certificate = q; clear = clear } in
     let mark =
-    own clear (branch_eq (b ∷ parent) (b ∷ parent)) (is_clear (b ∷ parent) all) ((branch_eq-decides (b ∷ parent) (b ∷ parent)).1 refl) (absent-clear (b ∷ parent) all absent) in
+    own clear (branch_eq (b ∷ parent) (b ∷ parent)) (is_clear (b ∷ parent) all)
+    ((branch_eq-decides (b ∷ parent) (b ∷ parent)).1 refl) (absent-clear (b ∷ parent) all absent) in
     let low : length parent < length s.branch = omega arith in
     let rest = clear_below b.justify parent s all low in
     (rw (lt-ltb b.justify (suc (length parent)) lt) refl) ∙ (λ i. mark i && rest i)
@@ -77,7 +84,8 @@ justify_of : (core : Core) (parent : Branch) → justify_height (block_of core �
 unfolding justify_height
 justify_of core parent = refl
 
-module _ (most : ℕ) (core : Core) (q : Certificate) (t : List Branch) (b parent : Branch) (tr : IsTree t) (below : core.justify_height < core.height) (g : IsGrowth most core q t b parent) where
+module _ (most : ℕ) (core : Core) (q : Certificate) (t : List Branch) (b parent : Branch) (tr : IsTree t)
+    (below : core.justify_height < core.height) (g : IsGrowth most core q t b parent) where
   justified_height : length (just1 b) ≡ core.justify_height
   justified_height =
       justify_height-just1 b ((growth-tree most core q t b parent tr below g).branches b (inl refl))
@@ -85,13 +93,14 @@ module _ (most : ℕ) (core : Core) (q : Certificate) (t : List Branch) (b paren
 
   -- what it justifies stands in the tree
   pub just1-among : Among (just1 b) t
-  just1-among = elim (tree-below (b ∷ t) (growth-tree most core q t b parent tr below g) b (just1 b) (inl refl) (just1-extends b)) [
-    | inl e ↦ absurd (
-        let k = ap (λ (x : Branch). length x) e in
-        let i : length b ≡ suc (length parent) = ap (λ (x : Branch). length x) g.is in
-        omega (arith, k, i, justified_height, below, g.height))
-    | inr m ↦ m
-  ]
+  just1-among = elim (tree-below (b ∷ t) (growth-tree most core q t b parent tr below g) b (just1 b)
+      (inl refl) (just1-extends b)) [
+        | inl e ↦ absurd (
+            let k = ap (λ (x : Branch). length x) e in
+            let i : length b ≡ suc (length parent) = ap (λ (x : Branch). length x) g.is in
+            omega (arith, k, i, justified_height, below, g.height))
+        | inr m ↦ m
+      ]
 
   -- and is named by certificate and core
   pub just1-named : ref_of (just1 b) ≡ record { digest = q.digest; height = core.justify_height }

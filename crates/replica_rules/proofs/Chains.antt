@@ -1,5 +1,6 @@
 -- The chain below a block that stands in a tree, and what it decides.
-use Rattle.std.proofs.Common.{◌≡◌, ◌&&◌, not, Bool, true, false, List, length, cond, if◌then◌else◌, refl, sym, ap, subst, ◌∙◌, Some, None, option_map, nat_lt}
+use Rattle.std.proofs.Common.{◌≡◌, ◌&&◌, not, Bool, true, false, List, length, cond, if◌then◌else◌, refl}
+use Rattle.std.proofs.Common.{sym, ap, subst, ◌∙◌, Some, None, option_map, nat_lt}
 use Rattle.std.specs.Option.{option_and_then}
 use Rattle.definitions.specs.Bytes.{Bytes}
 use Rattle.definitions.specs.Lists.{Among}
@@ -12,7 +13,9 @@ use Rattle.definitions.proofs.Trees.{found-in, found-itself, tree-below}
 use Rattle.replica_rules.specs.declared.block_ref.BlockRef.{BlockRef}
 use Rattle.replica_rules.specs.declared.chain.Chain.{Chain}
 use Rattle.replica_rules.specs.Ruled.{ref_of}
-use Rattle.replica_rules.specs.Chains.{justified_by, justified_in, chain_over, chain_in, is_decisive, higher_of, decides_against_in, executed_after, decided_with, decided_in}
+use Rattle.replica_rules.specs.Chains.{justified_by, justified_in, chain_over, chain_in, is_decisive}
+use Rattle.replica_rules.specs.Chains.{higher_of, decides_against_in, executed_after, decided_with}
+use Rattle.replica_rules.specs.Chains.{decided_in}
 use Rattle.replica_rules.proofs.Held.{Holds, executed-found, extends-found}
 
 -- the chain below a block
@@ -48,7 +51,8 @@ module _ (all : List Stored) (tr : IsTree (blocks all)) where
       let three : justified_in (digest_of (just2 b)) all ≡ Some (ref_of (just3 b)) =
       justified_itself (just2 b) among2 ∙ ap (λ (x : Branch). Some (ref_of x)) (just3-is b) in
       ap (option_and_then (chain_over (ref_of (just1 b)) all)) two
-      ∙ ap (option_map (λ (third : BlockRef). record { first = ref_of (just1 b); second = ref_of (just2 b); third = third }))
+      ∙ ap (option_map (λ (third : BlockRef).
+      record { first = ref_of (just1 b); second = ref_of (just2 b); third = third }))
       three
 
   pub third-among : (b : Branch) → Among (just1 b) (blocks all) → Among (just3 b) (blocks all)
@@ -64,7 +68,8 @@ pub decided-found : (all : List Stored) (d : Bytes) (b : Branch) → IsTree (blo
     → decided_in d all ≡ (if decides b then Some (digest_of (just3 b)) else None)
 decided-found all d b tr f =
     let among = tree-below (blocks all) tr b (just1 b) (found-in d (blocks all) b f).0 (just1-extends b) in
-    ap (option_and_then (λ (first : BlockRef). option_and_then decided_with (chain_in first all))) (justified-found all tr d b f)
+    ap (option_and_then (λ (first : BlockRef). option_and_then decided_with (chain_in first all)))
+    (justified-found all tr d b f)
     ∙ ap (option_and_then decided_with) (chain-found all tr b among)
     ∙ ap (λ (t : Bool). cond t (Some (digest_of (just3 b))) None) (decisive-is b)
 
@@ -76,9 +81,11 @@ against-found all c b h m =
     let third = found-itself (blocks all) h.is_tree (just3 b) (third-among all h.is_tree b m) in
     let last = executed-found all c h in
     let up =
-    extends-found (digest_of (just3 b)) (digest_of (executed c)) (blocks all) (just3 b) (executed c) third last in
+    extends-found (digest_of (just3 b)) (digest_of (executed c)) (blocks all) (just3 b) (executed c) third
+    last in
     let down =
-    extends-found (digest_of (executed c)) (digest_of (just3 b)) (blocks all) (executed c) (just3 b) last third in
+    extends-found (digest_of (executed c)) (digest_of (just3 b)) (blocks all) (executed c) (just3 b) last
+    third in
     λ i. decisive-is b i && (not (up i) && not (down i))
 
 pub higher-ref : (x y : Branch) (t : Bool) → cond t (ref_of y) (ref_of x) ≡ ref_of (cond t y x)

@@ -38,9 +38,11 @@ executed-found all c h = found-itself (blocks all) h.is_tree (executed c) h.exec
 pub extends-found : (a b : Bytes) (t : List Branch) (x y : Branch) → find_in a t ≡ Some x
     → find_in b t ≡ Some y → extends_in a b t ≡ extends x y
 extends-found a b t x y f g =
-    ap (λ (o : Option Branch). elim o [ Some x ↦ elim (find_in b t) [ Some y ↦ extends x y | None ↦ false ] | None ↦ false ]) f
+    ap (λ (o : Option Branch). elim o
+    [ Some x ↦ elim (find_in b t) [ Some y ↦ extends x y | None ↦ false ] | None ↦ false ]) f
     ∙ ap (λ (o : Option Branch). elim o [ Some y ↦ extends x y | None ↦ false ]) g
 
 pub clear-found : (d : Bytes) (height : ℕ) (all : List Stored) (b : Branch) → find_in d (blocks all) ≡ Some b
     → clear_above_in d height all ≡ clear_above height b all
-clear-found d height all b f = ap (λ (o : Option Branch). elim o [ Some b ↦ clear_above height b all | None ↦ false ]) f
+clear-found d height all b f =
+    ap (λ (o : Option Branch). elim o [ Some b ↦ clear_above height b all | None ↦ false ]) f

@@ -1,6 +1,7 @@
 -- What the rules say of a vote, by plain values, is what the whole chronicle says.
 use Rattle.ids.specs.declared.limits.TheConstants.{MOST_BLOCKS}
-use Rattle.std.proofs.Common.{ℕ, suc, ◌≡◌, ◌<◌, ◌==◌, ◌&&◌, Bool, true, false, List, ◌∷◌, length, refl, sym, ap, subst, ◌∙◌, nat_lt, Option, Some, None}
+use Rattle.std.proofs.Common.{ℕ, suc, ◌≡◌, ◌<◌, ◌==◌, ◌&&◌, Bool, true, false, List, ◌∷◌, length, refl, sym}
+use Rattle.std.proofs.Common.{ap, subst, ◌∙◌, nat_lt, Option, Some, None}
 use Rattle.std.specs.Prelude.{◌||◌}
 use Rattle.ids.specs.Sizes.{Sizes}
 use Rattle.definitions.specs.Bytes.{Bytes}
@@ -9,7 +10,8 @@ use Rattle.definitions.specs.Digests.{digest_of}
 use Rattle.definitions.specs.Frames.{Core, Certificate}
 use Rattle.definitions.specs.Lists.{Among}
 use Rattle.definitions.specs.Trees.{Stored, blocks, find_in, block_of, clear_above, Placing.grows, placing}
-use Rattle.definitions.specs.Chronicles.{Admitted, Step.took_block, Chronicle, taken, stored, stored_of, tree, vheight, lock, may_vote, IsSound}
+use Rattle.definitions.specs.Chronicles.{Admitted, Step.took_block, Chronicle, taken, stored, stored_of}
+use Rattle.definitions.specs.Chronicles.{tree, vheight, lock, may_vote, IsSound}
 use Rattle.definitions.specs.States.{view}
 use Rattle.definitions.specs.Rulings.{votes_for}
 use Rattle.definitions.proofs.Trees.{IsGrowth, growth-new}
@@ -29,7 +31,8 @@ module _ (all : List Stored) (c : Chronicle) (h : Holds all c) where
 
   vote_found : (d : Bytes) (x : Branch) (height justified : ℕ) → find_in d (blocks all) ≡ Some x
       → may_vote_at (ruled_by c) d height justified all
-      ≡ ((nat_lt (vheight c) height && (extends x (lock c) || nat_lt (length (lock c)) justified)) && clear_above justified x all)
+      ≡ ((nat_lt (vheight c) height && (extends x (lock c) || nat_lt (length (lock c)) justified)) &&
+      clear_above justified x all)
   vote_found d x height justified f =
       λ i. safe_found d x height justified f i && clear-found d justified all x f i
 
@@ -38,7 +41,8 @@ module _ (all : List Stored) (c : Chronicle) (h : Holds all c) where
       → may_vote_in (ruled_by c) d all ≡ (may_vote b c && clear_above (justify_height b) b all)
   unfolding may_vote
   may-vote-found d b f =
-      ap (λ (o : Option Branch). elim o [ Some b ↦ may_vote_at (ruled_by c) d (length b) (justify_height b) all | None ↦ false ]) f
+      ap (λ (o : Option Branch). elim o
+      [ Some b ↦ may_vote_at (ruled_by c) d (length b) (justify_height b) all | None ↦ false ]) f
       ∙ vote_found d b (length b) (justify_height b) f
 
   swapped : (x y z : Bool) → x && (y && z) ≡ y && (x && z)
@@ -50,24 +54,34 @@ module _ (all : List Stored) (c : Chronicle) (h : Holds all c) where
   pub may-vote-grown : (most : ℕ) (core : Core) (q s : Certificate) (clear : Bool) (b parent : Branch)
       → core.justify_height < core.height → IsGrowth most core q (blocks all) b parent
       → may_vote_over (ruled_by c) (candidate_of core clear) all
-      ≡ (may_vote b c && clear_above (justify_height b) b (record { branch = b; certificate = s; clear = clear } ∷ all))
+      ≡ (may_vote b c && clear_above (justify_height b) b
+      (record { branch = b; certificate = s; clear = clear } ∷ all))
   unfolding may_vote justify_height
   may-vote-grown most core q s clear b parent below g =
       let new : Among (block_of core ∷ parent) (blocks all) → ⊥ =
-      subst (λ (x : Branch). Among x (blocks all) → ⊥) g.is (growth-new most core q (blocks all) b parent g) in
+      subst (λ (x : Branch). Among x (blocks all) → ⊥) g.is (growth-new most core q (blocks all) b parent g)
+      in
       let other : lock c ≡ block_of core ∷ parent → ⊥ =
       λ e. new (subst (λ (x : Branch). Among x (blocks all)) e h.lock) in
       let low : core.justify_height < suc (length parent) =
       subst (λ (n : ℕ). core.justify_height < n) g.height below in
       let safe : Bool =
-      nat_lt (vheight c) core.height && (extends parent (lock c) || nat_lt (length (lock c)) core.justify_height) in
+      nat_lt (vheight c) core.height
+      && (extends parent (lock c) || nat_lt (length (lock c)) core.justify_height) in
       let marks = clear-over (block_of core) parent s clear all low new in
       let path = extends-over (block_of core) parent (lock c) other in
-      let whole : may_vote_over (ruled_by c) (candidate_of core clear) all ≡ (safe && (clear && clear_above core.justify_height parent all)) =
-      ap (λ (x : Bool). clear && x) (vote_found core.parent parent core.height core.justify_height g.parent_found)
+      let whole : may_vote_over (ruled_by c) (candidate_of core clear) all
+      ≡ (safe && (clear && clear_above core.justify_height parent all)) =
+      ap (λ (x : Bool). clear && x)
+      (vote_found core.parent parent core.height core.justify_height g.parent_found)
       ∙ swapped clear safe (clear_above core.justify_height parent all) in
-      subst (λ (x : Branch). may_vote_over (ruled_by c) (candidate_of core clear) all ≡ (may_vote x c && clear_above (justify_height x) x (record { branch = x; certificate = s; clear = clear } ∷ all))) (sym g.is)
-      (whole ∙ (λ i. (nat_lt (vheight c) (g.height i) && (sym path i || nat_lt (length (lock c)) core.justify_height)) && sym marks i))
+      subst (λ (x : Branch). may_vote_over (ruled_by c) (candidate_of core clear) all
+      ≡ (may_vote x c && clear_above (justify_height x) x
+      (record { branch = x; certificate = s; clear = clear } ∷ all))) (sym g.is)
+      (whole
+      ∙ (λ i.
+      (nat_lt (vheight c) (g.height i) && (sym path i || nat_lt (length (lock c)) core.justify_height))
+      && sym marks i))
 
 -- ---- of a chronicle's own tree
 
@@ -87,7 +101,8 @@ pub may-vote-new : (sizes : Sizes) (c : Chronicle) (core : Core) (q : Certificat
 unfolding tree
 may-vote-new sizes c core q a s below e =
     let g = grown MOST_BLOCKS core q (blocks (stored c)) a.branch e in
-    may-vote-grown (stored c) c (sound-holds sizes c s) MOST_BLOCKS core q a.certificate a.clear a.branch g.0 below g.1
+    may-vote-grown (stored c) c (sound-holds sizes c s) MOST_BLOCKS core q a.certificate a.clear a.branch
+    g.0 below g.1
 
 -- ---- the vote on a proposal
 
@@ -105,7 +120,8 @@ pub votes-known : (sizes : Sizes) (w : ℕ) (c : Chronicle) (d : Bytes) (a : Adm
     → votes_for sizes (Some w) a c ≡ ((w == view sizes c) && may_vote_in (ruled_by c) d (stored c))
 unfolding votes_for
 votes-known sizes w c d a s n f =
-    ap (λ (all : List Stored). (w == view sizes c) && (may_vote a.branch c && clear_above (justify_height a.branch) a.branch all)) (stored-known a c n)
+    ap (λ (all : List Stored). (w == view sizes c)
+    && (may_vote a.branch c && clear_above (justify_height a.branch) a.branch all)) (stored-known a c n)
     ∙ ap (λ (x : Bool). (w == view sizes c) && x) (sym (may-vote-known sizes c d a.branch s f))
 
 pub votes-new : (sizes : Sizes) (w : ℕ) (c : Chronicle) (core : Core) (q : Certificate) (a : Admitted)
@@ -115,5 +131,6 @@ pub votes-new : (sizes : Sizes) (w : ℕ) (c : Chronicle) (core : Core) (q : Cer
     ≡ ((w == view sizes c) && may_vote_over (ruled_by c) (candidate_of core a.clear) (stored c))
 unfolding votes_for
 votes-new sizes w c core q a s below n e =
-    ap (λ (all : List Stored). (w == view sizes c) && (may_vote a.branch c && clear_above (justify_height a.branch) a.branch all)) (stored-new a c n)
+    ap (λ (all : List Stored). (w == view sizes c)
+    && (may_vote a.branch c && clear_above (justify_height a.branch) a.branch all)) (stored-new a c n)
     ∙ ap (λ (x : Bool). (w == view sizes c) && x) (sym (may-vote-new sizes c core q a s below e))

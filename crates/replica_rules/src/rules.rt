@@ -5,7 +5,8 @@ ghost use Rattle.definitions.specs.Trees.{blocks, find_in};
 ghost use Rattle.definitions.specs.Chronicles.{Chronicle, Admitted};
 ghost use Rattle.replica_rules.specs.Ruled.{ref_of, ruled_by};
 ghost use Rattle.replica_rules.specs.Votes.{is_safe_in, may_vote_at, may_vote_in, may_vote_over};
-ghost use Rattle.replica_rules.specs.Chains.{decides_against_in, executed_after, higher_of, ruled_after, decided_in};
+ghost use Rattle.replica_rules.specs.Chains.{decides_against_in, executed_after, higher_of, ruled_after};
+ghost use Rattle.replica_rules.specs.Chains.{decided_in};
 
 use crate::block_ref::{BlockRef, justified};
 use crate::candidate::Candidate;
@@ -84,9 +85,10 @@ impl Rules {
 
     /// The same of a block that does not stand in the tree, over its parent.
     ///
-    /// It is safe where it is higher than all that was voted for, and its parent extends the lock or the block
-    /// that it justifies is above the lock. It is clear where it is itself, and each block of its parent's branch
-    /// above the one that it justifies. It is false where the parent does not stand in the tree.
+    /// It is safe where it is higher than all that was voted for, and its parent extends the lock
+    /// or the block that it justifies is above the lock. It is clear where it is itself, and each
+    /// block of its parent's branch above the one that it justifies. It is false where the parent
+    /// does not stand in the tree.
     pub fn may_vote_on(&self, tree: &Tree, block: &Candidate) -> bool
         ensures { result ≡ may_vote_over self.now block.now tree.now.stored }
     {
@@ -132,12 +134,12 @@ impl Rules {
         }
     }
 
-    /// The rules after a new block that justifies this one, but for the vote: the lock rises, and the block that
-    /// is decided becomes the last executed one where it is higher.
+    /// The rules after a new block that justifies this one, but for the vote: the lock rises, and
+    /// the block that is decided becomes the last executed one where it is higher.
     ///
-    /// `Conflict` comes where a block is decided that conflicts with the last executed one, or this one does not
-    /// stand in the tree. The new block need not stand there. Where the one that it justifies does not, the rules
-    /// stay as they are.
+    /// `Conflict` comes where a block is decided that conflicts with the last executed one, or this
+    /// one does not stand in the tree. The new block need not stand there. Where the one that it
+    /// justifies does not, the rules stay as they are.
     pub fn taking(&self, tree: &Tree, justified: BlockRef) -> Result<Rules, Fault>
         ensures { result ≡ ruled_after self.now justified tree.now.stored }
     {

@@ -2,7 +2,9 @@
 
 ghost use Rattle.std.specs.Prelude.{◌≡◌, ◌+◌, ◌^◌, ◌<◌, ◌++◌, codes, length, OnOk, OnErr, IfOk};
 ghost use Rattle.std.specs.List.{flat_map};
-ghost use Rattle.run_report.specs.Reports.{answer_text, kind_text, destination_text, frame_text, frames_text, receipt_text, history_text, other_frame, sent_in, other_receipt, accepted_in, outcome_text};
+ghost use Rattle.run_report.specs.Reports.{answer_text, kind_text, destination_text, frame_text};
+ghost use Rattle.run_report.specs.Reports.{frames_text, receipt_text, history_text, other_frame, sent_in};
+ghost use Rattle.run_report.specs.Reports.{other_receipt, accepted_in, outcome_text};
 
 use appending::append;
 use ids::Fault;
@@ -190,8 +192,8 @@ fn accepted_in(receipts: &[Accepted], event: u64) -> usize
     other_receipt(receipts, event).unwrap_or(receipts.len())
 }
 
-/// What is told of a run: each event with what was sent and accepted in it, and then the histories (docs/SCHEDULES.md
-/// has the lines).
+/// What is told of a run: each event with what was sent and accepted in it, and then the histories
+/// (docs/SCHEDULES.md has the lines).
 pub fn text_of(alloc: Global, outcome: &Outcome) -> Result<Vec<u8>, Fault>
     ensures told { IfOk result (λ text. text.items ≡ outcome_text outcome.now) }
     ensures memory { OnErr result (result ≡ Err Fault.Memory) }

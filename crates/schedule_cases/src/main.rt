@@ -1,10 +1,11 @@
-//! Runs many schedules of the simulator, each behind a line that names it, and prints what happened in each. What is
-//! wanted was computed by an independent program.
+//! Runs many schedules of the simulator, each behind a line that names it, and prints what happened
+//! in each. What is wanted was computed by an independent program.
 //!
-//! A line of standard input that begins with `:` isn't one of a schedule: `: NAME` begins a schedule, `:cut` takes away
-//! the last byte of what stands so far, by `:reader fails` a read fails behind the schedule, and by `:room N` the writer
-//! has room for N bytes. Printed are the line of the name, what is written of the run and, where there is no outcome,
-//! the line that `hsim` prints on standard error.
+//! A line of standard input that begins with `:` isn't one of a schedule: `: NAME` begins a
+//! schedule, `:cut` takes away the last byte of what stands so far, by `:reader fails` a read fails
+//! behind the schedule, and by `:room N` the writer has room for N bytes. Printed are the line of
+//! the name, what is written of the run and, where there is no outcome, the line that `hsim` prints
+//! on standard error.
 #![tactic(auto)]
 
 mod cases;

@@ -14,23 +14,28 @@ use Rattle.server.specs.declared.schedule.Schedule.{Schedule}
 use Rattle.server.specs.declared.sim_fault.SimFault.{SimFault}
 use Rattle.server.specs.declared.sim_fault.SimFault.TheVariants as sim
 
-pub run_told : (r : Result (Vec ℕ Global) refusal.Fault) (s : Schedule) (o : Outcome) → IfOk r (λ text. text.items ≡ outcome_text o) → IsRunOf (setting_of s.heading) s.events.items o
+pub run_told : (r : Result (Vec ℕ Global) refusal.Fault) (s : Schedule) (o : Outcome)
+    → IfOk r (λ text. text.items ≡ outcome_text o) → IsRunOf (setting_of s.heading) s.events.items o
     → IfOk r (λ text. IsTextOfRun s text.items)
 run_told (Ok text) s o is ran = record { outcome = o; ran = ran; tells = is }
 run_told (Err e) s o is ran = tt
 
-pub right_in : (known : Option Bytes) (text : Bytes) (fault : SimFault) → IfSome known (λ xs. text ≡ xs) → IsWhyNot text fault → IfSome known (λ xs. IsRightIn xs fault)
+pub right_in : (known : Option Bytes) (text : Bytes) (fault : SimFault) → IfSome known (λ xs. text ≡ xs)
+    → IsWhyNot text fault → IfSome known (λ xs. IsRightIn xs fault)
 right_in None text fault read why = tt
 right_in (Some xs) text (sim.Line number) read why = rw (← read) why
 right_in (Some xs) text (sim.Fault fault) read why = tt
 
-pub told_of : (known old new : Option Bytes) (input text : Bytes) (s : Schedule) → IfSome known (λ xs. input ≡ xs) → IsTextOf s input → IsTextOfRun s text → Appends old new text
+pub told_of : (known old new : Option Bytes) (input text : Bytes) (s : Schedule)
+    → IfSome known (λ xs. input ≡ xs) → IsTextOf s input → IsTextOfRun s text → Appends old new text
     → IfSome known (IsToldOf old new)
 told_of None old new input text s read is told written = tt
-told_of (Some xs) old new input text s read is told written = record { schedule = s; read = rw (← read) is; text = text; told = told; written = written }
+told_of (Some xs) old new input text s read is told written =
+    record { schedule = s; read = rw (← read) is; text = text; told = told; written = written }
 
 -- what a call promised where it went well holds where its answer, with the error changed, did
-pub on_ok : {A E D : Type 0} (before : Result A E) (after : Result A D) {Q P : Type 0} → is_ok after ≡ is_ok before → OnOk before Q → (Q → P) → OnOk after P
+pub on_ok : {A E D : Type 0} (before : Result A E) (after : Result A D) {Q P : Type 0}
+    → is_ok after ≡ is_ok before → OnOk before Q → (Q → P) → OnOk after P
 on_ok (Ok x) (Ok y) same q then = then q
 on_ok (Ok x) (Err e) same q then = tt
 on_ok (Err e) (Ok y) same q then = let no : ⊥ = cc (same) in absurd no

@@ -21,7 +21,8 @@ abbrev pub fault_of_line : NotRead → ℕ → SimFault
 fault_of_line not_read.Bad number = Line number
 fault_of_line not_read.Memory number = Fault Memory
 
--- a line that is named is the text's first bad one, and else the text is that of some schedule, or wasn't read
+-- a line that is named is the text's first bad one, and else the text is that of some schedule, or wasn't
+-- read
 abbrev pub IsRightIn : Bytes → SimFault → Type 0
 IsRightIn text (Line number) = IsFirstBadLine text number
 IsRightIn text (Fault fault) = ⊤

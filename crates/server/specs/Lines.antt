@@ -1,5 +1,6 @@
 -- The lines of a schedule, without the LF that ends them.
-use Rattle.std.specs.Prelude.{◌≡◌, ◌≢◌, ◌^◌, ◌<◌, ◌++◌, ℕ, List, codes, decimal, length, nat_eq, Vec, Option, Some, None}
+use Rattle.std.specs.Prelude.{◌≡◌, ◌≢◌, ◌^◌, ◌<◌, ◌++◌, ℕ, List, codes, decimal, length, nat_eq, Vec}
+use Rattle.std.specs.Prelude.{Option, Some, None}
 use Rattle.std.specs.Global.{Global}
 use Rattle.std.specs.List.{All, IsDistinct, flat_map}
 use Rattle.hex.specs.Hex.{encode_lower, IsBytes}
@@ -22,12 +23,15 @@ abbrev pub IsHeading : Heading → Type 0
 IsHeading h = (h.faults < 2 ^ 64) × (h.clients < 2 ^ 64) × AreParties h.faulty.items
 
 abbrev pub heading_text : Heading → Bytes
-heading_text h = codes "world " ++ spaced (decimal h.faults) (decimal h.clients ++ parties_text h.faulty.items)
+heading_text h =
+    codes "world " ++ spaced (decimal h.faults) (decimal h.clients ++ parties_text h.faulty.items)
 
 -- what is read of the first line in front of the parties: both sizes, and the rest of the line
 abbrev pub AreSizesOf : Bytes → Option (ℕ × ℕ × Option Bytes) → Type 0
 AreSizesOf words None = (h : Heading) → IsHeading h → heading_text h ≢ words
-AreSizesOf words (Some s) = (s.0 < 2 ^ 64) × (s.1 < 2 ^ 64) × (words ≡ codes "world " ++ spaced (decimal s.0) (decimal s.1 ++ behind_word s.2))
+AreSizesOf words (Some s) =
+    (s.0 < 2 ^ 64) × (s.1 < 2 ^ 64)
+    × (words ≡ codes "world " ++ spaced (decimal s.0) (decimal s.1 ++ behind_word s.2))
 
 -- a client or a party, and digits behind it
 abbrev pub AreDigitsOfClient : ℕ × Bytes → Type 0

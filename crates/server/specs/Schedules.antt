@@ -42,7 +42,8 @@ HasNoHeading text = (h : Heading) (rest : Bytes) → IsHeading h → BeginsWith 
 
 -- there is more text, and it doesn't begin with the line of an event
 abbrev pub HasNoEvent : Bytes → Type 0
-HasNoEvent text = (0 < length text) × ((e : Event) (rest : Bytes) → IsEvent e → BeginsWith text (event_text e) rest → ⊥)
+HasNoEvent text =
+    (0 < length text) × ((e : Event) (rest : Bytes) → IsEvent e → BeginsWith text (event_text e) rest → ⊥)
 
 -- behind the line of a heading and so many lines of events the text has another line, which is no event's
 pub record FailsBehind (text : Bytes) (heading : Heading) (before : List Event) (rest : Bytes) : Type 0 where
@@ -54,4 +55,5 @@ pub record FailsBehind (text : Bytes) (heading : Heading) (before : List Event) 
 -- the first line that isn't one of a schedule, counted from 1
 abbrev pub IsFirstBadLine : Bytes → ℕ → Type 0
 IsFirstBadLine text number = ((number ≡ 1) × HasNoHeading text)
-    ⊎ ((h : Heading) × (events : List Event) × (rest : Bytes) × (number ≡ length events + 2) × FailsBehind text h events rest)
+    ⊎ ((h : Heading) × (events : List Event) × (rest : Bytes) × (number ≡ length events + 2)
+    × FailsBehind text h events rest)

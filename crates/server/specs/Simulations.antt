@@ -17,7 +17,8 @@ use Rattle.server.specs.declared.schedule.Schedule.{Schedule}
 -- the keys of all parties, replicas first
 abbrev pub all_keys : Sizes → List Keys
 all_keys sizes =
-    map (simulated_keys sizes) (range_with_len 0 (replicas sizes)) ++ map (λ c. simulated_keys sizes (client_party c)) (range_with_len 0 sizes.clients)
+    map (simulated_keys sizes) (range_with_len 0 (replicas sizes))
+    ++ map (λ c. simulated_keys sizes (client_party c)) (range_with_len 0 sizes.clients)
 
 -- the sizes, the faulty parties and the keys of a schedule's world
 abbrev pub sizes_of : Heading → Sizes

@@ -2,7 +2,11 @@
 
 ghost use Rattle.std.specs.Prelude.{option_map};
 ghost use Rattle.server.specs.Texts.{IsReadOf, IsReading, behind_word, IsCut};
-ghost use Rattle.server.specs.Lines.{IsHeading, heading_text, AreSizesOf, AreParties, parties_text, digits_of_client, AreDigitsOfClient, digits_of_party, AreDigitsOfParty, IsDelivery, delivery_text, IsSubmission, submission_text, IsInjection, injection_text, IsTimer, IsBare, IsEvent, event_text};
+ghost use Rattle.server.specs.Lines.{IsHeading, heading_text, AreSizesOf, AreParties, parties_text};
+ghost use Rattle.server.specs.Lines.{digits_of_client, AreDigitsOfClient, digits_of_party};
+ghost use Rattle.server.specs.Lines.{AreDigitsOfParty, IsDelivery, delivery_text, IsSubmission};
+ghost use Rattle.server.specs.Lines.{submission_text, IsInjection, injection_text, IsTimer, IsBare};
+ghost use Rattle.server.specs.Lines.{IsEvent, event_text};
 
 use crate::words::{NotRead, bytes_of, client_of, number_of, party_of, replica_of};
 use ids::{ClientId, PartyId};
@@ -48,7 +52,8 @@ fn sizes_of(words: &str) -> Option<(u64, u64, Option<&str>)>
 
 /// Parties, each once, of which each stands behind a space.
 fn parties_of(alloc: Global, text: Option<&str>) -> Result<Vec<PartyId>, NotRead>
-    ensures { IsReading (λ parties. parties_text parties.items) (λ parties. AreParties parties.items) (behind_word (option_map (λ rest. rest.now) text.entry)) result }
+    ensures { IsReading (λ parties. parties_text parties.items) (λ parties. AreParties parties.items)
+        (behind_word (option_map (λ rest. rest.now) text.entry)) result }
 {
     let mut parties = Vec::new(alloc);
     let mut left = text;
@@ -108,7 +113,8 @@ fn submission_of(alloc: Global, fields: &str) -> Result<(ClientId, Vec<u8>), Not
 
 /// A client, and the digits behind it, of which there are some.
 fn submitter_of(fields: &str) -> Option<(ClientId, &str)>
-    ensures { IsReadOf digits_of_client AreDigitsOfClient fields.now (option_map (λ s. (s.0, s.1.now)) result) }
+    ensures { IsReadOf digits_of_client AreDigitsOfClient fields.now
+        (option_map (λ s. (s.0, s.1.now)) result) }
 {
     let (client, digits) = fields.split_once(' ')?;
     let client = client_of(client)?;

@@ -1,13 +1,15 @@
 //! The text of a schedule, read.
 //!
-//! Its first line is `world F C`, and behind it, each after a space, the faulty parties: F faulty replicas are
-//! tolerated, and there are C clients. Each other line is an event: `submit cN HEX` submits a payload, `relay K PARTY`
-//! brings frame K of the record to a party, `inject PARTY HEX` brings bytes, `timeout rN` and `beat rN` are a timeout
-//! and a beat of replica N. A party is `r` or `c` and its number. Each line ends by LF, and one space stands between
-//! fields. Numbers are decimals without leading zeros, below 2^64, and a party's below 256. HEX is an even number of
+//! Its first line is `world F C`, and behind it, each after a space, the faulty parties: F faulty
+//! replicas are tolerated, and there are C clients. Each other line is an event: `submit cN HEX`
+//! submits a payload, `relay K PARTY` brings frame K of the record to a party, `inject PARTY HEX`
+//! brings bytes, `timeout rN` and `beat rN` are a timeout and a beat of replica N. A party is `r`
+//! or `c` and its number. Each line ends by LF, and one space stands between fields. Numbers are
+//! decimals without leading zeros, below 2^64, and a party's below 256. HEX is an even number of
 //! hexadecimal digits in lower case.
 
-ghost use Rattle.std.specs.Prelude.{◌≡◌, ◌↔◌, ◌<◌, length, IsOk, IfSome, IfOk, IfErr, IsErrOf, OnErr, MatchOption, position};
+ghost use Rattle.std.specs.Prelude.{◌≡◌, ◌↔◌, ◌<◌, length, IsOk, IfSome, IfOk, IfErr, IsErrOf, OnErr};
+ghost use Rattle.std.specs.Prelude.{MatchOption, position};
 ghost use Rattle.ids.specs.Sizes.{AreSizes};
 ghost use Rattle.definitions.specs.Bytes.{Bytes};
 ghost use Rattle.server.specs.Lines.{IsHeading, heading_text, IsEvent, event_text};
@@ -31,8 +33,10 @@ pub(crate) struct Schedule {
 impl Heading {
     /// The sizes as a world may have them, else `BadSize`.
     pub(crate) fn config(&self) -> Result<Config, Fault>
-        ensures made { IfOk result (λ config. config ≡ record { faults = self.now.faults; clients = self.now.clients }) }
-        ensures only { IsOk result ↔ AreSizes (record { faults = self.now.faults; clients = self.now.clients }) }
+        ensures made { IfOk result
+            (λ config. config ≡ record { faults = self.now.faults; clients = self.now.clients }) }
+        ensures only { IsOk result
+            ↔ AreSizes (record { faults = self.now.faults; clients = self.now.clients }) }
         ensures refused { OnErr result (result ≡ Err Fault.BadSize) }
     {
         match (u8::try_from(self.faults), u8::try_from(self.clients)) {
@@ -52,7 +56,8 @@ fn fault_of(why: NotRead, line: u64) -> SimFault
     }
 }
 
-/// The schedule that a text is; else the first line that isn't one of a schedule. An empty text is bad at line 1.
+/// The schedule that a text is; else the first line that isn't one of a schedule. An empty text is
+/// bad at line 1.
 pub(crate) fn parse(alloc: Global, text: &[u8]) -> Result<Schedule, SimFault>
     ensures ok { IfOk result (λ schedule. IsTextOf schedule text.now) }
     ensures bad { IfErr result (IsWhyNot text.now) }
@@ -100,7 +105,8 @@ fn take_event(alloc: Global, text: &[u8]) -> Result<(Event, &[u8]), NotRead>
 /// The words of a text's first line, and what stands behind the LF that ends it.
 fn take_line(text: &[u8]) -> Option<(&str, &[u8])>
     ensures some { IfSome result (λ l. BeginsWith text.now l.0.now l.1.now) }
-    ensures first { (words rest : Bytes) → IsPlain words → BeginsWith text.now words rest → MatchOption result ⊥ (λ l. (words ≡ l.0.now) × (rest ≡ l.1.now)) }
+    ensures first { (words rest : Bytes) → IsPlain words → BeginsWith text.now words rest
+        → MatchOption result ⊥ (λ l. (words ≡ l.0.now) × (rest ≡ l.1.now)) }
 {
     let (line, rest) = cut_line(text)?;
     match str::from_utf8(line) {
@@ -112,7 +118,8 @@ fn take_line(text: &[u8]) -> Option<(&str, &[u8])>
 /// What stands before the first LF, and what behind it.
 fn cut_line(text: &[u8]) -> Option<(&[u8], &[u8])>
     ensures some { IfSome result (λ l. BeginsWith text.now l.0.now l.1.now) }
-    ensures first { (words rest : Bytes) → IsPlain words → BeginsWith text.now words rest → MatchOption result ⊥ (λ l. (words ≡ l.0.now) × (rest ≡ l.1.now)) }
+    ensures first { (words rest : Bytes) → IsPlain words → BeginsWith text.now words rest
+        → MatchOption result ⊥ (λ l. (words ≡ l.0.now) × (rest ≡ l.1.now)) }
 {
     let end = end_of_line(text)?;
     Some((&text[..end], &text[end + 1..]))

@@ -15,26 +15,29 @@ use world_schedule::{World, run};
 
 /// Reads a schedule to the reader's end, runs it, and writes what happened.
 ///
-/// For event E, counted from 1, that is the line `eE ok`, or `eE fault N` where the party refused it; then for each
-/// frame that was sent in it a line `fK KIND LEN to DEST`: its number in the record of sent frames, its kind, its
-/// bytes, and `all` or a party; then, where a client accepted a reply, `accepted cN seq S place P HEX`. At the end
-/// stands a line `hN LENGTH` for each correct replica: its history's length.
+/// For event E, counted from 1, that is the line `eE ok`, or `eE fault N` where the party refused
+/// it; then for each frame that was sent in it a line `fK KIND LEN to DEST`: its number in the
+/// record of sent frames, its kind, its bytes, and `all` or a party; then, where a client accepted
+/// a reply, `accepted cN seq S place P HEX`. At the end stands a line `hN LENGTH` for each correct
+/// replica: its history's length.
 ///
-/// `Err` names the first line that isn't one of a schedule. Else it comes of sizes out of their limits, a faulty
-/// party that isn't there, or more faulty replicas than are tolerated; of the first event that names a party that
-/// isn't there, then a frame that wasn't sent, then a payload that is no request; or of what failed of memory, reader
-/// and writer.
+/// `Err` names the first line that isn't one of a schedule. Else it comes of sizes out of their
+/// limits, a faulty party that isn't there, or more faulty replicas than are tolerated; of the
+/// first event that names a party that isn't there, then a frame that wasn't sent, then a payload
+/// that is no request; or of what failed of memory, reader and writer.
 pub fn simulate<R: Read, W: Write>(
     alloc: Global,
     reader: &mut R,
     writer: &mut W,
 ) -> Result<(), SimFault>
     // What is written is the text of an outcome of the schedule that was read.
-    ensures ok { OnOk result (IfSome (R.remaining reader.old) (IsToldOf (W.contents writer.old) (W.contents writer.new))) }
+    ensures ok { OnOk result
+        (IfSome (R.remaining reader.old) (IsToldOf (W.contents writer.old) (W.contents writer.new))) }
     // A line is named where it is the first bad one.
     ensures line { IfErr result (λ fault. IfSome (R.remaining reader.old) (λ text. IsRightIn text fault)) }
     // Nothing is written but by a whole run.
-    ensures unwritten { IfErr result (λ fault. fault ≢ SimFault.Fault Fault.WriteFailed → writer.new ≡ writer.old) }
+    ensures unwritten { IfErr result
+        (λ fault. fault ≢ SimFault.Fault Fault.WriteFailed → writer.new ≡ writer.old) }
 {
     let schedule = parse(alloc, &read_all(alloc, reader)?)?;
     let text = tell_run(alloc, schedule)?;

@@ -1,4 +1,5 @@
-//! A deployment and its clients in one process: with no liar, and with each. What each client reads is printed.
+//! A deployment and its clients in one process: with no liar, and with each. What each client reads
+//! is printed.
 #![tactic(auto)]
 
 use anyhow::{Result, bail};

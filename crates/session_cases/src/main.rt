@@ -1,10 +1,10 @@
-//! Runs clients' sessions and signs replies, with the keys of a simulated world: each line of standard input is a case.
-//! What is wanted of each was computed by an independent program.
+//! Runs clients' sessions and signs replies, with the keys of a simulated world: each line of
+//! standard input is a case. What is wanted of each was computed by an independent program.
 //!
 //! A line begins with the sizes and the number of a party; bytes are hexadecimal.
 //!
-//! - `FAULTS CLIENTS CLIENT session INPUT ..`: what a client's session says to one input after the other, as `told` tells
-//!   it.
+//! - `FAULTS CLIENTS CLIENT session INPUT ..`: what a client's session says to one input after the
+//!   other, as `told` tells it.
 //! - `FAULTS CLIENTS REPLICA reply CLIENT SEQ PLACE TEXT`: a replica's reply, as bytes.
 #![tactic(auto)]
 

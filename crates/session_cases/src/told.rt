@@ -1,7 +1,7 @@
 //! What a session says to its inputs.
 //!
-//! An input is `submit=TEXT`, the canonical text of a request; or `again`; or a frame. Of each is told, with a comma
-//! behind the one before:
+//! An input is `submit=TEXT`, the canonical text of a request; or `again`; or a frame. Of each is
+//! told, with a comma behind the one before:
 //!
 //! - of a request, `sent`, the length of its frame, and the first 8 bytes of the frame's SHA-256 digest;
 //! - of `again`, the same of the outstanding request's frame after `again`, or `nothing`;

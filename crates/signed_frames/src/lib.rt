@@ -1,5 +1,5 @@
-//! A party's own frames, with its tags: a replica's votes, proposals, announcements of its view, questions for blocks,
-//! blocks and replies, and a client's requests.
+//! A party's own frames, with its tags: a replica's votes, proposals, announcements of its view,
+//! questions for blocks, blocks and replies, and a client's requests.
 //!
 //! Each is made of the bytes of its parts, in one `Vec` of its own. The one refusal is `Memory`.
 #![tactic(auto)]

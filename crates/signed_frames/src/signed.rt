@@ -29,7 +29,9 @@ pub(crate) fn signed_for_all(
     kind: Kind,
     parts: &[&[u8]],
 ) -> Result<Vec<u8>, Fault>
-    ensures made { IfOk result (λ frame. frame.items ≡ frame_text (kind_number kind) (joined parts.now) (vector_for keyring.now.sizes (keyring_of keyring.now) kind (joined parts.now))) }
+    ensures made { IfOk result (λ frame. frame.items
+        ≡ frame_text (kind_number kind) (joined parts.now)
+        (vector_for keyring.now.sizes (keyring_of keyring.now) kind (joined parts.now))) }
     ensures memory { OnErr result (result ≡ Err Fault.Memory) }
 {
     let mut frame = begun(alloc, kind, parts)?;
@@ -48,7 +50,9 @@ pub(crate) fn signed_for(
     parts: &[&[u8]],
 ) -> Result<Vec<u8>, Fault>
     requires { IsTrue (is_peer keyring.now to) }
-    ensures made { IfOk result (λ frame. frame.items ≡ frame_text (kind_number kind) (joined parts.now) (tag_for (keyring_of keyring.now) kind to (joined parts.now))) }
+    ensures made { IfOk result (λ frame. frame.items
+        ≡ frame_text (kind_number kind) (joined parts.now)
+        (tag_for (keyring_of keyring.now) kind to (joined parts.now))) }
     ensures memory { OnErr result (result ≡ Err Fault.Memory) }
 {
     let mut frame = begun(alloc, kind, parts)?;

@@ -15,10 +15,15 @@ use frame_writers::{Payload, write_vote};
 use ids::{Digest, Fault, Kind, Seq, View};
 use std::alloc::Global;
 
-/// The vote for a block. Its tags speak of the block's digest alone, so that they stand in a certificate as they are.
+/// The vote for a block. Its tags speak of the block's digest alone, so that they stand in a
+/// certificate as they are.
 pub fn vote_frame(alloc: Global, keyring: &Keyring, block: &Digest) -> Result<Vec<u8>, Fault>
     requires { keyring.now.party < replicas keyring.now.sizes }
-    ensures made { IfOk result (λ frame. frame.items ≡ spelling (vote block.now (record { voter = keyring.now.party; vector = vector_for keyring.now.sizes (keyring_of keyring.now) kind.Vote block.now }))) }
+    ensures made { IfOk result (λ frame. frame.items
+        ≡ spelling (vote block.now (record {
+          voter = keyring.now.party;
+          vector = vector_for keyring.now.sizes (keyring_of keyring.now) kind.Vote block.now;
+        }))) }
     ensures memory { OnErr result (result ≡ Err Fault.Memory) }
 {
     let mut vector = Vec::new(alloc);
@@ -37,7 +42,9 @@ pub fn proposal_frame<'a>(
     certificate: &'a [u8],
 ) -> Result<Vec<u8>, Fault>
     ensures made { IfOk result (λ frame. let content = proposal_text view core.now certificate.now in
-        frame.items ≡ frame_text (kind_number kind.Proposal) content (vector_for keyring.now.sizes (keyring_of keyring.now) kind.Proposal content)) }
+        frame.items
+        ≡ frame_text (kind_number kind.Proposal) content
+        (vector_for keyring.now.sizes (keyring_of keyring.now) kind.Proposal content)) }
     ensures memory { OnErr result (result ≡ Err Fault.Memory) }
 {
     let view = view.0.to_be_bytes();
@@ -53,7 +60,9 @@ pub fn new_view_frame(
 ) -> Result<Vec<u8>, Fault>
     requires { keyring.now.party < replicas keyring.now.sizes }
     ensures made { IfOk result (λ frame. let content = new_view_text view keyring.now.party certificate.now in
-        frame.items ≡ frame_text (kind_number kind.NewView) content (vector_for keyring.now.sizes (keyring_of keyring.now) kind.NewView content)) }
+        frame.items
+        ≡ frame_text (kind_number kind.NewView) content
+        (vector_for keyring.now.sizes (keyring_of keyring.now) kind.NewView content)) }
     ensures memory { OnErr result (result ≡ Err Fault.Memory) }
 {
     let view = view.0.to_be_bytes();
@@ -75,7 +84,8 @@ pub fn request_frame(
     payload: &Payload<'_>,
 ) -> Result<Vec<u8>, Fault>
     requires { IsTrue (is_client_of keyring.now.sizes keyring.now.party) }
-    ensures made { IfOk result (λ frame. frame.items ≡ spelling (request_frame (client_of keyring.now) seq payload.now)) }
+    ensures made { IfOk result
+        (λ frame. frame.items ≡ spelling (request_frame (client_of keyring.now) seq payload.now)) }
     ensures memory { OnErr result (result ≡ Err Fault.Memory) }
 {
     let client = (keyring.party().0 - 256).to_be_bytes();

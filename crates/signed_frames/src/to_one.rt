@@ -25,7 +25,9 @@ pub fn fetch_frame(
     requires own { keyring.now.party < replicas keyring.now.sizes }
     requires other { to < replicas keyring.now.sizes }
     ensures made { IfOk result (λ frame. let content = fetch_content keyring.now.party block.now in
-        frame.items ≡ frame_text (kind_number kind.Fetch) content (tag_for (keyring_of keyring.now) kind.Fetch to content)) }
+        frame.items
+        ≡ frame_text (kind_number kind.Fetch) content
+        (tag_for (keyring_of keyring.now) kind.Fetch to content)) }
     ensures memory { OnErr result (result ≡ Err Fault.Memory) }
 {
     let sender = u16::from(keyring.replica().0).to_be_bytes();
@@ -42,8 +44,11 @@ pub fn block_frame<'a>(
 ) -> Result<Vec<u8>, Fault>
     requires own { keyring.now.party < replicas keyring.now.sizes }
     requires other { to < replicas keyring.now.sizes }
-    ensures made { IfOk result (λ frame. let content = block_text keyring.now.party core.now certificate.now in
-        frame.items ≡ frame_text (kind_number kind.Block) content (tag_for (keyring_of keyring.now) kind.Block to content)) }
+    ensures made { IfOk result
+        (λ frame. let content = block_text keyring.now.party core.now certificate.now in
+        frame.items
+        ≡ frame_text (kind_number kind.Block) content
+        (tag_for (keyring_of keyring.now) kind.Block to content)) }
     ensures memory { OnErr result (result ≡ Err Fault.Memory) }
 {
     let sender = u16::from(keyring.replica().0).to_be_bytes();

@@ -8,7 +8,8 @@ pub length_keys : (party first count : ℕ) → length (keys_with party first co
 length_keys party first count = length-map-range_with_len (simulated_key party) first count
 
 pub one_more_key : (keys : List Bytes) (party first count : ℕ)
-    → keys ++ keys_with party first (count + 1) ≡ (keys ++ keys_with party first count) ++ simulated_key party (first + count) ∷ []
+    → keys ++ keys_with party first (count + 1)
+    ≡ (keys ++ keys_with party first count) ++ simulated_key party (first + count) ∷ []
 one_more_key keys party first count =
     ap (λ more. keys ++ more) (map-range_with_len_more (simulated_key party) first count (first + count) refl)
     ∙ sym (append_assoc keys (keys_with party first count) (simulated_key party (first + count) ∷ []))

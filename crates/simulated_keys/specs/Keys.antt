@@ -20,5 +20,7 @@ abbrev pub simulated_keys : Sizes → ℕ → Keys
 simulated_keys sizes party = record {
   sizes = sizes;
   party = party;
-  keys = keys_with party 0 (replicas sizes) ++ (if is_replica_of sizes party then keys_with party (client_party 0) sizes.clients else []);
+  keys =
+      keys_with party 0 (replicas sizes)
+      ++ (if is_replica_of sizes party then keys_with party (client_party 0) sizes.clients else []);
 }

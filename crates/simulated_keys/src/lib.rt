@@ -1,5 +1,5 @@
-//! The keys of a simulated world, which anyone can compute: the key of two parties is SHA-256 (FIPS 180-4) of the word
-//! `hsim` and of their numbers, two bytes each, the lower one first.
+//! The keys of a simulated world, which anyone can compute: the key of two parties is SHA-256 (FIPS
+//! 180-4) of the word `hsim` and of their numbers, two bytes each, the lower one first.
 #![tactic(auto)]
 
 ghost use Rattle.std.specs.Prelude.{◌≡◌, ◌+◌, ◌≤◌, ◌^◌, ◌++◌, IfOk, OnOk, OnErr};

@@ -1,16 +1,18 @@
-//! Steps a kept replica with the keys of a simulated world: each line of standard input is a case. What is wanted of each
-//! was computed by an independent program.
+//! Steps a kept replica with the keys of a simulated world: each line of standard input is a case.
+//! What is wanted of each was computed by an independent program.
 //!
-//! A line is `FAULTS CLIENTS REPLICA SHARES INPUT ..`: the sizes, the number of the replica, how many shares are made of
-//! it, and its inputs. An input is one of
+//! A line is `FAULTS CLIENTS REPLICA SHARES INPUT ..`: the sizes, the number of the replica, how
+//! many shares are made of it, and its inputs. An input is one of
 //!
 //! - `SHARE:beat` and `SHARE:timeout`: the share of this number, from 0 on, brings a beat or a timeout;
-//! - `SHARE:CHECKER:BYTES`: it brings a frame, in hexadecimal, that was checked with the keys of replica CHECKER.
+//! - `SHARE:CHECKER:BYTES`: it brings a frame, in hexadecimal, that was checked with the keys of
+//!   replica CHECKER.
 //!
-//! The share behind the last one is a share of another kept replica of the same number. Of each input is told, behind
-//! the one before and with a comma between them: the number of its refusal, or `ok` and the frames that go out, each
-//! with its length, where it goes, and the first 8 bytes of its SHA-256 digest. At the end stand the count of each share,
-//! in brackets, and what closing answers as `shares` tells it.
+//! The share behind the last one is a share of another kept replica of the same number. Of each
+//! input is told, behind the one before and with a comma between them: the number of its refusal,
+//! or `ok` and the frames that go out, each with its length, where it goes, and the first 8 bytes
+//! of its SHA-256 digest. At the end stand the count of each share, in brackets, and what closing
+//! answers as `shares` tells it.
 #![tactic(auto)]
 
 mod shares;

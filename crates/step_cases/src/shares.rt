@@ -1,8 +1,8 @@
 //! A kept replica and shares of it, and what closing answers.
 //!
-//! It is closed three times: with a share of another kept replica among its own, with its last share missing, and with
-//! its own alone. Of each is told `refused`, or `closed` and how many steps the replica counts; a wrong answer is an
-//! error.
+//! It is closed three times: with a share of another kept replica among its own, with its last
+//! share missing, and with its own alone. Of each is told `refused`, or `closed` and how many steps
+//! the replica counts; a wrong answer is an error.
 
 ghost use Rattle.std.specs.Prelude.{◌≡◌, ◌<◌};
 ghost use Rattle.marks.specs.Eyes.{first_eye, first_eyes};
@@ -103,7 +103,8 @@ fn split_last(mut shares: Vec<Share>) -> Result<(Vec<Share>, Share), Fault> {
     Ok((shares, last))
 }
 
-/// Closes with all shares but the last, which is refused, and then with all. How many steps the replica counts.
+/// Closes with all shares but the last, which is refused, and then with all. How many steps the
+/// replica counts.
 fn close_again(kept: Kept<'_>, shares: Vec<Share>, last: Share) -> Result<usize, Fault> {
     let NotAll { kept, mut shares } = refused(kept, shares)?;
     shares.push(last)?;

@@ -32,9 +32,9 @@ fn accept(listener: &TcpListener) -> Result<TcpStream, Fault>
 
 /// Serves so many connections, those for which there was no seat included, and answers how many they were.
 ///
-/// Each takes a free seat for its time, and is served in a thread of its own. Where none is free it is told
-/// `SERVER_ERROR too many connections` and closed. `AcceptFailed` comes only where accepting failed. It returns when all
-/// connections have ended.
+/// Each takes a free seat for its time, and is served in a thread of its own. Where none is free it
+/// is told `SERVER_ERROR too many connections` and closed. `AcceptFailed` comes only where
+/// accepting failed. It returns when all connections have ended.
 pub fn front<R: Threads + Wait + Sync + AllocGlobal + Log, S: Seat + Send + Drop>(
     rt: &R,
     listener: &TcpListener,

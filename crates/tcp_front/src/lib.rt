@@ -1,4 +1,5 @@
-//! The front of a server: it accepts TCP connections and serves each in a thread of its own, with a seat of its own.
+//! The front of a server: it accepts TCP connections and serves each in a thread of its own, with a
+//! seat of its own.
 #![tactic(auto)]
 
 mod accepting;

@@ -1,16 +1,18 @@
-//! Asks a block tree and the rules on it, and prints the words of `ids`: each line of standard input is a case, after the
-//! lines before it. What is wanted of each was computed by an independent program.
+//! Asks a block tree and the rules on it, and prints the words of `ids`: each line of standard
+//! input is a case, after the lines before it. What is wanted of each was computed by an
+//! independent program.
 //!
-//! Blocks have no commands, and numbers in the order in which they come to stand; that of genesis is 0. A number for
-//! which none stands means the digest of zeros alone. Of a block its digest is printed, and `fault` and a number where a
-//! call refuses.
+//! Blocks have no commands, and numbers in the order in which they come to stand; that of genesis
+//! is 0. A number for which none stands means the digest of zeros alone. Of a block its digest is
+//! printed, and `fault` and a number where a call refuses.
 //!
 //! - `tree MOST`: begins anew, with room for so many blocks.
-//! - `grow PARENT HEIGHT JUSTIFY CERTIFIED`: a block on a parent, of a height, that justifies a height by a certificate
-//!   for a block; or `dark ..`, one whose commands are unclear.
+//! - `grow PARENT HEIGHT JUSTIFY CERTIFIED`: a block on a parent, of a height, that justifies a
+//!   height by a certificate for a block; or `dark ..`, one whose commands are unclear.
 //! - `chain COUNT`: so many blocks, each on the last one that came to stand, which justify genesis.
 //! - `len`: how many blocks stand.
-//! - `told BLOCK`: its height, the one that it justifies, its parent, what its certificate is for, and what it justifies.
+//! - `told BLOCK`: its height, the one that it justifies, its parent, what its certificate is for,
+//!   and what it justifies.
 //! - `at BLOCK HEIGHT`: its ancestor of this height, and how many links lead there.
 //! - `over BLOCK LOWER`: whether its branch goes through the other one.
 //! - `clear BLOCK HEIGHT`: whether all blocks above this height on its branch are clear.

@@ -13,16 +13,19 @@ use Rattle.replica.specs.Inputs.{input_of, is_addressed}
 use Rattle.replica.specs.Steps.{Sent, Stepped}
 
 -- four facts of one case
-four : {A B C D E : Type 0} (b : Bool) → (A → B → C → D → E) → OnTrue b A → OnTrue b B → OnTrue b C → OnTrue b D → OnTrue b E
+four : {A B C D E : Type 0} (b : Bool) → (A → B → C → D → E) → OnTrue b A → OnTrue b B → OnTrue b C
+    → OnTrue b D → OnTrue b E
 four true f x y z w = f x y z w
 four false f x y z w = tt
 
-pub kept_step : (old : KeptState) (share : ShareState) (input : Input) (answer : Result (List Sent) Fault) (new : KeptState) (share' : ShareState)
+pub kept_step : (old : KeptState) (share : ShareState) (input : Input) (answer : Result (List Sent) Fault)
+    (new : KeptState) (share' : ShareState)
     → OnFalse (is_addressed old.keys input) (IsErrOf answer fault.NotMine)
     → OnTrue (is_addressed old.keys input) (OnFalse (is_own old share) (IsErrOf answer fault.NotAll))
     → OnFalse (may_step old share input) (new ≡ old)
     → OnFalse (may_step old share input) (share' ≡ share)
-    → OnTrue (may_step old share input) (Stepped (identity_of old.keys) (input_of input) old.replica answer new.replica)
+    → OnTrue (may_step old share input)
+    (Stepped (identity_of old.keys) (input_of input) old.replica answer new.replica)
     → OnTrue (may_step old share input) (share' ≡ counted share (gained old.replica new.replica))
     → OnTrue (may_step old share input) (new.shares ≡ slice_set old.shares share.number share'.count)
     → OnTrue (may_step old share input) (new.eye ≡ putting old.eye old.keys.party (mark_of new.replica))
@@ -33,6 +36,7 @@ kept_step old share input answer new share' mine all same same_share stepped cou
   not_all = all;
   unchanged = same;
   same_share = same_share;
-  makes = four (may_step old share input) (λ s c h e. record { stepped = s; count = c; shares = h; eye = e }) stepped count shares eye;
+  makes = four (may_step old share input)
+      (λ s c h e. record { stepped = s; count = c; shares = h; eye = e }) stepped count shares eye;
   keys = keys;
 }

@@ -2,7 +2,8 @@
 
 /// Told of each admitted frame before its step and after it, by its number on the replica's link.
 ///
-/// Frames that are refused before the lock aren't told. A test's gate may wait in `enter`; the program's is `Open`.
+/// Frames that are refused before the lock aren't told. A test's gate may wait in `enter`; the
+/// program's is `Open`.
 pub trait Gate {
     /// The frame was checked, and no lock is held.
     fn enter(&self, frame: u64);

@@ -1,4 +1,5 @@
-//! One frame's turn at a replica: its tags are checked, and then the replica makes one step, which a share counts.
+//! One frame's turn at a replica: its tags are checked, and then the replica makes one step, which
+//! a share counts.
 #![tactic(auto)]
 
 mod frame_turn;

@@ -1,5 +1,7 @@
 -- Votes by number of voter, and what one more vote of a block is.
-use Rattle.std.proofs.Common.{ℕ, suc, ◌≡◌, ◌+◌, ◌<◌, ◌==◌, ◌&&◌, ◌||◌, Bool, true, false, not, cond, Option, Some, None, List, [], ◌∷◌, length, refl, sym, ap, ◌∙◌, arith, nat_lt, bytes_eq, true≢false}
+use Rattle.std.proofs.Common.{ℕ, suc, ◌≡◌, ◌+◌, ◌<◌, ◌==◌, ◌&&◌, ◌||◌, Bool, true, false, not, cond, Option}
+use Rattle.std.proofs.Common.{Some, None, List, [], ◌∷◌, length, refl, sym, ap, ◌∙◌, arith, nat_lt}
+use Rattle.std.proofs.Common.{bytes_eq, true≢false}
 use Rattle.std.specs.List.{list_any}
 use Rattle.std.proofs.lemmas.Bool.{cond_both, cond-true, cond-false, eqb-true, lt-ltb, le-ltb, ne_eqb}
 use Rattle.std.proofs.lemmas.Slice.Eq.{bytes_eq-Decides}
@@ -22,11 +24,13 @@ swap true false c = refl
 swap false true c = refl
 swap false false c = refl
 
-any-insert : (p : Vote → Bool) (b : Vote) (xs : List Vote) → list_any p (insert_vote b xs) ≡ (p b || list_any p xs)
+any-insert : (p : Vote → Bool) (b : Vote) (xs : List Vote)
+    → list_any p (insert_vote b xs) ≡ (p b || list_any p xs)
 unfolding insert_vote
 any-insert p b [] = refl
 any-insert p b (x ∷ xs) =
-    cond_both (nat_lt b.voter x.voter) (b ∷ x ∷ xs) (x ∷ insert_vote b xs) (λ (l : List Vote). list_any p l ≡ (p b || (p x || list_any p xs)))
+    cond_both (nat_lt b.voter x.voter) (b ∷ x ∷ xs) (x ∷ insert_vote b xs)
+    (λ (l : List Vote). list_any p l ≡ (p b || (p x || list_any p xs)))
     (λ e. refl) (λ e. ap (λ (t : Bool). p x || t) (any-insert p b xs) ∙ swap (p x) (p b) (list_any p xs))
 
 pub any-by_voter : (p : Vote → Bool) (xs : List Vote) → list_any p (by_voter xs) ≡ list_any p xs
@@ -61,68 +65,105 @@ module _ (s : Sizes) (c : Chronicle) (voter : ℕ) (v : Bytes) (b : Branch) wher
   vote_of_it = record { voter = voter; vector = v }
 
   -- votes for other digests stay
-  pub votes-other : (d : Bytes) → bytes_eq (digest_of b) d ≡ false → votes s d (noted (got_vote voter v b) ∷ c) ≡ votes s d c
+  pub votes-other : (d : Bytes) → bytes_eq (digest_of b) d ≡ false
+      → votes s d (noted (got_vote voter v b) ∷ c) ≡ votes s d c
   unfolding votes
   votes-other d other =
-      ap (λ (t : Bool). cond (t && (not (list_any (λ (x : Vote). x.voter == voter) (votes s d c)) && nat_lt (length (votes s d c)) (quorum s))) (vote_of_it ∷ votes s d c) (votes s d c)) other
+      ap (λ (t : Bool). cond (t
+      && (not (list_any (λ (x : Vote). x.voter == voter) (votes s d c)) && nat_lt
+      (length (votes s d c)) (quorum s))) (vote_of_it ∷ votes s d c) (votes s d c)) other
 
   -- a second vote isn't kept
-  pub votes-doubled : has_voter voter (votes s (digest_of b) c) ≡ true → votes s (digest_of b) (noted (got_vote voter v b) ∷ c) ≡ votes s (digest_of b) c
+  pub votes-doubled : has_voter voter (votes s (digest_of b) c) ≡ true
+      → votes s (digest_of b) (noted (got_vote voter v b) ∷ c) ≡ votes s (digest_of b) c
   unfolding votes
   votes-doubled doubled =
       let xs = votes s (digest_of b) c in
-      ap (λ (t : Bool). cond (t && (not (list_any (λ (x : Vote). x.voter == voter) xs) && nat_lt (length xs) (quorum s))) (vote_of_it ∷ xs) xs) (same_digest (digest_of b))
+      ap (λ (t : Bool). cond
+      (t && (not (list_any (λ (x : Vote). x.voter == voter) xs) && nat_lt (length xs) (quorum s)))
+      (vote_of_it ∷ xs) xs) (same_digest (digest_of b))
       ∙ ap (λ (t : Bool). cond (not t && nat_lt (length xs) (quorum s)) (vote_of_it ∷ xs) xs) doubled
 
   -- a first one is, below a quorum
-  pub votes-first : has_voter voter (votes s (digest_of b) c) ≡ false → length (votes s (digest_of b) c) < quorum s → votes s (digest_of b) (noted (got_vote voter v b) ∷ c) ≡ vote_of_it ∷ votes s (digest_of b) c
+  pub votes-first : has_voter voter (votes s (digest_of b) c) ≡ false
+      → length (votes s (digest_of b) c) < quorum s
+      → votes s (digest_of b) (noted (got_vote voter v b) ∷ c) ≡ vote_of_it ∷ votes s (digest_of b) c
   unfolding votes
   votes-first first few =
       let xs = votes s (digest_of b) c in
-      ap (λ (t : Bool). cond (t && (not (list_any (λ (x : Vote). x.voter == voter) xs) && nat_lt (length xs) (quorum s))) (vote_of_it ∷ xs) xs) (same_digest (digest_of b))
+      ap (λ (t : Bool). cond
+      (t && (not (list_any (λ (x : Vote). x.voter == voter) xs) && nat_lt (length xs) (quorum s)))
+      (vote_of_it ∷ xs) xs) (same_digest (digest_of b))
       ∙ ap (λ (t : Bool). cond (not t && nat_lt (length xs) (quorum s)) (vote_of_it ∷ xs) xs) first
       ∙ ap (λ (t : Bool). cond t (vote_of_it ∷ xs) xs) (lt-ltb (length xs) (quorum s) few)
 
   -- what such a step may raise
   abbrev Made : Justified
-  Made = record { block = b; certificate = record { digest = digest_of b; votes = by_voter (votes s (digest_of b) (noted (got_vote voter v b) ∷ c)) } }
+  Made = record {
+    block = b;
+    certificate =
+        record {
+          digest = digest_of b;
+          votes = by_voter (votes s (digest_of b) (noted (got_vote voter v b) ∷ c));
+        };
+  }
 
   raised-is : raised s (noted (got_vote voter v b)) c
-      ≡ cond (nat_lt (length (votes s (digest_of b) c)) (quorum s) && (length (votes s (digest_of b) (noted (got_vote voter v b) ∷ c)) == quorum s)) (Some Made) None
+      ≡ cond (nat_lt (length (votes s (digest_of b) c)) (quorum s)
+      && (length (votes s (digest_of b) (noted (got_vote voter v b) ∷ c)) == quorum s)) (Some Made) None
   unfolding raised
   raised-is = refl
 
-  higher-lower : (t : Bool) (p q : Justified) → length p.block < suc (length q.block) → higher (cond t (Some p) None) q ≡ q
-  higher-lower true p q le = cond-false (nat_lt (length q.block) (length p.block)) p q (le-ltb (length q.block) (length p.block) (omega (arith, le)))
+  higher-lower : (t : Bool) (p q : Justified) → length p.block < suc (length q.block)
+      → higher (cond t (Some p) None) q ≡ q
+  higher-lower true p q le = cond-false (nat_lt (length q.block) (length p.block)) p q
+      (le-ltb (length q.block) (length p.block) (omega (arith, le)))
   higher-lower false p q le = refl
 
   -- nothing that is higher than q, where the block isn't
-  pub raised-lower : (q : Justified) → length b < suc (length q.block) → higher (raised s (noted (got_vote voter v b)) c) q ≡ q
+  pub raised-lower : (q : Justified) → length b < suc (length q.block)
+      → higher (raised s (noted (got_vote voter v b)) c) q ≡ q
   raised-lower q le =
       ap (λ (o : Option Justified). higher o q) raised-is
-      ∙ higher-lower (nat_lt (length (votes s (digest_of b) c)) (quorum s) && (length (votes s (digest_of b) (noted (got_vote voter v b) ∷ c)) == quorum s)) Made q le
+      ∙ higher-lower (nat_lt (length (votes s (digest_of b) c)) (quorum s)
+      && (length (votes s (digest_of b) (noted (got_vote voter v b) ∷ c)) == quorum s)) Made q le
 
   both_false : (a t : Bool) → t ≡ false → (a && t) ≡ false
   both_false true t e = e
   both_false false t e = refl
 
   -- nothing, where it doesn't make a quorum
-  pub raised-none : (length (votes s (digest_of b) (noted (got_vote voter v b) ∷ c)) ≡ quorum s → ⊥) → raised s (noted (got_vote voter v b)) c ≡ None
+  pub raised-none : (length (votes s (digest_of b) (noted (got_vote voter v b) ∷ c)) ≡ quorum s → ⊥)
+      → raised s (noted (got_vote voter v b)) c ≡ None
   raised-none few =
       raised-is
-      ∙ cond-false _ (Some Made) None (both_false (nat_lt (length (votes s (digest_of b) c)) (quorum s)) (length (votes s (digest_of b) (noted (got_vote voter v b) ∷ c)) == quorum s) (ne_eqb (length (votes s (digest_of b) (noted (got_vote voter v b) ∷ c))) (quorum s) few))
+      ∙ cond-false _ (Some Made) None (both_false (nat_lt (length (votes s (digest_of b) c)) (quorum s))
+      (length (votes s (digest_of b) (noted (got_vote voter v b) ∷ c)) == quorum s)
+      (ne_eqb (length (votes s (digest_of b) (noted (got_vote voter v b) ∷ c))) (quorum s) few))
 
   -- the certificate of a quorum
-  pub raised-made : has_voter voter (votes s (digest_of b) c) ≡ false → length (votes s (digest_of b) c) + 1 ≡ quorum s
-      → raised s (noted (got_vote voter v b)) c ≡ Some (record { block = b; certificate = record { digest = digest_of b; votes = insert_vote vote_of_it (by_voter (votes s (digest_of b) c)) } })
+  pub raised-made : has_voter voter (votes s (digest_of b) c) ≡ false
+      → length (votes s (digest_of b) c) + 1 ≡ quorum s
+      → raised s (noted (got_vote voter v b)) c
+      ≡ Some (record {
+        block = b;
+        certificate =
+            record {
+              digest = digest_of b;
+              votes = insert_vote vote_of_it (by_voter (votes s (digest_of b) c));
+            };
+      })
   unfolding by_voter
   raised-made first full =
       let xs = votes s (digest_of b) c in
       let now = votes-first first (omega (arith, full)) in
-      let count : (length (votes s (digest_of b) (noted (got_vote voter v b) ∷ c)) == quorum s) ≡ true = same_eqb _ _ (ap length now ∙ more (length xs) (quorum s) full) in
+      let count : (length (votes s (digest_of b) (noted (got_vote voter v b) ∷ c)) == quorum s) ≡ true =
+      same_eqb _ _ (ap length now ∙ more (length xs) (quorum s) full) in
       raised-is
-      ∙ cond-true _ (Some Made) None (both_true (nat_lt (length xs) (quorum s)) _ (lt-ltb (length xs) (quorum s) (omega (arith, full))) count)
-      ∙ ap (λ (l : List Vote). Some (record { block = b; certificate = record { digest = digest_of b; votes = by_voter l } })) now
+      ∙ cond-true _ (Some Made) None (both_true (nat_lt (length xs) (quorum s)) _
+      (lt-ltb (length xs) (quorum s) (omega (arith, full))) count)
+      ∙ ap (λ (l : List Vote). Some
+      (record { block = b; certificate = record { digest = digest_of b; votes = by_voter l } })) now
     where
       same_eqb : (a b : ℕ) → a ≡ b → (a == b) ≡ true
       same_eqb a b e = grind (arith, e)

@@ -1,5 +1,7 @@
 -- What is kept of all blocks: one more vote, and fewer.
-use Rattle.std.proofs.Common.{ℕ, suc, ◌≡◌, ◌<◌, Result, Ok, Err, length, arith, Bool, true, false, cond, Option, Some, None, List, [], ◌∷◌, refl, sym, ap, subst, ◌∙◌, nat_lt, bytes_eq, true≢false}
+use Rattle.std.proofs.Common.{ℕ, suc, ◌≡◌, ◌<◌, Result, Ok, Err, length, arith, Bool, true, false, cond}
+use Rattle.std.proofs.Common.{Option, Some, None, List, [], ◌∷◌, refl, sym, ap, subst, ◌∙◌, nat_lt}
+use Rattle.std.proofs.Common.{bytes_eq, true≢false}
 use Rattle.std.specs.List.{AllByRecursion, flat_map}
 use Rattle.std.specs.Map.{lookup, set_value}
 use Rattle.std.specs.BTreeMap.{insert_entry, is_at}
@@ -14,7 +16,8 @@ use Rattle.std.proofs.lemmas.Map.Text.{is_eq-slice_cmp}
 use Rattle.definitions.specs.Bytes.{Bytes}
 use Rattle.definitions.specs.Frames.{Vote, vote_bytes}
 use Rattle.definitions.specs.States.{insert_vote}
-use Rattle.vote_collector.specs.Collecting.{Entry, Kept, votes_in, entry_for, votes_for, judged, with_vote, with_vote_to, kept_above, AreVotesOf}
+use Rattle.vote_collector.specs.Collecting.{Entry, Kept, votes_in, entry_for, votes_for, judged, with_vote}
+use Rattle.vote_collector.specs.Collecting.{with_vote_to, kept_above, AreVotesOf}
 use Rattle.ids.specs.Sizes.{Sizes, quorum}
 use Rattle.definitions.specs.FrameLimits.{IsVote}
 use Rattle.frames_view.specs.Spelled.{AreVotes}
@@ -30,7 +33,8 @@ abbrev pub entry_with : ℕ → Vote → Option Entry → Entry
 entry_with height b None = record { height = height; votes = b ∷ [] }
 entry_with height b (Some e) = record { height = e.height; votes = insert_vote b e.votes }
 
-pub votes-with : (height : ℕ) (b : Vote) (o : Option Entry) → votes_in (Some (entry_with height b o)) ≡ insert_vote b (votes_in o)
+pub votes-with : (height : ℕ) (b : Vote) (o : Option Entry)
+    → votes_in (Some (entry_with height b o)) ≡ insert_vote b (votes_in o)
 unfolding insert_vote
 votes-with height b None = refl
 votes-with height b (Some e) = refl
@@ -44,7 +48,8 @@ votes_at d kept = votes_in (kept d)
 
 -- one more vote for the block of this digest and height
 abbrev pub seen_with : Bytes → ℕ → Vote → Seen → Seen
-seen_with digest height b kept d = cond (bytes_eq digest d) (Some (entry_with height b (kept digest))) (kept d)
+seen_with digest height b kept d =
+    cond (bytes_eq digest d) (Some (entry_with height b (kept digest))) (kept d)
 
 -- what is left where the votes for blocks of at most this height are forgotten
 abbrev pub entry_above : ℕ → Option Entry → Option Entry
@@ -71,7 +76,8 @@ turned a b = go (bytes_eq a b) (bytes_eq b a) refl refl
     go false true e f = absurd (true≢false (sym ((bytes_eq-Decides a b).1 (sym (same_bytes b a f))) ∙ e))
 
 -- a choice by two tests that don't both pass
-choices : (a b : Bool) (p q r : Option Entry) → (a ≡ true → b ≡ true → ⊥) → cond a p (cond b q r) ≡ cond b q (cond a p r)
+choices : (a b : Bool) (p q r : Option Entry) → (a ≡ true → b ≡ true → ⊥)
+    → cond a p (cond b q r) ≡ cond b q (cond a p r)
 choices true true p q r apart = absurd (apart refl refl)
 choices true false p q r apart = refl
 choices false b p q r apart = refl
@@ -86,45 +92,61 @@ chosen false true p q r e = absurd (true≢false (sym e))
 -- a vote that is put in
 module _ (d : Bytes) (e : Entry) (x : Bytes) where
   apart : (y : Bytes) → bytes_eq d y ≡ false → bytes_eq x y ≡ true → bytes_eq d x ≡ true → ⊥
-  apart y other a b = true≢false (sym ((bytes_eq-Decides d y).1 (same_bytes d x b ∙ same_bytes x y a)) ∙ other)
+  apart y other a b =
+      true≢false (sym ((bytes_eq-Decides d y).1 (same_bytes d x b ∙ same_bytes x y a)) ∙ other)
 
-  put-set : (kept : Kept) (old : Entry) → entry_for d kept ≡ Some old → entry_for x (set_value (λ y. bytes_eq d y) kept e) ≡ cond (bytes_eq d x) (Some e) (entry_for x kept)
+  put-set : (kept : Kept) (old : Entry) → entry_for d kept ≡ Some old
+      → entry_for x (set_value (λ y. bytes_eq d y) kept e) ≡ cond (bytes_eq d x) (Some e) (entry_for x kept)
   put-set [] old is = absurd (let no : None ≡ Some old → ⊥ = λ k. cc in no is)
   put-set (y ∷ ys) old is =
       let P : Bool → Type 0 = λ t. bytes_eq d y.0 ≡ t → cond t (Some y.1) (entry_for d ys) ≡ Some old
-      → entry_for x (cond t ((y.0, e) ∷ ys) (y ∷ set_value (λ y. bytes_eq d y) ys e)) ≡ cond (bytes_eq d x) (Some e) (cond (bytes_eq x y.0) (Some y.1) (entry_for x ys)) in
+      → entry_for x (cond t ((y.0, e) ∷ ys) (y ∷ set_value (λ y. bytes_eq d y) ys e))
+      ≡ cond (bytes_eq d x) (Some e) (cond (bytes_eq x y.0) (Some y.1) (entry_for x ys)) in
       let both : (t : Bool) → P t = elim [
-        | true ↦ λ same found. chosen (bytes_eq x y.0) (bytes_eq d x) (Some e) (Some y.1) (entry_for x ys) (turned x y.0 ∙ ap (λ (z : Bytes). bytes_eq z x) (sym (same_bytes d y.0 same)))
+        | true ↦ λ same found. chosen (bytes_eq x y.0) (bytes_eq d x) (Some e) (Some y.1) (entry_for x ys)
+            (turned x y.0 ∙ ap (λ (z : Bytes). bytes_eq z x) (sym (same_bytes d y.0 same)))
         | false ↦ λ other found.
             ap (λ (o : Option Entry). cond (bytes_eq x y.0) (Some y.1) o) (put-set ys old found)
-            ∙ choices (bytes_eq x y.0) (bytes_eq d x) (Some y.1) (Some e) (entry_for x ys) (λ a b. apart y.0 other a b)
+            ∙ choices (bytes_eq x y.0) (bytes_eq d x) (Some y.1) (Some e) (entry_for x ys)
+            (λ a b. apart y.0 other a b)
       ] in
       both (bytes_eq d y.0) refl is
 
-  put-new : (kept : Kept) → entry_for d kept ≡ None → entry_for x (insert_entry (slice_cmp nat_cmp) kept d e) ≡ cond (bytes_eq d x) (Some e) (entry_for x kept)
+  put-new : (kept : Kept) → entry_for d kept ≡ None
+      → entry_for x (insert_entry (slice_cmp nat_cmp) kept d e)
+      ≡ cond (bytes_eq d x) (Some e) (entry_for x kept)
   put-new [] none = ap (λ (t : Bool). cond t (Some e) None) (turned x d)
   put-new (y ∷ ys) none =
       let P : Bool → Type 0 = λ t. bytes_eq d y.0 ≡ t → cond t (Some y.1) (entry_for d ys) ≡ None
-      → entry_for x (insert_entry (slice_cmp nat_cmp) (y ∷ ys) d e) ≡ cond (bytes_eq d x) (Some e) (entry_for x (y ∷ ys)) in
+      → entry_for x (insert_entry (slice_cmp nat_cmp) (y ∷ ys) d e)
+      ≡ cond (bytes_eq d x) (Some e) (entry_for x (y ∷ ys)) in
       let both : (t : Bool) → P t = elim [
         | true ↦ λ same found. absurd (let no : Some y.1 ≡ None → ⊥ = λ k. cc in no found)
         | false ↦ λ other found.
-            let Q : Ordering → Type 0 = λ o. is_eq o ≡ false → entry_for x (match_ordering o ((d, e) ∷ y ∷ ys) ((y.0, e) ∷ ys) (y ∷ insert_entry (slice_cmp nat_cmp) ys d e)) ≡ cond (bytes_eq d x) (Some e) (entry_for x (y ∷ ys)) in
+            let Q : Ordering → Type 0 =
+            λ o. is_eq o ≡ false
+            → entry_for x (match_ordering o ((d, e) ∷ y ∷ ys) ((y.0, e) ∷ ys)
+            (y ∷ insert_entry (slice_cmp nat_cmp) ys d e))
+            ≡ cond (bytes_eq d x) (Some e) (entry_for x (y ∷ ys)) in
             let each : (o : Ordering) → Q o = elim [
               | Less ↦ λ k. ap (λ (t : Bool). cond t (Some e) (entry_for x (y ∷ ys))) (turned x d)
               | Equal ↦ λ k. absurd (true≢false k)
               | Greater ↦ λ k.
                   ap (λ (o : Option Entry). cond (bytes_eq x y.0) (Some y.1) o) (put-new ys found)
-                  ∙ choices (bytes_eq x y.0) (bytes_eq d x) (Some y.1) (Some e) (entry_for x ys) (λ a b. apart y.0 other a b)
+                  ∙ choices (bytes_eq x y.0) (bytes_eq d x) (Some y.1) (Some e) (entry_for x ys)
+                  (λ a b. apart y.0 other a b)
             ] in
             each (slice_cmp nat_cmp d y.0) (is_eq-slice_cmp d y.0 ∙ other)
       ] in
       both (bytes_eq d y.0) refl none
 
-pub seen-with : (d : Bytes) (height : ℕ) (b : Vote) (kept : Kept) (x : Bytes) → seen (with_vote d height b kept) x ≡ seen_with d height b (seen kept) x
+pub seen-with : (d : Bytes) (height : ℕ) (b : Vote) (kept : Kept) (x : Bytes)
+    → seen (with_vote d height b kept) x ≡ seen_with d height b (seen kept) x
 seen-with d height b kept x = go (entry_for d kept) refl
   where
-    go : (o : Option Entry) → entry_for d kept ≡ o → entry_for x (with_vote_to o d height b kept) ≡ cond (bytes_eq d x) (Some (entry_with height b o)) (entry_for x kept)
+    go : (o : Option Entry) → entry_for d kept ≡ o
+        → entry_for x (with_vote_to o d height b kept)
+        ≡ cond (bytes_eq d x) (Some (entry_with height b o)) (entry_for x kept)
     go None e = put-new d (entry_with height b None) x kept e
     go (Some old) e = put-set d (entry_with height b (Some old)) x kept old e
 
@@ -132,69 +154,105 @@ seen-with d height b kept x = go (entry_for d kept) refl
 
 module _ (P : Bytes × Entry → Type 0) where
   -- it holds of one that is found
-  pub all-found : (kept : Kept) (d : Bytes) (e : Entry) → AllByRecursion P kept → entry_for d kept ≡ Some e → P (d, e)
+  pub all-found : (kept : Kept) (d : Bytes) (e : Entry) → AllByRecursion P kept → entry_for d kept ≡ Some e
+      → P (d, e)
   all-found [] d e h is = absurd (let no : None ≡ Some e → ⊥ = λ k. cc in no is)
   all-found (x ∷ xs) d e h is =
-      let Q : Bool → Type 0 = λ t. bytes_eq d x.0 ≡ t → cond t (Some x.1) (entry_for d xs) ≡ Some e → P (d, e) in
+      let Q : Bool → Type 0 =
+      λ t. bytes_eq d x.0 ≡ t → cond t (Some x.1) (entry_for d xs) ≡ Some e → P (d, e) in
       let both : (t : Bool) → Q t = elim [
-        | true ↦ λ same found. subst (λ (y : Entry). P (d, y)) (ap (λ (o : Option Entry). unwrap_or o e) found) (subst (λ (k : Bytes). P (k, x.1)) (sym (same_bytes d x.0 same)) h.0)
+        | true ↦ λ same found. subst (λ (y : Entry). P (d, y))
+            (ap (λ (o : Option Entry). unwrap_or o e) found)
+            (subst (λ (k : Bytes). P (k, x.1)) (sym (same_bytes d x.0 same)) h.0)
         | false ↦ λ other found. all-found xs d e h.1 found
       ] in
       both (bytes_eq d x.0) refl is
 
-  all-new : (kept : Kept) (d : Bytes) (e : Entry) → P (d, e) → AllByRecursion P kept → AllByRecursion P (insert_entry (slice_cmp nat_cmp) kept d e)
+  all-new : (kept : Kept) (d : Bytes) (e : Entry) → P (d, e) → AllByRecursion P kept
+      → AllByRecursion P (insert_entry (slice_cmp nat_cmp) kept d e)
   all-new [] d e p h = (p, tt)
   all-new (x ∷ xs) d e p h =
-      let Q : Ordering → Type 0 = λ o. slice_cmp nat_cmp d x.0 ≡ o → AllByRecursion P (match_ordering o ((d, e) ∷ x ∷ xs) ((x.0, e) ∷ xs) (x ∷ insert_entry (slice_cmp nat_cmp) xs d e)) in
+      let Q : Ordering → Type 0 =
+      λ o. slice_cmp nat_cmp d x.0 ≡ o
+      → AllByRecursion P (match_ordering o ((d, e) ∷ x ∷ xs) ((x.0, e) ∷ xs)
+      (x ∷ insert_entry (slice_cmp nat_cmp) xs d e)) in
       let each : (o : Ordering) → Q o = elim [
         | Less ↦ λ k. (p, h)
-        | Equal ↦ λ k. (subst (λ (y : Bytes). P (y, e)) (same_bytes d x.0 (sym (is_eq-slice_cmp d x.0) ∙ ap is_eq k)) p, h.1)
+        | Equal ↦ λ k. (
+          subst (λ (y : Bytes). P (y, e))
+              (same_bytes d x.0 (sym (is_eq-slice_cmp d x.0) ∙ ap is_eq k)) p,
+          h.1,
+        )
         | Greater ↦ λ k. (h.0, all-new xs d e p h.1)
       ] in
       each (slice_cmp nat_cmp d x.0) refl
 
-  all-set : (kept : Kept) (d : Bytes) (e : Entry) → P (d, e) → AllByRecursion P kept → AllByRecursion P (set_value (λ y. bytes_eq d y) kept e)
+  all-set : (kept : Kept) (d : Bytes) (e : Entry) → P (d, e) → AllByRecursion P kept
+      → AllByRecursion P (set_value (λ y. bytes_eq d y) kept e)
   all-set [] d e p h = tt
   all-set (x ∷ xs) d e p h =
-      cond_both (bytes_eq d x.0) ((x.0, e) ∷ xs) (x ∷ set_value (λ y. bytes_eq d y) xs e) (λ (l : Kept). AllByRecursion P l)
-      (λ same. (subst (λ (y : Bytes). P (y, e)) (same_bytes d x.0 same) p, h.1)) (λ other. (h.0, all-set xs d e p h.1))
+      cond_both (bytes_eq d x.0) ((x.0, e) ∷ xs) (x ∷ set_value (λ y. bytes_eq d y) xs e)
+      (λ (l : Kept). AllByRecursion P l)
+      (λ same. (subst (λ (y : Bytes). P (y, e)) (same_bytes d x.0 same) p, h.1))
+      (λ other. (h.0, all-set xs d e p h.1))
 
-  pub all-with : (kept : Kept) (d : Bytes) (height : ℕ) (b : Vote) → P (d, entry_with height b (entry_for d kept)) → AllByRecursion P kept → AllByRecursion P (with_vote d height b kept)
+  pub all-with : (kept : Kept) (d : Bytes) (height : ℕ) (b : Vote)
+      → P (d, entry_with height b (entry_for d kept)) → AllByRecursion P kept
+      → AllByRecursion P (with_vote d height b kept)
   all-with kept d height b p h = go (entry_for d kept) p
     where
-      go : (o : Option Entry) → P (d, entry_with height b o) → AllByRecursion P (with_vote_to o d height b kept)
+      go : (o : Option Entry) → P (d, entry_with height b o)
+          → AllByRecursion P (with_vote_to o d height b kept)
       go None q = all-new kept d (entry_with height b None) q h
       go (Some old) q = all-set kept d (entry_with height b (Some old)) q h
 
-  pub all-above : (Q : Bytes × Entry → Type 0) (height : ℕ) → ((e : Bytes × Entry) → P e → height < e.1.height → Q e) → (kept : Kept) → AllByRecursion P kept → AllByRecursion Q (kept_above height kept)
+  pub all-above : (Q : Bytes × Entry → Type 0) (height : ℕ)
+      → ((e : Bytes × Entry) → P e → height < e.1.height → Q e) → (kept : Kept) → AllByRecursion P kept
+      → AllByRecursion Q (kept_above height kept)
   all-above Q height f [] h = tt
   all-above Q height f (x ∷ xs) h =
-      cond_both (nat_lt height x.1.height) (x ∷ kept_above height xs) (kept_above height xs) (λ (l : Kept). AllByRecursion Q l)
-      (λ e. (f x h.0 (ltb-true height x.1.height e), all-above Q height f xs h.1)) (λ e. all-above Q height f xs h.1)
+      cond_both (nat_lt height x.1.height) (x ∷ kept_above height xs) (kept_above height xs)
+      (λ (l : Kept). AllByRecursion Q l)
+      (λ e. (f x h.0 (ltb-true height x.1.height e), all-above Q height f xs h.1))
+      (λ e. all-above Q height f xs h.1)
 
   -- where entries of one digest are of one height, dropping by heights is dropping by digests
-  module _ (one : (x y : Bytes × Entry) → P x → P y → x.0 ≡ y.0 → x.1.height ≡ y.1.height) (height : ℕ) (d : Bytes) where
-    none-left : (x : Bytes × Entry) → P x → bytes_eq d x.0 ≡ true → nat_lt height x.1.height ≡ false → (kept : Kept) → AllByRecursion P kept → entry_for d (kept_above height kept) ≡ None
+  module _ (one : (x y : Bytes × Entry) → P x → P y → x.0 ≡ y.0 → x.1.height ≡ y.1.height) (height : ℕ)
+      (d : Bytes) where
+    none-left : (x : Bytes × Entry) → P x → bytes_eq d x.0 ≡ true → nat_lt height x.1.height ≡ false
+        → (kept : Kept) → AllByRecursion P kept → entry_for d (kept_above height kept) ≡ None
     none-left x p is low [] h = refl
     none-left x p is low (y ∷ ys) h =
-        cond_both (nat_lt height y.1.height) (y ∷ kept_above height ys) (kept_above height ys) (λ (l : Kept). entry_for d l ≡ None)
-        (λ high. cond_both (bytes_eq d y.0) (Some y.1) (entry_for d (kept_above height ys)) (λ (o : Option Entry). o ≡ None)
-        (λ same. absurd (true≢false (sym high ∙ ap (nat_lt height) (one y x h.0 p (sym (same_bytes d y.0 same) ∙ same_bytes d x.0 is)) ∙ low)))
+        cond_both (nat_lt height y.1.height) (y ∷ kept_above height ys) (kept_above height ys)
+        (λ (l : Kept). entry_for d l ≡ None)
+        (λ high. cond_both (bytes_eq d y.0) (Some y.1) (entry_for d (kept_above height ys))
+        (λ (o : Option Entry). o ≡ None)
+        (λ same. absurd (true≢false (sym high
+        ∙ ap (nat_lt height) (one y x h.0 p (sym (same_bytes d y.0 same) ∙ same_bytes d x.0 is))
+        ∙ low)))
         (λ other. none-left x p is low ys h.1))
         (λ le. none-left x p is low ys h.1)
 
-    pub seen-above : (kept : Kept) → AllByRecursion P kept → entry_for d (kept_above height kept) ≡ entry_above height (entry_for d kept)
+    pub seen-above : (kept : Kept) → AllByRecursion P kept
+        → entry_for d (kept_above height kept) ≡ entry_above height (entry_for d kept)
     seen-above [] h = refl
     seen-above (y ∷ ys) h =
         let Q : Bool → Bool → Type 0 = λ t u. bytes_eq d y.0 ≡ t → nat_lt height y.1.height ≡ u
-        → entry_for d (cond u (y ∷ kept_above height ys) (kept_above height ys)) ≡ entry_above height (cond t (Some y.1) (entry_for d ys)) in
+        → entry_for d (cond u (y ∷ kept_above height ys) (kept_above height ys))
+        ≡ entry_above height (cond t (Some y.1) (entry_for d ys)) in
         let each : (t u : Bool) → Q t u = elim [
           | true ↦ elim [
-            | true ↦ λ same high. cond-true (bytes_eq d y.0) (Some y.1) (entry_for d (kept_above height ys)) same ∙ sym (cond-true (nat_lt height y.1.height) (Some y.1) None high)
-            | false ↦ λ same low. none-left y h.0 same low ys h.1 ∙ sym (cond-false (nat_lt height y.1.height) (Some y.1) None low)
+            | true ↦
+                λ same high. cond-true (bytes_eq d y.0) (Some y.1) (entry_for d (kept_above height ys)) same
+                ∙ sym (cond-true (nat_lt height y.1.height) (Some y.1) None high)
+            | false ↦
+                λ same low. none-left y h.0 same low ys h.1
+                ∙ sym (cond-false (nat_lt height y.1.height) (Some y.1) None low)
           ]
           | false ↦ elim [
-            | true ↦ λ other high. cond-false (bytes_eq d y.0) (Some y.1) (entry_for d (kept_above height ys)) other ∙ seen-above ys h.1
+            | true ↦
+                λ other high. cond-false (bytes_eq d y.0) (Some y.1) (entry_for d (kept_above height ys))
+                other ∙ seen-above ys h.1
             | false ↦ λ other low. seen-above ys h.1
           ]
         ] in
@@ -205,7 +263,8 @@ pub found-by : (d : Bytes) (kept : Kept) → lookup (is_at (slice_cmp nat_cmp d)
 found-by d kept = ap (λ (t : Bytes → Bool). lookup t kept) (λ i x. is_eq-slice_cmp d x i)
 
 -- a value is put in by order as it is by bytes
-pub put-by : (d : Bytes) (kept : Kept) (e : Entry) → set_value (is_at (slice_cmp nat_cmp d)) kept e ≡ set_value (λ x. bytes_eq d x) kept e
+pub put-by : (d : Bytes) (kept : Kept) (e : Entry)
+    → set_value (is_at (slice_cmp nat_cmp d)) kept e ≡ set_value (λ x. bytes_eq d x) kept e
 put-by d kept e = ap (λ (t : Bytes → Bool). set_value t kept e) (λ i x. is_eq-slice_cmp d x i)
 
 -- ---- what the code finds and leaves
@@ -220,31 +279,41 @@ module _ (d : Bytes) (kept : Kept) where
   pub found-none : None ≡ lookup by_order kept → [] ≡ votes_for d kept
   found-none is = ap votes_in (is ∙ found-by d kept)
 
-  pub written-more : (height : ℕ) (b : Vote) (old w : Entry) (new : Kept) → Some old ≡ lookup by_order kept → new ≡ set_value by_order kept w
+  pub written-more : (height : ℕ) (b : Vote) (old w : Entry) (new : Kept) → Some old ≡ lookup by_order kept
+      → new ≡ set_value by_order kept w
       → w ≡ record { height = old.height; votes = insert_vote b old.votes } → new ≡ with_vote d height b kept
   written-more height b old w new is set e =
-      set ∙ ap (set_value by_order kept) e ∙ put-by d kept (record { height = old.height; votes = insert_vote b old.votes })
+      set ∙ ap (set_value by_order kept) e
+      ∙ put-by d kept (record { height = old.height; votes = insert_vote b old.votes })
       ∙ ap (λ (o : Option Entry). with_vote_to o d height b kept) (is ∙ found-by d kept)
 
-  pub written-same : (old w : Entry) (new : Kept) → Some old ≡ lookup by_order kept → new ≡ set_value by_order kept w → w ≡ old → new ≡ kept
-  written-same old w new is set e = set ∙ set_value_same by_order kept w (sym is ∙ ap (λ (x : Entry). Some x) (sym e))
+  pub written-same : (old w : Entry) (new : Kept) → Some old ≡ lookup by_order kept
+      → new ≡ set_value by_order kept w → w ≡ old → new ≡ kept
+  written-same old w new is set e =
+      set ∙ set_value_same by_order kept w (sym is ∙ ap (λ (x : Entry). Some x) (sym e))
 
-  pub written-first : (height : ℕ) (b : Vote) (e : Entry) (new : Kept) → None ≡ lookup by_order kept → new ≡ insert_entry (slice_cmp nat_cmp) kept d e
+  pub written-first : (height : ℕ) (b : Vote) (e : Entry) (new : Kept) → None ≡ lookup by_order kept
+      → new ≡ insert_entry (slice_cmp nat_cmp) kept d e
       → e ≡ record { height = height; votes = b ∷ [] } → new ≡ with_vote d height b kept
   written-first height b e new is put same =
-      put ∙ ap (insert_entry (slice_cmp nat_cmp) kept d) same ∙ ap (λ (o : Option Entry). with_vote_to o d height b kept) (is ∙ found-by d kept)
+      put ∙ ap (insert_entry (slice_cmp nat_cmp) kept d) same
+      ∙ ap (λ (o : Option Entry). with_vote_to o d height b kept) (is ∙ found-by d kept)
 
 -- ---- votes at these sizes
 
-all-put : (P : Vote → Type 0) (b : Vote) (xs : List Vote) → P b → AllByRecursion P xs → AllByRecursion P (insert_vote b xs)
+all-put : (P : Vote → Type 0) (b : Vote) (xs : List Vote) → P b → AllByRecursion P xs
+    → AllByRecursion P (insert_vote b xs)
 unfolding insert_vote
 all-put P b [] hb h = (hb, tt)
-all-put P b (x ∷ xs) hb h = cond_both (nat_lt b.voter x.voter) (b ∷ x ∷ xs) (x ∷ insert_vote b xs) (λ (l : List Vote). AllByRecursion P l) (λ e. (hb, h)) (λ e. (h.0, all-put P b xs hb h.1))
+all-put P b (x ∷ xs) hb h =
+    cond_both (nat_lt b.voter x.voter) (b ∷ x ∷ xs) (x ∷ insert_vote b xs)
+    (λ (l : List Vote). AllByRecursion P l) (λ e. (hb, h)) (λ e. (h.0, all-put P b xs hb h.1))
 
 length-put : (b : Vote) (xs : List Vote) → length (insert_vote b xs) ≡ suc (length xs)
 unfolding insert_vote
 length-put b [] = refl
-length-put b (x ∷ xs) = cond_both (nat_lt b.voter x.voter) (b ∷ x ∷ xs) (x ∷ insert_vote b xs) (λ (l : List Vote). length l ≡ suc (length (x ∷ xs))) (λ e. refl) (λ e. ap suc (length-put b xs))
+length-put b (x ∷ xs) = cond_both (nat_lt b.voter x.voter) (b ∷ x ∷ xs) (x ∷ insert_vote b xs)
+    (λ (l : List Vote). length l ≡ suc (length (x ∷ xs))) (λ e. refl) (λ e. ap suc (length-put b xs))
 
 module _ (sizes : Sizes) (kept : Kept) (all : AreVotesOf sizes kept) where
   abbrev Fit : Bytes × Entry → Type 0
@@ -257,17 +326,25 @@ module _ (sizes : Sizes) (kept : Kept) (all : AreVotesOf sizes kept) where
       go None e = tt
       go (Some x) e = all-found Fit kept d x all e
 
-  pub fit-with : (d : Bytes) (height : ℕ) (b : Vote) → IsVote sizes b → AreVotesOf sizes (with_vote d height b kept)
-  fit-with d height b hb = all-with Fit kept d height b (subst (λ (l : List Vote). AllByRecursion (IsVote sizes) l) (sym (votes-with height b (entry_for d kept))) (all-put (IsVote sizes) b (votes_for d kept) hb (fit-for d))) all
+  pub fit-with : (d : Bytes) (height : ℕ) (b : Vote) → IsVote sizes b
+      → AreVotesOf sizes (with_vote d height b kept)
+  fit-with d height b hb = all-with Fit kept d height b
+      (subst (λ (l : List Vote). AllByRecursion (IsVote sizes) l)
+      (sym (votes-with height b (entry_for d kept)))
+      (all-put (IsVote sizes) b (votes_for d kept) hb (fit-for d))) all
 
   pub fit-above : (height : ℕ) → AreVotesOf sizes (kept_above height kept)
   fit-above height = all-above Fit Fit height (λ e h l. h) kept all
 
   -- the votes of a certificate
-  pub fit-made : (d : Bytes) (b : Vote) (bytes : Bytes) → IsVote sizes b → judged (quorum sizes) b.voter (votes_for d kept) ≡ Complete
-      → bytes ≡ flat_map vote_bytes (insert_vote b (votes_for d kept)) → AreVotes sizes (quorum sizes) bytes (insert_vote b (votes_for d kept))
+  pub fit-made : (d : Bytes) (b : Vote) (bytes : Bytes) → IsVote sizes b
+      → judged (quorum sizes) b.voter (votes_for d kept) ≡ Complete
+      → bytes ≡ flat_map vote_bytes (insert_vote b (votes_for d kept))
+      → AreVotes sizes (quorum sizes) bytes (insert_vote b (votes_for d kept))
   fit-made d b bytes hb judgement spelled =
-      let told : Says (quorum sizes) b.voter (votes_for d kept) Complete = subst (Says (quorum sizes) b.voter (votes_for d kept)) judgement (judged-says (quorum sizes) b.voter (votes_for d kept)) in
+      let told : Says (quorum sizes) b.voter (votes_for d kept) Complete =
+      subst (Says (quorum sizes) b.voter (votes_for d kept)) judgement
+      (judged-says (quorum sizes) b.voter (votes_for d kept)) in
       let full = told.1 in
       let n = length-put b (votes_for d kept) in
       (all-put (IsVote sizes) b (votes_for d kept) hb (fit-for d), omega (arith, n, full), spelled)

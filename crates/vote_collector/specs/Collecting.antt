@@ -1,5 +1,6 @@
 -- Votes that are collected, by the digests of the blocks that they are for.
-use Rattle.std.specs.Prelude.{ℕ, ◌+◌, ◌==◌, Bool, Option, Some, None, List, [], ◌∷◌, filter, length, nat_lt, if◌then◌else◌}
+use Rattle.std.specs.Prelude.{ℕ, ◌+◌, ◌==◌, Bool, Option, Some, None, List, [], ◌∷◌, filter, length, nat_lt}
+use Rattle.std.specs.Prelude.{if◌then◌else◌}
 use Rattle.std.specs.List.{list_any, AllByRecursion}
 use Rattle.std.specs.Ordering.{nat_cmp}
 use Rattle.std.specs.Cmp.Lexicographic.{slice_cmp}
@@ -53,8 +54,10 @@ judged most voter votes =
 
 -- one more vote for the block of this digest and height, where this was kept of it
 abbrev pub with_vote_to : Option Entry → Bytes → ℕ → Vote → Kept → Kept
-with_vote_to None d height b kept = insert_entry (slice_cmp nat_cmp) kept d (record { height = height; votes = b ∷ [] })
-with_vote_to (Some e) d height b kept = set_value (λ x. bytes_eq d x) kept (record { height = e.height; votes = insert_vote b e.votes })
+with_vote_to None d height b kept =
+    insert_entry (slice_cmp nat_cmp) kept d (record { height = height; votes = b ∷ [] })
+with_vote_to (Some e) d height b kept =
+    set_value (λ x. bytes_eq d x) kept (record { height = e.height; votes = insert_vote b e.votes })
 
 -- one more vote for the block of this digest and height
 abbrev pub with_vote : Bytes → ℕ → Vote → Kept → Kept

@@ -28,9 +28,10 @@ pub record IsOfBlock (s : Sizes) (c : Chronicle) (d : Bytes) (e : Entry) : Type 
   pub its_height : e.height ≡ length block
   pub higher : certified s c < length block
 
--- These are the votes that a replica of this chronicle may need again: all that it has for each block above its
--- highest certificate's, and no others. For a digest that isn't in the tree there are none.
+-- These are the votes that a replica of this chronicle may need again: all that it has for each block above
+-- its highest certificate's, and no others. For a digest that isn't in the tree there are none.
 pub record IsVotesOf (s : Sizes) (c : Chronicle) (kept : Kept) : Type 0 where
-  pub above : (b : Branch) → Among b (tree c) → certified s c < length b → AreCollected s c (votes_for (digest_of b) kept) b
+  pub above : (b : Branch) → Among b (tree c) → certified s c < length b
+      → AreCollected s c (votes_for (digest_of b) kept) b
   pub alone : AllByRecursion (λ e. IsOfBlock s c e.0 e.1) kept
   pub unknown : (d : Bytes) → ((b : Branch) → Among b (tree c) → digest_of b ≡ d → ⊥) → votes s d c ≡ []

@@ -19,17 +19,22 @@ made_with d vote kept = record { digest = d; votes = insert_vote vote (votes_for
 abbrev pub Leaves : Sizes → Chronicle → Kept → Justified → Type 0
 Leaves s c kept q = IsVotesOf s c kept × (qc_high s c ≡ q)
 
--- What comes of a vote for the block b of digest d, by its height and what it is to the votes that are kept: where it
--- is no higher than the highest certificate's block, or doubled, nothing changes; a first one is kept; and one that
--- completes a quorum makes the highest certificate, and the votes for blocks of at most this height go.
-pub record FollowsVote (s : Sizes) (c : Chronicle) (kept : Kept) (d : Bytes) (b : Branch) (vote : Vote) : Type 0 where
-  pub low : length b ≤ certified s c → Leaves s (noted (got_vote vote.voter vote.vector b) ∷ c) kept (qc_high s c)
+-- What comes of a vote for the block b of digest d, by its height and what it is to the votes that are
+-- kept: where it is no higher than the highest certificate's block, or doubled, nothing changes; a first
+-- one is kept; and one that completes a quorum makes the highest certificate, and the votes for blocks of
+-- at most this height go.
+pub record FollowsVote (s : Sizes) (c : Chronicle) (kept : Kept) (d : Bytes) (b : Branch) (vote : Vote) :
+    Type 0 where
+  pub low : length b ≤ certified s c
+      → Leaves s (noted (got_vote vote.voter vote.vector b) ∷ c) kept (qc_high s c)
   pub doubled : certified s c < length b → judged (quorum s) vote.voter (votes_for d kept) ≡ Doubled
       → Leaves s (noted (got_vote vote.voter vote.vector b) ∷ c) kept (qc_high s c)
   pub first : certified s c < length b → judged (quorum s) vote.voter (votes_for d kept) ≡ First
-      → Leaves s (noted (got_vote vote.voter vote.vector b) ∷ c) (with_vote d (length b) vote kept) (qc_high s c)
+      → Leaves s (noted (got_vote vote.voter vote.vector b) ∷ c) (with_vote d (length b) vote kept)
+      (qc_high s c)
   pub complete : certified s c < length b → judged (quorum s) vote.voter (votes_for d kept) ≡ Complete
-      → Leaves s (noted (got_vote vote.voter vote.vector b) ∷ c) (kept_above (length b) kept) (record { block = b; certificate = made_with d vote kept })
+      → Leaves s (noted (got_vote vote.voter vote.vector b) ∷ c) (kept_above (length b) kept)
+      (record { block = b; certificate = made_with d vote kept })
 
 -- the step brings no vote
 abbrev pub BringsNoVote : Step → Type 0
@@ -44,7 +49,8 @@ BeginsEmpty s = IsVotesOf s [] []
 
 -- a vote for a block of the tree
 abbrev pub IsFollowedAtVote : Sizes → Chronicle → Kept → Type 0
-IsFollowedAtVote s c kept = (d : Bytes) (b : Branch) (vote : Vote) → IsTree (tree c) → find_in d (tree c) ≡ Some b
+IsFollowedAtVote s c kept =
+    (d : Bytes) (b : Branch) (vote : Vote) → IsTree (tree c) → find_in d (tree c) ≡ Some b
     → IsVotesOf s c kept → FollowsVote s c kept d b vote
 
 -- any other step: the votes for blocks of at most the height of the highest certificate then may go
@@ -54,4 +60,5 @@ IsFollowedElse s c kept = (st : Step) → BringsNoVote st → IsTree (tree (st �
 
 -- where that height stays, none are so low
 abbrev pub NoneAreLow : Sizes → Chronicle → Kept → Type 0
-NoneAreLow s c kept = (height : ℕ) → IsVotesOf s c kept → height ≤ certified s c → kept_above height kept ≡ kept
+NoneAreLow s c kept =
+    (height : ℕ) → IsVotesOf s c kept → height ≤ certified s c → kept_above height kept ≡ kept

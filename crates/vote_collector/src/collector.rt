@@ -72,11 +72,12 @@ impl Collector {
         }
     }
 
-    /// The certificate of a vote and those that are kept for a digest, by number of voter. It is asked where `judge` says
-    /// `Complete`, and its one refusal is `Memory`.
+    /// The certificate of a vote and those that are kept for a digest, by number of voter. It is
+    /// asked where `judge` says `Complete`, and its one refusal is `Memory`.
     pub fn completed(&self, digest: &Digest, vote: &VoteView) -> Result<CertificateBuf, Fault>
         requires vote { IsVote self.now.sizes (vote_of vote.now) }
-        requires complete { judged (quorum self.now.sizes) vote.now.voter (votes_for digest.now self.now.kept) ≡ Complete }
+        requires complete { judged (quorum self.now.sizes) vote.now.voter
+            (votes_for digest.now self.now.kept) ≡ Complete }
         ensures made { IfOk result (λ q. q ≡ made_with digest.now (vote_of vote.now) self.now.kept) }
         ensures memory { OnErr result (result ≡ Err Fault.Memory) }
     {
@@ -93,10 +94,12 @@ impl Collector {
         KeptVote::copy(self.alloc, vote)
     }
 
-    /// Adds a vote to those for the block of this digest and height. At `Memory`, its one refusal, nothing changes.
+    /// Adds a vote to those for the block of this digest and height. At `Memory`, its one refusal,
+    /// nothing changes.
     pub fn add(&mut self, digest: Digest, height: Height, vote: KeptVote) -> Result<(), Fault>
         requires { IsVote self.old.sizes vote }
-        ensures kept { OnOk result (self.new ≡ record self.old { kept = with_vote digest height vote self.old.kept }) }
+        ensures kept { OnOk result
+            (self.new ≡ record self.old { kept = with_vote digest height vote self.old.kept }) }
         ensures unchanged { OnErr result (self.new ≡ self.old) }
         ensures memory { OnErr result (result ≡ Err Fault.Memory) }
     {

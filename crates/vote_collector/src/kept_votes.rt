@@ -55,7 +55,8 @@ impl KeptVotes {
 
     /// Puts a vote into its place by number of voter.
     pub(crate) fn insert(&mut self, vote: KeptVote) -> Result<(), Fault>
-        ensures inserted { OnOk result (self.new ≡ record self.old { votes = insert_vote vote self.old.votes }) }
+        ensures inserted { OnOk result
+            (self.new ≡ record self.old { votes = insert_vote vote self.old.votes }) }
         ensures unchanged { OnErr result (self.new ≡ self.old) }
         ensures memory { OnErr result (result ≡ Err Fault.Memory) }
     {
@@ -99,7 +100,8 @@ fn write_votes(votes: &[KeptVote], bytes: &mut Vec<u8>) -> Result<(), Fault>
 
 /// The bytes of the votes with another one in its place, one after the other.
 pub(crate) fn spelled(alloc: Global, votes: &[KeptVote], vote: &VoteView) -> Result<Vec<u8>, Fault>
-    ensures bytes { IfOk result (λ bytes. bytes.items ≡ flat_map vote_bytes (insert_vote (vote_of vote.now) votes.now)) }
+    ensures bytes { IfOk result
+        (λ bytes. bytes.items ≡ flat_map vote_bytes (insert_vote (vote_of vote.now) votes.now)) }
     ensures memory { OnErr result (result ≡ Err Fault.Memory) }
 {
     let (before, behind) = votes.split_at(place_of(votes, vote.voter()));

@@ -10,14 +10,16 @@ pub fn begins_empty()
     ensures { (s : Sizes) → BeginsEmpty s }
 {}
 
-/// After a vote that a replica stores, its collector is as it was where the block is no higher than that of the highest
-/// certificate or the vote is `Doubled`, what `add` leaves where it is `First`, and what `drop_up_to` leaves where it is
-/// `Complete`; the highest certificate is then the one that `completed` gives, and else the one before.
+/// After a vote that a replica stores, its collector is as it was where the block is no higher than
+/// that of the highest certificate or the vote is `Doubled`, what `add` leaves where it is `First`,
+/// and what `drop_up_to` leaves where it is `Complete`; the highest certificate is then the one
+/// that `completed` gives, and else the one before.
 pub fn votes_are_followed()
     ensures { (s : Sizes) (c : Chronicle) (kept : Kept) → IsFollowedAtVote s c kept }
 {}
 
-/// After any other step its collector is what `drop_up_to` leaves at the height of the highest certificate then.
+/// After any other step its collector is what `drop_up_to` leaves at the height of the highest
+/// certificate then.
 pub fn other_steps_are_followed()
     ensures { (s : Sizes) (c : Chronicle) (kept : Kept) → IsFollowedElse s c kept }
 {}

@@ -1,7 +1,8 @@
 //! The votes of which a replica makes certificates.
 //!
-//! Of each block each voter's first vote is kept until they are a quorum, which makes a certificate. Votes for blocks
-//! at or below the highest certificate's are never needed again, and are dropped.
+//! Of each block each voter's first vote is kept until they are a quorum, which makes a
+//! certificate. Votes for blocks at or below the highest certificate's are never needed again, and
+//! are dropped.
 #![tactic(auto)]
 
 mod added;

@@ -3,22 +3,27 @@ use Rattle.std.proofs.Common.{ℕ, ◌+◌, ◌*◌, ◌≡◌, List, [], ◌∷
 use Rattle.std.specs.List.{flat_map, AllByRecursion}
 use Rattle.ids.specs.Sizes.{Sizes}
 use Rattle.definitions.specs.Bytes.{Bytes}
-use Rattle.definitions.specs.Frames.{Core, Vote, Certificate, proposal, new_view, block, core_bytes, vote_bytes, certificate_bytes, spelling}
+use Rattle.definitions.specs.Frames.{Core, Vote, Certificate, proposal, new_view, block, core_bytes}
+use Rattle.definitions.specs.Frames.{vote_bytes, certificate_bytes, spelling}
 use Rattle.definitions.specs.FrameLimits.{IsCore, IsVote, IsCertificate, IsFrame}
 use Rattle.worked_examples.specs.Frames.{AreFour, SizeByVotes}
 
 -- what grows by 130 bytes a vote, from `least` on
-pub by_votes : (q : Certificate) (bytes : Bytes) (least : ℕ) → length bytes ≡ least + 130 * length q.votes → SizeByVotes q bytes least (least + 390)
-by_votes q bytes least e = ((λ none. let count : length q.votes ≡ 0 = ap length none in omega arith), (λ three. omega arith))
+pub by_votes : (q : Certificate) (bytes : Bytes) (least : ℕ) → length bytes ≡ least + 130 * length q.votes
+    → SizeByVotes q bytes least (least + 390)
+by_votes q bytes least e =
+    ((λ none. let count : length q.votes ≡ 0 = ap length none in omega arith), (λ three. omega arith))
 
 module _ (sizes : Sizes) (four : AreFour sizes) where
   -- a vote has 130 bytes
-  length-votes : (votes : List Vote) → AllByRecursion (IsVote sizes) votes → length (flat_map vote_bytes votes) ≡ 130 * length votes
+  length-votes : (votes : List Vote) → AllByRecursion (IsVote sizes) votes
+      → length (flat_map vote_bytes votes) ≡ 130 * length votes
   length-votes [] h = refl
   length-votes (v ∷ votes) h = simp length-append (omega (arith, h.0.vector, length-votes votes h.1))
 
   -- a certificate has 33 bytes and its votes
-  pub length-certificate_bytes : (q : Certificate) → IsCertificate sizes q → length (certificate_bytes q) ≡ 33 + 130 * length q.votes
+  pub length-certificate_bytes : (q : Certificate) → IsCertificate sizes q
+      → length (certificate_bytes q) ≡ 33 + 130 * length q.votes
   length-certificate_bytes q h = simp length-append (omega (arith, h.digest, length-votes q.votes h.votes))
 
   -- a core without commands has 49 bytes
@@ -26,7 +31,8 @@ module _ (sizes : Sizes) (four : AreFour sizes) where
   length-core_bytes k h none = rw none (simp length-append (omega (arith, h.parent)))
 
   -- a core and a certificate have 82 bytes and the votes
-  length-core_and_certificate : (k : Core) (q : Certificate) → IsCore sizes k → IsCertificate sizes q → k.commands ≡ []
+  length-core_and_certificate : (k : Core) (q : Certificate) → IsCore sizes k → IsCertificate sizes q
+      → k.commands ≡ []
       → length (core_bytes k ++ certificate_bytes q) ≡ 82 + 130 * length q.votes
   length-core_and_certificate k q hk hq none =
       let sum = length-append (core_bytes k) (certificate_bytes q) in
@@ -35,7 +41,8 @@ module _ (sizes : Sizes) (four : AreFour sizes) where
       omega arith
 
   -- a Proposal has its kind, its view, these and a vector
-  pub length-proposal : (view : ℕ) (k : Core) (q : Certificate) (vector : Bytes) → IsFrame sizes (proposal view k q vector) → k.commands ≡ []
+  pub length-proposal : (view : ℕ) (k : Core) (q : Certificate) (vector : Bytes)
+      → IsFrame sizes (proposal view k q vector) → k.commands ≡ []
       → length (spelling (proposal view k q vector)) ≡ 219 + 130 * length q.votes
   length-proposal view k q vector h none =
       let both = length-core_and_certificate k q h.1 h.2 none in
@@ -44,7 +51,8 @@ module _ (sizes : Sizes) (four : AreFour sizes) where
       omega arith
 
   -- a Block has its kind, its sender, these and a tag
-  pub length-block : (sender : ℕ) (k : Core) (q : Certificate) (tag : Bytes) → IsFrame sizes (block sender k q tag) → k.commands ≡ []
+  pub length-block : (sender : ℕ) (k : Core) (q : Certificate) (tag : Bytes)
+      → IsFrame sizes (block sender k q tag) → k.commands ≡ []
       → length (spelling (block sender k q tag)) ≡ 117 + 130 * length q.votes
   length-block sender k q tag h none =
       let both = length-core_and_certificate k q h.1 h.2 none in
@@ -53,7 +61,8 @@ module _ (sizes : Sizes) (four : AreFour sizes) where
       omega arith
 
   -- a NewView has its kind, its view, its sender, a certificate and a vector
-  pub length-new_view : (view sender : ℕ) (q : Certificate) (vector : Bytes) → IsFrame sizes (new_view view sender q vector)
+  pub length-new_view : (view sender : ℕ) (q : Certificate) (vector : Bytes)
+      → IsFrame sizes (new_view view sender q vector)
       → length (spelling (new_view view sender q vector)) ≡ 172 + 130 * length q.votes
   length-new_view view sender q vector h =
       let cert = length-certificate_bytes q h.2 in

@@ -11,12 +11,17 @@ use Rattle.definitions.proofs.Lines.{no_cr, head_at}
 use Rattle.definitions.proofs.ItemLaws.{word_has_no_end, item_by_line, made_item, made_open}
 
 -- the item that a line and the rest make
-pub item_at : (l rest : Bytes) (x : Item) (used : ℕ) → list_all (λ b. nat_le 32 b) l ≡ true → length l + 2 ≤ MOST_LINE → item_by_line l rest (head_at l) ≡ Some (x, used) → IsItemAt (l ++ crlf ++ rest) x used
-item_at l rest x used plain fits made = made_item (l ++ crlf ++ rest) l rest x used (word_has_no_end l plain, fits, refl) made
+pub item_at : (l rest : Bytes) (x : Item) (used : ℕ) → list_all (λ b. nat_le 32 b) l ≡ true
+    → length l + 2 ≤ MOST_LINE → item_by_line l rest (head_at l) ≡ Some (x, used)
+    → IsItemAt (l ++ crlf ++ rest) x used
+item_at l rest x used plain fits made =
+    made_item (l ++ crlf ++ rest) l rest x used (word_has_no_end l plain, fits, refl) made
 
 -- no item yet
-pub open_at : (l rest : Bytes) → list_all (λ b. nat_le 32 b) l ≡ true → length l + 2 ≤ MOST_LINE → item_by_line l rest (head_at l) ≡ None → IsUnfinished (l ++ crlf ++ rest)
-open_at l rest plain fits made = made_open (l ++ crlf ++ rest) l rest (word_has_no_end l plain, fits, refl) made
+pub open_at : (l rest : Bytes) → list_all (λ b. nat_le 32 b) l ≡ true → length l + 2 ≤ MOST_LINE
+    → item_by_line l rest (head_at l) ≡ None → IsUnfinished (l ++ crlf ++ rest)
+open_at l rest plain fits made =
+    made_open (l ++ crlf ++ rest) l rest (word_has_no_end l plain, fits, refl) made
 
 -- letters have no end within
 pub letters_have_no_end : (n : ℕ) → HasNoEnd (replicate n 97)

@@ -4,12 +4,16 @@ use Rattle.sha2.specs.Sha256.{sha256, digest_bytes, hash_after, compress, rounds
 use Rattle.definitions.specs.Lists.{beginning, greatest, count_below}
 use Rattle.definitions.specs.Tags.{hmac}
 use Rattle.definitions.specs.Keyrings.{tag_for, verify, tags_for}
-use Rattle.definitions.specs.Branches.{justify_height, just1, just2, just3, command_eq, block_eq, branch_eq, extends, highest}
+use Rattle.definitions.specs.Branches.{justify_height, just1, just2, just3, command_eq, block_eq, branch_eq}
+use Rattle.definitions.specs.Branches.{extends, highest}
 use Rattle.definitions.specs.Digests.{digest, core_over, digest_of, core_of}
 use Rattle.definitions.specs.Histories.{history_of, answers, last_seq}
-use Rattle.definitions.specs.Chronicles.{voted, taken, tree, vheight, lock, decides, decided_by, decided, executed, history, stored, may_vote}
+use Rattle.definitions.specs.Chronicles.{voted, taken, tree, vheight, lock, decides, decided_by, decided}
+use Rattle.definitions.specs.Chronicles.{executed, history, stored, may_vote}
 use Rattle.definitions.specs.Checks.{counted, is_good, is_clear_core}
-use Rattle.definitions.specs.States.{find_block, view, announcements, announced, reached, votes, raised, qc_high, is_due, pending, leads, is_known, picks, child, leaf, proposed}
+use Rattle.definitions.specs.States.{find_block, view, announcements, announced, reached, votes, raised}
+use Rattle.definitions.specs.States.{qc_high, is_due, pending, leads, is_known, picks, child, leaf}
+use Rattle.definitions.specs.States.{proposed}
 use Rattle.definitions.specs.Trees.{is_clear, clear_above, placing_known, placing_new, placing}
 use Rattle.definitions.specs.Rulings.{admitted, votes_for, on_placing, ruling, conflicts}
 use Rattle.definitions.specs.Sendings.{vote_frame, proposal_frame, new_replies, sendings}
@@ -22,15 +26,18 @@ use Rattle.std.specs.Prelude.{◌≡◌, [], ◌∷◌}
 use Rattle.definitions.specs.Replicas.{ample}
 use Rattle.definitions.specs.Sendings.{to_all, to_party}
 use Rattle.definitions.specs.Worlds.{World, Sent, beat}
-use Rattle.std.proofs.Common.{arith, inl, inr, sym, subst, ◌∙◌, Some, None, ◌⊎◌, get_or, ap, option_map, slice_get}
+use Rattle.std.proofs.Common.{arith, inl, inr, sym, subst, ◌∙◌, Some, None, ◌⊎◌, get_or, ap, option_map}
+use Rattle.std.proofs.Common.{slice_get}
 use Rattle.std.specs.Prelude.{List}
 use Rattle.definitions.specs.Lists.{Among}
-use Rattle.definitions.specs.Premises.{Claim, accepted_tags, WasSent, NoForgeryIn, CoreOf, CoreBrought, CoreOfRun}
+use Rattle.definitions.specs.Premises.{Claim, accepted_tags, WasSent, NoForgeryIn, CoreOf, CoreBrought}
+use Rattle.definitions.specs.Premises.{CoreOfRun}
 use Rattle.definitions.specs.Worlds.{self_of, relay}
 use Rattle.definitions.specs.Frames.{Frame, Core, genesis_core}
 use Rattle.definitions.specs.Checks.{Identity}
 use Rattle.definitions.specs.Bytes.{Bytes}
-use Rattle.worked_examples.specs.Runs.{IsTakenWhole, SendsOneVote, Lengths, Answers, PremisesHold, sizes, start}
+use Rattle.worked_examples.specs.Runs.{IsTakenWhole, SendsOneVote, Lengths, Answers, PremisesHold, sizes}
+use Rattle.worked_examples.specs.Runs.{start}
 use Rattle.worked_examples.specs.Runs as example
 
 -- the proposal in the record
@@ -39,56 +46,104 @@ proposal_sent = record { event = 1; sender = 0; to = to_all; frame = example.pro
 
 -- what the run sends
 pub sends : SendsOneVote
-unfolding sha256 digest_bytes hash_after compress rounds schedule first_words beginning greatest count_below hmac tag_for verify tags_for justify_height just1 just2 just3 command_eq block_eq branch_eq extends highest digest core_over digest_of core_of history_of answers last_seq voted taken tree vheight lock decides decided_by decided executed history stored is_clear clear_above may_vote counted is_good is_clear_core view announcements announced reached votes raised qc_high is_due pending leads is_known picks child leaf proposed find_block admitted votes_for placing_known placing_new placing on_placing ruling conflicts vote_frame proposal_frame new_replies sendings on_step on_ruling step check new_world nothing stepped comes party_of brought acts effect happens refusal run after
+unfolding sha256 digest_bytes hash_after compress rounds schedule first_words beginning greatest count_below
+    hmac tag_for verify tags_for justify_height just1 just2 just3 command_eq block_eq branch_eq extends
+    highest digest core_over digest_of core_of history_of answers last_seq voted taken tree vheight lock
+    decides decided_by decided executed history stored is_clear clear_above may_vote counted is_good
+    is_clear_core view announcements announced reached votes raised qc_high is_due pending leads is_known
+    picks child leaf proposed find_block admitted votes_for placing_known placing_new placing on_placing
+    ruling conflicts vote_frame proposal_frame new_replies sendings on_step on_ruling step check new_world
+    nothing stepped comes party_of brought acts effect happens refusal run after
 sends = refl
 
 -- no event is refused by the run
 pub taken_whole : IsTakenWhole
-unfolding sha256 digest_bytes hash_after compress rounds schedule first_words beginning greatest count_below hmac tag_for verify tags_for justify_height just1 just2 just3 command_eq block_eq branch_eq extends highest digest core_over digest_of core_of history_of answers last_seq voted taken tree vheight lock decides decided_by decided executed history stored is_clear clear_above may_vote counted is_good is_clear_core view announcements announced reached votes raised qc_high is_due pending leads is_known picks child leaf proposed find_block admitted votes_for placing_known placing_new placing on_placing ruling conflicts vote_frame proposal_frame new_replies sendings on_step on_ruling step check new_world nothing stepped comes party_of brought acts effect happens refusal run after
+unfolding sha256 digest_bytes hash_after compress rounds schedule first_words beginning greatest count_below
+    hmac tag_for verify tags_for justify_height just1 just2 just3 command_eq block_eq branch_eq extends
+    highest digest core_over digest_of core_of history_of answers last_seq voted taken tree vheight lock
+    decides decided_by decided executed history stored is_clear clear_above may_vote counted is_good
+    is_clear_core view announcements announced reached votes raised qc_high is_due pending leads is_known
+    picks child leaf proposed find_block admitted votes_for placing_known placing_new placing on_placing
+    ruling conflicts vote_frame proposal_frame new_replies sendings on_step on_ruling step check new_world
+    nothing stepped comes party_of brought acts effect happens refusal run after
 taken_whole = refl
 
 -- how long its frames are
 pub lengths : Lengths
-unfolding sha256 digest_bytes hash_after compress rounds schedule first_words beginning greatest count_below hmac tag_for verify tags_for justify_height just1 just2 just3 command_eq block_eq branch_eq extends highest digest core_over digest_of core_of history_of answers last_seq voted taken tree vheight lock decides decided_by decided executed history stored is_clear clear_above may_vote counted is_good is_clear_core view announcements announced reached votes raised qc_high is_due pending leads is_known picks child leaf proposed find_block admitted votes_for placing_known placing_new placing on_placing ruling conflicts vote_frame proposal_frame new_replies sendings on_step on_ruling step check new_world nothing stepped comes party_of brought acts effect happens refusal run after
+unfolding sha256 digest_bytes hash_after compress rounds schedule first_words beginning greatest count_below
+    hmac tag_for verify tags_for justify_height just1 just2 just3 command_eq block_eq branch_eq extends
+    highest digest core_over digest_of core_of history_of answers last_seq voted taken tree vheight lock
+    decides decided_by decided executed history stored is_clear clear_above may_vote counted is_good
+    is_clear_core view announcements announced reached votes raised qc_high is_due pending leads is_known
+    picks child leaf proposed find_block admitted votes_for placing_known placing_new placing on_placing
+    ruling conflicts vote_frame proposal_frame new_replies sendings on_step on_ruling step check new_world
+    nothing stepped comes party_of brought acts effect happens refusal run after
 lengths = refl
 
 -- nor by a party
 pub answered : Answers
-unfolding sha256 digest_bytes hash_after compress rounds schedule first_words beginning greatest count_below hmac tag_for verify tags_for justify_height just1 just2 just3 command_eq block_eq branch_eq extends highest digest core_over digest_of core_of history_of answers last_seq voted taken tree vheight lock decides decided_by decided executed history stored is_clear clear_above may_vote counted is_good is_clear_core view announcements announced reached votes raised qc_high is_due pending leads is_known picks child leaf proposed find_block admitted votes_for placing_known placing_new placing on_placing ruling conflicts vote_frame proposal_frame new_replies sendings on_step on_ruling step check new_world nothing stepped comes party_of brought acts effect happens refusal run after
+unfolding sha256 digest_bytes hash_after compress rounds schedule first_words beginning greatest count_below
+    hmac tag_for verify tags_for justify_height just1 just2 just3 command_eq block_eq branch_eq extends
+    highest digest core_over digest_of core_of history_of answers last_seq voted taken tree vheight lock
+    decides decided_by decided executed history stored is_clear clear_above may_vote counted is_good
+    is_clear_core view announcements announced reached votes raised qc_high is_due pending leads is_known
+    picks child leaf proposed find_block admitted votes_for placing_known placing_new placing on_placing
+    ruling conflicts vote_frame proposal_frame new_replies sendings on_step on_ruling step check new_world
+    nothing stepped comes party_of brought acts effect happens refusal run after
 answered = refl
 
 -- ---- the premises
 
 -- the record after the beat and after the vote
 after_beat : (after start ((beat 0, ample) ∷ [])).sent ≡ proposal_sent ∷ []
-unfolding sha256 digest_bytes hash_after compress rounds schedule first_words beginning greatest count_below hmac tag_for verify tags_for justify_height just1 just2 just3 command_eq block_eq branch_eq extends highest digest core_over digest_of core_of history_of answers last_seq voted taken tree vheight lock decides decided_by decided executed history stored is_clear clear_above may_vote counted is_good is_clear_core view announcements announced reached votes raised qc_high is_due pending leads is_known picks child leaf proposed find_block admitted votes_for placing_known placing_new placing on_placing ruling conflicts vote_frame proposal_frame new_replies sendings on_step on_ruling step check new_world nothing stepped comes party_of brought acts effect happens refusal run after
+unfolding sha256 digest_bytes hash_after compress rounds schedule first_words beginning greatest count_below
+    hmac tag_for verify tags_for justify_height just1 just2 just3 command_eq block_eq branch_eq extends
+    highest digest core_over digest_of core_of history_of answers last_seq voted taken tree vheight lock
+    decides decided_by decided executed history stored is_clear clear_above may_vote counted is_good
+    is_clear_core view announcements announced reached votes raised qc_high is_due pending leads is_known
+    picks child leaf proposed find_block admitted votes_for placing_known placing_new placing on_placing
+    ruling conflicts vote_frame proposal_frame new_replies sendings on_step on_ruling step check new_world
+    nothing stepped comes party_of brought acts effect happens refusal run after
 after_beat = refl
 
 after_vote : (after start ((beat 0, ample) ∷ (relay 0 1, ample) ∷ [])).sent
     ≡ proposal_sent ∷ record { event = 2; sender = 1; to = to_party 0; frame = example.voted } ∷ []
-unfolding sha256 digest_bytes hash_after compress rounds schedule first_words beginning greatest count_below hmac tag_for verify tags_for justify_height just1 just2 just3 command_eq block_eq branch_eq extends highest digest core_over digest_of core_of history_of answers last_seq voted taken tree vheight lock decides decided_by decided executed history stored is_clear clear_above may_vote counted is_good is_clear_core view announcements announced reached votes raised qc_high is_due pending leads is_known picks child leaf proposed find_block admitted votes_for placing_known placing_new placing on_placing ruling conflicts vote_frame proposal_frame new_replies sendings on_step on_ruling step check new_world nothing stepped comes party_of brought acts effect happens refusal run after
+unfolding sha256 digest_bytes hash_after compress rounds schedule first_words beginning greatest count_below
+    hmac tag_for verify tags_for justify_height just1 just2 just3 command_eq block_eq branch_eq extends
+    highest digest core_over digest_of core_of history_of answers last_seq voted taken tree vheight lock
+    decides decided_by decided executed history stored is_clear clear_above may_vote counted is_good
+    is_clear_core view announcements announced reached votes raised qc_high is_due pending leads is_known
+    picks child leaf proposed find_block admitted votes_for placing_known placing_new placing on_placing
+    ruling conflicts vote_frame proposal_frame new_replies sendings on_step on_ruling step check new_world
+    nothing stepped comes party_of brought acts effect happens refusal run after
 after_vote = refl
 
 -- the proposal's own tag for replica 1 is all that replica 1 relies on, and it was sent
-claim_was_sent : (sent : List Sent) → Among proposal_sent sent → (x : Claim) → Among x (accepted_tags (self_of start 1) example.proposed) → WasSent sent x
+claim_was_sent : (sent : List Sent) → Among proposal_sent sent → (x : Claim)
+    → Among x (accepted_tags (self_of start 1) example.proposed) → WasSent sent x
 unfolding accepted_tags proposal_frame core_of core_over is_good new_world
-claim_was_sent sent m x (inl e) = subst (WasSent sent) (sym e) (proposal_sent, m, refl, (refl, refl, refl, tt))
+claim_was_sent sent m x (inl e) =
+    subst (WasSent sent) (sym e) (proposal_sent, m, refl, (refl, refl, refl, tt))
 claim_was_sent sent m x (inr k) = absurd k
 
 -- the proposal is the first frame of the record, and is brought
-brings : (w : World) (rest : List Sent) → w.sent ≡ proposal_sent ∷ rest → brought w (relay 0 1) ≡ Some example.proposed
+brings : (w : World) (rest : List Sent) → w.sent ≡ proposal_sent ∷ rest
+    → brought w (relay 0 1) ≡ Some example.proposed
 unfolding brought
 brings w rest e = ap (λ (l : List Sent). option_map (λ (s : Sent). s.frame) (slice_get l 0)) e
 
-same-frame : (w : World) (rest : List Sent) (f : Frame) → w.sent ≡ proposal_sent ∷ rest → brought w (relay 0 1) ≡ Some f → f ≡ example.proposed
+same-frame : (w : World) (rest : List Sent) (f : Frame) → w.sent ≡ proposal_sent ∷ rest
+    → brought w (relay 0 1) ≡ Some f → f ≡ example.proposed
 same-frame w rest f e b = let h : Some f ≡ Some example.proposed = sym b ∙ brings w rest e in cc
 
 -- so no tag in it is forged
-none_forged : (w : World) (rest : List Sent) → self_of w 1 ≡ self_of start 1 → w.sent ≡ proposal_sent ∷ rest → NoForgeryIn w (relay 0 1)
+none_forged : (w : World) (rest : List Sent) → self_of w 1 ≡ self_of start 1 → w.sent ≡ proposal_sent ∷ rest
+    → NoForgeryIn w (relay 0 1)
 unfolding party_of
 none_forged w rest same sent f b ok ad x k okx =
     claim_was_sent w.sent (subst (λ (l : List Sent). Among proposal_sent l) (sym sent) (inl refl)) x
-    (subst (λ (g : Frame). Among x (accepted_tags (self_of start 1) g)) (same-frame w rest f sent b) (subst (λ (i : Identity). Among x (accepted_tags i f)) same k))
+    (subst (λ (g : Frame). Among x (accepted_tags (self_of start 1) g)) (same-frame w rest f sent b)
+    (subst (λ (i : Identity). Among x (accepted_tags i f)) same k))
 
 -- the digests of the two cores begin with other bytes
 genesis_first : get_or (digest genesis_core) 0 0 ≡ 120
@@ -110,12 +165,14 @@ proposed_core : (c : Core) (f : Frame) → f ≡ example.proposed → CoreOf c f
 unfolding proposal_frame IsOneOfTwo
 proposed_core c f e o = inr (subst (CoreOf c) e o)
 
-sent_core : (c : Core) (s : Sent) → Among s (after start example.schedule).sent → CoreOf c s.frame → IsOneOfTwo c
+sent_core : (c : Core) (s : Sent) → Among s (after start example.schedule).sent → CoreOf c s.frame
+    → IsOneOfTwo c
 unfolding vote_frame
 sent_core c s m o =
     elim (subst (λ (l : List Sent). Among s l) sends m) [
       | inl e ↦ proposed_core c s.frame (ap (λ (x : Sent). x.frame) e) o
-      | inr k ↦ (elim k [ inl e ↦ absurd (subst (CoreOf c) (ap (λ (x : Sent). x.frame) e) o) | inr n ↦ absurd n ])
+      | inr k ↦
+          (elim k [ inl e ↦ absurd (subst (CoreOf c) (ap (λ (x : Sent). x.frame) e) o) | inr n ↦ absurd n ])
     ]
 
 not_brought : (f : Frame) → brought start (beat 0) ≡ Some f → ⊥

@@ -10,7 +10,15 @@ on justify parent = record { commands = []; justify = justify } ∷ parent
 
 -- the step that takes a new block without a vote
 abbrev pub took : Branch → Step
-took b = took_block (record { branch = b; core = core_of b; certificate = record { digest = []; votes = [] }; counted = []; clear = true; new = true; voted = false })
+took b = took_block (record {
+  branch = b;
+  core = core_of b;
+  certificate = record { digest = []; votes = [] };
+  counted = [];
+  clear = true;
+  new = true;
+  voted = false;
+})
 
 -- what a chronicle is after each of its steps, the newest first
 abbrev pub after_each : Chronicle → List Chronicle

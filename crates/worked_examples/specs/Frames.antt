@@ -3,8 +3,11 @@ use Rattle.std.specs.Prelude.{◌≡◌, ℕ, ◌+◌, ◌<◌, [], length, repl
 use Rattle.ids.specs.declared.kind.Kind.{Kind}
 use Rattle.ids.specs.Sizes.{Sizes, AreSizes, replicas}
 use Rattle.definitions.specs.Bytes.{Bytes}
-use Rattle.definitions.specs.Frames.{Command, Core, Vote, Certificate, Frame, request, proposal, vote, new_view, reply, fetch, block, command_bytes, core_bytes, vote_bytes, certificate_bytes, genesis_core, spelling}
-use Rattle.definitions.specs.FrameLimits.{IsCommand, IsCore, IsVote, IsCertificate, IsVector, IsFrame, IsReadAs}
+use Rattle.definitions.specs.Frames.{Command, Core, Vote, Certificate, Frame, request, proposal, vote}
+use Rattle.definitions.specs.Frames.{new_view, reply, fetch, block, command_bytes, core_bytes, vote_bytes}
+use Rattle.definitions.specs.Frames.{certificate_bytes, genesis_core, spelling}
+use Rattle.definitions.specs.FrameLimits.{IsCommand, IsCore, IsVote, IsCertificate, IsVector, IsFrame}
+use Rattle.definitions.specs.FrameLimits.{IsReadAs}
 use Rattle.definitions.specs.Tags.{tag_of}
 use Rattle.definitions.specs.Keyrings.{Keyring, tag_for, vector_for}
 
@@ -14,17 +17,22 @@ use Rattle.definitions.specs.Keyrings.{Keyring, tag_for, vector_for}
 abbrev pub AreFour : Sizes → Type 0
 AreFour sizes = sizes.faults ≡ 1
 
--- so many bytes where the certificate has no votes, as that of genesis, and so many where it has three, a quorum of four
+-- so many bytes where the certificate has no votes, as that of genesis, and so many where it has three, a
+-- quorum of four
 abbrev pub SizeByVotes : Certificate → Bytes → ℕ → ℕ → Type 0
-SizeByVotes q bytes with_none with_three = (q.votes ≡ [] → length bytes ≡ with_none) × (length q.votes ≡ 3 → length bytes ≡ with_three)
+SizeByVotes q bytes with_none with_three =
+    (q.votes ≡ [] → length bytes ≡ with_none) × (length q.votes ≡ 3 → length bytes ≡ with_three)
 
 -- a command has 140 bytes and those of its payload
 abbrev pub CommandSize : Type 0
-CommandSize = (sizes : Sizes) (c : Command) → AreFour sizes → IsCommand sizes c → length (command_bytes c) ≡ 140 + length c.payload
+CommandSize =
+    (sizes : Sizes) (c : Command) → AreFour sizes → IsCommand sizes c
+    → length (command_bytes c) ≡ 140 + length c.payload
 
 -- a core without commands has 49 bytes
 abbrev pub CoreSize : Type 0
-CoreSize = (sizes : Sizes) (k : Core) → AreFour sizes → IsCore sizes k → k.commands ≡ [] → length (core_bytes k) ≡ 49
+CoreSize =
+    (sizes : Sizes) (k : Core) → AreFour sizes → IsCore sizes k → k.commands ≡ [] → length (core_bytes k) ≡ 49
 
 -- a vote in a certificate has 130 bytes
 abbrev pub VoteSize : Type 0
@@ -32,7 +40,9 @@ VoteSize = (sizes : Sizes) (v : Vote) → AreFour sizes → IsVote sizes v → l
 
 -- a certificate has 33 bytes without votes and 423 with three
 abbrev pub CertificateSize : Type 0
-CertificateSize = (sizes : Sizes) (q : Certificate) → AreFour sizes → IsCertificate sizes q → SizeByVotes q (certificate_bytes q) 33 423
+CertificateSize =
+    (sizes : Sizes) (q : Certificate) → AreFour sizes → IsCertificate sizes q
+    → SizeByVotes q (certificate_bytes q) 33 423
 
 -- the core of genesis is 49 zero bytes
 abbrev pub GenesisBytes : Type 0
@@ -40,52 +50,73 @@ GenesisBytes = core_bytes genesis_core ≡ replicate 49 0
 
 -- a Request has 141 bytes and those of the payload
 abbrev pub RequestSize : Type 0
-RequestSize = (sizes : Sizes) (c : Command) → AreFour sizes → IsFrame sizes (request c) → length (spelling (request c)) ≡ 141 + length c.payload
+RequestSize =
+    (sizes : Sizes) (c : Command) → AreFour sizes → IsFrame sizes (request c)
+    → length (spelling (request c)) ≡ 141 + length c.payload
 
 -- a Reply has 57 bytes and those of the text
 abbrev pub ReplySize : Type 0
-ReplySize = (sizes : Sizes) (replica client seq place : ℕ) (text tag : Bytes) → AreFour sizes → IsFrame sizes (reply replica client seq place text tag)
+ReplySize =
+    (sizes : Sizes) (replica client seq place : ℕ) (text tag : Bytes) → AreFour sizes
+    → IsFrame sizes (reply replica client seq place text tag)
     → length (spelling (reply replica client seq place text tag)) ≡ 57 + length text
 
 -- a Proposal of a block without commands has 219 bytes without votes and 609 with three
 abbrev pub ProposalSize : Type 0
-ProposalSize = (sizes : Sizes) (view : ℕ) (k : Core) (q : Certificate) (vector : Bytes) → AreFour sizes → IsFrame sizes (proposal view k q vector)
+ProposalSize =
+    (sizes : Sizes) (view : ℕ) (k : Core) (q : Certificate) (vector : Bytes) → AreFour sizes
+    → IsFrame sizes (proposal view k q vector)
     → k.commands ≡ [] → SizeByVotes q (spelling (proposal view k q vector)) 219 609
 
 -- a Block without commands has 117 bytes without votes and 507 with three
 abbrev pub BlockSize : Type 0
-BlockSize = (sizes : Sizes) (sender : ℕ) (k : Core) (q : Certificate) (tag : Bytes) → AreFour sizes → IsFrame sizes (block sender k q tag)
+BlockSize =
+    (sizes : Sizes) (sender : ℕ) (k : Core) (q : Certificate) (tag : Bytes) → AreFour sizes
+    → IsFrame sizes (block sender k q tag)
     → k.commands ≡ [] → SizeByVotes q (spelling (block sender k q tag)) 117 507
 
 -- a Vote has 163 bytes
 abbrev pub VoteFrameSize : Type 0
-VoteFrameSize = (sizes : Sizes) (digest : Bytes) (v : Vote) → AreFour sizes → IsFrame sizes (vote digest v) → length (spelling (vote digest v)) ≡ 163
+VoteFrameSize =
+    (sizes : Sizes) (digest : Bytes) (v : Vote) → AreFour sizes → IsFrame sizes (vote digest v)
+    → length (spelling (vote digest v)) ≡ 163
 
 -- a NewView has 172 bytes without votes and 562 with three
 abbrev pub NewViewSize : Type 0
-NewViewSize = (sizes : Sizes) (view sender : ℕ) (q : Certificate) (vector : Bytes) → AreFour sizes → IsFrame sizes (new_view view sender q vector)
+NewViewSize =
+    (sizes : Sizes) (view sender : ℕ) (q : Certificate) (vector : Bytes) → AreFour sizes
+    → IsFrame sizes (new_view view sender q vector)
     → SizeByVotes q (spelling (new_view view sender q vector)) 172 562
 
 -- a Fetch has 67 bytes
 abbrev pub FetchSize : Type 0
-FetchSize = (sizes : Sizes) (sender : ℕ) (digest tag : Bytes) → AreFour sizes → IsFrame sizes (fetch sender digest tag)
+FetchSize =
+    (sizes : Sizes) (sender : ℕ) (digest tag : Bytes) → AreFour sizes
+    → IsFrame sizes (fetch sender digest tag)
     → length (spelling (fetch sender digest tag)) ≡ 67
 
 -- ---- laws
 
 -- two frames of one spelling are one frame
 abbrev pub SpellingIsOfOneFrame : Type 0
-SpellingIsOfOneFrame = (sizes : Sizes) (f g : Frame) → AreSizes sizes → IsFrame sizes f → IsFrame sizes g → spelling f ≡ spelling g → f ≡ g
+SpellingIsOfOneFrame =
+    (sizes : Sizes) (f g : Frame) → AreSizes sizes → IsFrame sizes f → IsFrame sizes g
+    → spelling f ≡ spelling g → f ≡ g
 
 -- bytes are read as one frame, or as none
 abbrev pub BytesAreReadAsOneThing : Type 0
-BytesAreReadAsOneThing = (sizes : Sizes) (bytes : Bytes) (a b : Option Frame) → AreSizes sizes → IsReadAs sizes bytes a → IsReadAs sizes bytes b → a ≡ b
+BytesAreReadAsOneThing =
+    (sizes : Sizes) (bytes : Bytes) (a b : Option Frame) → AreSizes sizes → IsReadAs sizes bytes a
+    → IsReadAs sizes bytes b → a ≡ b
 
 -- a vector is a tag for each replica
 abbrev pub VectorsAreWhole : Type 0
-VectorsAreWhole = (sizes : Sizes) (ring : Keyring) (label : Kind) (content : Bytes) → IsVector sizes (vector_for sizes ring label content)
+VectorsAreWhole =
+    (sizes : Sizes) (ring : Keyring) (label : Kind) (content : Bytes)
+    → IsVector sizes (vector_for sizes ring label content)
 
 -- tag u of a vector is the tag for replica u
 abbrev pub EachTagIsForItsReplica : Type 0
-EachTagIsForItsReplica = (sizes : Sizes) (ring : Keyring) (label : Kind) (content : Bytes) (u : ℕ) → u < replicas sizes
+EachTagIsForItsReplica =
+    (sizes : Sizes) (ring : Keyring) (label : Kind) (content : Bytes) (u : ℕ) → u < replicas sizes
     → tag_of (vector_for sizes ring label content) u ≡ tag_for ring label u content

@@ -14,7 +14,9 @@ set_a stored = codes "set a 0 0 1" ++ crlf ++ stored ++ crlf
 
 -- client 0 asks as its second, as its first, and as its second again; client 1 asks what is no request
 abbrev pub history : History
-history = asks 1 1 (codes "abc") ∷ asks 0 2 (set_a (codes "x")) ∷ asks 0 1 (set_a (codes "y")) ∷ asks 0 2 (set_a (codes "x")) ∷ []
+history =
+    asks 1 1 (codes "abc") ∷ asks 0 2 (set_a (codes "x")) ∷ asks 0 1 (set_a (codes "y"))
+    ∷ asks 0 2 (set_a (codes "x")) ∷ []
 
 -- Fresh are the first and the fourth: each exceeds all earlier numbers of its client. The others aren't run.
 abbrev pub FreshPlaces : Type 0
@@ -25,11 +27,14 @@ FreshPlaces = answers history ≡
 -- a later get finds what the fresh one stored
 abbrev pub StoredOnce : Type 0
 StoredOnce = map (λ a. a.text) (answers (asks 1 2 (codes "get a" ++ crlf) ∷ history)) ≡
-    (codes "VALUE a 0 1" ++ crlf ++ codes "x" ++ crlf ++ codes "END" ++ crlf) ∷ (codes "ERROR" ++ crlf) ∷ (codes "STORED" ++ crlf) ∷ []
+    (codes "VALUE a 0 1" ++ crlf ++ codes "x" ++ crlf ++ codes "END" ++ crlf) ∷ (codes "ERROR" ++ crlf)
+    ∷ (codes "STORED" ++ crlf) ∷ []
 
 -- only a client's last fresh number has an answer: not one that it skipped, nor one that it hasn't reached
 abbrev pub AnswersLast : Type 0
-AnswersLast = (option_map (λ a. a.place) (answer_to 0 2 history) ≡ Some 1) × (answer_to 0 1 history ≡ None) × (answer_to 0 3 history ≡ None)
+AnswersLast =
+    (option_map (λ a. a.place) (answer_to 0 2 history) ≡ Some 1) × (answer_to 0 1 history ≡ None)
+    × (answer_to 0 3 history ≡ None)
 
 -- the last number of each client
 abbrev pub LastNumbers : Type 0

@@ -1,10 +1,14 @@
 -- What holds of all request lines and of the items of all texts, and what some texts are.
 use Rattle.ids.specs.declared.limits.TheConstants.{MOST_LINE}
-use Rattle.std.specs.Prelude.{◌≡◌, ◌↔◌, ℕ, ◌+◌, ◌≤◌, Bool, true, false, ◌⊎◌, List, [], ◌∷◌, ◌++◌, length, replicate, Some, None, codes}
-use Rattle.ids.specs.declared.line_fault.LineFault.TheVariants.{UnknownName, BadFields, TooLarge, BadChunk, LineTooLong}
+use Rattle.std.specs.Prelude.{◌≡◌, ◌↔◌, ℕ, ◌+◌, ◌≤◌, Bool, true, false, ◌⊎◌, List, [], ◌∷◌, ◌++◌, length}
+use Rattle.std.specs.Prelude.{replicate, Some, None, codes}
+use Rattle.ids.specs.declared.line_fault.LineFault.TheVariants.{UnknownName, BadFields, TooLarge, BadChunk}
+use Rattle.ids.specs.declared.line_fault.LineFault.TheVariants.{LineTooLong}
 use Rattle.definitions.specs.Bytes.{Bytes}
-use Rattle.definitions.specs.Requests.{Asked, Head, set, store, cas, get, crlf, line, spelling, canonical, HasForm, MayHave, IsRequest}
-use Rattle.definitions.specs.Items.{Item, asked, quit, bad, HasNoEnd, IsLineOf, IsItemAt, IsUnfinished, AreItems}
+use Rattle.definitions.specs.Requests.{Asked, Head, set, store, cas, get, crlf, line, spelling, canonical}
+use Rattle.definitions.specs.Requests.{HasForm, MayHave, IsRequest}
+use Rattle.definitions.specs.Items.{Item, asked, quit, bad, HasNoEnd, IsLineOf, IsItemAt, IsUnfinished}
+use Rattle.definitions.specs.Items.{AreItems}
 use Rattle.definitions.specs.Canonical.{request_of}
 
 -- ---- what holds of every line and text
@@ -15,11 +19,14 @@ OneHead = (l : Bytes) (h k : Head) (q r : Bool) → IsLineOf l h q → IsLineOf 
 
 -- a well-formed line fits with its end, and has no end within
 abbrev pub LinesFit : Type 0
-LinesFit = (head : Head) (noreply : Bool) → HasForm head → MayHave head noreply → (length (line head noreply) + 2 ≤ MOST_LINE) × HasNoEnd (line head noreply)
+LinesFit =
+    (head : Head) (noreply : Bool) → HasForm head → MayHave head noreply
+    → (length (line head noreply) + 2 ≤ MOST_LINE) × HasNoEnd (line head noreply)
 
 -- two items at the beginning of one text are the same, and take as many bytes
 abbrev pub OneFirstItem : Type 0
-OneFirstItem = (text : Bytes) (x y : Item) (m n : ℕ) → IsItemAt text x m → IsItemAt text y n → (x ≡ y) × (m ≡ n)
+OneFirstItem =
+    (text : Bytes) (x y : Item) (m n : ℕ) → IsItemAt text x m → IsItemAt text y n → (x ≡ y) × (m ≡ n)
 
 -- an item of a text is an item of each longer text
 abbrev pub ItemsStay : Type 0
@@ -35,7 +42,10 @@ ItemOrUnfinished = (text : Bytes) → ((x : Item) × (used : ℕ) × IsItemAt te
 
 -- what is read of a text is one list of items
 abbrev pub OneListOfItems : Type 0
-OneListOfItems = (text : Bytes) → ((items : List Item) × AreItems text items) × ((xs ys : List Item) → AreItems text xs → AreItems text ys → xs ≡ ys)
+OneListOfItems =
+    (text : Bytes)
+    → ((items : List Item) × AreItems text items)
+    × ((xs ys : List Item) → AreItems text xs → AreItems text ys → xs ≡ ys)
 
 -- two requests with one canonical text are the same
 abbrev pub OneCanonical : Type 0
@@ -43,11 +53,15 @@ OneCanonical = (r s : Asked) → IsRequest r false → IsRequest s false → can
 
 -- the text with noreply or without tells the request, and whether noreply stands there
 abbrev pub OneSpelling : Type 0
-OneSpelling = (r s : Asked) (n m : Bool) → IsRequest r n → IsRequest s m → spelling r n ≡ spelling s m → (r ≡ s) × (n ≡ m)
+OneSpelling =
+    (r s : Asked) (n m : Bool) → IsRequest r n → IsRequest s m → spelling r n ≡ spelling s m
+    → (r ≡ s) × (n ≡ m)
 
 -- request_of gives a request just where the payload is its canonical text
 abbrev pub FindsRequests : Type 0
-FindsRequests = (payload : Bytes) (r : Asked) → (request_of payload ≡ Some r) ↔ (IsRequest r false × (payload ≡ canonical r))
+FindsRequests =
+    (payload : Bytes) (r : Asked) → (request_of payload ≡ Some r)
+    ↔ (IsRequest r false × (payload ≡ canonical r))
 
 -- no canonical text has more than 4,393 bytes
 abbrev pub CanonicalFits : Type 0
@@ -57,16 +71,19 @@ CanonicalFits = (r : Asked) → IsRequest r false → length (canonical r) ≤ 4
 
 -- a set with one byte of data takes 16 bytes
 abbrev pub WholeSet : Type 0
-WholeSet = IsItemAt (codes "set a 0 0 1" ++ crlf ++ codes "x" ++ crlf) (asked (store set (codes "a") 0 (codes "x")) false) 16
+WholeSet = IsItemAt (codes "set a 0 0 1" ++ crlf ++ codes "x" ++ crlf)
+    (asked (store set (codes "a") 0 (codes "x")) false) 16
 
 -- the same with the word noreply takes 24
 abbrev pub QuietSet : Type 0
-QuietSet = IsItemAt (codes "set a 0 0 1 noreply" ++ crlf ++ codes "x" ++ crlf) (asked (store set (codes "a") 0 (codes "x")) true) 24
+QuietSet = IsItemAt (codes "set a 0 0 1 noreply" ++ crlf ++ codes "x" ++ crlf)
+    (asked (store set (codes "a") 0 (codes "x")) true) 24
 
 -- sixteen keys of one letter
 abbrev pub sixteen : List Bytes
 sixteen =
-    codes "a" ∷ codes "b" ∷ codes "c" ∷ codes "d" ∷ codes "e" ∷ codes "f" ∷ codes "g" ∷ codes "h" ∷ codes "i" ∷ codes "j" ∷ codes "k"
+    codes "a" ∷ codes "b" ∷ codes "c" ∷ codes "d" ∷ codes "e" ∷ codes "f" ∷ codes "g" ∷ codes "h"
+    ∷ codes "i" ∷ codes "j" ∷ codes "k"
     ∷ codes "l" ∷ codes "m" ∷ codes "n" ∷ codes "o" ∷ codes "p" ∷ []
 
 -- a get of all of them
@@ -93,7 +110,8 @@ UnknownTouch = IsItemAt (codes "touch a 0" ++ crlf) (bad UnknownName) 11
 
 -- what stands behind the line with the unknown name is read
 abbrev pub AfterUnknown : Type 0
-AfterUnknown = AreItems (codes "touch a 0" ++ crlf ++ codes "get a" ++ crlf) (bad UnknownName ∷ asked (get (codes "a" ∷ [])) false ∷ [])
+AfterUnknown = AreItems (codes "touch a 0" ++ crlf ++ codes "get a" ++ crlf)
+    (bad UnknownName ∷ asked (get (codes "a" ∷ [])) false ∷ [])
 
 -- a get without a key
 abbrev pub NoKey : Type 0
@@ -153,7 +171,8 @@ ManyLetters = IsUnfinished (replicate 4095 97)
 
 -- the text of a set, whole, with nothing before or behind it
 abbrev pub PayloadOfSet : Type 0
-PayloadOfSet = request_of (codes "set a 0 0 1" ++ crlf ++ codes "x" ++ crlf) ≡ Some (store set (codes "a") 0 (codes "x"))
+PayloadOfSet =
+    request_of (codes "set a 0 0 1" ++ crlf ++ codes "x" ++ crlf) ≡ Some (store set (codes "a") 0 (codes "x"))
 
 -- quit is no request
 abbrev pub PayloadOfQuit : Type 0

@@ -74,7 +74,8 @@ proposes b = proposal_of 0 (core_of b) (certificate_for b)
 
 -- the replica after the request and the first three proposals, and after the fourth
 abbrev pub before : Chronicle
-before = (after_inputs (request_in command ∷ proposes first ∷ proposes second ∷ proposes third ∷ []) (stands_at [])).chronicle
+before = (after_inputs (request_in command ∷ proposes first ∷ proposes second ∷ proposes third ∷ [])
+    (stands_at [])).chronicle
 
 -- the same after the fourth proposal
 abbrev pub last : Chronicle
@@ -82,7 +83,9 @@ last = (step self ample (proposes fourth) (stands_at before)).0.chronicle
 
 -- it voted for all of them, and its lock is the second
 abbrev pub VotesAndLocks : Type 0
-VotesAndLocks = (map length (voted last) ≡ 4 ∷ 3 ∷ 2 ∷ 1 ∷ []) × (length (lock last) ≡ 2) × (length (qc_high sizes last).block ≡ 3)
+VotesAndLocks =
+    (map length (voted last) ≡ 4 ∷ 3 ∷ 2 ∷ 1 ∷ []) × (length (lock last) ≡ 2)
+    × (length (qc_high sizes last).block ≡ 3)
 
 -- until the fourth it executed nothing, and the request waits
 abbrev pub Waits : Type 0
@@ -111,11 +114,15 @@ Orphan = answer_to (proposes second) [] ≡ Some fault.UnknownParent
 
 -- a block of another height than its parent's and one
 abbrev pub Gap : Type 0
-Gap = answer_to (proposal_of 0 (record (core_of first) { height = 2 }) (certificate_for first)) [] ≡ Some fault.BadHeight
+Gap =
+    answer_to (proposal_of 0 (record (core_of first) { height = 2 }) (certificate_for first)) []
+    ≡ Some fault.BadHeight
 
 -- a block with the certificate of another block than the one that it justifies
 abbrev pub OtherJustified : Type 0
-OtherJustified = answer_to (proposal_of 0 (core_of first) (record { digest = digest_of first; votes = [] })) [] ≡ Some fault.WrongJustify
+OtherJustified =
+    answer_to (proposal_of 0 (core_of first) (record { digest = digest_of first; votes = [] })) []
+    ≡ Some fault.WrongJustify
 
 -- a known block is refused for its certificate alone
 abbrev pub KnownBlock : Type 0
@@ -124,5 +131,7 @@ KnownBlock = (answer_to (proposes first) before ≡ None)
 
 -- a proposal of another view gets no vote, and its block is taken
 abbrev pub OtherView : Type 0
-OtherView = let c = (step self ample (proposal_of 4 (core_of first) (certificate_for first)) (stands_at [])).0.chronicle in
+OtherView =
+    let c =
+    (step self ample (proposal_of 4 (core_of first) (certificate_for first)) (stands_at [])).0.chronicle in
     (length (voted c) ≡ 0) × (length (tree c) ≡ 2)

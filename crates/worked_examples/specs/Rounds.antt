@@ -19,8 +19,8 @@ to_each k rest = relay k 0 ∷ relay k 1 ∷ relay k 2 ∷ relay k 3 ∷ rest
 abbrev pub votes_to_0 : ℕ → ℕ → ℕ → ℕ → List Event → List Event
 votes_to_0 a b c d rest = relay a 0 ∷ relay b 0 ∷ relay c 0 ∷ relay d 0 ∷ rest
 
--- the request is submitted and brought to all; a block with it is proposed and voted for by all; the votes make a
--- certificate, with which the next block is proposed
+-- the request is submitted and brought to all; a block with it is proposed and voted for by all; the votes
+-- make a certificate, with which the next block is proposed
 abbrev pub first_round : List Event
 first_round = submit 0 payload ∷ to_each 0 (beat 0 ∷ to_each 1 (votes_to_0 2 3 4 5 (beat 0 ∷ [])))
 
@@ -28,7 +28,8 @@ first_round = submit 0 payload ∷ to_each 0 (beat 0 ∷ to_each 1 (votes_to_0 2
 abbrev pub last : World
 last = play start first_round
 
--- a request, a proposal with it, four votes, and a proposal without commands whose certificate has three votes
+-- a request, a proposal with it, four votes, and a proposal without commands whose certificate has three
+-- votes
 abbrev pub SentSizes : Type 0
 SentSizes = map (λ s. length (spelling s.frame)) last.sent ≡ 157 ∷ 375 ∷ 163 ∷ 163 ∷ 163 ∷ 163 ∷ 609 ∷ []
 

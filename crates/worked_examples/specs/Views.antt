@@ -30,4 +30,5 @@ TimesOut = view four (noted timed_out ∷ announces 3 5 ∷ announces 2 3 ∷ []
 
 -- the greatest view stays
 abbrev pub StaysGreatest : Type 0
-StaysGreatest = view four (noted timed_out ∷ announces 3 (2 ^ 64 - 1) ∷ announces 2 (2 ^ 64 - 1) ∷ []) ≡ 2 ^ 64 - 1
+StaysGreatest =
+    view four (noted timed_out ∷ announces 3 (2 ^ 64 - 1) ∷ announces 2 (2 ^ 64 - 1) ∷ []) ≡ 2 ^ 64 - 1

@@ -1,6 +1,8 @@
 //! The sequential cache (memcached, protocol.txt, in this project's profile).
 
-ghost use Rattle.worked_examples.specs.Cache.{Wraps, StopsAtZero, StaysNonNumeric, StaysPadded, ComparesUniques, Joins, WantsPresence, DeletesOnce, RepeatsKeys, IsFull, IsSpent};
+ghost use Rattle.worked_examples.specs.Cache.{Wraps, StopsAtZero, StaysNonNumeric, StaysPadded};
+ghost use Rattle.worked_examples.specs.Cache.{ComparesUniques, Joins, WantsPresence, DeletesOnce};
+ghost use Rattle.worked_examples.specs.Cache.{RepeatsKeys, IsFull, IsSpent};
 
 /// `18446744073709551615`, raised by 1, is `0`.
 pub fn incr_wraps()

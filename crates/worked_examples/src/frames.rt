@@ -1,6 +1,10 @@
 //! Frames: how many bytes they have with four replicas, and what a spelling and a vector determine.
 
-ghost use Rattle.worked_examples.specs.Frames.{CommandSize, CoreSize, VoteSize, CertificateSize, GenesisBytes, RequestSize, ReplySize, ProposalSize, BlockSize, VoteFrameSize, NewViewSize, FetchSize, SpellingIsOfOneFrame, BytesAreReadAsOneThing, VectorsAreWhole, EachTagIsForItsReplica};
+ghost use Rattle.worked_examples.specs.Frames.{CommandSize, CoreSize, VoteSize, CertificateSize};
+ghost use Rattle.worked_examples.specs.Frames.{GenesisBytes, RequestSize, ReplySize, ProposalSize};
+ghost use Rattle.worked_examples.specs.Frames.{BlockSize, VoteFrameSize, NewViewSize, FetchSize};
+ghost use Rattle.worked_examples.specs.Frames.{SpellingIsOfOneFrame, BytesAreReadAsOneThing};
+ghost use Rattle.worked_examples.specs.Frames.{VectorsAreWhole, EachTagIsForItsReplica};
 
 /// How many bytes a command, a core, a vote and a certificate have with four replicas.
 pub fn sizes_of_the_parts_for_four_replicas()

@@ -1,6 +1,14 @@
 //! Request lines: what holds of all of them and of the items of all texts, and what some texts are.
 
-ghost use Rattle.worked_examples.specs.Lines.{OneHead, LinesFit, OneFirstItem, ItemsStay, NoItemYet, ItemOrUnfinished, OneListOfItems, OneCanonical, OneSpelling, FindsRequests, CanonicalFits, WholeSet, QuietSet, SixteenKeys, Quit, AfterQuit, NoDataEnd, UnknownTouch, AfterUnknown, NoKey, SeventeenKeys, Expiry, PaddedNumber, QuitWithField, TooMuchData, TooLong, TooManyLetters, MuchData, DataCut, LineCut, NotTooLong, ManyLetters, PayloadOfSet, PayloadOfQuit, PayloadOfGet, PayloadPadded, PayloadOfLetters, PayloadOfCas};
+ghost use Rattle.worked_examples.specs.Lines.{OneHead, LinesFit, OneFirstItem, ItemsStay, NoItemYet};
+ghost use Rattle.worked_examples.specs.Lines.{ItemOrUnfinished, OneListOfItems, OneCanonical, OneSpelling};
+ghost use Rattle.worked_examples.specs.Lines.{FindsRequests, CanonicalFits, WholeSet, QuietSet};
+ghost use Rattle.worked_examples.specs.Lines.{SixteenKeys, Quit, AfterQuit, NoDataEnd, UnknownTouch};
+ghost use Rattle.worked_examples.specs.Lines.{AfterUnknown, NoKey, SeventeenKeys, Expiry, PaddedNumber};
+ghost use Rattle.worked_examples.specs.Lines.{QuitWithField, TooMuchData, TooLong, TooManyLetters};
+ghost use Rattle.worked_examples.specs.Lines.{MuchData, DataCut, LineCut, NotTooLong, ManyLetters};
+ghost use Rattle.worked_examples.specs.Lines.{PayloadOfSet, PayloadOfQuit, PayloadOfGet, PayloadPadded};
+ghost use Rattle.worked_examples.specs.Lines.{PayloadOfLetters, PayloadOfCas};
 
 /// A line is of one head, with `noreply` or without.
 pub fn a_line_says_one_thing()
@@ -42,7 +50,8 @@ pub fn the_canonical_text_is_of_one_request()
     ensures { OneCanonical }
 {}
 
-/// The text of a request, with `noreply` or without, tells which request it is and whether `noreply` stands there.
+/// The text of a request, with `noreply` or without, tells which request it is and whether
+/// `noreply` stands there.
 pub fn the_spelling_is_of_one_request()
     ensures { OneSpelling }
 {}

@@ -1,6 +1,7 @@
 //! One replica, step by step.
 
-ghost use Rattle.worked_examples.specs.Replicas.{VotesAndLocks, Waits, Executes, Orphan, Gap, OtherJustified, KnownBlock, OtherView};
+ghost use Rattle.worked_examples.specs.Replicas.{VotesAndLocks, Waits, Executes, Orphan, Gap};
+ghost use Rattle.worked_examples.specs.Replicas.{OtherJustified, KnownBlock, OtherView};
 
 /// A request, and four proposals in succession: the fourth decides the first, and the request is executed.
 pub fn the_fourth_proposal_executes_the_first()

@@ -17,5 +17,7 @@ last_of : (z : TableId) (xs : List EyeState) (e : EyeState) → OfMarks z (xs ++
 last_of z [] e all = all.0
 last_of z (x ∷ xs) e all = last_of z xs e all.1
 
-pub last_eye : (z : TableId) (all rest : List EyeState) (e : EyeState) → all ≡ first_eyes z → all ≡ rest ++ e ∷ [] → e.marks ≡ z
-last_eye z all rest e made items = last_of z rest e (subst (OfMarks z) items (subst (OfMarks z) (sym made) (of_marks z (z.words + 1) 0)))
+pub last_eye : (z : TableId) (all rest : List EyeState) (e : EyeState) → all ≡ first_eyes z
+    → all ≡ rest ++ e ∷ [] → e.marks ≡ z
+last_eye z all rest e made items =
+    last_of z rest e (subst (OfMarks z) items (subst (OfMarks z) (sym made) (of_marks z (z.words + 1) 0)))

@@ -21,8 +21,8 @@ use std::thread::Threads;
 use std::time::Clock;
 use turns::Open;
 
-/// Two workers of one replica: the turn of frame 1 is held, after its check and before its step, until frame 2 was
-/// stepped. A third frame has a spoilt tag.
+/// Two workers of one replica: the turn of frame 1 is held, after its check and before its step,
+/// until frame 2 was stepped. A third frame has a spoilt tag.
 fn two_workers<R: Threads + Wait + Clock + Sync>(rt: &R, alloc: Global) -> Result<String> {
     let config = Config::new(1, 2)?;
     let (gate, seen) = (Held::new(), Seen::new(alloc, false)?);
@@ -129,8 +129,8 @@ fn tell_each(alloc: Global, seen: &Seen, told: &Told) -> Result<String> {
     )?)
 }
 
-/// A thousand questions to replica 1, whose stand-in answers one of them with a frame to all, one to replica 2, and one
-/// to client 0.
+/// A thousand questions to replica 1, whose stand-in answers one of them with a frame to all, one
+/// to replica 2, and one to client 0.
 fn each_once<R: Threads + Wait + Clock + Sync>(rt: &R, alloc: Global) -> Result<String> {
     let config = Config::new(1, 2)?;
     let seen = Seen::new(alloc, false)?;

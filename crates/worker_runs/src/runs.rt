@@ -37,9 +37,9 @@ pub(crate) struct Told {
 pub(crate) enum Until {
     /// So many inputs were brought.
     Inputs(u64),
-    /// Each replica has executed something. Replica 0 proposes by itself; once a second it is told to, in case that a frame
-    /// was lost. Not more often: where a machine is too busy to certify a block before the next one is proposed on it,
-    /// nothing is decided.
+    /// Each replica has executed something. Replica 0 proposes by itself; once a second it is told
+    /// to, in case that a frame was lost. Not more often: where a machine is too busy to certify a
+    /// block before the next one is proposed on it, nothing is decided.
     Executed,
 }
 
@@ -54,7 +54,8 @@ struct Stage<'a, G> {
     seen: &'a Seen,
 }
 
-/// How often a run is looked at, at most: for some fifty seconds, since a machine may be busy with other things.
+/// How often a run is looked at, at most: for some fifty seconds, since a machine may be busy with
+/// other things.
 const MOST_LOOKS: u32 = 2500;
 
 /// Whether a run has come to its end, when it is looked at the k-th time.

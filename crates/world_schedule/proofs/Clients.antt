@@ -1,7 +1,8 @@
 -- What a client's session answers is what the definitions' client does.
 use Rattle.ids.specs.declared.fault.Fault.{Fault}
 use Rattle.ids.specs.declared.fault.Fault.TheVariants as fault
-use Rattle.std.proofs.Common.{ℕ, false, IfOk, ◌≡◌, [], ◌∷◌, map, refl, sym, ap, subst, ◌∙◌, Some, None, Result, Ok, Err}
+use Rattle.std.proofs.Common.{ℕ, false, IfOk, ◌≡◌, [], ◌∷◌, map, refl, sym, ap, subst, ◌∙◌, Some, None}
+use Rattle.std.proofs.Common.{Result, Ok, Err}
 use Rattle.std.specs.Prelude.{Vec}
 use Rattle.std.specs.declared.alloc.Global.{Global}
 use Rattle.ids.specs.Sizes.{Sizes}
@@ -16,7 +17,8 @@ use Rattle.world_schedule.specs.Hearing.{HearsAs}
 use Rattle.definitions.specs.Requests.{Asked, IsRequest, canonical}
 use Rattle.definitions.specs.Canonical.{request_of}
 use Rattle.definitions.specs.Sendings.{To.to_all}
-use Rattle.definitions.specs.Sessions.{Client, Session, Heard, not_counted, on_reply, Submitted, Submitted.sent_request, Submitted.not_sent, submission}
+use Rattle.definitions.specs.Sessions.{Client, Session, Heard, not_counted, on_reply, Submitted}
+use Rattle.definitions.specs.Sessions.{Submitted.sent_request, Submitted.not_sent, submission}
 use Rattle.definitions.specs.Events.{submitted_out, submitted_answer}
 use Rattle.definitions.proofs.RequestTexts.{request_of_some}
 use Rattle.signed_frames.specs.Clients.{client_of}
@@ -36,53 +38,73 @@ is-payload payload r e = sym (request_of_some payload r e).1
 
 -- what a session's call left and answered
 pub record Called (old new : Held) (text : Bytes) (result : Result (Vec ℕ Global) Fault) : Type 0 where
-  pub state : new ≡ record old { session = (submission (client_of old.keys) (memory_of result) text old.session).0; frame = frame_after old.frame result }
+  pub state : new
+      ≡ record old {
+        session = (submission (client_of old.keys) (memory_of result) text old.session).0;
+        frame = frame_after old.frame result;
+      }
   pub answer : IsSubmitted (submission (client_of old.keys) (memory_of result) text old.session).1 result
 
 -- a frame that is sent
-pub sent-submitted : (old new : Held) (text payload : Bytes) (bytes : Vec ℕ Global) (e : Effect) → text ≡ payload → Called old new text (Ok bytes)
-    → map sent_of e.out.items ≡ (to_all, bytes.items) ∷ [] → e.accepted ≡ None → e.answer ≡ None → Submits old payload new e
+pub sent-submitted : (old new : Held) (text payload : Bytes) (bytes : Vec ℕ Global) (e : Effect)
+    → text ≡ payload → Called old new text (Ok bytes)
+    → map sent_of e.out.items ≡ (to_all, bytes.items) ∷ [] → e.accepted ≡ None → e.answer ≡ None
+    → Submits old payload new e
 sent-submitted old new text payload bytes e is c out accepted answer =
     subst (λ (t : Bytes). Submits old t new e) is (record {
       keys = ap (λ (h : Held). h.keys) c.state;
       memory = memory_of {T = Vec ℕ Global} (Ok bytes);
       state = ap (λ (h : Held). h.session) c.state;
-      out = (by (submission (client_of old.keys) (memory_of {T = Vec ℕ Global} (Ok bytes)) text old.session).1 c.answer).0;
+      out = (by
+          (submission (client_of old.keys) (memory_of {T = Vec ℕ Global} (Ok bytes)) text old.session).1
+          c.answer).0;
       accepted = accepted;
-      answer = (by (submission (client_of old.keys) (memory_of {T = Vec ℕ Global} (Ok bytes)) text old.session).1 c.answer).1;
+      answer = (by
+          (submission (client_of old.keys) (memory_of {T = Vec ℕ Global} (Ok bytes)) text old.session).1
+          c.answer).1;
     })
   where
-    by : (x : Submitted) → IsSubmitted x (Ok bytes) → (map sent_of e.out.items ≡ shown (submitted_out x)) × (e.answer ≡ submitted_answer x)
+    by : (x : Submitted) → IsSubmitted x (Ok bytes)
+        → (map sent_of e.out.items ≡ shown (submitted_out x)) × (e.answer ≡ submitted_answer x)
     by (sent_request f) h = (out ∙ ap (λ (b : Bytes). (to_all, b) ∷ []) h, answer)
     by (not_sent n) h = absurd h
 
 -- a refusal
-pub refused-submitted : (old new : Held) (text payload : Bytes) (n : Fault) (e : Effect) → text ≡ payload → Called old new text (Err n)
+pub refused-submitted : (old new : Held) (text payload : Bytes) (n : Fault) (e : Effect) → text ≡ payload
+    → Called old new text (Err n)
     → e.out.items ≡ [] → e.accepted ≡ None → e.answer ≡ Some n → Submits old payload new e
 refused-submitted old new text payload n e is c out accepted answer =
     subst (λ (t : Bytes). Submits old t new e) is (record {
       keys = ap (λ (h : Held). h.keys) c.state;
       memory = memory_of {T = Vec ℕ Global} (Err n);
       state = ap (λ (h : Held). h.session) c.state;
-      out = (by (submission (client_of old.keys) (memory_of {T = Vec ℕ Global} (Err n)) text old.session).1 c.answer).0;
+      out = (by (submission (client_of old.keys) (memory_of {T = Vec ℕ Global} (Err n)) text old.session).1
+          c.answer).0;
       accepted = accepted;
-      answer = (by (submission (client_of old.keys) (memory_of {T = Vec ℕ Global} (Err n)) text old.session).1 c.answer).1;
+      answer = (by
+          (submission (client_of old.keys) (memory_of {T = Vec ℕ Global} (Err n)) text old.session).1
+          c.answer).1;
     })
   where
-    by : (x : Submitted) → IsSubmitted x (Err n) → (map sent_of e.out.items ≡ shown (submitted_out x)) × (e.answer ≡ submitted_answer x)
+    by : (x : Submitted) → IsSubmitted x (Err n)
+        → (map sent_of e.out.items ≡ shown (submitted_out x)) × (e.answer ≡ submitted_answer x)
     by (sent_request f) h = absurd h
     by (not_sent m) h = (ap (map sent_of) out, answer ∙ ap Some h)
 
 -- where there is an effect
-pub sent-if : (old new : Held) (text payload : Bytes) (bytes : Vec ℕ Global) (r : Result Effect Fault) → text ≡ payload → Called old new text (Ok bytes)
-    → IfOk r (λ e. map sent_of e.out.items ≡ (to_all, bytes.items) ∷ []) → IfOk r (λ e. e.accepted ≡ None) → IfOk r (λ e. e.answer ≡ None) → IfOk r (λ e. Submits old payload new e)
-sent-if old new text payload bytes (Ok e) is c out accepted answer = sent-submitted old new text payload bytes e is c out accepted answer
+pub sent-if : (old new : Held) (text payload : Bytes) (bytes : Vec ℕ Global) (r : Result Effect Fault)
+    → text ≡ payload → Called old new text (Ok bytes)
+    → IfOk r (λ e. map sent_of e.out.items ≡ (to_all, bytes.items) ∷ []) → IfOk r (λ e. e.accepted ≡ None)
+    → IfOk r (λ e. e.answer ≡ None) → IfOk r (λ e. Submits old payload new e)
+sent-if old new text payload bytes (Ok e) is c out accepted answer =
+    sent-submitted old new text payload bytes e is c out accepted answer
 sent-if old new text payload bytes (Err n) is c out accepted answer = tt
 
 -- ---- frames of other kinds
 
 -- a client takes replies alone
-other-heard : (me : Client) (f : views.Frame) (x : Session) → ((r : ReplyView) → f ≡ view.Reply r → ⊥) → on_reply me ample (frame_of f) x ≡ (x, not_counted fault.NotMine)
+other-heard : (me : Client) (f : views.Frame) (x : Session) → ((r : ReplyView) → f ≡ view.Reply r → ⊥)
+    → on_reply me ample (frame_of f) x ≡ (x, not_counted fault.NotMine)
 unfolding on_reply
 other-heard me (view.Request v) x apart = refl
 other-heard me (view.Proposal v) x apart = refl
@@ -92,7 +114,9 @@ other-heard me (view.Fetch v) x apart = refl
 other-heard me (view.Block v) x apart = refl
 other-heard me (view.Reply v) x apart = absurd (apart v refl)
 
-pub other-refused : (old : Held) (bytes : Bytes) (sizes : Sizes) (f : views.Frame) → ((r : ReplyView) → f ≡ view.Reply r → ⊥) → sizes ≡ old.keys.sizes → IsReadAs sizes bytes (Some (frame_of f)) → HearsAs old bytes old (Err fault.NotMine)
+pub other-refused : (old : Held) (bytes : Bytes) (sizes : Sizes) (f : views.Frame)
+    → ((r : ReplyView) → f ≡ view.Reply r → ⊥) → sizes ≡ old.keys.sizes
+    → IsReadAs sizes bytes (Some (frame_of f)) → HearsAs old bytes old (Err fault.NotMine)
 other-refused old bytes sizes f apart same rd =
     let e = other-heard (client_of old.keys) f old.session apart in
     record {

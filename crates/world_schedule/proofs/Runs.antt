@@ -1,11 +1,15 @@
 -- One event after the other: what the code does is the definitions' run.
 use Rattle.ids.specs.declared.fault.Fault.{Fault}
 use Rattle.ids.specs.declared.fault.Fault.TheVariants as fault
-use Rattle.std.proofs.Common.{ℕ, IfOk, OnOk, OnErr, MatchResult, take, zero, suc, ◌≡◌, ◌⊎◌, ◌+◌, ◌<◌, ◌≤◌, ◌^◌, not, ◌&&◌, Bool, true, false, List, [], ◌∷◌, ◌++◌, length, map, drop, reverse, refl, sym, ap, subst, ◌∙◌, inl, inr, arith, Option, Some, None, Result, Ok, Err, nat_lt, length-append, slice_get, option_map}
+use Rattle.std.proofs.Common.{ℕ, IfOk, OnOk, OnErr, MatchResult, take, zero, suc, ◌≡◌, ◌⊎◌, ◌+◌, ◌<◌, ◌≤◌}
+use Rattle.std.proofs.Common.{◌^◌, not, ◌&&◌, Bool, true, false, List, [], ◌∷◌, ◌++◌, length, map, drop}
+use Rattle.std.proofs.Common.{reverse, refl, sym, ap, subst, ◌∙◌, inl, inr, arith, Option, Some, None}
+use Rattle.std.proofs.Common.{Result, Ok, Err, nat_lt, length-append, slice_get, option_map}
 use Rattle.std.specs.Prelude.{slice_index_or}
 use Rattle.std.specs.Option.{option_to_list}
 use Rattle.std.proofs.lemmas.Bool.{and_parts, not-false, ltb-true, or_left, cond_both, cond-true, cond-false}
-use Rattle.std.proofs.lemmas.List.{length-map, map-append, reverse-append, take-append-drop, take_more, drop_more, take_all}
+use Rattle.std.proofs.lemmas.List.{length-map, map-append, reverse-append, take-append-drop, take_more}
+use Rattle.std.proofs.lemmas.List.{drop_more, take_all}
 use Rattle.ids.specs.Sizes.{Sizes, AreSizes}
 use Rattle.definitions.specs.Bytes.{Bytes}
 use Rattle.definitions.specs.Lists.{Among}
@@ -39,7 +43,8 @@ use Rattle.world_schedule.specs.declared.outcome.Outcome.{Outcome}
 use Rattle.world_schedule.specs.declared.journal.Journal.{Journal}
 use Rattle.world_schedule.specs.declared.running.State.{State}
 use Rattle.world_schedule.specs.Settings.{Setting, is_faulty_in, ring_in, start_of, Holds}
-use Rattle.world_schedule.specs.Schedules.{party_named, event_of, has_party, why_refused, IsEventOf, AreThese, IsRefusedFor}
+use Rattle.world_schedule.specs.Schedules.{party_named, event_of, has_party, why_refused, IsEventOf}
+use Rattle.world_schedule.specs.Schedules.{AreThese, IsRefusedFor}
 use Rattle.world_schedule.specs.Outcomes.{Shown, shown_frame, shown_sent, accepted_by, histories_of, TellsOf}
 use Rattle.world_schedule.specs.Told.{Told}
 use Rattle.world_schedule.specs.Turns.{Tells}
@@ -50,12 +55,19 @@ use Rattle.world_schedule.specs.Running.{IsRunOf}
 -- ---- which events are refused
 
 -- the definitions refuse an event for what the code tests
-pub refusal-is : (w : World) (read : Option Frame) (event : Event) (sizes : Sizes) (sent : ℕ) → w.sizes ≡ sizes → length w.sent ≡ sent → refusal w (event_of read event) ≡ why_refused sizes sent event
+pub refusal-is : (w : World) (read : Option Frame) (event : Event) (sizes : Sizes) (sent : ℕ)
+    → w.sizes ≡ sizes → length w.sent ≡ sent
+    → refusal w (event_of read event) ≡ why_refused sizes sent event
 unfolding refusal
-refusal-is w read (Submit client payload) sizes sent e n = ap (λ (z : Sizes). why_refused z sent (Submit client payload)) e
-refusal-is w read (Relay frame to) sizes sent e n = ap (λ (z : Sizes). why_refused z (length w.sent) (Relay frame to)) e ∙ ap (λ (k : ℕ). why_refused sizes k (Relay frame to)) n
-refusal-is w read (Inject to bytes) sizes sent e n = ap (λ (z : Sizes). why_refused z sent (Inject to bytes)) e
-refusal-is w read (Timeout replica) sizes sent e n = ap (λ (z : Sizes). why_refused z sent (Timeout replica)) e
+refusal-is w read (Submit client payload) sizes sent e n =
+    ap (λ (z : Sizes). why_refused z sent (Submit client payload)) e
+refusal-is w read (Relay frame to) sizes sent e n =
+    ap (λ (z : Sizes). why_refused z (length w.sent) (Relay frame to)) e
+    ∙ ap (λ (k : ℕ). why_refused sizes k (Relay frame to)) n
+refusal-is w read (Inject to bytes) sizes sent e n =
+    ap (λ (z : Sizes). why_refused z sent (Inject to bytes)) e
+refusal-is w read (Timeout replica) sizes sent e n =
+    ap (λ (z : Sizes). why_refused z sent (Timeout replica)) e
 refusal-is w read (Beat replica) sizes sent e n = ap (λ (z : Sizes). why_refused z sent (Beat replica)) e
 
 -- an event is at the party that it names
@@ -76,13 +88,15 @@ record Recorded (frames : List SentFrame) (xs : List Sent) (k : ℕ) (d : SentFr
   among : Among sent xs
   bytes : (slice_index_or frames k d).frame.items ≡ spelling sent.frame
 
-recorded-at : (frames : List SentFrame) (xs : List Sent) (k : ℕ) (d : SentFrame) → map shown_frame frames ≡ map shown_sent xs → k < length frames → Recorded frames xs k d
+recorded-at : (frames : List SentFrame) (xs : List Sent) (k : ℕ) (d : SentFrame)
+    → map shown_frame frames ≡ map shown_sent xs → k < length frames → Recorded frames xs k d
 recorded-at [] xs k d e l = absurd (omega (arith, l))
 recorded-at (f ∷ frames) [] k d e l = absurd (none e)
   where
     none : shown_frame f ∷ map shown_frame frames ≡ [] → ⊥
     none h = cc
-recorded-at (f ∷ frames) (x ∷ xs) zero d e l = record { sent = x; here = refl; among = inl refl; bytes = ap (λ (s : Shown). s.1.1) first }
+recorded-at (f ∷ frames) (x ∷ xs) zero d e l =
+    record { sent = x; here = refl; among = inl refl; bytes = ap (λ (s : Shown). s.1.1) first }
   where
     first : shown_frame f ≡ shown_sent x
     first = ap (λ (s : List Shown). slice_index_or s 0 (shown_frame f)) e
@@ -94,23 +108,32 @@ recorded-at (f ∷ frames) (x ∷ xs) (suc k) d e l =
 
 module _ (s : Setting) (w : World) (held : List steps.Held) (seats : List sessions.Held) (e : Effect) where
   -- a recorded frame comes
-  pub relayed : (k to : ℕ) (frames : List SentFrame) (d : SentFrame) (bytes : Bytes) → AreSizes s.sizes → w.sizes ≡ s.sizes → map shown_frame frames ≡ map shown_sent w.sent → SentAreFrames w → k < length frames
-      → bytes ≡ (slice_index_or frames k d).frame.items → Brings s w to bytes held seats e → Acts s w (Relay k to) held seats e
+  pub relayed : (k to : ℕ) (frames : List SentFrame) (d : SentFrame) (bytes : Bytes) → AreSizes s.sizes
+      → w.sizes ≡ s.sizes → map shown_frame frames ≡ map shown_sent w.sent → SentAreFrames w
+      → k < length frames
+      → bytes ≡ (slice_index_or frames k d).frame.items → Brings s w to bytes held seats e
+      → Acts s w (Relay k to) held seats e
   unfolding acts party_of
   relayed k to frames d bytes are same told fit l is b =
       let r = recorded-at frames w.sent k d told l in
-      let spells : IsReadAs s.sizes bytes (Some r.sent.frame) = (subst (λ (z : Sizes). IsFrame z r.sent.frame) same (fit r.sent r.among), is ∙ r.bytes) in
-      let read : b.read ≡ Some r.sent.frame = IsReadAs-unique s.sizes are bytes b.read (Some r.sent.frame) b.is_read spells in
+      let spells : IsReadAs s.sizes bytes (Some r.sent.frame) =
+      (subst (λ (z : Sizes). IsFrame z r.sent.frame) same (fit r.sent r.among), is ∙ r.bytes) in
+      let read : b.read ≡ Some r.sent.frame =
+      IsReadAs-unique s.sizes are bytes b.read (Some r.sent.frame) b.is_read spells in
       let there : recorded w k ≡ b.read = ap (option_map (λ (x : Sent). x.frame)) r.here ∙ sym read in
       record {
         happening = (worlds.relay k to, b.memory);
         is_event = (None, tt, refl);
-        parties = subst (λ (o : Option Frame). AreOf s held seats (with_effect w (comes to b.memory o w))) (sym there) b.parties;
-        tells = subst (λ (o : Option Frame). Tells (comes to b.memory o w) (client_at to) e) (sym there) b.tells;
+        parties = subst (λ (o : Option Frame). AreOf s held seats (with_effect w (comes to b.memory o w)))
+            (sym there) b.parties;
+        tells =
+            subst (λ (o : Option Frame). Tells (comes to b.memory o w) (client_at to) e) (sym there) b.tells;
       }
 
   -- any bytes come
-  pub injected : (to : ℕ) (event : Event) (bytes : Bytes) → ((read : Option Frame) → event_of read event ≡ worlds.inject to bytes read) → Brings s w to bytes held seats e → Acts s w event held seats e
+  pub injected : (to : ℕ) (event : Event) (bytes : Bytes)
+      → ((read : Option Frame) → event_of read event ≡ worlds.inject to bytes read)
+      → Brings s w to bytes held seats e → Acts s w event held seats e
   unfolding acts party_of
   injected to event bytes is b = record {
     happening = (worlds.inject to bytes b.read, b.memory);
@@ -120,7 +143,9 @@ module _ (s : Setting) (w : World) (held : List steps.Held) (seats : List sessio
   }
 
   -- a client submits
-  pub handed : (client : ℕ) (event : Event) (payload : Bytes) → event_of None event ≡ worlds.submit client payload → Hands s w client payload held seats e → Acts s w event held seats e
+  pub handed : (client : ℕ) (event : Event) (payload : Bytes)
+      → event_of None event ≡ worlds.submit client payload → Hands s w client payload held seats e
+      → Acts s w event held seats e
   unfolding acts party_of
   handed client event payload is b = record {
     happening = (worlds.submit client payload, b.memory);
@@ -130,20 +155,35 @@ module _ (s : Setting) (w : World) (held : List steps.Held) (seats : List sessio
   }
 
   -- a timeout
-  pub timed-out : (i : ℕ) → Moves s w Rattle.definitions.specs.Rulings.timeout_in i held seats e → Acts s w (Timeout i) held seats e
+  pub timed-out : (i : ℕ) → Moves s w Rattle.definitions.specs.Rulings.timeout_in i held seats e
+      → Acts s w (Timeout i) held seats e
   unfolding acts party_of
-  timed-out i b = record { happening = (worlds.timeout i, b.memory); is_event = (None, tt, refl); parties = b.parties; tells = b.tells }
+  timed-out i b = record {
+    happening = (worlds.timeout i, b.memory);
+    is_event = (None, tt, refl);
+    parties = b.parties;
+    tells = b.tells;
+  }
 
   -- a beat
-  pub beaten : (i : ℕ) → Moves s w Rattle.definitions.specs.Rulings.beat_in i held seats e → Acts s w (Beat i) held seats e
+  pub beaten : (i : ℕ) → Moves s w Rattle.definitions.specs.Rulings.beat_in i held seats e
+      → Acts s w (Beat i) held seats e
   unfolding acts party_of
-  beaten i b = record { happening = (worlds.beat i, b.memory); is_event = (None, tt, refl); parties = b.parties; tells = b.tells }
+  beaten i b = record {
+    happening = (worlds.beat i, b.memory);
+    is_event = (None, tt, refl);
+    parties = b.parties;
+    tells = b.tells;
+  }
 
   -- a correct party does what it does
-  pub correct-does : (event : Event) → is_faulty_in s (party_named event) ≡ false → w.is_faulty ≡ is_faulty_in s → Acts s w event held seats e → Does s w event held seats e
+  pub correct-does : (event : Event) → is_faulty_in s (party_named event) ≡ false
+      → w.is_faulty ≡ is_faulty_in s → Acts s w event held seats e → Does s w event held seats e
   unfolding effect
   correct-does event ok faulty a =
-      let at : w.is_faulty (party_of a.happening.0) ≡ false = ap w.is_faulty (ap party_of a.is_event.2 ∙ party-is a.is_event.0 event) ∙ ap (λ (f : ℕ → Bool). f (party_named event)) faulty ∙ ok in
+      let at : w.is_faulty (party_of a.happening.0) ≡ false =
+      ap w.is_faulty (ap party_of a.is_event.2 ∙ party-is a.is_event.0 event)
+      ∙ ap (λ (f : ℕ → Bool). f (party_named event)) faulty ∙ ok in
       let is : effect w a.happening ≡ acts w a.happening.0 a.happening.1 = cond-false _ _ _ at in
       record {
         happening = a.happening;
@@ -153,18 +193,21 @@ module _ (s : Setting) (w : World) (held : List steps.Held) (seats : List sessio
       }
 
   -- a faulty one does nothing
-  pub faulty-does : (event : Event) (read : Option Frame) → IsReadIn s.sizes (event_of read event) → is_faulty_in s (party_named event) ≡ true → w.is_faulty ≡ is_faulty_in s → AreOf s held seats w
+  pub faulty-does : (event : Event) (read : Option Frame) → IsReadIn s.sizes (event_of read event)
+      → is_faulty_in s (party_named event) ≡ true → w.is_faulty ≡ is_faulty_in s → AreOf s held seats w
       → e.out.items ≡ [] → e.accepted ≡ None → e.answer ≡ None → Does s w event held seats e
   unfolding effect nothing
   faulty-does event read rd bad faulty at out accepted answer =
       let h : Happening = (event_of read event, ample) in
-      let there : w.is_faulty (party_of h.0) ≡ true = ap w.is_faulty (party-is read event) ∙ ap (λ (f : ℕ → Bool). f (party_named event)) faulty ∙ bad in
+      let there : w.is_faulty (party_of h.0) ≡ true =
+      ap w.is_faulty (party-is read event) ∙ ap (λ (f : ℕ → Bool). f (party_named event)) faulty ∙ bad in
       let is : effect w h ≡ nothing w None = cond-true _ _ _ there in
       record {
         happening = h;
         is_event = (read, rd, refl);
         parties = subst (λ (x : events.Effect). AreOf s held seats (with_effect w x)) (sym is) at;
-        tells = subst (λ (x : events.Effect). Tells x (client_number h.0) e) (sym is) (record { out = ap (map sent_of) out; accepted = ap option_to_list accepted; answer = answer });
+        tells = subst (λ (x : events.Effect). Tells x (client_number h.0) e) (sym is)
+            (record { out = ap (map sent_of) out; accepted = ap option_to_list accepted; answer = answer });
       }
 
 -- ---- what is told of it
@@ -180,11 +223,13 @@ dated now x = (now, x)
 abbrev dated_sending : ℕ → code.Sending → Shown
 dated_sending now o = (now, sent_of o)
 
-sent-shown : (now party : ℕ) (out : List Sending) → map shown_sent (map (in_event now party) out) ≡ map (dated now) (shown out)
+sent-shown : (now party : ℕ) (out : List Sending)
+    → map shown_sent (map (in_event now party) out) ≡ map (dated now) (shown out)
 sent-shown now party [] = refl
 sent-shown now party (o ∷ out) = ap (λ l. dated now (bytes_of o) ∷ l) (sent-shown now party out)
 
-code-shown : (now : ℕ) (out : List code.Sending) → map (dated_sending now) out ≡ map (dated now) (map sent_of out)
+code-shown : (now : ℕ) (out : List code.Sending)
+    → map (dated_sending now) out ≡ map (dated now) (map sent_of out)
 code-shown now [] = refl
 code-shown now (o ∷ out) = ap (λ l. dated_sending now o ∷ l) (code-shown now out)
 
@@ -192,10 +237,13 @@ code-shown now (o ∷ out) = ap (λ l. dated_sending now o ∷ l) (code-shown no
 abbrev receipt_at : ℕ → ℕ → Receipt → AcceptedBy
 receipt_at now client r = record { event = now; client = client; receipt = r }
 
-receipts-told : (now client : ℕ) (o : List (ℕ × Receipt)) (acc : List Receipt) → length o ≤ 1 → o ≡ map (λ r. (client, r)) acc
-    → map (λ a. record { event = now; client = a.0; receipt = a.1 }) o ≡ reverse (map (receipt_at now client) acc)
+receipts-told : (now client : ℕ) (o : List (ℕ × Receipt)) (acc : List Receipt) → length o ≤ 1
+    → o ≡ map (λ r. (client, r)) acc
+    → map (λ a. record { event = now; client = a.0; receipt = a.1 }) o
+    ≡ reverse (map (receipt_at now client) acc)
 receipts-told now client o [] l e = ap (map (λ a. record { event = now; client = a.0; receipt = a.1 })) e
-receipts-told now client o (r ∷ []) l e = ap (map (λ a. record { event = now; client = a.0; receipt = a.1 })) e
+receipts-told now client o (r ∷ []) l e =
+    ap (map (λ a. record { event = now; client = a.0; receipt = a.1 })) e
 receipts-told now client o (r ∷ q ∷ acc) l e = absurd (let n = ap length e in omega (arith, n, l))
 
 one-at-most : {A : Type 0} (o : Option A) → length (option_to_list o) ≤ 1
@@ -204,11 +252,16 @@ one-at-most (Some x) = omega arith
 
 -- what an event adds to what is told
 pub record Noted (old new : Journal) (e : Effect) : Type 0 where
-  pub frames : map shown_frame new.frames.items ≡ map shown_frame old.frames.items ++ map (dated_sending (suc (length old.answers.items))) e.out.items
-  pub receipts : map accepted_by new.receipts.items ≡ map accepted_by old.receipts.items ++ map (λ a. record { event = suc (length old.answers.items); client = a.0; receipt = a.1 }) (option_to_list e.accepted)
+  pub frames : map shown_frame new.frames.items
+      ≡ map shown_frame old.frames.items ++ map (dated_sending (suc (length old.answers.items))) e.out.items
+  pub receipts : map accepted_by new.receipts.items
+      ≡ map accepted_by old.receipts.items
+      ++ map (λ a. record { event = suc (length old.answers.items); client = a.0; receipt = a.1 })
+      (option_to_list e.accepted)
   pub answers : new.answers.items ≡ old.answers.items ++ e.answer ∷ []
 
-noted-is : (w : World) (h : Happening) (old new : Journal) (e : Effect) → IsJournalOf old w → Tells (effect w h) (client_number h.0) e → Noted old new e → IsJournalOf new (happens w h)
+noted-is : (w : World) (h : Happening) (old new : Journal) (e : Effect) → IsJournalOf old w
+    → Tells (effect w h) (client_number h.0) e → Noted old new e → IsJournalOf new (happens w h)
 unfolding happens
 noted-is w h old new e j t n = record {
   frames = n.frames
@@ -217,59 +270,92 @@ noted-is w h old new e j t n = record {
       ∙ ap (λ (k : ℕ). map shown_sent w.sent ++ map (dated k) (shown (effect w h).out)) (sym j.now)
       ∙ ap (λ l. map shown_sent w.sent ++ l) (sym (sent-shown w.now (party_of h.0) (effect w h).out))
       ∙ sym (map-append shown_sent w.sent (map (in_event w.now (party_of h.0)) (effect w h).out));
-  answers = n.answers ∙ (λ i. j.answers i ++ t.answer i ∷ []) ∙ sym (reverse-append ((effect w h).answer ∷ []) w.answers);
+  answers =
+      n.answers ∙ (λ i. j.answers i ++ t.answer i ∷ [])
+      ∙ sym (reverse-append ((effect w h).answer ∷ []) w.answers);
   receipts = n.receipts
-      ∙ (λ i. j.receipts i ++ receipts-told (suc (length old.answers.items)) (client_number h.0) (option_to_list e.accepted) (effect w h).accepted (one-at-most e.accepted) t.accepted i)
-      ∙ ap (λ (k : ℕ). reverse w.receipts ++ reverse (map (receipt_at k (client_number h.0)) (effect w h).accepted)) (sym j.now)
+      ∙ (λ i. j.receipts i ++ receipts-told (suc (length old.answers.items)) (client_number h.0)
+      (option_to_list e.accepted) (effect w h).accepted (one-at-most e.accepted) t.accepted i)
+      ∙ ap (λ (k : ℕ). reverse w.receipts
+      ++ reverse (map (receipt_at k (client_number h.0)) (effect w h).accepted)) (sym j.now)
       ∙ sym (reverse-append (map (receipt_at w.now (client_number h.0)) (effect w h).accepted) w.receipts);
-  now = (let a = ap length n.answers in let b = length-append old.answers.items (e.answer ∷ []) in let c = j.now in omega (arith, a, b, c));
+  now =
+      (let a =
+      ap length n.answers in let b =
+      length-append old.answers.items (e.answer ∷ []) in let c = j.now in omega (arith, a, b, c));
 }
 
 -- an event that was noted
-pub went-on : (s : Setting) (w : World) (event : Event) (old new : State) (e : Effect) → IsAt s old w → why_refused s.sizes (length old.journal.frames.items) event ≡ None
-    → Does s w event new.parties.replicas.items new.parties.sessions.items e → Noted old.journal new.journal e → GoesOn s w event new
+pub went-on : (s : Setting) (w : World) (event : Event) (old new : State) (e : Effect) → IsAt s old w
+    → why_refused s.sizes (length old.journal.frames.items) event ≡ None
+    → Does s w event new.parties.replicas.items new.parties.sessions.items e
+    → Noted old.journal new.journal e → GoesOn s w event new
 unfolding happens
 went-on s w event old new e at ok d n = record {
   happening = d.happening;
   is_event = d.is_event;
-  allowed = ap (refusal w) d.is_event.2 ∙ refusal-is w d.is_event.0 event s.sizes (length old.journal.frames.items) at.parties.setting.sizes_are sent-count ∙ ok;
+  allowed =
+      ap (refusal w) d.is_event.2
+      ∙ refusal-is w d.is_event.0 event s.sizes (length old.journal.frames.items)
+      at.parties.setting.sizes_are sent-count ∙ ok;
   now_at = record {
-    parties = record { setting = record { sizes_are = d.parties.setting.sizes_are; faulty_are = d.parties.setting.faulty_are; rings_are = d.parties.setting.rings_are }; seated = d.parties.seated; replicas_are = d.parties.replicas_are; sessions_are = d.parties.sessions_are };
+    parties = record {
+      setting = record {
+        sizes_are = d.parties.setting.sizes_are;
+        faulty_are = d.parties.setting.faulty_are;
+        rings_are = d.parties.setting.rings_are;
+      };
+      seated = d.parties.seated;
+      replicas_are = d.parties.replicas_are;
+      sessions_are = d.parties.sessions_are;
+    };
     told = noted-is w d.happening old.journal new.journal e at.told d.tells n;
   };
 }
   where
     sent-count : length w.sent ≡ length old.journal.frames.items
-    sent-count = sym (length-map w.sent shown_sent) ∙ sym (ap length at.told.frames) ∙ length-map old.journal.frames.items shown_frame
+    sent-count =
+        sym (length-map w.sent shown_sent) ∙ sym (ap length at.told.frames)
+        ∙ length-map old.journal.frames.items shown_frame
 
 -- an event that is refused
-pub was-refused : (s : Setting) (w : World) (event : Event) (old : State) (n : Fault) → IsAt s old w → why_refused s.sizes (length old.journal.frames.items) event ≡ Some n → refusal w (event_of None event) ≡ Some n
+pub was-refused : (s : Setting) (w : World) (event : Event) (old : State) (n : Fault) → IsAt s old w
+    → why_refused s.sizes (length old.journal.frames.items) event ≡ Some n
+    → refusal w (event_of None event) ≡ Some n
 was-refused s w event old n at bad =
     refusal-is w None event s.sizes (length old.journal.frames.items) at.parties.setting.sizes_are
-    (sym (length-map w.sent shown_sent) ∙ sym (ap length at.told.frames) ∙ length-map old.journal.frames.items shown_frame) ∙ bad
+    (sym (length-map w.sent shown_sent) ∙ sym (ap length at.told.frames)
+    ∙ length-map old.journal.frames.items shown_frame) ∙ bad
 
 -- ---- one event after the other
 
 -- one more of these
-these-more : (sizes : Sizes) (events : List Event) (hs : List Happening) (event : Event) (h : Happening) → AreThese sizes events hs → IsEventOf sizes event h.0 → AreThese sizes (events ++ event ∷ []) (hs ++ h ∷ [])
+these-more : (sizes : Sizes) (events : List Event) (hs : List Happening) (event : Event) (h : Happening)
+    → AreThese sizes events hs → IsEventOf sizes event h.0
+    → AreThese sizes (events ++ event ∷ []) (hs ++ h ∷ [])
 these-more sizes [] [] event h a i = (i, tt)
 these-more sizes (x ∷ events) (g ∷ hs) event h a i = (a.0, these-more sizes events hs event h a.1 i)
 these-more sizes [] (g ∷ hs) event h a i = absurd a
 these-more sizes (x ∷ events) [] event h a i = absurd a
 
 -- a run goes on
-run-more : (hs : List Happening) (w last : World) (h : Happening) → run w hs ≡ Ok last → refusal last h.0 ≡ None → run w (hs ++ h ∷ []) ≡ Ok (happens last h)
+run-more : (hs : List Happening) (w last : World) (h : Happening) → run w hs ≡ Ok last
+    → refusal last h.0 ≡ None → run w (hs ++ h ∷ []) ≡ Ok (happens last h)
 unfolding run
 run-more [] w last h e ok =
     let is : w ≡ last = same e in
-    subst (λ (x : World). elim (refusal x h.0) as (λ o. Result World Fault) [ Some n ↦ Err n | None ↦ Ok (happens x h) ] ≡ Ok (happens last h)) (sym is)
-    (subst (λ (o : Option Fault). elim o as (λ o. Result World Fault) [ Some n ↦ Err n | None ↦ Ok (happens last h) ] ≡ Ok (happens last h)) (sym ok) refl)
+    subst (λ (x : World). elim (refusal x h.0) as (λ o. Result World Fault)
+    [ Some n ↦ Err n | None ↦ Ok (happens x h) ] ≡ Ok (happens last h)) (sym is)
+    (subst (λ (o : Option Fault). elim o as (λ o. Result World Fault)
+    [ Some n ↦ Err n | None ↦ Ok (happens last h) ] ≡ Ok (happens last h)) (sym ok) refl)
   where
     same : ◌≡◌ {A = Result World Fault} (Ok w) (Ok last) → w ≡ last
     same k = cc
 run-more (g ∷ hs) w last h e ok =
     let r = run-step (refusal w g.0) (run (happens w g) hs) last e in
-    subst (λ (o : Option Fault). elim o as (λ o. Result World Fault) [ Some n ↦ Err n | None ↦ run (happens w g) (hs ++ h ∷ []) ] ≡ Ok (happens last h)) (sym r.0) (run-more hs (happens w g) last h r.1 ok)
+    subst (λ (o : Option Fault). elim o as (λ o. Result World Fault)
+    [ Some n ↦ Err n | None ↦ run (happens w g) (hs ++ h ∷ []) ] ≡ Ok (happens last h)) (sym r.0)
+    (run-more hs (happens w g) last h r.1 ok)
 
 -- the number of the next event
 run-now : (hs : List Happening) (w last : World) → run w hs ≡ Ok last → last.now ≡ w.now + length hs
@@ -284,19 +370,23 @@ run-now (h ∷ hs) w last e =
     omega (arith, k)
 
 -- the bytes of these are read rightly
-these-read : (sizes : Sizes) (events : List Event) (hs : List Happening) → AreThese sizes events hs → AllRead sizes hs
+these-read : (sizes : Sizes) (events : List Event) (hs : List Happening) → AreThese sizes events hs
+    → AllRead sizes hs
 these-read sizes [] [] a = tt
-these-read sizes (x ∷ events) (h ∷ hs) a = (subst (IsReadIn sizes) (sym a.0.2) a.0.1, these-read sizes events hs a.1)
+these-read sizes (x ∷ events) (h ∷ hs) a =
+    (subst (IsReadIn sizes) (sym a.0.2) a.0.1, these-read sizes events hs a.1)
 these-read sizes [] (h ∷ hs) a = absurd a
 these-read sizes (x ∷ events) [] a = absurd a
 
 -- nothing happened yet
 pub first-run : (s : Setting) (state : State) → IsAt s state (start_of s) → HasRun s [] state
 unfolding run
-first-run s state at = record { happenings = []; are_these = tt; world = start_of s; ends = refl; now_at = at }
+first-run s state at =
+    record { happenings = []; are_these = tt; world = start_of s; ends = refl; now_at = at }
 
 -- one event more
-pub next-run : (s : Setting) (these : List Event) (event : Event) (old new : State) (r : HasRun s these old) → GoesOn s r.world event new → HasRun s (these ++ event ∷ []) new
+pub next-run : (s : Setting) (these : List Event) (event : Event) (old new : State) (r : HasRun s these old)
+    → GoesOn s r.world event new → HasRun s (these ++ event ∷ []) new
 next-run s these event old new r g = record {
   happenings = r.happenings ++ g.happening ∷ [];
   are_these = these-more s.sizes these r.happenings event g.happening r.are_these g.is_event;
@@ -306,22 +396,28 @@ next-run s these event old new r g = record {
 }
 
 -- a correct party's keys
-own-keys : (s : Setting) → Holds s → (p : ℕ) → is_correct (start_of s) p ≡ true → ((start_of s).ring p).party ≡ p
+own-keys : (s : Setting) → Holds s → (p : ℕ) → is_correct (start_of s) p ≡ true
+    → ((start_of s).ring p).party ≡ p
 unfolding new_world
 own-keys s holds p c =
     let k : (is_replica_of s.sizes p && not (is_faulty_in s p)) ≡ true = c in
-    holds.keys p (or_left (is_replica_of s.sizes p) (is_client_of s.sizes p) (and_parts (is_replica_of s.sizes p) (not (is_faulty_in s p)) k).0)
+    holds.keys p (or_left (is_replica_of s.sizes p) (is_client_of s.sizes p)
+    (and_parts (is_replica_of s.sizes p) (not (is_faulty_in s p)) k).0)
 
 -- what was sent so far are frames
-pub frames-so-far : (s : Setting) (these : List Event) (state : State) → Holds s → length state.journal.answers.items < 2 ^ 63 → (r : HasRun s these state) → SentAreFrames r.world
+pub frames-so-far : (s : Setting) (these : List Event) (state : State) → Holds s
+    → length state.journal.answers.items < 2 ^ 63 → (r : HasRun s these state) → SentAreFrames r.world
 unfolding new_world
 frames-so-far s these state holds few r =
     any-sent-are-frames s.sizes (is_faulty_in s) (ring_in s) r.happenings r.world
-    (let n = run-now r.happenings (start_of s) r.world r.ends in let k = r.now_at.told.now in let o : (start_of s).now ≡ 1 = refl in omega (arith, n, k, o, few))
+    (let n =
+    run-now r.happenings (start_of s) r.world r.ends in let k =
+    r.now_at.told.now in let o : (start_of s).now ≡ 1 = refl in omega (arith, n, k, o, few))
     (own-keys s holds) (these-read s.sizes these r.happenings r.are_these) r.ends
 
 -- the whole run
-pub whole-run : (s : Setting) (events : List Event) (state : State) (o : Outcome) → Holds s → (r : HasRun s events state) → TellsOf r.world o → IsRunOf s events o
+pub whole-run : (s : Setting) (events : List Event) (state : State) (o : Outcome) → Holds s
+    → (r : HasRun s events state) → TellsOf r.world o → IsRunOf s events o
 unfolding new_world
 whole-run s events state o holds r t = record {
   happenings = r.happenings;
@@ -330,31 +426,49 @@ whole-run s events state o holds r t = record {
   ends = r.ends;
   tells = t;
   linear = λ honest apart.
-      let met : ArePremises (start_of s) r.happenings = record { few = holds.few; keys = own-keys s holds; read = these-read s.sizes events r.happenings r.are_these; no_forgery = honest; no_collision = apart } in
-      (every-run-linear s.sizes (is_faulty_in s) (ring_in s) r.happenings r.world met r.ends, none-conflicts s.sizes (is_faulty_in s) (ring_in s) r.happenings r.world met r.ends);
+      let met : ArePremises (start_of s) r.happenings =
+      record {
+        few = holds.few;
+        keys = own-keys s holds;
+        read = these-read s.sizes events r.happenings r.are_these;
+        no_forgery = honest;
+        no_collision = apart;
+      } in (
+        every-run-linear s.sizes (is_faulty_in s) (ring_in s) r.happenings r.world met r.ends,
+        none-conflicts s.sizes (is_faulty_in s) (ring_in s) r.happenings r.world met r.ends,
+      );
 }
 
 -- ---- where there is an effect
 
 -- a submission
-pub handed-if : (s : Setting) (held held' : List steps.Held) (seats seats' : List sessions.Held) (event : Event) (client : ℕ) (payload : Bytes) (sent : List SentFrame) (r : Result Effect Fault) → event_of None event ≡ worlds.submit client payload
+pub handed-if : (s : Setting) (held held' : List steps.Held) (seats seats' : List sessions.Held)
+    (event : Event) (client : ℕ) (payload : Bytes) (sent : List SentFrame) (r : Result Effect Fault)
+    → event_of None event ≡ worlds.submit client payload
     → IfOk r (λ e. (w : World) → AreOf s held seats w → Hands s w client payload held' seats' e)
-    → IfOk r (λ e. (w : World) → AreOf s held seats w → map shown_frame sent ≡ map shown_sent w.sent → SentAreFrames w → Acts s w event held' seats' e)
-handed-if s held held' seats seats' event client payload sent (Ok e) is h = λ w at told fit. handed s w held' seats' e client event payload is (h w at)
+    → IfOk r (λ e. (w : World) → AreOf s held seats w → map shown_frame sent ≡ map shown_sent w.sent
+    → SentAreFrames w → Acts s w event held' seats' e)
+handed-if s held held' seats seats' event client payload sent (Ok e) is h =
+    λ w at told fit. handed s w held' seats' e client event payload is (h w at)
 handed-if s held held' seats seats' event client payload sent (Err n) is h = tt
 
 -- bytes
-pub injected-if : (s : Setting) (held held' : List steps.Held) (seats seats' : List sessions.Held) (event : Event) (to : ℕ) (bytes : Bytes) (sent : List SentFrame) (r : Result Effect Fault) → ((read : Option Frame) → event_of read event ≡ worlds.inject to bytes read)
+pub injected-if : (s : Setting) (held held' : List steps.Held) (seats seats' : List sessions.Held)
+    (event : Event) (to : ℕ) (bytes : Bytes) (sent : List SentFrame) (r : Result Effect Fault)
+    → ((read : Option Frame) → event_of read event ≡ worlds.inject to bytes read)
     → IfOk r (λ e. (w : World) → AreOf s held seats w → Brings s w to bytes held' seats' e)
-    → IfOk r (λ e. (w : World) → AreOf s held seats w → map shown_frame sent ≡ map shown_sent w.sent → SentAreFrames w → Acts s w event held' seats' e)
-injected-if s held held' seats seats' event to bytes sent (Ok e) is h = λ w at told fit. injected s w held' seats' e to event bytes is (h w at)
+    → IfOk r (λ e. (w : World) → AreOf s held seats w → map shown_frame sent ≡ map shown_sent w.sent
+    → SentAreFrames w → Acts s w event held' seats' e)
+injected-if s held held' seats seats' event to bytes sent (Ok e) is h =
+    λ w at told fit. injected s w held' seats' e to event bytes is (h w at)
 injected-if s held held' seats seats' event to bytes sent (Err n) is h = tt
 
 -- a frame of the record is named
 allowed-frame : (sizes : Sizes) (sent k to : ℕ) → why_refused sizes sent (Relay k to) ≡ None → k < sent
 allowed-frame sizes sent k to =
     cond_both (not (has_party sizes (Relay k to))) _ _ P (λ e h. absurd (some fault.NoSuchParty h)) (λ e.
-    cond_both (not (nat_lt k sent)) _ _ P (λ f h. absurd (some fault.NoSuchFrame h)) (λ f h. ltb-true k sent (not-false _ f)))
+    cond_both (not (nat_lt k sent)) _ _ P (λ f h. absurd (some fault.NoSuchFrame h))
+    (λ f h. ltb-true k sent (not-false _ f)))
   where
     P : Option Fault → Type 0
     P o = o ≡ None → k < sent
@@ -363,57 +477,96 @@ allowed-frame sizes sent k to =
     some n h = cc
 
 -- a frame of the record
-pub relayed-if : (s : Setting) (held held' : List steps.Held) (seats seats' : List sessions.Held) (event : Event) (k to : ℕ) (bytes : Bytes) (sent : List SentFrame) (d : SentFrame) (r : Result Effect Fault) → event ≡ Relay k to → AreSizes s.sizes
+pub relayed-if : (s : Setting) (held held' : List steps.Held) (seats seats' : List sessions.Held)
+    (event : Event) (k to : ℕ) (bytes : Bytes) (sent : List SentFrame) (d : SentFrame)
+    (r : Result Effect Fault) → event ≡ Relay k to → AreSizes s.sizes
     → why_refused s.sizes (length sent) event ≡ None → bytes ≡ (slice_index_or sent k d).frame.items
     → IfOk r (λ e. (w : World) → AreOf s held seats w → Brings s w to bytes held' seats' e)
-    → IfOk r (λ e. (w : World) → AreOf s held seats w → map shown_frame sent ≡ map shown_sent w.sent → SentAreFrames w → Acts s w event held' seats' e)
+    → IfOk r (λ e. (w : World) → AreOf s held seats w → map shown_frame sent ≡ map shown_sent w.sent
+    → SentAreFrames w → Acts s w event held' seats' e)
 relayed-if s held held' seats seats' event k to bytes sent d (Ok e) is are ok there h = λ w at told fit.
     subst (λ (x : Event). Acts s w x held' seats' e) (sym is)
     (relayed s w held' seats' e k to sent d bytes are at.setting.sizes_are told fit
-    (allowed-frame s.sizes (length sent) k to (subst (λ (x : Event). why_refused s.sizes (length sent) x ≡ None) is ok)) there (h w at))
+    (allowed-frame s.sizes (length sent) k to
+    (subst (λ (x : Event). why_refused s.sizes (length sent) x ≡ None) is ok)) there (h w at))
 relayed-if s held held' seats seats' event k to bytes sent d (Err n) is are ok there h = tt
 
 -- an event at a correct party
-pub correct-if : (s : Setting) (held held' : List steps.Held) (seats seats' : List sessions.Held) (event : Event) (sent : List SentFrame) (r : Result Effect Fault) → is_faulty_in s (party_named event) ≡ false
-    → IfOk r (λ e. (w : World) → AreOf s held seats w → map shown_frame sent ≡ map shown_sent w.sent → SentAreFrames w → Acts s w event held' seats' e)
-    → IfOk r (λ e. (w : World) → AreOf s held seats w → map shown_frame sent ≡ map shown_sent w.sent → SentAreFrames w → Does s w event held' seats' e)
-correct-if s held held' seats seats' event sent (Ok e) ok h = λ w at told fit. correct-does s w held' seats' e event ok at.setting.faulty_are (h w at told fit)
+pub correct-if : (s : Setting) (held held' : List steps.Held) (seats seats' : List sessions.Held)
+    (event : Event) (sent : List SentFrame) (r : Result Effect Fault)
+    → is_faulty_in s (party_named event) ≡ false
+    → IfOk r (λ e. (w : World) → AreOf s held seats w → map shown_frame sent ≡ map shown_sent w.sent
+    → SentAreFrames w → Acts s w event held' seats' e)
+    → IfOk r (λ e. (w : World) → AreOf s held seats w → map shown_frame sent ≡ map shown_sent w.sent
+    → SentAreFrames w → Does s w event held' seats' e)
+correct-if s held held' seats seats' event sent (Ok e) ok h =
+    λ w at told fit. correct-does s w held' seats' e event ok at.setting.faulty_are (h w at told fit)
 correct-if s held held' seats seats' event sent (Err n) ok h = tt
 
 -- after an event's effect was noted, or not for want of memory
-pub after-note : (s : Setting) (w : World) (event : Event) (old new : State) (e : Effect) (r : Result (Unit {0}) Fault) → IsAt s old w → why_refused s.sizes (length old.journal.frames.items) event ≡ None
+pub after-note :
+    (s : Setting) (w : World) (event : Event) (old new : State) (e : Effect) (r : Result (Unit {0}) Fault)
+    → IsAt s old w → why_refused s.sizes (length old.journal.frames.items) event ≡ None
     → Does s w event new.parties.replicas.items new.parties.sessions.items e
-    → OnOk r (map shown_frame new.journal.frames.items ≡ map shown_frame old.journal.frames.items ++ map (dated_sending (suc (length old.journal.answers.items))) e.out.items)
-    → OnOk r (map accepted_by new.journal.receipts.items ≡ map accepted_by old.journal.receipts.items ++ map (λ a. record { event = suc (length old.journal.answers.items); client = a.0; receipt = a.1 }) (option_to_list e.accepted))
-    → OnOk r (new.journal.answers.items ≡ old.journal.answers.items ++ e.answer ∷ []) → OnErr r (r ≡ Err fault.Memory)
-    → MatchResult r (λ _. GoesOn s w event new) (λ n. (n ≡ fault.Memory) ⊎ (refusal w (event_of None event) ≡ Some n))
-after-note s w event old new e (Ok x) at ok d f p a m = went-on s w event old new e at ok d (record { frames = f; receipts = p; answers = a })
+    → OnOk r (map shown_frame new.journal.frames.items
+    ≡ map shown_frame old.journal.frames.items
+    ++ map (dated_sending (suc (length old.journal.answers.items))) e.out.items)
+    → OnOk r (map accepted_by new.journal.receipts.items
+    ≡ map accepted_by old.journal.receipts.items
+    ++ map
+    (λ a. record { event = suc (length old.journal.answers.items); client = a.0; receipt = a.1 })
+    (option_to_list e.accepted))
+    → OnOk r (new.journal.answers.items ≡ old.journal.answers.items ++ e.answer ∷ [])
+    → OnErr r (r ≡ Err fault.Memory)
+    → MatchResult r (λ _. GoesOn s w event new)
+    (λ n. (n ≡ fault.Memory) ⊎ (refusal w (event_of None event) ≡ Some n))
+after-note s w event old new e (Ok x) at ok d f p a m =
+    went-on s w event old new e at ok d (record { frames = f; receipts = p; answers = a })
 after-note s w event old new e (Err n) at ok d f p a m = inl (same m)
   where
     same : ◌≡◌ {A = Result (Unit {0}) Fault} (Err n) (Err fault.Memory) → n ≡ fault.Memory
     same k = cc
 
 -- an event stood
-pub stood : (s : Setting) (w : World) (event : Event) (new : State) (old : Result (Unit {0}) Fault) (x : Unit {0}) → old ≡ Ok x → MatchResult old (λ _. GoesOn s w event new) (λ n. (n ≡ fault.Memory) ⊎ (refusal w (event_of None event) ≡ Some n)) → GoesOn s w event new
-stood s w event new old x is h = subst (λ (r : Result (Unit {0}) Fault). MatchResult r (λ _. GoesOn s w event new) (λ n. (n ≡ fault.Memory) ⊎ (refusal w (event_of None event) ≡ Some n))) is h
+pub stood :
+    (s : Setting) (w : World) (event : Event) (new : State) (old : Result (Unit {0}) Fault) (x : Unit {0})
+    → old ≡ Ok x
+    → MatchResult old (λ _. GoesOn s w event new)
+    (λ n. (n ≡ fault.Memory) ⊎ (refusal w (event_of None event) ≡ Some n)) → GoesOn s w event new
+stood s w event new old x is h =
+    subst (λ (r : Result (Unit {0}) Fault). MatchResult r (λ _. GoesOn s w event new)
+    (λ n. (n ≡ fault.Memory) ⊎ (refusal w (event_of None event) ≡ Some n))) is h
 
 -- nothing was told yet
-pub first-at : (s : Setting) (state : State) → AreOf s state.parties.replicas.items state.parties.sessions.items (start_of s) → state.journal.frames.items ≡ [] → state.journal.answers.items ≡ [] → state.journal.receipts.items ≡ [] → IsAt s state (start_of s)
+pub first-at : (s : Setting) (state : State)
+    → AreOf s state.parties.replicas.items state.parties.sessions.items (start_of s)
+    → state.journal.frames.items ≡ [] → state.journal.answers.items ≡ [] → state.journal.receipts.items ≡ []
+    → IsAt s state (start_of s)
 unfolding new_world
 first-at s state p f a r = record {
   parties = p;
-  told = record { frames = ap (map shown_frame) f; answers = a; receipts = ap (map accepted_by) r; now = ap (λ l. suc (length l)) (sym a) };
+  told = record {
+    frames = ap (map shown_frame) f;
+    answers = a;
+    receipts = ap (map accepted_by) r;
+    now = ap (λ l. suc (length l)) (sym a);
+  };
 }
 
 -- an event is refused
-pub ends-refused : (s : Setting) (events : List Event) (i : ℕ) (d event : Event) (old : State) (n : Fault) → i < length events → event ≡ slice_index_or events i d → (r : HasRun s (take i events) old)
-    → (n ≡ fault.Memory) ⊎ (refusal r.world (event_of None event) ≡ Some n) → (n ≡ fault.Memory) ⊎ IsRefusedFor s events n
+pub ends-refused : (s : Setting) (events : List Event) (i : ℕ) (d event : Event) (old : State) (n : Fault)
+    → i < length events → event ≡ slice_index_or events i d → (r : HasRun s (take i events) old)
+    → (n ≡ fault.Memory) ⊎ (refusal r.world (event_of None event) ≡ Some n)
+    → (n ≡ fault.Memory) ⊎ IsRefusedFor s events n
 ends-refused s events i d event old n l is r (inl m) = inl m
 ends-refused s events i d event old n l is r (inr h) = inr (record {
   these = take i events;
   event = event;
   others = drop (i + 1) events;
-  events_are = sym (take-append-drop i events) ∙ ap (λ l. take i events ++ l) (drop_more events i d l ∙ ap (λ (x : Event). x ∷ drop (i + 1) events) (sym is));
+  events_are =
+      sym (take-append-drop i events)
+      ∙ ap (λ l. take i events ++ l)
+      (drop_more events i d l ∙ ap (λ (x : Event). x ∷ drop (i + 1) events) (sym is));
   happenings = r.happenings;
   are_these = r.are_these;
   world = r.world;
@@ -422,18 +575,29 @@ ends-refused s events i d event old n l is r (inr h) = inr (record {
 })
 
 -- one event more of the schedule
-pub goes-further : (s : Setting) (events : List Event) (i : ℕ) (d event : Event) (old new : State) → i < length events → event ≡ slice_index_or events i d → (r : HasRun s (take i events) old) → GoesOn s r.world event new → HasRun s (take (i + 1) events) new
+pub goes-further : (s : Setting) (events : List Event) (i : ℕ) (d event : Event) (old new : State)
+    → i < length events → event ≡ slice_index_or events i d → (r : HasRun s (take i events) old)
+    → GoesOn s r.world event new → HasRun s (take (i + 1) events) new
 goes-further s events i d event old new l is r g =
-    subst (λ (es : List Event). HasRun s es new) (ap (λ (x : Event). take i events ++ x ∷ []) is ∙ sym (take_more events i d l)) (next-run s (take i events) event old new r g)
+    subst (λ (es : List Event). HasRun s es new)
+    (ap (λ (x : Event). take i events ++ x ∷ []) is ∙ sym (take_more events i d l))
+    (next-run s (take i events) event old new r g)
 
 -- the end of the schedule
-pub ends-whole : (s : Setting) (events : List Event) (i : ℕ) (state : State) (o : Result Outcome Fault) → Holds s → length events ≤ i → (r : HasRun s (take i events) state) → IfOk o (λ x. (w : World) → IsAt s state w → TellsOf w x) → IfOk o (IsRunOf s events)
-ends-whole s events i state (Ok x) holds l r t = subst (λ (es : List Event). IsRunOf s es x) (take_all i events l) (whole-run s (take i events) state x holds r (t r.world r.now_at))
+pub ends-whole : (s : Setting) (events : List Event) (i : ℕ) (state : State) (o : Result Outcome Fault)
+    → Holds s → length events ≤ i → (r : HasRun s (take i events) state)
+    → IfOk o (λ x. (w : World) → IsAt s state w → TellsOf w x) → IfOk o (IsRunOf s events)
+ends-whole s events i state (Ok x) holds l r t =
+    subst (λ (es : List Event). IsRunOf s es x) (take_all i events l)
+    (whole-run s (take i events) state x holds r (t r.world r.now_at))
 ends-whole s events i state (Err n) holds l r t = tt
 
 -- what it came to
-pub tells-of : (s : Setting) (state : State) (o : Outcome) (histories : List Told) → o.frames ≡ state.journal.frames → o.answers ≡ state.journal.answers → o.receipts ≡ state.journal.receipts
-    → ((w : World) → AreOf s state.parties.replicas.items state.parties.sessions.items w → o.histories.items ≡ histories_of w) → (w : World) → IsAt s state w → TellsOf w o
+pub tells-of : (s : Setting) (state : State) (o : Outcome) (histories : List Told)
+    → o.frames ≡ state.journal.frames → o.answers ≡ state.journal.answers
+    → o.receipts ≡ state.journal.receipts
+    → ((w : World) → AreOf s state.parties.replicas.items state.parties.sessions.items w → o.histories.items
+    ≡ histories_of w) → (w : World) → IsAt s state w → TellsOf w o
 tells-of s state o histories f a r h w at = record {
   frames = ap (λ v. map shown_frame v.items) f ∙ at.told.frames;
   answers = ap (λ v. v.items) a ∙ at.told.answers;

@@ -20,7 +20,8 @@ pub record SameReplica (a b : Keys) : Type 0 where
   pub ring : keyring_of a ≡ keyring_of b
 
 -- what a replica answers to bytes
-pub record Answers (self : Identity) (bytes : Bytes) (old new : Replica) (result : Result (List Sent) Fault) : Type 0 where
+pub record Answers (self : Identity) (bytes : Bytes) (old new : Replica) (result : Result (List Sent) Fault)
+    : Type 0 where
   pub read : Option Frame
   pub is_read : IsReadAs self.sizes bytes read
   pub memory : Memory
@@ -32,7 +33,8 @@ pub record Asks (self : Identity) (bytes : Bytes) (e : Effect) : Type 0 where
   pub read : Option Frame
   pub is_read : IsReadAs self.sizes bytes read
   pub memory : Memory
-  pub tells : (sender : ℕ) (block : Bytes) → lacked_by self.sizes read ≡ Some (sender, block) → TellsReaction self memory (asks_for sender block) e
+  pub tells : (sender : ℕ) (block : Bytes) → lacked_by self.sizes read ≡ Some (sender, block)
+      → TellsReaction self memory (asks_for sender block) e
 
 -- the refusal for want of a block
 abbrev pub is_lack : Fault → Bool

@@ -11,7 +11,8 @@ use Rattle.client_accept.specs.Sessions.{Held, heard_of}
 use Rattle.world_schedule.specs.Turns.{hears}
 
 -- bytes came to a client, and this is its answer
-pub record HearsAs (old : Held) (bytes : Bytes) (new : Held) (result : Result (Option Receipt) Fault) : Type 0 where
+pub record HearsAs (old : Held) (bytes : Bytes) (new : Held) (result : Result (Option Receipt) Fault) :
+    Type 0 where
   pub keys : new.keys ≡ old.keys
   pub read : Option Frame
   pub is_read : IsReadAs old.keys.sizes bytes read

@@ -39,7 +39,8 @@ histories_of w = map (told_of w) (filter (is_correct w) (range_with_len 0 (repli
 
 -- what those of these replicas executed that are correct
 abbrev pub told_by : Setting → List steps.Held → List Told
-told_by s held = map (λ h. record { replica = h.keys.party; history = held_history h.replica }) (filter (λ h. not (is_faulty_in s h.keys.party)) held)
+told_by s held = map (λ h. record { replica = h.keys.party; history = held_history h.replica })
+    (filter (λ h. not (is_faulty_in s h.keys.party)) held)
 
 -- an outcome tells of the world at the end of a run: the record, the answers, the receipts and the histories
 pub record TellsOf (w : World) (o : Outcome) : Type 0 where

@@ -1,7 +1,8 @@
 -- The events of a schedule, as the definitions have them.
 use Rattle.ids.specs.declared.fault.Fault.{Fault}
 use Rattle.ids.specs.declared.fault.Fault.TheVariants as fault
-use Rattle.std.specs.Prelude.{ℕ, ◌≡◌, Bool, true, not, nat_lt, if◌then◌else◌, List, [], ◌∷◌, ◌++◌, Option, Some, None, Ok, ⊤}
+use Rattle.std.specs.Prelude.{ℕ, ◌≡◌, Bool, true, not, nat_lt, if◌then◌else◌, List, [], ◌∷◌, ◌++◌, Option}
+use Rattle.std.specs.Prelude.{Some, None, Ok, ⊤}
 use Rattle.ids.specs.Sizes.{Sizes, client_party}
 use Rattle.definitions.specs.Frames.{Frame}
 use Rattle.definitions.specs.Canonical.{is_canonical}
@@ -57,7 +58,8 @@ why_refused sizes sent event =
 
 -- it is this event, its bytes read as the frame that they spell
 abbrev pub IsEventOf : Sizes → Event → worlds.Event → Type 0
-IsEventOf sizes event e = (read : Option Frame) × IsReadIn sizes (event_of read event) × (e ≡ event_of read event)
+IsEventOf sizes event e =
+    (read : Option Frame) × IsReadIn sizes (event_of read event) × (e ≡ event_of read event)
 
 -- the happenings are these events in their order, each with some choice of memory
 abbrev pub AreThese : Sizes → List Event → List Happening → Type 0

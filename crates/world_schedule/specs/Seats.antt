@@ -30,8 +30,10 @@ pub record HasKeysOf (s : Setting) (party : ℕ) (keys : Keys) : Type 0 where
 pub record AreSeated (s : Setting) (held : List steps.Held) (seats : List sessions.Held) : Type 0 where
   pub replica_count : length held ≡ replicas s.sizes
   pub session_count : length seats ≡ s.sizes.clients
-  pub replica_keys : (i : ℕ) (d : steps.Held) → i < replicas s.sizes → HasKeysOf s i (slice_index_or held i d).keys
-  pub session_keys : (c : ℕ) (d : sessions.Held) → c < s.sizes.clients → HasKeysOf s (client_party c) (slice_index_or seats c d).keys
+  pub replica_keys : (i : ℕ) (d : steps.Held) → i < replicas s.sizes
+      → HasKeysOf s i (slice_index_or held i d).keys
+  pub session_keys : (c : ℕ) (d : sessions.Held) → c < s.sizes.clients
+      → HasKeysOf s (client_party c) (slice_index_or seats c d).keys
 
 -- the world is of this setting
 pub record IsIn (s : Setting) (w : World) : Type 0 where
@@ -59,14 +61,18 @@ abbrev pub with_effect : World → events.Effect → World
 with_effect w f = record w { replica = f.replica; session = f.session }
 
 -- their states are those of the world
-pub record AreOf (s : Setting) (held : List steps.Held) (seats : List sessions.Held) (w : World) : Type 0 where
+pub record AreOf (s : Setting) (held : List steps.Held) (seats : List sessions.Held) (w : World) :
+    Type 0 where
   pub setting : IsIn s w
   pub seated : AreSeated s held seats
-  pub replicas_are : (i : ℕ) (d : steps.Held) → i < replicas s.sizes → (slice_index_or held i d).replica ≡ w.replica i
-  pub sessions_are : (c : ℕ) (d : sessions.Held) → c < s.sizes.clients → (slice_index_or seats c d).session ≡ w.session c
+  pub replicas_are : (i : ℕ) (d : steps.Held) → i < replicas s.sizes
+      → (slice_index_or held i d).replica ≡ w.replica i
+  pub sessions_are : (c : ℕ) (d : sessions.Held) → c < s.sizes.clients
+      → (slice_index_or seats c d).session ≡ w.session c
 
 -- bytes came to a party that isn't faulty
-pub record Brings (s : Setting) (w : World) (to : ℕ) (bytes : Bytes) (held : List steps.Held) (seats : List sessions.Held) (e : Effect) : Type 0 where
+pub record Brings (s : Setting) (w : World) (to : ℕ) (bytes : Bytes) (held : List steps.Held)
+    (seats : List sessions.Held) (e : Effect) : Type 0 where
   pub read : Option Frame
   pub is_read : IsReadAs s.sizes bytes read
   pub memory : Memory
@@ -74,26 +80,30 @@ pub record Brings (s : Setting) (w : World) (to : ℕ) (bytes : Bytes) (held : L
   pub tells : Tells (comes to memory read w) (client_at to) e
 
 -- a client that isn't faulty was handed a payload to submit
-pub record Hands (s : Setting) (w : World) (client : ℕ) (payload : Bytes) (held : List steps.Held) (seats : List sessions.Held) (e : Effect) : Type 0 where
+pub record Hands (s : Setting) (w : World) (client : ℕ) (payload : Bytes) (held : List steps.Held)
+    (seats : List sessions.Held) (e : Effect) : Type 0 where
   pub memory : Memory
   pub parties : AreOf s held seats (with_effect w (submits client memory payload w))
   pub tells : Tells (submits client memory payload w) (client_at (client_party client)) e
 
 -- a replica that isn't faulty took a timeout or a beat
-pub record Moves (s : Setting) (w : World) (input : Input) (i : ℕ) (held : List steps.Held) (seats : List sessions.Held) (e : Effect) : Type 0 where
+pub record Moves (s : Setting) (w : World) (input : Input) (i : ℕ) (held : List steps.Held)
+    (seats : List sessions.Held) (e : Effect) : Type 0 where
   pub memory : Memory
   pub parties : AreOf s held seats (with_effect w (events.steps i memory input w))
   pub tells : Tells (events.steps i memory input w) (client_at i) e
 
 -- an event came to a party that isn't faulty
-pub record Acts (s : Setting) (w : World) (event : Event) (held : List steps.Held) (seats : List sessions.Held) (e : Effect) : Type 0 where
+pub record Acts (s : Setting) (w : World) (event : Event) (held : List steps.Held)
+    (seats : List sessions.Held) (e : Effect) : Type 0 where
   pub happening : Happening
   pub is_event : IsEventOf s.sizes event happening.0
   pub parties : AreOf s held seats (with_effect w (acts w happening.0 happening.1))
   pub tells : Tells (acts w happening.0 happening.1) (client_number happening.0) e
 
 -- an event came to the party that it names
-pub record Does (s : Setting) (w : World) (event : Event) (held : List steps.Held) (seats : List sessions.Held) (e : Effect) : Type 0 where
+pub record Does (s : Setting) (w : World) (event : Event) (held : List steps.Held)
+    (seats : List sessions.Held) (e : Effect) : Type 0 where
   pub happening : Happening
   pub is_event : IsEventOf s.sizes event happening.0
   pub parties : AreOf s held seats (with_effect w (effect w happening))

@@ -1,7 +1,8 @@
 -- What a world is: its sizes, which parties are faulty, and the keys of all.
 use Rattle.ids.specs.declared.fault.Fault.{Fault}
 use Rattle.ids.specs.declared.fault.Fault.TheVariants as fault
-use Rattle.std.specs.Prelude.{ℕ, ◌≡◌, ◌+◌, ◌==◌, ◌≤◌, Bool, not, true, List, [], length, Option, Some, None, if◌then◌else◌, nat_lt, slice_index_or}
+use Rattle.std.specs.Prelude.{ℕ, ◌≡◌, ◌+◌, ◌==◌, ◌≤◌, Bool, not, true, List, [], length, Option, Some, None}
+use Rattle.std.specs.Prelude.{if◌then◌else◌, nat_lt, slice_index_or}
 use Rattle.std.specs.List.{list_any, list_all}
 use Rattle.ids.specs.Sizes.{Sizes, AreSizes, replicas}
 use Rattle.definitions.specs.Lists.{count_below}
@@ -48,11 +49,13 @@ pub record AreKeyrings (sizes : Sizes) (keyrings : List Keys) : Type 0 where
   pub count : length keyrings ≡ replicas sizes + sizes.clients
   pub each : (p : ℕ) → is_party_of sizes p ≡ true → IsKeyringOf sizes p (keys_at sizes keyrings p)
 
--- why there is no world with these faulty parties: one isn't a party, or more replicas are faulty than are tolerated
+-- why there is no world with these faulty parties: one isn't a party, or more replicas are faulty than are
+-- tolerated
 abbrev pub why_not : Sizes → List ℕ → Option Fault
 why_not sizes faulty =
     if not (list_all (λ party. is_party_of sizes party) faulty) then Some fault.NoSuchParty
-    else (if nat_lt sizes.faults (count_below (replicas sizes) (is_named faulty)) then Some fault.TooManyFaulty else None)
+    else (if nat_lt sizes.faults (count_below (replicas sizes) (is_named faulty)) then Some
+    fault.TooManyFaulty else None)
 
 -- what holds of each world, as a setting: at most f replicas are faulty, and each party has its own keys
 pub record Holds (s : Setting) : Type 0 where

@@ -12,7 +12,8 @@ use Rattle.definitions.specs.Replicas.{Memory, Replica, Reaction, fails, step}
 use Rattle.definitions.specs.Admission.{Checked, passes, rejected, check}
 use Rattle.definitions.specs.Sessions.{Client, Session, Heard, not_counted, submission, on_reply}
 use Rattle.definitions.specs.Events as events
-use Rattle.definitions.specs.Events.{out_of, answer_of, submitted_out, submitted_answer, accepted_of, heard_answer}
+use Rattle.definitions.specs.Events.{out_of, answer_of, submitted_out, submitted_answer, accepted_of}
+use Rattle.definitions.specs.Events.{heard_answer}
 use Rattle.signed_frames.specs.Clients.{client_of}
 use Rattle.replica.specs.Steps.{shown}
 use Rattle.replica.specs.Outs.{sent_of}
@@ -69,7 +70,8 @@ pub record Submits (old : Held) (payload : Bytes) (new : Held) (e : Effect) : Ty
   pub keys : new.keys ≡ old.keys
   pub memory : Memory
   pub state : new.session ≡ (submission (client_of old.keys) memory payload old.session).0
-  pub out : map sent_of e.out.items ≡ shown (submitted_out (submission (client_of old.keys) memory payload old.session).1)
+  pub out : map sent_of e.out.items
+      ≡ shown (submitted_out (submission (client_of old.keys) memory payload old.session).1)
   pub accepted : e.accepted ≡ None
   pub answer : e.answer ≡ submitted_answer (submission (client_of old.keys) memory payload old.session).1
 
@@ -81,5 +83,7 @@ pub record Hears (old : Held) (bytes : Bytes) (new : Held) (e : Effect) : Type 0
   pub memory : Memory
   pub state : new.session ≡ (hears (client_of old.keys) memory read old.session).0
   pub out : e.out.items ≡ []
-  pub accepted : option_to_list e.accepted ≡ map (λ r. (client_at old.keys.party, r)) (accepted_of (hears (client_of old.keys) memory read old.session).1)
+  pub accepted : option_to_list e.accepted
+      ≡ map (λ r. (client_at old.keys.party, r))
+      (accepted_of (hears (client_of old.keys) memory read old.session).1)
   pub answer : e.answer ≡ heard_answer (hears (client_of old.keys) memory read old.session).1

@@ -22,7 +22,8 @@ pub(crate) struct Journal {
 
 /// Appends a frame that was sent in an event.
 fn note_frame(frames: &mut Vec<SentFrame>, event: u64, sending: Sending) -> Result<(), Fault>
-    ensures noted { OnOk result (map shown_frame frames.new.items ≡ map shown_frame frames.old.items ++ (event, sent_of sending) ∷ []) }
+    ensures noted { OnOk result (map shown_frame frames.new.items
+        ≡ map shown_frame frames.old.items ++ (event, sent_of sending) ∷ []) }
     ensures memory { OnErr result (result ≡ Err Fault.Memory) }
 {
     let Sending { to, frame } = sending;
@@ -32,7 +33,8 @@ fn note_frame(frames: &mut Vec<SentFrame>, event: u64, sending: Sending) -> Resu
 
 /// Appends what was sent in an event.
 fn note_frames(frames: &mut Vec<SentFrame>, event: u64, out: Vec<Sending>) -> Result<(), Fault>
-    ensures noted { OnOk result (map shown_frame frames.new.items ≡ map shown_frame frames.old.items ++ map (λ o. (event, sent_of o)) out.items) }
+    ensures noted { OnOk result (map shown_frame frames.new.items
+        ≡ map shown_frame frames.old.items ++ map (λ o. (event, sent_of o)) out.items) }
     ensures memory { OnErr result (result ≡ Err Fault.Memory) }
 {
     for sending in out {
@@ -77,11 +79,16 @@ impl Journal {
 
     /// Appends what the next event comes to.
     pub(crate) fn note(&mut self, effect: Effect) -> Result<(), Fault>
-        ensures frames { OnOk result (map shown_frame self.new.frames.items ≡ map shown_frame self.old.frames.items
+        ensures frames { OnOk result
+            (map shown_frame self.new.frames.items ≡ map shown_frame self.old.frames.items
             ++ map (λ o. (suc (length self.old.answers.items), sent_of o)) effect.out.items) }
-        ensures receipts { OnOk result (map accepted_by self.new.receipts.items ≡ map accepted_by self.old.receipts.items
-            ++ map (λ a. record { event = suc (length self.old.answers.items); client = a.0; receipt = a.1 }) (option_to_list effect.accepted)) }
-        ensures answers { OnOk result (self.new.answers.items ≡ self.old.answers.items ++ effect.answer ∷ []) }
+        ensures receipts { OnOk result
+            (map accepted_by self.new.receipts.items ≡ map accepted_by self.old.receipts.items
+            ++ map
+            (λ a. record { event = suc (length self.old.answers.items); client = a.0; receipt = a.1 })
+            (option_to_list effect.accepted)) }
+        ensures answers { OnOk result
+            (self.new.answers.items ≡ self.old.answers.items ++ effect.answer ∷ []) }
         ensures memory { OnErr result (result ≡ Err Fault.Memory) }
     {
         let event = self.answers.len() as u64 + 1;

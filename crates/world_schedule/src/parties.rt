@@ -1,6 +1,7 @@
 //! The parties of a run.
 
-ghost use Rattle.std.specs.Prelude.{◌≡◌, ◌<◌, ◌≤◌, ℕ, [], ◌∷◌, ◌++◌, None, length, map, IsTrue, IfOk, OnOk, OnErr};
+ghost use Rattle.std.specs.Prelude.{◌≡◌, ◌<◌, ◌≤◌, ℕ, [], ◌∷◌, ◌++◌, None, length, map, IsTrue, IfOk, OnOk};
+ghost use Rattle.std.specs.Prelude.{OnErr};
 ghost use Rattle.ids.specs.Sizes.{replicas};
 ghost use Rattle.definitions.specs.Keyrings.{is_party_of, client_at};
 ghost use Rattle.definitions.specs.Canonical.{is_canonical};
@@ -10,7 +11,8 @@ ghost use Rattle.linear_law.specs.Law.{SentAreFrames};
 ghost use Rattle.world_schedule.specs.Settings.{Setting, start_of};
 ghost use Rattle.world_schedule.specs.Schedules.{why_refused};
 ghost use Rattle.world_schedule.specs.Outcomes.{shown_frame, shown_sent, told_by, histories_of};
-ghost use Rattle.world_schedule.specs.Seats.{EachBelow, IsNewReplica, IsNewSession, AreSeated, AreOf, Brings, Hands, Moves, Acts};
+ghost use Rattle.world_schedule.specs.Seats.{EachBelow, IsNewReplica, IsNewSession, AreSeated, AreOf};
+ghost use Rattle.world_schedule.specs.Seats.{Brings, Hands, Moves, Acts};
 
 use crate::effect::Effect;
 use crate::event::Event;
@@ -51,7 +53,8 @@ fn new_session(world: &World, client: ClientId) -> Result<Session, Fault>
 /// Replicas that have made no step.
 #[tactic(auto, using(crate::proofs::Seated::one_more, crate::proofs::Seated::none_below))]
 fn new_replicas(world: &World) -> Result<Vec<Replica>, Fault>
-    ensures made { IfOk result (λ rs. EachBelow (IsNewReplica world.now) (replicas world.now.sizes) rs.items) }
+    ensures made { IfOk result
+        (λ rs. EachBelow (IsNewReplica world.now) (replicas world.now.sizes) rs.items) }
     ensures memory { OnErr result (result ≡ Err Fault.Memory) }
 {
     let mut replicas = Vec::new(world.alloc());
@@ -78,7 +81,8 @@ fn new_sessions(world: &World) -> Result<Vec<Session>, Fault>
 
 /// Keeps the history of a correct replica.
 fn keep_correct(world: &World, histories: &mut Vec<History>, replica: Replica) -> Result<(), Fault>
-    ensures kept { OnOk result (histories.new.items ≡ histories.old.items ++ told_by world.now (replica ∷ [])) }
+    ensures kept { OnOk result
+        (histories.new.items ≡ histories.old.items ++ told_by world.now (replica ∷ [])) }
     ensures memory { OnErr result (result ≡ Err Fault.Memory) }
 {
     if world.is_faulty(replica.number().into()) {
@@ -104,7 +108,8 @@ fn correct_histories(world: &World, replicas: Vec<Replica>) -> Result<Vec<Histor
 impl Parties {
     /// All parties at the start.
     pub(crate) fn new(world: &World) -> Result<Parties, Fault>
-        ensures made { IfOk result (λ p. AreOf world.now p.replicas.items p.sessions.items (start_of world.now)) }
+        ensures made { IfOk result
+            (λ p. AreOf world.now p.replicas.items p.sessions.items (start_of world.now)) }
         ensures memory { OnErr result (result ≡ Err Fault.Memory) }
     {
         let replicas = new_replicas(world)?;
@@ -122,7 +127,8 @@ impl Parties {
         requires seated { AreSeated world.now self.old.replicas.items self.old.sessions.items }
         requires party { IsTrue (is_party_of world.now.sizes to) }
         requires replica { to < replicas world.now.sizes }
-        ensures brought { IfOk result (λ e. (w : worlds.World) → AreOf world.now self.old.replicas.items self.old.sessions.items w
+        ensures brought { IfOk result
+            (λ e. (w : worlds.World) → AreOf world.now self.old.replicas.items self.old.sessions.items w
             → Brings world.now w to bytes.now self.new.replicas.items self.new.sessions.items e) }
         ensures memory { OnErr result (result ≡ Err Fault.Memory) }
     {
@@ -148,7 +154,8 @@ impl Parties {
     fn bring(&mut self, world: &World, to: PartyId, bytes: &[u8]) -> Result<Effect, Fault>
         requires seated { AreSeated world.now self.old.replicas.items self.old.sessions.items }
         requires party { IsTrue (is_party_of world.now.sizes to) }
-        ensures brought { IfOk result (λ e. (w : worlds.World) → AreOf world.now self.old.replicas.items self.old.sessions.items w
+        ensures brought { IfOk result
+            (λ e. (w : worlds.World) → AreOf world.now self.old.replicas.items self.old.sessions.items w
             → Brings world.now w to bytes.now self.new.replicas.items self.new.sessions.items e) }
         ensures memory { OnErr result (result ≡ Err Fault.Memory) }
     {
@@ -165,7 +172,8 @@ impl Parties {
         requires seated { AreSeated world.now self.old.replicas.items self.old.sessions.items }
         requires client { client < world.now.sizes.clients }
         requires request { IsTrue (is_canonical payload.now) }
-        ensures submitted { IfOk result (λ e. (w : worlds.World) → AreOf world.now self.old.replicas.items self.old.sessions.items w
+        ensures submitted { IfOk result
+            (λ e. (w : worlds.World) → AreOf world.now self.old.replicas.items self.old.sessions.items w
             → Hands world.now w client payload.now self.new.replicas.items self.new.sessions.items e) }
         ensures memory { OnErr result (result ≡ Err Fault.Memory) }
     {
@@ -204,7 +212,8 @@ impl Parties {
     ) -> Result<Effect, Fault>
         requires seated { AreSeated world.now self.old.replicas.items self.old.sessions.items }
         requires allowed { why_refused world.now.sizes (length sent.now) event.now ≡ None }
-        ensures acted { IfOk result (λ e. (w : worlds.World) → AreOf world.now self.old.replicas.items self.old.sessions.items w
+        ensures acted { IfOk result
+            (λ e. (w : worlds.World) → AreOf world.now self.old.replicas.items self.old.sessions.items w
             → map shown_frame sent.now ≡ map shown_sent w.sent → SentAreFrames w
             → Acts world.now w event.now self.new.replicas.items self.new.sessions.items e) }
         ensures memory { OnErr result (result ≡ Err Fault.Memory) }
@@ -221,7 +230,8 @@ impl Parties {
 
     /// What the correct replicas executed, by their numbers.
     pub(crate) fn into_histories(self, world: &World) -> Result<Vec<History>, Fault>
-        ensures told { IfOk result (λ hs. (w : worlds.World) → AreOf world.now self.replicas.items self.sessions.items w → hs.items ≡ histories_of w) }
+        ensures told { IfOk result (λ hs. (w : worlds.World)
+            → AreOf world.now self.replicas.items self.sessions.items w → hs.items ≡ histories_of w) }
         ensures memory { OnErr result (result ≡ Err Fault.Memory) }
     {
         let Parties {

@@ -23,7 +23,8 @@ fn take(replica: &mut Replica, keyring: &Keyring, bytes: &[u8]) -> Result<Out, F
     requires same { SameReplica replica.old.keys keyring.now }
     requires number { keyring.now.party < replicas keyring.now.sizes }
     ensures keys { replica.new.keys ≡ replica.old.keys }
-    ensures taken { Answers (identity_of keyring.now) bytes.now replica.old.replica replica.new.replica result }
+    ensures taken { Answers (identity_of keyring.now) bytes.now replica.old.replica replica.new.replica
+        result }
 {
     match admit(keyring, &keyring.config(), bytes) {
         Ok(input) => replica.step(input),
@@ -31,8 +32,9 @@ fn take(replica: &mut Replica, keyring: &Keyring, bytes: &[u8]) -> Result<Out, F
     }
 }
 
-/// The effect of a refused frame whose block's branch isn't whole: the question for what is missing, to the frame's
-/// sender. It is left out where that is the replica itself, or where memory for it is refused.
+/// The effect of a refused frame whose block's branch isn't whole: the question for what is
+/// missing, to the frame's sender. It is left out where that is the replica itself, or where memory
+/// for it is refused.
 fn ask(alloc: Global, replica: &Replica, bytes: &[u8]) -> Result<Effect, Fault>
     ensures asked { IfOk result (λ e. Asks (identity_of replica.now.keys) bytes.now e) }
     ensures memory { OnErr result (result ≡ Err Fault.Memory) }
@@ -78,7 +80,8 @@ pub(crate) fn receive(
     requires same { SameReplica replica.old.keys keyring.now }
     requires number { keyring.now.party < replicas keyring.now.sizes }
     ensures keys { replica.new.keys ≡ replica.old.keys }
-    ensures taken { IfOk result (λ e. Takes (identity_of keyring.now) bytes.now replica.old.replica replica.new.replica e) }
+    ensures taken { IfOk result
+        (λ e. Takes (identity_of keyring.now) bytes.now replica.old.replica replica.new.replica e) }
     ensures memory { OnErr result (result ≡ Err Fault.Memory) }
 {
     keyring.config().holds();
@@ -91,7 +94,8 @@ pub(crate) fn receive(
 /// Tells a replica that its view has lasted too long.
 pub(crate) fn timeout(alloc: Global, replica: &mut Replica) -> Effect
     ensures keys { replica.new.keys ≡ replica.old.keys }
-    ensures ticked { Ticks (identity_of replica.old.keys) timeout_in replica.old.replica replica.new.replica result }
+    ensures ticked { Ticks (identity_of replica.old.keys) timeout_in replica.old.replica replica.new.replica
+        result }
 {
     match replica.step(Input::Timeout) {
         Ok(out) => Effect::sends(out),
@@ -102,7 +106,8 @@ pub(crate) fn timeout(alloc: Global, replica: &mut Replica) -> Effect
 /// Tells a replica to propose, if it leads.
 pub(crate) fn beat(alloc: Global, replica: &mut Replica) -> Effect
     ensures keys { replica.new.keys ≡ replica.old.keys }
-    ensures ticked { Ticks (identity_of replica.old.keys) beat_in replica.old.replica replica.new.replica result }
+    ensures ticked { Ticks (identity_of replica.old.keys) beat_in replica.old.replica replica.new.replica
+        result }
 {
     match replica.step(Input::Beat) {
         Ok(out) => Effect::sends(out),

@@ -1,13 +1,15 @@
 //! The run of a schedule.
 
-ghost use Rattle.std.specs.Prelude.{◌≡◌, ◌⊎◌, ℕ, Option, None, length, map, IsTrue, IfOk, IfErr, OnErr, MatchResult};
+ghost use Rattle.std.specs.Prelude.{◌≡◌, ◌⊎◌, ℕ, Option, None, length, map, IsTrue, IfOk, IfErr, OnErr};
+ghost use Rattle.std.specs.Prelude.{MatchResult};
 ghost use Rattle.definitions.specs.Frames.{Frame};
 ghost use Rattle.definitions.specs.Premises.{IsReadIn};
 ghost use Rattle.definitions.specs.Worlds as worlds;
 ghost use Rattle.linear_law.specs.Law.{SentAreFrames};
 ghost use Rattle.definitions.specs.Runs.{refusal};
 ghost use Rattle.world_schedule.specs.Settings.{start_of};
-ghost use Rattle.world_schedule.specs.Schedules.{has_party, has_frame, has_request, why_refused, event_of, IsRefusedFor};
+ghost use Rattle.world_schedule.specs.Schedules.{has_party, has_frame, has_request, why_refused, event_of};
+ghost use Rattle.world_schedule.specs.Schedules.{IsRefusedFor};
 ghost use Rattle.world_schedule.specs.Outcomes.{shown_frame, shown_sent, TellsOf};
 ghost use Rattle.world_schedule.specs.Seats.{AreSeated, AreOf, Does};
 ghost use Rattle.world_schedule.specs.Progress.{IsAt, GoesOn, HasRun};
@@ -99,7 +101,8 @@ fn do_event(
 ) -> Result<Effect, Fault>
     requires seated { AreSeated world.now parties.old.replicas.items parties.old.sessions.items }
     requires allowed { why_refused world.now.sizes (length sent.now) event.now ≡ None }
-    ensures done { IfOk result (λ e. (w : worlds.World) → AreOf world.now parties.old.replicas.items parties.old.sessions.items w
+    ensures done { IfOk result
+        (λ e. (w : worlds.World) → AreOf world.now parties.old.replicas.items parties.old.sessions.items w
         → map shown_frame sent.now ≡ map shown_sent w.sent → SentAreFrames w
         → Does world.now w event.now parties.new.replicas.items parties.new.sessions.items e) }
     ensures memory { OnErr result (result ≡ Err Fault.Memory) }
@@ -124,7 +127,8 @@ impl State {
 
     /// Whether an event may happen.
     fn allow(&self, world: &World, event: &Event) -> Result<(), Fault>
-        ensures { MatchResult result (λ _. why_refused world.now.sizes (length self.now.journal.frames.items) event.now ≡ None)
+        ensures { MatchResult result
+            (λ _. why_refused world.now.sizes (length self.now.journal.frames.items) event.now ≡ None)
             (λ n. why_refused world.now.sizes (length self.now.journal.frames.items) event.now ≡ Some n) }
     {
         match refusal(&world.config(), self.journal.frames.as_slice(), event) {
@@ -137,7 +141,8 @@ impl State {
     fn happen(&mut self, world: &World, event: &Event) -> Result<(), Fault>
         requires { AreSeated world.now self.old.parties.replicas.items self.old.parties.sessions.items }
         ensures { (w : worlds.World) → IsAt world.now self.old w → SentAreFrames w
-            → MatchResult result (λ _. GoesOn world.now w event.now self.new) (λ n. (n ≡ Fault.Memory) ⊎ (refusal w (event_of None event.now) ≡ Some n)) }
+            → MatchResult result (λ _. GoesOn world.now w event.now self.new)
+            (λ n. (n ≡ Fault.Memory) ⊎ (refusal w (event_of None event.now) ≡ Some n)) }
     {
         if let Err(fault) = self.allow(world, event) {
             return Err(fault);
@@ -162,10 +167,11 @@ impl State {
 
 /// Runs a schedule in a world whose parties have done nothing yet.
 ///
-/// The first event that names no party is refused with `NoSuchParty`, one that names no frame of the record with
-/// `NoSuchFrame`, a submission whose payload isn't the canonical text of a request with `NotARequest`, tested in this
-/// order, of events at faulty parties too, which else do nothing. What a party refuses is the event's answer, and the
-/// run goes on. `Memory` comes where the run's own memory is refused; where a party's is, that is the event's answer.
+/// The first event that names no party is refused with `NoSuchParty`, one that names no frame of
+/// the record with `NoSuchFrame`, a submission whose payload isn't the canonical text of a request
+/// with `NotARequest`, tested in this order, of events at faulty parties too, which else do
+/// nothing. What a party refuses is the event's answer, and the run goes on. `Memory` comes where
+/// the run's own memory is refused; where a party's is, that is the event's answer.
 pub fn run(world: &World, events: &[Event]) -> Result<Outcome, Fault>
     ensures ran { IfOk result (IsRunOf world.now events.now) }
     ensures refused { IfErr result (λ n. (n ≡ Fault.Memory) ⊎ IsRefusedFor world.now events.now n) }

@@ -6,15 +6,16 @@ ghost use Rattle.ids.specs.Sizes.{replicas};
 ghost use Rattle.definitions.specs.Lists.{count_below};
 ghost use Rattle.definitions.specs.Keyrings.{is_party_of, keyring_of};
 ghost use Rattle.world_schedule.specs.Seats.{HasKeysOf};
-ghost use Rattle.world_schedule.specs.Settings.{AreKeyrings, Holds, IsKeyringOf, is_faulty_in, is_named, why_not};
+ghost use Rattle.world_schedule.specs.Settings.{AreKeyrings, Holds, IsKeyringOf, is_faulty_in, is_named};
+ghost use Rattle.world_schedule.specs.Settings.{why_not};
 
 use authenticators::Keyring;
 use ids::{Config, Fault, PartyId};
 use std::alloc::Global;
 use std::marker::Model;
 
-/// A world of replicas and clients, some of which may be faulty: whatever a schedule has them send is brought in by the
-/// schedule itself.
+/// A world of replicas and clients, some of which may be faulty: whatever a schedule has them send
+/// is brought in by the schedule itself.
 #[derive(Drop)]
 pub struct World {
     alloc: Global,
@@ -30,7 +31,8 @@ impl Model for World {
 
     ghost view = { λ w. record { sizes = w.config; faulty = w.faulty.items; keyrings = w.keyrings.items } };
 
-    ghost invariant = { λ w. IsSetting (record { sizes = w.config; faulty = w.faulty.items; keyrings = w.keyrings.items }) };
+    ghost invariant = { λ w. IsSetting
+        (record { sizes = w.config; faulty = w.faulty.items; keyrings = w.keyrings.items }) };
 }
 
 /// Whether there is such a party.
@@ -72,7 +74,8 @@ fn are_parties(config: &Config, parties: &[PartyId]) -> bool
 
 /// Why there is no world with these faulty parties.
 fn why_not(config: &Config, faulty: &[PartyId]) -> Result<(), Fault>
-    ensures { MatchResult result (λ _. why_not config.now faulty.now ≡ None) (λ n. why_not config.now faulty.now ≡ Some n) }
+    ensures { MatchResult result (λ _. why_not config.now faulty.now ≡ None)
+        (λ n. why_not config.now faulty.now ≡ Some n) }
 {
     if !are_parties(config, faulty) {
         return Err(Fault::NoSuchParty);
@@ -86,8 +89,8 @@ fn why_not(config: &Config, faulty: &[PartyId]) -> Result<(), Fault>
 impl World {
     /// A world of these sizes. The keyrings are those of the replicas in order, and then of the clients.
     ///
-    /// `NoSuchParty` comes where a faulty party isn't one, and then `TooManyFaulty` where more replicas are named than
-    /// are tolerated; one that is named twice counts once.
+    /// `NoSuchParty` comes where a faulty party isn't one, and then `TooManyFaulty` where more
+    /// replicas are named than are tolerated; one that is named twice counts once.
     pub fn new(
         alloc: Global,
         config: Config,
@@ -95,8 +98,10 @@ impl World {
         keyrings: Vec<Keyring>,
     ) -> Result<World, Fault>
         requires { AreKeyrings config keyrings.items }
-        ensures made { IfOk result (λ w. w ≡ record { sizes = config; faulty = faulty.items; keyrings = keyrings.items }) }
-        ensures refused { MatchResult result (λ _. why_not config faulty.items ≡ None) (λ n. why_not config faulty.items ≡ Some n) }
+        ensures made { IfOk result
+            (λ w. w ≡ record { sizes = config; faulty = faulty.items; keyrings = keyrings.items }) }
+        ensures refused { MatchResult result (λ _. why_not config faulty.items ≡ None)
+            (λ n. why_not config faulty.items ≡ Some n) }
     {
         why_not(&config, faulty.as_slice())?;
         Ok(World {
@@ -139,7 +144,8 @@ impl World {
         &self.keyrings[place]
     }
 
-    /// What holds of each world: at most as many replicas are faulty as are tolerated, and each party has its own keys.
+    /// What holds of each world: at most as many replicas are faulty as are tolerated, and each
+    /// party has its own keys.
     pub fn holds(&self)
         ensures { Holds self.now }
     {

@@ -10,7 +10,9 @@ use Rattle.certificates.proofs.certificate.counted.Given as goal
 
 abbrev pub invariant-loop-vote : goal.invariant-loop-vote
 invariant-loop-vote l = record {
-  so_far : l.voters ++ counted_among (identity_of l.keyring) (certificate_of l.certificate).digest (votes_left l.vote-iterator) ≡ counted (identity_of l.keyring) (certificate_of l.certificate);
+  so_far : l.voters
+      ++ counted_among (identity_of l.keyring) (certificate_of l.certificate).digest
+      (votes_left l.vote-iterator) ≡ counted (identity_of l.keyring) (certificate_of l.certificate);
   room : length l.voters + length (votes_left l.vote-iterator) ≤ MOST_REPLICAS;
   votes : AllByRecursion (IsVote l.keyring.sizes) (votes_left l.vote-iterator);
 }

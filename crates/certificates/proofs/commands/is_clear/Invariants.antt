@@ -8,6 +8,7 @@ use Rattle.certificates.proofs.commands.is_clear.Given as goal
 
 abbrev pub invariant-loop-command : goal.invariant-loop-command
 invariant-loop-command l = record {
-  so_far : list_all (command_verifies (identity_of l.keyring)) (commands_left l.command-iterator) ≡ is_clear_core (identity_of l.keyring) (core_of l.core);
+  so_far : list_all (command_verifies (identity_of l.keyring)) (commands_left l.command-iterator)
+      ≡ is_clear_core (identity_of l.keyring) (core_of l.core);
   commands : AllByRecursion (IsCommand l.keyring.sizes) (commands_left l.command-iterator);
 }

@@ -9,20 +9,28 @@ use Rattle.client_accept.proofs.tally.agreeing_of.Goals.{then-is, else-is}
 
 pub overflow_add-count : goal.overflow_add-count
 overflow_add-count c =
-    let few = agreeing-few c.args.answers.now (take c.loop-told.told-index c.args.counted.now) c.args.place c.args.text.now in
-    let len = length-take-le c.loop-told.told-index c.args.counted.now (omega (arith, c.loop-told-test.true)) in
+    let few = agreeing-few c.args.answers.now (take c.loop-told.told-index c.args.counted.now) c.args.place
+    c.args.text.now in
+    let len =
+    length-take-le c.loop-told.told-index c.args.counted.now (omega (arith, c.loop-told-test.true)) in
     omega (arith, few, len, c.loop-told.invariant, c.loop-told-test.true)
 
 pub bounds-answers-told : goal.bounds-answers-told
 bounds-answers-told c =
     subst (λ (k : Counted). k.answer < length c.args.answers.now) (sym c.told-item.is)
-    (among-at c.args.answers.now c.args.counted.now c.loop-told.told-index c.told-item.result c.requires c.loop-told-test.true)
+    (among-at c.args.answers.now c.args.counted.now c.loop-told.told-index c.told-item.result c.requires
+    c.loop-told-test.true)
 
 pub loop-told-preserved : goal.loop-told-preserved
 loop-told-preserved c =
-    let step : c.if-is.count ≡ c.loop-told.count + cond c.is.result 1 0 → c.if-is.count ≡ agreeing (tally_of c.args.answers.now (take (c.loop-told.told-index + 1) c.args.counted.now)) c.args.place c.args.text.now =
-    agreeing-step c.args.answers.now c.args.counted.now c.loop-told.told-index c.told-item.result c.index-answers-told.result c.args.place c.args.text.now c.loop-told.count c.if-is.count c.is.result
-    c.requires c.loop-told-test.true c.told-item.is c.index-answers-told.is c.is.ensures c.loop-told.invariant in
+    let step : c.if-is.count ≡ c.loop-told.count + cond c.is.result 1 0
+    → c.if-is.count
+    ≡ agreeing (tally_of c.args.answers.now (take (c.loop-told.told-index + 1) c.args.counted.now))
+    c.args.place c.args.text.now =
+    agreeing-step c.args.answers.now c.args.counted.now c.loop-told.told-index c.told-item.result
+    c.index-answers-told.result c.args.place c.args.text.now c.loop-told.count c.if-is.count c.is.result
+    c.requires c.loop-told-test.true c.told-item.is c.index-answers-told.is c.is.ensures
+    c.loop-told.invariant in
     elim c.if-is.branch [
       | then-is w ↦ step (omega (arith, w.count-is, ap {B = ℕ} (λ (t : Bool). cond t 1 0) w.if-is.true))
       | else-is w ↦ step (omega (arith, w.count-is, ap {B = ℕ} (λ (t : Bool). cond t 1 0) w.if-is.false))
@@ -31,4 +39,5 @@ loop-told-preserved c =
 pub returns : goal.returns
 returns c =
     c.loop-told.invariant
-    ∙ ap (λ (cs : List Counted). agreeing (tally_of c.args.answers.now cs) c.args.place c.args.text.now) (take_all c.loop-told.told-index c.args.counted.now c.loop-told-test.false)
+    ∙ ap (λ (cs : List Counted). agreeing (tally_of c.args.answers.now cs) c.args.place c.args.text.now)
+    (take_all c.loop-told.told-index c.args.counted.now c.loop-told-test.false)

@@ -6,8 +6,11 @@ use Rattle.connection.proofs.serving.serve_pieces.Given as goal
 
 abbrev pub invariant-loop-reads : goal.invariant-loop-reads
 invariant-loop-reads g l =
-    (read : Bytes) × Consumes (g.R.Read.remaining l.fn.reader.device) (g.R.Read.remaining l.reader.device) read × (l.reads ≤ length read)
-    × ServesFront g.S.Service.answers (state g.W.Write.contents l.fn.service l.fn.writer) (state g.W.Write.contents l.service l.writer) read l.feed
+    (read : Bytes)
+    × Consumes (g.R.Read.remaining l.fn.reader.device) (g.R.Read.remaining l.reader.device) read
+    × (l.reads ≤ length read)
+    × ServesFront g.S.Service.answers (state g.W.Write.contents l.fn.service l.fn.writer)
+    (state g.W.Write.contents l.service l.writer) read l.feed
     × (l.reader.failures ≡ l.fn.reader.failures)
 
 abbrev pub decreases-loop-reads : goal.decreases-loop-reads

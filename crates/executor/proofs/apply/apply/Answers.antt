@@ -27,5 +27,16 @@ returns-in_err-append-clause-unchanged c =
     let room = c.in_ok-kept.ensures.exact in
     let empty = c.in_ok-kept.ensures.len in
     let long : 22 < length (reply_text (apply_payload old.most old.cache c.args.payload.now).1) =
-    omega (arith, grown, text, room, empty, ap length c.as_slice.ensures.value, ap length items, ap length none, length-append c.as_slice.result.now [], length-append c.in_ok-told.told.items (reply_text (reply_of c.in_ok-reply.reply))) in
+    omega (
+      arith,
+      grown,
+      text,
+      room,
+      empty,
+      ap length c.as_slice.ensures.value,
+      ap length items,
+      ap length none,
+      length-append c.as_slice.result.now [],
+      length-append c.in_ok-told.told.items (reply_text (reply_of c.in_ok-reply.reply)),
+    ) in
     on_err _ (left-same old _ c.args.payload.now c.in_ok-reply.ensures.left long)

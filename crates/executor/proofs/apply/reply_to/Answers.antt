@@ -24,7 +24,8 @@ returns-in-Some-clause-left c =
 pub returns-in-Some-clause-told : goal.returns-in-Some-clause-told
 returns-in-Some-clause-told c =
     let old = c.args.cache.now in
-    subst (λ (o : Outcome). IfOk c.apply.result (λ r. reply_of r ≡ o.1)) (sym (payload-asks old.most old.cache _ _ (asks c))) c.apply.ensures.told
+    subst (λ (o : Outcome). IfOk c.apply.result (λ r. reply_of r ≡ o.1))
+    (sym (payload-asks old.most old.cache _ _ (asks c))) c.apply.ensures.told
 
 pub returns-in-None-clause-left : goal.returns-in-None-clause-left
 returns-in-None-clause-left c =

@@ -3,4 +3,6 @@ use Rattle.fabric.proofs.links.replica_links.Given as goal
 
 -- both have as many as were made, and room for all
 abbrev pub invariant-loop : goal.invariant-loop
-invariant-loop l = (vec_len l.links ≡ l.counter) × (vec_len l.ends ≡ l.counter) × (l.count ≤ vec_capacity l.links) × (l.count ≤ vec_capacity l.ends)
+invariant-loop l =
+    (vec_len l.links ≡ l.counter) × (vec_len l.ends ≡ l.counter) × (l.count ≤ vec_capacity l.links)
+    × (l.count ≤ vec_capacity l.ends)

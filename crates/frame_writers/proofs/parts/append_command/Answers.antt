@@ -11,4 +11,6 @@ returns c =
     let seq : c.to_be_bytes-2.result ≡ to_be_bytes w64 c.args.seq = cc in
     let len : c.to_be_bytes-3.result ≡ to_be_bytes w16 (length c.args.payload.now) = cc in
     subst (λ (t : Bytes). IsAppended c.args.out.now c.append.new.out t c.append.result)
-    (number_first _ _ client (number_first _ _ seq (number_first _ _ len (parts_last c.args.payload.now c.args.vector.now)))) c.append.ensures
+    (number_first _ _ client
+    (number_first _ _ seq (number_first _ _ len (parts_last c.args.payload.now c.args.vector.now))))
+    c.append.ensures

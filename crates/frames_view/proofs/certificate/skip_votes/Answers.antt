@@ -14,4 +14,6 @@ loop-preserved c =
     let same : c.from-voter.result ≡ one.vote.voter = c.from-voter.ensures in
     let high : c.loop.least ≤ one.vote.voter = omega (arith, c.if-voter-least.false, same) in
     ap (λ (k : ℕ). behind_rising rank read (k + 1) (c.args.count - (c.loop.counter + 1)) one.after.now) same
-    ∙ rising_goes_on read c.args.count c.loop.counter c.loop.rest.now (behind_rising rank read 0 c.args.count c.args.bytes.now) rank c.loop.least (vote_of one.vote) one.after.now c.loop-test.true (sym one.ensures.taken) high c.loop.invariant
+    ∙ rising_goes_on read c.args.count c.loop.counter c.loop.rest.now
+    (behind_rising rank read 0 c.args.count c.args.bytes.now) rank c.loop.least (vote_of one.vote)
+    one.after.now c.loop-test.true (sym one.ensures.taken) high c.loop.invariant

@@ -19,9 +19,13 @@ overflow_sub-bytes c =
     let few : replicas sizes < 256 = omega (arith, c.n.ensures.count, c.n.type_inv) in
     let none : sizes.clients < 256 = omega arith in
     let rank : Vote → ℕ = λ v. v.voter in
-    let left : behind_rising rank (vote_in (replicas sizes)) 0 c.args.count c.args.bytes.now ≡ Some c.in_ok-rest.rest.now =
-    sym (c.in_ok-rest.ensures ∙ ap (λ (n : ℕ). behind_rising rank (vote_in n) 0 c.args.count c.args.bytes.now) c.n.ensures.count) in
-    rising_shorter (IsVote sizes) vote_bytes (vote_in (replicas sizes)) (IsExact-vote sizes (few, none)) rank c.args.count c.args.bytes.now c.in_ok-rest.rest.now
+    let left : behind_rising rank (vote_in (replicas sizes)) 0 c.args.count c.args.bytes.now
+    ≡ Some c.in_ok-rest.rest.now =
+    sym (c.in_ok-rest.ensures
+    ∙ ap (λ (n : ℕ). behind_rising rank (vote_in n) 0 c.args.count c.args.bytes.now) c.n.ensures.count)
+    in
+    rising_shorter (IsVote sizes) vote_bytes (vote_in (replicas sizes)) (IsExact-vote sizes (few, none))
+    rank c.args.count c.args.bytes.now c.in_ok-rest.rest.now
     (λ i. omega (arith, c.type_inv.bytes i)) left
 
 pub returns-clause-left : goal.returns-clause-left
@@ -31,10 +35,15 @@ returns-clause-left c =
     let few : replicas sizes < 256 = omega (arith, c.n.ensures.count, c.n.type_inv) in
     let none : sizes.clients < 256 = omega arith in
     let rank : Vote → ℕ = λ v. v.voter in
-    let left : behind_rising rank (vote_in (replicas sizes)) 0 c.args.count c.args.bytes.now ≡ Some c.in_ok-rest.rest.now =
-    sym (c.in_ok-rest.ensures ∙ ap (λ (n : ℕ). behind_rising rank (vote_in n) 0 c.args.count c.args.bytes.now) c.n.ensures.count) in
+    let left : behind_rising rank (vote_in (replicas sizes)) 0 c.args.count c.args.bytes.now
+    ≡ Some c.in_ok-rest.rest.now =
+    sym (c.in_ok-rest.ensures
+    ∙ ap (λ (n : ℕ). behind_rising rank (vote_in n) 0 c.args.count c.args.bytes.now) c.n.ensures.count)
+    in
     let some : List ℕ → Option (List ℕ) = λ rest. Some rest in
-    ap some (c.split.ensures.value.1 ∙ rising_left (IsVote sizes) vote_bytes (vote_in (replicas sizes)) (IsExact-vote sizes (few, none)) rank c.args.count c.args.bytes.now c.in_ok-rest.rest.now
+    ap some (c.split.ensures.value.1
+    ∙ rising_left (IsVote sizes) vote_bytes (vote_in (replicas sizes)) (IsExact-vote sizes (few, none))
+    rank c.args.count c.args.bytes.now c.in_ok-rest.rest.now
     (λ i. omega (arith, c.type_inv.bytes i)) left) ∙ sym left
 
 pub returns-clause-taken : goal.returns-clause-taken
@@ -44,8 +53,13 @@ returns-clause-taken c =
     let few : replicas sizes < 256 = omega (arith, c.n.ensures.count, c.n.type_inv) in
     let none : sizes.clients < 256 = omega arith in
     let rank : Vote → ℕ = λ v. v.voter in
-    let left : behind_rising rank (vote_in (replicas sizes)) 0 c.args.count c.args.bytes.now ≡ Some c.in_ok-rest.rest.now =
-    sym (c.in_ok-rest.ensures ∙ ap (λ (n : ℕ). behind_rising rank (vote_in n) 0 c.args.count c.args.bytes.now) c.n.ensures.count) in
-    subst (IsRead vote_bytes (vote_in (replicas sizes)) c.args.count c.args.bytes.now) (sym c.split.ensures.value.0)
-    (rising_read (IsVote sizes) vote_bytes (vote_in (replicas sizes)) (IsExact-vote sizes (few, none)) rank c.args.count c.args.bytes.now c.in_ok-rest.rest.now
+    let left : behind_rising rank (vote_in (replicas sizes)) 0 c.args.count c.args.bytes.now
+    ≡ Some c.in_ok-rest.rest.now =
+    sym (c.in_ok-rest.ensures
+    ∙ ap (λ (n : ℕ). behind_rising rank (vote_in n) 0 c.args.count c.args.bytes.now) c.n.ensures.count)
+    in
+    subst (IsRead vote_bytes (vote_in (replicas sizes)) c.args.count c.args.bytes.now)
+    (sym c.split.ensures.value.0)
+    (rising_read (IsVote sizes) vote_bytes (vote_in (replicas sizes)) (IsExact-vote sizes (few, none)) rank
+    c.args.count c.args.bytes.now c.in_ok-rest.rest.now
     (λ i. omega (arith, c.type_inv.bytes i)) left)

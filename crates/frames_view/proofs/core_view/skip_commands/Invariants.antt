@@ -5,4 +5,6 @@ use Rattle.frames_view.specs.Parts.{command_in}
 use Rattle.frames_view.proofs.core_view.skip_commands.Given as goal
 
 abbrev pub invariant-loop : goal.invariant-loop
-invariant-loop l = behind (command_in l.replicas l.clients) (l.count - l.counter) l.rest ≡ behind (command_in l.replicas l.clients) l.count l.bytes
+invariant-loop l =
+    behind (command_in l.replicas l.clients) (l.count - l.counter) l.rest
+    ≡ behind (command_in l.replicas l.clients) l.count l.bytes

@@ -16,6 +16,10 @@ pub returns-clause-value : goal.returns-clause-value
 returns-clause-value c =
     let sizes = c.args.config.now in
     let few : replicas sizes < 256 = omega (arith, c.n-replicas.ensures.count, c.n-replicas.type_inv) in
-    let few_clients : sizes.clients < 256 = omega (arith, c.clients-clients.ensures, c.clients-clients.type_inv) in
-    let e : option_map frame_of (result_ok c.ok_or.result) ≡ frame_in sizes c.args.bytes.now = ap (λ r. option_map frame_of (result_ok r)) c.ok_or.ensures.value ∙ ap (option_map frame_of) (result_ok-ok_or c.whole_frame.result _) ∙ c.whole_frame.ensures.taken in
-    is_read sizes (few, few_clients) c.args.bytes.now (option_map frame_of (result_ok c.ok_or.result)) (λ i. omega (arith, c.type_inv.bytes i)) e
+    let few_clients : sizes.clients < 256 =
+    omega (arith, c.clients-clients.ensures, c.clients-clients.type_inv) in
+    let e : option_map frame_of (result_ok c.ok_or.result) ≡ frame_in sizes c.args.bytes.now =
+    ap (λ r. option_map frame_of (result_ok r)) c.ok_or.ensures.value
+    ∙ ap (option_map frame_of) (result_ok-ok_or c.whole_frame.result _) ∙ c.whole_frame.ensures.taken in
+    is_read sizes (few, few_clients) c.args.bytes.now (option_map frame_of (result_ok c.ok_or.result))
+    (λ i. omega (arith, c.type_inv.bytes i)) e

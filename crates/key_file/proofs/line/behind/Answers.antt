@@ -6,4 +6,5 @@ use Rattle.key_file.proofs.line.behind.Goals as goal
 pub returns : goal.returns
 returns c =
     stripped c.args.text.now c.args.front.now c.strip_prefix.result
-    (strip_prefix_is Decides-eqb c.args.text.now c.args.front.now c.strip_prefix.result c.strip_prefix.ensures.cases)
+    (strip_prefix_is Decides-eqb c.args.text.now c.args.front.now c.strip_prefix.result
+    c.strip_prefix.ensures.cases)

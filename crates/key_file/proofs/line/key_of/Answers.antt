@@ -12,4 +12,6 @@ pub returns-else-eq : goal.returns-else-eq
 returns-else-eq c =
     let again : c.as_slice-2.result.now ≡ encode_lower c.in-Ok.key = search rules in
     other_digits c.args.digits.now c.in-Ok.key (sym c.in-Ok.ensures)
-    (λ e. not_from_Decides c.eq.result (slice_eq-Decides Decides-eqb c.args.digits.now c.as_slice-2.result.now c.eq.result c.eq.ensures) c.if-eq.false (e ∙ sym again))
+    (λ e. not_from_Decides c.eq.result
+    (slice_eq-Decides Decides-eqb c.args.digits.now c.as_slice-2.result.now c.eq.result c.eq.ensures)
+    c.if-eq.false (e ∙ sym again))

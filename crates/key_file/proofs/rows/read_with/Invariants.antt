@@ -6,4 +6,6 @@ use Rattle.key_file.specs.declared.pair_key.PairKey.{PairKey}
 use Rattle.key_file.proofs.rows.read_with.Given as goal
 
 abbrev pub invariant-loop-i : goal.invariant-loop-i
-invariant-loop-i l = (read : List PairKey) × (l.keys.items ≡ l.fn.keys.items ++ read) × Reads (pairs_with l.one l.fn.first l.i) l.text read l.rest
+invariant-loop-i l =
+    (read : List PairKey) × (l.keys.items ≡ l.fn.keys.items ++ read)
+    × Reads (pairs_with l.one l.fn.first l.i) l.text read l.rest

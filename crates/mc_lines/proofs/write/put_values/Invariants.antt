@@ -7,6 +7,7 @@ abbrev pub invariant-loop-value : goal.invariant-loop-value
 invariant-loop-value l =
     record {
       items : l.out.items ≡ l.fn.out.items ++ values_text l.with_unique (take l.value-index l.values);
-      len : vec_len l.out ≡ vec_len l.fn.out + length (values_text l.with_unique (take l.value-index l.values));
+      len : vec_len l.out
+          ≡ vec_len l.fn.out + length (values_text l.with_unique (take l.value-index l.values));
       capacity : vec_capacity l.fn.out ≤ vec_capacity l.out;
     }

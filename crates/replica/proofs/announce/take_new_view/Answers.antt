@@ -20,21 +20,36 @@ returns-clause-made c =
     let new = c.on_new_view-moved.new.self in
     let pace : c.state.inside.pace ≡ c.args.state.now.pace = ap (λ (k : Kept). k.pace) c.state.view_is in
     let high : c.state.inside.high ≡ v.high = ap (λ (k : Kept). k.variables.high) c.state.view_is in
-    let raised : c.in_ok-high.high ≡ raise_of (record { block = c.args.block; certificate = frame_certificate frame }) v.high =
-    c.in_ok-high.ensures.made ∙ (λ i. raise_of (record { block = c.args.block; certificate = c.certificate.ensures.value i }) (high i)) in
-    let certificate : c.in_ok-certificate.certificate ≡ frame_certificate frame = c.in_ok-certificate.ensures.copied ∙ c.certificate-2.ensures.value in
-    let moved : c.on_new_view-moved.result ≡ nat_lt c.args.state.now.pace.view new.view = moved-is _ _ _ c.on_new_view-moved.ensures.moved ∙ ap (λ (p : Pace). nat_lt p.view new.view) pace in
+    let raised : c.in_ok-high.high
+    ≡ raise_of (record { block = c.args.block; certificate = frame_certificate frame }) v.high =
+    c.in_ok-high.ensures.made
+    ∙ (λ i. raise_of (record { block = c.args.block; certificate = c.certificate.ensures.value i })
+    (high i)) in
+    let certificate : c.in_ok-certificate.certificate ≡ frame_certificate frame =
+    c.in_ok-certificate.ensures.copied ∙ c.certificate-2.ensures.value in
+    let moved : c.on_new_view-moved.result ≡ nat_lt c.args.state.now.pace.view new.view =
+    moved-is _ _ _ c.on_new_view-moved.ensures.moved ∙ ap (λ (p : Pace). nat_lt p.view new.view) pace in
     let highest = c.high_after-highest.ensures ∙ (λ i. unwrap_or (raised i) (high i)) in
-    let out = c.in_ok-out.ensures.made ∙ (λ i. cond (moved i) (new_view_sent keys (c.view.ensures i) (highest i).certificate ∷ []) []) in
+    let out =
+    c.in_ok-out.ensures.made
+    ∙ (λ i. cond (moved i) (new_view_sent keys (c.view.ensures i) (highest i).certificate ∷ []) []) in
     let leaf = c.leaf_after-leaf.ensures ∙ (λ i. leaf_after (raised i) (c.state.view_is i).variables.leaf) in
     record {
       pace = new;
       its_pace = record {
         sizes = c.on_new_view-moved.ensures.sizes ∙ ap (λ (p : Pace). p.sizes) pace;
         paced = λ ch n e h.
-            let named : got_new_view c.view-view.result c.sender-sender.result e.0 e.1 ≡ n = (λ i. got_new_view (c.view-view.ensures i) (c.sender-sender.ensures i) e.0 e.1) ∙ sym e.2 in
-            subst (λ (x : Note). IsPaceOf (noted x ∷ ch) new) named (c.on_new_view-moved.ensures.paced ch e.0 e.1 (subst (IsPaceOf ch) (sym pace) h));
+            let named : got_new_view c.view-view.result c.sender-sender.result e.0 e.1 ≡ n =
+            (λ i. got_new_view (c.view-view.ensures i) (c.sender-sender.ensures i) e.0 e.1) ∙ sym e.2 in
+            subst (λ (x : Note). IsPaceOf (noted x ∷ ch) new) named
+            (c.on_new_view-moved.ensures.paced ch e.0 e.1 (subst (IsPaceOf ch) (sym pace) h));
       };
-      change = ap (λ (d : Change). record d { high = c.in_ok-high.high; leaf = c.leaf_after-leaf.result; pace = Some new }) c.noting.ensures
-          ∙ (λ i. record (noting v (GotNewView (record { view = c.view-view.ensures i; sender = c.sender-sender.ensures i; certificate = certificate i })) (out i)) { high = raised i; leaf = leaf i; pace = Some new });
+      change = ap (λ (d : Change). record d
+          { high = c.in_ok-high.high; leaf = c.leaf_after-leaf.result; pace = Some new }) c.noting.ensures
+          ∙ (λ i. record (noting v (GotNewView (record {
+            view = c.view-view.ensures i;
+            sender = c.sender-sender.ensures i;
+            certificate = certificate i;
+          })) (out i))
+          { high = raised i; leaf = leaf i; pace = Some new });
     }

@@ -18,11 +18,17 @@ loop-request-preserved c =
     let k : Command = r.now in
     let done : List Command = map (λ x. x.now) (take i xs) in
     let more : map (λ x. x.now) (take (i + 1) xs) ≡ done ++ k ∷ [] =
-    ap (map (λ x. x.now)) (ap (λ (n : ℕ). take n xs) (let e : i + 1 ≡ suc i = omega arith in e) ∙ take-suc xs i r c.loop-request-test.true ∙ ap (λ x. take i xs ++ x ∷ []) (sym c.request-item.is))
+    ap (map (λ x. x.now)) (ap (λ (n : ℕ). take n xs) (let e : i + 1 ≡ suc i = omega arith in e)
+    ∙ take-suc xs i r c.loop-request-test.true ∙ ap (λ x. take i xs ++ x ∷ []) (sym c.request-item.is))
     ∙ map-append (λ x. x.now) (take i xs) (r ∷ []) in
-    c.in_ok-append.ensures.appended ∙ ap (λ (l : Bytes). c.loop-request.bytes.items ++ l) (append-nil c.bytes.result.now ∙ c.bytes.ensures)
-    ∙ ap (λ (l : Bytes). l ++ command_bytes k) c.loop-request.invariant ∙ sym (bytes-next done k) ∙ ap (flat_map command_bytes) (sym more)
+    c.in_ok-append.ensures.appended
+    ∙ ap (λ (l : Bytes). c.loop-request.bytes.items ++ l)
+    (append-nil c.bytes.result.now ∙ c.bytes.ensures)
+    ∙ ap (λ (l : Bytes). l ++ command_bytes k) c.loop-request.invariant ∙ sym (bytes-next done k)
+    ∙ ap (flat_map command_bytes) (sym more)
 
 pub returns-clause-joined : goal.returns-clause-joined
 returns-clause-joined c =
-    c.loop-request.invariant ∙ ap (λ l. flat_map command_bytes (map (λ x. x.now) l)) (take_all c.loop-request.request-index c.args.requests.now c.loop-request-test.false)
+    c.loop-request.invariant
+    ∙ ap (λ l. flat_map command_bytes (map (λ x. x.now) l))
+    (take_all c.loop-request.request-index c.args.requests.now c.loop-request-test.false)

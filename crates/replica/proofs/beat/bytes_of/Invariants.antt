@@ -4,4 +4,5 @@ use Rattle.definitions.specs.Frames.{command_bytes}
 use Rattle.replica.proofs.beat.bytes_of.Given as goal
 
 abbrev pub invariant-loop-request : goal.invariant-loop-request
-invariant-loop-request l = l.bytes.items ≡ flat_map command_bytes (map (λ r. r.now) (take l.request-index l.requests))
+invariant-loop-request l =
+    l.bytes.items ≡ flat_map command_bytes (map (λ r. r.now) (take l.request-index l.requests))

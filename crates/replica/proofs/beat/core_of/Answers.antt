@@ -23,9 +23,21 @@ returns-clause-made c =
     let in_ = c.state.inside in
     let on = c.deref.ensures.value ∙ c.in_ok-on_branch.ensures.found in
     let pool : in_.pool ≡ s.pending = ap (λ (k : Kept). k.pending) c.state.view_is in
-    let took : map (λ r. r.now) c.in_ok-picked.picked.items ≡ picked s = c.in_ok-picked.ensures.picked ∙ (λ i. first_beside (on i) (pool i)) ∙ beside-reversed (proposed_above s.variables) s.pending in
-    let count : c.count_of-count.result ≡ length (picked s) = c.count_of-count.ensures ∙ ap (λ l. length l) c.deref-2.ensures.value ∙ sym (length-map c.in_ok-picked.picked.items (λ r. r.now)) ∙ ap (λ (l : List Command). length l) took in
-    let commands : c.in_ok-commands.commands.items ≡ flat_map command_bytes (picked s) = c.in_ok-commands.ensures.joined ∙ ap (λ l. flat_map command_bytes (map (λ r. r.now) l)) c.deref-3.ensures.value ∙ ap (flat_map command_bytes) took in
+    let took : map (λ r. r.now) c.in_ok-picked.picked.items ≡ picked s =
+    c.in_ok-picked.ensures.picked ∙ (λ i. first_beside (on i) (pool i))
+    ∙ beside-reversed (proposed_above s.variables) s.pending in
+    let count : c.count_of-count.result ≡ length (picked s) =
+    c.count_of-count.ensures ∙ ap (λ l. length l) c.deref-2.ensures.value
+    ∙ sym (length-map c.in_ok-picked.picked.items (λ r. r.now))
+    ∙ ap (λ (l : List Command). length l) took in
+    let commands : c.in_ok-commands.commands.items ≡ flat_map command_bytes (picked s) =
+    c.in_ok-commands.ensures.joined
+    ∙ ap (λ l. flat_map command_bytes (map (λ r. r.now) l)) c.deref-3.ensures.value
+    ∙ ap (flat_map command_bytes) took in
     c.in_ok-write_core.ensures.appended
-    ∙ (λ i. c.new-core.ensures.items i ++ core_text (c.state.view_is i).variables.leaf.digest (c.child_height-height.ensures i) (c.state.view_is i).variables.high.block.height (count i) ((c.deref-4.ensures.value ∙ commands) i))
-    ∙ ap (λ (k : Kept). core_text s.variables.leaf.digest (child_height k.variables.leaf) s.variables.high.block.height (length (picked s)) (flat_map command_bytes (picked s))) c.state.view_is
+    ∙ (λ i. c.new-core.ensures.items i ++ core_text (c.state.view_is i).variables.leaf.digest
+    (c.child_height-height.ensures i) (c.state.view_is i).variables.high.block.height (count i)
+    ((c.deref-4.ensures.value ∙ commands) i))
+    ∙ ap (λ (k : Kept). core_text s.variables.leaf.digest (child_height k.variables.leaf)
+    s.variables.high.block.height (length (picked s)) (flat_map command_bytes (picked s)))
+    c.state.view_is

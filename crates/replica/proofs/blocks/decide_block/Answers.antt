@@ -15,7 +15,8 @@ use Rattle.replica.proofs.blocks.decide_block.Goals as goal
 
 -- what was planned, of the tree and what came
 abbrev IsPlannedFor : TreeState → Offered → Plan → Type 0
-IsPlannedFor t o p = IsPlanned t o.core o.certificate o.found.clear (Ok p) (placing t.most o.core o.certificate (blocks t.stored))
+IsPlannedFor t o p = IsPlanned t o.core o.certificate o.found.clear (Ok p)
+    (placing t.most o.core o.certificate (blocks t.stored))
 
 pub returns-in_err-rules-in-Grows : goal.returns-in_err-rules-in-Grows
 returns-in_err-rules-in-Grows c =
@@ -23,17 +24,26 @@ returns-in_err-rules-in-Grows c =
     let k = c.args.state.now in
     let n = c.in-Grows.node in
     let o = c.args.offer.now in
-    let planned : IsPlannedFor (tree_of k.variables) o (Grows n) = subst (IsPlannedFor (tree_of k.variables) o) c.in-Grows.is
-    (subst (λ (x : Kept). IsPlannedFor (tree_of x.variables) o c.in_ok-digest.field-0) c.state.view_is (subst (λ (x : Offered). IsPlannedFor c.state.inside.tree x c.in_ok-digest.field-0) c.offer.view_is c.in_ok-digest.ensures)) in
-    let r = err_from_is_err_and c.from_residual-in_err-rules-in-Grows.result c.from_residual-in_err-rules-in-Grows.ensures.1 in
+    let planned : IsPlannedFor (tree_of k.variables) o (Grows n) =
+    subst (IsPlannedFor (tree_of k.variables) o) c.in-Grows.is
+    (subst (λ (x : Kept). IsPlannedFor (tree_of x.variables) o c.in_ok-digest.field-0) c.state.view_is
+    (subst (λ (x : Offered). IsPlannedFor c.state.inside.tree x c.in_ok-digest.field-0) c.offer.view_is
+    c.in_ok-digest.ensures)) in
+    let r = err_from_is_err_and c.from_residual-in_err-rules-in-Grows.result
+    c.from_residual-in_err-rules-in-Grows.ensures.1 in
     let refused : ruled_after k.variables.rules (justified_of o) k.variables.stored ≡ Err r.0 =
-    (λ i. ruled_after (sym c.state.view_is i).variables.rules (sym c.justified.ensures i) (sym c.state.view_is i).variables.stored) ∙ sym c.in_err-rules-in-Grows.ensures ∙ ap (λ (f : Fault). Err f) (sym r.2) in
+    (λ i. ruled_after (sym c.state.view_is i).variables.rules (sym c.justified.ensures i)
+    (sym c.state.view_is i).variables.stored) ∙ sym c.in_err-rules-in-Grows.ensures
+    ∙ ap (λ (f : Fault). Err f) (sym r.2) in
     subst (IsDecided keys k o) (sym r.1) (conflict-decided keys k o n _ planned r.0 refused)
 
 pub take_new-requires-clause-node : goal.take_new-requires-clause-node
 take_new-requires-clause-node c =
     let k = c.args.state.now in
     let o = c.args.offer.now in
-    let planned : IsPlannedFor (tree_of k.variables) o (Grows c.in-Grows.node) = subst (IsPlannedFor (tree_of k.variables) o) c.in-Grows.is
-    (subst (λ (x : Kept). IsPlannedFor (tree_of x.variables) o c.in_ok-digest.field-0) c.state.view_is (subst (λ (x : Offered). IsPlannedFor c.state.inside.tree x c.in_ok-digest.field-0) c.offer.view_is c.in_ok-digest.ensures)) in
+    let planned : IsPlannedFor (tree_of k.variables) o (Grows c.in-Grows.node) =
+    subst (IsPlannedFor (tree_of k.variables) o) c.in-Grows.is
+    (subst (λ (x : Kept). IsPlannedFor (tree_of x.variables) o c.in_ok-digest.field-0) c.state.view_is
+    (subst (λ (x : Offered). IsPlannedFor c.state.inside.tree x c.in_ok-digest.field-0) c.offer.view_is
+    c.in_ok-digest.ensures)) in
     node-planned (tree_of k.variables) o.core o.certificate o.found.clear c.in-Grows.node _ planned

@@ -9,7 +9,8 @@ use Rattle.replica.proofs.branch.keys_between.Goals as goal
 use Rattle.replica.proofs.branch.keys_between.Goals.{in-Some+in_ok-put_keys, in_default}
 
 pub loop-height-init : goal.loop-height-init
-loop-height-init c = keys-begin c.args.tip.now c.args.tree.now.stored c.args.from c.args.to c.new-keys.result.items c.new-keys.ensures.items
+loop-height-init c = keys-begin c.args.tip.now c.args.tree.now.stored c.args.from c.args.to
+    c.new-keys.result.items c.new-keys.ensures.items
 
 pub loop-height-preserved : goal.loop-height-preserved
 loop-height-preserved c =
@@ -20,16 +21,27 @@ loop-height-preserved c =
     elim c.match-block_at.branch [
       | in-Some+in_ok-put_keys w ↦
           let core : Core = w.in-Some.block.now.core in
-          let cs = ap (λ (n : ℕ). commands_at tip n all) up ∙ commands-some tip (h + 1) all core (ap (option_map (λ n. n.now.core)) (sym w.in-Some.is) ∙ c.block_at.ensures) in
-          keys-go_on tip all c.args.from c.args.to h c.loop-height.keys.items c.match-block_at.keys.items core.commands c.loop-height.invariant c.loop-height-test.true cs
+          let cs =
+          ap (λ (n : ℕ). commands_at tip n all) up
+          ∙ commands-some tip (h + 1) all core
+          (ap (option_map (λ n. n.now.core)) (sym w.in-Some.is) ∙ c.block_at.ensures) in
+          keys-go_on tip all c.args.from c.args.to h c.loop-height.keys.items c.match-block_at.keys.items
+          core.commands c.loop-height.invariant c.loop-height-test.true cs
           (ap (λ k. k.items) w.keys-is ∙ w.in_ok-put_keys.ensures.put
-          ∙ ap (λ (l : List Command). c.loop-height.keys.items ++ map key_of l) (w.commands.ensures.value ∙ ap (λ (k : Core). k.commands) w.core.ensures))
+          ∙ ap (λ (l : List Command). c.loop-height.keys.items ++ map key_of l)
+          (w.commands.ensures.value ∙ ap (λ (k : Core). k.commands) w.core.ensures))
       | in_default w ↦
-          let cs = ap (λ (n : ℕ). commands_at tip n all) up ∙ commands-none tip (h + 1) all (sym c.block_at.ensures ∙ ap (option_map (λ n. n.now.core)) w.in_default.is) in
-          keys-go_on tip all c.args.from c.args.to h c.loop-height.keys.items c.match-block_at.keys.items [] c.loop-height.invariant c.loop-height-test.true cs
+          let cs =
+          ap (λ (n : ℕ). commands_at tip n all) up
+          ∙ commands-none tip (h + 1) all
+          (sym c.block_at.ensures ∙ ap (option_map (λ n. n.now.core)) w.in_default.is) in
+          keys-go_on tip all c.args.from c.args.to h c.loop-height.keys.items c.match-block_at.keys.items []
+          c.loop-height.invariant c.loop-height-test.true cs
           (ap (λ k. k.items) w.keys-is ∙ sym (append-nil c.loop-height.keys.items))
     ]
 
 pub returns-clause-found : goal.returns-clause-found
 returns-clause-found c =
-    keys-all c.args.tip.now c.args.tree.now.stored c.args.from c.args.to c.loop-height.height c.loop-height.keys.items c.loop-height.invariant c.loop-height-test.false c.loop-height.auto.height-end
+    keys-all c.args.tip.now c.args.tree.now.stored c.args.from c.args.to c.loop-height.height
+    c.loop-height.keys.items c.loop-height.invariant c.loop-height-test.false
+    c.loop-height.auto.height-end

@@ -5,12 +5,17 @@ use Rattle.definitions.specs.Histories.{History}
 use Rattle.mempool.specs.Pool.{left_after}
 use Rattle.replica.specs.Execution.{commands_at, history_above, told}
 use Rattle.executor.specs.State.{new_answers}
-use Rattle.replica.proofs.Executing.{all-heights, IsUpTo, commands-some, commands-none, begins-up, goes-up, passes-up, told-up, cuts-up}
+use Rattle.replica.proofs.Executing.{all-heights, IsUpTo, commands-some, commands-none, begins-up, goes-up}
+use Rattle.replica.proofs.Executing.{passes-up, told-up, cuts-up}
 use Rattle.replica.proofs.execution.execute_between.Goals as goal
 use Rattle.replica.proofs.execution.execute_between.Goals.{in-Some+in_ok-execute_block, in_default}
 
 pub loop-height-init : goal.loop-height-init
-loop-height-init c = (begins-up c.args.keyring.now c.args.tip.now c.args.tree.now.stored c.args.from c.args.executor.now c.args.pool.now c.args.out.now, λ l. refl)
+loop-height-init c = (
+  begins-up c.args.keyring.now c.args.tip.now c.args.tree.now.stored c.args.from c.args.executor.now
+      c.args.pool.now c.args.out.now,
+  λ l. refl,
+)
 
 pub returns-in_err-execute_block-clause-cut : goal.returns-in_err-execute_block-clause-cut
 returns-in_err-execute_block-clause-cut c =
@@ -19,9 +24,14 @@ returns-in_err-execute_block-clause-cut c =
     let h : ℕ = c.loop-height.height in
     let up : suc h ≡ h + 1 = omega arith in
     let core : Core = c.in-Some.block.now.core in
-    let cs = ap (λ (n : ℕ). commands_at tip n all) up ∙ commands-some tip (h + 1) all core (ap (option_map (λ n. n.now.core)) (sym c.in-Some.is) ∙ c.block_at.ensures) in
+    let cs =
+    ap (λ (n : ℕ). commands_at tip n all) up
+    ∙ commands-some tip (h + 1) all core
+    (ap (option_map (λ n. n.now.core)) (sym c.in-Some.is) ∙ c.block_at.ensures) in
     on_err c.from_residual.result
-    (cuts-up c.args.keyring.now tip all c.args.from c.args.executor.now c.args.pool.now c.args.out.now h c.args.to c.loop-height.executor c.execute_block.new.executor c.loop-height.pool c.execute_block.new.pool c.loop-height.out _ c.loop-height.invariant.0 cs c.loop-height-test.true
+    (cuts-up c.args.keyring.now tip all c.args.from c.args.executor.now c.args.pool.now c.args.out.now h
+    c.args.to c.loop-height.executor c.execute_block.new.executor c.loop-height.pool
+    c.execute_block.new.pool c.loop-height.out _ c.loop-height.invariant.0 cs c.loop-height-test.true
     c.in_err-execute_block.ensures.cut)
 
 pub loop-height-preserved : goal.loop-height-preserved
@@ -34,15 +44,29 @@ loop-height-preserved c =
       elim c.match-block_at.branch [
         | in-Some+in_ok-execute_block w ↦
             let core : Core = w.in-Some.block.now.core in
-            let cs = ap (λ (n : ℕ). commands_at tip n all) up ∙ commands-some tip (h + 1) all core (ap (option_map (λ n. n.now.core)) (sym w.in-Some.is) ∙ c.block_at.ensures) in
-            subst (λ (n : ℕ). IsUpTo keys tip all c.args.from n c.args.executor.now c.match-block_at.executor c.args.pool.now c.match-block_at.pool c.args.out.now c.match-block_at.out) up
-            (goes-up keys tip all c.args.from c.args.executor.now c.args.pool.now c.args.out.now h c.loop-height.executor c.match-block_at.executor c.loop-height.pool c.match-block_at.pool c.loop-height.out c.match-block_at.out _ c.loop-height.invariant.0 cs
+            let cs =
+            ap (λ (n : ℕ). commands_at tip n all) up
+            ∙ commands-some tip (h + 1) all core
+            (ap (option_map (λ n. n.now.core)) (sym w.in-Some.is) ∙ c.block_at.ensures) in
+            subst (λ (n : ℕ). IsUpTo keys tip all c.args.from n c.args.executor.now
+            c.match-block_at.executor c.args.pool.now c.match-block_at.pool c.args.out.now
+            c.match-block_at.out) up
+            (goes-up keys tip all c.args.from c.args.executor.now c.args.pool.now c.args.out.now h
+            c.loop-height.executor c.match-block_at.executor c.loop-height.pool c.match-block_at.pool
+            c.loop-height.out c.match-block_at.out _ c.loop-height.invariant.0 cs
             (w.executor-is ∙ w.in_ok-execute_block.ensures.executed)
             (w.pool-is ∙ w.in_ok-execute_block.ensures.left)
-            (w.out-is ∙ w.in_ok-execute_block.ensures.told ∙ ap (λ (x : History). c.loop-height.out ++ told keys (new_answers c.loop-height.executor x)) (sym w.executor-is)))
+            (w.out-is ∙ w.in_ok-execute_block.ensures.told
+            ∙ ap (λ (x : History). c.loop-height.out ++ told keys (new_answers c.loop-height.executor x))
+            (sym w.executor-is)))
         | in_default w ↦ rw (w.executor-is, w.pool-is, w.out-is)
-            (subst (λ (n : ℕ). IsUpTo keys tip all c.args.from n c.args.executor.now c.loop-height.executor c.args.pool.now c.loop-height.pool c.args.out.now c.loop-height.out) up (passes-up keys tip all c.args.from c.args.executor.now c.args.pool.now c.args.out.now h c.loop-height.executor c.loop-height.pool c.loop-height.out c.loop-height.invariant.0
-            (ap (λ (n : ℕ). commands_at tip n all) up ∙ commands-none tip (h + 1) all (sym c.block_at.ensures ∙ ap (option_map (λ n. n.now.core)) w.in_default.is))))
+            (subst (λ (n : ℕ). IsUpTo keys tip all c.args.from n c.args.executor.now c.loop-height.executor
+            c.args.pool.now c.loop-height.pool c.args.out.now c.loop-height.out) up
+            (passes-up keys tip all c.args.from c.args.executor.now c.args.pool.now c.args.out.now h
+            c.loop-height.executor c.loop-height.pool c.loop-height.out c.loop-height.invariant.0
+            (ap (λ (n : ℕ). commands_at tip n all) up
+            ∙ commands-none tip (h + 1) all
+            (sym c.block_at.ensures ∙ ap (option_map (λ n. n.now.core)) w.in_default.is))))
       ],
       λ l. let t = c.loop-height-test.true in let f = c.loop-height.invariant.0.low in omega (arith, l, t, f),
     )
@@ -51,13 +75,18 @@ pub returns-clause-executed : goal.returns-clause-executed
 returns-clause-executed c =
     c.loop-height.invariant.0.now_is
     ∙ ap (λ (n : ℕ). history_above c.args.tip.now c.args.tree.now.stored c.args.from n c.args.executor.now)
-    (all-heights c.args.from c.args.to c.loop-height.height c.loop-height.invariant.1 c.loop-height-test.false c.loop-height.auto.height-end)
+    (all-heights c.args.from c.args.to c.loop-height.height c.loop-height.invariant.1
+    c.loop-height-test.false c.loop-height.auto.height-end)
 
 pub returns-clause-left : goal.returns-clause-left
 returns-clause-left c =
     c.loop-height.invariant.0.left_are
-    ∙ ap (λ (n : ℕ). left_after (history_above c.args.tip.now c.args.tree.now.stored c.args.from n []) c.args.pool.now)
-    (all-heights c.args.from c.args.to c.loop-height.height c.loop-height.invariant.1 c.loop-height-test.false c.loop-height.auto.height-end)
+    ∙ ap (λ (n : ℕ). left_after (history_above c.args.tip.now c.args.tree.now.stored c.args.from n [])
+    c.args.pool.now)
+    (all-heights c.args.from c.args.to c.loop-height.height c.loop-height.invariant.1
+    c.loop-height-test.false c.loop-height.auto.height-end)
 
 pub returns-clause-told : goal.returns-clause-told
-returns-clause-told c = told-up c.args.keyring.now c.args.tip.now c.args.tree.now.stored c.args.from c.args.executor.now c.args.pool.now c.args.out.now c.loop-height.height c.loop-height.executor c.loop-height.pool c.loop-height.out c.loop-height.invariant.0
+returns-clause-told c = told-up c.args.keyring.now c.args.tip.now c.args.tree.now.stored c.args.from
+    c.args.executor.now c.args.pool.now c.args.out.now c.loop-height.height c.loop-height.executor
+    c.loop-height.pool c.loop-height.out c.loop-height.invariant.0

@@ -4,4 +4,5 @@ use Rattle.replica.proofs.execution.execute_between.Given as goal
 
 abbrev pub invariant-loop-height : goal.invariant-loop-height
 invariant-loop-height l =
-    IsUpTo l.keyring l.tip l.tree.stored l.from l.height l.initial.executor l.executor l.initial.pool l.pool l.initial.out l.out × (l.to < l.from → l.height ≡ l.from)
+    IsUpTo l.keyring l.tip l.tree.stored l.from l.height l.initial.executor l.executor l.initial.pool l.pool
+    l.initial.out l.out × (l.to < l.from → l.height ≡ l.from)

@@ -17,9 +17,15 @@ returns-clause-cut c =
     let answers = c.deref.ensures.value ∙ ran.answered in
     on-err c.tell.result c.tell.ensures.some (λ l. record {
       count = length all;
-      some = some-told all c.args.executor.now c.run_block.new.self executed (subst (λ (x : List Answer). 1 ≤ length x) answers l);
+      some = some-told all c.args.executor.now c.run_block.new.self executed
+          (subst (λ (x : List Answer). 1 ≤ length x) answers l);
       most = omega arith;
-      history = executed ∙ ap (λ (x : List Command). with_commands x c.args.executor.now) (sym (take_all (length all) all (omega arith)));
+      history =
+          executed
+          ∙ ap (λ (x : List Command). with_commands x c.args.executor.now)
+          (sym (take_all (length all) all (omega arith)));
       in_part = λ k. absurd (omega (arith, k));
-      whole = λ e. c.forget.ensures ∙ ap (λ (x : List Command). left_after (reverse (map entry_of x)) c.args.pool.now) again;
+      whole =
+          λ e. c.forget.ensures
+          ∙ ap (λ (x : List Command). left_after (reverse (map entry_of x)) c.args.pool.now) again;
     })

@@ -6,4 +6,5 @@ use Rattle.replica.proofs.Walking.{IsOver}
 use Rattle.replica.proofs.execution.forget.Given as goal
 
 abbrev pub invariant-loop-command : goal.invariant-loop-command
-invariant-loop-command l = IsOver (commands_left l.fn.commands) (commands_left l.command-iterator) (λ done. left_after (reverse (map entry_of done)) l.fn.pool) l.pool
+invariant-loop-command l = IsOver (commands_left l.fn.commands) (commands_left l.command-iterator)
+    (λ done. left_after (reverse (map entry_of done)) l.fn.pool) l.pool

@@ -14,9 +14,32 @@ unfolding reply_to
 returns-clause-made c =
     let keys = c.args.keyring.now in
     let a : Answer = c.args.answer.now in
-    let client : nat_lt a.client keys.sizes.clients ≡ true = lt-ltb a.client keys.sizes.clients (omega (arith, c.if-client-clients.false, c.client.view_is, c.client-client.ensures, c.clients.ensures, ap (λ z. z.clients) c.config.ensures)) in
-    let text : nat_le (length a.text) MOST_TEXT ≡ true = le-leb (length a.text) MOST_TEXT c.in-Some.ensures.short.1 in
-    let same : record { client = c.client-client.result; seq = c.seq.result; place = c.place.result; text = c.in-Some.text } ≡ a =
-    λ i. record { client = c.client-client.ensures i; seq = c.seq.ensures i; place = c.place.ensures i; text = c.in-Some.ensures.short.0 i } in
-    (λ i. Some (to_party (client_party (c.client-client.ensures i)), (c.in_ok-frame.ensures.made ∙ ap (λ (x : Answer). spelling (reply_to (identity_of keys) x).1) same) i))
+    let client : nat_lt a.client keys.sizes.clients ≡ true =
+    lt-ltb a.client keys.sizes.clients (omega (
+      arith,
+      c.if-client-clients.false,
+      c.client.view_is,
+      c.client-client.ensures,
+      c.clients.ensures,
+      ap (λ z. z.clients) c.config.ensures,
+    )) in
+    let text : nat_le (length a.text) MOST_TEXT ≡ true =
+    le-leb (length a.text) MOST_TEXT c.in-Some.ensures.short.1 in
+    let same : record {
+      client = c.client-client.result;
+      seq = c.seq.result;
+      place = c.place.result;
+      text = c.in-Some.text;
+    } ≡ a =
+    λ i. record {
+      client = c.client-client.ensures i;
+      seq = c.seq.ensures i;
+      place = c.place.ensures i;
+      text = c.in-Some.ensures.short.0 i;
+    } in
+    (λ i. Some (
+      to_party (client_party (c.client-client.ensures i)),
+      (c.in_ok-frame.ensures.made ∙ ap (λ (x : Answer). spelling (reply_to (identity_of keys) x).1) same)
+          i,
+    ))
     ∙ sym (λ i. cond (client i && text i) (Some (bytes_of (reply_to (identity_of keys) a))) None)

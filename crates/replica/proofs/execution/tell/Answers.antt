@@ -1,4 +1,5 @@
-use Rattle.std.proofs.Common.{ℕ, suc, ◌+◌, ◌≡◌, ◌++◌, option_to_list, append_assoc, [], ◌∷◌, List, take, arith, sym, ap, ◌∙◌}
+use Rattle.std.proofs.Common.{ℕ, suc, ◌+◌, ◌≡◌, ◌++◌, option_to_list, append_assoc, [], ◌∷◌, List, take}
+use Rattle.std.proofs.Common.{arith, sym, ap, ◌∙◌}
 use Rattle.definitions.specs.Histories.{Answer}
 use Rattle.replica.specs.Steps.{Sent}
 use Rattle.replica.specs.Execution.{told_one, told}
@@ -20,9 +21,14 @@ loop-answer-preserved c =
     c.in_ok-tell_one.ensures.told ∙ (λ j. c.loop-answer.invariant j ++ option_to_list (told_one keys a))
     ∙ append_assoc c.args.out.now (told keys (take i xs)) (option_to_list (told_one keys a))
     ∙ ap (λ (l : List Sent). c.args.out.now ++ l)
-    (sym (told-append keys (take i xs) (a ∷ []) ∙ ap (λ (l : List Sent). told keys (take i xs) ++ l) (told-last keys a)) ∙ ap (told keys) (sym (
-    ap (λ (n : ℕ). take n xs) (let e : i + 1 ≡ suc i = omega arith in e) ∙ take-suc xs i a c.loop-answer-test.true
+    (sym (told-append keys (take i xs) (a ∷ [])
+    ∙ ap (λ (l : List Sent). told keys (take i xs) ++ l) (told-last keys a)) ∙ ap (told keys) (sym (
+    ap (λ (n : ℕ). take n xs) (let e : i + 1 ≡ suc i = omega arith in e)
+    ∙ take-suc xs i a c.loop-answer-test.true
     ∙ ap (λ (x : Answer). take i xs ++ x ∷ []) (sym c.answer-item.is))))
 
 pub returns-clause-told : goal.returns-clause-told
-returns-clause-told c = c.loop-answer.invariant ∙ ap (λ (l : List Answer). c.args.out.now ++ told c.args.keyring.now l) (take_all c.loop-answer.answer-index c.args.answers.now c.loop-answer-test.false)
+returns-clause-told c =
+    c.loop-answer.invariant
+    ∙ ap (λ (l : List Answer). c.args.out.now ++ told c.args.keyring.now l)
+    (take_all c.loop-answer.answer-index c.args.answers.now c.loop-answer-test.false)

@@ -11,24 +11,44 @@ use Rattle.replica.proofs.replica.advance.Goals as goal
 
 pub returns-in-Err : goal.returns-in-Err
 returns-in-Err c c' o =
-    refuses c.args.keyring.now (input_of c.args.input) c' c.args.executor.now (history-going c.args.keyring.now c' c.args.state.now c.args.executor.now o) o.fit o.stored c.in-Err.ensures.fit c.in-Err.fault c.take.new.state (c.in-Err.ensures.steps c' o)
+    refuses c.args.keyring.now (input_of c.args.input) c' c.args.executor.now
+    (history-going c.args.keyring.now c' c.args.state.now c.args.executor.now o) o.fit o.stored
+    c.in-Err.ensures.fit c.in-Err.fault c.take.new.state (c.in-Err.ensures.steps c' o)
 
 pub returns-in-Ok-execute : goal.returns-in-Ok-execute
 returns-in-Ok-execute c c' o =
     let last : BlockRef = c.take.new.state.variables.rules.executed in
     let from : c.executed-from.result.height ≡ length (executed c') =
-    ap (λ (b : BlockRef). b.height) (c.executed-from.ensures ∙ ap (λ (k : Kept). k.variables.rules.executed) c.state.view_is ∙ ap (λ (v : Variables). v.rules.executed) o.state.same) in
-    sends-all c.args.keyring.now (input_of c.args.input) c' c.args.executor.now (history-going c.args.keyring.now c' c.args.state.now c.args.executor.now o) o.fit o.stored c.in-Ok.ensures.fit c.in-Ok.out c.execute.new.out c.take.new.state c.execute.new.state c.execute.new.executor (c.in-Ok.ensures.steps c' o)
-    (subst (λ (n : ℕ). c.execute.new.executor ≡ history_above last.digest c.take.new.state.variables.stored n (last.height - n) c.args.executor.now) from c.in-Ok-execute.ensures.executed)
-    (subst (λ (n : ℕ). c.execute.new.state ≡ waiting (left_after (history_above last.digest c.take.new.state.variables.stored n (last.height - n) []) c.take.new.state.pending) c.take.new.state) from
-    (c.execute.ensures.rest ∙ ap (λ (l : List Command). waiting l c.take.new.state) c.in-Ok-execute.ensures.left))
+    ap (λ (b : BlockRef). b.height) (c.executed-from.ensures
+    ∙ ap (λ (k : Kept). k.variables.rules.executed) c.state.view_is
+    ∙ ap (λ (v : Variables). v.rules.executed) o.state.same) in
+    sends-all c.args.keyring.now (input_of c.args.input) c' c.args.executor.now
+    (history-going c.args.keyring.now c' c.args.state.now c.args.executor.now o) o.fit o.stored
+    c.in-Ok.ensures.fit c.in-Ok.out c.execute.new.out c.take.new.state c.execute.new.state
+    c.execute.new.executor (c.in-Ok.ensures.steps c' o)
+    (subst (λ (n : ℕ). c.execute.new.executor
+    ≡ history_above last.digest c.take.new.state.variables.stored n (last.height - n)
+    c.args.executor.now) from c.in-Ok-execute.ensures.executed)
+    (subst (λ (n : ℕ). c.execute.new.state
+    ≡ waiting (left_after
+    (history_above last.digest c.take.new.state.variables.stored n (last.height - n) [])
+    c.take.new.state.pending) c.take.new.state) from
+    (c.execute.ensures.rest
+    ∙ ap (λ (l : List Command). waiting l c.take.new.state) c.in-Ok-execute.ensures.left))
     c.in-Ok-execute.ensures.told
 
 pub returns-in-Err-execute : goal.returns-in-Err-execute
 returns-in-Err-execute c c' o =
     let last : BlockRef = c.take.new.state.variables.rules.executed in
     let from : c.executed-from.result.height ≡ length (executed c') =
-    ap (λ (b : BlockRef). b.height) (c.executed-from.ensures ∙ ap (λ (k : Kept). k.variables.rules.executed) c.state.view_is ∙ ap (λ (v : Variables). v.rules.executed) o.state.same) in
-    stops-short c.args.keyring.now (input_of c.args.input) c' c.args.executor.now (history-going c.args.keyring.now c' c.args.state.now c.args.executor.now o) o.fit o.stored c.in-Ok.ensures.fit c.in-Ok.out c.take.new.state c.execute.new.state c.execute.new.executor (c.in-Ok.ensures.steps c' o)
+    ap (λ (b : BlockRef). b.height) (c.executed-from.ensures
+    ∙ ap (λ (k : Kept). k.variables.rules.executed) c.state.view_is
+    ∙ ap (λ (v : Variables). v.rules.executed) o.state.same) in
+    stops-short c.args.keyring.now (input_of c.args.input) c' c.args.executor.now
+    (history-going c.args.keyring.now c' c.args.state.now c.args.executor.now o) o.fit o.stored
+    c.in-Ok.ensures.fit c.in-Ok.out c.take.new.state c.execute.new.state c.execute.new.executor
+    (c.in-Ok.ensures.steps c' o)
     c.execute.ensures.rest
-    (subst (λ (n : ℕ). IsCut last.digest c.take.new.state.variables.stored n last.height c.args.executor.now c.execute.new.executor c.take.new.state.pending c.execute.new.state.pending) from c.in-Err-execute.ensures.cut)
+    (subst (λ (n : ℕ). IsCut last.digest c.take.new.state.variables.stored n last.height c.args.executor.now
+    c.execute.new.executor c.take.new.state.pending c.execute.new.state.pending) from
+    c.in-Err-execute.ensures.cut)

@@ -35,8 +35,11 @@ returns-in-Proposal-clause-decided c c' w =
     let keys = c.args.keyring.now in
     let p = c.in-Proposal.proposal in
     let own : same_replica p.keys keys ≡ true = rw c.in-Proposal.is at c.requires.own in
-    let decided = subst (λ (x : Offered). IsDecided keys c.args.state.now x c.decide_block.result) c.of_proposal.ensures.offered c.decide_block.ensures in
-    rw c.in-Proposal.is (block-decided keys c' c.args.state.now (proposal_offered p) (leader keys.sizes (frame_view (proposal_of p.view))) c.decide_block.result decided o (checked-proposal p keys own c.of_proposal.ensures.frame c.of_proposal.ensures.passed))
+    let decided = subst (λ (x : Offered). IsDecided keys c.args.state.now x c.decide_block.result)
+    c.of_proposal.ensures.offered c.decide_block.ensures in
+    rw c.in-Proposal.is (block-decided keys c' c.args.state.now (proposal_offered p)
+    (leader keys.sizes (frame_view (proposal_of p.view))) c.decide_block.result decided o
+    (checked-proposal p keys own c.of_proposal.ensures.frame c.of_proposal.ensures.passed))
 
 pub returns-in-Block-clause-decided : goal.returns-in-Block-clause-decided
 unfolding ruling
@@ -45,16 +48,22 @@ returns-in-Block-clause-decided c c' w =
     let keys = c.args.keyring.now in
     let b = c.in-Block.block in
     let own : same_replica b.keys keys ≡ true = rw c.in-Block.is at c.requires.own in
-    let decided = subst (λ (x : Offered). IsDecided keys c.args.state.now x c.decide_block-in-Block.result) c.of_block.ensures.offered c.decide_block-in-Block.ensures in
-    rw c.in-Block.is (block-decided keys c' c.args.state.now (block_offered b) (frame_replica (block_of b.view)) c.decide_block-in-Block.result decided o (checked-block b keys own c.of_block.ensures.frame c.of_block.ensures.passed))
+    let decided = subst (λ (x : Offered). IsDecided keys c.args.state.now x c.decide_block-in-Block.result)
+    c.of_block.ensures.offered c.decide_block-in-Block.ensures in
+    rw c.in-Block.is (block-decided keys c' c.args.state.now (block_offered b)
+    (frame_replica (block_of b.view)) c.decide_block-in-Block.result decided o
+    (checked-block b keys own c.of_block.ensures.frame c.of_block.ensures.passed))
 
 pub returns-in-NewView-clause-decided : goal.returns-in-NewView-clause-decided
 returns-in-NewView-clause-decided c c' w =
     let o = state-going c.args.keyring.now c' c.args.state.now c.args.executor.now w in
     let keys = c.args.keyring.now in
     let n = c.in-NewView.announced in
-    let decided = subst (λ (x : NewViewView). IsNewView keys c.args.state.now (announced_by x) c.decide_new_view.result) c.view-in-NewView.ensures.view c.decide_new_view.ensures in
-    rw c.in-NewView.is (new-view-decided keys c' c.args.state.now (announced_by n.view) c.decide_new_view.result decided o)
+    let decided = subst
+    (λ (x : NewViewView). IsNewView keys c.args.state.now (announced_by x) c.decide_new_view.result)
+    c.view-in-NewView.ensures.view c.decide_new_view.ensures in
+    rw c.in-NewView.is
+    (new-view-decided keys c' c.args.state.now (announced_by n.view) c.decide_new_view.result decided o)
 
 pub returns-in-Fetch-clause-decided : goal.returns-in-Fetch-clause-decided
 returns-in-Fetch-clause-decided c c' w =
@@ -62,63 +71,91 @@ returns-in-Fetch-clause-decided c c' w =
     let keys = c.args.keyring.now in
     let s = c.args.state.now in
     let f = c.in-Fetch.asked in
-    let made = subst (λ (x : FetchView). IfOk c.decide_fetch.result (λ d. d ≡ fetch_change keys s.variables (asked_by x))) c.view-in-Fetch.ensures.view c.decide_fetch.ensures.made in
-    rw c.in-Fetch.is (fetch-decided keys c' s (asked_by f.view) c.decide_fetch.result made c.decide_fetch.ensures.memory o)
+    let made = subst (λ (x : FetchView). IfOk c.decide_fetch.result
+    (λ d. d ≡ fetch_change keys s.variables (asked_by x))) c.view-in-Fetch.ensures.view
+    c.decide_fetch.ensures.made in
+    rw c.in-Fetch.is
+    (fetch-decided keys c' s (asked_by f.view) c.decide_fetch.result made c.decide_fetch.ensures.memory o)
 
 pub returns-in-Timeout-clause-decided : goal.returns-in-Timeout-clause-decided
 returns-in-Timeout-clause-decided c c' w =
     let o = state-going c.args.keyring.now c' c.args.state.now c.args.executor.now w in
-    rw c.in-Timeout.is (timeout-decided c.args.keyring.now c' c.args.state.now c.decide_timeout.result c.decide_timeout.ensures.made c.decide_timeout.ensures.memory o)
+    rw c.in-Timeout.is (timeout-decided c.args.keyring.now c' c.args.state.now c.decide_timeout.result
+    c.decide_timeout.ensures.made c.decide_timeout.ensures.memory o)
 
 pub returns-in-Beat-clause-decided : goal.returns-in-Beat-clause-decided
 returns-in-Beat-clause-decided c c' w =
     let o = state-going c.args.keyring.now c' c.args.state.now c.args.executor.now w in
     let items = c.state.inside.steps.items in
-    let chronicle = ap (λ (k : Kept). length k.variables.chronicle) c.state.view_is ∙ ap (λ (v : Variables). length v.chronicle) o.same in
-    let few : length c' < 2 ^ 63 = (let n = length-replay (reverse items) c.state.inside.tree.stored in let r = length-reverse items in let k = c.state.inside.steps.ok.0 in omega (arith, chronicle, n, r, k)) in
-    rw c.in-Beat.is (beat-decided c.args.keyring.now c' c.args.state.now c.decide_beat.result few c.decide_beat.ensures.made c.decide_beat.ensures.memory o)
+    let chronicle =
+    ap (λ (k : Kept). length k.variables.chronicle) c.state.view_is
+    ∙ ap (λ (v : Variables). length v.chronicle) o.same in
+    let few : length c' < 2 ^ 63 =
+    (let n =
+    length-replay (reverse items) c.state.inside.tree.stored in let r =
+    length-reverse items in let k = c.state.inside.steps.ok.0 in omega (arith, chronicle, n, r, k))
+    in
+    rw c.in-Beat.is (beat-decided c.args.keyring.now c' c.args.state.now c.decide_beat.result few
+    c.decide_beat.ensures.made c.decide_beat.ensures.memory o)
 
 pub returns-in-Proposal-clause-fits : goal.returns-in-Proposal-clause-fits
-returns-in-Proposal-clause-fits c = fits-block c.args.keyring.now c.args.state.now c.of_proposal.result c.decide_block.result c.decide_block.ensures
+returns-in-Proposal-clause-fits c =
+    fits-block c.args.keyring.now c.args.state.now c.of_proposal.result c.decide_block.result
+    c.decide_block.ensures
 
 pub returns-in-Block-clause-fits : goal.returns-in-Block-clause-fits
-returns-in-Block-clause-fits c = fits-block c.args.keyring.now c.args.state.now c.of_block.result c.decide_block-in-Block.result c.decide_block-in-Block.ensures
+returns-in-Block-clause-fits c =
+    fits-block c.args.keyring.now c.args.state.now c.of_block.result c.decide_block-in-Block.result
+    c.decide_block-in-Block.ensures
 
 pub returns-in-NewView-clause-fits : goal.returns-in-NewView-clause-fits
-returns-in-NewView-clause-fits c = fits-new-view c.args.keyring.now c.args.state.now (announced_by c.view-in-NewView.result.now) c.decide_new_view.result c.decide_new_view.ensures
+returns-in-NewView-clause-fits c =
+    fits-new-view c.args.keyring.now c.args.state.now (announced_by c.view-in-NewView.result.now)
+    c.decide_new_view.result c.decide_new_view.ensures
 
 pub returns-in-Timeout-clause-fits : goal.returns-in-Timeout-clause-fits
-returns-in-Timeout-clause-fits c = fits-timeout c.args.keyring.now c.args.state.now c.decide_timeout.result c.decide_timeout.ensures.made
+returns-in-Timeout-clause-fits c =
+    fits-timeout c.args.keyring.now c.args.state.now c.decide_timeout.result c.decide_timeout.ensures.made
 
 pub returns-in-Vote-clause-decided : goal.returns-in-Vote-clause-decided
 returns-in-Vote-clause-decided c c' w =
     let o = state-going c.args.keyring.now c' c.args.state.now c.args.executor.now w in
     let v = c.in-Vote.vote in
-    let decided = subst (λ (x : VoteFrameView). IsVoteDecided c.args.state.now (frame_digest (vote_frame_of x)) (frame_vote (vote_frame_of x)) c.decide_vote.result) c.view.ensures.view c.decide_vote.ensures in
-    rw c.in-Vote.is (vote-decided c.args.keyring.now c' c.args.state.now (frame_digest (vote_frame_of v.view)) (frame_vote (vote_frame_of v.view)) c.decide_vote.result decided o)
+    let decided = subst (λ (x : VoteFrameView). IsVoteDecided c.args.state.now
+    (frame_digest (vote_frame_of x)) (frame_vote (vote_frame_of x)) c.decide_vote.result)
+    c.view.ensures.view c.decide_vote.ensures in
+    rw c.in-Vote.is (vote-decided c.args.keyring.now c' c.args.state.now
+    (frame_digest (vote_frame_of v.view)) (frame_vote (vote_frame_of v.view)) c.decide_vote.result
+    decided o)
 
 pub returns-in-Vote-clause-fits : goal.returns-in-Vote-clause-fits
 returns-in-Vote-clause-fits c =
-    fits-vote c.args.state.now (frame_digest (vote_frame_of c.view.result.now)) (frame_vote (vote_frame_of c.view.result.now)) c.decide_vote.result
-    (checked-vote c.in-Vote.vote c.args.keyring.now c.view.result.now c.args.state.now.votes.sizes (rw c.in-Vote.is at c.requires.own) c.view.ensures.fits c.view.ensures.view c.requires.votes) c.decide_vote.ensures
+    fits-vote c.args.state.now (frame_digest (vote_frame_of c.view.result.now))
+    (frame_vote (vote_frame_of c.view.result.now)) c.decide_vote.result
+    (checked-vote c.in-Vote.vote c.args.keyring.now c.view.result.now c.args.state.now.votes.sizes
+    (rw c.in-Vote.is at c.requires.own) c.view.ensures.fits c.view.ensures.view c.requires.votes)
+    c.decide_vote.ensures
 
 pub decide_vote-requires : goal.decide_vote-requires
 decide_vote-requires c =
-    checked-vote c.in-Vote.vote c.args.keyring.now c.view.result.now c.args.state.now.votes.sizes (rw c.in-Vote.is at c.requires.own) c.view.ensures.fits c.view.ensures.view c.requires.votes
+    checked-vote c.in-Vote.vote c.args.keyring.now c.view.result.now c.args.state.now.votes.sizes
+    (rw c.in-Vote.is at c.requires.own) c.view.ensures.fits c.view.ensures.view c.requires.votes
 
 pub returns-in-Proposal-clause-fit : goal.returns-in-Proposal-clause-fit
 returns-in-Proposal-clause-fit c =
     let keys = c.args.keyring.now in
     let p = c.in-Proposal.proposal in
     let own : same_replica p.keys keys ≡ true = rw c.in-Proposal.is at c.requires.own in
-    rw c.in-Proposal.is (subst (λ (s : Sizes). IsCore s (frame_core (proposal_of p.view))) (addressed-sizes p.keys keys own) c.of_proposal.ensures.frame.1)
+    rw c.in-Proposal.is (subst (λ (s : Sizes). IsCore s (frame_core (proposal_of p.view)))
+    (addressed-sizes p.keys keys own) c.of_proposal.ensures.frame.1)
 
 pub returns-in-Block-clause-fit : goal.returns-in-Block-clause-fit
 returns-in-Block-clause-fit c =
     let keys = c.args.keyring.now in
     let b = c.in-Block.block in
     let own : same_replica b.keys keys ≡ true = rw c.in-Block.is at c.requires.own in
-    rw c.in-Block.is (subst (λ (s : Sizes). IsCore s (frame_core (block_of b.view))) (addressed-sizes b.keys keys own) c.of_block.ensures.frame.1)
+    rw c.in-Block.is (subst (λ (s : Sizes). IsCore s (frame_core (block_of b.view)))
+    (addressed-sizes b.keys keys own) c.of_block.ensures.frame.1)
 
 pub returns-in-Request-clause-decided : goal.returns-in-Request-clause-decided
 unfolding ruling
@@ -128,5 +165,7 @@ returns-in-Request-clause-decided c c' w =
     let h = c.args.executor.now in
     let r = c.in-Request.asked in
     let o = state-going keys c' s h w in
-    let made = subst (λ (x : CommandView). IsRequested keys s h (command_of x) c.decide_request.result) c.view-in-Request.ensures.view c.decide_request.ensures in
-    rw c.in-Request.is (request-decided keys c' s h (command_of r.view) o (history-going keys c' s h w) w.fit c.decide_request.result made)
+    let made = subst (λ (x : CommandView). IsRequested keys s h (command_of x) c.decide_request.result)
+    c.view-in-Request.ensures.view c.decide_request.ensures in
+    rw c.in-Request.is (request-decided keys c' s h (command_of r.view) o (history-going keys c' s h w)
+    w.fit c.decide_request.result made)

@@ -14,7 +14,15 @@ returns c keys e =
       most = (c.new.ensures i).most;
       stored = (c.new.ensures i).stored;
       rules = c.new-2.ensures i;
-      high = record { block = c.genesis.ensures i; certificate = (c.without_votes.ensures ∙ ap (λ (d : List ℕ). record { digest = d; votes = [] }) c.genesis_digest.ensures) i };
+      high = record {
+        block = c.genesis.ensures i;
+        certificate =
+            (c.without_votes.ensures
+            ∙ ap (λ (d : List ℕ). record { digest = d; votes = [] }) c.genesis_digest.ensures) i;
+      };
       leaf = c.genesis-2.ensures i;
       own = None;
-    }) (c.new-3.ensures.sizes ∙ sym e) c.new-3.ensures.begins (c.new-4.ensures ∙ ap (λ (z : Sizes). let v : Collected = record { sizes = z; kept = [] } in v) (sym e)) c.new-5.ensures
+    }) (c.new-3.ensures.sizes ∙ sym e) c.new-3.ensures.begins
+    (c.new-4.ensures
+    ∙ ap (λ (z : Sizes). let v : Collected = record { sizes = z; kept = [] } in v) (sym e))
+    c.new-5.ensures

@@ -12,7 +12,16 @@ unfolding is_due
 returns-then-last_seq-seq c =
     let r = command_of c.args.request.now in
     let h = c.args.executor.now in
-    let due : is_due h r ≡ true = lt-ltb (last_seq r.client h) r.seq (omega (arith, c.if-last_seq-seq.true, c.last_seq-2.view_is, c.seq-2.view_is, c.last_seq.ensures ∙ ap (λ k. last_seq k h) c.client.ensures, c.seq.ensures)) in
+    let due : is_due h r ≡ true =
+    lt-ltb (last_seq r.client h) r.seq (omega (
+      arith,
+      c.if-last_seq-seq.true,
+      c.last_seq-2.view_is,
+      c.seq-2.view_is,
+      c.last_seq.ensures ∙ ap (λ k. last_seq k h) c.client.ensures,
+      c.seq.ensures,
+    ))
+    in
     subst (IsRequestedIf c.args.keyring.now c.args.state.now h r c.wait.result) (sym due) c.wait.ensures
 
 pub returns-else-last_seq-seq : goal.returns-else-last_seq-seq
@@ -20,5 +29,16 @@ unfolding is_due
 returns-else-last_seq-seq c =
     let r = command_of c.args.request.now in
     let h = c.args.executor.now in
-    let late : is_due h r ≡ false = le-ltb (last_seq r.client h) r.seq (omega (arith, c.if-last_seq-seq.false, c.last_seq-2.view_is, c.seq-2.view_is, c.last_seq.ensures ∙ ap (λ k. last_seq k h) c.client.ensures, c.seq.ensures)) in
-    subst (IsRequestedIf c.args.keyring.now c.args.state.now h r c.repeat.result) (sym late) (or-memory c.repeat.result (old_change c.args.keyring.now c.args.state.now h r) c.repeat.ensures.made c.repeat.ensures.memory)
+    let late : is_due h r ≡ false =
+    le-ltb (last_seq r.client h) r.seq (omega (
+      arith,
+      c.if-last_seq-seq.false,
+      c.last_seq-2.view_is,
+      c.seq-2.view_is,
+      c.last_seq.ensures ∙ ap (λ k. last_seq k h) c.client.ensures,
+      c.seq.ensures,
+    ))
+    in
+    subst (IsRequestedIf c.args.keyring.now c.args.state.now h r c.repeat.result) (sym late)
+    (or-memory c.repeat.result (old_change c.args.keyring.now c.args.state.now h r) c.repeat.ensures.made
+    c.repeat.ensures.memory)

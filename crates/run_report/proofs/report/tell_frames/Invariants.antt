@@ -5,5 +5,6 @@ use Rattle.run_report.proofs.report.tell_frames.Given as goal
 abbrev pub invariant-loop-sent : goal.invariant-loop-sent
 invariant-loop-sent l = record {
   at : l.number ≡ l.first + l.sent-index;
-  told : l.text.items ++ frames_text l.number (drop l.sent-index l.frames) ≡ l.fn.text.items ++ frames_text l.first l.frames;
+  told : l.text.items ++ frames_text l.number (drop l.sent-index l.frames)
+      ≡ l.fn.text.items ++ frames_text l.first l.frames;
 }

@@ -6,6 +6,7 @@ use Rattle.run_report.proofs.report.text_of.Given as goal
 abbrev pub invariant-loop-before : goal.invariant-loop-before
 invariant-loop-before l = record {
   left : l.number + length l.frames ≡ length l.outcome.frames.items;
-  told : l.text.items ++ events_text (l.before + 1) l.number (drop l.before l.outcome.answers.items) l.frames l.receipts
+  told : l.text.items
+      ++ events_text (l.before + 1) l.number (drop l.before l.outcome.answers.items) l.frames l.receipts
       ≡ events_text 1 0 l.outcome.answers.items l.outcome.frames.items l.outcome.receipts.items;
 }

@@ -6,11 +6,13 @@ use Rattle.server.proofs.Readings.{refused}
 use Rattle.server.proofs.schedule.take_heading.Goals as goal
 
 pub returns-in_default-clause-bad : goal.returns-in_default-clause-bad
-returns-in_default-clause-bad c = λ bad h rest fits begins. c.in_default.ensures.first (heading_text h) rest (plain_heading h fits) begins
+returns-in_default-clause-bad c =
+    λ bad h rest fits begins. c.in_default.ensures.first (heading_text h) rest (plain_heading h fits) begins
 
 pub returns-in_err-heading_of-clause-bad : goal.returns-in_err-heading_of-clause-bad
 returns-in_err-heading_of-clause-bad c =
     let p = err_from_is_err_and c.from_residual.result c.from_residual.ensures.1 in
     λ bad h rest fits begins.
     let same = c.in-Some.ensures.first (heading_text h) rest (plain_heading h fits) begins in
-    refused heading_text IsHeading c.in-Some.line.0.now c.from_residual.result c.in_err-heading_of.field-0.0 (p.1 ∙ ap Err p.2) bad c.in_err-heading_of.ensures h fits same.0
+    refused heading_text IsHeading c.in-Some.line.0.now c.from_residual.result c.in_err-heading_of.field-0.0
+    (p.1 ∙ ap Err p.2) bad c.in_err-heading_of.ensures h fits same.0

@@ -9,4 +9,5 @@ invariant-loop-replica l = l.keyrings.items ≡ map (simulated_keys l.config) (r
 
 abbrev pub invariant-loop-client : goal.invariant-loop-client
 invariant-loop-client l = l.keyrings.items
-    ≡ map (simulated_keys l.config) (range_with_len 0 (replicas l.config)) ++ map (λ c. simulated_keys l.config (client_party c)) (range_with_len 0 l.client)
+    ≡ map (simulated_keys l.config) (range_with_len 0 (replicas l.config))
+    ++ map (λ c. simulated_keys l.config (client_party c)) (range_with_len 0 l.client)

@@ -4,15 +4,20 @@ use Rattle.server.proofs.simulation.simulate.Goals as goal
 
 pub returns-in_err-schedule-clause-line : goal.returns-in_err-schedule-clause-line
 returns-in_err-schedule-clause-line g c =
-    let p = err_from_is_err_and c.from_residual-in_err-schedule.result c.from_residual-in_err-schedule.ensures.1 in
+    let p = err_from_is_err_and c.from_residual-in_err-schedule.result
+    c.from_residual-in_err-schedule.ensures.1 in
     rw (p.1, p.2)
-    (right_in (g.R.Read.remaining c.args.reader.now) c.in_ok-read_all.field-0.items c.in_err-schedule.field-0.0 c.in_ok-read_all.ensures
+    (right_in (g.R.Read.remaining c.args.reader.now) c.in_ok-read_all.field-0.items
+    c.in_err-schedule.field-0.0 c.in_ok-read_all.ensures
     (rw (← c.deref.ensures.value) c.in_err-schedule.ensures.bad))
 
 pub returns-clause-ok : goal.returns-clause-ok
 returns-clause-ok g c =
-    on_ok c.write_all-written.result c.map_err.result c.map_err.ensures.variant c.write_all-written.ensures.bytes
+    on_ok c.write_all-written.result c.map_err.result c.map_err.ensures.variant
+    c.write_all-written.ensures.bytes
     (λ written.
-    told_of (g.R.Read.remaining c.args.reader.now) (g.W.Write.contents c.args.writer.now) (g.W.Write.contents c.write_all-written.new.self)
+    told_of (g.R.Read.remaining c.args.reader.now) (g.W.Write.contents c.args.writer.now)
+    (g.W.Write.contents c.write_all-written.new.self)
     c.in_ok-read_all.field-0.items c.in_ok-text.text.items c.in_ok-schedule.schedule c.in_ok-read_all.ensures
-    (rw (← c.deref.ensures.value) c.in_ok-schedule.ensures.ok) c.in_ok-text.ensures (rw c.deref-2.ensures.value at written))
+    (rw (← c.deref.ensures.value) c.in_ok-schedule.ensures.ok) c.in_ok-text.ensures
+    (rw c.deref-2.ensures.value at written))

@@ -12,4 +12,9 @@ new-requires c =
 
 pub returns : goal.returns
 returns c = run_told c.text_of.result c.args.schedule c.in_ok-outcome.outcome c.text_of.ensures.told
-    (rw (c.in_ok-world.ensures.made, c.as_slice.ensures.value, c.in_ok-keyrings.ensures, c.in_ok-config.ensures.made) at c.in_ok-outcome.ensures.ran)
+    (rw (
+      c.in_ok-world.ensures.made,
+      c.as_slice.ensures.value,
+      c.in_ok-keyrings.ensures,
+      c.in_ok-config.ensures.made,
+    ) at c.in_ok-outcome.ensures.ran)

@@ -14,8 +14,10 @@ returns-in_err-bytes c =
 pub returns-then-eq : goal.returns-then-eq
 returns-then-eq c =
     let written = c.as_str.ensures.value ∙ c.in_ok-again.ensures ∙ ap encode_lower c.as_slice.ensures.value in
-    let same = (bytes_eq-Decides c.as_str.result.now c.args.digits.now).0 (sym c.if-eq.ensures) in
-    ((decode_of-ok c.args.digits.now c.in_ok-bytes.bytes.items c.in_ok-bytes.ensures.ok).3, sym written ∙ same)
+    let same = (bytes_eq-Decides c.as_str.result.now c.args.digits.now).0 (sym c.if-eq.ensures) in (
+      (decode_of-ok c.args.digits.now c.in_ok-bytes.bytes.items c.in_ok-bytes.ensures.ok).3,
+      sym written ∙ same,
+    )
 
 pub returns-else-eq : goal.returns-else-eq
 returns-else-eq c =
@@ -24,4 +26,5 @@ returns-else-eq c =
     let yes = (bytes_eq-Decides c.as_str.result.now c.args.digits.now).1 (written ∙ sym e) in
     let no = c.if-eq.ensures in
     let never : ⊥ = cc (yes, no) in never in
-    λ v fits. other_digits c.args.digits.now c.in_ok-bytes.bytes.items c.in_ok-bytes.ensures.ok differ v.items fits
+    λ v fits. other_digits c.args.digits.now c.in_ok-bytes.bytes.items c.in_ok-bytes.ensures.ok differ
+    v.items fits

@@ -4,4 +4,5 @@ use Rattle.mc_lines.specs.Meaning.{asked_of}
 use Rattle.session_cases.proofs.told.submit.Goals as goal
 
 pub submit-requires : goal.submit-requires
-submit-requires c = (request_of_some c.as_slice.result.now (asked_of c.in-Some.request) (sym c.in-Some.ensures.value)).0
+submit-requires c =
+    (request_of_some c.as_slice.result.now (asked_of c.in-Some.request) (sym c.in-Some.ensures.value)).0

@@ -16,4 +16,5 @@ returns c =
     let at : c.from.result ≡ c.args.number = omega (arith, c.from.ensures, c.number.view_is) in
     let low = c.requires.number in
     c.swap_remove.ensures.value ∙ (λ i. get_or (c.requires.eyes i) (at i) c.swap_remove.result)
-    ∙ get_or-map-range_with_len (first_eye z) 0 (z.words + 1) c.args.number c.args.number c.swap_remove.result (omega (arith, low)) (omega arith)
+    ∙ get_or-map-range_with_len (first_eye z) 0 (z.words + 1) c.args.number c.args.number
+    c.swap_remove.result (omega (arith, low)) (omega arith)

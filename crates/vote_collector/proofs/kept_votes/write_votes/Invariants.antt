@@ -5,4 +5,5 @@ use Rattle.definitions.specs.Frames.{vote_bytes}
 use Rattle.vote_collector.proofs.kept_votes.write_votes.Given as goal
 
 abbrev pub invariant-loop-vote : goal.invariant-loop-vote
-invariant-loop-vote l = l.bytes.items ≡ l.initial.bytes.items ++ flat_map vote_bytes ((take l.vote-index l.votes))
+invariant-loop-vote l =
+    l.bytes.items ≡ l.initial.bytes.items ++ flat_map vote_bytes ((take l.vote-index l.votes))

@@ -5,4 +5,5 @@ use Rattle.definitions.proofs.RequestTexts.{request_of_some, request_of-canonica
 use Rattle.worked_examples.proofs.lines.request_of_finds_the_request.Goals as goal
 
 pub returns : goal.returns
-returns c payload r = (λ e. request_of_some payload r e, λ is. ap request_of is.1 ∙ request_of-canonical r is.0)
+returns c payload r =
+    (λ e. request_of_some payload r e, λ is. ap request_of is.1 ∙ request_of-canonical r is.0)

@@ -10,4 +10,8 @@ use Rattle.worked_examples.proofs.lines.the_line_after_an_unknown_name_is_read.G
 
 pub returns : goal.returns
 unfolding head_at head_in digits
-returns c = (11, item_at (codes "touch a 0") (codes "get a" ++ crlf) _ _ refl (omega arith) refl, (7, item_at (codes "get a") [] _ _ refl (omega arith) refl, inl (omega arith, word_has_no_end [] refl)))
+returns c = (
+  11,
+  item_at (codes "touch a 0") (codes "get a" ++ crlf) _ _ refl (omega arith) refl,
+  (7, item_at (codes "get a") [] _ _ refl (omega arith) refl, inl (omega arith, word_has_no_end [] refl)),
+)

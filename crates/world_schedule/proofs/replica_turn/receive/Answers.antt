@@ -7,4 +7,6 @@ use Rattle.world_schedule.proofs.replica_turn.receive.Goals as goal
 
 pub returns-in-Err-clause-taken : goal.returns-in-Err-clause-taken
 returns-in-Err-clause-taken c =
-    refused-if _ _ _ _ _ _ _ (subst AreSizes c.config.ensures c.holds.ensures) (ap (λ (k : Keys). identity_of k) c.take.ensures.keys ∙ same-identity _ _ c.requires.same) c.in-Err.ensures.taken c.refuse.ensures.refused
+    refused-if _ _ _ _ _ _ _ (subst AreSizes c.config.ensures c.holds.ensures)
+    (ap (λ (k : Keys). identity_of k) c.take.ensures.keys ∙ same-identity _ _ c.requires.same)
+    c.in-Err.ensures.taken c.refuse.ensures.refused

@@ -11,17 +11,24 @@ use Rattle.world_schedule.proofs.running.brings_frame.Goals as goal
 
 pub returns-in-Inject : goal.returns-in-Inject
 returns-in-Inject c =
-    let r : Option Frame = option_map frame_of (result_ok c.read.result) in
-    (r, subst (λ (x : Event). IsReadIn c.args.config.now (event_of r x)) (sym c.in-Inject.is) (subst (λ (b : Bytes). IsReadAs c.args.config.now b r) c.deref.ensures.value c.read.ensures.value))
+    let r : Option Frame = option_map frame_of (result_ok c.read.result) in (
+      r,
+      subst (λ (x : Event). IsReadIn c.args.config.now (event_of r x)) (sym c.in-Inject.is)
+          (subst (λ (b : Bytes). IsReadAs c.args.config.now b r) c.deref.ensures.value c.read.ensures.value),
+    )
 
 pub returns-in-Submit : goal.returns-in-Submit
-returns-in-Submit c = (None, subst (λ (x : Event). IsReadIn c.args.config.now (event_of None x)) (sym c.in-Submit.is) tt)
+returns-in-Submit c =
+    (None, subst (λ (x : Event). IsReadIn c.args.config.now (event_of None x)) (sym c.in-Submit.is) tt)
 
 pub returns-in-Relay : goal.returns-in-Relay
-returns-in-Relay c = (None, subst (λ (x : Event). IsReadIn c.args.config.now (event_of None x)) (sym c.in-Relay.is) tt)
+returns-in-Relay c =
+    (None, subst (λ (x : Event). IsReadIn c.args.config.now (event_of None x)) (sym c.in-Relay.is) tt)
 
 pub returns-in-Timeout : goal.returns-in-Timeout
-returns-in-Timeout c = (None, subst (λ (x : Event). IsReadIn c.args.config.now (event_of None x)) (sym c.in-Timeout.is) tt)
+returns-in-Timeout c =
+    (None, subst (λ (x : Event). IsReadIn c.args.config.now (event_of None x)) (sym c.in-Timeout.is) tt)
 
 pub returns-in-Beat : goal.returns-in-Beat
-returns-in-Beat c = (None, subst (λ (x : Event). IsReadIn c.args.config.now (event_of None x)) (sym c.in-Beat.is) tt)
+returns-in-Beat c =
+    (None, subst (λ (x : Event). IsReadIn c.args.config.now (event_of None x)) (sym c.in-Beat.is) tt)

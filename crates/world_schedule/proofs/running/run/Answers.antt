@@ -11,14 +11,17 @@ loop-event-init c = first-run _ _ c.in_ok-state.ensures.made
 pub returns-in-Err-clause-refused : goal.returns-in-Err-clause-refused
 returns-in-Err-clause-refused c =
     let r = c.loop-event.invariant in
-    ends-refused _ _ c.loop-event.event-index c.event-item.result c.event-item.result _ _ (omega arith) c.event-item.is r
+    ends-refused _ _ c.loop-event.event-index c.event-item.result c.event-item.result _ _ (omega arith)
+    c.event-item.is r
     (c.in-Err.ensures r.world r.now_at (frames-so-far _ _ _ c.holds.ensures (omega arith) r))
 
 pub loop-event-preserved : goal.loop-event-preserved
 loop-event-preserved c =
     let r = c.loop-event.invariant in
-    goes-further _ _ c.loop-event.event-index c.event-item.result c.event-item.result _ _ (omega arith) c.event-item.is r
+    goes-further _ _ c.loop-event.event-index c.event-item.result c.event-item.result _ _ (omega arith)
+    c.event-item.is r
     (c.in_default.ensures r.world r.now_at (frames-so-far _ _ _ c.holds.ensures (omega arith) r))
 
 pub returns-clause-ran : goal.returns-clause-ran
-returns-clause-ran c = ends-whole _ _ c.loop-event.event-index _ _ c.holds.ensures (omega arith) c.loop-event.invariant c.into_outcome.ensures.told
+returns-clause-ran c = ends-whole _ _ c.loop-event.event-index _ _ c.holds.ensures (omega arith)
+    c.loop-event.invariant c.into_outcome.ensures.told

@@ -5,7 +5,8 @@ use Rattle.block_tree.proofs.Descending.{Descending}
 use Rattle.block_tree.proofs.tree.Tree.descend.Given as goal
 
 abbrev pub invariant-descend : goal.invariant-descend
-invariant-descend l = Descending (blocks l.self.stored) l.from l.distance l.at l.rest l.level l.turns (l.initial.turns + count_ones l.distance)
+invariant-descend l = Descending (blocks l.self.stored) l.from l.distance l.at l.rest l.level l.turns
+    (l.initial.turns + count_ones l.distance)
 
 abbrev pub decreases-descend : goal.decreases-descend
 decreases-descend l = l.rest

@@ -9,8 +9,10 @@ use Rattle.block_tree.proofs.tree.Tree.height_at.Goals as goal
 
 pub returns-then-number-eq0 : goal.returns-then-number-eq0
 returns-then-number-eq0 c =
-    sym (ap (λ (k : ℕ). length (numbered (blocks c.args.self.now.stored) k)) c.if-number-eq0.true ∙ ap (λ (b : Branch). length b) (numbered-genesis c.args.self.now.stored))
+    sym (ap (λ (k : ℕ). length (numbered (blocks c.args.self.now.stored) k)) c.if-number-eq0.true
+    ∙ ap (λ (b : Branch). length b) (numbered-genesis c.args.self.now.stored))
 
 pub returns : goal.returns
 returns c =
-    c.height.ensures ∙ ap (λ (k : Core). k.height) (c.view.ensures ∙ c.node_at.ensures.core) ∙ core-height (numbered (blocks c.args.self.now.stored) c.args.number)
+    c.height.ensures ∙ ap (λ (k : Core). k.height) (c.view.ensures ∙ c.node_at.ensures.core)
+    ∙ core-height (numbered (blocks c.args.self.now.stored) c.args.number)

@@ -15,7 +15,12 @@ returns-in_ok-add-in-Grows c =
     let core = core_of c.args.core.now in
     let q = certificate_of c.args.certificate.now in
     let place = placing t.most core q (blocks t.stored) in
-    let planned : IsPlanned t core q c.args.clear (Ok (Grows c.in-Grows.node)) place = subst (λ (p : Plan). IsPlanned t core q c.args.clear (Ok p) place) c.in-Grows.is c.in_ok-digest.ensures in
+    let planned : IsPlanned t core q c.args.clear (Ok (Grows c.in-Grows.node)) place =
+    subst (λ (p : Plan). IsPlanned t core q c.args.clear (Ok p) place) c.in-Grows.is
+    c.in_ok-digest.ensures in
     let answer : Bytes → Result Bytes Fault = λ d. Ok d in
-    subst (λ (d : Bytes). Inserted t core q c.args.clear (answer d) c.add.new.self) (sym c.digest-digest.ensures)
-    (subst (λ (new : TreeState). Inserted t core q c.args.clear (answer c.in-Grows.node.digest) new) (sym c.in_ok-add-in-Grows.ensures.added) (inserted-grown t core q c.args.clear c.in-Grows.node place refl planned))
+    subst (λ (d : Bytes). Inserted t core q c.args.clear (answer d) c.add.new.self)
+    (sym c.digest-digest.ensures)
+    (subst (λ (new : TreeState). Inserted t core q c.args.clear (answer c.in-Grows.node.digest) new)
+    (sym c.in_ok-add-in-Grows.ensures.added)
+    (inserted-grown t core q c.args.clear c.in-Grows.node place refl planned))

@@ -1,4 +1,5 @@
-use Rattle.std.proofs.Common.{◌≡◌, ◌<◌, ℕ, List, Some, None, ◌∷◌, [], length, reverse, sym, ap, subst, ◌∙◌, arith, Option}
+use Rattle.std.proofs.Common.{◌≡◌, ◌<◌, ℕ, List, Some, None, ◌∷◌, [], length, reverse, sym, ap, subst, ◌∙◌}
+use Rattle.std.proofs.Common.{arith, Option}
 use Rattle.definitions.specs.Bytes.{Bytes}
 use Rattle.definitions.specs.Frames.{Core}
 use Rattle.definitions.specs.Branches.{Branch}
@@ -14,18 +15,23 @@ use Rattle.block_tree.proofs.tree.Tree.links_over.Goals as goal
 pub unwrap-at-requires : goal.unwrap-at-requires
 unwrap-at-requires c =
     number-there (core_of c.args.core.now).parent (blocks c.args.self.now.stored) c.requires c.number.result
-    (c.number.ensures ∙ ap (λ (d : Bytes). number_in d (blocks c.args.self.now.stored)) c.parent.ensures.value)
+    (c.number.ensures
+    ∙ ap (λ (d : Bytes). number_in d (blocks c.args.self.now.stored)) c.parent.ensures.value)
 
 -- what was found of the parent
-parent_found : (core : Core) (tree : List Branch) (d : Bytes) (r : Option ℕ) (at : ℕ) → d ≡ core.parent → r ≡ number_in d tree → r ≡ Some at → (at < length tree) × (numbered tree at ≡ branch_in core.parent tree)
+parent_found : (core : Core) (tree : List Branch) (d : Bytes) (r : Option ℕ) (at : ℕ) → d ≡ core.parent
+    → r ≡ number_in d tree → r ≡ Some at
+    → (at < length tree) × (numbered tree at ≡ branch_in core.parent tree)
 parent_found core tree d r at e f g =
     let h = number-found core.parent tree at (ap (λ (x : Bytes). number_in x tree) (sym e) ∙ sym f ∙ g) in
     (h.0, sym (ap (λ (o : Option Branch). elim o [ Some b ↦ b | None ↦ [] ]) h.1))
 
 pub push-requires : goal.push-requires
 push-requires c =
-    let sound = sound-of c.self.inside.most c.self.inside.genesis (reverse c.self.inside.nodes.items) c.args.self.now c.self.view_is c.self.invariant.kept in
-    let found = parent_found (core_of c.args.core.now) (blocks c.args.self.now.stored) c.parent.result.now c.number.result c.unwrap-at.result c.parent.ensures.value c.number.ensures c.unwrap-at.ensures in
+    let sound = sound-of c.self.inside.most c.self.inside.genesis (reverse c.self.inside.nodes.items)
+    c.args.self.now c.self.view_is c.self.invariant.kept in
+    let found = parent_found (core_of c.args.core.now) (blocks c.args.self.now.stored) c.parent.result.now
+    c.number.result c.unwrap-at.result c.parent.ensures.value c.number.ensures c.unwrap-at.ensures in
     let known = found.0 in
     omega (arith, known, sound.room, sound.limit)
 
@@ -34,25 +40,33 @@ build-init c =
     let core = core_of c.args.core.now in
     let tree = blocks c.args.self.now.stored in
     let at = c.unwrap-at.result in
-    let found = parent_found core tree c.parent.result.now c.number.result at c.parent.ensures.value c.number.ensures c.unwrap-at.ensures in
+    let found = parent_found core tree c.parent.result.now c.number.result at c.parent.ensures.value
+    c.number.ensures c.unwrap-at.ensures in
     rw (c.in_ok-push.ensures.pushed, c.new-links.ensures)
-    (subst (λ (p : Branch). Building tree (block_of core ∷ p) at 0 (at ∷ [])) found.1 (build-begin tree (block_of core) at found.0))
+    (subst (λ (p : Branch). Building tree (block_of core ∷ p) at 0 (at ∷ [])) found.1
+    (build-begin tree (block_of core) at found.0))
 
 pub push-requires-in-Some : goal.push-requires-in-Some
 push-requires-in-Some c =
-    let sound = sound-of c.self.inside.most c.self.inside.genesis (reverse c.self.inside.nodes.items) c.args.self.now c.self.view_is c.self.invariant.kept in
+    let sound = sound-of c.self.inside.most c.self.inside.genesis (reverse c.self.inside.nodes.items)
+    c.args.self.now c.self.view_is c.self.invariant.kept in
     omega (arith, c.in-Some.ensures.known, sound.room, sound.limit)
 
 pub build-smaller : goal.build-smaller
 build-smaller c =
-    build-lower (blocks c.args.self.now.stored) (block_in (core_of c.args.core.now) (blocks c.args.self.now.stored)) c.build.at c.build.level c.build.links c.build.invariant c.in-Some.next c.in-Some.ensures
+    build-lower (blocks c.args.self.now.stored)
+    (block_in (core_of c.args.core.now) (blocks c.args.self.now.stored)) c.build.at c.build.level
+    c.build.links c.build.invariant c.in-Some.next c.in-Some.ensures
 
 pub build-preserved : goal.build-preserved
 build-preserved c =
     let tree = blocks c.args.self.now.stored in
     let b = block_in (core_of c.args.core.now) tree in
-    rw c.in_ok-push-2.ensures.pushed (build-more tree b c.build.at c.build.level c.build.links c.build.invariant c.in-Some.next c.in-Some.ensures)
+    rw c.in_ok-push-2.ensures.pushed (build-more tree b c.build.at c.build.level c.build.links
+    c.build.invariant c.in-Some.next c.in-Some.ensures)
 
 pub returns-clause-linked : goal.returns-clause-linked
 returns-clause-linked c =
-    build-done (blocks c.args.self.now.stored) (block_in (core_of c.args.core.now) (blocks c.args.self.now.stored)) c.build.at c.build.level c.build.links c.build.invariant c.in_default.ensures
+    build-done (blocks c.args.self.now.stored)
+    (block_in (core_of c.args.core.now) (blocks c.args.self.now.stored)) c.build.at c.build.level
+    c.build.links c.build.invariant c.in_default.ensures

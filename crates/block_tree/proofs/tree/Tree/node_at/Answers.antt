@@ -10,11 +10,20 @@ pub index-requires : goal.index-requires
 index-requires c =
     let items = c.self.inside.nodes.items in
     let all = ap (λ (t : TreeState). length (blocks t.stored)) c.self.view_is in
-    omega (arith, all, nodes-count (reverse items), length-reverse items, c.requires.known, c.requires.above, c.self.inside.nodes.ok.0)
+    omega (
+      arith,
+      all,
+      nodes-count (reverse items),
+      length-reverse items,
+      c.requires.known,
+      c.requires.above,
+      c.self.inside.nodes.ok.0,
+    )
 
 pub returns : goal.returns
 returns c =
     let items = c.self.inside.nodes.items in
     let all = ap (λ (t : TreeState). length (blocks t.stored)) c.self.view_is in
     subst (λ (t : TreeState). IsNodeAt c.index.result.now (blocks t.stored) c.args.number) c.self.view_is
-    (node-at items c.self.invariant.kept.nodes c.args.number c.index.result.now c.requires.above (omega (arith, all, c.requires.known)) c.index.ensures)
+    (node-at items c.self.invariant.kept.nodes c.args.number c.index.result.now c.requires.above
+    (omega (arith, all, c.requires.known)) c.index.ensures)

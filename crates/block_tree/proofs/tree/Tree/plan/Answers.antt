@@ -9,7 +9,8 @@ use Rattle.block_tree.proofs.tree.Tree.plan.Goals as goal
 
 pub links_over-requires : goal.links_over-requires
 links_over-requires c =
-    growth-parent c.args.self.now.most (core_of c.args.core.now) (certificate_of c.args.certificate.now) (blocks c.args.self.now.stored) (ap Ok (sym c.in-Grows.is) ∙ c.in_ok-placing.ensures)
+    growth-parent c.args.self.now.most (core_of c.args.core.now) (certificate_of c.args.certificate.now)
+    (blocks c.args.self.now.stored) (ap Ok (sym c.in-Grows.is) ∙ c.in_ok-placing.ensures)
 
 pub returns-in_ok-node-in-Grows : goal.returns-in_ok-node-in-Grows
 returns-in_ok-node-in-Grows c =
@@ -17,16 +18,24 @@ returns-in_ok-node-in-Grows c =
     let core = core_of c.args.core.now in
     let q = certificate_of c.args.certificate.now in
     let answer = ap Ok (sym c.in-Grows.is) ∙ c.in_ok-placing.ensures in
-    let node : Node = record { digest = c.digest-digest.result; core = core; certificate = q; clear = c.args.clear; links = c.in_ok-links-in-Grows.links } in
+    let node : Node = record {
+      digest = c.digest-digest.result;
+      core = core;
+      certificate = q;
+      clear = c.args.clear;
+      links = c.in_ok-links-in-Grows.links;
+    } in
     let is : IsNodeFor t core q c.args.clear node = record {
       digest = c.digest-digest.ensures;
       core = refl;
       certificate = refl;
       clear = refl;
       may_stand = record {
-        node = growth-node t.most node (blocks t.stored) c.digest-digest.ensures c.args.core.now.fields.below c.in_ok-links-in-Grows.ensures.linked answer;
+        node = growth-node t.most node (blocks t.stored) c.digest-digest.ensures
+            c.args.core.now.fields.below c.in_ok-links-in-Grows.ensures.linked answer;
         room = growth-room t.most core q (blocks t.stored) answer;
       };
     } in
-    planned-grows t core q c.args.clear c.in_ok-node-in-Grows.node (placing t.most core q (blocks t.stored)) answer
+    planned-grows t core q c.args.clear c.in_ok-node-in-Grows.node (placing t.most core q (blocks t.stored))
+    answer
     (subst (IsNodeFor t core q c.args.clear) (sym c.in_ok-node-in-Grows.ensures.copied) is)

@@ -5,4 +5,6 @@ use Rattle.cache.proofs.cache.Cache.values.Given as goal
 
 -- what is told so far, and what the keys that are left have
 abbrev pub invariant-loop-key : goal.invariant-loop-key
-invariant-loop-key l = map value_of l.values.items ++ values_of l.self.cache (keys_left l.key-iterator) ≡ values_of l.self.cache (keys_of l.fn.keys)
+invariant-loop-key l =
+    map value_of l.values.items ++ values_of l.self.cache (keys_left l.key-iterator)
+    ≡ values_of l.self.cache (keys_of l.fn.keys)

@@ -7,4 +7,5 @@ use Rattle.cache.proofs.table.Table.get.Goals as goal
 pub returns : goal.returns
 returns c =
     seen entry_of c.get.result ∙ ap (option_map entry_of) c.get.ensures.value
-    ∙ sym (get-table c.self.inside.entries.entries c.args.key.now) ∙ ap (λ t. map.get t c.args.key.now) c.self.view_is
+    ∙ sym (get-table c.self.inside.entries.entries c.args.key.now)
+    ∙ ap (λ t. map.get t c.args.key.now) c.self.view_is

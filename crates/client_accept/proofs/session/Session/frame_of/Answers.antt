@@ -15,5 +15,7 @@ pub unwrap-payload-requires : goal.unwrap-payload-requires
 unwrap-payload-requires c =
     let request = asked_of c.args.request.now in
     let text : c.as_slice.result.now ≡ canonical request =
-    c.as_slice.ensures.value ∙ c.in_ok-write_request.ensures.appended ∙ ap (λ (before : Bytes). before ++ canonical request) c.new-text.ensures.items in
-    is_there c.new.result (length c.as_slice.result.now) (omega (arith, ap length text, length-canonical request c.requires)) c.new.ensures.long
+    c.as_slice.ensures.value ∙ c.in_ok-write_request.ensures.appended
+    ∙ ap (λ (before : Bytes). before ++ canonical request) c.new-text.ensures.items in
+    is_there c.new.result (length c.as_slice.result.now)
+    (omega (arith, ap length text, length-canonical request c.requires)) c.new.ensures.long

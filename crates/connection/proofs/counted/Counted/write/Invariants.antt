@@ -5,7 +5,8 @@ use Rattle.connection.proofs.counted.Counted.write.Given as goal
 abbrev pub invariant-loop-at : goal.invariant-loop-at
 invariant-loop-at g l = record {
   within : l.at ≤ length l.bytes;
-  wrote : Appends (g.W.Write.contents l.initial.self.device) (g.W.Write.contents l.self.device) (take l.at l.bytes);
+  wrote : Appends (g.W.Write.contents l.initial.self.device) (g.W.Write.contents l.self.device)
+      (take l.at l.bytes);
   failures : l.self.failures ≡ l.initial.self.failures;
 }
 

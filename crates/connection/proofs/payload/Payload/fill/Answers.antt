@@ -7,4 +7,10 @@ use Rattle.connection.proofs.payload.Payload.fill.Goals as goal
 pub unwrap-requires : goal.unwrap-requires
 unwrap-requires c =
     appends_with_room _ _ _ c.write_request.result c.write_request.ensures
-    (omega (arith, c.self.invariant, c.clear.ensures.len, c.clear.ensures.capacity, length-canonical (asked_of c.args.request.now) c.requires))
+    (omega (
+      arith,
+      c.self.invariant,
+      c.clear.ensures.len,
+      c.clear.ensures.capacity,
+      length-canonical (asked_of c.args.request.now) c.requires,
+    ))

@@ -1,4 +1,5 @@
-use Rattle.std.proofs.Common.{ℕ, ◌≡◌, ◌+◌, None, [], ◌∷◌, ◌++◌, length, length-append, ap, ◌∙◌, arith, List, Option}
+use Rattle.std.proofs.Common.{ℕ, ◌≡◌, ◌+◌, None, [], ◌∷◌, ◌++◌, length, length-append, ap, ◌∙◌, arith, List}
+use Rattle.std.proofs.Common.{Option}
 use Rattle.definitions.specs.Histories.{Answer}
 use Rattle.executor.specs.Rows.{row}
 use Rattle.executor.proofs.State.{rows-more}
@@ -21,4 +22,5 @@ loop-client-init c = nothing c.in_ok-rows.rows.items c.in_ok-rows.ensures.items
 
 pub loop-client-preserved : goal.loop-client-preserved
 loop-client-preserved c =
-    more c.loop-client._client c.loop-client.rows.items c.push.new.self.items c.in_ok-push.ensures.items c.loop-client.invariant
+    more c.loop-client._client c.loop-client.rows.items c.push.new.self.items c.in_ok-push.ensures.items
+    c.loop-client.invariant

@@ -1,4 +1,5 @@
-use Rattle.std.proofs.Common.{ℕ, ◌≡◌, ◌+◌, suc, Ok, List, [], ◌∷◌, ◌++◌, sym, ap, subst, ◌∙◌, reverse, length, is_ok, if◌then◌else◌, Result, Some, arith}
+use Rattle.std.proofs.Common.{ℕ, ◌≡◌, ◌+◌, suc, Ok, List, [], ◌∷◌, ◌++◌, sym, ap, subst, ◌∙◌, reverse}
+use Rattle.std.proofs.Common.{length, is_ok, if◌then◌else◌, Result, Some, arith}
 use Rattle.std.proofs.lemmas.List.{length-reverse}
 use Rattle.definitions.specs.Replies.{reply_text}
 use Rattle.definitions.specs.Cache.{apply_payload}
@@ -39,7 +40,8 @@ invariant_of-self-2 c =
       cache =
           (apply_payload x.cache.most x.cache.cache p).0;
     }) payload in
-    let items = pushed c.push.result c.unwrap.result c.reserve.new.self.items x.entries.items c.push.new.self.items e c.unwrap.ensures c.in_ok-reserve.ensures.items c.push.ensures.items in
+    let items = pushed c.push.result c.unwrap.result c.reserve.new.self.items x.entries.items
+    c.push.new.self.items e c.unwrap.ensures c.in_ok-reserve.ensures.items c.push.ensures.items in
     let own : row c.set.new.self e.client ≡ Some (answer_in e h) =
     ap (λ (a : Answer). row c.set.new.self a.client) (sym c.to.ensures) ∙ c.set.ensures.kept
     ∙ ap (λ (a : Answer). Some a) kept in
@@ -47,4 +49,5 @@ invariant_of-self-2 c =
     subst (λ (l : History). IsStateOf l c.apply.new.cache c.set.new.self) (sym (ap reverse items
     ∙ entered x.entries.items e))
     (subst (λ (b : Bounded). IsStateOf (e ∷ h) b c.set.new.self) (sym cache)
-    (fresh-state h x.cache x.clients c.self.invariant e c.set.new.self fresh own (λ q k. c.set.ensures.others q (λ j. k (j ∙ client)))))
+    (fresh-state h x.cache x.clients c.self.invariant e c.set.new.self fresh own
+    (λ q k. c.set.ensures.others q (λ j. k (j ∙ client)))))

@@ -7,7 +7,8 @@ use Rattle.executor.proofs.State.{fresh-by_row, answered-fresh, answered-stale}
 use Rattle.executor.proofs.executor.Executor.run.Goals as goal
 
 -- the test is that of a fresh entry
-tested : (e : Entry) (h value : History) (cache : Bounded) (rows : List (Option Answer)) (client seq : ℕ) (t b : Bool) → IsStateOf h cache rows → h ≡ value
+tested : (e : Entry) (h value : History) (cache : Bounded) (rows : List (Option Answer)) (client seq : ℕ)
+    (t b : Bool) → IsStateOf h cache rows → h ≡ value
     → client ≡ e.client → seq ≡ e.seq → t ≡ numbered_after seq (row rows client) → t ≡ b
     → is_fresh e value ≡ b
 tested e h value cache rows client seq t b s i j k l m =
@@ -17,18 +18,24 @@ tested e h value cache rows client seq t b s i j k l m =
     ∙ sym l ∙ m
 
 pub execute-requires : goal.execute-requires
-execute-requires c = tested c.in_ok-entry.entry _ c.args.self.now _ _ _ _ _ true c.self.invariant c.self.view_is c.client.ensures c.seq.ensures c.is_after.ensures c.if-is_after.true
+execute-requires c = tested c.in_ok-entry.entry _ c.args.self.now _ _ _ _ _ true c.self.invariant
+    c.self.view_is c.client.ensures c.seq.ensures c.is_after.ensures c.if-is_after.true
 
 pub enter-requires : goal.enter-requires
-enter-requires c = tested c.in_ok-entry.entry _ c.args.self.now _ _ _ _ _ false c.self.invariant c.self.view_is c.client.ensures c.seq.ensures c.is_after.ensures c.if-is_after.false
+enter-requires c = tested c.in_ok-entry.entry _ c.args.self.now _ _ _ _ _ false c.self.invariant
+    c.self.view_is c.client.ensures c.seq.ensures c.is_after.ensures c.if-is_after.false
 
 pub returns-in_ok-execute-clause-answered : goal.returns-in_ok-execute-clause-answered
 returns-in_ok-execute-clause-answered c =
     ap (λ (a : Answer). Some a) c.in_ok-execute.ensures.answered
-    ∙ answered-fresh c.in_ok-entry.entry c.args.self.now (tested c.in_ok-entry.entry _ c.args.self.now _ _ _ _ _ true c.self.invariant c.self.view_is c.client.ensures c.seq.ensures c.is_after.ensures c.if-is_after.true)
+    ∙ answered-fresh c.in_ok-entry.entry c.args.self.now
+    (tested c.in_ok-entry.entry _ c.args.self.now _ _ _ _ _ true c.self.invariant c.self.view_is
+    c.client.ensures c.seq.ensures c.is_after.ensures c.if-is_after.true)
     ∙ ap (λ (e : Entry). answer_at e c.args.self.now) c.in_ok-entry.ensures.kept
 
 pub returns-in_ok-enter-clause-answered : goal.returns-in_ok-enter-clause-answered
 returns-in_ok-enter-clause-answered c =
-    answered-stale c.in_ok-entry.entry c.args.self.now (tested c.in_ok-entry.entry _ c.args.self.now _ _ _ _ _ false c.self.invariant c.self.view_is c.client.ensures c.seq.ensures c.is_after.ensures c.if-is_after.false)
+    answered-stale c.in_ok-entry.entry c.args.self.now
+    (tested c.in_ok-entry.entry _ c.args.self.now _ _ _ _ _ false c.self.invariant c.self.view_is
+    c.client.ensures c.seq.ensures c.is_after.ensures c.if-is_after.false)
     ∙ ap (λ (e : Entry). answer_at e c.args.self.now) c.in_ok-entry.ensures.kept

@@ -7,7 +7,9 @@ use Rattle.executor.proofs.executor.Executor.run_block.Goals as goal
 
 pub loop-command-init : goal.loop-command-init
 loop-command-init c =
-    rw c.into_iter-command-iterator.ensures.into_iter_gives (run-starts (commands_left c.args.commands) c.args.self.now c.new-answers.result.items c.new-answers.ensures.items)
+    rw c.into_iter-command-iterator.ensures.into_iter_gives
+    (run-starts (commands_left c.args.commands) c.args.self.now c.new-answers.result.items
+    c.new-answers.ensures.items)
 
 pub returns-in_err-reserve-clause-cut : goal.returns-in_err-reserve-clause-cut
 returns-in_err-reserve-clause-cut c =
@@ -15,10 +17,14 @@ returns-in_err-reserve-clause-cut c =
 
 pub returns-in_err-answer-clause-cut : goal.returns-in_err-answer-clause-cut
 returns-in_err-answer-clause-cut c =
-    on_err _ (run-stops _ _ _ _ _ _ _ _ c.loop-command.invariant c.in-Some.ensures.steps c.in_err-answer.ensures.unchanged)
+    on_err _ (run-stops _ _ _ _ _ _ _ _ c.loop-command.invariant c.in-Some.ensures.steps
+    c.in_err-answer.ensures.unchanged)
 
 pub loop-command-preserved : goal.loop-command-preserved
 loop-command-preserved c =
-    run-goes_on _ _ _ _ _ _ _ _ (command_of c.in-Some.command) c.loop-command.invariant c.in-Some.ensures.steps c.in_ok-answer.ensures.executed
-    (c.put.ensures ∙ ap (λ (l : List Answer). l ++ option_to_list c.in_ok-answer.answer) c.in_ok-reserve.ensures.items
-    ∙ ap (λ (o : Option Answer). c.loop-command.answers.items ++ option_to_list o) c.in_ok-answer.ensures.answered)
+    run-goes_on _ _ _ _ _ _ _ _ (command_of c.in-Some.command) c.loop-command.invariant
+    c.in-Some.ensures.steps c.in_ok-answer.ensures.executed
+    (c.put.ensures
+    ∙ ap (λ (l : List Answer). l ++ option_to_list c.in_ok-answer.answer) c.in_ok-reserve.ensures.items
+    ∙ ap (λ (o : Option Answer). c.loop-command.answers.items ++ option_to_list o)
+    c.in_ok-answer.ensures.answered)

@@ -7,5 +7,6 @@ pub loop-i-preserved : goal.loop-i-preserved
 loop-i-preserved c =
     let found : found_key c.args.self.now.keys c.args.party (c.args.first + c.loop-i.i) ≡ Some c.new.result
     = search (rules, c.find_key.ensures, c.first.view_is, c.ok_or.ensures.ok_part) in
-    one_more_key c.args.self.now.keys c.args.out.now.items c.loop-i.out.items c.push.new.self.items c.args.party c.args.first c.loop-i.i c.new.result
+    one_more_key c.args.self.now.keys c.args.out.now.items c.loop-i.out.items c.push.new.self.items
+    c.args.party c.args.first c.loop-i.i c.new.result
     c.loop-i.invariant found c.in_ok-push.ensures.items

@@ -8,13 +8,22 @@ use Rattle.marks.proofs.marks.Marks.new.Goals as goal
 
 pub split_seat-seat-requires : goal.split_seat-seat-requires
 split_seat-seat-requires c =
-    let i = c.loop.invariant in
-    (search rules, search rules, deals _ _ _ (omega (arith, ap (λ v. v.first) i.1, ap (λ v. v.end) i.1, c.loop-test.true)))
+    let i = c.loop.invariant in (
+      search rules,
+      search rules,
+      deals _ _ _ (omega (arith, ap (λ v. v.first) i.1, ap (λ v. v.end) i.1, c.loop-test.true)),
+    )
 
 pub push_reserved-requires : goal.push_reserved-requires
 push_reserved-requires c =
     let i = c.loop.invariant in
-    omega (arith, ap length i.2 ∙ length-map-range_with_len (first_eye c.in_ok-table.table.shared.table_id) 0 c.loop.counter, i.3, c.loop-test.true)
+    omega (
+      arith,
+      ap length i.2
+          ∙ length-map-range_with_len (first_eye c.in_ok-table.table.shared.table_id) 0 c.loop.counter,
+      i.3,
+      c.loop-test.true,
+    )
 
 pub loop-preserved : goal.loop-preserved
 loop-preserved c =
@@ -23,7 +32,10 @@ loop-preserved c =
     let s = c.split_seat-seat.ensures in
     let words : z.words ≡ c.args.n = search rules in
     let least : c.loop.counter + 1 ≤ c.args.n = omega (arith, c.loop-test.true) in
-    let eye = is_first_eye z c.split_seat-seat.result.table_id c.args.n c.loop.counter (c.loop.counter + 1) c.split_seat-seat.result.me.0 (s.3 ∙ i.0) words (ap (λ m. m.0) s.4 ∙ ap only_first i.1) (sym (min-eq_left least)) in (
+    let eye =
+    is_first_eye z c.split_seat-seat.result.table_id c.args.n c.loop.counter (c.loop.counter + 1)
+    c.split_seat-seat.result.me.0 (s.3 ∙ i.0) words (ap (λ m. m.0) s.4 ∙ ap only_first i.1)
+    (sym (min-eq_left least)) in (
       s.0 ∙ i.0,
       ap (λ m. m.0) s.2 ∙ ap without_first i.1,
       one_more_eye z c.loop.counter _ _ _ c.push_reserved.ensures.items i.2 eye,
@@ -33,7 +45,13 @@ loop-preserved c =
 pub push_reserved-requires-2 : goal.push_reserved-requires-2
 push_reserved-requires-2 c =
     let i = c.loop.invariant in
-    omega (arith, ap length i.2 ∙ length-map-range_with_len (first_eye c.in_ok-table.table.shared.table_id) 0 c.loop.counter, i.3, c.loop.auto.counter-end)
+    omega (
+      arith,
+      ap length i.2
+          ∙ length-map-range_with_len (first_eye c.in_ok-table.table.shared.table_id) 0 c.loop.counter,
+      i.3,
+      c.loop.auto.counter-end,
+    )
 
 pub returns-clause-eyes : goal.returns-clause-eyes
 returns-clause-eyes c =
@@ -42,5 +60,7 @@ returns-clause-eyes c =
     let words : z.words ≡ c.args.n = search rules in
     let all : c.loop.counter ≡ c.args.n = omega (arith, c.loop.auto.counter-end, c.loop-test.false) in
     let last : c.args.n ≡ min (c.loop.counter + 1) c.args.n = sym (min-eq_right (omega (arith, all))) in
-    let eye = is_first_eye z c.loop.rest.table_id c.args.n c.loop.counter c.args.n c.loop.rest.me.0 i.0 words i.1 last in
-    one_more_eye z c.loop.counter _ _ _ c.push_reserved-2.ensures.items i.2 eye ∙ ap (λ n. map (first_eye z) (range_with_len 0 (n + 1))) (all ∙ sym words)
+    let eye = is_first_eye z c.loop.rest.table_id c.args.n c.loop.counter c.args.n c.loop.rest.me.0 i.0
+    words i.1 last in
+    one_more_eye z c.loop.counter _ _ _ c.push_reserved-2.ensures.items i.2 eye
+    ∙ ap (λ n. map (first_eye z) (range_with_len 0 (n + 1))) (all ∙ sym words)

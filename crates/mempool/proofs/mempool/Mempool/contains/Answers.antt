@@ -8,5 +8,6 @@ use Rattle.mempool.proofs.mempool.Mempool.contains.Goals as goal
 pub returns : goal.returns
 returns c =
     c.contains_key.ensures
-    ∙ found-keyed _ (is_of c.args.client c.args.seq) (λ r. refl) c.self.inside.requests (values c.self.inside.requests) c.self.invariant
+    ∙ found-keyed _ (is_of c.args.client c.args.seq) (λ r. refl) c.self.inside.requests
+    (values c.self.inside.requests) c.self.invariant
     ∙ ap (list_any (is_of c.args.client c.args.seq)) c.self.view_is

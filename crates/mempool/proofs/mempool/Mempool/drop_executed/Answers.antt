@@ -6,9 +6,12 @@ use Rattle.mempool.proofs.Keyed.{values-are, keyed-values, filtered-keyed}
 use Rattle.mempool.proofs.mempool.Mempool.drop_executed.Goals as goal
 
 -- what stands in the map afterwards
-left : (c : goal.After-retain) → c.retain.new.self.entries ≡ keyed (filter (λ r. not (is_up_to c.args.client c.args.seq r)) (values c.self.inside.requests))
+left : (c : goal.After-retain)
+    → c.retain.new.self.entries
+    ≡ keyed (filter (λ r. not (is_up_to c.args.client c.args.seq r)) (values c.self.inside.requests))
 left c =
-    filter-RetainsPairs _ (λ e. not (is_up_to c.args.client c.args.seq e.1)) _ (λ k v b w g call. search rules) _ _ c.retain.ensures.filtered
+    filter-RetainsPairs _ (λ e. not (is_up_to c.args.client c.args.seq e.1)) _
+    (λ k v b w g call. search rules) _ _ c.retain.ensures.filtered
     ∙ ap (filter (λ e. not (is_up_to c.args.client c.args.seq e.1))) c.self.invariant
     ∙ filtered-keyed (λ r. not (is_up_to c.args.client c.args.seq r)) (values c.self.inside.requests)
 
@@ -16,4 +19,5 @@ pub invariant_of-self : goal.invariant_of-self
 invariant_of-self c = keyed-values _ _ (left c)
 
 pub returns : goal.returns
-returns c = values-are _ _ (left c) ∙ ap (filter (λ r. not (is_up_to c.args.client c.args.seq r))) c.self.view_is
+returns c =
+    values-are _ _ (left c) ∙ ap (filter (λ r. not (is_up_to c.args.client c.args.seq r))) c.self.view_is

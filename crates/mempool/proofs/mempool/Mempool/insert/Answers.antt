@@ -15,15 +15,20 @@ new-request c =
     ∙ sym c.contains.ensures ∙ c.if-contains.false
 
 -- what stands in the map after the insertion
-joined : (c : goal.Joined-branch-2) → c.insert.new.self.entries ≡ keyed (c.args.self.now ++ c.args.request ∷ [])
+joined : (c : goal.Joined-branch-2)
+    → c.insert.new.self.entries ≡ keyed (c.args.self.now ++ c.args.request ∷ [])
 joined c =
     c.in_ok-insert.ensures.entries
-    ∙ inserted-keyed _ c.self.inside.requests c.args.self.now (c.client-client.result, c.seq-seq.result) c.args.request (λ r. refl)
-    (c.self.invariant ∙ ap keyed c.self.view_is) (λ i. (c.client-client.ensures i, c.seq-seq.ensures i)) (sym c.contains.ensures ∙ c.if-contains.false)
+    ∙ inserted-keyed _ c.self.inside.requests c.args.self.now (c.client-client.result, c.seq-seq.result)
+    c.args.request (λ r. refl)
+    (c.self.invariant ∙ ap keyed c.self.view_is) (λ i. (c.client-client.ensures i, c.seq-seq.ensures i))
+    (sym c.contains.ensures ∙ c.if-contains.false)
 
 pub invariant_of-self-2 : goal.invariant_of-self-2
 invariant_of-self-2 c = keyed-values _ _ (joined c)
 
 pub returns-clause-added : goal.returns-clause-added
 returns-clause-added c =
-    values-are _ _ (joined c) ∙ ap (λ (b : Bool). if b then c.args.self.now else c.args.self.now ++ c.args.request ∷ []) (sym (new-request c))
+    values-are _ _ (joined c)
+    ∙ ap (λ (b : Bool). if b then c.args.self.now else c.args.self.now ++ c.args.request ∷ [])
+    (sym (new-request c))

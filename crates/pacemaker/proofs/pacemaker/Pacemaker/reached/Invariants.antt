@@ -6,6 +6,9 @@ use Rattle.pacemaker.proofs.pacemaker.Pacemaker.reached.Given as goal
 
 abbrev pub invariant-loop-i : goal.invariant-loop-i
 invariant-loop-i l = record {
-  some : (l.reached ≡ 0) ⊎ ((i : ℕ) × (i < replicas l.self.sizes) × (slice_index l.self.announced i ≡ l.reached) × (l.self.sizes.faults < passed_by l.self l.reached));
-  most : (i : ℕ) → i < l.i → l.self.sizes.faults < passed_by l.self (slice_index l.self.announced i) → slice_index l.self.announced i ≤ l.reached;
+  some : (l.reached ≡ 0)
+      ⊎ ((i : ℕ) × (i < replicas l.self.sizes) × (slice_index l.self.announced i ≡ l.reached)
+      × (l.self.sizes.faults < passed_by l.self l.reached));
+  most : (i : ℕ) → i < l.i → l.self.sizes.faults < passed_by l.self (slice_index l.self.announced i)
+      → slice_index l.self.announced i ≤ l.reached;
 }

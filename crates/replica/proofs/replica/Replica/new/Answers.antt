@@ -9,13 +9,18 @@ use Rattle.replica.proofs.replica.Replica.new.Goals as goal
 pub invariant_of-result : goal.invariant_of-result
 invariant_of-result c =
     let is = c.first_state.ensures c.args.keyring (sym c.requires.sizes) in
-    let empty : c.first_state.result.variables.chronicle ≡ [] = ap (λ (v : Variables). v.chronicle) is.same in (
-      subst (λ (x : Chronicle). IsWholeOf c.args.keyring (record { chronicle = x; standing = running }) c.first_state.result c.in_ok-executor.executor) (sym empty)
-          (first-whole c.args.keyring c.first_state.result c.in_ok-executor.executor is c.in_ok-executor.ensures.made),
+    let empty : c.first_state.result.variables.chronicle ≡ [] =
+    ap (λ (v : Variables). v.chronicle) is.same in (
+      subst (λ (x : Chronicle). IsWholeOf c.args.keyring (record { chronicle = x; standing = running })
+          c.first_state.result c.in_ok-executor.executor) (sym empty)
+          (first-whole c.args.keyring c.first_state.result c.in_ok-executor.executor is
+          c.in_ok-executor.ensures.made),
       rw (← c.requires.number, ← c.requires.sizes) c.requires.replica,
     )
 
 pub returns-clause-made : goal.returns-clause-made
 returns-clause-made c =
     let is = c.first_state.ensures c.args.keyring (sym c.requires.sizes) in
-    ap (λ (v : Variables). record { keys = c.args.keyring; replica = record { chronicle = v.chronicle; standing = running } }) is.same
+    ap (λ (v : Variables).
+    record { keys = c.args.keyring; replica = record { chronicle = v.chronicle; standing = running } })
+    is.same

@@ -13,12 +13,19 @@ pub returns-clause-made : goal.returns-clause-made
 returns-clause-made c =
     let old = c.self.inside in
     let d = c.args.change in
-    let items = rw c.unwrap.ensures at c.push.ensures.items ∙ ap (λ (xs : List StoredStep). xs ++ d.step ∷ []) c.reserve.ensures.items in
+    let items =
+    rw c.unwrap.ensures at c.push.ensures.items
+    ∙ ap (λ (xs : List StoredStep). xs ++ d.step ∷ []) c.reserve.ensures.items in
     let tree = c.in_ok-grow.ensures.grown in
     let more : List Stored = grown d.growth old.tree.stored in
-    let chronicle = (λ i. replay (reverse (items i)) (tree i).stored) ∙ replay-push old.steps.items d.step more
-    ∙ ap (λ (l : List Stored). step_of d.step more ∷ replay (reverse old.steps.items) l) (before-grown d.step d.growth old.tree.stored c.requires.step) in
-    let votes = c.forget.ensures ∙ ap (λ (v : Collected). record v { kept = left_above d.high v.kept }) c.in_ok-grow.ensures.collected in
+    let chronicle =
+    (λ i. replay (reverse (items i)) (tree i).stored) ∙ replay-push old.steps.items d.step more
+    ∙ ap (λ (l : List Stored). step_of d.step more ∷ replay (reverse old.steps.items) l)
+    (before-grown d.step d.growth old.tree.stored c.requires.step) in
+    let votes =
+    c.forget.ensures
+    ∙ ap (λ (v : Collected). record v { kept = left_above d.high v.kept })
+    c.in_ok-grow.ensures.collected in
     (λ i. record {
       variables = record {
         chronicle = chronicle i;

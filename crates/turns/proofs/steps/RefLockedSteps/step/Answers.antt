@@ -8,6 +8,7 @@ returns-clause-moved g c =
     let s = c.step-answer.ensures in
     let before : Holds c.deref_mut.result.now = search rules in
     let after : Holds c.step-answer.new.self = search rules in
-    let step = kept_step c.deref_mut.result.now c.args.share.now c.args.input c.step-answer.result c.step-answer.new.self c.step-answer.new.share
+    let step = kept_step c.deref_mut.result.now c.args.share.now c.args.input c.step-answer.result
+    c.step-answer.new.self c.step-answer.new.share
     s.not_mine s.not_all s.unchanged s.same_share s.stepped s.share s.shares s.eye s.keys in
     (c.deref_mut.result.now, c.step-answer.new.self, before, after, step)
