@@ -44,9 +44,9 @@ fn write_reply(reply: &Reply, out: &mut Vec<u8>) {
             }
             out.extend_from_slice(b"END\r\n");
         }
-        Reply::NoRoom => out.extend_from_slice(b"SERVER_ERROR out of memory storing object\r\n"),
-        Reply::TooLong => out.extend_from_slice(b"SERVER_ERROR object too large for cache\r\n"),
-        Reply::NoNumber => out.extend_from_slice(b"CLIENT_ERROR cannot increment or decrement non-numeric value\r\n"),
+        Reply::OutOfMemory => out.extend_from_slice(b"SERVER_ERROR out of memory storing object\r\n"),
+        Reply::TooLarge => out.extend_from_slice(b"SERVER_ERROR object too large for cache\r\n"),
+        Reply::NonNumeric => out.extend_from_slice(b"CLIENT_ERROR cannot increment or decrement non-numeric value\r\n"),
     }
 }
 

@@ -126,7 +126,7 @@ struct Cache {
 impl Cache {
     fn change(&mut self, key: &[u8], flags: u32, stored: Vec<u8>, told: Reply) -> Reply {
         if self.changes == u64::MAX {
-            return Reply::NoRoom;
+            return Reply::OutOfMemory;
         }
         self.changes += 1;
         let entry = Entry { flags, stored, unique: self.changes };
@@ -139,7 +139,7 @@ impl Cache {
             return Reply::NotStored;
         };
         if entry.stored.len() + data.len() > MOST_DATA {
-            return Reply::TooLong;
+            return Reply::TooLarge;
         }
         let (flags, joined) = if behind {
             (entry.flags, [&entry.stored, data].concat())
@@ -159,7 +159,7 @@ impl Cache {
                     Verb::Prepend => self.join(key, data, false),
                     Verb::Add if present => Reply::NotStored,
                     Verb::Replace if !present => Reply::NotStored,
-                    _ if !room => Reply::NoRoom,
+                    _ if !room => Reply::OutOfMemory,
                     _ => self.change(key, flags, data.to_vec(), Reply::Stored),
                 }
             }
@@ -186,7 +186,7 @@ impl Cache {
                     return Reply::NotFound;
                 };
                 let Some(n) = decimal(&entry.stored) else {
-                    return Reply::NoNumber;
+                    return Reply::NonNumeric;
                 };
                 let n = if up { n.wrapping_add(value) } else { n.saturating_sub(value) };
                 let flags = entry.flags;
@@ -209,9 +209,9 @@ fn weight(reply: &Reply) -> u64 {
             .iter()
             .map(|v| (v.0.len() + v.2.len()) as u64 + u64::from(v.1) + if *with_unique { v.3 % 1000 } else { 0 })
             .sum(),
-        Reply::NoRoom => 6,
-        Reply::TooLong => 7,
-        Reply::NoNumber => 8,
+        Reply::OutOfMemory => 6,
+        Reply::TooLarge => 7,
+        Reply::NonNumeric => 8,
     }
 }
 

@@ -7,9 +7,10 @@ use Rattle.std.specs.List.{list_any}
 use Rattle.definitions.specs.Lists.{Among, IsBeginning, count_below}
 use Rattle.definitions.specs.Branches.{Branch, just1, just2, just3, Extends, branch_eq}
 use Rattle.ids.specs.Sizes.{Sizes, replicas, quorum}
-use Rattle.definitions.specs.Chronicles.{Admitted, Step, Chronicle, voted, taken, tree, lock, decides}
+use Rattle.definitions.specs.Chronicles.{Admitted, Step, Chronicle, voted_blocks, taken_blocks, tree, lock}
+use Rattle.definitions.specs.Chronicles.{decides}
 use Rattle.definitions.specs.Chronicles.{decided, IsLawful}
-use Rattle.definitions.specs.Agreement.{Family, IsCertified, supports, Order, steps_of, IsLawfulFamily}
+use Rattle.definitions.specs.Agreement.{Family, MayBeCertified, supports, Order, steps_of, IsLawfulFamily}
 use Rattle.definitions.proofs.Branches.{just1-extends, Extends-trans, just2-is, just3-is}
 use Rattle.definitions.proofs.Chronicles.{voted-tree, one-vote, IsVote, lock-above, tree-taken, tree-just1}
 use Rattle.definitions.proofs.Chronicles.{taken-tree, decided-cases}
@@ -33,13 +34,13 @@ pub record IsChain (fam : Family) (b : Branch) : Type 0 where
   pub middle_height : length middle ≡ suc (length b)
   pub top_height : length top ≡ suc (suc (length b))
   pub above : 0 < length b
-  pub top_certified : IsCertified fam top
-  pub middle_certified : IsCertified fam middle
-  pub own_certified : IsCertified fam b
+  pub top_certified : MayBeCertified fam top
+  pub middle_certified : MayBeCertified fam middle
+  pub own_certified : MayBeCertified fam b
 
 -- a branch above genesis that is decided has its chain
 chain-of : (s : Sizes) (is_member : ℕ → Bool) (o : Order) (c : Chronicle) → IsLawful s c
-    → AreCounted is_member c o → (b : Branch) → (a : Admitted) → Among a (taken c) → b ≡ just3 a.branch
+    → AreCounted is_member c o → (b : Branch) → (a : Admitted) → Among a (taken_blocks c) → b ≡ just3 a.branch
     → decides a.branch ≡ true → 0 < length b
     → IsChain (family_at s is_member o) b
 unfolding decides
@@ -62,10 +63,10 @@ chain-of s is_member o c l counted b a m e d h =
       top_height = omega (arith, low, high, own);
       above = h;
       top_certified = taken-certified s is_member o c l counted a m (omega (arith, high));
-      middle_certified = subst (IsCertified fam) (just2-is x)
+      middle_certified = subst (MayBeCertified fam) (just2-is x)
           (certified s is_member o c l counted (just1 x) in1
           (omega (arith, low, ap (λ (z : Branch). length z) (just2-is x))));
-      own_certified = subst (IsCertified fam) (just3-is x ∙ sym e)
+      own_certified = subst (MayBeCertified fam) (just3-is x ∙ sym e)
           (certified s is_member o c l counted (just2 x) in2
           (omega (arith, h, own, ap (λ (z : Branch). length z) (just3-is x))));
     }
@@ -75,7 +76,7 @@ module _ (s : Sizes) (is_member : ℕ → Bool) (enough : quorum s ≤ count_bel
     (whole : Order) (course : IsLawfulOrder s is_member whole) where
   -- of each height one branch at most is certified
   one-certified : (o : Order) → IsBeginning o whole → (a b : Branch)
-      → IsCertified (family_at s is_member o) a → IsCertified (family_at s is_member whole) b
+      → MayBeCertified (family_at s is_member o) a → MayBeCertified (family_at s is_member whole) b
       → length a ≡ length b → a ≡ b
   one-certified o g a b p q e =
       let i = voted-both s is_member enough o whole a b p q in
@@ -95,7 +96,7 @@ module _ (s : Sizes) (is_member : ℕ → Bool) (enough : quorum s ≤ count_bel
 
     -- what is certified, no lower than b and no higher than the top, extends b
     near-extends : (o : Order) → IsBeginning o whole → (x : Branch)
-        → IsCertified (family_at s is_member o) x → length b ≤ length x → length x ≤ length chain.top
+        → MayBeCertified (family_at s is_member o) x → length b ≤ length x → length x ≤ length chain.top
         → Extends x b
     near-extends o g x p low high =
         elim (cases_eq (length x) (length b)) [
@@ -111,12 +112,12 @@ module _ (s : Sizes) (is_member : ℕ → Bool) (enough : quorum s ≤ count_bel
     -- in this beginning, what a member voted for after the top extends b
     abbrev VotesExtend : Order → Type 0
     VotesExtend o =
-        (i : ℕ) → is_member i ≡ true → (x : Branch) → Among x (voted (steps_of i o))
-        → Among chain.top (voted (steps_of i o)) → length chain.top < length x → Extends x b
+        (i : ℕ) → is_member i ≡ true → (x : Branch) → Among x (voted_blocks (steps_of i o))
+        → Among chain.top (voted_blocks (steps_of i o)) → length chain.top < length x → Extends x b
 
     -- so what is certified in it, no lower than b, extends b
     certified-extends : (o : Order) → IsBeginning o whole → VotesExtend o → (x : Branch)
-        → IsCertified (family_at s is_member o) x → length b ≤ length x → Extends x b
+        → MayBeCertified (family_at s is_member o) x → length b ≤ length x → Extends x b
     certified-extends o g votes x p low =
         elim (cases_lt (length chain.top) (length x)) [
           | inl high ↦ (
@@ -127,7 +128,7 @@ module _ (s : Sizes) (is_member : ℕ → Bool) (enough : quorum s ≤ count_bel
         ]
 
     -- the lock of a member that voted for the top is no lower than b
-    lock-high : (c : Chronicle) → IsLawful s c → Among chain.top (voted c) → length b ≤ length (lock c)
+    lock-high : (c : Chronicle) → IsLawful s c → Among chain.top (voted_blocks c) → length b ≤ length (lock c)
     lock-high c l m =
         let a = tree-taken c chain.top (voted-tree s c l chain.top m) (omega (arith, chain.top_height)) in
         let same : just2 a.0.branch ≡ b =
@@ -137,8 +138,8 @@ module _ (s : Sizes) (is_member : ℕ → Bool) (enough : quorum s ≤ count_bel
     -- so its next vote extends b, where all that was certified before does
     vote-extends : (p : ℕ × Step) (o : Order) → IsLawfulOrder s is_member (p ∷ o) → (i : ℕ)
         → is_member i ≡ true → (x : Branch) → IsVote x (steps_of i (p ∷ o)) (steps_of i o)
-        → Among chain.top (voted (steps_of i o))
-        → ((y : Branch) → IsCertified (family_at s is_member o) y → length b ≤ length y → Extends y b)
+        → Among chain.top (voted_blocks (steps_of i o))
+        → ((y : Branch) → MayBeCertified (family_at s is_member o) y → length b ≤ length y → Extends y b)
         → Extends x b
     vote-extends p o l i mi x v m before =
         let c : Chronicle = steps_of i o in
@@ -156,12 +157,12 @@ module _ (s : Sizes) (is_member : ℕ → Bool) (enough : quorum s ≤ count_bel
 
     -- by induction on the order: what a member's newest vote rests on was certified before it
     votes-extend : (o : Order) → IsBeginning o whole → VotesExtend o
-    unfolding steps_of voted
+    unfolding steps_of voted_blocks
     votes-extend [] g i mi x m n h = absurd m
     votes-extend (p ∷ o) g i mi x m n h =
         let l : IsLawfulOrder s is_member (p ∷ o) = lawful-beginning s is_member (p ∷ o) whole g course in
         let g2 : IsBeginning o whole = beginning-older p o whole g in
-        let k : Among chain.top (voted (steps_of i o)) =
+        let k : Among chain.top (voted_blocks (steps_of i o)) =
         lower-earlier s p o i x chain.top (l.lawful i mi) m n h in
         elim (order-cases s p o i x (l.lawful i mi) m) [
           | inr y ↦ votes-extend o g2 i mi x y k h
@@ -169,7 +170,7 @@ module _ (s : Sizes) (is_member : ℕ → Bool) (enough : quorum s ≤ count_bel
         ]
 
     -- what is certified, no lower than b, extends b
-    extends-decided : (x : Branch) → IsCertified (family_at s is_member whole) x → length b ≤ length x
+    extends-decided : (x : Branch) → MayBeCertified (family_at s is_member whole) x → length b ≤ length x
         → Extends x b
     extends-decided = certified-extends whole ([], refl) (votes-extend whole ([], refl))
 
@@ -235,9 +236,9 @@ unfolding supports
 supports-same fam l x i = by (fam.is_member i) (l.orderly.whole i)
   where
     by : (t : Bool) → (t ≡ true → steps_of i l.orderly.order ≡ fam.chronicle i)
-        → cond t (list_any (branch_eq x) (voted (fam.chronicle i))) true
-        ≡ cond t (list_any (branch_eq x) (voted (steps_of i l.orderly.order))) true
-    by true e = ap (λ (c : Chronicle). list_any (branch_eq x) (voted c)) (sym (e refl))
+        → cond t (list_any (branch_eq x) (voted_blocks (fam.chronicle i))) true
+        ≡ cond t (list_any (branch_eq x) (voted_blocks (steps_of i l.orderly.order))) true
+    by true e = ap (λ (c : Chronicle). list_any (branch_eq x) (voted_blocks c)) (sym (e refl))
     by false e = refl
 
 -- what is certified, no lower than a decided branch, extends it

@@ -6,8 +6,9 @@ use Rattle.std.proofs.lemmas.Bool.{cond_both, cond-true, or_cases, or_left, or_r
 use Rattle.definitions.specs.Lists.{Among, IsBeginning, count_below}
 use Rattle.definitions.specs.Branches.{Branch, just1, branch_eq}
 use Rattle.ids.specs.Sizes.{Sizes, replicas, quorum}
-use Rattle.definitions.specs.Chronicles.{Admitted, Step, Chronicle, voted, taken, tree, lock, IsLawful}
-use Rattle.definitions.specs.Agreement.{Family, supports, IsCertified, Order, steps_of, IsOrdered}
+use Rattle.definitions.specs.Chronicles.{Admitted, Step, Chronicle, voted_blocks, taken_blocks, tree, lock}
+use Rattle.definitions.specs.Chronicles.{IsLawful}
+use Rattle.definitions.specs.Agreement.{Family, supports, MayBeCertified, Order, steps_of, IsOrdered}
 use Rattle.definitions.proofs.Branches.{branch_eq-decides, length-extends, just1-extends, just2-is}
 use Rattle.definitions.proofs.Orders.{backed-now, order-grows, counted-voted}
 use Rattle.definitions.proofs.Chronicles.{lawful-taken, taken-now, voted-cases, IsVote, vote-higher}
@@ -28,20 +29,20 @@ pub record IsLawfulOrder (s : Sizes) (is_member : ℕ → Bool) (o : Order) : Ty
 
 -- the newest step of the order is i's vote for b, or the vote is an earlier one
 pub order-cases : (s : Sizes) (p : ℕ × Step) (o : Order) (i : ℕ) (b : Branch)
-    → IsLawful s (steps_of i (p ∷ o)) → Among b (voted (steps_of i (p ∷ o)))
-    → IsVote b (steps_of i (p ∷ o)) (steps_of i o) ⊎ Among b (voted (steps_of i o))
+    → IsLawful s (steps_of i (p ∷ o)) → Among b (voted_blocks (steps_of i (p ∷ o)))
+    → IsVote b (steps_of i (p ∷ o)) (steps_of i o) ⊎ Among b (voted_blocks (steps_of i o))
 unfolding steps_of
 order-cases s p o i b =
     cond_both (p.0 == i) (p.1 ∷ steps_of i o) (steps_of i o)
-    (λ (c : Chronicle). IsLawful s c → Among b (voted c)
-    → IsVote b c (steps_of i o) ⊎ Among b (voted (steps_of i o)))
+    (λ (c : Chronicle). IsLawful s c → Among b (voted_blocks c)
+    → IsVote b c (steps_of i o) ⊎ Among b (voted_blocks (steps_of i o)))
     (λ e l m. voted-cases s p.1 (steps_of i o) b l m) (λ e l m. inr m)
 
 -- of two votes the lower one is not the newest
 pub lower-earlier : (s : Sizes) (p : ℕ × Step) (o : Order) (i : ℕ) (a b : Branch)
-    → IsLawful s (steps_of i (p ∷ o)) → Among a (voted (steps_of i (p ∷ o)))
-    → Among b (voted (steps_of i (p ∷ o)))
-    → length b < length a → Among b (voted (steps_of i o))
+    → IsLawful s (steps_of i (p ∷ o)) → Among a (voted_blocks (steps_of i (p ∷ o)))
+    → Among b (voted_blocks (steps_of i (p ∷ o)))
+    → length b < length a → Among b (voted_blocks (steps_of i o))
 lower-earlier s p o i a b l m n h =
     elim (order-cases s p o i b l n) [
       | inr k ↦ k
@@ -73,22 +74,23 @@ pub lawful-beginning : (s : Sizes) (is_member : ℕ → Bool) (o whole : Order) 
 lawful-beginning s is_member o whole g l =
     lawful-added s is_member g.0 o (subst (IsLawfulOrder s is_member) (sym g.1) l)
 
-voted-added : (added o : Order) (i : ℕ) (b : Branch) → Among b (voted (steps_of i o))
-    → Among b (voted (steps_of i (added ++ o)))
+voted-added : (added o : Order) (i : ℕ) (b : Branch) → Among b (voted_blocks (steps_of i o))
+    → Among b (voted_blocks (steps_of i (added ++ o)))
 voted-added [] o i b m = m
 voted-added (p ∷ added) o i b m = order-grows p.0 p.1 (added ++ o) i b (voted-added added o i b m)
 
 -- its votes stay
 pub voted-later : (o whole : Order) → IsBeginning o whole → (i : ℕ) (b : Branch)
-    → Among b (voted (steps_of i o)) → Among b (voted (steps_of i whole))
+    → Among b (voted_blocks (steps_of i o)) → Among b (voted_blocks (steps_of i whole))
 voted-later o whole g i b m =
-    subst (λ (x : Order). Among b (voted (steps_of i x))) g.1 (voted-added g.0 o i b m)
+    subst (λ (x : Order). Among b (voted_blocks (steps_of i x))) g.1 (voted-added g.0 o i b m)
 
 -- a vote for a lower block came first
 lower-added : (s : Sizes) (is_member : ℕ → Bool) (added o : Order) → IsLawfulOrder s is_member (added ++ o)
     → (i : ℕ) → is_member i ≡ true → (a b : Branch)
-    → Among a (voted (steps_of i o)) → Among b (voted (steps_of i (added ++ o))) → length b < length a
-    → Among b (voted (steps_of i o))
+    → Among a (voted_blocks (steps_of i o)) → Among b (voted_blocks (steps_of i (added ++ o)))
+    → length b < length a
+    → Among b (voted_blocks (steps_of i o))
 lower-added s is_member [] o l i mi a b m n h = n
 lower-added s is_member (p ∷ added) o l i mi a b m n h =
     lower-added s is_member added o (lawful-older s is_member p (added ++ o) l) i mi a b m
@@ -97,11 +99,11 @@ lower-added s is_member (p ∷ added) o l i mi a b m n h =
 -- who voted for a in it, and at any time for a lower b, voted for b in it
 pub lower-within : (s : Sizes) (is_member : ℕ → Bool) (o whole : Order) → IsBeginning o whole
     → IsLawfulOrder s is_member whole → (i : ℕ) → is_member i ≡ true → (a b : Branch)
-    → Among a (voted (steps_of i o)) → Among b (voted (steps_of i whole)) → length b < length a
-    → Among b (voted (steps_of i o))
+    → Among a (voted_blocks (steps_of i o)) → Among b (voted_blocks (steps_of i whole)) → length b < length a
+    → Among b (voted_blocks (steps_of i o))
 lower-within s is_member o whole g l i mi a b m n h =
     lower-added s is_member g.0 o (subst (IsLawfulOrder s is_member) (sym g.1) l) i mi a b m
-    (subst (λ (x : Order). Among b (voted (steps_of i x))) (sym g.1) n) h
+    (subst (λ (x : Order). Among b (voted_blocks (steps_of i x))) (sym g.1) n) h
 
 -- ---- certified blocks
 
@@ -118,22 +120,23 @@ among-any b (x ∷ xs) (inr m) = or_right _ _ (among-any b xs m)
 
 -- a member that supports b voted for it
 supporter-voted : (fam : Family) (b : Branch) (i : ℕ) → fam.is_member i ≡ true → supports fam b i ≡ true
-    → Among b (voted (fam.chronicle i))
+    → Among b (voted_blocks (fam.chronicle i))
 unfolding supports
-supporter-voted fam b i m h = any-among b (voted (fam.chronicle i)) (sym (cond-true _ _ _ m) ∙ h)
+supporter-voted fam b i m h = any-among b (voted_blocks (fam.chronicle i)) (sym (cond-true _ _ _ m) ∙ h)
 
 -- who, if a member, voted for b supports it
 supports-from : (fam : Family) (b : Branch) (i : ℕ)
-    → (fam.is_member i ≡ true → Among b (voted (fam.chronicle i))) → supports fam b i ≡ true
+    → (fam.is_member i ≡ true → Among b (voted_blocks (fam.chronicle i))) → supports fam b i ≡ true
 unfolding supports
 supports-from fam b i h = cond_both (fam.is_member i) _ true (λ (t : Bool). t ≡ true)
-    (λ m. among-any b (voted (fam.chronicle i)) (h m)) (λ n. refl)
+    (λ m. among-any b (voted_blocks (fam.chronicle i)) (h m)) (λ n. refl)
 
 -- the votes that this chronicle counts in members' names stand in this order
 abbrev pub AreCounted : (ℕ → Bool) → Chronicle → Order → Type 0
 AreCounted is_member c o =
-    (a : Admitted) → Among a (taken c) → a.new ≡ true → (v : ℕ) → Among v a.counted → is_member v ≡ true
-    → Among (just1 a.branch) (voted (steps_of v o))
+    (a : Admitted) → Among a (taken_blocks c) → a.new ≡ true → (v : ℕ) → Among v a.counted
+    → is_member v ≡ true
+    → Among (just1 a.branch) (voted_blocks (steps_of v o))
 
 -- they stand before the newest step
 pub counted-before : (is_member : ℕ → Bool) (p : ℕ × Step) (o : Order) → IsOrdered is_member (p ∷ o)
@@ -141,7 +144,7 @@ pub counted-before : (is_member : ℕ → Bool) (p : ℕ × Step) (o : Order) �
 unfolding steps_of
 counted-before is_member p o h i a m n v k mv =
     cond_both (p.0 == i) (p.1 ∷ steps_of i o) (steps_of i o)
-    (λ (c : Chronicle). Among a (taken c) → Among (just1 a.branch) (voted (steps_of v o)))
+    (λ (c : Chronicle). Among a (taken_blocks c) → Among (just1 a.branch) (voted_blocks (steps_of v o)))
     (λ e x. elim (taken-now p.1 (steps_of i o) a x) [
       | inl now ↦ backed-now is_member p.1 o a now.0 h.0 n v k mv
       | inr y ↦ counted-voted is_member o h.1 i a y n v k mv
@@ -150,8 +153,8 @@ counted-before is_member p o h i a m n v k mv =
 
 -- so the block that a taken one justifies is certified
 pub taken-certified : (s : Sizes) (is_member : ℕ → Bool) (o : Order) (c : Chronicle) → IsLawful s c
-    → AreCounted is_member c o → (a : Admitted) → Among a (taken c) → 0 < length (just1 a.branch)
-    → IsCertified (family_at s is_member o) (just1 a.branch)
+    → AreCounted is_member c o → (a : Admitted) → Among a (taken_blocks c) → 0 < length (just1 a.branch)
+    → MayBeCertified (family_at s is_member o) (just1 a.branch)
 taken-certified s is_member o c l counted a m h =
     let x : Branch = just1 a.branch in
     let fam : Family = family_at s is_member o in
@@ -169,22 +172,22 @@ taken-certified s is_member o c l counted a m h =
 -- and so is the one that a block of the tree justifies
 pub certified : (s : Sizes) (is_member : ℕ → Bool) (o : Order) (c : Chronicle) → IsLawful s c
     → AreCounted is_member c o → (b : Branch) → Among b (tree c) → 0 < length (just1 b)
-    → IsCertified (family_at s is_member o) (just1 b)
+    → MayBeCertified (family_at s is_member o) (just1 b)
 certified s is_member o c l counted b m h =
     let a = tree-taken c b m (omega (arith, length-extends b (just1 b) (just1-extends b))) in
     let high : 0 < length (just1 a.0.branch) = omega (arith, h, ap (λ (z : Branch). length (just1 z)) a.2) in
-    subst (λ (x : Branch). IsCertified (family_at s is_member o) (just1 x)) a.2
+    subst (λ (x : Branch). MayBeCertified (family_at s is_member o) (just1 x)) a.2
     (taken-certified s is_member o c l counted a.0 a.1 high)
 
 -- a lock above genesis is certified
 pub lock-certified : (s : Sizes) (is_member : ℕ → Bool) (o : Order) (c : Chronicle) → IsLawful s c
-    → AreCounted is_member c o → 0 < length (lock c) → IsCertified (family_at s is_member o) (lock c)
+    → AreCounted is_member c o → 0 < length (lock c) → MayBeCertified (family_at s is_member o) (lock c)
 lock-certified s is_member o c l counted h =
     elim (lock-cases c) [
       | inl e ↦ absurd (omega (arith, ap (λ (z : Branch). length z) e))
       | inr a ↦ (
           let same : just1 (just1 a.0.branch) ≡ lock c = just2-is a.0.branch ∙ sym a.2 in
-          subst (IsCertified (family_at s is_member o)) same
+          subst (MayBeCertified (family_at s is_member o)) same
           (certified s is_member o c l counted (just1 a.0.branch)
           (tree-just1 s c l a.0.branch (taken-tree c a.0 a.1))
           (omega (arith, h, ap (λ (z : Branch). length z) same))))
@@ -192,9 +195,10 @@ lock-certified s is_member o c l counted h =
 
 -- a member voted for both of two certified blocks
 pub voted-both : (s : Sizes) (is_member : ℕ → Bool) → quorum s ≤ count_below (replicas s) is_member
-    → (o r : Order) (a b : Branch) → IsCertified (family_at s is_member o) a
-    → IsCertified (family_at s is_member r) b
-    → (i : ℕ) × (is_member i ≡ true) × Among a (voted (steps_of i o)) × Among b (voted (steps_of i r))
+    → (o r : Order) (a b : Branch) → MayBeCertified (family_at s is_member o) a
+    → MayBeCertified (family_at s is_member r) b
+    → (i : ℕ) × (is_member i ≡ true) × Among a (voted_blocks (steps_of i o))
+    × Among b (voted_blocks (steps_of i r))
 voted-both s is_member enough o r a b p q =
     let f : Family = family_at s is_member o in
     let g : Family = family_at s is_member r in

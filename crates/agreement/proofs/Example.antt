@@ -6,8 +6,9 @@ use Rattle.std.specs.List.{AllByRecursion}
 use Rattle.definitions.specs.Lists.{beginning, Among, AreDistinct, greatest, count_below}
 use Rattle.definitions.specs.Branches.{Branch, justify_height, just1, just2, just3, Extends, highest}
 use Rattle.ids.specs.Sizes.{Sizes, replicas, quorum}
-use Rattle.definitions.specs.Chronicles.{Admitted, Step, Step.took_block, Chronicle, voted, taken, tree}
-use Rattle.definitions.specs.Chronicles.{vheight, lock, decides, decided_by, decided, IsLawful, stored}
+use Rattle.definitions.specs.Chronicles.{Admitted, Step, Step.took_block, Chronicle, voted_blocks}
+use Rattle.definitions.specs.Chronicles.{taken_blocks, tree}
+use Rattle.definitions.specs.Chronicles.{vheight, lock, decides, decided_by, decided, IsLawful, stored_blocks}
 use Rattle.definitions.specs.Agreement.{Order, steps_of, IsOrdered}
 use Rattle.definitions.proofs.Lists.{beginning-append}
 use Rattle.definitions.proofs.Branches.{extends-cases, length-extends}
@@ -73,7 +74,7 @@ record MayDo (parent : Branch) (voters : List ℕ) (c : Chronicle) : Type 0 wher
 
 does-lawful : (parent : Branch) (voters : List ℕ) (c : Chronicle) → MayDo parent voters c → IsLawful sizes c
     → IsLawful sizes (does (on parent) voters ∷ c)
-unfolding tree stored taken
+unfolding tree stored_blocks taken_blocks
 does-lawful parent voters c h l = (
   (
     λ v. record {
@@ -126,7 +127,7 @@ three-quorum = (
 )
 
 lawful1 : IsLawful sizes history1
-unfolding vheight voted greatest lock taken highest tree stored
+unfolding vheight voted_blocks greatest lock taken_blocks highest tree stored_blocks
 lawful1 = does-lawful [] [] [] (record {
   higher = omega arith;
   safe = (block1, refl);
@@ -136,7 +137,8 @@ lawful1 = does-lawful [] [] [] (record {
 }) tt
 
 lawful2 : IsLawful sizes history2
-unfolding vheight voted greatest lock taken highest tree stored just2 just1 justify_height beginning
+unfolding vheight voted_blocks greatest lock taken_blocks highest tree stored_blocks just2 just1
+    justify_height beginning
 lawful2 = does-lawful block1 three history1 (record {
   higher = omega arith;
   safe = (block2, refl);
@@ -146,7 +148,8 @@ lawful2 = does-lawful block1 three history1 (record {
 }) lawful1
 
 lawful3 : IsLawful sizes history3
-unfolding vheight voted greatest lock taken highest tree stored just2 just1 justify_height beginning
+unfolding vheight voted_blocks greatest lock taken_blocks highest tree stored_blocks just2 just1
+    justify_height beginning
 lawful3 = does-lawful block2 three history2 (record {
   higher = omega arith;
   safe = (block3, refl);
@@ -157,7 +160,8 @@ lawful3 = does-lawful block2 three history2 (record {
 
 -- the lock is block1 by now
 lawful4 : IsLawful sizes history4
-unfolding vheight voted greatest lock taken highest tree stored just2 just1 justify_height beginning
+unfolding vheight voted_blocks greatest lock taken_blocks highest tree stored_blocks just2 just1
+    justify_height beginning
 lawful4 = does-lawful block3 three history3 (record {
   higher = omega arith;
   safe = (
@@ -176,7 +180,8 @@ round st o = (2, st) ∷ (1, st) ∷ (0, st) ∷ o
 
 -- where each voter that a step counts voted before, the members may make it in a round
 round-ordered : (a : Admitted) (o : Order)
-    → ((v : ℕ) → Among v a.counted → Among (just1 a.branch) (voted (steps_of v o))) → IsOrdered is_member o
+    → ((v : ℕ) → Among v a.counted → Among (just1 a.branch) (voted_blocks (steps_of v o)))
+    → IsOrdered is_member o
     → IsOrdered is_member (round (took_block a) o)
 round-ordered a o votes h = (
   λ n v k m. order-grows 1 (took_block a) ((0, took_block a) ∷ o) v (just1 a.branch)
@@ -203,10 +208,10 @@ abbrev order4 : Order
 order4 = round (does (on block3) three) order3
 
 abbrev voted-on : Branch → Order → ℕ → Type 0
-voted-on b o v = Among (just1 (on b)) (voted (steps_of v o))
+voted-on b o v = Among (just1 (on b)) (voted_blocks (steps_of v o))
 
 order4-ordered : IsOrdered is_member order4
-unfolding steps_of voted just1 justify_height beginning
+unfolding steps_of voted_blocks just1 justify_height beginning
 order4-ordered =
     round-ordered (took (on block3) three) order3
     (each-three (voted-on block3 order3) (inl refl) (inl refl) (inl refl))
@@ -225,7 +230,7 @@ whole (suc (suc (suc i))) m = absurd (omega (arith, ltb-true (suc (suc (suc i)))
 
 -- members 0 to 2 of four replicas decide block1
 pub some-decision : SomeDecision
-unfolding count_below decided decided_by decides taken just3 just2 just1 justify_height beginning
+unfolding count_below decided decided_by decides taken_blocks just3 just2 just1 justify_height beginning
 some-decision = record {
   fam = record { sizes = sizes; is_member = is_member; chronicle = λ i. history4 };
   lawful = record {

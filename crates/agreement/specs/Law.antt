@@ -4,7 +4,7 @@ use Rattle.ids.specs.Sizes.{replicas}
 use Rattle.definitions.specs.Lists.{Among}
 use Rattle.definitions.specs.Branches.{Branch, Extends, Conflict}
 use Rattle.definitions.specs.Chronicles.{decided}
-use Rattle.definitions.specs.Agreement.{Family, IsLawfulFamily, IsCertified}
+use Rattle.definitions.specs.Agreement.{Family, IsLawfulFamily, MayBeCertified}
 
 -- a member decided the branch
 abbrev pub IsDecided : Family → Branch → Type 0
@@ -24,7 +24,7 @@ NoConflict =
 -- a certified branch that is no lower than a decided one extends it
 abbrev pub CertifiedExtends : Type 0
 CertifiedExtends =
-    (fam : Family) (x b : Branch) → IsLawfulFamily fam → IsCertified fam x → IsDecided fam b
+    (fam : Family) (x b : Branch) → IsLawfulFamily fam → MayBeCertified fam x → IsDecided fam b
     → length b ≤ length x → Extends x b
 
 -- a family of four replicas, one of them no member, in which a branch above genesis is decided

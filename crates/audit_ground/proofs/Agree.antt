@@ -7,7 +7,8 @@ use Rattle.definitions.specs.Frames.{genesis_core}
 use Rattle.definitions.specs.Branches.{just1, just2, justify_height, highest, extends, branch_eq, block_eq}
 use Rattle.definitions.specs.Branches.{command_eq}
 use Rattle.definitions.specs.Digests.{digest, digest_of, core_of, core_over}
-use Rattle.definitions.specs.Chronicles.{Chronicle, voted, taken, tree, vheight, lock, stored}
+use Rattle.definitions.specs.Chronicles.{Chronicle, voted_blocks, taken_blocks, tree, vheight, lock}
+use Rattle.definitions.specs.Chronicles.{stored_blocks}
 use Rattle.definitions.specs.Trees.{is_clear, clear_above}
 use Rattle.definitions.specs.Histories.{History}
 use Rattle.definitions.specs.Replicas.{Standing.running, held_history}
@@ -94,8 +95,8 @@ backed = whole-none_unbacked judged (steps_in turns) fronts whole
 
 -- the life is lawful
 shared-well : lives_well shared ≡ true
-unfolding lives_well may_take votes_well vheight voted greatest lock highest just1 just2 justify_height
-    beginning tree taken extends branch_eq block_eq command_eq clear_above stored is_clear
+unfolding lives_well may_take votes_well vheight voted_blocks greatest lock highest just1 just2 justify_height
+    beginning tree taken_blocks extends branch_eq block_eq command_eq clear_above stored_blocks is_clear
 shared-well = refl
 
 -- each is kept well

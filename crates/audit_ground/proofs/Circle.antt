@@ -8,7 +8,8 @@ use Rattle.definitions.specs.Frames.{Command}
 use Rattle.definitions.specs.Branches.{Branch, just1, just2, justify_height, highest, extends, branch_eq}
 use Rattle.definitions.specs.Branches.{block_eq, command_eq}
 use Rattle.definitions.specs.Digests.{digest, digest_of, core_of, core_over}
-use Rattle.definitions.specs.Chronicles.{Step.took_block, voted, taken, tree, vheight, lock, stored}
+use Rattle.definitions.specs.Chronicles.{Step.took_block, voted_blocks, taken_blocks, tree, vheight, lock}
+use Rattle.definitions.specs.Chronicles.{stored_blocks}
 use Rattle.definitions.specs.Trees.{is_clear, clear_above}
 use Rattle.definitions.specs.Audit.{Turns, steps_in, Judged, is_judged, chronicle_of, gives_vote}
 use Rattle.definitions.specs.Audit.{counted_by, counted_for, step_after, has_vote, is_backed, may_move}
@@ -180,20 +181,20 @@ second-quorum =
 
 -- the first life is lawful
 first-well : lives_well first ≡ true
-unfolding lives_well may_take votes_well vheight voted greatest lock highest just1 just2 justify_height
-    beginning tree taken extends branch_eq block_eq command_eq clear_above stored is_clear
+unfolding lives_well may_take votes_well vheight voted_blocks greatest lock highest just1 just2 justify_height
+    beginning tree taken_blocks extends branch_eq block_eq command_eq clear_above stored_blocks is_clear
 first-well = refl
 
 -- and the second
 second-well : lives_well second ≡ true
-unfolding lives_well may_take votes_well vheight voted greatest lock highest just1 just2 justify_height
-    beginning tree taken extends branch_eq block_eq command_eq clear_above stored is_clear
+unfolding lives_well may_take votes_well vheight voted_blocks greatest lock highest just1 just2 justify_height
+    beginning tree taken_blocks extends branch_eq block_eq command_eq clear_above stored_blocks is_clear
 second-well = refl
 
 -- and the third
 third-well : lives_well third ≡ true
-unfolding lives_well may_take votes_well vheight voted greatest lock highest just1 just2 justify_height
-    beginning tree taken extends branch_eq block_eq command_eq clear_above stored is_clear
+unfolding lives_well may_take votes_well vheight voted_blocks greatest lock highest just1 just2 justify_height
+    beginning tree taken_blocks extends branch_eq block_eq command_eq clear_above stored_blocks is_clear
 third-well = refl
 
 -- each is kept well

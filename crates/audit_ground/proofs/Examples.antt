@@ -17,8 +17,9 @@ use Rattle.definitions.specs.Lists.{beginning, Among, AreDistinct}
 use Rattle.definitions.specs.Branches.{Branch, justify_height, just1, just2, just3, highest, extends}
 use Rattle.definitions.specs.Branches.{branch_eq}
 use Rattle.definitions.specs.Digests.{digest, digest_of, core_of, NoCollision}
-use Rattle.definitions.specs.Chronicles.{Admitted, Step.took_block, Chronicle, taken, tree, vheight, lock}
-use Rattle.definitions.specs.Chronicles.{decides, decided_by, decided, executed, history, stored}
+use Rattle.definitions.specs.Chronicles.{Admitted, Step.took_block, Chronicle, taken_blocks, tree, vheight}
+use Rattle.definitions.specs.Chronicles.{lock}
+use Rattle.definitions.specs.Chronicles.{decides, decided_by, decided, executed, history, stored_blocks}
 use Rattle.definitions.specs.Chronicles.{IsLawfulVote, IsLawfulTake, IsLawful}
 use Rattle.definitions.specs.Trees.{clear_above}
 use Rattle.definitions.proofs.Sound.{clear_above-each}
@@ -100,7 +101,8 @@ may_take (b ∷ parent) c =
 -- a vote for it is lawful
 unfoldable pub votes_well : Branch → Chronicle → Chronicle → Bool
 votes_well b now c =
-    nat_lt (vheight c) (length b) && (extends b (lock c) && clear_above (length (just1 b)) b (stored now))
+    nat_lt (vheight c) (length b)
+    && (extends b (lock c) && clear_above (length (just1 b)) b (stored_blocks now))
 
 -- each block of a life is taken lawfully, and voted for lawfully
 unfoldable pub lives_well : List Taking → Bool
@@ -139,7 +141,7 @@ take-lawful (b ∷ parent) counted voted c h q =
 vote-lawful : (b : Branch) (counted : List ℕ) (voted : Bool) (c : Chronicle)
     → votes_well b (took_block (admitted b counted voted) ∷ c) c ≡ true
     → IsLawfulVote b (took_block (admitted b counted voted) ∷ c) c
-unfolding votes_well tree stored taken
+unfolding votes_well tree stored_blocks taken_blocks
 vote-lawful b counted voted c h =
     let p = and_parts _ _ h in
     let r = and_parts _ _ p.1 in
@@ -179,7 +181,7 @@ digest_of-core (b ∷ parent) c h = refl
 -- each block of a life is stored
 took-stored : (ts : List Taking) → lives_well ts ≡ true → (a : Admitted) → Among (took_block a) (life ts)
     → IsStored (life ts) a
-unfolding lives_well tree stored taken
+unfolding lives_well tree stored_blocks taken_blocks
 took-stored [] h a m = absurd m
 took-stored (t ∷ earlier) h a (inl e) =
     let p = and_parts
@@ -354,7 +356,7 @@ entry client = record { client = client; seq = 1; payload = [] }
 pub along-history : (client : ℕ) (voters : List ℕ)
     → held_history (record { chronicle = life (along client voters); standing = running })
     ≡ entry client ∷ []
-unfolding held_history history executed decided decided_by decides taken highest history_of just1 just2
+unfolding held_history history executed decided decided_by decides taken_blocks highest history_of just1 just2
     just3 beginning justify_height
 along-history client voters = refl
 

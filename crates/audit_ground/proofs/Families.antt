@@ -14,7 +14,7 @@ use Rattle.definitions.specs.Lists.{beginning, Among, count_below}
 use Rattle.definitions.specs.Frames.{Core, genesis_core}
 use Rattle.definitions.specs.Branches.{Branch, just1}
 use Rattle.definitions.specs.Digests.{digest, StandsFor, NoCollision}
-use Rattle.definitions.specs.Chronicles.{Admitted, Step, Step.took_block, Step.noted, Chronicle, voted}
+use Rattle.definitions.specs.Chronicles.{Admitted, Step, Step.took_block, Step.noted, Chronicle, voted_blocks}
 use Rattle.definitions.specs.Agreement.{Order, steps_of, IsBacked, IsOrdered, IsOrderly}
 use Rattle.definitions.specs.Audit.{Cut, Turns, steps_in, Judged, is_judged, chronicle_of, gives_vote}
 use Rattle.definitions.specs.Audit.{counted_by, counted_for, step_after, has_vote, is_backed, may_move}
@@ -96,13 +96,13 @@ given-vote d (noted n) h = absurd (true≢false (sym h))
 
 -- a block that was taken with a vote was voted for
 voted-taken : (a : Admitted) → a.voted ≡ true → (c : Chronicle) → Among (took_block a) c
-    → Among a.branch (voted c)
-unfolding voted
+    → Among a.branch (voted_blocks c)
+unfolding voted_blocks
 voted-taken a v [] m = absurd m
 voted-taken a v (s ∷ c) (inl e) =
-    subst (λ (x : Step). Among a.branch (voted (x ∷ c))) e
+    subst (λ (x : Step). Among a.branch (voted_blocks (x ∷ c))) e
     (subst (λ (l : List Branch). Among a.branch l)
-    (sym (cond-true a.voted (a.branch ∷ voted c) (voted c) v)) (inl refl))
+    (sym (cond-true a.voted (a.branch ∷ voted_blocks c) (voted_blocks c) v)) (inl refl))
 voted-taken a v (s ∷ c) (inr m) = voted-grows s c a.branch (voted-taken a v c m)
 
 -- a judged replica's vote that a backed step counts stands in the cut
@@ -125,7 +125,7 @@ module _ (Known : Core → Type 0) (apart : NoCollision Known) (genesis : Known 
     (named : (i : ℕ) (a : Admitted) → Among (took_block a) (chronicle_of ks i) → IsNamed Known a) where
   -- a vote for a digest is one for the branch that it stands for
   vote-stands : (k : Cut) (v : ℕ) (d : Bytes) (x : Branch) → StandsFor Known d x → has_vote ks k d v ≡ true
-      → Among x (voted (beginning (k v) (chronicle_of ks v)))
+      → Among x (voted_blocks (beginning (k v) (chronicle_of ks v)))
   unfolding has_vote
   vote-stands k v d x stands h =
       let some = any-found (gives_vote d) (beginning (k v) (chronicle_of ks v)) h in
@@ -136,7 +136,7 @@ module _ (Known : Core → Type 0) (apart : NoCollision Known) (genesis : Known 
       let same : given.0.branch ≡ x =
       stands_for-one Known apart genesis d given.0.branch x
       (subst (λ (e : Bytes). StandsFor Known e given.0.branch) given.3 n.block) stands in
-      subst (λ (y : Branch). Among y (voted (beginning (k v) (chronicle_of ks v)))) same
+      subst (λ (y : Branch). Among y (voted_blocks (beginning (k v) (chronicle_of ks v)))) same
       (voted-taken given.0 given.2 (beginning (k v) (chronicle_of ks v)) m)
 
   -- a step that is backed by digests is backed by branches
@@ -144,7 +144,7 @@ module _ (Known : Core → Type 0) (apart : NoCollision Known) (genesis : Known 
       → ((i : ℕ) → steps_of i earlier ≡ beginning (k i) (chronicle_of ks i)) → (s : Step)
       → Among s (chronicle_of ks u) → is_backed ks k s ≡ true → IsBacked (is_judged ks) s earlier
   backed-step k u earlier same (took_block a) m h = λ new v among t.
-      subst (λ (c : Chronicle). Among (just1 a.branch) (voted c)) (sym (same v))
+      subst (λ (c : Chronicle). Among (just1 a.branch) (voted_blocks c)) (sym (same v))
       (vote-stands k v a.certificate.digest (just1 a.branch) (named u a m).justified
       (backed-has_vote ks k a h new v among t))
   backed-step k u earlier same (noted n) m h = tt

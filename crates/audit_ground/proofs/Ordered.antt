@@ -12,7 +12,7 @@ use Rattle.definitions.specs.Lists.{beginning, IsBeginning, Among}
 use Rattle.definitions.specs.Frames.{Core}
 use Rattle.definitions.specs.Branches.{Branch, just1}
 use Rattle.definitions.specs.Digests.{digest, digest_of, StandsFor}
-use Rattle.definitions.specs.Chronicles.{Admitted, Step, Step.took_block, Step.noted, Chronicle, voted}
+use Rattle.definitions.specs.Chronicles.{Admitted, Step, Step.took_block, Step.noted, Chronicle, voted_blocks}
 use Rattle.definitions.specs.Agreement.{Order, steps_of, IsBacked, IsOrdered}
 use Rattle.definitions.specs.Audit.{Cut, Turns, steps_in, Judged, is_judged, chronicle_of, gives_vote}
 use Rattle.definitions.specs.Audit.{counted_by, counted_for, step_after, has_vote, is_backed, may_move}
@@ -38,22 +38,22 @@ record IsTakenVote (x : Branch) (s : Step) : Type 0 where
   branch : block.branch ≡ x
 
 -- the newest step has the vote, or it is an earlier one
-voted-now : (x : Branch) (s : Step) (c : Chronicle) → Among x (voted (s ∷ c))
-    → IsTakenVote x s ⊎ Among x (voted c)
-unfolding voted
+voted-now : (x : Branch) (s : Step) (c : Chronicle) → Among x (voted_blocks (s ∷ c))
+    → IsTakenVote x s ⊎ Among x (voted_blocks c)
+unfolding voted_blocks
 voted-now x (took_block a) c m = by a.voted refl m
   where
-    by : (t : Bool) → a.voted ≡ t → Among x (cond t (a.branch ∷ voted c) (voted c))
-        → IsTakenVote x (took_block a) ⊎ Among x (voted c)
+    by : (t : Bool) → a.voted ≡ t → Among x (cond t (a.branch ∷ voted_blocks c) (voted_blocks c))
+        → IsTakenVote x (took_block a) ⊎ Among x (voted_blocks c)
     by true v (inl e) = inl (record { block = a; is_step = refl; voted = v; branch = sym e })
     by true v (inr k) = inr k
     by false v k = inr k
 voted-now x (noted n) c m = inr m
 
 -- what was voted for was taken with a vote
-voted-took : (x : Branch) (c : Chronicle) → Among x (voted c)
+voted-took : (x : Branch) (c : Chronicle) → Among x (voted_blocks c)
     → (a : Admitted) × Among (took_block a) c × (a.voted ≡ true) × (a.branch ≡ x)
-unfolding voted
+unfolding voted_blocks
 voted-took x [] m = absurd m
 voted-took x (s ∷ c) m =
     elim (voted-now x s c m) [
@@ -114,7 +114,7 @@ module _ (Known : Core → Type 0) (ks : Judged)
     (named : (i : ℕ) (a : Admitted) → Among (took_block a) (chronicle_of ks i) → IsNamed Known a) where
   -- a vote for a branch is one for each digest that stands for it
   voted-has_vote : (k : Cut) (v : ℕ) (d : Bytes) (x : Branch) → StandsFor Known d x
-      → Among x (voted (beginning (k v) (chronicle_of ks v))) → has_vote ks k d v ≡ true
+      → Among x (voted_blocks (beginning (k v) (chronicle_of ks v))) → has_vote ks k d v ≡ true
   unfolding has_vote
   voted-has_vote k v d x stands m =
       let r = voted-took x (beginning (k v) (chronicle_of ks v)) m in
@@ -160,7 +160,7 @@ module _ (Known : Core → Type 0) (ks : Judged)
       by : (t : Bool) → a.new ≡ t → Among v (cond t a.counted [])
           → has_vote ks k a.certificate.digest v ≡ true
       by true new m = voted-has_vote k v a.certificate.digest (just1 a.branch) n.justified
-          (subst (λ (c : Chronicle). Among (just1 a.branch) (voted c)) (same v j) (h new v m j))
+          (subst (λ (c : Chronicle). Among (just1 a.branch) (voted_blocks c)) (same v j) (h new v m j))
       by false new m = absurd m
 
   -- a step that is backed by branches is backed by digests

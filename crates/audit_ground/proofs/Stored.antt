@@ -5,14 +5,15 @@ use Rattle.definitions.specs.Bytes.{Bytes}
 use Rattle.definitions.specs.Lists.{Among}
 use Rattle.definitions.specs.Branches.{Branch, just1}
 use Rattle.definitions.specs.Digests.{digest_of, core_of, StandsFor, AllKnown}
-use Rattle.definitions.specs.Chronicles.{Admitted, Step.took_block, Chronicle, taken, tree, IsLawful}
+use Rattle.definitions.specs.Chronicles.{Admitted, Step.took_block, Chronicle, taken_blocks, tree, IsLawful}
 use Rattle.definitions.proofs.Digests.{stands_for-from}
 use Rattle.definitions.proofs.Chronicles.{taken-now, tree-taken, tree-parent, tree-just1}
 use Rattle.audit_ground.specs.Law.{KnownIn, IsNamed, IsStored, StoredBlocksAreNamed}
 
 -- a taken block was admitted, as a new one
-taken-took : (a : Admitted) (c : Chronicle) → Among a (taken c) → Among (took_block a) c × (a.new ≡ true)
-unfolding taken
+taken-took : (a : Admitted) (c : Chronicle) → Among a (taken_blocks c)
+    → Among (took_block a) c × (a.new ≡ true)
+unfolding taken_blocks
 taken-took a [] m = absurd m
 taken-took a (s ∷ c) m =
     elim (taken-now s c a m) [

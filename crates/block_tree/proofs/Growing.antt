@@ -13,7 +13,7 @@ use Rattle.block_tree.specs.declared.place.Place.TheVariants.{Grows}
 use Rattle.block_tree.specs.declared.index.Index.{Index}
 use Rattle.block_tree.specs.Indexed.{number_of}
 use Rattle.block_tree.specs.Numbers.{AreLinks, AreCounts}
-use Rattle.block_tree.specs.Nodes.{branch_in, block_in, stored_as, stored_of, IsNode, AreNodes, IsWhole}
+use Rattle.block_tree.specs.Nodes.{branch_in, block_in, stored_as, all_stored_as, IsNode, AreNodes, IsWhole}
 use Rattle.block_tree.specs.Insertions.{place_of}
 use Rattle.block_tree.proofs.Kept.{nodes-count, reverse-last}
 use Rattle.block_tree.proofs.Numbers.{entered}
@@ -50,13 +50,14 @@ module _ (most : ℕ) (n : Node) (t : List Branch) where
 
 pub added-whole : (most : ℕ) (first : Bytes) (items : List Node) (index new : Index) (counts more : List ℕ)
     (n : Node) (k : ℕ) → IsWhole most first (reverse items) index counts
-    → IsNode n (blocks (stored_of (reverse items)))
-    → length (blocks (stored_of (reverse items))) < most → k ≡ length (blocks (stored_of (reverse items)))
+    → IsNode n (blocks (all_stored_as (reverse items)))
+    → length (blocks (all_stored_as (reverse items))) < most
+    → k ≡ length (blocks (all_stored_as (reverse items)))
     → ((d : Bytes) → number_of new d ≡ cond (bytes_eq n.digest d) (Some k) (number_of index d))
     → AreCounts more
-    (block_in n.core (blocks (stored_of (reverse items))) ∷ blocks (stored_of (reverse items)))
+    (block_in n.core (blocks (all_stored_as (reverse items))) ∷ blocks (all_stored_as (reverse items)))
     → IsWhole most first (reverse (items ++ n ∷ [])) new more
-unfolding stored_of
+unfolding all_stored_as
 added-whole most first items index new counts more n k whole is room number entry counted =
     let ns = reverse items in
     let count = nodes-count ns in
@@ -74,10 +75,10 @@ added-whole most first items index new counts more n k whole is room number entr
     })
 
 pub added-stored : (items : List Node) (n : Node)
-    → stored_of (reverse (items ++ n ∷ []))
-    ≡ stored_as n (blocks (stored_of (reverse items))) ∷ stored_of (reverse items)
-unfolding stored_of
-added-stored items n = ap stored_of (reverse-last items n)
+    → all_stored_as (reverse (items ++ n ∷ []))
+    ≡ stored_as n (blocks (all_stored_as (reverse items))) ∷ all_stored_as (reverse items)
+unfolding all_stored_as
+added-stored items n = ap all_stored_as (reverse-last items n)
 
 -- ---- the node that is planned
 

@@ -13,7 +13,7 @@ use Rattle.definitions.specs.Trees.{Stored, TreeState, blocks, block_of, IsTree}
 use Rattle.definitions.proofs.Trees.{IsGrowth, growth-tree, growth-new, grown-heights, found-in}
 use Rattle.definitions.proofs.Trees.{digest-core, core-known}
 use Rattle.block_tree.specs.declared.node.Node.{Node}
-use Rattle.block_tree.specs.Nodes.{branch_in, block_in, stored_of, IsNode, AreNodes, IsKept}
+use Rattle.block_tree.specs.Nodes.{branch_in, block_in, all_stored_as, IsNode, AreNodes, IsKept}
 
 -- each block stands once
 abbrev pub Once : List Stored → Type 0
@@ -53,40 +53,40 @@ growth n t h = record {
   room = omega arith;
 }
 
-pub nodes-tree : (ns : List Node) → AreNodes ns → IsTree (blocks (stored_of ns))
-unfolding stored_of
+pub nodes-tree : (ns : List Node) → AreNodes ns → IsTree (blocks (all_stored_as ns))
+unfolding all_stored_as
 nodes-tree [] h = genesis_tree
 nodes-tree (n ∷ older) h =
-    let t = blocks (stored_of older) in
+    let t = blocks (all_stored_as older) in
     growth-tree (suc (length t)) n.core (some_certificate (block_in n.core t)) t (block_in n.core t)
     (branch_in n.core.parent t) (nodes-tree older h.1) h.0.justify (growth n t h.0)
 
-pub nodes-once : (ns : List Node) → AreNodes ns → Once (stored_of ns)
-unfolding stored_of
+pub nodes-once : (ns : List Node) → AreNodes ns → Once (all_stored_as ns)
+unfolding all_stored_as
 nodes-once [] h = tt
 nodes-once (n ∷ older) h =
-    let t = blocks (stored_of older) in (
+    let t = blocks (all_stored_as older) in (
       growth-new (suc (length t)) n.core (some_certificate (block_in n.core t)) t (block_in n.core t)
           (branch_in n.core.parent t) (growth n t h.0),
       nodes-once older h.1,
     )
 
-pub nodes-heights : (ns : List Node) → AreNodes ns → (x : Branch) → Among x (blocks (stored_of ns))
-    → length x < length (blocks (stored_of ns))
-unfolding stored_of
+pub nodes-heights : (ns : List Node) → AreNodes ns → (x : Branch) → Among x (blocks (all_stored_as ns))
+    → length x < length (blocks (all_stored_as ns))
+unfolding all_stored_as
 nodes-heights [] h x m = elim m [ inl e ↦ omega (arith, ap (λ (b : Branch). length b) e) | inr n ↦ absurd n ]
 nodes-heights (n ∷ older) h x m =
-    let t = blocks (stored_of older) in
+    let t = blocks (all_stored_as older) in
     grown-heights t (block_of n.core) (branch_in n.core.parent t)
     (found-in n.core.parent t (branch_in n.core.parent t) h.0.parent).0 (nodes-heights older h.1) x m
 
-pub nodes-count : (ns : List Node) → length (blocks (stored_of ns)) ≡ length ns + 1
-unfolding stored_of
+pub nodes-count : (ns : List Node) → length (blocks (all_stored_as ns)) ≡ length ns + 1
+unfolding all_stored_as
 nodes-count [] = refl
 nodes-count (n ∷ older) = let h = nodes-count older in omega (arith, h)
 
-pub stored-count : (ns : List Node) → length (stored_of ns) ≡ length ns
-unfolding stored_of
+pub stored-count : (ns : List Node) → length (all_stored_as ns) ≡ length ns
+unfolding all_stored_as
 stored-count [] = refl
 stored-count (n ∷ older) = ap suc (stored-count older)
 
@@ -103,7 +103,7 @@ reverse-twice {A} (x ∷ xs) =
     ∙ (reverse-last (reverse xs) x ∙ ap (λ (l : List A). x ∷ l) (reverse-twice xs))
 
 pub kept-sound : (most : ℕ) (first : Bytes) (ns : List Node) → IsKept most first ns
-    → IsSound (record { most = most; stored = stored_of ns })
+    → IsSound (record { most = most; stored = all_stored_as ns })
 kept-sound most first ns h = record {
   tree = nodes-tree ns h.nodes;
   once = nodes-once ns h.nodes;
@@ -114,7 +114,7 @@ kept-sound most first ns h = record {
 
 -- of the value that they are seen as
 pub sound-of : (most : ℕ) (first : Bytes) (ns : List Node) (t : TreeState)
-    → record { most = most; stored = stored_of ns } ≡ t → IsKept most first ns → IsSound t
+    → record { most = most; stored = all_stored_as ns } ≡ t → IsKept most first ns → IsSound t
 sound-of most first ns t e h = subst IsSound e (kept-sound most first ns h)
 
 -- a node's digest and core are its block's

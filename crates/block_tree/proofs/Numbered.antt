@@ -12,7 +12,7 @@ use Rattle.definitions.specs.Branches.{Branch}
 use Rattle.definitions.specs.Digests.{digest_of, core_of}
 use Rattle.definitions.specs.Trees.{Stored, blocks, find_in}
 use Rattle.block_tree.specs.declared.node.Node.{Node}
-use Rattle.block_tree.specs.Nodes.{block_in, stored_of, IsNode, IsNodeAt, AreNodes}
+use Rattle.block_tree.specs.Nodes.{block_in, all_stored_as, IsNode, IsNodeAt, AreNodes}
 use Rattle.block_tree.specs.Numbers.{stored_number, number_in, numbered, IsDown, AreLinks}
 use Rattle.block_tree.proofs.Kept.{node-named, node-core, nodes-count, reverse-twice}
 use Rattle.block_tree.proofs.Numbers.{node-place, blocks-count}
@@ -159,29 +159,31 @@ at_older n x tree k lt h =
           (links-older tree x (numbered tree k) n.links h.links);
     }
 
-nodes_at : (ns : List Node) → AreNodes ns → (k : ℕ) (x : Node) → 0 < k → k < length (blocks (stored_of ns))
-    → x ≡ get_or (reverse ns) (k - 1) x → IsNodeAt x (blocks (stored_of ns)) k
-unfolding stored_of
+nodes_at : (ns : List Node) → AreNodes ns → (k : ℕ) (x : Node) → 0 < k
+    → k < length (blocks (all_stored_as ns))
+    → x ≡ get_or (reverse ns) (k - 1) x → IsNodeAt x (blocks (all_stored_as ns)) k
+unfolding all_stored_as
 nodes_at [] h k x above known is = absurd (omega arith)
 nodes_at (n ∷ older) h k x above known is =
     let count = nodes-count older in
     elim (node-place n older (k - 1) x (omega (arith, known, count, above)) is) [
       | inl l ↦
           let lt = l.0 in
-          let in_older : k < length (blocks (stored_of older)) = omega (arith, lt, count, above) in
-          at_older x (block_in n.core (blocks (stored_of older))) (blocks (stored_of older)) k in_older
+          let in_older : k < length (blocks (all_stored_as older)) = omega (arith, lt, count, above) in
+          at_older x (block_in n.core (blocks (all_stored_as older))) (blocks (all_stored_as older)) k
+          in_older
           (nodes_at older h.1 k x above in_older l.1)
       | inr r ↦
           let end = r.0 in
           subst (λ (y : Node). IsNodeAt y
-          (block_in n.core (blocks (stored_of older)) ∷ blocks (stored_of older)) k) (sym r.1)
-          (at_newest n (blocks (stored_of older)) k h.0 (omega (arith, end, count, above)))
+          (block_in n.core (blocks (all_stored_as older)) ∷ blocks (all_stored_as older)) k) (sym r.1)
+          (at_newest n (blocks (all_stored_as older)) k h.0 (omega (arith, end, count, above)))
     ]
 
 -- the node of a number
 pub node-at : (items : List Node) → AreNodes (reverse items) → (k : ℕ) (x : Node) → 0 < k
-    → k < length (blocks (stored_of (reverse items))) → x ≡ get_or items (k - 1) x
-    → IsNodeAt x (blocks (stored_of (reverse items))) k
+    → k < length (blocks (all_stored_as (reverse items))) → x ≡ get_or items (k - 1) x
+    → IsNodeAt x (blocks (all_stored_as (reverse items))) k
 node-at items h k x above known is =
     nodes_at (reverse items) h k x above known
     (is ∙ ap (λ (l : List Node). get_or l (k - 1) x) (sym (reverse-twice items)))

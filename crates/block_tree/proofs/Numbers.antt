@@ -15,8 +15,8 @@ use Rattle.definitions.specs.Trees.{Stored, blocks}
 use Rattle.block_tree.specs.declared.node.Node.{Node}
 use Rattle.block_tree.specs.declared.index.Index.{Index}
 use Rattle.block_tree.specs.Indexed.{number_of}
-use Rattle.block_tree.specs.Nodes.{block_in, stored_of, AreNodes, IsWhole}
-use Rattle.block_tree.specs.Finding.{Kept, kept, kept_of, stored_in}
+use Rattle.block_tree.specs.Nodes.{block_in, all_stored_as, AreNodes, IsWhole}
+use Rattle.block_tree.specs.Finding.{NodeParts, kept, kept_of, stored_in}
 use Rattle.block_tree.specs.Numbers.{stored_number}
 use Rattle.block_tree.proofs.Kept.{node-named, stored-count, reverse-first}
 use Rattle.block_tree.proofs.Counted.{genesis-counted}
@@ -62,34 +62,36 @@ number-within d (s ∷ older) k e = go (bytes_eq (digest_of s.branch) d) e (numb
 
 -- and the node is that of the digest
 pub number-kept : (ns : List Node) → AreNodes ns → (d : Bytes) (k : ℕ) (x : Node)
-    → stored_number d (stored_of ns) ≡ Some k → x ≡ get_or (reverse ns) (k - 1) x
-    → Some (kept x) ≡ option_map kept_of (stored_in d (stored_of ns))
-unfolding stored_number stored_of
+    → stored_number d (all_stored_as ns) ≡ Some k → x ≡ get_or (reverse ns) (k - 1) x
+    → Some (kept x) ≡ option_map kept_of (stored_in d (all_stored_as ns))
+unfolding stored_number all_stored_as
 number-kept [] h d k x e is = absurd (cc)
 number-kept (n ∷ older) h d k x e is =
-    go (bytes_eq (digest_of (block_in n.core (blocks (stored_of older)))) d) e (number-kept older h.1 d k x)
+    go (bytes_eq (digest_of (block_in n.core (blocks (all_stored_as older)))) d) e
+    (number-kept older h.1 d k x)
   where
     go : (b : Bool)
-        → cond b (Some (suc (length (stored_of older)))) (stored_number d (stored_of older)) ≡ Some k
-        → (stored_number d (stored_of older) ≡ Some k → x ≡ get_or (reverse older) (k - 1) x → Some (kept x)
-        ≡ option_map kept_of (stored_in d (stored_of older)))
+        → cond b (Some (suc (length (all_stored_as older)))) (stored_number d (all_stored_as older)) ≡ Some k
+        → (stored_number d (all_stored_as older) ≡ Some k → x ≡ get_or (reverse older) (k - 1) x
+        → Some (kept x)
+        ≡ option_map kept_of (stored_in d (all_stored_as older)))
         → Some (kept x)
         ≡ option_map kept_of (cond b (Some (record {
-          branch = block_in n.core (blocks (stored_of older));
+          branch = block_in n.core (blocks (all_stored_as older));
           certificate = n.certificate;
           clear = n.clear;
-        })) (stored_in d (stored_of older)))
+        })) (stored_in d (all_stored_as older)))
     go true i rest =
-        let same : suc (length (stored_of older)) ≡ k = cc in
+        let same : suc (length (all_stored_as older)) ≡ k = cc in
         let count = stored-count older in
         elim (node-place n older (k - 1) x (omega (arith, same, count)) is) [
           | inl l ↦ let lt = l.0 in absurd (omega (arith, lt, same, count))
           | inr r ↦
               ap (λ (y : Node). Some (kept y)) r.1
-              ∙ ap (λ (y : Kept). Some y) (node-kept n (blocks (stored_of older)) h.0)
+              ∙ ap (λ (y : NodeParts). Some y) (node-kept n (blocks (all_stored_as older)) h.0)
         ]
     go false i rest =
-        let within = number-within d (stored_of older) k i in
+        let within = number-within d (all_stored_as older) k i in
         let low = within.0 in
         let high = within.1 in
         let count = stored-count older in
@@ -129,12 +131,12 @@ number-none d (s ∷ older) e = go (bytes_eq (digest_of s.branch) d) e (number-n
 -- the index after a node was entered
 pub entered : (n : Node) (older : List Node) → AreNodes (n ∷ older) → (index new : Index) (k : ℕ)
     → k ≡ length older + 1
-    → ((d : Bytes) → number_of index d ≡ stored_number d (stored_of older))
+    → ((d : Bytes) → number_of index d ≡ stored_number d (all_stored_as older))
     → ((d : Bytes) → number_of new d ≡ cond (bytes_eq n.digest d) (Some k) (number_of index d))
-    → (d : Bytes) → number_of new d ≡ stored_number d (stored_of (n ∷ older))
-unfolding stored_number stored_of
+    → (d : Bytes) → number_of new d ≡ stored_number d (all_stored_as (n ∷ older))
+unfolding stored_number all_stored_as
 entered n older h index new k count was is d =
-    let stored = stored_of older in
+    let stored = all_stored_as older in
     let next : k ≡ suc (length stored) = let c = stored-count older in omega (arith, count, c) in
     is d ∙ ap (λ (o : Option ℕ). cond (bytes_eq n.digest d) (Some k) o) (was d)
     ∙ ap (λ (m : ℕ). cond (bytes_eq n.digest d) (Some m) (stored_number d stored)) next
@@ -144,7 +146,7 @@ entered n older h index new k count was is d =
 -- genesis alone
 pub new-whole : (most : ℕ) (first : Bytes) (index : Index) → first ≡ digest genesis_core → 1 ≤ most
     → most ≤ MOST_BLOCKS → ((d : Bytes) → number_of index d ≡ None) → IsWhole most first [] index []
-unfolding stored_number stored_of
+unfolding stored_number all_stored_as
 new-whole most first index genesis some limit none =
     record {
       kept = record { genesis = genesis; nodes = tt; room = some; limit = limit };

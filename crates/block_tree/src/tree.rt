@@ -26,18 +26,18 @@ pub struct Tree {
 impl Model for Tree {
     ghost use Rattle.std.specs.Prelude.{reverse};
     ghost use Rattle.definitions.specs.Trees.{TreeState};
-    ghost use Rattle.block_tree.specs.Nodes.{stored_of, IsWhole};
+    ghost use Rattle.block_tree.specs.Nodes.{all_stored_as, IsWhole};
 
     ghost Value = { TreeState };
 
-    ghost view = { λ t. record { most = t.most; stored = stored_of (reverse t.nodes.items) } };
+    ghost view = { λ t. record { most = t.most; stored = all_stored_as (reverse t.nodes.items) } };
 
     ghost invariant = { λ t. IsWhole t.most t.genesis (reverse t.nodes.items) t.index t.counts };
 }
 
 impl Tree {
     /// Genesis alone, with room for so many blocks. It takes no memory.
-    #[tactic(auto, unfolding(crate::specs::Nodes::stored_of))]
+    #[tactic(auto, unfolding(crate::specs::Nodes::all_stored_as))]
     pub fn new(alloc: Global, most: usize) -> Tree
         requires { (1 ≤ most) × (most ≤ MOST_BLOCKS) }
         ensures { result ≡ record { most = most; stored = [] } }

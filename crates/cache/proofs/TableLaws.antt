@@ -33,11 +33,11 @@ laws : IsEquivalence (eq_by_cmp key_cmp)
 laws = eq_by_cmp_equiv nat_list_cmp_total
 
 -- tables that answer alike are one
-same_table : (s t : FinMap key_cmp definitions.Entry) → ((q : Bytes) → map.get s q ≡ map.get t q) → s ≡ t
+same_table : (s t : FinMap key_cmp definitions.CacheItem) → ((q : Bytes) → map.get s q ≡ map.get t q) → s ≡ t
 same_table = same_map nat_list_cmp_total (slice_cmp-IsAntisymmetric nat_cmp-IsAntisymmetric)
 
 -- what the table of pairs has under a key
-get-pairs : (ps : List (Bytes × definitions.Entry)) (q : Bytes)
+get-pairs : (ps : List (Bytes × definitions.CacheItem)) (q : Bytes)
     → map.get (map.from_entries {R = key_cmp} ps) q ≡ find key_cmp q ps
 get-pairs = get-from_entries nat_list_cmp_total
 
@@ -68,7 +68,7 @@ inserted : (es : Entries) (k : Vec ℕ) (v : Entry)
 inserted [] k v = refl
 inserted (e ∷ es) k v =
     let rest = insert_entry (λ x y. key_cmp x.items y.items) es k v in
-    let pair : Vec ℕ × Entry → Bytes × definitions.Entry = λ x. (x.0.items, entry_of x.1) in
+    let pair : Vec ℕ × Entry → Bytes × definitions.CacheItem = λ x. (x.0.items, entry_of x.1) in
     let P : Ordering → Type 0 = λ o.
     pairs_of (match_ordering o ((k, v) ∷ e ∷ es) ((e.0, v) ∷ es) (e ∷ rest))
     ≡ by_order o ((k.items, entry_of v) ∷ pairs_of (e ∷ es)) ((e.0.items, entry_of v) ∷ pairs_of es)
@@ -109,7 +109,7 @@ removed : (q : Bytes) (es : Entries)
     ≡ remove_entry (eq_by_cmp key_cmp q) (pairs_of es)
 removed q [] = refl
 removed q (e ∷ es) =
-    let pair : Vec ℕ × Entry → Bytes × definitions.Entry = λ x. (x.0.items, entry_of x.1) in
+    let pair : Vec ℕ × Entry → Bytes × definitions.CacheItem = λ x. (x.0.items, entry_of x.1) in
     elim (is_eq (key_cmp q e.0.items)) as (λ b. pairs_of
     (cond b es (e ∷ remove_entry (is_at (λ k. key_cmp q k.items)) es))
     ≡ cond b (pairs_of es) (pair e ∷ remove_entry (eq_by_cmp key_cmp q) (pairs_of es))) [
@@ -118,7 +118,7 @@ removed q (e ∷ es) =
     ]
 
 -- two words for one search
-find-lookup : (es : List (Bytes × definitions.Entry)) (q : Bytes)
+find-lookup : (es : List (Bytes × definitions.CacheItem)) (q : Bytes)
     → find key_cmp q es ≡ lookup (eq_by_cmp key_cmp q) es
 find-lookup [] q = refl
 find-lookup (e ∷ es) q = ap (cond (eq_by_cmp key_cmp q e.0) (Some e.1)) (find-lookup es q)
@@ -147,7 +147,7 @@ none_below k (e ∷ es) h =
 -- a table has as many keys as entries
 pub len-table : (es : Entries) → IsInOrder es → map.len (table_of es) ≡ length es
 unfolding IsStrictlySortedBy
-len-table [] h = len-empty key_cmp definitions.Entry
+len-table [] h = len-empty key_cmp definitions.CacheItem
 len-table (e ∷ es) h =
     let absent : is_some (map.get (table_of es) e.0.items) ≡ false =
     ap is_some (get-pairs (pairs_of es) e.0.items ∙ none_below e.0 es h.0) in

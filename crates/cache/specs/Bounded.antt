@@ -11,13 +11,13 @@ pub record Bounded : Type 0 where
   pub cache : definitions.Cache
 
 -- of its entries and its count of changes
-abbrev pub bounded : ℕ → FinMap key_cmp definitions.Entry → ℕ → Bounded
+abbrev pub bounded : ℕ → FinMap key_cmp definitions.CacheItem → ℕ → Bounded
 bounded most entries changes = record { most = most; cache = record { entries = entries; changes = changes } }
 
 -- it is stored as its parts
 abbrev pub bounded_code : Coded Bounded
 bounded_code =
-    code_by (ℕ × (FinMap key_cmp definitions.Entry × ℕ)) (coded× coded_ℕ (coded× table_code coded_ℕ))
+    code_by (ℕ × (FinMap key_cmp definitions.CacheItem × ℕ)) (coded× coded_ℕ (coded× table_code coded_ℕ))
     (λ b. (b.most, (b.cache.entries, b.cache.changes)))
     (λ p. bounded p.0 p.1.0 p.1.1)
     (λ _. refl)

@@ -4,6 +4,6 @@ use Rattle.cache.specs.declared.count.Step.{Step}
 use Rattle.cache.specs.declared.count.Step.TheVariants.{Up, Down}
 
 -- the number after a step
-abbrev pub counted : Step → ℕ → ℕ
-counted (Up value) n = (n + value) % 2 ^ 64
-counted (Down value) n = n - value
+abbrev pub after_step : Step → ℕ → ℕ
+after_step (Up value) n = (n + value) % 2 ^ 64
+after_step (Down value) n = n - value

@@ -11,15 +11,15 @@ use Rattle.definitions.specs.Cache as definitions
 use Rattle.cache.specs.declared.entry.Entry.{Entry}
 
 -- what stands under a key
-abbrev pub entry_of : Entry → definitions.Entry
-entry_of e = record { flags = e.flags; stored = e.stored.items; unique = e.unique }
+abbrev pub entry_of : Entry → definitions.CacheItem
+entry_of e = record { flags = e.flags; stored = e.stored.items; cas_unique = e.cas_unique }
 
 -- keys with what stands under them
-abbrev pub pairs_of : List (Vec ℕ × Entry) → List (Bytes × definitions.Entry)
+abbrev pub pairs_of : List (Vec ℕ × Entry) → List (Bytes × definitions.CacheItem)
 pairs_of es = map (λ e. (e.0.items, entry_of e.1)) es
 
 -- the entries by their keys
-abbrev pub table_of : List (Vec ℕ × Entry) → FinMap key_cmp definitions.Entry
+abbrev pub table_of : List (Vec ℕ × Entry) → FinMap key_cmp definitions.CacheItem
 table_of es = from_entries (pairs_of es)
 
 -- the keys rise
@@ -27,8 +27,9 @@ abbrev pub IsInOrder : List (Vec ℕ × Entry) → Type 0
 IsInOrder es = IsStrictlySortedBy (λ x y. key_cmp x.items y.items) (keys_of es)
 
 -- a table is stored as its entries
-abbrev pub table_code : Coded (FinMap key_cmp definitions.Entry)
+abbrev pub table_code : Coded (FinMap key_cmp definitions.CacheItem)
 table_code = code (coded_list coded_ℕ)
     (code_by (ℕ × (Bytes × ℕ)) (coded× coded_ℕ (coded× (coded_list coded_ℕ) coded_ℕ))
-    (λ e. (e.flags, (e.stored, e.unique))) (λ p. record { flags = p.0; stored = p.1.0; unique = p.1.1 })
+    (λ e. (e.flags, (e.stored, e.cas_unique)))
+    (λ p. record { flags = p.0; stored = p.1.0; cas_unique = p.1.1 })
     (λ _. refl))

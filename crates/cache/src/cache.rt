@@ -47,7 +47,7 @@ impl Cache {
     /// Does what is asked, and replies. The word noreply is the caller's to heed.
     ///
     /// A full cache answers a command that would need another key by `SERVER_ERROR out of memory
-    /// storing object`, and so does every change after the last one that a unique can number. A
+    /// storing object`, and so does every change after the last one that a cas unique can number. A
     /// number is counted only if it is spelled with no zero before it. All memory is taken before
     /// anything changes.
     pub fn apply(&mut self, request: &Request<'_>) -> Result<Reply, Fault>
@@ -71,18 +71,18 @@ impl Cache {
                 key,
                 flags,
                 stored,
-                unique,
-            } => Ok(self.cas(key, flags, stored, unique)?),
+                cas_unique,
+            } => Ok(self.cas(key, flags, stored, cas_unique)?),
             Request::Get(keys) => {
                 Ok(Reply::Values {
                     values: self.values(keys)?,
-                    with_unique: false,
+                    with_cas_unique: false,
                 })
             }
             Request::Gets(keys) => {
                 Ok(Reply::Values {
                     values: self.values(keys)?,
-                    with_unique: true,
+                    with_cas_unique: true,
                 })
             }
             Request::Delete { key } => Ok(self.delete(key)),

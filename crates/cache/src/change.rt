@@ -9,7 +9,7 @@ use mc_lines::Reply;
 use std::alloc::AllocError;
 
 impl Cache {
-    /// The key has this data from now on, and a unique of its own. After the last change that can
+    /// The key has this data from now on, and a cas unique of its own. After the last change that can
     /// be counted there is none, and the cache is full.
     pub(crate) fn change(
         &mut self,
@@ -27,39 +27,41 @@ impl Cache {
         ensures unchanged { OnErr result (self.new ≡ self.old) }
     {
         if self.changes == u64::MAX {
-            return Ok(Reply::NoRoom);
+            return Ok(Reply::OutOfMemory);
         }
-        let unique = self.changes + 1;
+        let cas_unique = self.changes + 1;
         let entry = Entry {
             flags,
             stored,
-            unique,
+            cas_unique,
         };
         self.table.insert(self.alloc, key, entry)?;
-        self.changes = unique;
+        self.changes = cas_unique;
         Ok(told)
     }
 
-    /// Stores where nothing was stored since the unique was told.
+    /// Stores where nothing was stored since the cas unique was told.
     pub(crate) fn cas(
         &mut self,
         key: &[u8],
         flags: u32,
         stored: &[u8],
-        unique: u64,
+        cas_unique: u64,
     ) -> Result<Reply, AllocError>
         ensures left { OnOk result (
-            let outcome = apply self.old.most self.old.cache (requests.cas key.now flags stored.now unique) in
+            let outcome =
+            apply self.old.most self.old.cache (requests.cas key.now flags stored.now cas_unique) in
             self.new ≡ record self.old { cache = outcome.0 }) }
         ensures told { IfOk result (λ reply.
-            let outcome = apply self.old.most self.old.cache (requests.cas key.now flags stored.now unique) in
+            let outcome =
+            apply self.old.most self.old.cache (requests.cas key.now flags stored.now cas_unique) in
             reply_of reply ≡ outcome.1) }
         ensures unchanged { OnErr result (self.new ≡ self.old) }
     {
         let Some(entry) = self.table.get(key) else {
             return Ok(Reply::NotFound);
         };
-        if entry.unique != unique {
+        if entry.cas_unique != cas_unique {
             return Ok(Reply::Exists);
         }
         self.put(key, flags, stored)

@@ -1,7 +1,7 @@
 ghost use Rattle.std.specs.Prelude.{◌≡◌, IfOk, OnOk, OnErr};
 ghost use Rattle.definitions.specs.Cache.{count_it};
 ghost use Rattle.mc_lines.specs.Meaning.{reply_of};
-ghost use Rattle.cache.specs.Steps.{counted};
+ghost use Rattle.cache.specs.Steps.{after_step};
 
 use crate::cache::Cache;
 use crate::number::numeral;
@@ -18,7 +18,7 @@ pub(crate) enum Step {
 impl Step {
     /// The number after the step from another one. Behind the greatest one comes 0, and below 0 none.
     fn after(self, n: u64) -> u64
-        ensures { result ≡ counted self n }
+        ensures { result ≡ after_step self n }
     {
         match self {
             Step::Up(value) => n.wrapping_add(value),
@@ -31,16 +31,16 @@ impl Cache {
     /// Moves the number under a key.
     pub(crate) fn count(&mut self, key: &[u8], step: Step) -> Result<Reply, AllocError>
         ensures left { OnOk result (
-            self.new ≡ record self.old { cache = (count_it self.old.cache key.now (counted step)).0 }) }
+            self.new ≡ record self.old { cache = (count_it self.old.cache key.now (after_step step)).0 }) }
         ensures told { IfOk result (λ reply.
-            reply_of reply ≡ (count_it self.old.cache key.now (counted step)).1) }
+            reply_of reply ≡ (count_it self.old.cache key.now (after_step step)).1) }
         ensures unchanged { OnErr result (self.new ≡ self.old) }
     {
         let Some(entry) = self.table.get(key) else {
             return Ok(Reply::NotFound);
         };
         let Some(n) = read_number(&entry.stored) else {
-            return Ok(Reply::NoNumber);
+            return Ok(Reply::NonNumeric);
         };
         let flags = entry.flags;
         let n = step.after(n);

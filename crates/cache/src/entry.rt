@@ -5,5 +5,5 @@ pub(crate) struct Entry {
     pub(crate) flags: u32,
     pub(crate) stored: Vec<u8>,
     /// The count of changes at which the data was given.
-    pub(crate) unique: u64,
+    pub(crate) cas_unique: u64,
 }

@@ -41,7 +41,7 @@ impl Cache {
             Verb::Set => if present || has_room {
                 self.put(key, flags, stored)
             } else {
-                Ok(Reply::NoRoom)
+                Ok(Reply::OutOfMemory)
             },
             Verb::Add => {
                 if present {
@@ -49,7 +49,7 @@ impl Cache {
                 } else if has_room {
                     self.put(key, flags, stored)
                 } else {
-                    Ok(Reply::NoRoom)
+                    Ok(Reply::OutOfMemory)
                 }
             }
             Verb::Replace => if present {
@@ -90,7 +90,7 @@ impl Cache {
             return Ok(Reply::NotStored);
         };
         if entry.stored.len() + stored.len() > MOST_DATA {
-            return Ok(Reply::TooLong);
+            return Ok(Reply::TooLarge);
         }
         let flags = entry.flags;
         let text = joined(self.alloc, &entry.stored, stored)?;
@@ -111,7 +111,7 @@ impl Cache {
             return Ok(Reply::NotStored);
         };
         if stored.len() + entry.stored.len() > MOST_DATA {
-            return Ok(Reply::TooLong);
+            return Ok(Reply::TooLarge);
         }
         let flags = entry.flags;
         let text = joined(self.alloc, stored, &entry.stored)?;

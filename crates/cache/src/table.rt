@@ -21,7 +21,7 @@ impl Model for Table {
     ghost use Rattle.definitions.specs.Cache as definitions;
     ghost use Rattle.cache.specs.Tables.{table_of, IsInOrder, table_code};
 
-    ghost Value = { FinMap key_cmp definitions.Entry };
+    ghost Value = { FinMap key_cmp definitions.CacheItem };
 
     ghost coded = { table_code };
 

@@ -19,7 +19,7 @@ impl Cache {
                     key: Vec::from_slice(self.alloc, key)?,
                     flags: entry.flags,
                     stored: Vec::from_slice(self.alloc, &entry.stored)?,
-                    unique: entry.unique,
+                    cas_unique: entry.cas_unique,
                 };
                 values.push(value)?;
             }

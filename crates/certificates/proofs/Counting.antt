@@ -8,7 +8,7 @@ use Rattle.definitions.specs.Bytes.{Bytes}
 use Rattle.definitions.specs.Frames.{Vote, Certificate}
 use Rattle.ids.specs.Sizes.{Sizes, replicas}
 use Rattle.definitions.specs.FrameLimits.{IsCertificate}
-use Rattle.definitions.specs.Checks.{Identity, vote_verifies, counted}
+use Rattle.definitions.specs.Checks.{Identity, vote_verifies, counted_voters}
 
 module _ (self : Identity) (digest : Bytes) where
   -- the voters of these votes whose tags verify
@@ -39,18 +39,19 @@ module _ (self : Identity) (digest : Bytes) where
       ap (λ (l : List ℕ). voters ++ l) (sym one) ∙ so_far
 
 -- those of a certificate
-pub counted-is : (self : Identity) (q : Certificate) → counted self q ≡ counted_among self q.digest q.votes
-unfolding counted
+pub counted-is : (self : Identity) (q : Certificate)
+    → counted_voters self q ≡ counted_among self q.digest q.votes
+unfolding counted_voters
 counted-is self q = refl
 
 -- at first
 pub counted_first : (self : Identity) (q : Certificate) (votes : List Vote) → votes ≡ q.votes
-    → [] ++ counted_among self q.digest votes ≡ counted self q
+    → [] ++ counted_among self q.digest votes ≡ counted_voters self q
 counted_first self q votes e = ap (counted_among self q.digest) e ∙ sym (counted-is self q)
 
 -- at last
 pub counted_last : (self : Identity) (q : Certificate) (voters : List ℕ) (votes : List Vote) → votes ≡ []
-    → voters ++ counted_among self q.digest votes ≡ counted self q → voters ≡ counted self q
+    → voters ++ counted_among self q.digest votes ≡ counted_voters self q → voters ≡ counted_voters self q
 counted_last self q voters votes none so_far =
     sym (append-nil voters) ∙ ap (λ (l : List Vote). voters ++ counted_among self q.digest l) (sym none)
     ∙ so_far

@@ -4,7 +4,7 @@ use Rattle.ids.specs.Sizes.{Sizes}
 use Rattle.definitions.specs.Frames.{Core, Certificate, Frame, genesis_core}
 use Rattle.definitions.specs.FrameLimits.{IsFrame, IsCore, IsCertificate}
 use Rattle.definitions.specs.Keyrings.{Keys, keyring_of, is_peer, verify}
-use Rattle.definitions.specs.Checks.{Identity, identity_of, counted, is_good, is_clear_core}
+use Rattle.definitions.specs.Checks.{Identity, identity_of, counted_voters, is_good, is_clear_core}
 use Rattle.definitions.specs.Admission.{check, is_passed}
 use Rattle.frames_view.specs.Fields.{frame_certificate, frame_core}
 use Rattle.frames_view.specs.PartViews.{core_of, certificate_of}
@@ -50,7 +50,7 @@ is_certified keys (Some q) = is_good (identity_of keys) (certificate_of q)
 
 abbrev pub voters_in : Keys → Option CertificateView → List ℕ
 voters_in keys None = []
-voters_in keys (Some q) = counted (identity_of keys) (certificate_of q)
+voters_in keys (Some q) = counted_voters (identity_of keys) (certificate_of q)
 
 abbrev pub is_clear_in : Keys → Option CoreView → Bool
 is_clear_in keys None = true
@@ -62,5 +62,5 @@ pub record AreClaims (keys : Keys) (shown : Shown) (c : Claims) : Type 0 where
   pub certificate : IfSome c.certificate (λ q. IsCertificate keys.sizes (certificate_of q))
   pub core : IfSome c.core (λ k. IsCore keys.sizes (core_of k))
   pub passed : passes (identity_of keys) shown ≡ (is_tagged keys c.own && is_certified keys c.certificate)
-  pub voters : counted (identity_of keys) (certificate_in shown) ≡ voters_in keys c.certificate
+  pub voters : counted_voters (identity_of keys) (certificate_in shown) ≡ voters_in keys c.certificate
   pub clear : is_clear_core (identity_of keys) (core_in shown) ≡ is_clear_in keys c.core

@@ -3,7 +3,7 @@
 ghost use Rattle.std.specs.Prelude.{◌≡◌, ◌<◌, ◌↔◌, IsTrue, IsOk, IfOk, OnErr};
 ghost use Rattle.ids.specs.Sizes.{replicas};
 ghost use Rattle.definitions.specs.FrameLimits.{IsVote, IsCertificate};
-ghost use Rattle.definitions.specs.Checks.{identity_of, vote_verifies, counted, is_genesis, is_good};
+ghost use Rattle.definitions.specs.Checks.{identity_of, vote_verifies, counted_voters, is_genesis, is_good};
 ghost use Rattle.frames_view.specs.Views.{vote_of, certificate_of};
 ghost use Rattle.certificates.specs.Shown as shown;
 ghost use Rattle.certificates.specs.Outcomes.{IsGivenIf};
@@ -37,7 +37,7 @@ fn vote_verifies(keyring: &Keyring, digest: &[u8; 32], vote: &VoteView) -> bool
 fn counted(keyring: &Keyring, certificate: &CertificateView) -> Voters
     requires replica { keyring.now.party < replicas keyring.now.sizes }
     requires certificate { IsCertificate keyring.now.sizes (certificate_of certificate.now) }
-    ensures { result ≡ counted (identity_of keyring.now) (certificate_of certificate.now) }
+    ensures { result ≡ counted_voters (identity_of keyring.now) (certificate_of certificate.now) }
 {
     let _n = keyring.config().n();
     let mut voters = Voters::new();
@@ -61,7 +61,7 @@ fn is_genesis(digest: &[u8; 32]) -> bool
 /// votes, and any other has a quorum of counted ones.
 #[tactic(auto, unfolding(definitions::specs::Checks::is_good))]
 fn is_good(keyring: &Keyring, certificate: &CertificateView, voters: &Voters) -> bool
-    requires { voters.now ≡ counted (identity_of keyring.now) (certificate_of certificate.now) }
+    requires { voters.now ≡ counted_voters (identity_of keyring.now) (certificate_of certificate.now) }
     ensures { result ≡ is_good (identity_of keyring.now) (certificate_of certificate.now) }
 {
     if is_genesis(certificate.digest()) {
@@ -78,7 +78,7 @@ pub(crate) fn good_voters(keyring: &Keyring, certificate: &CertificateView) -> R
     ensures exactly { IsOk result
         ↔ IsTrue (is_good (identity_of keyring.now) (certificate_of certificate.now)) }
     ensures given { IfOk result
-        (λ voters. voters ≡ counted (identity_of keyring.now) (certificate_of certificate.now)) }
+        (λ voters. voters ≡ counted_voters (identity_of keyring.now) (certificate_of certificate.now)) }
     ensures refused { OnErr result (result ≡ Err Fault.BadTag) }
 {
     let voters = counted(keyring, certificate);

@@ -2,7 +2,7 @@
 
 ghost use Rattle.std.specs.Prelude.{◌≡◌, ◌<◌, IsTrue};
 ghost use Rattle.ids.specs.Sizes.{replicas};
-ghost use Rattle.definitions.specs.Checks.{identity_of, counted, is_clear_core};
+ghost use Rattle.definitions.specs.Checks.{identity_of, counted_voters, is_clear_core};
 ghost use Rattle.certificates.specs.Shown.{Shown, Fits, passes, certificate_in, core_in, AreClaims};
 
 use crate::claims::Claims;
@@ -42,7 +42,7 @@ pub struct Checked<'a, V: Authenticated> {
 impl<'a, V: Authenticated> Model for Checked<'a, V> {
     ghost use Rattle.std.specs.Prelude.{◌≡◌, ◌<◌, IsTrue};
     ghost use Rattle.ids.specs.Sizes.{replicas};
-    ghost use Rattle.definitions.specs.Checks.{identity_of, counted, is_clear_core};
+    ghost use Rattle.definitions.specs.Checks.{identity_of, counted_voters, is_clear_core};
     ghost use Rattle.certificates.specs.Outcomes.{CheckedView};
     ghost use Rattle.certificates.specs.Shown.{Fits, passes, certificate_in, core_in};
 
@@ -54,7 +54,7 @@ impl<'a, V: Authenticated> Model for Checked<'a, V> {
         × (c.keyring.now.party < replicas c.keyring.now.sizes)
         × Fits c.keyring.now.sizes (V.shows c.view)
         × IsTrue (passes (identity_of c.keyring.now) (V.shows c.view))
-        × (c.voters ≡ counted (identity_of c.keyring.now) (certificate_in (V.shows c.view)))
+        × (c.voters ≡ counted_voters (identity_of c.keyring.now) (certificate_in (V.shows c.view)))
         × (c.clear ≡ is_clear_core (identity_of c.keyring.now) (core_in (V.shows c.view))) };
 }
 
@@ -71,7 +71,7 @@ impl<'a, V: Authenticated> Checked<'a, V> {
         requires replica { keyring.now.party < replicas config }
         requires fits { Fits config (V.shows view) }
         requires passed { IsTrue (passes (identity_of keyring.now) (V.shows view)) }
-        requires voters { voters ≡ counted (identity_of keyring.now) (certificate_in (V.shows view)) }
+        requires voters { voters ≡ counted_voters (identity_of keyring.now) (certificate_in (V.shows view)) }
         requires clear { clear ≡ is_clear_core (identity_of keyring.now) (core_in (V.shows view)) }
         ensures { result ≡ record { keys = keyring.entry.now; view = view } }
     {
@@ -112,7 +112,8 @@ impl<'a, V: Authenticated> Checked<'a, V> {
 impl<'a, V: Certified> Checked<'a, V> {
     /// The voters of its certificate whose tags verify.
     pub fn counted(&self) -> &[ReplicaId]
-        ensures { result.now ≡ counted (identity_of self.now.keys) (certificate_in (V.shows self.now.view)) }
+        ensures { result.now
+            ≡ counted_voters (identity_of self.now.keys) (certificate_in (V.shows self.now.view)) }
     {
         self.voters.as_slice()
     }

@@ -1,5 +1,5 @@
 //! The frames that replicas take: what each claims, and its check.
-#![tactic(auto, using(crate::proofs::Passing::is_passed_when), unfolding(definitions::specs::Admission::check, definitions::specs::Checks::is_clear_core, definitions::specs::Checks::counted))]
+#![tactic(auto, using(crate::proofs::Passing::is_passed_when), unfolding(definitions::specs::Admission::check, definitions::specs::Checks::is_clear_core, definitions::specs::Checks::counted_voters))]
 
 ghost use Rattle.std.specs.Prelude.{◌≡◌, ◌<◌};
 ghost use Rattle.ids.specs.Sizes.{replicas};

@@ -14,7 +14,7 @@ use Rattle.definitions.specs.Tally.{Told, is_counted, agreeing, agrees}
 use Rattle.definitions.specs.Frames.{spelling, reply_content}
 use Rattle.definitions.specs.Frames as frame
 use Rattle.definitions.specs.Keyrings.{verify}
-use Rattle.definitions.specs.Replicas.{Memory, ample, refused_at_once}
+use Rattle.definitions.specs.Replicas.{MemorySupply, ample, refused_at_once}
 use Rattle.definitions.specs.Sessions.{Client, Session, Receipt, Submitted, sent_request, not_sent, Heard}
 use Rattle.definitions.specs.Sessions.{gives_receipt, only_counts, not_counted, is_ample, request_frame}
 use Rattle.definitions.specs.Sessions.{submission, count_reply, on_reply}
@@ -53,7 +53,7 @@ module _ (me : Client) (payload : Bytes) (s : Session) where
   abbrev pub begun : ℕ → Session
   begun seq = record { used = seq; waiting = true; tally = [] }
 
-  pub submission-refused : (m : Memory) (n : Fault) → next_seq s ≡ Err n
+  pub submission-refused : (m : MemorySupply) (n : Fault) → next_seq s ≡ Err n
       → submission me m payload s ≡ (s, not_sent n)
   unfolding submission
   submission-refused m n e =
@@ -144,7 +144,7 @@ module _ (me : Client) (s : Session) (replica client seq place : ℕ) (text t : 
   abbrev doubled : Bool
   doubled = is_counted s.tally replica
 
-  pub reply-refused : (m : Memory) (n : Fault) → admission me reply s ≡ Err n
+  pub reply-refused : (m : MemorySupply) (n : Fault) → admission me reply s ≡ Err n
       → on_reply me m reply s ≡ (s, not_counted n)
   unfolding on_reply
   reply-refused m n e = four-refuse (unheard s) not_mine bad_tag wrong_seq doubled

@@ -10,7 +10,7 @@ use Rattle.definitions.specs.Tally.{is_counted, agreeing}
 use Rattle.definitions.specs.Frames.{Frame, spelling, reply_content}
 use Rattle.definitions.specs.Frames as frame
 use Rattle.definitions.specs.Keyrings.{Keys, verify}
-use Rattle.definitions.specs.Replicas.{Memory, ample, refused_at_once}
+use Rattle.definitions.specs.Replicas.{MemorySupply, ample, refused_at_once}
 use Rattle.definitions.specs.Sessions.{Client, Session, Receipt, Submitted, sent_request, not_sent, Heard}
 use Rattle.definitions.specs.Sessions.{gives_receipt, only_counts, not_counted}
 
@@ -23,7 +23,7 @@ pub record Held : Type 0 where
 -- ---- what answers mean
 
 -- how a call met the allocator, by its answer
-abbrev pub memory_of : {T : Type 0} → Result T Fault → Memory
+abbrev pub memory_of : {T : Type 0} → Result T Fault → MemorySupply
 memory_of (Ok x) = ample
 memory_of (Err fault.Memory) = refused_at_once
 memory_of (Err n) = ample

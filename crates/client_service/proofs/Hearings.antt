@@ -11,7 +11,7 @@ use Rattle.definitions.specs.Requests.{Asked, canonical}
 use Rattle.definitions.specs.Canonical.{request_of}
 use Rattle.definitions.proofs.RequestTexts.{request_of_some}
 use Rattle.definitions.specs.Frames.{Frame}
-use Rattle.definitions.specs.Replicas.{Memory}
+use Rattle.definitions.specs.Replicas.{MemorySupply}
 use Rattle.definitions.specs.Sessions.{Client, Session, Receipt, Heard, Submitted, sent_request, not_sent}
 use Rattle.definitions.specs.Sessions.{is_ample, request_frame, submission, gives_receipt, on_reply}
 use Rattle.signed_frames.specs.Clients.{client_of}
@@ -51,12 +51,12 @@ asks_both old mid new r first second = (
 )
 
 -- one more frame, which gave no receipt
-pub asks_one : (old new : Held) (m : Memory) (f : Frame)
+pub asks_one : (old new : Held) (m : MemorySupply) (f : Frame)
     → new ≡ record old { session = (on_reply (client_of old.keys) m f old.session).0 } → AsksOn old None new
 asks_one old new m f is = (ap (λ s. s.keys) is, ap (λ s. s.frame) is, ((m, f) ∷ [], ap (λ s. s.session) is))
 
 -- one more frame, and what it came to
-pub asks_last : (old new : Held) (m : Memory) (f : Frame) (r : Option Receipt)
+pub asks_last : (old new : Held) (m : MemorySupply) (f : Frame) (r : Option Receipt)
     → new ≡ record old { session = (on_reply (client_of old.keys) m f old.session).0 }
     → heard_of (Ok r) ≡ (on_reply (client_of old.keys) m f old.session).1 → AsksOn old r new
 asks_last old new m f None is heard = asks_one old new m f is
@@ -97,7 +97,7 @@ three_stay s sent_state frame n false false true e = refl
 three_stay s sent_state frame n false false false e = absurd cc
 
 -- where a submission is refused, the session stays
-refused_stays : (me : Client) (m : Memory) (payload : Bytes) (s : Session) (n : Fault)
+refused_stays : (me : Client) (m : MemorySupply) (payload : Bytes) (s : Session) (n : Fault)
     → (submission me m payload s).1 ≡ not_sent n → (submission me m payload s).0 ≡ s
 unfolding submission
 refused_stays me m payload s n =
@@ -115,7 +115,7 @@ not_sent_by : (p : Session × Submitted) (n : Fault) → IsSubmitted p.1 (Err n)
 not_sent_by (s, sent_request frame) n is = absurd is
 not_sent_by (s, not_sent m) n is = (m, refl)
 
-pub asked : (old mid new : Held) (m : Memory) (payload : Bytes) (request : Asked) (bytes : Vec ℕ Global)
+pub asked : (old mid new : Held) (m : MemorySupply) (payload : Bytes) (request : Asked) (bytes : Vec ℕ Global)
     (r : Option Receipt) → Some request ≡ request_of payload
     → mid
     ≡ record old {
@@ -146,7 +146,7 @@ asked old mid new m payload request bytes r read state answer asks =
     by (Some r) keys is heard = (keys, mid.session, is, heard)
     by None keys is heard = inr (keys, mid.session, is, heard)
 
-pub not_asked : (old mid : Held) (m : Memory) (payload : Bytes) (request : Asked) (n : Fault)
+pub not_asked : (old mid : Held) (m : MemorySupply) (payload : Bytes) (request : Asked) (n : Fault)
     → mid
     ≡ record old {
       session = (submission (client_of old.keys) m (canonical request) old.session).0;

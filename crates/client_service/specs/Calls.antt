@@ -4,7 +4,7 @@ use Rattle.definitions.specs.Bytes.{Bytes}
 use Rattle.definitions.specs.Requests.{Asked}
 use Rattle.definitions.specs.Canonical.{request_of}
 use Rattle.definitions.specs.Frames.{Frame}
-use Rattle.definitions.specs.Replicas.{Memory}
+use Rattle.definitions.specs.Replicas.{MemorySupply}
 use Rattle.definitions.specs.Sessions.{Client, Session, Receipt, sent_request, gives_receipt, submission}
 use Rattle.definitions.specs.Sessions.{on_reply}
 use Rattle.signed_frames.specs.Clients.{client_of}
@@ -12,7 +12,7 @@ use Rattle.client_accept.specs.Sessions.{Held}
 
 -- a frame that a session hears, and how the allocator meets it then
 abbrev pub Hearing : Type 0
-Hearing = Memory × Frame
+Hearing = MemorySupply × Frame
 
 -- the session after all that it heard
 abbrev pub after : Client → List Hearing → Session → Session
@@ -24,7 +24,7 @@ after me ((m, f) ∷ heard) s = after me heard (on_reply me m f s).0
 abbrev pub HeardOn : Client → Session → Option Receipt → Session → Type 0
 HeardOn me old None new = (heard : List Hearing) × (new ≡ after me heard old)
 HeardOn me old (Some r) new =
-    (heard : List Hearing) × (m : Memory) × (f : Frame)
+    (heard : List Hearing) × (m : MemorySupply) × (f : Frame)
     × (on_reply me m f (after me heard old) ≡ (new, gives_receipt r))
 
 -- the same, of a session with its keys and its frame, which stay
@@ -36,7 +36,7 @@ AsksOn old r new =
 pub record IsSubmittedFor (old : Held) (payload : Bytes) (sent : Session) : Type 0 where
   pub request : Asked
   pub payload_is : request_of payload ≡ Some request
-  pub memory : Memory
+  pub memory : MemorySupply
   pub frame : Frame
   pub is : submission (client_of old.keys) memory payload old.session ≡ (sent, sent_request frame)
 

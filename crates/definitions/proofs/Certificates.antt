@@ -12,7 +12,7 @@ use Rattle.definitions.specs.Frames.{Core, Vote}
 use Rattle.definitions.specs.FrameLimits.{IsDigest, IsVote, IsCertificate, Rise}
 use Rattle.definitions.specs.Branches.{Branch}
 use Rattle.definitions.specs.Digests.{digest, digest_of}
-use Rattle.definitions.specs.Checks.{Identity, vote_verifies, counted, is_good, is_genesis}
+use Rattle.definitions.specs.Checks.{Identity, vote_verifies, counted_voters, is_good, is_genesis}
 use Rattle.definitions.specs.States.{insert_vote, by_voter}
 
 -- ---- digests
@@ -149,7 +149,7 @@ IsCertificate-by_voter sizes d bs hd votes each enough =
 pub is_good-by_voter : (self : Identity) (d : Bytes) (bs : List Vote)
     → AllByRecursion (λ b. vote_verifies self d b ≡ true) bs → length bs ≡ quorum self.sizes
     → is_genesis d ≡ false → is_good self (record { digest = d; votes = by_voter bs }) ≡ true
-unfolding is_good counted
+unfolding is_good counted_voters
 is_good-by_voter self d bs verify enough apart =
     let kept = filter-all (vote_verifies self d) (by_voter bs)
     (all-by_voter (λ b. vote_verifies self d b ≡ true) bs verify) in

@@ -11,7 +11,7 @@ use Rattle.definitions.specs.Lists.{Among, AreDistinct}
 use Rattle.definitions.specs.Frames.{Core, Vote, Certificate}
 use Rattle.definitions.specs.Frames as frame
 use Rattle.definitions.specs.FrameLimits.{IsCore, IsVote, IsCertificate, IsFrame, Rise}
-use Rattle.definitions.specs.Checks.{Identity, vote_verifies, counted, is_genesis, is_good, findings}
+use Rattle.definitions.specs.Checks.{Identity, vote_verifies, counted_voters, is_genesis, is_good, findings}
 use Rattle.definitions.specs.Rulings.{Input}
 use Rattle.definitions.specs.Admission.{passes, rejected, when, own_tag_verifies}
 use Rattle.definitions.proofs.Sound.{IsChecked}
@@ -81,7 +81,7 @@ kept-within p n (b ∷ bs) h = kept-within-step p n b bs h.0 (kept-within p n bs
 
 -- a good certificate is that of genesis, or a quorum of its voters is counted
 good-either : (self : Identity) (q : Certificate) → is_good self q ≡ true
-    → (is_genesis q.digest ≡ true) ⊎ (quorum self.sizes ≤ length (counted self q))
+    → (is_genesis q.digest ≡ true) ⊎ (quorum self.sizes ≤ length (counted_voters self q))
 unfolding is_good
 good-either self q g =
     elim (cases_Bool (is_genesis q.digest)) [
@@ -93,7 +93,7 @@ good-either self q g =
 pub block-checked : (self : Identity) (core : Core) (q : Certificate) → IsCore self.sizes core
     → IsCertificate self.sizes q → is_good self q ≡ true
     → IsChecked self.sizes core q (findings self core q)
-unfolding counted
+unfolding counted_voters
 block-checked self core q k c g = record {
   below = k.justify_height;
   distinct = kept-distinct (vote_verifies self q.digest) (replicas self.sizes) q.votes

@@ -9,9 +9,9 @@ use Rattle.definitions.specs.Lists.{Among, AreDistinct}
 use Rattle.definitions.specs.Branches.{Block, Branch, just1, Extends, IsBranch, just2, just3}
 use Rattle.ids.specs.Sizes.{Sizes, replicas, quorum}
 use Rattle.definitions.specs.Trees.{Stored, blocks}
-use Rattle.definitions.specs.Chronicles.{Admitted, Step, Step.took_block, Step.noted, Chronicle, taken}
-use Rattle.definitions.specs.Chronicles.{stored, stored_of, tree, lock, IsLawfulVote, IsLawfulStep}
-use Rattle.definitions.specs.Chronicles.{IsLawful, voted, IsLawfulTake, vheight, decides, decided_by}
+use Rattle.definitions.specs.Chronicles.{Admitted, Step, Step.took_block, Step.noted, Chronicle, taken_blocks}
+use Rattle.definitions.specs.Chronicles.{stored_blocks, stored_block, tree, lock, IsLawfulVote, IsLawfulStep}
+use Rattle.definitions.specs.Chronicles.{IsLawful, voted_blocks, IsLawfulTake, vheight, decides, decided_by}
 use Rattle.definitions.specs.Chronicles.{decided, executed}
 
 pub tree-genesis : (c : Chronicle) → Among [] (tree c)
@@ -21,39 +21,40 @@ tree-genesis c = Among-after [] _ ([] ∷ []) (inl refl)
 -- ---- a step more
 
 pub tree-step : (a : Admitted) (c : Chronicle) (x : Branch) (t : Bool)
-    → Among x (blocks (map stored_of (taken c)))
-    → Among x (blocks (map stored_of (cond t (a ∷ taken c) (taken c))))
+    → Among x (blocks (map stored_block (taken_blocks c)))
+    → Among x (blocks (map stored_block (cond t (a ∷ taken_blocks c) (taken_blocks c))))
 tree-step a c x true m = inr m
 tree-step a c x false m = m
 
 pub tree-grows : (st : Step) (c : Chronicle) (x : Branch) → Among x (tree c) → Among x (tree (st ∷ c))
-unfolding tree stored taken
+unfolding tree stored_blocks taken_blocks
 tree-grows (took_block a) c x m = tree-step a c x a.new m
 tree-grows (noted n) c x m = m
 
-pub voted-step : (a : Admitted) (c : Chronicle) (x : Branch) (t : Bool) → Among x (voted c)
-    → Among x (cond t (a.branch ∷ voted c) (voted c))
+pub voted-step : (a : Admitted) (c : Chronicle) (x : Branch) (t : Bool) → Among x (voted_blocks c)
+    → Among x (cond t (a.branch ∷ voted_blocks c) (voted_blocks c))
 voted-step a c x true m = inr m
 voted-step a c x false m = m
 
-pub voted-grows : (st : Step) (c : Chronicle) (x : Branch) → Among x (voted c) → Among x (voted (st ∷ c))
-unfolding voted
+pub voted-grows : (st : Step) (c : Chronicle) (x : Branch) → Among x (voted_blocks c)
+    → Among x (voted_blocks (st ∷ c))
+unfolding voted_blocks
 voted-grows (took_block a) c x m = voted-step a c x a.voted m
 voted-grows (noted n) c x m = m
 
 -- what was voted for was taken
 pub voted-tree-step : (a : Admitted) (c : Chronicle) (x : Branch) (t : Bool)
     → (t ≡ true → Among a.branch (tree (took_block a ∷ c)))
-    → (Among x (voted c) → Among x (tree (took_block a ∷ c)))
-    → Among x (cond t (a.branch ∷ voted c) (voted c)) → Among x (tree (took_block a ∷ c))
+    → (Among x (voted_blocks c) → Among x (tree (took_block a ∷ c)))
+    → Among x (cond t (a.branch ∷ voted_blocks c) (voted_blocks c)) → Among x (tree (took_block a ∷ c))
 voted-tree-step a c x true here rest (inl e) =
     subst (λ (y : Branch). Among y (tree (took_block a ∷ c))) (sym e) (here refl)
 voted-tree-step a c x true here rest (inr m) = rest m
 voted-tree-step a c x false here rest m = rest m
 
-pub voted-tree : (need : Sizes) (c : Chronicle) → IsLawful need c → (x : Branch) → Among x (voted c)
+pub voted-tree : (need : Sizes) (c : Chronicle) → IsLawful need c → (x : Branch) → Among x (voted_blocks c)
     → Among x (tree c)
-unfolding voted
+unfolding voted_blocks
 voted-tree need [] l x m = absurd m
 voted-tree need (took_block a ∷ c) l x m =
     voted-tree-step a c x a.voted (λ v. (l.0.0 v).taken)
@@ -62,38 +63,39 @@ voted-tree need (noted n ∷ c) l x m = tree-grows (noted n) c x (voted-tree nee
 
 -- ---- what a chronicle's law says of all of it
 
-pub taken-step : (a : Admitted) (c : Chronicle) (x : Admitted) (t : Bool) → Among x (taken c)
-    → Among x (cond t (a ∷ taken c) (taken c))
+pub taken-step : (a : Admitted) (c : Chronicle) (x : Admitted) (t : Bool) → Among x (taken_blocks c)
+    → Among x (cond t (a ∷ taken_blocks c) (taken_blocks c))
 taken-step a c x true m = inr m
 taken-step a c x false m = m
 
-pub taken-grows : (st : Step) (c : Chronicle) (x : Admitted) → Among x (taken c) → Among x (taken (st ∷ c))
-unfolding taken
+pub taken-grows : (st : Step) (c : Chronicle) (x : Admitted) → Among x (taken_blocks c)
+    → Among x (taken_blocks (st ∷ c))
+unfolding taken_blocks
 taken-grows (took_block a) c x m = taken-step a c x a.new m
 taken-grows (noted n) c x m = m
 
 -- ---- counted votes, in an order
 
-pub taken-now : (st : Step) (c : Chronicle) (a : Admitted) → Among a (taken (st ∷ c))
-    → ((st ≡ took_block a) × (a.new ≡ true)) ⊎ Among a (taken c)
-unfolding taken
+pub taken-now : (st : Step) (c : Chronicle) (a : Admitted) → Among a (taken_blocks (st ∷ c))
+    → ((st ≡ took_block a) × (a.new ≡ true)) ⊎ Among a (taken_blocks c)
+unfolding taken_blocks
 taken-now (took_block b) c a m = by b.new refl m
   where
-    by : (t : Bool) → b.new ≡ t → Among a (cond t (b ∷ taken c) (taken c))
-        → ((took_block b ≡ took_block a) × (a.new ≡ true)) ⊎ Among a (taken c)
+    by : (t : Bool) → b.new ≡ t → Among a (cond t (b ∷ taken_blocks c) (taken_blocks c))
+        → ((took_block b ≡ took_block a) × (a.new ≡ true)) ⊎ Among a (taken_blocks c)
     by true n (inl e) = inl (ap (λ (x : Admitted). took_block x) (sym e), ap (λ (x : Admitted). x.new) e ∙ n)
     by true n (inr k) = inr k
     by false n k = inr k
 taken-now (noted n) c a m = inr m
 
 pub tree-cases : (c : Chronicle) (b : Branch) → Among b (tree c)
-    → (b ≡ []) ⊎ ((a : Admitted) × Among a (taken c) × (a.branch ≡ b))
-unfolding tree stored
+    → (b ≡ []) ⊎ ((a : Admitted) × Among a (taken_blocks c) × (a.branch ≡ b))
+unfolding tree stored_blocks
 tree-cases c b m =
-    elim (Among-either b (map (λ s. s.branch) (map stored_of (taken c))) ([] ∷ []) m) [
+    elim (Among-either b (map (λ s. s.branch) (map stored_block (taken_blocks c))) ([] ∷ []) m) [
       | inl k ↦ (
-          let r = Among-map (λ (s : Stored). s.branch) (map stored_of (taken c)) b k in
-          let q = Among-map stored_of (taken c) r.0 r.1 in
+          let r = Among-map (λ (s : Stored). s.branch) (map stored_block (taken_blocks c)) b k in
+          let q = Among-map stored_block (taken_blocks c) r.0 r.1 in
           inr (q.0, q.1, sym (r.2 ∙ ap (λ (s : Stored). s.branch) q.2)))
       | inr k ↦ (elim k [ inl e ↦ inl e | inr n ↦ absurd n ])
     ]
@@ -106,8 +108,8 @@ Certifies s a =
 
 pub take-step : (s : Sizes) (a : Admitted) (c : Chronicle) (x : Admitted) (t : Bool) → a.new ≡ t
     → (a.new ≡ true → IsLawfulTake s a c)
-    → (Among x (taken c) → Certifies s x × (IsBranch x.branch) × (x.new ≡ true))
-    → ((b : Branch) → Among b (tree c) → IsBranch b) → Among x (cond t (a ∷ taken c) (taken c))
+    → (Among x (taken_blocks c) → Certifies s x × (IsBranch x.branch) × (x.new ≡ true))
+    → ((b : Branch) → Among b (tree c) → IsBranch b) → Among x (cond t (a ∷ taken_blocks c) (taken_blocks c))
     → Certifies s x × IsBranch x.branch × (x.new ≡ true)
 take-step s a c x true e law rest br (inl i) =
     let l = law e in
@@ -117,14 +119,14 @@ take-step s a c x true e law rest br (inr m) = rest m
 take-step s a c x false e law rest br m = rest m
 
 pub tree-branch : (s : Sizes) (c : Chronicle)
-    → ((x : Admitted) → Among x (taken c) → Certifies s x × IsBranch x.branch × (x.new ≡ true))
+    → ((x : Admitted) → Among x (taken_blocks c) → Certifies s x × IsBranch x.branch × (x.new ≡ true))
     → (b : Branch) → Among b (tree c) → IsBranch b
 tree-branch s c f b m =
     elim (tree-cases c b m) [ inl e ↦ subst IsBranch (sym e) tt | inr r ↦ subst IsBranch r.2 (f r.0 r.1).1 ]
 
-pub lawful-taken : (s : Sizes) (c : Chronicle) → IsLawful s c → (x : Admitted) → Among x (taken c)
+pub lawful-taken : (s : Sizes) (c : Chronicle) → IsLawful s c → (x : Admitted) → Among x (taken_blocks c)
     → Certifies s x × IsBranch x.branch × (x.new ≡ true)
-unfolding taken
+unfolding taken_blocks
 lawful-taken s [] l x m = absurd m
 lawful-taken s (took_block a ∷ c) l x m =
     take-step s a c x a.new refl l.0.1 (lawful-taken s c l.1 x)
@@ -135,15 +137,17 @@ lawful-taken s (noted n ∷ c) l x m = lawful-taken s c l.1 x m
 
 -- the newest step votes for b, by the law
 pub record IsVote (b : Branch) (now earlier : Chronicle) : Type 0 where
-  pub voted_is : voted now ≡ b ∷ voted earlier
+  pub voted_is : voted_blocks now ≡ b ∷ voted_blocks earlier
   pub law : IsLawfulVote b now earlier
 
-pub voted-height : (c : Chronicle) (b : Branch) → Among b (voted c) → length b ≤ vheight c
+pub voted-height : (c : Chronicle) (b : Branch) → Among b (voted_blocks c) → length b ≤ vheight c
 unfolding vheight
-voted-height c b m = greatest-above (map length (voted c)) (length b) (Among-mapped length (voted c) b m)
+voted-height c b m =
+    greatest-above (map length (voted_blocks c)) (length b) (Among-mapped length (voted_blocks c) b m)
 
 -- the newest vote is higher than each earlier one
-pub vote-higher : (b x : Branch) (now earlier : Chronicle) → IsVote b now earlier → Among x (voted earlier)
+pub vote-higher : (b x : Branch) (now earlier : Chronicle) → IsVote b now earlier
+    → Among x (voted_blocks earlier)
     → length x < length b
 vote-higher b x now earlier v m = omega (arith, v.law.higher, voted-height earlier x m)
 
@@ -152,27 +156,27 @@ pub same-vote : (a b : Branch) (now earlier : Chronicle) → IsVote a now earlie
 same-vote a b now earlier v w = let e = v.voted_is in let f = w.voted_is in cc
 
 -- the lock is as high as just2 of each block taken
-pub lock-above : (c : Chronicle) (a : Admitted) → Among a (taken c)
+pub lock-above : (c : Chronicle) (a : Admitted) → Among a (taken_blocks c)
     → length (just2 a.branch) ≤ length (lock c)
 unfolding lock
-lock-above c a m = highest-above _ _ (Among-mapped (λ (x : Admitted). just2 x.branch) (taken c) a m)
+lock-above c a m = highest-above _ _ (Among-mapped (λ (x : Admitted). just2 x.branch) (taken_blocks c) a m)
 
 -- the lock is genesis, or just2 of a block taken
 pub lock-cases : (c : Chronicle)
-    → (lock c ≡ []) ⊎ ((a : Admitted) × Among a (taken c) × (lock c ≡ just2 a.branch))
+    → (lock c ≡ []) ⊎ ((a : Admitted) × Among a (taken_blocks c) × (lock c ≡ just2 a.branch))
 unfolding lock
 lock-cases c =
-    elim (highest-among (map (λ (x : Admitted). just2 x.branch) (taken c))) [
+    elim (highest-among (map (λ (x : Admitted). just2 x.branch) (taken_blocks c))) [
       | inl e ↦ inl e
-      | inr m ↦ inr (Among-map (λ (x : Admitted). just2 x.branch) (taken c) _ m)
+      | inr m ↦ inr (Among-map (λ (x : Admitted). just2 x.branch) (taken_blocks c) _ m)
     ]
 
 -- ---- the tree
 
 -- what a taken block stands on is in the tree
-pub taken-parent : (s : Sizes) (c : Chronicle) → IsLawful s c → (a : Admitted) → Among a (taken c)
+pub taken-parent : (s : Sizes) (c : Chronicle) → IsLawful s c → (a : Admitted) → Among a (taken_blocks c)
     → (b : Block) × (parent : Branch) × (a.branch ≡ b ∷ parent) × Among parent (tree c)
-unfolding taken
+unfolding taken_blocks
 taken-parent s [] l a m = absurd m
 taken-parent s (st ∷ c) l a m =
     elim (taken-now st c a m) [
@@ -185,7 +189,7 @@ taken-parent s (st ∷ c) l a m =
 
 -- a block of the tree above genesis was taken
 pub tree-taken : (c : Chronicle) (b : Branch) → Among b (tree c) → 0 < length b
-    → (a : Admitted) × Among a (taken c) × (a.branch ≡ b)
+    → (a : Admitted) × Among a (taken_blocks c) × (a.branch ≡ b)
 tree-taken c b m h =
     elim (tree-cases c b m) [ inl e ↦ absurd (omega (arith, ap (λ (z : Branch). length z) e)) | inr r ↦ r ]
 
@@ -217,12 +221,12 @@ pub tree-just1 : (s : Sizes) (c : Chronicle) → IsLawful s c → (b : Branch) �
 tree-just1 s c l b m = tree-extends s c l b (just1 b) m (just1-extends b)
 
 -- a taken block is in the tree
-pub taken-tree : (c : Chronicle) (a : Admitted) → Among a (taken c) → Among a.branch (tree c)
-unfolding tree stored
+pub taken-tree : (c : Chronicle) (a : Admitted) → Among a (taken_blocks c) → Among a.branch (tree c)
+unfolding tree stored_blocks
 taken-tree c a m =
-    Among-before a.branch (map (λ (s : Stored). s.branch) (map stored_of (taken c))) ([] ∷ [])
-    (Among-mapped (λ (s : Stored). s.branch) (map stored_of (taken c)) (stored_of a)
-    (Among-mapped stored_of (taken c) a m))
+    Among-before a.branch (map (λ (s : Stored). s.branch) (map stored_block (taken_blocks c))) ([] ∷ [])
+    (Among-mapped (λ (s : Stored). s.branch) (map stored_block (taken_blocks c)) (stored_block a)
+    (Among-mapped stored_block (taken_blocks c) a m))
 
 -- ---- decisions
 
@@ -245,18 +249,20 @@ decided_by-cases (a ∷ before) b m =
 
 -- what is decided is genesis, or the third below a taken block that decides it
 pub decided-cases : (c : Chronicle) (b : Branch) → Among b (decided c)
-    → (b ≡ []) ⊎ ((a : Admitted) × Among a (taken c) × (b ≡ just3 a.branch) × (decides a.branch ≡ true))
+    → (b ≡ [])
+    ⊎ ((a : Admitted) × Among a (taken_blocks c) × (b ≡ just3 a.branch) × (decides a.branch ≡ true))
 unfolding decided
 decided-cases c b m =
-    elim (Among-either b (decided_by (taken c)) ([] ∷ []) m) [
-      | inl k ↦ inr (decided_by-cases (taken c) b k)
+    elim (Among-either b (decided_by (taken_blocks c)) ([] ∷ []) m) [
+      | inl k ↦ inr (decided_by-cases (taken_blocks c) b k)
       | inr k ↦ (elim k [ inl e ↦ inl e | inr n ↦ absurd n ])
     ]
 
 pub vote-cases : (a : Admitted) (c : Chronicle) (b : Branch) (t : Bool) → a.voted ≡ t
-    → voted (took_block a ∷ c) ≡ cond t (a.branch ∷ voted c) (voted c)
+    → voted_blocks (took_block a ∷ c) ≡ cond t (a.branch ∷ voted_blocks c) (voted_blocks c)
     → (a.voted ≡ true → IsLawfulVote a.branch (took_block a ∷ c) c)
-    → Among b (cond t (a.branch ∷ voted c) (voted c)) → IsVote b (took_block a ∷ c) c ⊎ Among b (voted c)
+    → Among b (cond t (a.branch ∷ voted_blocks c) (voted_blocks c))
+    → IsVote b (took_block a ∷ c) c ⊎ Among b (voted_blocks c)
 vote-cases a c b true e same law (inl i) =
     inl (subst (λ (x : Branch). IsVote x (took_block a ∷ c) c) (sym i)
     (record { voted_is = same; law = law e }))
@@ -265,15 +271,15 @@ vote-cases a c b false e same law m = inr m
 
 -- a vote is the newest step's, or an earlier one
 pub voted-cases : (s : Sizes) (st : Step) (c : Chronicle) (b : Branch) → IsLawful s (st ∷ c)
-    → Among b (voted (st ∷ c)) → IsVote b (st ∷ c) c ⊎ Among b (voted c)
-unfolding voted
+    → Among b (voted_blocks (st ∷ c)) → IsVote b (st ∷ c) c ⊎ Among b (voted_blocks c)
+unfolding voted_blocks
 voted-cases s (took_block a) c b l m = vote-cases a c b a.voted refl refl l.0.0 m
 voted-cases s (noted n) c b l m = inr m
 
 -- one height is voted for once
-pub one-vote : (s : Sizes) (c : Chronicle) → IsLawful s c → (a b : Branch) → Among a (voted c)
-    → Among b (voted c) → length a ≡ length b → a ≡ b
-unfolding voted
+pub one-vote : (s : Sizes) (c : Chronicle) → IsLawful s c → (a b : Branch) → Among a (voted_blocks c)
+    → Among b (voted_blocks c) → length a ≡ length b → a ≡ b
+unfolding voted_blocks
 one-vote s [] l a b m n e = absurd m
 one-vote s (st ∷ c) l a b m n e =
     elim (voted-cases s st c a l m) [

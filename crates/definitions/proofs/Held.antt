@@ -7,10 +7,11 @@ use Rattle.definitions.proofs.Trees.{tree-below}
 use Rattle.definitions.specs.Lists.{Among}
 use Rattle.definitions.specs.Branches.{Branch, just1, just2, just3, Extends}
 use Rattle.definitions.specs.Trees.{blocks, IsTree}
-use Rattle.definitions.specs.Chronicles.{Admitted, Chronicle, taken, stored, tree, lock, executed}
+use Rattle.definitions.specs.Chronicles.{Admitted, Chronicle, taken_blocks, stored_blocks, tree, lock}
+use Rattle.definitions.specs.Chronicles.{executed}
 
 -- the branches of what is stored are the tree
-pub blocks-stored : (c : Chronicle) → blocks (stored c) ≡ tree c
+pub blocks-stored : (c : Chronicle) → blocks (stored_blocks c) ≡ tree c
 unfolding tree
 blocks-stored c = refl
 
@@ -30,7 +31,7 @@ lock-tree c tr =
 
 -- what was executed was decided by a taken block, unless it is genesis
 pub executed-cases : (c : Chronicle)
-    → (executed c ≡ []) ⊎ ((a : Admitted) × Among a (taken c) × (executed c ≡ just3 a.branch))
+    → (executed c ≡ []) ⊎ ((a : Admitted) × Among a (taken_blocks c) × (executed c ≡ just3 a.branch))
 executed-cases c =
     elim (decided-cases c (executed c) (executed-decided c)) [ inl e ↦ inl e | inr r ↦ inr (r.0, r.1, r.2) ]
 

@@ -21,7 +21,7 @@ use Rattle.ids.specs.declared.line_fault.LineFault.TheVariants.{UnknownName, Bad
 use Rattle.ids.specs.declared.line_fault.LineFault.TheVariants.{LineTooLong}
 use Rattle.definitions.specs.Bytes.{Bytes}
 use Rattle.definitions.specs.Requests.{set, add, replace, append, prepend, Asked, Head, store, cas, get}
-use Rattle.definitions.specs.Requests.{gets, delete, incr, decr, head_of, stored_of, crlf, space, fields}
+use Rattle.definitions.specs.Requests.{gets, delete, incr, decr, head_of, data_field, crlf, space, fields}
 use Rattle.definitions.specs.Requests.{noreply_field, line, data_block, spelling, IsRequest}
 use Rattle.definitions.specs.Items.{names, name_of, StartsWith, HasNoEnd, FirstLine, IsLineOf, Item, asked}
 use Rattle.definitions.specs.Items.{quit, bad, IsItemAt, IsUnfinished, goes_on, AreItems}
@@ -80,7 +80,7 @@ first_known (store add key flags bytes) noreply = refl
 first_known (store replace key flags bytes) noreply = refl
 first_known (store append key flags bytes) noreply = refl
 first_known (store prepend key flags bytes) noreply = refl
-first_known (cas key flags bytes unique) noreply = refl
+first_known (cas key flags bytes cas_unique) noreply = refl
 first_known (get keys) noreply = refl
 first_known (gets keys) noreply = refl
 first_known (delete key) noreply = refl
@@ -110,7 +110,7 @@ item_by_data r noreply start (Some bytes) rest =
 -- what a line makes, by what it says
 abbrev pub item_by_line : Bytes → Bytes → Option (Head × Bool) → Option (Item × ℕ)
 item_by_line l rest (Some (head, noreply)) =
-    item_by_data (with_data head rest) noreply (length l + 2) (stored_of head) rest
+    item_by_data (with_data head rest) noreply (length l + 2) (data_field head) rest
 item_by_line l rest None =
     if bytes_eq l (codes "quit") then Some (quit, 6)
     else if is_known (name_of l) then Some (bad BadFields, 0)
@@ -172,8 +172,8 @@ asked_made (store verb key flags stored) n more is =
     ap (λ (s : Asked). item_by_data s n start (Some (length stored)) (data_block r ++ more))
     (with_data-again r more)
     ∙ data_there r n start stored more is.2 ∙ ap (λ (u : ℕ). Some (asked r n, u)) long
-asked_made (cas key flags stored unique) n more is =
-    let r : Asked = cas key flags stored unique in
+asked_made (cas key flags stored cas_unique) n more is =
+    let r : Asked = cas key flags stored cas_unique in
     let start = length (line (head_of r) n) + 2 in
     let long : start + (length stored + 2) ≡ length (spelling r n) =
     omega (arith, length-spelling r n, length-append stored crlf) in
@@ -306,7 +306,7 @@ item_made text (bad TooLarge) used is =
       first.2.0,
       (first.0, first.1, first.2.1),
       at_used _ _ _ _ is.6 (made_by l first.2.0 _ _ (head_at-line l is.2 is.3 is.4)
-          (large_made (with_data is.2 first.2.0) is.3 (length l + 2) (stored_of is.2) first.2.0 is.5)),
+          (large_made (with_data is.2 first.2.0) is.3 (length l + 2) (data_field is.2) first.2.0 is.5)),
     )
 item_made text (bad BadChunk) used is =
     let l : Bytes = is.0 in
@@ -316,7 +316,7 @@ item_made text (bad BadChunk) used is =
       rest,
       line_first text l rest is.2 is.3 is.4 is.5,
       at_used _ _ _ _ is.7 (made_by l rest _ _ (head_at-line l is.2 is.3 is.4)
-          (chunk_made (with_data is.2 rest) is.3 (length l + 2) (stored_of is.2) rest is.6)),
+          (chunk_made (with_data is.2 rest) is.3 (length l + 2) (data_field is.2) rest is.6)),
     )
 item_made text (bad LineTooLong) used is = inr (refl, is.2, is.0, is.1)
 
@@ -398,7 +398,7 @@ IsItemAt-append text more (bad BadChunk) used is = (
   is.3,
   is.4,
   ap (λ (t : Bytes). t ++ more) is.5 ∙ append_assoc (is.0 ++ crlf) is.1 more,
-  chunk_more (stored_of is.2) is.1 more is.6,
+  chunk_more (data_field is.2) is.1 more is.6,
   is.7,
 )
 IsItemAt-append text more (bad LineTooLong) used is =
@@ -419,7 +419,7 @@ unfinished_made text x used (inl u) (inr a) = omega (arith, u.0, a.2)
 unfinished_made text x used (inr u) (inl a) =
     let first = line_first text u.0 u.1 u.2 u.3 u.4 u.5 in
     let nothing = made_by u.0 u.1 _ _ (head_at-line u.0 u.2 u.3 u.4)
-    (short_made (with_data u.2 u.1) u.3 (length u.0 + 2) (stored_of u.2) u.1 u.6) in
+    (short_made (with_data u.2 u.1) u.3 (length u.0 + 2) (data_field u.2) u.1 u.6) in
     let one = same_made text u.0 a.0 u.1 a.1 first a.2 in
     let made = a.3 in
     cc
@@ -447,7 +447,7 @@ item_is text a x m n e is =
 
 -- a line and its data are a request
 asked_item : (text l more : Bytes) (r : Asked) (head : Head) (noreply : Bool) → IsLineOf l head noreply
-    → head_of r ≡ head → IfSome (stored_of r) (λ stored. length stored ≤ MOST_DATA)
+    → head_of r ≡ head → IfSome (data_field r) (λ stored. length stored ≤ MOST_DATA)
     → text ≡ l ++ crlf ++ (data_block r ++ more)
     → IsItemAt text (asked r noreply) (length l + 2 + length (data_block r))
 asked_item text l more r head noreply is e few whole =
@@ -462,18 +462,21 @@ asked_item text l more r head noreply is e few whole =
     )
 
 -- a line that announces data, with the data
-data_of : (head : Head) (bytes : ℕ) (rest : Bytes) → stored_of head ≡ Some bytes → bytes ≤ length rest
+data_of : (head : Head) (bytes : ℕ) (rest : Bytes) → data_field head ≡ Some bytes → bytes ≤ length rest
     → bytes ≤ MOST_DATA
     → (head_of (with_data head rest) ≡ head) × (data_block (with_data head rest) ≡ take bytes rest ++ crlf)
-    × IfSome (stored_of (with_data head rest)) (λ stored. length stored ≤ MOST_DATA)
+    × IfSome (data_field (with_data head rest)) (λ stored. length stored ≤ MOST_DATA)
 data_of (store verb key flags b) bytes rest e long few =
     let i : b ≡ bytes = cc in
     let size = length-take-le b rest (omega arith) in
     (ap (λ (k : ℕ). store verb key flags k) size, ap (λ (k : ℕ). take k rest ++ crlf) i, omega (arith, size))
-data_of (cas key flags b unique) bytes rest e long few =
+data_of (cas key flags b cas_unique) bytes rest e long few =
     let i : b ≡ bytes = cc in
-    let size = length-take-le b rest (omega arith) in
-    (ap (λ (k : ℕ). cas key flags k unique) size, ap (λ (k : ℕ). take k rest ++ crlf) i, omega (arith, size))
+    let size = length-take-le b rest (omega arith) in (
+      ap (λ (k : ℕ). cas key flags k cas_unique) size,
+      ap (λ (k : ℕ). take k rest ++ crlf) i,
+      omega (arith, size),
+    )
 data_of (get keys) bytes rest e long few = absurd cc
 data_of (gets keys) bytes rest e long few = absurd cc
 data_of (delete key) bytes rest e long few = absurd cc
@@ -495,7 +498,7 @@ at_some o bytes P e p = subst (λ (q : Option ℕ). IsSomeAnd q P) (sym e) p
 
 -- the data is there
 whole_item : (text l rest : Bytes) (head : Head) (noreply : Bool) (bytes : ℕ) → IsLineOf l head noreply
-    → text ≡ l ++ crlf ++ rest → stored_of head ≡ Some bytes
+    → text ≡ l ++ crlf ++ rest → data_field head ≡ Some bytes
     → bytes ≤ MOST_DATA → bytes + 2 ≤ length rest → take 2 (drop bytes rest) ≡ crlf
     → IsItemAt text (asked (with_data head rest) noreply) (length l + 2 + (bytes + 2))
 whole_item text l rest head noreply bytes is whole e few long ends =
@@ -515,7 +518,7 @@ whole_item text l rest head noreply bytes is whole e few long ends =
 
 -- what a line makes that announces data is an item
 stored_item : (text l rest : Bytes) (head : Head) (noreply : Bool) (bytes : ℕ) (x : Item) (used : ℕ)
-    → IsLineOf l head noreply → text ≡ l ++ crlf ++ rest → stored_of head ≡ Some bytes
+    → IsLineOf l head noreply → text ≡ l ++ crlf ++ rest → data_field head ≡ Some bytes
     → item_by_data (with_data head rest) noreply (length l + 2) (Some bytes) rest ≡ Some (x, used)
     → IsItemAt text x used
 stored_item text l rest head noreply bytes x used is whole e made =
@@ -557,7 +560,7 @@ both_some false x y e = cc
 
 -- where it makes nothing, the data is cut
 stored_open : (text l rest : Bytes) (head : Head) (noreply : Bool) (bytes : ℕ) → IsLineOf l head noreply
-    → text ≡ l ++ crlf ++ rest → stored_of head ≡ Some bytes
+    → text ≡ l ++ crlf ++ rest → data_field head ≡ Some bytes
     → item_by_data (with_data head rest) noreply (length l + 2) (Some bytes) rest ≡ None → IsUnfinished text
 stored_open text l rest head noreply bytes is whole e made =
     by_test _ _ _ _ made (λ large f. absurd cc)
@@ -574,14 +577,14 @@ stored_open text l rest head noreply bytes is whole e made =
 
 -- a line without data is the request itself
 lone_item : (text l rest : Bytes) (r : Asked) (noreply : Bool) (x : Item) (used : ℕ)
-    → IsLineOf l (head_of r) noreply → text ≡ l ++ crlf ++ rest → stored_of r ≡ None → data_block r ≡ []
+    → IsLineOf l (head_of r) noreply → text ≡ l ++ crlf ++ rest → data_field r ≡ None → data_block r ≡ []
     → ◌≡◌ {A = Option (Item × ℕ)} (Some (asked r noreply, length l + 2)) (Some (x, used))
     → IsItemAt text x used
 lone_item text l rest r noreply x used is whole none empty made =
     let block : rest ≡ data_block r ++ rest = ap (λ (t : Bytes). t ++ rest) (sym empty) in
     let size : length l + 2 + length (data_block r) ≡ length l + 2 =
     omega (arith, ap (λ (t : Bytes). length t) empty) in
-    let few : IfSome (stored_of r) (λ stored. length stored ≤ MOST_DATA) =
+    let few : IfSome (data_field r) (λ stored. length stored ≤ MOST_DATA) =
     subst (λ (o : Option Bytes). IfSome o (λ stored. length stored ≤ MOST_DATA)) (sym none) tt in
     item_is text (asked r noreply) x (length l + 2) used made
     (subst (λ (k : ℕ). IsItemAt text (asked r noreply) k) size
@@ -594,8 +597,8 @@ line_item : (text l rest : Bytes) (head : Head) (noreply : Bool) (x : Item) (use
     → item_by_line l rest (Some (head, noreply)) ≡ Some (x, used) → IsItemAt text x used
 line_item text l rest (store verb key flags bytes) noreply x used is whole made =
     stored_item text l rest (store verb key flags bytes) noreply bytes x used is whole refl made
-line_item text l rest (cas key flags bytes unique) noreply x used is whole made =
-    stored_item text l rest (cas key flags bytes unique) noreply bytes x used is whole refl made
+line_item text l rest (cas key flags bytes cas_unique) noreply x used is whole made =
+    stored_item text l rest (cas key flags bytes cas_unique) noreply bytes x used is whole refl made
 line_item text l rest (get keys) noreply x used is whole made =
     lone_item text l rest (get keys) noreply x used is whole refl refl made
 line_item text l rest (gets keys) noreply x used is whole made =
@@ -612,8 +615,8 @@ line_open : (text l rest : Bytes) (head : Head) (noreply : Bool) → IsLineOf l 
     → text ≡ l ++ crlf ++ rest → item_by_line l rest (Some (head, noreply)) ≡ None → IsUnfinished text
 line_open text l rest (store verb key flags bytes) noreply is whole made =
     stored_open text l rest (store verb key flags bytes) noreply bytes is whole refl made
-line_open text l rest (cas key flags bytes unique) noreply is whole made =
-    stored_open text l rest (cas key flags bytes unique) noreply bytes is whole refl made
+line_open text l rest (cas key flags bytes cas_unique) noreply is whole made =
+    stored_open text l rest (cas key flags bytes cas_unique) noreply bytes is whole refl made
 line_open text l rest (get keys) noreply is whole made = absurd cc
 line_open text l rest (gets keys) noreply is whole made = absurd cc
 line_open text l rest (delete key) noreply is whole made = absurd cc

@@ -77,7 +77,7 @@ plain_fields (store verb key flags bytes) noreply form = (
     ),
   ),
 )
-plain_fields (cas key flags bytes unique) noreply form = (
+plain_fields (cas key flags bytes cas_unique) noreply form = (
   plain_word (codes "cas") refl,
   (
     plain_key key form.0,
@@ -85,7 +85,7 @@ plain_fields (cas key flags bytes unique) noreply form = (
       plain_decimal flags (omega (arith, form.1)),
       (
         plain_word (codes "0") refl,
-        (plain_decimal bytes form.2, (plain_decimal unique form.3, plain_noreply noreply)),
+        (plain_decimal bytes form.2, (plain_decimal cas_unique form.3, plain_noreply noreply)),
       ),
     ),
   ),
@@ -128,8 +128,8 @@ pub parts-line : (head : Head) (noreply : Bool) → HasForm head
     → parts (line head noreply) ≡ fields head ++ noreply_field noreply
 parts-line (store verb key flags bytes) noreply form =
     parts-joined _ _ (plain_fields (store verb key flags bytes) noreply form)
-parts-line (cas key flags bytes unique) noreply form =
-    parts-joined _ _ (plain_fields (cas key flags bytes unique) noreply form)
+parts-line (cas key flags bytes cas_unique) noreply form =
+    parts-joined _ _ (plain_fields (cas key flags bytes cas_unique) noreply form)
 parts-line (get keys) noreply form = parts-joined _ _ (plain_fields (get keys) noreply form)
 parts-line (gets keys) noreply form = parts-joined _ _ (plain_fields (gets keys) noreply form)
 parts-line (delete key) noreply form = parts-joined _ _ (plain_fields (delete key) noreply form)
@@ -230,11 +230,11 @@ head_in-fields (store append key flags bytes) noreply form may =
 head_in-fields (store prepend key flags bytes) noreply form may =
     store_same prepend key _ _ _ _ _ _ (digits_value-decimal flags (omega (arith, form.1)))
     (digits_value-decimal bytes form.2) (has_word-noreply noreply)
-head_in-fields (cas key flags bytes unique) noreply form may =
+head_in-fields (cas key flags bytes cas_unique) noreply form may =
     rw (
       digits_value-decimal flags (omega (arith, form.1)),
       digits_value-decimal bytes form.2,
-      digits_value-decimal unique form.3,
+      digits_value-decimal cas_unique form.3,
       has_word-noreply noreply,
     ) refl
 head_in-fields (get keys) true form may = absurd (let no : false ≡ true = may refl in cc)
@@ -297,8 +297,8 @@ are_keys-pass (key ∷ keys) are = and_from _ _ (is_key-passes key are.0) (are_k
 -- the test of what a line may say
 abbrev pub is_form : Head → Bool
 is_form (store verb key flags bytes) = is_key key && nat_lt flags (2 ^ 32) && nat_lt bytes (2 ^ 64)
-is_form (cas key flags bytes unique) =
-    is_key key && nat_lt flags (2 ^ 32) && nat_lt bytes (2 ^ 64) && nat_lt unique (2 ^ 64)
+is_form (cas key flags bytes cas_unique) =
+    is_key key && nat_lt flags (2 ^ 32) && nat_lt bytes (2 ^ 64) && nat_lt cas_unique (2 ^ 64)
 is_form (get keys) = nat_le 1 (length keys) && nat_le (length keys) 16 && list_all is_key keys
 is_form (gets keys) = nat_le 1 (length keys) && nat_le (length keys) 16 && list_all is_key keys
 is_form (delete key) = is_key key
@@ -323,7 +323,7 @@ pub form_passes : (head : Head) → is_form head ≡ true → HasForm head
 form_passes (store verb key flags bytes) e =
     let p =
     and_parts _ _ e in let q = and_parts _ _ p.0 in (key_passes key q.0, ltb-true _ _ q.1, ltb-true _ _ p.1)
-form_passes (cas key flags bytes unique) e =
+form_passes (cas key flags bytes cas_unique) e =
     let o =
     and_parts _ _ e in let p =
     and_parts _ _ o.0 in let q =
@@ -338,7 +338,7 @@ form_passes (decr key value) e = let p = and_parts _ _ e in (key_passes key p.0,
 pub is_form-passes : (head : Head) → HasForm head → is_form head ≡ true
 is_form-passes (store verb key flags bytes) form =
     and_from _ _ (and_from _ _ (is_key-passes key form.0) (lt-ltb _ _ form.1)) (lt-ltb _ _ form.2)
-is_form-passes (cas key flags bytes unique) form =
+is_form-passes (cas key flags bytes cas_unique) form =
     and_from _ _
     (and_from _ _ (and_from _ _ (is_key-passes key form.0) (lt-ltb _ _ form.1)) (lt-ltb _ _ form.2))
     (lt-ltb _ _ form.3)
@@ -482,18 +482,18 @@ length-line (store verb key flags bytes) noreply form may =
             ),
           ),
     )
-length-line (cas key flags bytes unique) noreply form may =
+length-line (cas key flags bytes cas_unique) noreply form may =
     omega (
       arith,
       length-noreply_field noreply,
       length-joined (codes "cas")
-          (key ∷ decimal flags ∷ codes "0" ∷ decimal bytes ∷ decimal unique ∷ noreply_field noreply) (
+          (key ∷ decimal flags ∷ codes "0" ∷ decimal bytes ∷ decimal cas_unique ∷ noreply_field noreply) (
             form.0.1,
             (
               short_decimal flags (omega (arith, form.1)),
               (
                 omega arith,
-                (short_decimal bytes form.2, (short_decimal unique form.3, short_noreply noreply)),
+                (short_decimal bytes form.2, (short_decimal cas_unique form.3, short_noreply noreply)),
               ),
             ),
           ),

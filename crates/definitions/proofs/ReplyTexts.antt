@@ -20,7 +20,7 @@ use Rattle.definitions.specs.Requests.{gets, delete, incr, decr, IsKey, IsReques
 use Rattle.definitions.specs.Canonical.{request_of}
 use Rattle.definitions.specs.Replies.{Value, Reply, value_text, reply_text}
 use Rattle.definitions.specs.Replies as reply
-use Rattle.definitions.specs.Cache.{Entry, Cache, key_cmp, most_changes, find, has, Outcome, change}
+use Rattle.definitions.specs.Cache.{CacheItem, Cache, key_cmp, most_changes, find, has, Outcome, change}
 use Rattle.definitions.specs.Cache.{number_in, if_present, store_it, count_it, values_of, apply}
 use Rattle.definitions.specs.Cache.{apply_payload}
 use Rattle.definitions.specs.Histories.{History, Answer, answers, cache_after, is_fresh}
@@ -32,7 +32,7 @@ use Rattle.definitions.proofs.RequestTexts.{request_of_some}
 -- the limits of the request's data and keys
 abbrev pub IsWithin : Asked → Type 0
 IsWithin (store verb key flags stored) = (flags < 2 ^ 32) × (length stored ≤ MOST_DATA)
-IsWithin (cas key flags stored unique) = (flags < 2 ^ 32) × (length stored ≤ MOST_DATA)
+IsWithin (cas key flags stored cas_unique) = (flags < 2 ^ 32) × (length stored ≤ MOST_DATA)
 IsWithin (get keys) = (length keys ≤ 16) × AllByRecursion (λ key. length key ≤ 250) keys
 IsWithin (gets keys) = (length keys ≤ 16) × AllByRecursion (λ key. length key ≤ 250) keys
 IsWithin (delete key) = ⊤
@@ -42,7 +42,7 @@ IsWithin (decr key value) = ⊤
 -- a request is within its limits
 request-within : (r : Asked) → IsRequest r false → IsWithin r
 request-within (store verb key flags stored) h = (h.0.1, h.2)
-request-within (cas key flags stored unique) h = (h.0.1, h.2)
+request-within (cas key flags stored cas_unique) h = (h.0.1, h.2)
 request-within (get keys) h = (h.0.1, all-implied IsKey (λ key. length key ≤ 250) (λ key k. k.1) keys h.0.2)
 request-within (gets keys) h = (h.0.1, all-implied IsKey (λ key. length key ≤ 250) (λ key k. k.1) keys h.0.2)
 request-within (delete key) h = tt
@@ -52,14 +52,14 @@ request-within (decr key value) h = tt
 -- ---- what a cache holds
 
 -- an entry within the limits of a request
-pub record IsEntryWithin (e : Entry) : Type 0 where
+pub record IsEntryWithin (e : CacheItem) : Type 0 where
   pub flags : e.flags < 2 ^ 32
   pub stored : length e.stored ≤ MOST_DATA
-  pub unique : e.unique < 2 ^ 64
+  pub cas_unique : e.cas_unique < 2 ^ 64
 
 -- a cache all of whose entries are
 pub record IsCacheWithin (cache : Cache) : Type 0 where
-  pub entries : (key : Bytes) (e : Entry) → find cache key ≡ Some e → IsEntryWithin e
+  pub entries : (key : Bytes) (e : CacheItem) → find cache key ≡ Some e → IsEntryWithin e
   pub changes : cache.changes < 2 ^ 64
 
 -- a text that a reply may have
@@ -83,7 +83,7 @@ number-fits n l =
     length-append (decimal n) (13 ∷ 10 ∷ []) in omega (arith, k, a)
 
 -- an entry more
-insert-within : (cache : Cache) (key : Bytes) (e : Entry) (changes : ℕ) → IsCacheWithin cache
+insert-within : (cache : Cache) (key : Bytes) (e : CacheItem) (changes : ℕ) → IsCacheWithin cache
     → IsEntryWithin e → changes < 2 ^ 64
     → IsCacheWithin (record { entries = map.insert cache.entries key e; changes = changes })
 insert-within cache key e changes h k l = record {
@@ -92,7 +92,7 @@ insert-within cache key e changes h k l = record {
   changes = l;
 }
   where
-    by : (t : Bool) (q : Bytes) (x : Entry) → cond t (Some e) (find cache q) ≡ Some x → IsEntryWithin x
+    by : (t : Bool) (q : Bytes) (x : CacheItem) → cond t (Some e) (find cache q) ≡ Some x → IsEntryWithin x
     by true q x f = let i : e ≡ x = cc in subst IsEntryWithin i k
     by false q x f = h.entries q x f
 
@@ -105,7 +105,7 @@ remove-within cache key h = record {
   changes = h.changes;
 }
   where
-    by : (t : Bool) (q : Bytes) (x : Entry) → cond t None (find cache q) ≡ Some x → IsEntryWithin x
+    by : (t : Bool) (q : Bytes) (x : CacheItem) → cond t None (find cache q) ≡ Some x → IsEntryWithin x
     by true q x f = absurd (none f)
       where
         none : None ≡ Some x → ⊥
@@ -121,25 +121,25 @@ change-within : (cache : Cache) (key : Bytes) (flags : ℕ) (stored : Bytes) (to
     → IsCacheWithin cache → flags < 2 ^ 32 → length stored ≤ MOST_DATA → FitsReply told
     → IsOutcomeWithin (change cache key flags stored told)
 change-within cache key flags stored told h f l t =
-    cond_both (cache.changes == most_changes) (cache, reply.no_room) _ IsOutcomeWithin
-    (λ e. stays-within cache reply.no_room h (omega arith))
+    cond_both (cache.changes == most_changes) (cache, reply.out_of_memory) _ IsOutcomeWithin
+    (λ e. stays-within cache reply.out_of_memory h (omega arith))
     (λ e. let n = eqb-false cache.changes most_changes e in let c = h.changes in
     let more : cache.changes + 1 < 2 ^ 64 = omega (arith, n, c) in
     record {
       cache = insert-within cache key
-          (record { flags = flags; stored = stored; unique = cache.changes + 1 }) (cache.changes + 1) h
-          (record { flags = f; stored = l; unique = more }) more;
+          (record { flags = flags; stored = stored; cas_unique = cache.changes + 1 }) (cache.changes + 1) h
+          (record { flags = f; stored = l; cas_unique = more }) more;
       text = t;
     })
 
 -- what is done with an entry that is there
-present-within : (cache : Cache) (key : Bytes) (absent : Outcome) (present : Entry → Outcome)
+present-within : (cache : Cache) (key : Bytes) (absent : Outcome) (present : CacheItem → Outcome)
     → IsCacheWithin cache → IsOutcomeWithin absent
-    → ((e : Entry) → IsEntryWithin e → IsOutcomeWithin (present e))
+    → ((e : CacheItem) → IsEntryWithin e → IsOutcomeWithin (present e))
     → IsOutcomeWithin (if_present cache key absent present)
 present-within cache key absent present h a p = by (find cache key) refl
   where
-    by : (o : Option Entry) → find cache key ≡ o → IsOutcomeWithin (option_map_or present o absent)
+    by : (o : Option CacheItem) → find cache key ≡ o → IsOutcomeWithin (option_map_or present o absent)
     by None f = a
     by (Some e) f = p e (h.entries key e f)
 
@@ -152,13 +152,13 @@ store-within : (most : ℕ) (cache : Cache) (verb : Verb) (key : Bytes) (flags :
 store-within most cache set key flags stored h f l =
     cond_both (has cache key || nat_lt (map.len cache.entries) most) _ _ IsOutcomeWithin
     (λ e. change-within cache key flags stored reply.stored h f l stored-fits)
-    (λ e. stays-within cache reply.no_room h (omega arith))
+    (λ e. stays-within cache reply.out_of_memory h (omega arith))
 store-within most cache add key flags stored h f l =
     cond_both (has cache key) _ _ IsOutcomeWithin
     (λ e. stays-within cache reply.not_stored h (omega arith))
     (λ e. cond_both (nat_lt (map.len cache.entries) most) _ _ IsOutcomeWithin
     (λ e. change-within cache key flags stored reply.stored h f l stored-fits)
-    (λ e. stays-within cache reply.no_room h (omega arith)))
+    (λ e. stays-within cache reply.out_of_memory h (omega arith)))
 store-within most cache replace key flags stored h f l =
     cond_both (has cache key) _ _ IsOutcomeWithin
     (λ e. change-within cache key flags stored reply.stored h f l stored-fits)
@@ -168,13 +168,13 @@ store-within most cache append key flags stored h f l =
     cond_both (nat_le (length (x.stored ++ stored)) MOST_DATA) _ _ IsOutcomeWithin
     (λ e. change-within cache key x.flags (x.stored ++ stored) reply.stored h k.flags (leb-true _ _ e)
     stored-fits)
-    (λ e. stays-within cache reply.too_long h (omega arith)))
+    (λ e. stays-within cache reply.too_large h (omega arith)))
 store-within most cache prepend key flags stored h f l =
     present-within cache key _ _ h (stays-within cache reply.not_stored h (omega arith)) (λ x k.
     cond_both (nat_le (length (stored ++ x.stored)) MOST_DATA) _ _ IsOutcomeWithin
     (λ e. change-within cache key x.flags (stored ++ x.stored) reply.stored h k.flags (leb-true _ _ e)
     stored-fits)
-    (λ e. stays-within cache reply.too_long h (omega arith)))
+    (λ e. stays-within cache reply.too_large h (omega arith)))
 
 -- the number that an entry writes is below 2 ^ 64
 number_in-within : (text : Bytes) (n : ℕ) → number_in text ≡ Some n → n < 2 ^ 64
@@ -195,10 +195,10 @@ count-within cache key f h small =
     present-within cache key _ _ h (stays-within cache reply.not_found h (omega arith))
     (λ e k. by e k (number_in e.stored) refl)
   where
-    by : (e : Entry) → IsEntryWithin e → (o : Option ℕ) → number_in e.stored ≡ o
+    by : (e : CacheItem) → IsEntryWithin e → (o : Option ℕ) → number_in e.stored ≡ o
         → IsOutcomeWithin (option_map_or
-        (λ n. change cache key e.flags (decimal (f n)) (reply.number (f n))) o (cache, reply.no_number))
-    by e k None i = stays-within cache reply.no_number h (omega arith)
+        (λ n. change cache key e.flags (decimal (f n)) (reply.number (f n))) o (cache, reply.non_numeric))
+    by e k None i = stays-within cache reply.non_numeric h (omega arith)
     by e k (Some n) i =
         let l = small n (number_in-within e.stored n i) in
         let d = length-decimal-le 20 (f n) (omega arith) (omega (arith, l)) l in
@@ -212,7 +212,7 @@ record IsValueWithin (v : Value) : Type 0 where
   key : length v.key ≤ 250
   flags : v.flags < 2 ^ 32
   stored : length v.stored ≤ MOST_DATA
-  unique : v.unique < 2 ^ 64
+  cas_unique : v.cas_unique < 2 ^ 64
 
 -- the most bytes of one value
 abbrev most_value : ℕ
@@ -226,7 +226,8 @@ value-fits true v h =
     let f = length-decimal-le 10 v.flags (omega arith) (let l = h.flags in omega (arith, l))
     (let l = h.flags in omega (arith, l)) in
     let n = length-decimal-le 4 (length v.stored) (omega arith) (omega (arith, s)) (omega (arith, s)) in
-    let q = length-decimal-le 20 v.unique (omega arith) (let l = h.unique in omega (arith, l)) h.unique in
+    let q = length-decimal-le 20 v.cas_unique (omega arith) (let l = h.cas_unique in omega (arith, l))
+    h.cas_unique in
     simp length-append (omega (arith, k, s, f, n, q))
 value-fits false v h =
     let k = h.key in
@@ -244,16 +245,17 @@ values-fit u cache [] h k = omega arith
 values-fit u cache (key ∷ keys) h k = by (values-fit u cache keys h k.1) (find cache key) refl
   where
     by : length (flat_map (value_text u) (values_of cache keys)) ≤ most_value * length keys
-        → (o : Option Entry) → find cache key ≡ o
+        → (o : Option CacheItem) → find cache key ≡ o
         → length (flat_map (value_text u) (cons_option (option_map
-        (λ e. record { key = key; flags = e.flags; stored = e.stored; unique = e.unique }) o)
+        (λ e. record { key = key; flags = e.flags; stored = e.stored; cas_unique = e.cas_unique }) o)
         (values_of cache keys))) ≤ most_value * length (key ∷ keys)
     by rest None f = omega (arith, rest)
     by rest (Some e) f =
         let x = h.entries key e f in
-        let v : Value = record { key = key; flags = e.flags; stored = e.stored; unique = e.unique } in
+        let v : Value = record { key = key; flags = e.flags; stored = e.stored; cas_unique = e.cas_unique } in
         let l =
-        value-fits u v (record { key = k.0; flags = x.flags; stored = x.stored; unique = x.unique }) in
+        value-fits u v (record { key = k.0; flags = x.flags; stored = x.stored; cas_unique = x.cas_unique })
+        in
         let a = length-append (value_text u v) (flat_map (value_text u) (values_of cache keys)) in
         omega (arith, rest, l, a)
 
@@ -271,9 +273,9 @@ apply-within : (most : ℕ) (cache : Cache) (r : Asked) → IsCacheWithin cache 
     → IsOutcomeWithin (apply most cache r)
 apply-within most cache (store verb key flags stored) h w =
     store-within most cache verb key flags stored h w.0 w.1
-apply-within most cache (cas key flags stored unique) h w =
+apply-within most cache (cas key flags stored cas_unique) h w =
     present-within cache key _ _ h (stays-within cache reply.not_found h (omega arith)) (λ x k.
-    cond_both (x.unique == unique) _ _ IsOutcomeWithin
+    cond_both (x.cas_unique == cas_unique) _ _ IsOutcomeWithin
     (λ e. change-within cache key flags stored reply.stored h w.0 w.1 stored-fits)
     (λ e. stays-within cache reply.exists h (omega arith)))
 apply-within most cache (incr key value) h w =
@@ -308,7 +310,7 @@ cache_after-within [] = record {
   changes = omega arith;
 }
   where
-    none : (e : Entry) → None ≡ Some e → ⊥
+    none : (e : CacheItem) → None ≡ Some e → ⊥
     none e j = cc
 cache_after-within (e ∷ h) =
     cond_both (is_fresh e h) _ _ IsCacheWithin

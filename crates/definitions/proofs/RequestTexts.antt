@@ -15,7 +15,7 @@ use Rattle.std.proofs.lemmas.Fmt.{length-decimal-le}
 use Rattle.definitions.specs.Bytes.{Bytes}
 use Rattle.definitions.specs.Lists.{Among}
 use Rattle.definitions.specs.Requests.{Verb, set, add, replace, append, prepend, Asked, Head, store, cas}
-use Rattle.definitions.specs.Requests.{get, gets, delete, incr, decr, head_of, stored_of, crlf, space}
+use Rattle.definitions.specs.Requests.{get, gets, delete, incr, decr, head_of, data_field, crlf, space}
 use Rattle.definitions.specs.Requests.{verb_name, fields, line, data_block, spelling, canonical, IsKey}
 use Rattle.definitions.specs.Requests.{HasForm, IsRequest}
 use Rattle.definitions.specs.Items.{HasNoEnd, IsLineOf}
@@ -30,7 +30,7 @@ use Rattle.definitions.proofs.Lines.{length-line, length-verb_name}
 -- the request that a line says, with its data from what stands behind the line
 abbrev pub with_data : Head → Bytes → Asked
 with_data (store verb key flags bytes) rest = store verb key flags (take bytes rest)
-with_data (cas key flags bytes unique) rest = cas key flags (take bytes rest) unique
+with_data (cas key flags bytes cas_unique) rest = cas key flags (take bytes rest) cas_unique
 with_data (get keys) rest = get keys
 with_data (gets keys) rest = gets keys
 with_data (delete key) rest = delete key
@@ -47,8 +47,8 @@ data_again stored more =
 pub with_data-again : (r : Asked) (more : Bytes) → with_data (head_of r) (data_block r ++ more) ≡ r
 with_data-again (store verb key flags stored) more =
     ap (λ (d : Bytes). store verb key flags d) (data_again stored more)
-with_data-again (cas key flags stored unique) more =
-    ap (λ (d : Bytes). cas key flags d unique) (data_again stored more)
+with_data-again (cas key flags stored cas_unique) more =
+    ap (λ (d : Bytes). cas key flags d cas_unique) (data_again stored more)
 with_data-again (get keys) more = refl
 with_data-again (gets keys) more = refl
 with_data-again (delete key) more = refl
@@ -92,13 +92,13 @@ canonical-injective r s a b e = (spelling-injective r s false false a b e).0
 
 -- the test of a request decides its form and how much data it has
 request_form : (r : Asked) → is_request r ≡ true
-    → HasForm (head_of r) × IfSome (stored_of r) (λ stored. length stored ≤ MOST_DATA)
+    → HasForm (head_of r) × IfSome (data_field r) (λ stored. length stored ≤ MOST_DATA)
 request_form (store verb key flags stored) e =
     let p = and_parts _ _ e in
     let q = and_parts _ _ p.0 in
     let few = leb-true _ _ p.1 in
     ((key_passes key q.0, ltb-true _ _ q.1, omega (arith, few)), few)
-request_form (cas key flags stored unique) e =
+request_form (cas key flags stored cas_unique) e =
     let o = and_parts _ _ e in
     let p = and_parts _ _ o.0 in
     let q = and_parts _ _ p.0 in
@@ -119,7 +119,7 @@ request_passes r n e may = let form = request_form r e in (form.0, may_passes (h
 pub is_request-passes : (r : Asked) (n : Bool) → IsRequest r n → is_request r ≡ true
 is_request-passes (store verb key flags stored) n is =
     and_from _ _ (and_from _ _ (is_key-passes key is.0.0) (lt-ltb _ _ is.0.1)) (le-leb _ _ is.2)
-is_request-passes (cas key flags stored unique) n is =
+is_request-passes (cas key flags stored cas_unique) n is =
     and_from _ _
     (and_from _ _ (and_from _ _ (is_key-passes key is.0.0) (lt-ltb _ _ is.0.1)) (le-leb _ _ is.2))
     (lt-ltb _ _ is.0.3)
@@ -207,7 +207,7 @@ data_found l stored =
     rw (front, long) (take_at stored crlf (length stored) refl)
 
 -- a request is among the guesses that its fields and data make
-among_guessed : (r : Asked) (d : Bytes) → IsRequest r false → IfSome (stored_of r) (λ stored. d ≡ stored)
+among_guessed : (r : Asked) (d : Bytes) → IsRequest r false → IfSome (data_field r) (λ stored. d ≡ stored)
     → Among r (guesses_from (fields (head_of r) ++ []) d)
 among_guessed (store set key flags stored) d is e =
     let n = digits_value-decimal flags (omega (arith, is.0.1)) in inl cc
@@ -219,9 +219,9 @@ among_guessed (store append key flags stored) d is e =
     let n = digits_value-decimal flags (omega (arith, is.0.1)) in inr (inr (inr (inl cc)))
 among_guessed (store prepend key flags stored) d is e =
     let n = digits_value-decimal flags (omega (arith, is.0.1)) in inr (inr (inr (inr (inl cc))))
-among_guessed (cas key flags stored unique) d is e =
+among_guessed (cas key flags stored cas_unique) d is e =
     let n = digits_value-decimal flags (omega (arith, is.0.1)) in
-    let u = digits_value-decimal unique is.0.3 in
+    let u = digits_value-decimal cas_unique is.0.3 in
     inr (inr (inr (inr (inr (inl cc)))))
 among_guessed (get keys) d is e =
     inr (inr (inr (inr (inr (inr (inl (ap (λ (k : List Bytes). get k) (sym (append-nil keys)))))))))
@@ -236,11 +236,11 @@ among_guessed (decr key n) d is e =
 
 -- the data of a request is found in its text
 stored_found : (r : Asked)
-    → IfSome (stored_of r) (λ stored. data_in (canonical r) (line (head_of r) false) ≡ stored)
+    → IfSome (data_field r) (λ stored. data_in (canonical r) (line (head_of r) false) ≡ stored)
 stored_found (store verb key flags stored) =
     data_found (line (store verb key flags (length stored)) false) stored
-stored_found (cas key flags stored unique) =
-    data_found (line (cas key flags (length stored) unique) false) stored
+stored_found (cas key flags stored cas_unique) =
+    data_found (line (cas key flags (length stored) cas_unique) false) stored
 stored_found (get keys) = tt
 stored_found (gets keys) = tt
 stored_found (delete key) = tt
@@ -328,15 +328,15 @@ length_store verb key flags bytes is small few =
     omega (arith, whole, name, ten, four, is.1)
 
 -- the line of a cas has at most 293 bytes
-length_cas : (key : Bytes) (flags bytes unique : ℕ) → IsKey key → flags < 2 ^ 32 → bytes ≤ MOST_DATA
-    → unique < 2 ^ 64 → length (line (cas key flags bytes unique) false) ≤ 293
+length_cas : (key : Bytes) (flags bytes cas_unique : ℕ) → IsKey key → flags < 2 ^ 32 → bytes ≤ MOST_DATA
+    → cas_unique < 2 ^ 64 → length (line (cas key flags bytes cas_unique) false) ≤ 293
 unfolding spaced_length
-length_cas key flags bytes unique is small few low =
+length_cas key flags bytes cas_unique is small few low =
     let whole =
-    length-spaced (codes "cas") (key ∷ decimal flags ∷ codes "0" ∷ decimal bytes ∷ decimal unique ∷ []) in
+    length-spaced (codes "cas") (key ∷ decimal flags ∷ codes "0" ∷ decimal bytes ∷ decimal cas_unique ∷ []) in
     let ten = length-decimal-le 10 flags (omega arith) (omega arith) (omega arith) in
     let four = length-decimal-le 4 bytes (omega arith) (omega arith) (omega arith) in
-    let twenty = length-decimal-le 20 unique (omega arith) (omega arith) low in
+    let twenty = length-decimal-le 20 cas_unique (omega arith) (omega arith) low in
     omega (arith, whole, ten, four, twenty, is.1)
 
 -- a canonical text has at most 4,393 bytes
@@ -346,11 +346,11 @@ length-canonical (store verb key flags stored) is =
     length_store verb key flags (length stored) is.0.0 is.0.1 is.2 in
     omega
     (arith, few, is.2, length-spelling (store verb key flags stored) false, length-append stored crlf)
-length-canonical (cas key flags stored unique) is =
+length-canonical (cas key flags stored cas_unique) is =
     let few =
-    length_cas key flags (length stored) unique is.0.0 is.0.1 is.2 is.0.3 in
+    length_cas key flags (length stored) cas_unique is.0.0 is.0.1 is.2 is.0.3 in
     omega
-    (arith, few, is.2, length-spelling (cas key flags stored unique) false, length-append stored crlf)
+    (arith, few, is.2, length-spelling (cas key flags stored cas_unique) false, length-append stored crlf)
 length-canonical (get keys) is = short_line (get keys) is refl
 length-canonical (gets keys) is = short_line (gets keys) is refl
 length-canonical (delete key) is = short_line (delete key) is refl

@@ -23,7 +23,8 @@ use Rattle.definitions.proofs.Trees.{same_bytes, found-in, unfit-calm, IsPlaced,
 use Rattle.definitions.proofs.Trees.{growth-tree, growth-new, grown-heights}
 use Rattle.definitions.specs.Chronicles.{Admitted, Step, Step.took_block, Step.noted, Note.got_vote}
 use Rattle.definitions.specs.Chronicles.{Note.got_new_view, Note.got_request, Note.timed_out, Note.beat}
-use Rattle.definitions.specs.Chronicles.{Chronicle, taken, stored, stored_of, tree, lock, history, may_vote}
+use Rattle.definitions.specs.Chronicles.{Chronicle, taken_blocks, stored_blocks, stored_block, tree, lock}
+use Rattle.definitions.specs.Chronicles.{history, is_safe}
 use Rattle.definitions.specs.Chronicles.{IsLawfulVote, IsLawfulStep, IsSound}
 use Rattle.definitions.specs.Checks.{Identity, Findings, is_genesis}
 use Rattle.definitions.specs.States.{find_block, is_due, pending, is_same_request}
@@ -33,8 +34,9 @@ use Rattle.definitions.specs.Rulings.{Input.beat_in, Ruling, Ruling.due, Ruling.
 use Rattle.definitions.specs.Rulings.{admitted, votes_for, take_block, on_placing, on_block, on_request}
 use Rattle.definitions.specs.Rulings.{conflicts, with_block, ruling}
 use Rattle.definitions.specs.Sendings.{sendings}
-use Rattle.definitions.specs.Replicas.{on_ruling, on_step, step, Memory, Memory.ample}
-use Rattle.definitions.specs.Replicas.{Memory.refused_at_once, Memory.refused_after, Replica, Standing}
+use Rattle.definitions.specs.Replicas.{on_ruling, on_step, step, MemorySupply, MemorySupply.ample}
+use Rattle.definitions.specs.Replicas.{MemorySupply.refused_at_once, MemorySupply.refused_after, Replica}
+use Rattle.definitions.specs.Replicas.{Standing}
 use Rattle.definitions.specs.Replicas.{Standing.running, Standing.stopped, Standing.cut_short, Reaction}
 use Rattle.definitions.specs.Replicas.{Reaction.fails, Reaction.sends_out, Reaction.asks_for, stopped_at}
 use Rattle.definitions.specs.Replicas.{stops, executes}
@@ -53,7 +55,7 @@ IsCheckedInput sizes (block_in sender core q f) = IsChecked sizes core q f
 IsCheckedInput sizes i = ⊤
 
 -- a clear block was taken as one
-pub clear-taken : (x : Branch) (ys : List Admitted) → is_clear x (map stored_of ys) ≡ true
+pub clear-taken : (x : Branch) (ys : List Admitted) → is_clear x (map stored_block ys) ≡ true
     → (a : Admitted) × Among a ys × (a.branch ≡ x) × (a.clear ≡ true)
 unfolding is_clear
 clear-taken x [] h = absurd (true≢false (sym h))
@@ -64,16 +66,17 @@ clear-taken x (y ∷ ys) h =
     ]
 
 -- so was each block of a branch that is clear above a height
-pub clear_above-each : (height : ℕ) (b : Branch) (c : Chronicle) → clear_above height b (stored c) ≡ true
+pub clear_above-each : (height : ℕ) (b : Branch) (c : Chronicle)
+    → clear_above height b (stored_blocks c) ≡ true
     → (x : Branch) → Extends b x → height < length x
-    → (a : Admitted) × Among a (taken c) × (a.branch ≡ x) × (a.clear ≡ true)
-unfolding clear_above stored
+    → (a : Admitted) × Among a (taken_blocks c) × (a.branch ≡ x) × (a.clear ≡ true)
+unfolding clear_above stored_blocks
 clear_above-each height [] c h x e l = absurd (let k = length-extends [] x e in omega (arith, k))
 clear_above-each height (b ∷ parent) c h x e l =
     elim (cases_Bool (ltb height (suc (length parent)))) [
       | inl t ↦ (let p = and_parts _ _ (sym (cond-true _ _ _ t) ∙ h) in
           elim (extends-cases b parent x e) [
-            | inl i ↦ (let r = clear-taken (b ∷ parent) (taken c) p.0 in (r.0, r.1, r.2 ∙ sym i, r.3))
+            | inl i ↦ (let r = clear-taken (b ∷ parent) (taken_blocks c) p.0 in (r.0, r.1, r.2 ∙ sym i, r.3))
             | inr k ↦ clear_above-each height parent c p.1 x k l
           ])
       | inr f ↦ absurd (let k = length-extends (b ∷ parent) x e in let m = ltb-false height
@@ -85,13 +88,14 @@ abbrev with_vote : Admitted → Bool → Admitted
 with_vote a v = record a { voted = v }
 
 taken-voted : (a : Admitted) (v : Bool) (c : Chronicle) (x : Branch)
-    → ((y : Admitted) × Among y (taken (took_block a ∷ c)) × (y.branch ≡ x) × (y.clear ≡ true))
-    → (y : Admitted) × Among y (taken (took_block (with_vote a v) ∷ c)) × (y.branch ≡ x) × (y.clear ≡ true)
-unfolding taken
+    → ((y : Admitted) × Among y (taken_blocks (took_block a ∷ c)) × (y.branch ≡ x) × (y.clear ≡ true))
+    → (y : Admitted) × Among y (taken_blocks (took_block (with_vote a v) ∷ c)) × (y.branch ≡ x)
+    × (y.clear ≡ true)
+unfolding taken_blocks
 taken-voted a v c x h = go a.new refl h.1
   where
-    go : (n : Bool) → a.new ≡ n → Among h.0 (cond n (a ∷ taken c) (taken c))
-        → (y : Admitted) × Among y (cond n (with_vote a v ∷ taken c) (taken c)) × (y.branch ≡ x)
+    go : (n : Bool) → a.new ≡ n → Among h.0 (cond n (a ∷ taken_blocks c) (taken_blocks c))
+        → (y : Admitted) × Among y (cond n (with_vote a v ∷ taken_blocks c) (taken_blocks c)) × (y.branch ≡ x)
         × (y.clear ≡ true)
     go true e (inl i) = (
       with_vote a v,
@@ -106,7 +110,7 @@ taken-voted a v c x h = go a.new refl h.1
 pub vote-lawful : (s : Sizes) (w : Option ℕ) (a : Admitted) (c : Chronicle) → IsBranch a.branch
     → Among a.branch (tree (took_block (with_vote a (votes_for s w a c)) ∷ c)) → votes_for s w a c ≡ true
     → IsLawfulVote a.branch (took_block (with_vote a (votes_for s w a c)) ∷ c) c
-unfolding votes_for may_vote
+unfolding votes_for is_safe
 vote-lawful s None a c br t h = absurd (true≢false (sym h))
 vote-lawful s (Some w) a c br t h =
     let p = and_parts _ _ (and_parts _ _ h).1 in
@@ -148,7 +152,7 @@ new-step : (self : Identity) (w : Option ℕ) (parent : Branch) (core : Core) (q
     → q.digest ≡ digest_of (just1 (block_of core ∷ parent)) → length (tree c) < MOST_BLOCKS →
     OnStands (λ st. IsSound self.sizes (st ∷ c))
     (take_block self w (admitted (block_of core ∷ parent) core q f true) c)
-unfolding admitted tree stored taken
+unfolding admitted tree stored_blocks taken_blocks
 new-step self w parent core q f c so tr fresh m ch e room = record {
   is_tree = tr;
   lawful = (
@@ -179,7 +183,7 @@ found d c b e = found-in d (tree c) b e
 placed-sound : (self : Identity) (w : Option ℕ) (sender : ℕ) (core : Core) (q : Certificate) (f : Findings)
     (c : Chronicle) → IsChecked self.sizes core q f → IsSound self.sizes c → (p : Placing)
     → IsPlaced MOST_BLOCKS core q (tree c) p → Keeps self c (on_placing self w sender core q f c p)
-unfolding on_placing admitted tree stored taken
+unfolding on_placing admitted tree stored_blocks taken_blocks
 placed-sound self w sender core q f c ch so (stands b) h =
     let m = (found-in (digest core) (tree c) b h.0).0 in
     record {
@@ -225,7 +229,7 @@ other-sound need c st e l so = record {
 vote-sound : (self : Identity) (o : Option Branch) (b : Vote) (d : Bytes) (c : Chronicle)
     → IsSound self.sizes c
     → Keeps self c (with_block o b.voter d (λ x. due (noted (got_vote b.voter b.vector x))))
-unfolding tree stored taken
+unfolding tree stored_blocks taken_blocks
 vote-sound self None b d c so = tt
 vote-sound self (Some x) b d c so = other-sound _ c _ refl tt so
 
@@ -233,13 +237,13 @@ new_view-sound :
     (self : Identity) (o : Option Branch) (w sender : ℕ) (q : Certificate) (d : Bytes) (c : Chronicle)
     → IsSound self.sizes c
     → Keeps self c (with_block o sender d (λ x. due (noted (got_new_view w sender q x))))
-unfolding tree stored taken
+unfolding tree stored_blocks taken_blocks
 new_view-sound self None w sender q d c so = tt
 new_view-sound self (Some x) w sender q d c so = other-sound _ c _ refl tt so
 
 request-sound : (self : Identity) (r : Command) (c : Chronicle) → IsSound self.sizes c
     → Keeps self c (on_request r c)
-unfolding tree stored taken on_request
+unfolding tree stored_blocks taken_blocks on_request
 request-sound self r c so =
     cond_both (is_due (history c) r
     && (not (list_any (is_same_request r) (pending c)) && not (nat_lt (length (pending c)) 4096))) _ _ P
@@ -250,7 +254,7 @@ request-sound self r c so =
 
 pub ruling-sound : (self : Identity) (i : Input) (c : Chronicle) → IsCheckedInput self.sizes i
     → IsSound self.sizes c → Keeps self c (ruling self i c)
-unfolding ruling tree stored taken
+unfolding ruling tree stored_blocks taken_blocks
 ruling-sound self (proposal_in w core q f) c ch so = block-sound self _ _ core q f c ch so
 ruling-sound self (block_in sender core q f) c ch so = block-sound self _ _ core q f c ch so
 ruling-sound self (vote_in d b) c ch so = vote-sound self _ b d c so
@@ -285,7 +289,7 @@ pub data Outcome (self : Identity) (c : Chronicle) (v : Ruling) (r : Replica) : 
         fails fault.Memory,
       )
 
-on_step-outcome : (self : Identity) (m : Memory) (st : Step) (c : Chronicle) (r : Replica)
+on_step-outcome : (self : Identity) (m : MemorySupply) (st : Step) (c : Chronicle) (r : Replica)
     → r.standing ≡ running → Outcome self c (due st) r (on_step self m st c)
 unfolding on_step
 on_step-outcome self ample st c r u =
@@ -297,7 +301,8 @@ on_step-outcome self (refused_after k) st c r u =
     (λ e. cond_both (executes st c) _ _ (Outcome self c (due st) r) (λ x. cut st k u refl e)
     (λ x. refused true fault.Memory u (λ k. cc)))
 
-pub step-outcome : (self : Identity) (m : Memory) (i : Input) (r : Replica) → IsCheckedInput self.sizes i
+pub step-outcome : (self : Identity) (m : MemorySupply) (i : Input) (r : Replica)
+    → IsCheckedInput self.sizes i
     → IsSound self.sizes r.chronicle
     → Outcome self r.chronicle (ruling self i r.chronicle) r (step self m i r)
 unfolding step on_ruling

@@ -4,7 +4,7 @@ use Rattle.std.specs.List.{list_any}
 use Rattle.definitions.specs.Lists.{Among, count_below}
 use Rattle.definitions.specs.Branches.{Branch, just1, branch_eq}
 use Rattle.ids.specs.Sizes.{Sizes, replicas, quorum}
-use Rattle.definitions.specs.Chronicles.{Step, Step.took_block, Chronicle, voted, IsLawful}
+use Rattle.definitions.specs.Chronicles.{Step, Step.took_block, Chronicle, voted_blocks, IsLawful}
 
 -- The chronicles of some replicas, the members.
 pub record Family : Type 0 where
@@ -18,11 +18,11 @@ IsFamily fam = quorum fam.sizes ≤ count_below (replicas fam.sizes) fam.is_memb
 
 -- who may count as voter for b: members that voted for it, and all that aren't members
 unfoldable pub supports : Family → Branch → ℕ → Bool
-supports fam b i = if fam.is_member i then list_any (branch_eq b) (voted (fam.chronicle i)) else true
+supports fam b i = if fam.is_member i then list_any (branch_eq b) (voted_blocks (fam.chronicle i)) else true
 
 -- a quorum may have voted for b (a quorum certificate of HotStuff, PODC 2019)
-abbrev pub IsCertified : Family → Branch → Type 0
-IsCertified fam b = quorum fam.sizes ≤ count_below (replicas fam.sizes) (supports fam b)
+abbrev pub MayBeCertified : Family → Branch → Type 0
+MayBeCertified fam b = quorum fam.sizes ≤ count_below (replicas fam.sizes) (supports fam b)
 
 -- ---- order
 
@@ -39,7 +39,7 @@ steps_of i (p ∷ earlier) = if p.0 == i then p.1 ∷ steps_of i earlier else st
 abbrev pub IsBacked : (ℕ → Bool) → Step → Order → Type 0
 IsBacked is_member (took_block a) earlier =
     a.new ≡ true → (v : ℕ) → Among v a.counted → is_member v ≡ true
-    → Among (just1 a.branch) (voted (steps_of v earlier))
+    → Among (just1 a.branch) (voted_blocks (steps_of v earlier))
 IsBacked is_member s earlier = ⊤
 
 -- each step in the order is backed by the earlier ones

@@ -23,11 +23,14 @@ guesses payload =
     let keys = drop 1 (slice_split (λ b. b == space) front) in
     let stored = take (length payload - length front - 4) (drop (length front + 2) payload) in
     let number = λ (i : ℕ). digits_value 10 (field i) in
-    store set (field 1) (number 2) stored ∷ store add (field 1) (number 2) stored
+    store set (field 1) (number 2) stored
+    ∷ store add (field 1) (number 2) stored
     ∷ store replace (field 1) (number 2) stored
-    ∷ store append (field 1) (number 2) stored ∷ store prepend (field 1) (number 2) stored
+    ∷ store append (field 1) (number 2) stored
+    ∷ store prepend (field 1) (number 2) stored
     ∷ cas (field 1) (number 2) stored (number 5)
-    ∷ get keys ∷ gets keys ∷ delete (field 1) ∷ incr (field 1) (number 2) ∷ decr (field 1) (number 2) ∷ []
+    ∷ get keys ∷ gets keys
+    ∷ delete (field 1) ∷ incr (field 1) (number 2) ∷ decr (field 1) (number 2) ∷ []
 
 -- the test of a key
 abbrev pub is_key : Bytes → Bool
@@ -39,8 +42,8 @@ is_key key =
 abbrev pub is_request : Asked → Bool
 is_request (store verb key flags stored) =
     is_key key && nat_lt flags (2 ^ 32) && nat_le (length stored) MOST_DATA
-is_request (cas key flags stored unique) =
-    is_key key && nat_lt flags (2 ^ 32) && nat_le (length stored) MOST_DATA && nat_lt unique (2 ^ 64)
+is_request (cas key flags stored cas_unique) =
+    is_key key && nat_lt flags (2 ^ 32) && nat_le (length stored) MOST_DATA && nat_lt cas_unique (2 ^ 64)
 is_request (get keys) = nat_le 1 (length keys) && nat_le (length keys) MOST_ASKED && list_all is_key keys
 is_request (gets keys) = nat_le 1 (length keys) && nat_le (length keys) MOST_ASKED && list_all is_key keys
 is_request (delete key) = is_key key

@@ -26,8 +26,8 @@ abbrev pub vote_verifies : Identity → Bytes → Vote → Bool
 vote_verifies self d b = verify self.ring kind.Vote b.voter d (tag_of b.vector self.ring.party)
 
 -- the voters whose tags for this replica verify
-unfoldable pub counted : Identity → Certificate → List ℕ
-counted self q = map (λ b. b.voter) (filter (vote_verifies self q.digest) q.votes)
+unfoldable pub counted_voters : Identity → Certificate → List ℕ
+counted_voters self q = map (λ b. b.voter) (filter (vote_verifies self q.digest) q.votes)
 
 -- the digest is that of genesis
 abbrev pub is_genesis : Bytes → Bool
@@ -36,7 +36,9 @@ is_genesis d = bytes_eq d (digest genesis_core)
 -- genesis has no votes; any other block has a quorum of counted ones
 unfoldable pub is_good : Identity → Certificate → Bool
 is_good self q =
-    if is_genesis q.digest then length q.votes == 0 else nat_le (quorum self.sizes) (length (counted self q))
+    if is_genesis q.digest
+    then length q.votes == 0
+    else nat_le (quorum self.sizes) (length (counted_voters self q))
 
 -- the command's tag for this replica verifies
 abbrev pub command_verifies : Identity → Command → Bool
@@ -55,4 +57,4 @@ pub record Findings : Type 0 where
 
 -- what this replica finds
 abbrev pub findings : Identity → Core → Certificate → Findings
-findings self core q = record { counted = counted self q; clear = is_clear_core self core }
+findings self core q = record { counted = counted_voters self q; clear = is_clear_core self core }

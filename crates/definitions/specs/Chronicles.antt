@@ -45,37 +45,38 @@ Chronicle = List Step
 -- ---- what stands there of blocks
 
 -- the blocks that it voted for
-unfoldable pub voted : Chronicle → List Branch
-voted [] = []
-voted (took_block a ∷ earlier) = if a.voted then a.branch ∷ voted earlier else voted earlier
-voted (s ∷ earlier) = voted earlier
+unfoldable pub voted_blocks : Chronicle → List Branch
+voted_blocks [] = []
+voted_blocks (took_block a ∷ earlier) =
+    if a.voted then a.branch ∷ voted_blocks earlier else voted_blocks earlier
+voted_blocks (s ∷ earlier) = voted_blocks earlier
 
 -- the blocks that weren't in the tree before
-unfoldable pub taken : Chronicle → List Admitted
-taken [] = []
-taken (took_block a ∷ earlier) = if a.new then a ∷ taken earlier else taken earlier
-taken (s ∷ earlier) = taken earlier
+unfoldable pub taken_blocks : Chronicle → List Admitted
+taken_blocks [] = []
+taken_blocks (took_block a ∷ earlier) = if a.new then a ∷ taken_blocks earlier else taken_blocks earlier
+taken_blocks (s ∷ earlier) = taken_blocks earlier
 
 -- a taken block as it stands in the tree
-abbrev pub stored_of : Admitted → Stored
-stored_of a = record { branch = a.branch; certificate = a.certificate; clear = a.clear }
+abbrev pub stored_block : Admitted → Stored
+stored_block a = record { branch = a.branch; certificate = a.certificate; clear = a.clear }
 
 -- what stands in the tree
-unfoldable pub stored : Chronicle → List Stored
-stored c = map stored_of (taken c)
+unfoldable pub stored_blocks : Chronicle → List Stored
+stored_blocks c = map stored_block (taken_blocks c)
 
 -- the blocks that it knows, with genesis
 unfoldable pub tree : Chronicle → List Branch
-tree c = blocks (stored c)
+tree c = blocks (stored_blocks c)
 
 -- the greatest height that it voted for (HotStuff, PODC 2019, vheight)
 unfoldable pub vheight : Chronicle → ℕ
-vheight c = greatest (map length (voted c))
+vheight c = greatest (map length (voted_blocks c))
 
 -- the first of the greatest height among the second justified blocks of what it took (HotStuff, PODC 2019,
 -- b_lock)
 unfoldable pub lock : Chronicle → Branch
-lock c = highest (map (λ a. just2 a.branch) (taken c))
+lock c = highest (map (λ a. just2 a.branch) (taken_blocks c))
 
 -- three blocks in direct succession, each justified by the next, decide the first of them (HotStuff, PODC
 -- 2019, three-chain)
@@ -94,7 +95,7 @@ decided_by (a ∷ earlier) =
 
 -- what was decided, with genesis
 unfoldable pub decided : Chronicle → List Branch
-decided c = decided_by (taken c) ++ [] ∷ []
+decided c = decided_by (taken_blocks c) ++ [] ∷ []
 
 -- the last executed block
 unfoldable pub executed : Chronicle → Branch
@@ -105,8 +106,8 @@ unfoldable pub history : Chronicle → History
 history c = history_of (executed c)
 
 -- a block may be voted for by height and lock
-unfoldable pub may_vote : Branch → Chronicle → Bool
-may_vote b c =
+unfoldable pub is_safe : Branch → Chronicle → Bool
+is_safe b c =
     nat_lt (vheight c) (length b) && (extends b (lock c) || nat_lt (length (lock c)) (justify_height b))
 
 -- ---- the law of a chronicle
@@ -116,7 +117,7 @@ pub record IsLawfulVote (b : Branch) (now earlier : Chronicle) : Type 0 where
   pub higher : vheight earlier < length b
   pub safe : Extends b (lock earlier) ⊎ (length (lock earlier) < length (just1 b))
   pub clear : (x : Branch) → Extends b x → length (just1 b) < length x
-      → (a : Admitted) × Among a (taken now) × (a.branch ≡ x) × (a.clear ≡ true)
+      → (a : Admitted) × Among a (taken_blocks now) × (a.branch ≡ x) × (a.clear ≡ true)
   pub taken : Among b (tree now)
 
 -- a taken block is new, stands on its parent, and justifies a certified block or genesis

@@ -10,7 +10,7 @@ use Rattle.definitions.specs.Keyrings.{client_at}
 use Rattle.definitions.specs.Checks.{Identity}
 use Rattle.definitions.specs.Rulings.{Input, Input.timeout_in, Input.beat_in}
 use Rattle.definitions.specs.Sendings.{To.to_all, To.to_party, Sending, fetch_frame}
-use Rattle.definitions.specs.Replicas.{Memory, Replica, Reaction, Reaction.sends_out, Reaction.fails}
+use Rattle.definitions.specs.Replicas.{MemorySupply, Replica, Reaction, Reaction.sends_out, Reaction.fails}
 use Rattle.definitions.specs.Replicas.{Reaction.asks_for, step}
 use Rattle.definitions.specs.Sessions.{Session, Receipt, Submitted, Submitted.sent_request}
 use Rattle.definitions.specs.Sessions.{Submitted.not_sent, Heard, Heard.gives_receipt, Heard.only_counts}
@@ -35,12 +35,13 @@ unfoldable pub nothing : World → Option Fault → Effect
 nothing w a = record { replica = w.replica; session = w.session; out = []; accepted = []; answer = a }
 
 -- a frame for a block that was lacking goes to who named it, where memory serves and that is another party
-abbrev pub out_of : Identity → Memory → Reaction → List Sending
+abbrev pub out_of : Identity → MemorySupply → Reaction → List Sending
 out_of self m (sends_out out) = out
 out_of self m (fails n) = []
 out_of self m (asks_for sender d) =
-    if is_ample m
-    && not (sender == self.ring.party) then (to_party sender, fetch_frame self sender d) ∷ [] else []
+    if is_ample m && not (sender == self.ring.party)
+    then (to_party sender, fetch_frame self sender d) ∷ []
+    else []
 
 -- the refusal of a reaction
 abbrev pub answer_of : Reaction → Option Fault
@@ -49,7 +50,7 @@ answer_of (fails n) = Some n
 answer_of (asks_for sender d) = Some fault.UnknownParent
 
 -- a replica's step in the world
-unfoldable pub stepped : World → ℕ → Memory → Replica × Reaction → Effect
+unfoldable pub stepped : World → ℕ → MemorySupply → Replica × Reaction → Effect
 stepped w p m r = record {
   replica = put p r.0 w.replica;
   session = w.session;
@@ -59,11 +60,11 @@ stepped w p m r = record {
 }
 
 -- a replica takes an input
-abbrev pub steps : ℕ → Memory → Input → World → Effect
+abbrev pub steps : ℕ → MemorySupply → Input → World → Effect
 steps p m i w = stepped w p m (step (self_of w p) m i (w.replica p))
 
 -- a replica takes a frame that was checked
-abbrev pub on_checked : ℕ → Memory → Checked → World → Effect
+abbrev pub on_checked : ℕ → MemorySupply → Checked → World → Effect
 on_checked p m (passes i) w = steps p m i w
 on_checked p m (rejected n) w = nothing w (Some n)
 
@@ -90,7 +91,7 @@ told w c r = record {
 }
 
 -- a client takes a frame
-abbrev pub hears : ℕ → Memory → Frame → World → Effect
+abbrev pub hears : ℕ → MemorySupply → Frame → World → Effect
 hears c m f w = told w c (on_reply (client_of w c) m f (w.session c))
 
 -- the request that goes out
@@ -114,11 +115,11 @@ submitted w c r = record {
 }
 
 -- a client takes a payload
-abbrev pub submits : ℕ → Memory → Bytes → World → Effect
+abbrev pub submits : ℕ → MemorySupply → Bytes → World → Effect
 submits c m payload w = submitted w c (submission (client_of w c) m payload (w.session c))
 
 -- a frame comes to a correct party
-unfoldable pub comes : ℕ → Memory → Option Frame → World → Effect
+unfoldable pub comes : ℕ → MemorySupply → Option Frame → World → Effect
 comes p m None w = nothing w (Some fault.NotAFrame)
 comes p m (Some f) w =
     if is_replica w p then on_checked p m (check (self_of w p) f) w else hears (client_at p) m f w
@@ -142,7 +143,7 @@ brought w (inject to bytes read) = read
 brought w e = None
 
 -- what an event does to the correct party that it names
-unfoldable pub acts : World → Event → Memory → Effect
+unfoldable pub acts : World → Event → MemorySupply → Effect
 acts w (submit c payload) m = submits c m payload w
 acts w (relay k to) m = comes to m (recorded w k) w
 acts w (inject to bytes read) m = comes to m read w

@@ -7,7 +7,7 @@ use Rattle.ids.specs.declared.line_fault.LineFault.{LineFault}
 use Rattle.ids.specs.declared.line_fault.LineFault.TheVariants.{UnknownName, BadFields, TooLarge, BadChunk}
 use Rattle.ids.specs.declared.line_fault.LineFault.TheVariants.{LineTooLong}
 use Rattle.definitions.specs.Bytes.{Bytes}
-use Rattle.definitions.specs.Requests.{Asked, Head, stored_of, line, spelling, crlf, space, HasForm}
+use Rattle.definitions.specs.Requests.{Asked, Head, data_field, line, spelling, crlf, space, HasForm}
 use Rattle.definitions.specs.Requests.{MayHave, IsRequest}
 
 -- the twelve names (protocol.txt)
@@ -61,11 +61,11 @@ IsItemAt text (bad BadFields) used =
     × ((head : Head) (noreply : Bool) → ¬ (IsLineOf l head noreply)) × (used ≡ 0)
 -- 4: the line announces more data than may be
 IsItemAt text (bad TooLarge) used = (l : Bytes) × FirstLine text l × (head : Head) × (noreply : Bool)
-    × IsLineOf l head noreply × IsSomeAnd (stored_of head) (λ bytes. MOST_DATA < bytes) × (used ≡ 0)
+    × IsLineOf l head noreply × IsSomeAnd (data_field head) (λ bytes. MOST_DATA < bytes) × (used ≡ 0)
 -- 5: the data is there, and the two bytes after it aren't CR LF
 IsItemAt text (bad BadChunk) used = (l : Bytes) × (rest : Bytes) × (head : Head) × (noreply : Bool)
     × IsLineOf l head noreply × (text ≡ l ++ crlf ++ rest)
-    × IsSomeAnd (stored_of head)
+    × IsSomeAnd (data_field head)
     (λ bytes. (bytes ≤ MOST_DATA) × (bytes + 2 ≤ length rest) × (take 2 (drop bytes rest) ≢ crlf))
     × (used ≡ 0)
 -- 6: no line ends within the most bytes that a line may have
@@ -76,7 +76,7 @@ abbrev pub IsUnfinished : Bytes → Type 0
 IsUnfinished text = ((length text < MOST_LINE) × HasNoEnd text)
     ⊎ ((l : Bytes) × (rest : Bytes) × (head : Head) × (noreply : Bool) × IsLineOf l head noreply
     × (text ≡ l ++ crlf ++ rest)
-    × IsSomeAnd (stored_of head) (λ bytes. (bytes ≤ MOST_DATA) × (length rest < bytes + 2)))
+    × IsSomeAnd (data_field head) (λ bytes. (bytes ≤ MOST_DATA) × (length rest < bytes + 2)))
 
 -- nothing follows quit and the faults 3 to 6
 abbrev pub goes_on : Item → Bool

@@ -19,10 +19,10 @@ use Rattle.definitions.specs.Sendings.{Sending, sendings}
 
 -- How an event meets the allocator: nothing is refused, something before any change, or something after
 -- that many more commands were executed.
-pub data Memory : Type 0 where
-  ample : Memory
-  refused_at_once : Memory
-  refused_after : ℕ → Memory
+pub data MemorySupply : Type 0 where
+  ample : MemorySupply
+  refused_at_once : MemorySupply
+  refused_after : ℕ → MemorySupply
 
 -- whether a replica goes on
 pub data Standing : Type 0 where
@@ -58,7 +58,7 @@ unfoldable pub executes : Step → Chronicle → Bool
 executes s c = nat_lt (length (history c)) (length (history (s ∷ c)))
 
 -- a step that is to stand
-unfoldable pub on_step : Identity → Memory → Step → Chronicle → Replica × Reaction
+unfoldable pub on_step : Identity → MemorySupply → Step → Chronicle → Replica × Reaction
 on_step self ample s c =
     if conflicts s c then (stopped_at c, fails fault.Conflict)
     else (record { chronicle = s ∷ c; standing = running }, sends_out (sendings self s c))
@@ -81,14 +81,14 @@ stops fault.Full = true
 stops f = false
 
 -- what a ruling leaves
-unfoldable pub on_ruling : Identity → Memory → Ruling → Chronicle → Replica × Reaction
+unfoldable pub on_ruling : Identity → MemorySupply → Ruling → Chronicle → Replica × Reaction
 on_ruling self m (due s) c = on_step self m s c
 on_ruling self m (missing sender d) c = (record { chronicle = c; standing = running }, asks_for sender d)
 on_ruling self m (refusing n) c =
     (record { chronicle = c; standing = if stops n then stopped else running }, fails n)
 
 -- one input of a replica; a stopped one never changes
-unfoldable pub step : Identity → Memory → Input → Replica → Replica × Reaction
+unfoldable pub step : Identity → MemorySupply → Input → Replica → Replica × Reaction
 step self m input r =
     elim r.standing [
       | running ↦ on_ruling self m (ruling self input r.chronicle) r.chronicle

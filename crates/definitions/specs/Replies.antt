@@ -12,7 +12,7 @@ pub record Value : Type 0 where
   pub key : Bytes
   pub flags : ℕ
   pub stored : Bytes
-  pub unique : ℕ
+  pub cas_unique : ℕ
 
 -- the replies (protocol.txt)
 pub data Reply : Type 0 where
@@ -22,10 +22,10 @@ pub data Reply : Type 0 where
   not_found : Reply
   deleted : Reply
   number : ℕ → Reply
-  values : List Value → (with_unique : Bool) → Reply
-  no_room : Reply
-  too_long : Reply
-  no_number : Reply
+  values : List Value → (with_cas_unique : Bool) → Reply
+  out_of_memory : Reply
+  too_large : Reply
+  non_numeric : Reply
   no_request : Reply
 
 -- a line with its end
@@ -35,12 +35,12 @@ ended text = text ++ crlf
 -- the word and three or four fields of a value's line
 abbrev pub value_fields : Value → Bool → List Bytes
 value_fields v true =
-    codes "VALUE" ∷ v.key ∷ decimal v.flags ∷ decimal (length v.stored) ∷ decimal v.unique ∷ []
+    codes "VALUE" ∷ v.key ∷ decimal v.flags ∷ decimal (length v.stored) ∷ decimal v.cas_unique ∷ []
 value_fields v false = codes "VALUE" ∷ v.key ∷ decimal v.flags ∷ decimal (length v.stored) ∷ []
 
 -- a value: its line, and the data with CR LF behind it
 abbrev pub value_text : Bool → Value → Bytes
-value_text with_unique v = ended (join_with_byte space (value_fields v with_unique)) ++ ended v.stored
+value_text with_cas_unique v = ended (join_with_byte space (value_fields v with_cas_unique)) ++ ended v.stored
 
 -- the text of a reply (protocol.txt)
 abbrev pub reply_text : Reply → Bytes
@@ -50,10 +50,10 @@ reply_text exists = ended (codes "EXISTS")
 reply_text not_found = ended (codes "NOT_FOUND")
 reply_text deleted = ended (codes "DELETED")
 reply_text (number n) = ended (decimal n)
-reply_text (values vs with_unique) = flat_map (value_text with_unique) vs ++ ended (codes "END")
-reply_text no_room = ended (codes "SERVER_ERROR out of memory storing object")
-reply_text too_long = ended (codes "SERVER_ERROR object too large for cache")
-reply_text no_number = ended (codes "CLIENT_ERROR cannot increment or decrement non-numeric value")
+reply_text (values vs with_cas_unique) = flat_map (value_text with_cas_unique) vs ++ ended (codes "END")
+reply_text out_of_memory = ended (codes "SERVER_ERROR out of memory storing object")
+reply_text too_large = ended (codes "SERVER_ERROR object too large for cache")
+reply_text non_numeric = ended (codes "CLIENT_ERROR cannot increment or decrement non-numeric value")
 reply_text no_request = ended (codes "ERROR")
 
 -- what is answered to a line that is no request

@@ -20,7 +20,7 @@ pub data Verb : Type 0 where
 -- A request brings data along, or in a line the number of its bytes: D is what stands in the data's place.
 pub data Request (D : Type 0) : Type 0 where
   store : Verb → (key : Bytes) (flags : ℕ) (stored : D) → Request D
-  cas : (key : Bytes) (flags : ℕ) (stored : D) (unique : ℕ) → Request D
+  cas : (key : Bytes) (flags : ℕ) (stored : D) (cas_unique : ℕ) → Request D
   get : (keys : List Bytes) → Request D
   gets : (keys : List Bytes) → Request D
   delete : (key : Bytes) → Request D
@@ -38,7 +38,7 @@ Head = Request ℕ
 -- what the line of a request says
 abbrev pub head_of : Asked → Head
 head_of (store verb key flags stored) = store verb key flags (length stored)
-head_of (cas key flags stored unique) = cas key flags (length stored) unique
+head_of (cas key flags stored cas_unique) = cas key flags (length stored) cas_unique
 head_of (get keys) = get keys
 head_of (gets keys) = gets keys
 head_of (delete key) = delete key
@@ -46,10 +46,10 @@ head_of (incr key value) = incr key value
 head_of (decr key value) = decr key value
 
 -- what stands in the data's place, where the request stores
-abbrev pub stored_of : {D : Type 0} → Request D → Option D
-stored_of (store verb key flags stored) = Some stored
-stored_of (cas key flags stored unique) = Some stored
-stored_of _ = None
+abbrev pub data_field : {D : Type 0} → Request D → Option D
+data_field (store verb key flags stored) = Some stored
+data_field (cas key flags stored cas_unique) = Some stored
+data_field _ = None
 
 -- the word noreply may stand at the end of every line but that of get and gets
 abbrev pub takes_noreply : {D : Type 0} → Request D → Bool
@@ -78,8 +78,8 @@ verb_name prepend = codes "prepend"
 -- the fields of a line: the name, and what the command takes. The 0 is the time of expiry
 abbrev pub fields : Head → List Bytes
 fields (store verb key flags bytes) = verb_name verb ∷ key ∷ decimal flags ∷ codes "0" ∷ decimal bytes ∷ []
-fields (cas key flags bytes unique) =
-    codes "cas" ∷ key ∷ decimal flags ∷ codes "0" ∷ decimal bytes ∷ decimal unique ∷ []
+fields (cas key flags bytes cas_unique) =
+    codes "cas" ∷ key ∷ decimal flags ∷ codes "0" ∷ decimal bytes ∷ decimal cas_unique ∷ []
 fields (get keys) = codes "get" ∷ keys
 fields (gets keys) = codes "gets" ∷ keys
 fields (delete key) = codes "delete" ∷ key ∷ []
@@ -97,7 +97,7 @@ line head noreply = join_with_byte space (fields head ++ noreply_field noreply)
 
 -- the data and its end, where the request stores
 abbrev pub data_block : Asked → Bytes
-data_block request = option_map_or (λ stored. stored ++ crlf) (stored_of request) []
+data_block request = option_map_or (λ stored. stored ++ crlf) (data_field request) []
 
 -- the one text of a request, with the word noreply or without it
 abbrev pub spelling : Asked → Bool → Bytes
@@ -124,7 +124,8 @@ AreKeys keys = (1 ≤ length keys) × (length keys ≤ MOST_ASKED) × AllByRecur
 -- what a line may say; how much data there may be is a limit of its own
 abbrev pub HasForm : Head → Type 0
 HasForm (store verb key flags bytes) = IsKey key × (flags < 2 ^ 32) × (bytes < 2 ^ 64)
-HasForm (cas key flags bytes unique) = IsKey key × (flags < 2 ^ 32) × (bytes < 2 ^ 64) × (unique < 2 ^ 64)
+HasForm (cas key flags bytes cas_unique) =
+    IsKey key × (flags < 2 ^ 32) × (bytes < 2 ^ 64) × (cas_unique < 2 ^ 64)
 HasForm (get keys) = AreKeys keys
 HasForm (gets keys) = AreKeys keys
 HasForm (delete key) = IsKey key
@@ -138,4 +139,4 @@ MayHave head noreply = IsTrue noreply → IsTrue (takes_noreply head)
 -- a request with its word noreply or without
 abbrev pub IsRequest : Asked → Bool → Type 0
 IsRequest request noreply = HasForm (head_of request) × MayHave (head_of request) noreply
-    × IfSome (stored_of request) (λ stored. length stored ≤ MOST_DATA)
+    × IfSome (data_field request) (λ stored. length stored ≤ MOST_DATA)

@@ -13,8 +13,8 @@ use Rattle.definitions.specs.Trees.{Placing, Placing.stands, Placing.grows, Plac
 use Rattle.definitions.specs.Trees.{Placing.unfit, placing, clear_above}
 use Rattle.definitions.specs.Chronicles.{Admitted, Step, Step.took_block, Step.noted, Note.got_vote}
 use Rattle.definitions.specs.Chronicles.{Note.got_new_view, Note.got_request, Note.got_fetch}
-use Rattle.definitions.specs.Chronicles.{Note.timed_out, Note.beat, Chronicle, stored, tree}
-use Rattle.definitions.specs.Chronicles.{decides_against, executed, history, may_vote}
+use Rattle.definitions.specs.Chronicles.{Note.timed_out, Note.beat, Chronicle, stored_blocks, tree}
+use Rattle.definitions.specs.Chronicles.{decides_against, executed, history, is_safe}
 use Rattle.definitions.specs.Checks.{Identity, Findings}
 use Rattle.definitions.specs.States.{view, find_block, is_same_request, is_due, pending}
 
@@ -52,7 +52,8 @@ unfoldable pub votes_for : Sizes → Option ℕ → Admitted → Chronicle → B
 votes_for s None a c = false
 votes_for s (Some w) a c =
     (w == view s c)
-    && (may_vote a.branch c && clear_above (justify_height a.branch) a.branch (stored (took_block a ∷ c)))
+    && (is_safe a.branch c
+    && clear_above (justify_height a.branch) a.branch (stored_blocks (took_block a ∷ c)))
 
 -- the block is admitted, with or without a vote
 abbrev pub take_block : Identity → Option ℕ → Admitted → Chronicle → Ruling
@@ -76,7 +77,8 @@ unfoldable pub on_request : Command → Chronicle → Ruling
 on_request r c =
     if is_due (history c) r
     && (not (list_any (is_same_request r) (pending c)) && not (nat_lt (length (pending c)) MOST_PENDING))
-    then refusing fault.PoolFull else due (noted (got_request r))
+    then refusing fault.PoolFull
+    else due (noted (got_request r))
 
 -- what follows where the block stands in the tree
 abbrev pub with_block : Option Branch → ℕ → Bytes → (Branch → Ruling) → Ruling

@@ -13,7 +13,7 @@ use Rattle.definitions.specs.Keyrings.{tag_for, vector_for}
 use Rattle.definitions.specs.Histories.{Answer, last_seq, answers, answer_to}
 use Rattle.definitions.specs.Chronicles.{Admitted, Step, Step.took_block, Step.noted, Note.got_vote}
 use Rattle.definitions.specs.Chronicles.{Note.got_new_view, Note.got_request, Note.got_fetch}
-use Rattle.definitions.specs.Chronicles.{Note.timed_out, Note.beat, Chronicle, taken, history}
+use Rattle.definitions.specs.Chronicles.{Note.timed_out, Note.beat, Chronicle, taken_blocks, history}
 use Rattle.definitions.specs.Frames as frame
 use Rattle.definitions.specs.Checks.{Identity}
 use Rattle.definitions.specs.States.{view, Justified, qc_high, me, leads, proposed}
@@ -73,7 +73,7 @@ new_replies self s c =
 -- a block of the tree as it was taken; genesis never was
 abbrev pub as_taken : Option Branch → Chronicle → Option Admitted
 as_taken None c = None
-as_taken (Some b) c = find (λ a. branch_eq a.branch b) (taken c)
+as_taken (Some b) c = find (λ a. branch_eq a.branch b) (taken_blocks c)
 
 -- the block, where it was taken
 abbrev pub supplies : Identity → ℕ → Option Admitted → List Sending
@@ -93,12 +93,15 @@ proposes self w (Some p) = (to_all, proposal_frame self w p) ∷ []
 -- what a step that stands sends, after this chronicle
 unfoldable pub sendings : Identity → Step → Chronicle → List Sending
 sendings self (took_block a) c =
-    (if a.voted then (to_party (leader self.sizes (view self.sizes c)), vote_frame self a.branch)
-    ∷ [] else []) ++ new_replies self (took_block a) c
+    (if a.voted
+    then (to_party (leader self.sizes (view self.sizes c)), vote_frame self a.branch) ∷ []
+    else [])
+    ++ new_replies self (took_block a) c
 sendings self (noted (got_vote voter v b)) c = []
 sendings self (noted (got_new_view w sender q b)) c =
     if nat_lt (view self.sizes c) (view self.sizes (noted (got_new_view w sender q b) ∷ c))
-    then (to_all, new_view_frame self (noted (got_new_view w sender q b) ∷ c)) ∷ [] else []
+    then (to_all, new_view_frame self (noted (got_new_view w sender q b) ∷ c)) ∷ []
+    else []
 sendings self (noted (got_request r)) c =
     if r.seq == last_seq r.client (history c) then again self (answer_to r.client r.seq (history c)) else []
 sendings self (noted (got_fetch to b)) c = supplies self to (as_taken b c)

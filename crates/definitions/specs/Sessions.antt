@@ -9,7 +9,8 @@ use Rattle.definitions.specs.Tally.{Told, is_counted, agreeing}
 use Rattle.ids.specs.Sizes.{Sizes}
 use Rattle.definitions.specs.Frames.{Frame, command_content, reply_content}
 use Rattle.definitions.specs.Keyrings.{Keyring, verify, vector_for}
-use Rattle.definitions.specs.Replicas.{Memory, Memory.ample, Memory.refused_at_once, Memory.refused_after}
+use Rattle.definitions.specs.Replicas.{MemorySupply, MemorySupply.ample, MemorySupply.refused_at_once}
+use Rattle.definitions.specs.Replicas.{MemorySupply.refused_after}
 use Rattle.definitions.specs.Frames as frame
 
 -- Who a client is. Its party is its keyring's.
@@ -49,13 +50,13 @@ request_frame me seq payload = frame.request (record {
 })
 
 -- no memory is refused
-abbrev pub is_ample : Memory → Bool
+abbrev pub is_ample : MemorySupply → Bool
 is_ample ample = true
 is_ample refused_at_once = false
 is_ample (refused_after k) = false
 
 -- a new request, where none is outstanding
-unfoldable pub submission : Client → Memory → Bytes → Session → Session × Submitted
+unfoldable pub submission : Client → MemorySupply → Bytes → Session → Session × Submitted
 submission me m payload s =
     if s.waiting then (s, not_sent fault.Busy)
     else (if s.used == (2 ^ 64 - 1) then (s, not_sent fault.Spent)
@@ -82,11 +83,11 @@ count_reply me t s =
     else (record { used = s.used; waiting = true; tally = t ∷ s.tally }, only_counts)
 
 -- a frame comes to a client
-unfoldable pub on_reply : Client → Memory → Frame → Session → Session × Heard
+unfoldable pub on_reply : Client → MemorySupply → Frame → Session → Session × Heard
 on_reply me m (frame.reply replica client seq place text t) s =
     if not (client == me.number) then (s, not_counted fault.NotMine)
-    else (if not (verify me.ring kind.Reply replica (reply_content replica client seq place text) t) then
-    (s, not_counted fault.BadTag)
+    else (if not (verify me.ring kind.Reply replica (reply_content replica client seq place text) t)
+    then (s, not_counted fault.BadTag)
     else (if not (s.waiting && (seq == s.used)) then (s, not_counted fault.WrongSeq)
     else (if is_counted s.tally replica then (s, not_counted fault.Doubled)
     else (if not (is_ample m) then (s, not_counted fault.Memory)

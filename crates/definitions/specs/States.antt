@@ -31,8 +31,8 @@ unfoldable pub announced : ℕ → Chronicle → ℕ
 announced replica c = greatest (map (λ p. p.1) (filter (λ p. p.0 == replica) (announcements c)))
 
 -- the greatest view that more than f replicas have announced or passed
-unfoldable pub reached : Sizes → Chronicle → ℕ
-reached s c =
+unfoldable pub reached_view : Sizes → Chronicle → ℕ
+reached_view s c =
     greatest (filter (λ v. nat_lt s.faults (count_below (replicas s) (λ i. nat_le v (announced i c))))
     (map (λ p. p.1) (announcements c)))
 
@@ -41,7 +41,7 @@ unfoldable pub view : Sizes → Chronicle → ℕ
 view s [] = 0
 view s (noted timed_out ∷ earlier) = min (suc (view s earlier)) (2 ^ 64 - 1)
 view s (noted (got_new_view w sender q b) ∷ earlier) =
-    max (view s earlier) (reached s (noted (got_new_view w sender q b) ∷ earlier))
+    max (view s earlier) (reached_view s (noted (got_new_view w sender q b) ∷ earlier))
 view s (x ∷ earlier) = view s earlier
 
 -- the kept votes for a block, one a voter and at most a quorum, newest first
@@ -49,8 +49,8 @@ unfoldable pub votes : Sizes → Bytes → Chronicle → List Vote
 votes s d [] = []
 votes s d (noted (got_vote voter v b) ∷ earlier) =
     if bytes_eq (digest_of b) d
-    && (not (list_any (λ x. x.voter == voter) (votes s d earlier)) && nat_lt (length (votes s d earlier))
-    (quorum s))
+    && (not (list_any (λ x. x.voter == voter) (votes s d earlier))
+    && nat_lt (length (votes s d earlier)) (quorum s))
     then record { voter = voter; vector = v } ∷ votes s d earlier
     else votes s d earlier
 votes s d (x ∷ earlier) = votes s d earlier

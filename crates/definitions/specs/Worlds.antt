@@ -7,7 +7,7 @@ use Rattle.ids.specs.Sizes.{Sizes, client_party}
 use Rattle.definitions.specs.Keyrings.{Keyring, is_replica_of, is_party_of}
 use Rattle.definitions.specs.Checks.{Identity}
 use Rattle.definitions.specs.Sendings.{To}
-use Rattle.definitions.specs.Replicas.{Memory, Replica, Standing.running}
+use Rattle.definitions.specs.Replicas.{MemorySupply, Replica, Standing.running}
 use Rattle.definitions.specs.Sessions.{Client, Session, new_session, Receipt}
 
 -- A frame that a correct party sent, in the event of this number.
@@ -46,7 +46,7 @@ pub data Event : Type 0 where
 
 -- an event, with how its party meets the allocator in it
 abbrev pub Happening : Type 0
-Happening = Event × Memory
+Happening = Event × MemorySupply
 
 -- the world at the start
 unfoldable pub new_world : Sizes → (ℕ → Bool) → (ℕ → Keyring) → World

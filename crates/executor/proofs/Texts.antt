@@ -15,7 +15,7 @@ use Rattle.definitions.specs.Requests.{gets, delete, incr, decr}
 use Rattle.definitions.specs.Canonical.{request_of}
 use Rattle.definitions.specs.Replies.{Reply, reply_text}
 use Rattle.definitions.specs.Replies as reply
-use Rattle.definitions.specs.Cache.{Cache, Entry, Outcome, find, has, change, most_changes, number_in}
+use Rattle.definitions.specs.Cache.{Cache, CacheItem, Outcome, find, has, change, most_changes, number_in}
 use Rattle.definitions.specs.Cache.{if_present, store_it, count_it, apply, apply_payload}
 
 -- the text is short, or the cache is left as it was
@@ -34,11 +34,11 @@ stored-short : (cache : Cache) (key : Bytes) (flags : ℕ) (stored : Bytes)
 stored-short cache key flags stored = changed-short cache key flags stored reply.stored (omega arith)
 
 -- what is done with an entry that is there
-present-short : (cache : Cache) (key : Bytes) (r : Reply) (present : Entry → Outcome) → ((e : Entry)
+present-short : (cache : Cache) (key : Bytes) (r : Reply) (present : CacheItem → Outcome) → ((e : CacheItem)
     → IsShortOrSame cache (present e)) → IsShortOrSame cache (if_present cache key (cache, r) present)
 present-short cache key r present p = by (find cache key)
   where
-    by : (o : Option Entry) → IsShortOrSame cache (option_map_or present o (cache, r))
+    by : (o : Option CacheItem) → IsShortOrSame cache (option_map_or present o (cache, r))
     by None = inr refl
     by (Some e) = p e
 
@@ -85,9 +85,9 @@ count-short : (cache : Cache) (key : Bytes) (f : ℕ → ℕ) → ((n : ℕ) →
 count-short cache key f small =
     present-short cache key reply.not_found _ (λ e. by e (number_in e.stored) refl)
   where
-    by : (e : Entry) → (o : Option ℕ) → number_in e.stored ≡ o
+    by : (e : CacheItem) → (o : Option ℕ) → number_in e.stored ≡ o
         → IsShortOrSame cache (option_map_or
-        (λ n. change cache key e.flags (decimal (f n)) (reply.number (f n))) o (cache, reply.no_number))
+        (λ n. change cache key e.flags (decimal (f n)) (reply.number (f n))) o (cache, reply.non_numeric))
     by e None i = inr refl
     by e (Some n) i = changed-short cache key e.flags (decimal (f n)) (reply.number (f n))
         (number-short (f n) (small n (number_in-small e.stored n i)))
@@ -95,8 +95,9 @@ count-short cache key f small =
 -- what a request does
 apply-short : (most : ℕ) (cache : Cache) (r : Asked) → IsShortOrSame cache (apply most cache r)
 apply-short most cache (store verb key flags stored) = store-short most cache verb key flags stored
-apply-short most cache (cas key flags stored unique) = present-short cache key reply.not_found _ (λ x.
-    cond_both (x.unique == unique) _ _ (IsShortOrSame cache) (λ e. stored-short cache key flags stored)
+apply-short most cache (cas key flags stored cas_unique) = present-short cache key reply.not_found _ (λ x.
+    cond_both (x.cas_unique == cas_unique) _ _ (IsShortOrSame cache)
+    (λ e. stored-short cache key flags stored)
     (λ e. inr refl))
 apply-short most cache (incr key value) =
     count-short cache key (λ n. (n + value) % 2 ^ 64) (λ n l. omega arith)

@@ -7,7 +7,7 @@ use Rattle.std.proofs.lemmas.List.{drop-append-le}
 use Rattle.std.specs.List.{AllByRecursion}
 use Rattle.std.specs.Prelude.{if◌then◌else◌, IsSomeAnd}
 use Rattle.definitions.specs.Bytes.{Bytes}
-use Rattle.definitions.specs.Requests.{crlf, Head, stored_of}
+use Rattle.definitions.specs.Requests.{crlf, Head, data_field}
 use Rattle.definitions.specs.Items.{Item, goes_on, IsLineOf, IsItemAt, IsUnfinished}
 use Rattle.definitions.proofs.Lines.{length-line}
 use Rattle.definitions.proofs.ItemLaws.{IsItemAt-append, IsItemAt-unique, takes_some}
@@ -26,7 +26,7 @@ left_more text more x used is false e = refl
 pub unfinished_short : (text : Bytes) → IsUnfinished text → length text ≤ 8193
 unfinished_short text (inl u) = omega (arith, u.0)
 unfinished_short text (inr u) =
-    let few = short (stored_of u.2) (length u.1) u.6 in
+    let few = short (data_field u.2) (length u.1) u.6 in
     omega (
       arith,
       few,

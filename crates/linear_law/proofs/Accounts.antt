@@ -27,7 +27,7 @@ use Rattle.definitions.specs.States.{view}
 use Rattle.definitions.specs.Rulings.{Ruling, ruling}
 use Rattle.definitions.specs.Sendings.{To, To.to_all, To.to_party, Sending, reply_to, vote_frame}
 use Rattle.definitions.specs.Sendings.{block_frame, new_view_frame, proposal_frame, fetch_frame}
-use Rattle.definitions.specs.Replicas.{Memory, Replica, Reaction}
+use Rattle.definitions.specs.Replicas.{MemorySupply, Replica, Reaction}
 use Rattle.definitions.specs.Sessions.{Client, Session, Heard, Receipt, Submitted, Submitted.not_sent}
 use Rattle.definitions.specs.Sessions.{is_ample, submission, request_frame, on_reply, count_reply}
 use Rattle.definitions.specs.Tally.{agrees}
@@ -64,7 +64,7 @@ sends-not self st c o (its_block to a m) x h = let k : block_frame self to a ≡
 sends-not self st c o (its_proposal j l e) x h =
     let k : proposal_frame self (view self.sizes c) j ≡ frame.request x = h in cc
 
-outcome-not : (self : Identity) (m : Memory) (v : Ruling) (old : Replica) (r : Replica × Reaction)
+outcome-not : (self : Identity) (m : MemorySupply) (v : Ruling) (old : Replica) (r : Replica × Reaction)
     → Outcome self old.chronicle v old r → (o : Sending) → Among o (out_of self m r.1) → NotRequest o
 outcome-not self m v old r (unchanged n l) o k = none-not o k
 outcome-not self m v old r (refused s n u l) o k = none-not o k
@@ -94,7 +94,8 @@ pub put-session : (c : ℕ) (x : Session) (row : ℕ → Session) (P : Session �
     → P (row i) → P (put c x row i)
 put-session c x row P i here there = cond_both (i == c) x (row i) P (λ e. here (eqb-true i c e)) (λ e. there)
 
-pub on_reply-used : (me : Client) (m : Memory) (f : Frame) (s : Session) → (on_reply me m f s).0.used ≡ s.used
+pub on_reply-used : (me : Client) (m : MemorySupply) (f : Frame) (s : Session)
+    → (on_reply me m f s).0.used ≡ s.used
 unfolding on_reply count_reply
 on_reply-used me m (frame.reply r cl q pl tx g) s =
     cond_both (not (cl == me.number)) _ _ P (λ k. refl) (λ mine.
@@ -163,7 +164,7 @@ next-fits n e h = elim (cases_lt n (2 ^ 64 - 1)) [
   | inr g ↦ absurd (true≢false (sym (eq-eqb n (2 ^ 64 - 1) (omega (arith, g, h))) ∙ e))
 ]
 
-submit-well : (w : World) (cl : ℕ) (me : Client) (m : Memory) (payload : Bytes) (s : Session)
+submit-well : (w : World) (cl : ℕ) (me : Client) (m : MemorySupply) (payload : Bytes) (s : Session)
     → SubmittedWell w cl me.number s (submission me m payload s)
 unfolding submission
 submit-well w cl me m payload s =
@@ -192,7 +193,7 @@ put-session-own c x row P h =
     cond_both (c == c) x (row c) P (λ e. h) (λ e. absurd (true≢false (sym (eq-eqb c c refl) ∙ e)))
 
 module _ (Known : Core → Type 0) where
-  pub effect-sessions : (w : World) (e : Event) (m : Memory) (f : Effect) → IsRun Known w
+  pub effect-sessions : (w : World) (e : Event) (m : MemorySupply) (f : Effect) → IsRun Known w
       → IsHonest Known w e → IsMadeWell w → RepliesStand w → AnswersFit w
       → ((cl : ℕ) → SessionStands w cl (w.session cl)) → Effects w e m f → KeepsSessions w e f
   unfolding nothing stepped told submitted

@@ -10,14 +10,15 @@ use Rattle.definitions.specs.Bytes.{Bytes}
 use Rattle.definitions.specs.FrameLimits.{IsCore, IsFrame}
 use Rattle.definitions.specs.Branches.{Branch}
 use Rattle.definitions.specs.Digests.{AllKnown}
-use Rattle.definitions.specs.Chronicles.{Step, Step.took_block, Step.noted, Note.beat, Chronicle, taken}
-use Rattle.definitions.specs.Chronicles.{stored, tree, IsSound}
+use Rattle.definitions.specs.Chronicles.{Step, Step.took_block, Step.noted, Note.beat, Chronicle}
+use Rattle.definitions.specs.Chronicles.{taken_blocks}
+use Rattle.definitions.specs.Chronicles.{stored_blocks, tree, IsSound}
 use Rattle.definitions.specs.Checks.{Identity}
 use Rattle.definitions.specs.Keyrings.{Keyring}
 use Rattle.definitions.specs.States.{Justified, me, leaf, child, proposed, made_with, qc_high}
 use Rattle.definitions.specs.Rulings.{Input, Ruling, ruling}
 use Rattle.definitions.specs.Sendings.{Sending}
-use Rattle.definitions.specs.Replicas.{Memory, Replica, Reaction, step}
+use Rattle.definitions.specs.Replicas.{MemorySupply, Replica, Reaction, step}
 use Rattle.definitions.specs.Sessions.{Session, Submitted, is_ample, submission}
 use Rattle.definitions.specs.Worlds.{World, Sent, Event, Event.submit, Happening, self_of, client_of}
 use Rattle.definitions.specs.Worlds.{new_world}
@@ -109,7 +110,7 @@ proposal-now self now (noted n) c few p j e = p.proposal j e
 fit-now : (self : Identity) (st : Step) (c : Chronicle) → IsSound self.sizes (st ∷ c) → IsStored self c st
     → ((x : Branch) → Among x (tree c) → AllKnown (IsCore self.sizes) x) → (x : Branch)
     → Among x (tree (st ∷ c)) → AllKnown (IsCore self.sizes) x
-unfolding tree stored taken
+unfolding tree stored_blocks taken_blocks
 fit-now self (took_block a) c so h fit x m =
     step-known (IsCore self.sizes) a c a.new refl
     (λ n. taken-known (IsCore self.sizes) self.sizes a c (so.lawful.0.1 n) fit
@@ -130,13 +131,13 @@ grown self now st c few p so h = record {
 }
 
 -- what an outcome leaves, and what it sends
-record IsPlainAfter (self : Identity) (now : ℕ) (m : Memory) (r : Replica × Reaction) : Type 0 where
+record IsPlainAfter (self : Identity) (now : ℕ) (m : MemorySupply) (r : Replica × Reaction) : Type 0 where
   left : IsPlain self (suc now) r.0.chronicle
   out : (o : Sending) → Among o (out_of self m r.1) → IsFrame self.sizes o.1
 
 -- each outcome leaves it so
 after-plain :
-    (self : Identity) (now : ℕ) (m : Memory) (v : Ruling) (before : Replica) (r : Replica × Reaction)
+    (self : Identity) (now : ℕ) (m : MemorySupply) (v : Ruling) (before : Replica) (r : Replica × Reaction)
     → now ≤ 2 ^ 63 → me self < replicas self.sizes
     → IsPlain self now before.chronicle → Keeps self before.chronicle v
     → IsStoredRuling self before.chronicle v → AsksRightly r.1
@@ -190,7 +191,7 @@ record IsPlainEffect (w : World) (f : Effect) : Type 0 where
   out : (o : Sending) → Among o f.out → IsFrame w.sizes o.1
 
 -- a correct replica's step
-step-plain : (w : World) (e : Event) (m : Memory) (i : Input) → w.now ≤ 2 ^ 63 → IsPlainWorld w
+step-plain : (w : World) (e : Event) (m : MemorySupply) (i : Input) → w.now ≤ 2 ^ 63 → IsPlainWorld w
     → is_member w (party_of e) ≡ true → Arises w e i
     → IsPlainAfter (self_of w (party_of e)) w.now m
     (step (self_of w (party_of e)) m i (w.replica (party_of e)))
@@ -210,7 +211,7 @@ step-plain w e m i few p mp ar =
     (step-outcome self m i r ch k.sound)
 
 -- it in the world
-stepped-plain : (w : World) (p : ℕ) (m : Memory) (r : Replica × Reaction) → IsPlainWorld w
+stepped-plain : (w : World) (p : ℕ) (m : MemorySupply) (r : Replica × Reaction) → IsPlainWorld w
     → IsPlainAfter (self_of w p) w.now m r → IsPlainEffect w (stepped w p m r)
 unfolding stepped
 stepped-plain w p m r a k = record {
@@ -222,7 +223,7 @@ stepped-plain w p m r a k = record {
 }
 
 -- a submission leaves room for its number
-submission-room : (w : World) (c : ℕ) (m : Memory) (payload : Bytes) → (w.session c).used < 2 ^ 64
+submission-room : (w : World) (c : ℕ) (m : MemorySupply) (payload : Bytes) → (w.session c).used < 2 ^ 64
     → (submission (client_of w c) m payload (w.session c)).0.used < 2 ^ 64
 unfolding submission
 submission-room w c m payload room =
@@ -233,7 +234,7 @@ submission-room w c m payload room =
     cond_both (not (is_ample m)) _ _ P (λ e. room) (λ e. next-fits s.used last room)))
 
 -- each effect keeps it
-effect-plain : (w : World) (e : Event) (m : Memory) (f : Effect) → w.now ≤ 2 ^ 63 → IsPlainWorld w
+effect-plain : (w : World) (e : Event) (m : MemorySupply) (f : Effect) → w.now ≤ 2 ^ 63 → IsPlainWorld w
     → refusal w e ≡ None → Effects w e m f → IsPlainEffect w f
 unfolding nothing told submitted
 effect-plain w e m f few a ok (idle x h) =
@@ -264,7 +265,8 @@ effect-plain w e m f few a ok (submitting c payload i y) = record {
 }
 
 -- each event keeps it
-happens-plain : (w : World) (e : Event) (m : Memory) → w.now ≤ 2 ^ 63 → IsPlainWorld w → IsReadIn w.sizes e
+happens-plain : (w : World) (e : Event) (m : MemorySupply) → w.now ≤ 2 ^ 63 → IsPlainWorld w
+    → IsReadIn w.sizes e
     → refusal w e ≡ None → IsPlainWorld (happens w (e, m))
 unfolding happens
 happens-plain w e m few a rd ok = record {
@@ -301,7 +303,7 @@ run-plain (h ∷ hs) w last few a rd e =
 -- the world at its start
 new-plain : (sizes : Sizes) (is_faulty : ℕ → Bool) (ring : ℕ → Keyring)
     → HaveOwnKeys (new_world sizes is_faulty ring) → IsPlainWorld (new_world sizes is_faulty ring)
-unfolding new_world leaf proposed tree stored taken
+unfolding new_world leaf proposed tree stored_blocks taken_blocks
 new-plain sizes is_faulty ring keys = record {
   rings = keys;
   each = λ p m. record {

@@ -9,13 +9,13 @@ use Rattle.std.proofs.lemmas.Bool.{cases_lt}
 use Rattle.definitions.specs.Lists.{Among, count_below}
 use Rattle.definitions.specs.Branches.{Branch, just1, Extends, IsBranch}
 use Rattle.ids.specs.Sizes.{Sizes, replicas, quorum}
-use Rattle.definitions.specs.Chronicles.{Admitted, Step, Step.took_block, Step.noted, Chronicle, voted}
-use Rattle.definitions.specs.Chronicles.{taken, tree, IsLawful, IsLawfulVote}
+use Rattle.definitions.specs.Chronicles.{Admitted, Step, Step.took_block, Step.noted, Chronicle, voted_blocks}
+use Rattle.definitions.specs.Chronicles.{taken_blocks, tree, IsLawful, IsLawfulVote}
 use Rattle.definitions.specs.Agreement.{Family, IsOrderly}
 
 -- the block was taken, and as a clear one
 abbrev pub IsClearIn : Chronicle → Branch → Type 0
-IsClearIn c x = (a : Admitted) × Among a (taken c) × (a.branch ≡ x) × (a.clear ≡ true)
+IsClearIn c x = (a : Admitted) × Among a (taken_blocks c) × (a.branch ≡ x) × (a.clear ≡ true)
 
 -- what was voted for has clear blocks down to the one it justifies
 record IsClearVote (b : Branch) (c : Chronicle) : Type 0 where
@@ -30,16 +30,18 @@ clear-vote-grows st b c h =
     }
 
 vote-step : (a : Admitted) (c : Chronicle) (x : Branch) (t : Bool) → a.voted ≡ t
-    → (a.voted ≡ true → IsLawfulVote a.branch (took_block a ∷ c) c) → (Among x (voted c) → IsClearVote x c)
-    → Among x (cond t (a.branch ∷ voted c) (voted c)) → IsClearVote x (took_block a ∷ c)
+    → (a.voted ≡ true → IsLawfulVote a.branch (took_block a ∷ c) c)
+    → (Among x (voted_blocks c) → IsClearVote x c)
+    → Among x (cond t (a.branch ∷ voted_blocks c) (voted_blocks c)) → IsClearVote x (took_block a ∷ c)
 vote-step a c x true e law rest (inl i) =
     subst (λ (y : Branch). IsClearVote y (took_block a ∷ c)) (sym i)
     (let l = law e in record { clear = l.clear; taken = l.taken })
 vote-step a c x true e law rest (inr m) = clear-vote-grows (took_block a) x c (rest m)
 vote-step a c x false e law rest m = clear-vote-grows (took_block a) x c (rest m)
 
-vote-clear : (s : Sizes) (c : Chronicle) → IsLawful s c → (b : Branch) → Among b (voted c) → IsClearVote b c
-unfolding voted
+vote-clear : (s : Sizes) (c : Chronicle) → IsLawful s c → (b : Branch) → Among b (voted_blocks c)
+    → IsClearVote b c
+unfolding voted_blocks
 vote-clear s [] l b m = absurd m
 vote-clear s (took_block a ∷ c) l b m = vote-step a c b a.voted refl l.0.0 (vote-clear s c l.1 b) m
 vote-clear s (noted n ∷ c) l b m = clear-vote-grows _ b c (vote-clear s c l.1 b m)
@@ -55,7 +57,7 @@ IsClearSomewhere fam y = (v : ℕ) × (fam.is_member v ≡ true) × IsClearIn (f
 
 -- a member voted for the block that a taken one justifies
 justified-vote : (fam : Family) → IsCourse fam → (p : ℕ) (a : Admitted) → fam.is_member p ≡ true
-    → Among a (taken (fam.chronicle p))
+    → Among a (taken_blocks (fam.chronicle p))
     → ((v : ℕ) × (fam.is_member v ≡ true) × IsClearVote (just1 a.branch) (fam.chronicle v))
     ⊎ (just1 a.branch ≡ [])
 justified-vote fam co p a mp m =
@@ -64,20 +66,21 @@ justified-vote fam co p a mp m =
       | inl q ↦ (
           let v = quorum-member fam.sizes fam.is_member a.counted co.enough q.0 q.1 q.2 in
           let vote = counted-voted fam.is_member co.orderly.order co.orderly.ordered p a
-          (subst (λ (c : Chronicle). Among a (taken c)) (sym (co.orderly.whole p mp)) m) t.2 v.0 v.1 v.2
+          (subst (λ (c : Chronicle). Among a (taken_blocks c)) (sym (co.orderly.whole p mp)) m) t.2 v.0 v.1
+          v.2
           in
           inl (
             v.0,
             v.2,
             vote-clear fam.sizes (fam.chronicle v.0) (co.lawful v.0 v.2) (just1 a.branch)
-                (subst (λ (c : Chronicle). Among (just1 a.branch) (voted c)) (co.orderly.whole v.0 v.2)
+                (subst (λ (c : Chronicle). Among (just1 a.branch) (voted_blocks c)) (co.orderly.whole v.0 v.2)
                 vote),
           ))
       | inr e ↦ inr e
     ]
 
 pub clear-below : (fuel : ℕ) (fam : Family) → IsCourse fam → (p : ℕ) (a : Admitted) → fam.is_member p ≡ true
-    → Among a (taken (fam.chronicle p)) → length (just1 a.branch) ≤ fuel → (y : Branch)
+    → Among a (taken_blocks (fam.chronicle p)) → length (just1 a.branch) ≤ fuel → (y : Branch)
     → Extends (just1 a.branch) y → 0 < length y → IsClearSomewhere fam y
 clear-below zero fam co p a mp m f y e l =
     absurd (let h = length-extends (just1 a.branch) y e in omega (arith, h, f, l))

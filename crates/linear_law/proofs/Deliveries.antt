@@ -19,7 +19,7 @@ use Rattle.definitions.specs.Digests.{digest_of, core_of, core_over}
 use Rattle.definitions.specs.Keyrings.{Keyring}
 use Rattle.definitions.specs.Chronicles.{Admitted, Step, Step.took_block, Step.noted, Note.got_vote}
 use Rattle.definitions.specs.Chronicles.{Note.got_new_view, Note.got_request, Note.got_fetch}
-use Rattle.definitions.specs.Chronicles.{Note.timed_out, Note.beat, Chronicle, taken, tree, history}
+use Rattle.definitions.specs.Chronicles.{Note.timed_out, Note.beat, Chronicle, taken_blocks, tree, history}
 use Rattle.definitions.specs.Checks.{Identity, Findings, vote_verifies, command_verifies}
 use Rattle.definitions.specs.States.{view, Justified, me, leads, leaf, child, known_as, proposed, made_with}
 use Rattle.definitions.specs.States.{raised, higher, qc_high, votes, pending, with_request, is_due}
@@ -32,7 +32,8 @@ use Rattle.definitions.specs.Rulings.{Input.beat_in, Ruling, Ruling.due, Ruling.
 use Rattle.definitions.specs.Rulings.{admitted, on_placing, on_request, with_block, ruling, conflicts}
 use Rattle.definitions.specs.Sendings.{To, To.to_party, Sending, reply_to, vote_frame, block_frame}
 use Rattle.definitions.specs.Sendings.{new_view_frame, proposal_frame, fetch_frame}
-use Rattle.definitions.specs.Replicas.{Memory, Memory.ample, Memory.refused_at_once, Memory.refused_after}
+use Rattle.definitions.specs.Replicas.{MemorySupply, MemorySupply.ample, MemorySupply.refused_at_once}
+use Rattle.definitions.specs.Replicas.{MemorySupply.refused_after}
 use Rattle.definitions.specs.Replicas.{Replica, Reaction, Reaction.fails, Standing, Standing.running}
 use Rattle.definitions.specs.Replicas.{Standing.stopped, Standing.cut_short, executes, on_step, on_ruling}
 use Rattle.definitions.specs.Replicas.{step}
@@ -246,9 +247,9 @@ module _ (sent : List Sent) where
   proposed-made self (took_block a ∷ c) j h e = proposed-made self c j h.1 e
   proposed-made self (noted n ∷ c) j h e = proposed-made self c j h.1 e
 
-  taken-made : (c : Chronicle) (a : Admitted) → AreMade sent c → Among a (taken c)
+  taken-made : (c : Chronicle) (a : Admitted) → AreMade sent c → Among a (taken_blocks c)
       → CommandsSent sent (core_of a.branch).commands × VotesSent sent a.certificate
-  unfolding taken
+  unfolding taken_blocks
   taken-made [] a h m = absurd m
   taken-made (st ∷ c) a h m =
       elim (taken-now st c a m) [
@@ -325,11 +326,11 @@ module _ (sent : List Sent) where
   -- ---- a step
 
   -- what a step leaves, and what it sends
-  record IsMadeAfter (self : Identity) (m : Memory) (r : Replica × Reaction) : Type 0 where
+  record IsMadeAfter (self : Identity) (m : MemorySupply) (r : Replica × Reaction) : Type 0 where
     chronicle : AreMade sent r.0.chronicle
     out : (o : Sending) → Among o (out_of self m r.1) → (me self ≡ sender_of self.sizes o.1) × Passed sent o.1
 
-  on_step-made : (self : Identity) (m : Memory) (st : Step) (c : Chronicle) → AreMade sent c
+  on_step-made : (self : Identity) (m : MemorySupply) (st : Step) (c : Chronicle) → AreMade sent c
       → IsMade sent st → IsMadeAfter self m (on_step self m st c)
   unfolding on_step
   on_step-made self ample st c h k =
@@ -353,7 +354,8 @@ module _ (sent : List Sent) where
       subst (λ (x : Sending). (me self ≡ sender_of self.sizes x.1) × Passed sent x.1) (sym i) (refl, tt)
   fetch-made self to d o (inr n) = absurd n
 
-  on_ruling-made : (self : Identity) (m : Memory) (v : Ruling) (c : Chronicle) → AreMade sent c → AllMade v
+  on_ruling-made : (self : Identity) (m : MemorySupply) (v : Ruling) (c : Chronicle) → AreMade sent c
+      → AllMade v
       → IsMadeAfter self m (on_ruling self m v c)
   unfolding on_ruling AllMade
   on_ruling-made self m (due st) c h k = on_step-made self m st c h k
@@ -366,7 +368,7 @@ module _ (sent : List Sent) where
   }
   on_ruling-made self m (refusing n) c h k = record { chronicle = h; out = λ o j. absurd j }
 
-  step-made : (self : Identity) (m : Memory) (i : Input) (r : Replica) → AreMade sent r.chronicle
+  step-made : (self : Identity) (m : MemorySupply) (i : Input) (r : Replica) → AreMade sent r.chronicle
       → IsMadeInput sent i → IsMadeAfter self m (step self m i r)
   unfolding step
   step-made self m i r h k = by r.standing
@@ -408,7 +410,7 @@ module _ (sent : List Sent) where
 -- ---- what an event does
 
 -- nothing to replicas, or a correct replica takes a recorded frame, a timeout or a beat, or a client submits
-data Moves (w : World) (e : Event) (m : Memory) : Effect → Type 0 where
+data Moves (w : World) (e : Event) (m : MemorySupply) : Effect → Type 0 where
   still : (f : Effect) → f.replica ≡ w.replica → f.out ≡ [] → Moves w e m f
   taking : (i : Input) → is_member w (party_of e) ≡ true
       → ((f : Frame) × (brought w e ≡ Some f) × (check (self_of w (party_of e)) f ≡ passes i))
@@ -416,15 +418,16 @@ data Moves (w : World) (e : Event) (m : Memory) : Effect → Type 0 where
       → Moves w e m (stepped w (party_of e) m (step (self_of w (party_of e)) m i (w.replica (party_of e))))
   asking : (c : ℕ) (payload : Bytes) → e ≡ submit c payload → Moves w e m (submits c m payload w)
 
-nothing-moves : (w : World) (e : Event) (m : Memory) (a : Option Fault) → Moves w e m (nothing w a)
+nothing-moves : (w : World) (e : Event) (m : MemorySupply) (a : Option Fault) → Moves w e m (nothing w a)
 unfolding nothing
 nothing-moves w e m a = still _ refl refl
 
-hears-moves : (w : World) (e : Event) (m : Memory) (c : ℕ) (f : Frame) → Moves w e m (hears c m f w)
+hears-moves : (w : World) (e : Event) (m : MemorySupply) (c : ℕ) (f : Frame) → Moves w e m (hears c m f w)
 unfolding told
 hears-moves w e m c f = still _ refl refl
 
-comes-moves : (w : World) (e : Event) (m : Memory) → w.is_faulty (party_of e) ≡ false → (o : Option Frame)
+comes-moves : (w : World) (e : Event) (m : MemorySupply) → w.is_faulty (party_of e) ≡ false
+    → (o : Option Frame)
     → brought w e ≡ o → Moves w e m (comes (party_of e) m o w)
 unfolding comes
 comes-moves w e m ok None b = nothing-moves w e m (Some fault.NotAFrame)
@@ -438,7 +441,8 @@ comes-moves w e m ok (Some f) b =
     checked (passes i) g r = taking i (and_from _ _ r (not_from_false _ ok)) (inl (f, b, g))
     checked (rejected n) g r = nothing-moves w e m (Some n)
 
-acts-moves : (w : World) (e : Event) (m : Memory) → refusal w e ≡ None → w.is_faulty (party_of e) ≡ false
+acts-moves : (w : World) (e : Event) (m : MemorySupply) → refusal w e ≡ None
+    → w.is_faulty (party_of e) ≡ false
     → Moves w e m (acts w e m)
 unfolding acts party_of brought
 acts-moves w (submit c payload) m n ok = asking c payload refl
@@ -449,7 +453,7 @@ acts-moves w (timeout r) m n ok =
 acts-moves w (beat r) m n ok =
     taking beat_in (and_from _ _ (named w (beat r) n) (not_from_false _ ok)) (inr (inr refl))
 
-effect-moves : (w : World) (e : Event) (m : Memory) → refusal w e ≡ None → Moves w e m (effect w (e, m))
+effect-moves : (w : World) (e : Event) (m : MemorySupply) → refusal w e ≡ None → Moves w e m (effect w (e, m))
 unfolding effect
 effect-moves w e m n = cond_both (w.is_faulty (party_of e)) (nothing w None) (acts w e m) (Moves w e m)
     (λ f. nothing-moves w e m None) (λ ok. acts-moves w e m n ok)
@@ -485,7 +489,7 @@ record KeepsMade (w : World) (e : Event) (f : Effect) : Type 0 where
   made : (p : ℕ) → is_member w p ≡ true → AreMade w.sent (f.replica p).chronicle
   out : (o : Sending) → Among o f.out → (party_of e ≡ sender_of w.sizes o.1) × Passed w.sent o.1
 
-stepped-made : (w : World) (e : Event) (m : Memory) (r : Replica × Reaction) → IsPassedOn w
+stepped-made : (w : World) (e : Event) (m : MemorySupply) (r : Replica × Reaction) → IsPassedOn w
     → is_member w (party_of e) ≡ true → IsMadeAfter w.sent (self_of w (party_of e)) m r
     → KeepsMade w e (stepped w (party_of e) m r)
 unfolding stepped
@@ -519,7 +523,7 @@ input-made w e i a d (inl b) =
 input-made w e i a d (inr (inl t)) = subst (IsMadeInput w.sent) (sym t) tt
 input-made w e i a d (inr (inr t)) = subst (IsMadeInput w.sent) (sym t) tt
 
-moves-made : (w : World) (e : Event) (m : Memory) (f : Effect) → IsPassedOn w → IsDelivered w e
+moves-made : (w : World) (e : Event) (m : MemorySupply) (f : Effect) → IsPassedOn w → IsDelivered w e
     → Moves w e m f → KeepsMade w e f
 moves-made w e m f a d (still g r o) = record {
   made = λ p mp. subst (λ (row : ℕ → Replica). AreMade w.sent (row p).chronicle) (sym r) (a.made p mp);
@@ -532,7 +536,8 @@ moves-made w e m f a d (asking c payload i) =
     asked-made w e c payload _ a i (submission-asked (client_of w c) m payload (w.session c))
 
 -- each event keeps it
-happens-passed : (w : World) (e : Event) (m : Memory) → IsPassedOn w → IsDelivered w e → refusal w e ≡ None
+happens-passed : (w : World) (e : Event) (m : MemorySupply) → IsPassedOn w → IsDelivered w e
+    → refusal w e ≡ None
     → IsPassedOn (happens w (e, m))
 unfolding happens
 happens-passed w e m a d ok = record {

@@ -11,7 +11,7 @@ use Rattle.definitions.specs.Frames.{Frame}
 use Rattle.definitions.specs.FrameLimits.{IsFrame}
 use Rattle.definitions.specs.Checks.{Identity}
 use Rattle.definitions.specs.Rulings.{Input, Input.timeout_in, Input.beat_in}
-use Rattle.definitions.specs.Replicas.{Memory, step}
+use Rattle.definitions.specs.Replicas.{MemorySupply, step}
 use Rattle.definitions.specs.Worlds.{World, Event, Event.submit, Event.relay, Event.inject, Event.timeout}
 use Rattle.definitions.specs.Worlds.{Event.beat, is_replica, is_correct, is_party, self_of}
 use Rattle.definitions.specs.Runs.{refusal, names_party}
@@ -33,7 +33,7 @@ pub record Brings (w : World) (e : Event) (i : Input) : Type 0 where
 abbrev pub Arises : World → Event → Input → Type 0
 Arises w e i = Brings w e i ⊎ ((i ≡ timeout_in) ⊎ (i ≡ beat_in))
 
-pub data Effects (w : World) (e : Event) (m : Memory) : Effect → Type 0 where
+pub data Effects (w : World) (e : Event) (m : MemorySupply) : Effect → Type 0 where
   idle : (a : Option Fault) → (a ≡ Some fault.Conflict → ⊥) → Effects w e m (nothing w a)
   step_by : (i : Input) → is_member w (party_of e) ≡ true → Arises w e i
       → Effects w e m
@@ -105,7 +105,7 @@ abbrev pub ComesFramed : World → Event → Type 0
 ComesFramed w e = (f : Frame) → brought w e ≡ Some f → IsFrame w.sizes f
 
 -- a frame comes
-comes-effects : (w : World) (e : Event) (m : Memory) → is_party w (party_of e) ≡ true
+comes-effects : (w : World) (e : Event) (m : MemorySupply) → is_party w (party_of e) ≡ true
     → w.is_faulty (party_of e) ≡ false → ComesFramed w e → (o : Option Frame) → brought w e ≡ o
     → Effects w e m (comes (party_of e) m o w)
 unfolding comes
@@ -122,7 +122,7 @@ comes-effects w e m pa ok rd (Some f) b =
         (inl (record { frame = f; brings = b; is_frame = rd f b; good = g }))
     checked (rejected n) g r = idle (Some n) (check-bad (self_of w (party_of e)) f n g)
 
-acts-effects : (w : World) (e : Event) (m : Memory) → ComesFramed w e → refusal w e ≡ None
+acts-effects : (w : World) (e : Event) (m : MemorySupply) → ComesFramed w e → refusal w e ≡ None
     → w.is_faulty (party_of e) ≡ false → Effects w e m (acts w e m)
 unfolding acts party_of brought
 acts-effects w (submit c payload) m rd n ok = submitting c payload refl ok
@@ -135,7 +135,7 @@ acts-effects w (timeout r) m rd n ok =
 acts-effects w (beat r) m rd n ok =
     step_by beat_in (and_from _ _ (named w (beat r) n) (not_from_false _ ok)) (inr (inr refl))
 
-pub effects : (w : World) (e : Event) (m : Memory) → ComesFramed w e → refusal w e ≡ None
+pub effects : (w : World) (e : Event) (m : MemorySupply) → ComesFramed w e → refusal w e ≡ None
     → Effects w e m (effect w (e, m))
 unfolding effect
 effects w e m rd n = cond_both (w.is_faulty (party_of e)) (nothing w None) (acts w e m) (Effects w e m)

@@ -25,7 +25,7 @@ use Rattle.definitions.proofs.Spellings.{command_content_injective}
 use Rattle.definitions.specs.Histories.{Entry, History, history_of, Answer, answers, is_fresh}
 use Rattle.definitions.specs.Chronicles.{executed, history}
 use Rattle.definitions.specs.Sendings.{Sending}
-use Rattle.definitions.specs.Replicas.{Memory}
+use Rattle.definitions.specs.Replicas.{MemorySupply}
 use Rattle.definitions.specs.Sessions.{Receipt}
 use Rattle.definitions.specs.Worlds.{World, Sent, AcceptedBy, Event, new_world}
 use Rattle.definitions.specs.Runs.{refusal}
@@ -65,7 +65,7 @@ same-client a b e = omega arith
 
 module _ (Known : Core → Type 0) where
   -- each event keeps the account
-  pub account-happens : (w : World) (e : Event) (m : Memory) → IsGood Known w → IsHonest Known w e
+  pub account-happens : (w : World) (e : Event) (m : MemorySupply) → IsGood Known w → IsHonest Known w e
       → refusal w e ≡ None → IsAccount w → IsAccount (happens w (e, m))
   unfolding happens
   account-happens w e m g honest ok a = record {

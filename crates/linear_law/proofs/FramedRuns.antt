@@ -24,7 +24,8 @@ use Rattle.definitions.specs.States.{me, leaf}
 use Rattle.definitions.specs.Rulings.{Input, Ruling, Ruling.due, Ruling.missing, Ruling.refusing, ruling}
 use Rattle.definitions.specs.Rulings.{conflicts}
 use Rattle.definitions.specs.Sendings.{To.to_party, Sending, fetch_frame}
-use Rattle.definitions.specs.Replicas.{Memory, Memory.ample, Memory.refused_at_once, Memory.refused_after}
+use Rattle.definitions.specs.Replicas.{MemorySupply, MemorySupply.ample, MemorySupply.refused_at_once}
+use Rattle.definitions.specs.Replicas.{MemorySupply.refused_after}
 use Rattle.definitions.specs.Replicas.{Replica, Standing, Standing.running, Standing.stopped}
 use Rattle.definitions.specs.Replicas.{Standing.cut_short, Reaction, Reaction.sends_out, Reaction.fails}
 use Rattle.definitions.specs.Replicas.{Reaction.asks_for, executes, on_step, on_ruling, step}
@@ -60,7 +61,7 @@ AsksRightly (sends_out out) = ⊤
 AsksRightly (fails n) = ⊤
 
 -- a step that is to stand asks for nothing
-on_step-asks : (self : Identity) (m : Memory) (st : Step) (c : Chronicle)
+on_step-asks : (self : Identity) (m : MemorySupply) (st : Step) (c : Chronicle)
     → AsksRightly (on_step self m st c).1
 unfolding on_step
 on_step-asks self ample st c =
@@ -71,7 +72,7 @@ on_step-asks self (refused_after k) st c =
     (λ e. cond_both (executes st c) _ _ (λ (r : Replica × Reaction). AsksRightly r.1) (λ x. tt) (λ x. tt))
 
 -- the whole step
-pub step-asks : (self : Identity) (m : Memory) (i : Input) (r : Replica)
+pub step-asks : (self : Identity) (m : MemorySupply) (i : Input) (r : Replica)
     → IsStoredRuling self r.chronicle (ruling self i r.chronicle) → AsksRightly (step self m i r).1
 unfolding step on_ruling
 step-asks self m i r h = by r.standing
@@ -98,14 +99,14 @@ abbrev SendsKnown : (Core → Type 0) → Sizes → List Sending → Type 0
 SendsKnown Known s out = (o : Sending) → Among o out → (x : Core) → CoreOf x o.1 → IsCore s x → Known x
 
 -- what a step leaves
-record IsFramedAfter (Known : Core → Type 0) (self : Identity) (m : Memory) (r : Replica × Reaction) :
+record IsFramedAfter (Known : Core → Type 0) (self : Identity) (m : MemorySupply) (r : Replica × Reaction) :
     Type 0 where
   stored : AreStored self r.0.chronicle
   leaf : r.0.standing ≡ running → IsLeafKnown Known self r.0.chronicle
   out : (o : Sending) → Among o (out_of self m r.1) → IsFrame self.sizes o.1
 
 -- the question for a block that was lacking
-pub lacks-fit : (self : Identity) (m : Memory) (sender : ℕ) (d : Bytes) (o : Sending)
+pub lacks-fit : (self : Identity) (m : MemorySupply) (sender : ℕ) (d : Bytes) (o : Sending)
     → me self < replicas self.sizes → IsDigest d → Among o (out_of self m (asks_for sender d))
     → IsFrame self.sizes o.1
 lacks-fit self m sender d o number h =
@@ -121,7 +122,7 @@ lacks-fit self m sender d o number h =
 
 module _ (Known : Core → Type 0) (apart : NoCollision Known) (genesis : Known genesis_core) where
   -- each outcome leaves it so
-  after-framed : (self : Identity) (m : Memory) (v : Ruling) (before : Replica) (r : Replica × Reaction)
+  after-framed : (self : Identity) (m : MemorySupply) (v : Ruling) (before : Replica) (r : Replica × Reaction)
       → ((c : Core) → Known c → IsCoreOrGenesis self.sizes c) → me self < replicas self.sizes
       → IsGrown Known self before.chronicle
       → (before.standing ≡ running → IsLeafKnown Known self before.chronicle)
@@ -184,7 +185,7 @@ payload-short payload h = by (request_of payload) refl h
         length-canonical r k.0 in let n = ap (λ (b : Bytes). length b) k.1 in omega (arith, l, n)
 
 -- the request that goes out
-pub submission-fits : (c : Client) (m : Memory) (payload : Bytes) (s : Session) (o : Sending)
+pub submission-fits : (c : Client) (m : MemorySupply) (payload : Bytes) (s : Session) (o : Sending)
     → c.number < c.sizes.clients → s.used < 2 ^ 64 → length payload ≤ MOST_PAYLOAD
     → Among o (submitted_out (submission c m payload s).1) → IsFrame c.sizes o.1
 unfolding submission request_frame
@@ -256,7 +257,7 @@ member-number w p made mp =
 
 module _ (Known : Core → Type 0) (apart : NoCollision Known) (genesis : Known genesis_core) where
   -- a member's step
-  step-framed : (w : World) (e : Event) (m : Memory) (i : Input) → IsGood Known w → IsHonest Known w e
+  step-framed : (w : World) (e : Event) (m : MemorySupply) (i : Input) → IsGood Known w → IsHonest Known w e
       → IsFramed Known w → is_member w (party_of e) ≡ true → Arises w e i → (r : Replica × Reaction)
       → step (self_of w (party_of e)) m i (w.replica (party_of e)) ≡ r
       → SendsKnown Known w.sizes (out_of (self_of w (party_of e)) m r.1)
@@ -285,7 +286,7 @@ module _ (Known : Core → Type 0) (apart : NoCollision Known) (genesis : Known 
       (step-outcome self m i (w.replica p) (arises-checked w e i ar) so))
 
   -- a member's step in the world
-  stepped-framed : (w : World) (p : ℕ) (m : Memory) (r : Replica × Reaction) → IsFramed Known w
+  stepped-framed : (w : World) (p : ℕ) (m : MemorySupply) (r : Replica × Reaction) → IsFramed Known w
       → IsFramedAfter Known (self_of w p) m r → IsFramedEffect Known w (stepped w p m r)
   unfolding stepped
   stepped-framed w p m r a k = record {
@@ -300,7 +301,7 @@ module _ (Known : Core → Type 0) (apart : NoCollision Known) (genesis : Known 
   }
 
   -- each effect keeps it
-  effect-framed : (w : World) (e : Event) (m : Memory) (f : Effect) → IsGood Known w → IsAccount w
+  effect-framed : (w : World) (e : Event) (m : MemorySupply) (f : Effect) → IsGood Known w → IsAccount w
       → IsHonest Known w e → IsFramed Known w → refusal w e ≡ None → SendsKnown Known w.sizes f.out
       → Effects w e m f → IsFramedEffect Known w f
   unfolding nothing told submitted stepped
@@ -321,7 +322,7 @@ module _ (Known : Core → Type 0) (apart : NoCollision Known) (genesis : Known 
   }
 
   -- each event keeps it
-  pub happens-framed : (w : World) (e : Event) (m : Memory) → IsGood Known w → IsAccount w
+  pub happens-framed : (w : World) (e : Event) (m : MemorySupply) → IsGood Known w → IsAccount w
       → IsHonest Known w e → IsFramed Known w → refusal w e ≡ None
       → ((s : Sent) → Among s (happens w (e, m)).sent → (x : Core) → CoreOf x s.frame → IsCore w.sizes x
       → Known x) → IsFramed Known (happens w (e, m))

@@ -24,7 +24,7 @@ use Rattle.ids.specs.Sizes.{client_party}
 use Rattle.definitions.specs.Digests.{digest_of, core_of}
 use Rattle.definitions.specs.Chronicles.{Admitted, Step, Step.took_block, Step.noted, Note.got_vote}
 use Rattle.definitions.specs.Chronicles.{Note.got_new_view, Chronicle, tree, history}
-use Rattle.definitions.specs.Checks.{Identity, Findings, findings, counted, is_good, vote_verifies}
+use Rattle.definitions.specs.Checks.{Identity, Findings, findings, counted_voters, is_good, vote_verifies}
 use Rattle.definitions.specs.Checks.{command_verifies, is_clear_core}
 use Rattle.definitions.specs.States.{is_due, pending, is_same_request}
 use Rattle.definitions.specs.Rulings.{Input, Input.proposal_in, Input.block_in, Input.vote_in}
@@ -172,9 +172,9 @@ counted-claimed-in self q (b ∷ bs) v (inl e) = (
 )
 counted-claimed-in self q (b ∷ bs) v (inr k) = let r = counted-claimed-in self q bs v k in (r.0, inr r.1, r.2)
 
-counted-claimed : (self : Identity) (q : Certificate) (v : ℕ) → Among v (counted self q)
+counted-claimed : (self : Identity) (q : Certificate) (v : ℕ) → Among v (counted_voters self q)
     → (x : Claim) × Among x (vote_claims self q) × IsVoteTag self q v x
-unfolding counted
+unfolding counted_voters
 counted-claimed self q v m = counted-claimed-in self q (filter (vote_verifies self q.digest) q.votes) v m
 
 -- each command of a clear core is a tag that was found right
@@ -215,7 +215,7 @@ pub record IsCarried (self : Identity) (f : Frame) (core : Core) (q : Certificat
 proposal-carried : (self : Identity) (view : ℕ) (core : Core) (q : Certificate) (v : Bytes)
     → IsFrame self.sizes (frame.proposal view core q v) → is_good self q ≡ true
     → IsCarried self (frame.proposal view core q v) core q (findings self core q)
-unfolding accepted_tags IsVoteTag IsCommandTag counted
+unfolding accepted_tags IsVoteTag IsCommandTag counted_voters
 proposal-carried self view core q v fr g = record {
   checked = block-checked self core q fr.1 fr.2 g;
   core_is = fr.1;
@@ -232,7 +232,7 @@ proposal-carried self view core q v fr g = record {
 block-carried : (self : Identity) (sender : ℕ) (core : Core) (q : Certificate) (t : Bytes)
     → IsFrame self.sizes (frame.block sender core q t) → is_good self q ≡ true
     → IsCarried self (frame.block sender core q t) core q (findings self core q)
-unfolding accepted_tags IsVoteTag IsCommandTag counted
+unfolding accepted_tags IsVoteTag IsCommandTag counted_voters
 block-carried self sender core q t fr g = record {
   checked = block-checked self core q fr.1 fr.2 g;
   core_is = fr.1;

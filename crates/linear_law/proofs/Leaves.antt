@@ -19,7 +19,7 @@ use Rattle.definitions.specs.Chronicles.{Step, Step.took_block, Step.noted, Note
 use Rattle.definitions.specs.Chronicles.{Note.got_request, Note.timed_out, Note.beat, Chronicle, tree}
 use Rattle.definitions.specs.Chronicles.{history}
 use Rattle.definitions.specs.Checks.{Identity}
-use Rattle.definitions.specs.States.{known_as, announcements, announced, reached, view, raised, qc_high}
+use Rattle.definitions.specs.States.{known_as, announcements, announced, reached_view, view, raised, qc_high}
 use Rattle.definitions.specs.States.{is_same_request, is_due, with_request, pending, leads, find_block}
 use Rattle.definitions.specs.States.{is_known, picks, child, leaf, or_else}
 use Rattle.std.proofs.lemmas.Option.{same_Some}
@@ -45,8 +45,8 @@ greatest-below n [] l h = l
 greatest-below n (x ∷ xs) l h = let k = greatest-below n xs l h.1 in let j = h.0 in omega (arith, k, j)
 
 -- so does the view that was reached
-reached-fits : (self : Identity) (c : Chronicle) → AreStored self c → reached self.sizes c < 2 ^ 64
-unfolding reached
+reached-fits : (self : Identity) (c : Chronicle) → AreStored self c → reached_view self.sizes c < 2 ^ 64
+unfolding reached_view
 reached-fits self c h =
     greatest-below (2 ^ 64) (filter
     (λ v. nat_lt self.sizes.faults (count_below (replicas self.sizes) (λ i. nat_le v (announced i c))))

@@ -24,7 +24,7 @@ use Rattle.definitions.specs.Keyrings.{Keyring}
 use Rattle.definitions.proofs.Spellings.{command_content_injective}
 use Rattle.definitions.specs.Digests.{AllKnown, NoCollision}
 use Rattle.definitions.specs.Histories.{Entry}
-use Rattle.definitions.specs.Chronicles.{tree, taken, executed, history, stored}
+use Rattle.definitions.specs.Chronicles.{tree, taken_blocks, executed, history, stored_blocks}
 use Rattle.definitions.specs.Worlds.{World, Happening, new_world}
 use Rattle.definitions.specs.Runs.{refusal}
 use Rattle.definitions.specs.Events.{happens}
@@ -83,7 +83,7 @@ module _ (Known : Core → Type 0) (apart : NoCollision Known) (genesis : Known 
 
 pub new-row : (Known : Core → Type 0) (sizes : Sizes) (is_member : ℕ → Bool)
     → IsRow Known sizes is_member (λ i. [])
-unfolding tree stored taken steps_of
+unfolding tree stored_blocks taken_blocks steps_of
 new-row Known sizes is_member = record {
   sound = λ p m. record {
     is_tree = record {
@@ -118,7 +118,7 @@ IsMade sizes is_faulty ring =
 pub new-good : (Known : Core → Type 0) (sizes : Sizes) (is_faulty : ℕ → Bool) (ring : ℕ → Keyring)
     → IsMade sizes is_faulty ring → ((c : Core) → Known c → (c ≡ genesis_core) ⊎ IsCore sizes c)
     → IsGood Known (new_world sizes is_faulty ring)
-unfolding new_world taken
+unfolding new_world taken_blocks
 new-good Known sizes is_faulty ring m cores = record {
   run = record { row = new-row Known sizes _; votes = λ s k. absurd k };
   made = record { rings = m.0; enough = m.1 };

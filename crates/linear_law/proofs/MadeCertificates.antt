@@ -15,7 +15,7 @@ use Rattle.definitions.specs.FrameLimits.{IsVote, IsCertificate}
 use Rattle.definitions.specs.Branches.{Branch}
 use Rattle.definitions.specs.Digests.{digest, digest_of}
 use Rattle.definitions.specs.Chronicles.{Admitted, Step, Step.took_block, Step.noted, Note.got_vote}
-use Rattle.definitions.specs.Chronicles.{Note.got_new_view, Chronicle, taken, tree, IsLawful}
+use Rattle.definitions.specs.Chronicles.{Note.got_new_view, Chronicle, taken_blocks, tree, IsLawful}
 use Rattle.definitions.specs.Checks.{Identity, is_good, is_genesis, vote_verifies}
 use Rattle.definitions.specs.States.{votes, by_voter, Justified, raised, higher, qc_high}
 use Rattle.definitions.proofs.Chronicles.{tree-genesis, tree-grows, taken-tree, tree-just1}
@@ -125,7 +125,7 @@ AllRaised self c (Some j) = IsRaised self c j
 -- each step of a chronicle whose steps came in frames
 raised-all : (self : Identity) (st : Step) (c : Chronicle) → IsLawful self.sizes (st ∷ c)
     → AreStored self (st ∷ c) → AllRaised self (st ∷ c) (raised self.sizes st c)
-unfolding raised taken
+unfolding raised taken_blocks
 raised-all self (took_block a) c l h =
     cond_both a.new _ _ (AllRaised self (took_block a ∷ c))
     (λ e. record {
@@ -134,7 +134,7 @@ raised-all self (took_block a) c l h =
       justified = h.0.justified;
       among = tree-just1 self.sizes (took_block a ∷ c) l a.branch
           (taken-tree (took_block a ∷ c) a (subst (λ (xs : List Admitted). Among a xs)
-          (sym (cond-true a.new (a ∷ taken c) (taken c) e)) (inl refl)));
+          (sym (cond-true a.new (a ∷ taken_blocks c) (taken_blocks c) e)) (inl refl)));
     })
     (λ e. tt)
 raised-all self (noted (got_vote voter v b)) c l h =

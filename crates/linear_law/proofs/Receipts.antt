@@ -32,7 +32,7 @@ use Rattle.definitions.specs.Chronicles.{history}
 use Rattle.definitions.specs.Checks.{Identity}
 use Rattle.definitions.specs.Rulings.{Ruling}
 use Rattle.definitions.specs.Sendings.{Sending, To.to_party, fetch_frame}
-use Rattle.definitions.specs.Replicas.{Memory, Replica, Reaction, held_history}
+use Rattle.definitions.specs.Replicas.{MemorySupply, Replica, Reaction, held_history}
 use Rattle.definitions.specs.Sessions.{Client, Session, Heard, Heard.not_counted, Receipt, Submitted}
 use Rattle.definitions.specs.Sessions.{Submitted.sent_request, is_ample, submission, request_frame}
 use Rattle.definitions.specs.Sessions.{on_reply, count_reply}
@@ -72,7 +72,7 @@ fetch-reply self sender d h o (inr m) r c s p x t k = absurd m
 nothing-replies : (h : History) (o : Sending) → Among o [] → ReplyStands h o
 nothing-replies h o m = absurd m
 
-outcome-replies : (self : Identity) (m : Memory) (v : Ruling) (old : Replica) (r : Replica × Reaction)
+outcome-replies : (self : Identity) (m : MemorySupply) (v : Ruling) (old : Replica) (r : Replica × Reaction)
     → Outcome self old.chronicle v old r → (o : Sending) → Among o (out_of self m r.1)
     → ReplyStands (held_history r.0) o
 unfolding held_history
@@ -100,7 +100,7 @@ put-held-own : (p : ℕ) (r : Replica) (row : ℕ → Replica) (P : History → 
 put-held-own p r row P h = cond_both (p == p) r (row p) (λ (x : Replica). P (held_history x)) (λ e. h)
     (λ e. absurd (true≢false (sym (eq-eqb p p refl) ∙ e)))
 
-step-held : (w : World) (e : Event) (m : Memory) (r : Replica × Reaction) (v : Ruling)
+step-held : (w : World) (e : Event) (m : MemorySupply) (r : Replica × Reaction) (v : Ruling)
     → Outcome (self_of w (party_of e)) (chronicles w (party_of e)) v (w.replica (party_of e)) r
     → KeepsHeld w e (stepped w (party_of e) m r)
 unfolding stepped
@@ -112,7 +112,7 @@ step-held w e m r v o = record {
       (outcome-replies (self_of w (party_of e)) m v (w.replica (party_of e)) r o x k);
 }
 
-submit-replies : (me : Client) (m : Memory) (payload : Bytes) (s : Session) (h : History) (o : Sending)
+submit-replies : (me : Client) (m : MemorySupply) (payload : Bytes) (s : Session) (h : History) (o : Sending)
     → Among o (submitted_out (submission me m payload s).1) → ReplyStands h o
 unfolding submission request_frame
 submit-replies me m payload s h o =
@@ -131,7 +131,7 @@ submit-replies me m payload s h o =
     request (inr n) r c q p x t k = absurd n
 
 module _ (Known : Core → Type 0) where
-  pub effect-held : (w : World) (e : Event) (m : Memory) (f : Effect) → IsRun Known w → Effects w e m f
+  pub effect-held : (w : World) (e : Event) (m : MemorySupply) (f : Effect) → IsRun Known w → Effects w e m f
       → KeepsHeld w e f
   unfolding nothing told submitted
   effect-held w e m f run (idle a h) = record { grows = λ i. ([], refl); out = λ me o k. absurd k }
@@ -142,7 +142,7 @@ module _ (Known : Core → Type 0) where
   effect-held w e m f run (submitting c payload i ok) =
       record { grows = λ j. ([], refl); out = λ me o k. submit-replies _ m payload _ _ o k }
 
-  pub happens-replies : (w : World) (e : Event) (m : Memory) → IsRun Known w → IsHonest Known w e
+  pub happens-replies : (w : World) (e : Event) (m : MemorySupply) → IsRun Known w → IsHonest Known w e
       → refusal w e ≡ None → RepliesStand w → RepliesStand (happens w (e, m))
   unfolding happens
   happens-replies w e m run honest ok old s n me =
@@ -358,7 +358,7 @@ unheard : (w : World) (cl : ℕ) (s : Session) (n : Fault) → SessionStands w c
     → HeardWell w cl (s, not_counted n)
 unheard w cl s n h = record { session = h; receipt = λ r m. absurd m }
 
-pub reply-well : (w : World) (e : Event) (m : Memory) (f : Frame) (s : Session) → RepliesStand w
+pub reply-well : (w : World) (e : Event) (m : MemorySupply) (f : Frame) (s : Session) → RepliesStand w
     → AnswersFit w → NoForgeryIn w e → IsMadeWell w → IsFrame w.sizes f → brought w e ≡ Some f
     → is_replica w (party_of e) ≡ false → w.is_faulty (party_of e) ≡ false → 256 ≤ party_of e
     → SessionStands w (client_at (party_of e)) s

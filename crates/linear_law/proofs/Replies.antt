@@ -13,7 +13,7 @@ use Rattle.definitions.specs.Frames.{Frame}
 use Rattle.definitions.specs.Branches.{Branch, just3, Extends, extends, highest}
 use Rattle.definitions.specs.Bytes.{Bytes}
 use Rattle.definitions.specs.Histories.{Entry, History, Answer, answers, is_fresh}
-use Rattle.definitions.specs.Chronicles.{Admitted, Step, Step.took_block, Step.noted, Chronicle, taken}
+use Rattle.definitions.specs.Chronicles.{Admitted, Step, Step.took_block, Step.noted, Chronicle, taken_blocks}
 use Rattle.definitions.specs.Chronicles.{decided, decided_by, decides, executed, history}
 use Rattle.definitions.specs.Checks.{Identity}
 use Rattle.definitions.specs.States.{view}
@@ -69,8 +69,8 @@ executed-step a c false e h = ([], refl)
 
 pub executed-grows : (st : Step) (c : Chronicle) → conflicts st c ≡ false
     → Extends (executed (st ∷ c)) (executed c)
-unfolding conflicts executed decided taken
-executed-grows (took_block a) c h = executed-step a (taken c) a.new refl h
+unfolding conflicts executed decided taken_blocks
+executed-grows (took_block a) c h = executed-step a (taken_blocks c) a.new refl h
 executed-grows (noted n) c h = ([], refl)
 
 pub history-grows : (st : Step) (c : Chronicle) → conflicts st c ≡ false

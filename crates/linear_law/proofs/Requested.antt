@@ -19,10 +19,10 @@ use Rattle.definitions.specs.Frames.{Command, Core, Frame, command_content}
 use Rattle.definitions.specs.FrameLimits.{IsCommand}
 use Rattle.ids.specs.Sizes.{client_party}
 use Rattle.definitions.specs.Digests.{core_of}
-use Rattle.definitions.specs.Chronicles.{Admitted, Step, Step.took_block, Chronicle, taken}
+use Rattle.definitions.specs.Chronicles.{Admitted, Step, Step.took_block, Chronicle, taken_blocks}
 use Rattle.definitions.specs.Checks.{Identity}
 use Rattle.definitions.specs.Rulings.{Input, Ruling, ruling}
-use Rattle.definitions.specs.Replicas.{Memory, Replica, Reaction, step}
+use Rattle.definitions.specs.Replicas.{MemorySupply, Replica, Reaction, step}
 use Rattle.definitions.specs.Worlds.{World, Sent, Event, self_of}
 use Rattle.definitions.specs.Runs.{refusal}
 use Rattle.definitions.specs.Events.{Effect, nothing, stepped, told, submitted, party_of, effect, happens}
@@ -45,7 +45,8 @@ RequestsFit w =
 
 abbrev pub AllRequested : World → List Sent → Chronicle → Type 0
 AllRequested w sent c =
-    (a : Admitted) → Among a (taken c) → a.clear ≡ true → (k : Command) → Among k (core_of a.branch).commands
+    (a : Admitted) → Among a (taken_blocks c) → a.clear ≡ true → (k : Command)
+    → Among k (core_of a.branch).commands
     → w.is_faulty (client_party k.client) ≡ false → WasRequested sent k
 
 request-tag : (x : Claim) (s : Sent) (f : Frame) → x.label ≡ kind.Request → IsTagOf x s f
@@ -100,7 +101,8 @@ module _ (Known : Core → Type 0) where
   outcome-requested w e i v r honest me ar f old (cut st n u x h) =
       took-step w e i honest me ar st (subst (AllStanding (FromInput i)) x f) old
 
-  effect-requested : (w : World) (e : Event) (m : Memory) (f : Effect) → IsRun Known w → IsHonest Known w e
+  effect-requested : (w : World) (e : Event) (m : MemorySupply) (f : Effect) → IsRun Known w
+      → IsHonest Known w e
       → Effects w e m f → ((p : ℕ) → is_member w p ≡ true → AllRequested w w.sent (chronicles w p))
       → (p : ℕ) → is_member w p ≡ true → AllRequested w w.sent (f.replica p).chronicle
   unfolding nothing stepped told submitted
@@ -119,7 +121,7 @@ module _ (Known : Core → Type 0) where
   effect-requested w e m f run honest (submitting c payload i ok) old = old
 
   -- each event keeps it
-  pub happens-requested : (w : World) (e : Event) (m : Memory) → IsRun Known w → IsHonest Known w e
+  pub happens-requested : (w : World) (e : Event) (m : MemorySupply) → IsRun Known w → IsHonest Known w e
       → refusal w e ≡ None → ((p : ℕ) → is_member w p ≡ true → AllRequested w w.sent (chronicles w p))
       → (p : ℕ) → is_member w p ≡ true
       → AllRequested (happens w (e, m)) (happens w (e, m)).sent (chronicles (happens w (e, m)) p)
@@ -133,7 +135,7 @@ module _ (Known : Core → Type 0) where
 
 -- each block that was taken is stored with the core of its branch
 abbrev pub StoresCores : Chronicle → Type 0
-StoresCores c = (a : Admitted) → Among a (taken c) → core_of a.branch ≡ a.core
+StoresCores c = (a : Admitted) → Among a (taken_blocks c) → core_of a.branch ≡ a.core
 
 took-stored : (i : Input) (st : Step) (c : Chronicle) → FromInput i st → StoresCores c → StoresCores (st ∷ c)
 took-stored i st c f old a m =
@@ -155,7 +157,7 @@ outcome-stored self i v before r f old (cut st n u x h) =
     took-stored i st before.chronicle (subst (AllStanding (FromInput i)) x f) old
 
 module _ (Known : Core → Type 0) where
-  effect-stored : (w : World) (e : Event) (m : Memory) (f : Effect) → IsRun Known w → Effects w e m f
+  effect-stored : (w : World) (e : Event) (m : MemorySupply) (f : Effect) → IsRun Known w → Effects w e m f
       → ((p : ℕ) → is_member w p ≡ true → StoresCores (chronicles w p)) → (p : ℕ) → is_member w p ≡ true
       → StoresCores (f.replica p).chronicle
   unfolding nothing stepped told submitted
@@ -174,7 +176,7 @@ module _ (Known : Core → Type 0) where
   effect-stored w e m f run (submitting c payload i ok) old = old
 
   -- each event keeps it
-  pub happens-stored : (w : World) (e : Event) (m : Memory) → IsRun Known w → ComesFramed w e
+  pub happens-stored : (w : World) (e : Event) (m : MemorySupply) → IsRun Known w → ComesFramed w e
       → refusal w e ≡ None → ((p : ℕ) → is_member w p ≡ true → StoresCores (chronicles w p)) → (p : ℕ)
       → is_member w p ≡ true → StoresCores (chronicles (happens w (e, m)) p)
   unfolding happens

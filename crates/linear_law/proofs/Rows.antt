@@ -12,8 +12,9 @@ use Rattle.definitions.specs.Branches.{Branch, just1, Extends}
 use Rattle.ids.specs.Sizes.{Sizes}
 use Rattle.definitions.specs.Digests.{digest_of, core_of, AllKnown, NoCollision}
 use Rattle.definitions.specs.Trees.{blocks}
-use Rattle.definitions.specs.Chronicles.{Admitted, Step, Step.took_block, Step.noted, Chronicle, voted}
-use Rattle.definitions.specs.Chronicles.{taken, tree, IsLawful, IsLawfulTake, IsSound, stored, stored_of}
+use Rattle.definitions.specs.Chronicles.{Admitted, Step, Step.took_block, Step.noted, Chronicle, voted_blocks}
+use Rattle.definitions.specs.Chronicles.{taken_blocks, tree, IsLawful, IsLawfulTake, IsSound, stored_blocks}
+use Rattle.definitions.specs.Chronicles.{stored_block}
 use Rattle.definitions.specs.Agreement.{Order, steps_of, IsBacked, IsOrderly}
 
 abbrev pub put_row : ℕ → Chronicle → (ℕ → Chronicle) → ℕ → Chronicle
@@ -41,7 +42,7 @@ pub record MayFollow (Known : Core → Type 0) (is_member : ℕ → Bool) (row :
     Type 0 where
   pub known : a.new ≡ true → Known (core_of a.branch)
   pub votes : (v : ℕ) → Among v a.counted → is_member v ≡ true
-      → (x : Branch) × Among x (voted (row v)) × (digest_of x ≡ digest_of (just1 a.branch))
+      → (x : Branch) × Among x (voted_blocks (row v)) × (digest_of x ≡ digest_of (just1 a.branch))
 
 abbrev pub StepMayFollow : (Core → Type 0) → (ℕ → Bool) → (ℕ → Chronicle) → Step → Type 0
 StepMayFollow Known is_member row (took_block a) = MayFollow Known is_member row a
@@ -65,8 +66,8 @@ taken-known Known need a c l old k =
 
 pub step-known : (Known : Core → Type 0) (a : Admitted) (c : Chronicle) (t : Bool) → a.new ≡ t
     → (a.new ≡ true → AllKnown Known a.branch)
-    → ((b : Branch) → Among b (blocks (map stored_of (taken c))) → AllKnown Known b) → (b : Branch)
-    → Among b (blocks (map stored_of (cond t (a ∷ taken c) (taken c)))) → AllKnown Known b
+    → ((b : Branch) → Among b (blocks (map stored_block (taken_blocks c))) → AllKnown Known b) → (b : Branch)
+    → Among b (blocks (map stored_block (cond t (a ∷ taken_blocks c) (taken_blocks c)))) → AllKnown Known b
 step-known Known a c true e here old b (inl i) = subst (AllKnown Known) (sym i) (here e)
 step-known Known a c true e here old b (inr m) = old b m
 step-known Known a c false e here old b m = old b m
@@ -75,7 +76,7 @@ pub grows-known : (Known : Core → Type 0) (need : Sizes) (st : Step) (is_membe
     (row : ℕ → Chronicle) (c : Chronicle) → IsLawful need (st ∷ c)
     → StepMayFollow Known is_member row st → ((b : Branch) → Among b (tree c) → AllKnown Known b)
     → (b : Branch) → Among b (tree (st ∷ c)) → AllKnown Known b
-unfolding tree stored taken
+unfolding tree stored_blocks taken_blocks
 grows-known Known need (took_block a) is_member row c l f old =
     step-known Known a c a.new refl (λ n. taken-known Known need a c (l.0.1 n) old (f.known n)) old
 grows-known Known need (noted n) is_member row c l f old = old
@@ -97,8 +98,8 @@ module _ (Known : Core → Type 0) (apart : NoCollision Known) (genesis : Known 
       all_known-below Known a.branch (just1 a.branch) kb (just1-extends a.branch) in
       let e : x.0 ≡ just1 a.branch =
       digest_of-one Known apart genesis ground x.0 (just1 a.branch) kx kj x.2 in
-      subst (λ (c : Chronicle). Among (just1 a.branch) (voted c)) (sym (r.orderly.whole v mv))
-      (subst (λ (y : Branch). Among y (voted (row v))) e x.1)
+      subst (λ (c : Chronicle). Among (just1 a.branch) (voted_blocks c)) (sym (r.orderly.whole v mv))
+      (subst (λ (y : Branch). Among y (voted_blocks (row v))) e x.1)
   grows-backed sizes is_member row r p m (noted n) so f = tt
 
   whole-step : (p : ℕ) (st : Step) (o : Order) (row : ℕ → Chronicle) (i : ℕ) → steps_of i o ≡ row i

@@ -28,14 +28,15 @@ use Rattle.definitions.specs.Bytes.{Bytes}
 use Rattle.ids.specs.Sizes.{replicas, quorum}
 use Rattle.definitions.specs.Keyrings.{verify}
 use Rattle.definitions.specs.Digests.{digest_of, NoCollision}
-use Rattle.definitions.specs.Chronicles.{Admitted, Step, Step.took_block, Step.noted, Chronicle, voted}
-use Rattle.definitions.specs.Chronicles.{taken, decided, decided_by, decides, executed, IsSound}
+use Rattle.definitions.specs.Chronicles.{Admitted, Step, Step.took_block, Step.noted, Chronicle, voted_blocks}
+use Rattle.definitions.specs.Chronicles.{taken_blocks, decided, decided_by, decides, executed, IsSound}
 use Rattle.definitions.specs.Checks.{Identity, Findings}
 use Rattle.definitions.specs.States.{view}
 use Rattle.definitions.specs.Rulings.{Input, Ruling, Ruling.due, conflicts, ruling}
 use Rattle.definitions.specs.Sendings.{Sending, To, To.to_all, To.to_party, sendings, reply_to, vote_frame}
 use Rattle.definitions.specs.Sendings.{block_frame, new_view_frame, proposal_frame, fetch_frame}
-use Rattle.definitions.specs.Replicas.{Memory, Replica, Reaction, Reaction.sends_out, Reaction.asks_for, step}
+use Rattle.definitions.specs.Replicas.{MemorySupply, Replica, Reaction, Reaction.sends_out}
+use Rattle.definitions.specs.Replicas.{Reaction.asks_for, step}
 use Rattle.definitions.specs.Worlds.{World, Sent, Event, self_of, put}
 use Rattle.definitions.specs.Runs.{refusal}
 use Rattle.definitions.specs.Events.{Effect, nothing, stepped, out_of, answer_of, brought, party_of, effect}
@@ -56,7 +57,7 @@ pub record IsRun (Known : Core → Type 0) (w : World) : Type 0 where
   pub row : IsRow Known w.sizes (is_member w) (chronicles w)
   pub votes : (s : Sent) → Among s w.sent → (d : Bytes) (b : Vote) → s.frame ≡ frame.vote d b
       → is_member w s.sender ≡ true
-      → (x : Branch) × Among x (voted (chronicles w s.sender)) × (digest_of x ≡ d)
+      → (x : Branch) × Among x (voted_blocks (chronicles w s.sender)) × (digest_of x ≡ d)
 
 -- what is assumed of a world's makeup and of an event
 pub record IsMadeWell (w : World) : Type 0 where
@@ -103,7 +104,8 @@ module _ (Known : Core → Type 0) where
   counted-vote : (w : World) (e : Event) (i : Input) (core : Core) (q : Certificate) (g : Findings)
       → IsRun Known w → IsHonest Known w e → is_member w (party_of e) ≡ true → (b : Brings w e i)
       → IsCarried (self_of w (party_of e)) b.frame core q g → (v : ℕ) → Among v g.counted
-      → is_member w v ≡ true → (x : Branch) × Among x (voted (chronicles w v)) × (digest_of x ≡ q.digest)
+      → is_member w v ≡ true
+      → (x : Branch) × Among x (voted_blocks (chronicles w v)) × (digest_of x ≡ q.digest)
   counted-vote w e i core q g run honest me b ca v m mv =
       let c = ca.votes v m in
       let sent : WasSent w.sent c.0 =
@@ -113,7 +115,7 @@ module _ (Known : Core → Type 0) where
       let is : sent.0.sender ≡ v = sent.2 ∙ c.3 in
       let vote = vote-tag c.0 sent.0 sent.0.frame c.2 sent.3 in
       let r = run.votes sent.0 sent.1 c.0.content vote.0 vote.1 (ap (is_member w) is ∙ mv) in
-      (r.0, subst (λ (p : ℕ). Among r.0 (voted (chronicles w p))) is r.1, r.2 ∙ c.5)
+      (r.0, subst (λ (p : ℕ). Among r.0 (voted_blocks (chronicles w p))) is r.1, r.2 ∙ c.5)
 
   may-follow : (w : World) (e : Event) (i : Input) → IsRun Known w → IsHonest Known w e
       → is_member w (party_of e) ≡ true → Arises w e i → (st : Step) → FromInput i st
@@ -133,7 +135,8 @@ module _ (Known : Core → Type 0) where
 
 abbrev VoteStands : Chronicle → Sending → Type 0
 VoteStands c o =
-    (d : Bytes) (b : Vote) → o.1 ≡ frame.vote d b → (x : Branch) × Among x (voted c) × (digest_of x ≡ d)
+    (d : Bytes) (b : Vote) → o.1 ≡ frame.vote d b
+    → (x : Branch) × Among x (voted_blocks c) × (digest_of x ≡ d)
 
 one-stands : (c : Chronicle) (to : To) (f : Frame) → ((d : Bytes) (b : Vote) → f ≡ frame.vote d b → ⊥)
     → (o : Sending) → Among o ((to, f) ∷ []) → VoteStands c o
@@ -145,13 +148,14 @@ nothing-stands c o m = absurd m
 
 sends-stand : (self : Identity) (st : Step) (c : Chronicle) (o : Sending) → Sends self st c o
     → VoteStands (st ∷ c) o
-unfolding vote_frame reply_to new_view_frame block_frame proposal_frame voted
+unfolding vote_frame reply_to new_view_frame block_frame proposal_frame voted_blocks
 sends-stand self st c o (its_vote a e v to) d b h =
     let same : frame.vote (digest_of a.branch) _ ≡ frame.vote d b = h in
-    let own : Among a.branch (voted (took_block a ∷ c)) =
-    subst (Among a.branch) (sym (cond-true a.voted (a.branch ∷ voted c) (voted c) v)) (inl refl) in (
+    let own : Among a.branch (voted_blocks (took_block a ∷ c)) =
+    subst (Among a.branch) (sym (cond-true a.voted (a.branch ∷ voted_blocks c) (voted_blocks c) v))
+    (inl refl) in (
       a.branch,
-      subst (λ (x : Step). Among a.branch (voted (x ∷ c))) (sym e) own,
+      subst (λ (x : Step). Among a.branch (voted_blocks (x ∷ c))) (sym e) own,
       (let k : digest_of a.branch ≡ d = cc in k),
     )
 sends-stand self st c o (new_reply a m) d b h =
@@ -191,14 +195,14 @@ decided-now a before false e d = absurd (true≢false (sym e))
 conflict-decides : (st : Step) (c : Chronicle) → conflicts st c ≡ true
     → (b : Branch) × Among b (decided (st ∷ c)) × Among (executed c) (decided (st ∷ c))
     × Conflict b (executed c)
-unfolding conflicts decided taken
+unfolding conflicts decided taken_blocks
 conflict-decides (took_block a) c h =
     let p = and_parts _ _ h in
     let q = and_parts _ _ p.1 in
     let r = and_parts _ _ q.1 in (
       just3 a.branch,
-      decided-now a (taken c) a.new p.0 q.0,
-      decided-taken a (taken c) (executed c) a.new (executed-decided c),
+      decided-now a (taken_blocks c) a.new p.0 q.0,
+      decided-taken a (taken_blocks c) (executed c) a.new (executed-decided c),
       (
         λ e. true≢false (sym (extends-from _ _ e) ∙ not-true _ r.0),
         λ e. true≢false (sym (extends-from _ _ e) ∙ not-true _ r.1),
@@ -243,10 +247,10 @@ put_row-same : (p : ℕ) (c : Chronicle) (row : ℕ → Chronicle) → c ≡ row
 put_row-same p c row e i = put_row-both (λ (x : Chronicle). row i ≡ x) p c row i (λ k. ap row k ∙ sym e) refl
 
 -- what a member's step leaves
-pub record IsAfter (Known : Core → Type 0) (w : World) (p : ℕ) (m : Memory) (r : Replica × Reaction) :
+pub record IsAfter (Known : Core → Type 0) (w : World) (p : ℕ) (m : MemorySupply) (r : Replica × Reaction) :
     Type 0 where
   pub row : IsRow Known w.sizes (is_member w) (λ i. (put p r.0 w.replica i).chronicle)
-  pub grows : (x : Branch) → Among x (voted (chronicles w p)) → Among x (voted r.0.chronicle)
+  pub grows : (x : Branch) → Among x (voted_blocks (chronicles w p)) → Among x (voted_blocks r.0.chronicle)
   pub out : (o : Sending) → Among o (out_of (self_of w p) m r.1) → VoteStands r.0.chronicle o
   pub mild : answer_of r.1 ≡ Some fault.Conflict → ⊥
 
@@ -270,7 +274,7 @@ unfolding fetch_frame
 fetch-stands self sender d c o m =
     one-stands c (to_party sender) (fetch_frame self sender d) (λ e b h. cc) o m
 
-lacks-stand : (self : Identity) (m : Memory) (sender : ℕ) (d : Bytes) (c : Chronicle) (o : Sending)
+lacks-stand : (self : Identity) (m : MemorySupply) (sender : ℕ) (d : Bytes) (c : Chronicle) (o : Sending)
     → Among o (out_of self m (asks_for sender d)) → VoteStands c o
 lacks-stand self m sender d c o =
     cond_both (is_ample m && not (sender == self.ring.party))
@@ -292,7 +296,7 @@ done-mild out e = cc
 module _ (Known : Core → Type 0) (apart : NoCollision Known) (genesis : Known genesis_core)
     (ground : genesis_core.height ≡ 0) where
   -- all that a member's step may leave
-  after-step : (w : World) (p : ℕ) (m : Memory) (v : Ruling) (r : Replica × Reaction) → IsMadeWell w
+  after-step : (w : World) (p : ℕ) (m : MemorySupply) (v : Ruling) (r : Replica × Reaction) → IsMadeWell w
       → IsRow Known w.sizes (is_member w) (chronicles w) → is_member w p ≡ true
       → ((st : Step) → v ≡ due st
       → IsRow Known w.sizes (is_member w) (put_row p (st ∷ chronicles w p) (chronicles w))) →
@@ -337,7 +341,7 @@ module _ (Known : Core → Type 0) (apart : NoCollision Known) (genesis : Known 
       }
 
   -- a member's step keeps the row
-  pub step-keeps : (w : World) (e : Event) (m : Memory) (i : Input) → IsRun Known w → IsMadeWell w
+  pub step-keeps : (w : World) (e : Event) (m : MemorySupply) (i : Input) → IsRun Known w → IsMadeWell w
       → IsHonest Known w e → is_member w (party_of e) ≡ true → Arises w e i
       → IsAfter Known w (party_of e) m (step (self_of w (party_of e)) m i (w.replica (party_of e)))
   step-keeps w e m i run made honest me ar =
@@ -356,20 +360,21 @@ module _ (Known : Core → Type 0) (apart : NoCollision Known) (genesis : Known 
 -- what an effect keeps
 pub record IsKept (Known : Core → Type 0) (w : World) (e : Event) (f : Effect) : Type 0 where
   pub row : IsRow Known w.sizes (is_member w) (λ i. (f.replica i).chronicle)
-  pub grows : (i : ℕ) (x : Branch) → Among x (voted (chronicles w i))
-      → Among x (voted (f.replica i).chronicle)
+  pub grows : (i : ℕ) (x : Branch) → Among x (voted_blocks (chronicles w i))
+      → Among x (voted_blocks (f.replica i).chronicle)
   pub out : (o : Sending) → Among o f.out → is_member w (party_of e) ≡ true
       → VoteStands (f.replica (party_of e)).chronicle o
   pub mild : f.answer ≡ Some fault.Conflict → ⊥
 
-step-kept : (Known : Core → Type 0) (w : World) (e : Event) (m : Memory) (r : Replica × Reaction)
+step-kept : (Known : Core → Type 0) (w : World) (e : Event) (m : MemorySupply) (r : Replica × Reaction)
     → IsAfter Known w (party_of e) m r → IsKept Known w e (stepped w (party_of e) m r)
 unfolding stepped
 step-kept Known w e m r a = record {
   row = a.row;
-  grows = λ i x k. subst (λ (c : Chronicle). Among x (voted c)) (put-chronicle (party_of e) r.0 w.replica i)
-      (put_row-both (λ (c : Chronicle). Among x (voted c)) (party_of e) r.0.chronicle (chronicles w) i
-      (λ j. a.grows x (subst (λ (n : ℕ). Among x (voted (chronicles w n))) j k)) k);
+  grows = λ i x k. subst (λ (c : Chronicle). Among x (voted_blocks c))
+      (put-chronicle (party_of e) r.0 w.replica i)
+      (put_row-both (λ (c : Chronicle). Among x (voted_blocks c)) (party_of e) r.0.chronicle (chronicles w) i
+      (λ j. a.grows x (subst (λ (n : ℕ). Among x (voted_blocks (chronicles w n))) j k)) k);
   out = λ o k me. subst (λ (c : Chronicle). VoteStands c o)
       (sym (put_row-own (party_of e) r.0.chronicle (chronicles w))
       ∙ put-chronicle (party_of e) r.0 w.replica (party_of e)) (a.out o k);
@@ -395,7 +400,7 @@ count-mild me t s = cond_both
     (λ (x : Session × Heard). heard_answer x.1 ≡ code fault.Conflict → ⊥) (λ e. none-mild None refl)
     (λ e. none-mild None refl)
 
-reply-mild : (me : Client) (m : Memory) (f : Frame) (s : Session) → heard-mild (on_reply me m f s)
+reply-mild : (me : Client) (m : MemorySupply) (f : Frame) (s : Session) → heard-mild (on_reply me m f s)
 unfolding on_reply
 reply-mild me m (frame.reply replica client seq place text t) s =
     cond_both (not (client == me.number)) _ _ heard-mild (λ e. told-mild fault.NotMine (λ k. cc) s) (λ e.
@@ -434,7 +439,7 @@ not_sent-is : (n : Fault) → (n ≡ fault.Conflict → ⊥) → (s : Session) �
 unfolding code
 not_sent-is n l s = record { out = λ c o k. absurd k; mild = mild-number n l }
 
-submission-is : (me : Client) (m : Memory) (payload : Bytes) (s : Session)
+submission-is : (me : Client) (m : MemorySupply) (payload : Bytes) (s : Session)
     → IsSubmission (submission me m payload s)
 unfolding submission request_frame code
 submission-is me m payload s =
@@ -456,7 +461,7 @@ submitting-kept Known w e c x run h =
 
 module _ (Known : Core → Type 0) (apart : NoCollision Known) (genesis : Known genesis_core)
     (ground : genesis_core.height ≡ 0) where
-  effect-kept : (w : World) (e : Event) (m : Memory) (f : Effect) → IsRun Known w → IsMadeWell w
+  effect-kept : (w : World) (e : Event) (m : MemorySupply) (f : Effect) → IsRun Known w → IsMadeWell w
       → IsHonest Known w e → Effects w e m f → IsKept Known w e f
   effect-kept w e m f run made honest (idle a h) = idle-kept Known w e a run h
   effect-kept w e m f run made honest (step_by i me ar) =
@@ -466,7 +471,7 @@ module _ (Known : Core → Type 0) (apart : NoCollision Known) (genesis : Known 
   effect-kept w e m f run made honest (submitting c payload i ok) =
       submitting-kept Known w e c _ run (submission-is _ m payload _)
 
-  pub happens-keeps : (w : World) (e : Event) (m : Memory) → IsRun Known w → IsMadeWell w
+  pub happens-keeps : (w : World) (e : Event) (m : MemorySupply) → IsRun Known w → IsMadeWell w
       → IsHonest Known w e → refusal w e ≡ None
       → IsRun Known (happens w (e, m)) × IsMadeWell (happens w (e, m))
       × ((effect w (e, m)).answer ≡ Some fault.Conflict → ⊥)
@@ -482,24 +487,24 @@ module _ (Known : Core → Type 0) (apart : NoCollision Known) (genesis : Known 
 
       new : (s : Sent) → Among s (map sent (effect w (e, m)).out) → (d : Bytes) (b : Vote)
           → s.frame ≡ frame.vote d b → is_member w s.sender ≡ true
-          → (x : Branch) × Among x (voted ((effect w (e, m)).replica s.sender).chronicle)
+          → (x : Branch) × Among x (voted_blocks ((effect w (e, m)).replica s.sender).chronicle)
           × (digest_of x ≡ d)
       new s n d b h me =
           let r = Among-map sent (effect w (e, m)).out s n in
           let by : s.sender ≡ party_of e = ap (λ (y : Sent). y.sender) r.2 in
-          subst (λ (p : ℕ). (x : Branch) × Among x (voted ((effect w (e, m)).replica p).chronicle)
+          subst (λ (p : ℕ). (x : Branch) × Among x (voted_blocks ((effect w (e, m)).replica p).chronicle)
           × (digest_of x ≡ d)) (sym by)
           (k.out r.0 r.1 (sym (ap (is_member w) by) ∙ me) d b (sym (ap (λ (y : Sent). y.frame) r.2) ∙ h))
 
       old : (s : Sent) → Among s w.sent → (d : Bytes) (b : Vote) → s.frame ≡ frame.vote d b
           → is_member w s.sender ≡ true
-          → (x : Branch) × Among x (voted ((effect w (e, m)).replica s.sender).chronicle)
+          → (x : Branch) × Among x (voted_blocks ((effect w (e, m)).replica s.sender).chronicle)
           × (digest_of x ≡ d)
       old s n d b h me = let r = run.votes s n d b h me in (r.0, k.grows s.sender r.0 r.1, r.2)
 
       votes : (s : Sent) → Among s (w.sent ++ map sent (effect w (e, m)).out) → (d : Bytes) (b : Vote)
           → s.frame ≡ frame.vote d b → is_member w s.sender ≡ true
-          → (x : Branch) × Among x (voted ((effect w (e, m)).replica s.sender).chronicle)
+          → (x : Branch) × Among x (voted_blocks ((effect w (e, m)).replica s.sender).chronicle)
           × (digest_of x ≡ d)
       votes s n d b h me =
           elim (Among-either s w.sent _ n) [ inl a ↦ old s a d b h me | inr a ↦ new s a d b h me ]

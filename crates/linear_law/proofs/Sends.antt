@@ -10,7 +10,7 @@ use Rattle.definitions.specs.Branches.{Branch, branch_eq}
 use Rattle.definitions.specs.Histories.{Answer, answers, History, last_seq, last_answer, answer_to}
 use Rattle.definitions.specs.Chronicles.{Admitted, Step, Step.took_block, Step.noted, Note.got_vote}
 use Rattle.definitions.specs.Chronicles.{Note.got_new_view, Note.got_request, Note.got_fetch}
-use Rattle.definitions.specs.Chronicles.{Note.timed_out, Note.beat, Chronicle, taken, history}
+use Rattle.definitions.specs.Chronicles.{Note.timed_out, Note.beat, Chronicle, taken_blocks, history}
 use Rattle.definitions.specs.Checks.{Identity}
 use Rattle.definitions.specs.States.{Justified, view, leads, proposed}
 use Rattle.definitions.specs.Sendings.{To, To.to_all, To.to_party, Sending, sendings, vote_frame}
@@ -25,19 +25,19 @@ pub data Sends (self : Identity) (st : Step) (c : Chronicle) : Sending → Type 
   new_reply : (a : Answer) → Among a (answers (history (st ∷ c))) → Sends self st c (reply_to self a)
   old_reply : (a : Answer) → Among a (answers (history c)) → Sends self st c (reply_to self a)
   its_view : Sends self st c (to_all, new_view_frame self (st ∷ c))
-  its_block : (to : ℕ) (a : Admitted) → Among a (taken c)
+  its_block : (to : ℕ) (a : Admitted) → Among a (taken_blocks c)
       → Sends self st c (to_party to, block_frame self to a)
   its_proposal : (j : Justified) → leads self c ≡ true → proposed self (st ∷ c) ≡ Some j
       → Sends self st c (to_all, proposal_frame self (view self.sizes c) j)
 
 -- what is kept as taken was taken
 as_taken-among : (b : Option Branch) (c : Chronicle) (a : Admitted) → as_taken b c ≡ Some a
-    → Among a (taken c)
+    → Among a (taken_blocks c)
 as_taken-among None c a e = absurd (none e)
   where
     none : None ≡ Some a → ⊥
     none k = cc
-as_taken-among (Some b) c a e = (find_some (λ a. branch_eq a.branch b) (taken c) a e).0
+as_taken-among (Some b) c a e = (find_some (λ a. branch_eq a.branch b) (taken_blocks c) a e).0
 
 -- a reply that is given again is one of the answers
 pub answer_to-among : (client seq : ℕ) (h : History) (a : Answer) → answer_to client seq h ≡ Some a
@@ -76,7 +76,8 @@ module _ (self : Identity) (st : Step) (c : Chronicle) where
 
   -- a block that was asked for, where it was taken
   block-sent : (to : ℕ) (r : Option Admitted) (o : Sending)
-      → ((a : Admitted) → r ≡ Some a → Among a (taken c)) → Among o (supplies self to r) → Sends self st c o
+      → ((a : Admitted) → r ≡ Some a → Among a (taken_blocks c)) → Among o (supplies self to r)
+      → Sends self st c o
   block-sent to None o h m = absurd m
   block-sent to (Some a) o h m = only _ o (its_block to a (h a refl)) m
 

@@ -11,7 +11,7 @@ use Rattle.definitions.specs.FrameLimits.{IsDigest, IsFrame, IsCore, IsCertifica
 use Rattle.definitions.specs.Branches.{Branch}
 use Rattle.definitions.specs.Digests.{digest_of, core_of}
 use Rattle.definitions.specs.Histories.{Answer, answers}
-use Rattle.definitions.specs.Chronicles.{Admitted, Step, Chronicle, taken, history, IsLawful}
+use Rattle.definitions.specs.Chronicles.{Admitted, Step, Chronicle, taken_blocks, history, IsLawful}
 use Rattle.definitions.specs.Checks.{Identity}
 use Rattle.definitions.specs.States.{Justified, view, qc_high, me, proposed}
 use Rattle.definitions.specs.Sendings.{Sending, vote_frame, proposal_frame, new_view_frame, reply_to}
@@ -114,9 +114,9 @@ module _ (self : Identity) (number : me self < replicas self.sizes) where
 -- ---- what is looked up
 
 -- a block that was taken has the core and the certificate of a frame
-taken-fit : (self : Identity) (c : Chronicle) (a : Admitted) → AreStored self c → Among a (taken c)
+taken-fit : (self : Identity) (c : Chronicle) (a : Admitted) → AreStored self c → Among a (taken_blocks c)
     → IsCore self.sizes (core_of a.branch) × IsCertificate self.sizes a.certificate
-unfolding taken
+unfolding taken_blocks
 taken-fit self [] a h m = absurd m
 taken-fit self (st ∷ c) a h m =
     elim (taken-now st c a m) [

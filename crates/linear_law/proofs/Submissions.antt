@@ -25,7 +25,8 @@ use Rattle.definitions.specs.Checks.{Identity}
 use Rattle.definitions.specs.Rulings.{Input, Input.timeout_in, Input.beat_in, Ruling, Ruling.due}
 use Rattle.definitions.specs.Rulings.{Ruling.missing, Ruling.refusing, ruling, conflicts}
 use Rattle.definitions.specs.Sendings.{To.to_all, To.to_party, Sending, fetch_frame}
-use Rattle.definitions.specs.Replicas.{Memory, Memory.ample, Memory.refused_at_once, Memory.refused_after}
+use Rattle.definitions.specs.Replicas.{MemorySupply, MemorySupply.ample, MemorySupply.refused_at_once}
+use Rattle.definitions.specs.Replicas.{MemorySupply.refused_after}
 use Rattle.definitions.specs.Replicas.{Replica, Reaction, Reaction.fails, Standing, Standing.running}
 use Rattle.definitions.specs.Replicas.{Standing.stopped, Standing.cut_short, executes, on_step, on_ruling}
 use Rattle.definitions.specs.Replicas.{step}
@@ -45,7 +46,7 @@ use Rattle.definitions.specs.Frames as frame
 
 -- ---- a replica's step sends no request, whatever it holds
 
-on_step-not : (self : Identity) (m : Memory) (st : Step) (c : Chronicle) (o : Sending)
+on_step-not : (self : Identity) (m : MemorySupply) (st : Step) (c : Chronicle) (o : Sending)
     → Among o (out_of self m (on_step self m st c).1) → NotRequest o
 unfolding on_step
 on_step-not self ample st c o =
@@ -61,7 +62,7 @@ on_step-not self (refused_after n) st c o =
     (λ (x : Replica × Reaction). Among o (out_of self (refused_after n) x.1) → NotRequest o)
     (λ f k. none-not o k) (λ f k. none-not o k))
 
-on_ruling-not : (self : Identity) (m : Memory) (v : Ruling) (c : Chronicle) (o : Sending)
+on_ruling-not : (self : Identity) (m : MemorySupply) (v : Ruling) (c : Chronicle) (o : Sending)
     → Among o (out_of self m (on_ruling self m v c).1) → NotRequest o
 unfolding on_ruling
 on_ruling-not self m (due st) c o k = on_step-not self m st c o k
@@ -72,7 +73,7 @@ on_ruling-not self m (missing sender d) c o k =
     (λ e y. none-not o y) k
 on_ruling-not self m (refusing n) c o k = none-not o k
 
-step-not : (self : Identity) (m : Memory) (i : Input) (r : Replica) (o : Sending)
+step-not : (self : Identity) (m : MemorySupply) (i : Input) (r : Replica) (o : Sending)
     → Among o (out_of self m (step self m i r).1) → NotRequest o
 unfolding step
 step-not self m i r o = by r.standing
@@ -90,25 +91,27 @@ step-not self m i r o = by r.standing
 -- ---- what an event is to the sessions
 
 -- it leaves them and sends no request, or a client hears a frame, or a client submits
-data Tells (w : World) (e : Event) (m : Memory) : Effect → Type 0 where
+data Tells (w : World) (e : Event) (m : MemorySupply) : Effect → Type 0 where
   quiet : (f : Effect) → f.session ≡ w.session → f.accepted ≡ []
       → ((o : Sending) → Among o f.out → NotRequest o) → Tells w e m f
   hearing : (g : Frame) → Tells w e m (hears (client_at (party_of e)) m g w)
   submitting : (c : ℕ) (payload : Bytes) → e ≡ submit c payload → Tells w e m (submits c m payload w)
 
-nothing-tells : (w : World) (e : Event) (m : Memory) (a : Option Fault) → Tells w e m (nothing w a)
+nothing-tells : (w : World) (e : Event) (m : MemorySupply) (a : Option Fault) → Tells w e m (nothing w a)
 unfolding nothing
 nothing-tells w e m a = quiet _ refl refl (λ o k. none-not o k)
 
-steps-tells : (w : World) (e : Event) (p : ℕ) (m : Memory) (i : Input) → Tells w e m (steps p m i w)
+steps-tells : (w : World) (e : Event) (p : ℕ) (m : MemorySupply) (i : Input) → Tells w e m (steps p m i w)
 unfolding stepped
 steps-tells w e p m i = quiet _ refl refl (λ o k. step-not (self_of w p) m i (w.replica p) o k)
 
-checked-tells : (w : World) (e : Event) (p : ℕ) (m : Memory) (x : Checked) → Tells w e m (on_checked p m x w)
+checked-tells : (w : World) (e : Event) (p : ℕ) (m : MemorySupply) (x : Checked)
+    → Tells w e m (on_checked p m x w)
 checked-tells w e p m (passes i) = steps-tells w e p m i
 checked-tells w e p m (rejected n) = nothing-tells w e m (Some n)
 
-comes-tells : (w : World) (e : Event) (m : Memory) (o : Option Frame) → Tells w e m (comes (party_of e) m o w)
+comes-tells : (w : World) (e : Event) (m : MemorySupply) (o : Option Frame)
+    → Tells w e m (comes (party_of e) m o w)
 unfolding comes
 comes-tells w e m None = nothing-tells w e m (Some fault.NotAFrame)
 comes-tells w e m (Some f) =
@@ -116,7 +119,7 @@ comes-tells w e m (Some f) =
     (hears (client_at (party_of e)) m f w) (Tells w e m)
     (λ r. checked-tells w e (party_of e) m (check (self_of w (party_of e)) f)) (λ r. hearing f)
 
-acts-tells : (w : World) (e : Event) (m : Memory) → Tells w e m (acts w e m)
+acts-tells : (w : World) (e : Event) (m : MemorySupply) → Tells w e m (acts w e m)
 unfolding acts party_of
 acts-tells w (submit c payload) m = submitting c payload refl
 acts-tells w (relay k to) m = comes-tells w (relay k to) m (recorded w k)
@@ -124,7 +127,7 @@ acts-tells w (inject to bytes f) m = comes-tells w (inject to bytes f) m f
 acts-tells w (timeout r) m = steps-tells w (timeout r) r m timeout_in
 acts-tells w (beat r) m = steps-tells w (beat r) r m beat_in
 
-effect-tells : (w : World) (e : Event) (m : Memory) → Tells w e m (effect w (e, m))
+effect-tells : (w : World) (e : Event) (m : MemorySupply) → Tells w e m (effect w (e, m))
 unfolding effect
 effect-tells w e m = cond_both (w.is_faulty (party_of e)) (nothing w None) (acts w e m) (Tells w e m)
     (λ f. nothing-tells w e m None) (λ ok. acts-tells w e m)
@@ -143,7 +146,7 @@ one-receipt : (seq : ℕ) (a r : Receipt) → a.seq ≡ seq → Among r (a ∷ [
 one-receipt seq a r e (inl i) = ap (λ (x : Receipt). x.seq) i ∙ e
 one-receipt seq a r e (inr k) = absurd k
 
-on_reply-heard : (me : Client) (m : Memory) (f : Frame) (s : Session) → IsHeard s (on_reply me m f s)
+on_reply-heard : (me : Client) (m : MemorySupply) (f : Frame) (s : Session) → IsHeard s (on_reply me m f s)
 unfolding on_reply count_reply
 on_reply-heard me m (frame.reply r cl q pl tx g) s =
     cond_both (not (cl == me.number)) _ _ (IsHeard s) (λ k. unheard fault.NotMine s) (λ mine.
@@ -182,7 +185,7 @@ pub data IsAsked (me : Client) (payload : Bytes) (s : Session) : Session × Subm
     Submitted.sent_request (frame.request (asked me (suc s.used) payload)),
   )
 
-pub submission-asked : (me : Client) (m : Memory) (payload : Bytes) (s : Session)
+pub submission-asked : (me : Client) (m : MemorySupply) (payload : Bytes) (s : Session)
     → IsAsked me payload s (submission me m payload s)
 unfolding submission request_frame
 submission-asked me m payload s =
@@ -302,7 +305,7 @@ asked-keeps w e c payload x i given = record {
         → o.1 ≡ frame.request d → command ≡ d
     is o d k h = same-command command d (sym (ap (λ (y : Sending). y.1) (only o k)) ∙ h)
 
-tells-keeps : (w : World) (e : Event) (m : Memory) (f : Effect) → Tells w e m f → KeepsGiven w e f
+tells-keeps : (w : World) (e : Event) (m : MemorySupply) (f : Effect) → Tells w e m f → KeepsGiven w e f
 tells-keeps w e m f (quiet g s a n) = record {
   used = λ cl. subst (λ (row : ℕ → Session). (w.session cl).used ≤ (row cl).used) (sym s) (omega arith);
   sent = λ o k c h. absurd (n o k c h);
@@ -347,7 +350,8 @@ record CountsRequests (w : World) : Type 0 where
   receipts : (r : AcceptedBy) → Among r w.receipts → IsRequested w.sent r.client r.receipt.seq r.event
 
 -- each event keeps it
-happens-counts : (w : World) (e : Event) (m : Memory) → CountsRequests w → CountsRequests (happens w (e, m))
+happens-counts : (w : World) (e : Event) (m : MemorySupply) → CountsRequests w
+    → CountsRequests (happens w (e, m))
 unfolding happens
 happens-counts w e m a = record {
   past = λ s n. elim (Among-either s w.sent _ n) [

@@ -8,12 +8,13 @@ use Rattle.definitions.specs.Checks.{Identity}
 use Rattle.definitions.specs.Chronicles.{Step}
 use Rattle.definitions.specs.Rulings.{Input, Ruling, ruling, conflicts, Ruling.due, Ruling.missing}
 use Rattle.definitions.specs.Rulings.{Ruling.refusing}
-use Rattle.definitions.specs.Replicas.{Memory, Memory.ample, Memory.refused_at_once, Memory.refused_after}
+use Rattle.definitions.specs.Replicas.{MemorySupply, MemorySupply.ample, MemorySupply.refused_at_once}
+use Rattle.definitions.specs.Replicas.{MemorySupply.refused_after}
 use Rattle.definitions.specs.Replicas.{Standing, Standing.running, Standing.stopped, Standing.cut_short}
 use Rattle.definitions.specs.Replicas.{Replica, Reaction, Reaction.sends_out, Reaction.fails}
 use Rattle.definitions.specs.Replicas.{Reaction.asks_for, executes, on_step, on_ruling, step}
-use Rattle.replica.specs.Steps.{Sent, Shows, Stepped}
-use Rattle.locked_replica.specs.Kept.{ShareState, counted, gained, Counts}
+use Rattle.replica.specs.Steps.{SentBytes, Shows, Stepped}
+use Rattle.locked_replica.specs.Kept.{ShareState, with_more_steps, gained, Counts}
 
 -- a reaction, and by how much the chronicle grew with it
 abbrev Grows : Replica → Replica × Reaction → Type 0
@@ -23,7 +24,7 @@ Grows r (new, fails n) =
     ⊎ ((n ≡ fault.Memory) × (length new.chronicle ≡ suc (length r.chronicle)))
 Grows r (new, asks_for sender d) = length new.chronicle ≡ length r.chronicle
 
-on_step-grows : (self : Identity) (m : Memory) (s : Step) (r : Replica)
+on_step-grows : (self : Identity) (m : MemorySupply) (s : Step) (r : Replica)
     → Grows r (on_step self m s r.chronicle)
 unfolding on_step
 on_step-grows self ample s r = cond_both (conflicts s r.chronicle) _ _ (Grows r) (λ e. inl refl) (λ e. refl)
@@ -32,14 +33,14 @@ on_step-grows self (refused_after k) s r =
     cond_both (conflicts s r.chronicle) _ _ (Grows r) (λ e. inl refl)
     (λ e. cond_both (executes s r.chronicle) _ _ (Grows r) (λ x. inr (refl, refl)) (λ x. inl refl))
 
-on_ruling-grows : (self : Identity) (m : Memory) (v : Ruling) (r : Replica)
+on_ruling-grows : (self : Identity) (m : MemorySupply) (v : Ruling) (r : Replica)
     → Grows r (on_ruling self m v r.chronicle)
 unfolding on_ruling
 on_ruling-grows self m (due s) r = on_step-grows self m s r
 on_ruling-grows self m (missing sender d) r = refl
 on_ruling-grows self m (refusing n) r = inl refl
 
-step-grows : (self : Identity) (m : Memory) (i : Input) (r : Replica) → Grows r (step self m i r)
+step-grows : (self : Identity) (m : MemorySupply) (i : Input) (r : Replica) → Grows r (step self m i r)
 unfolding step
 step-grows self m i r = by r.standing
   where
@@ -56,18 +57,18 @@ step-grows self m i r = by r.standing
 
 -- a share counts what was gained
 one_more : (share : ShareState) (old new : Replica) → length new.chronicle ≡ suc (length old.chronicle)
-    → counted share (gained old new) ≡ counted share 1
-one_more share old new e = ap (counted share) (omega (arith, e))
+    → with_more_steps share (gained old new) ≡ with_more_steps share 1
+one_more share old new e = ap (with_more_steps share) (omega (arith, e))
 
 none_more : (share : ShareState) (old new : Replica) → length new.chronicle ≡ length old.chronicle
-    → counted share (gained old new) ≡ share
+    → with_more_steps share (gained old new) ≡ share
 none_more share old new e =
     let none : share.count + gained old new ≡ share.count = omega (arith, e) in
     ap (λ n. record share { count = n }) none
 
 by_answer :
-    (share : ShareState) (old : Replica) (x : Replica × Reaction) (answer : Result (List Sent) Fault)
-    → Grows old x → Shows x.1 answer → Counts share answer (counted share (gained old x.0))
+    (share : ShareState) (old : Replica) (x : Replica × Reaction) (answer : Result (List SentBytes) Fault)
+    → Grows old x → Shows x.1 answer → Counts share answer (with_more_steps share (gained old x.0))
 by_answer share old (new, sends_out out) (Ok sent) g s = one_more share old new g
 by_answer share old (new, fails m) (Err n) g s =
     elim g [
@@ -81,10 +82,10 @@ by_answer share old (new, asks_for sender d) (Ok sent) g s = absurd s
 
 -- what a share counts of a step
 pub step-counts : (share share' : ShareState) (self : Identity) (i : Input) (old new : Replica)
-    (answer : Result (List Sent) Fault) → Stepped self i old answer new
-    → share' ≡ counted share (gained old new) → Counts share answer share'
+    (answer : Result (List SentBytes) Fault) → Stepped self i old answer new
+    → share' ≡ with_more_steps share (gained old new) → Counts share answer share'
 step-counts share share' self i old new answer stepped more =
     let state = stepped.state in
     let counts = by_answer share old (step self stepped.memory i old) answer
     (step-grows self stepped.memory i old) stepped.answer in
-    subst (Counts share answer) (ap (λ r. counted share (gained old r)) (sym state) ∙ sym more) counts
+    subst (Counts share answer) (ap (λ r. with_more_steps share (gained old r)) (sym state) ∙ sym more) counts

@@ -7,7 +7,7 @@ use Rattle.definitions.specs.Keyrings.{Keys}
 use Rattle.definitions.specs.Chronicles.{IsLawful}
 use Rattle.definitions.specs.Replicas.{Replica, held_history}
 use Rattle.marks.specs.Eyes.{EyeState, IsOwnerOf}
-use Rattle.replica.specs.Steps.{Sent}
+use Rattle.replica.specs.Steps.{SentBytes}
 
 -- a kept replica: its keys and its state, the count of each share made of it, and the eye that owns its mark
 pub record KeptState : Type 0 where
@@ -46,8 +46,8 @@ pub record AreAll (kept : KeptState) (shares : List ShareState) : Type 0 where
   pub once : EachIndex kept.shares (λ i. count_by (λ s. s.number == i) shares ≡ 1)
 
 -- a share after some more steps
-abbrev pub counted : ShareState → ℕ → ShareState
-counted share more = record share { count = share.count + more }
+abbrev pub with_more_steps : ShareState → ℕ → ShareState
+with_more_steps share more = record share { count = share.count + more }
 
 -- how many steps a replica gained
 abbrev pub gained : Replica → Replica → ℕ
@@ -55,6 +55,6 @@ gained old new = length new.chronicle - length old.chronicle
 
 -- what a share counts of an answer: an answer that sends something is one step; want of memory may be one,
 -- while it is executed; and another refusal is none
-abbrev pub Counts : ShareState → Result (List Sent) Fault → ShareState → Type 0
-Counts old (Ok out) new = new ≡ counted old 1
-Counts old (Err n) new = (new ≡ old) ⊎ ((n ≡ fault.Memory) × (new ≡ counted old 1))
+abbrev pub Counts : ShareState → Result (List SentBytes) Fault → ShareState → Type 0
+Counts old (Ok out) new = new ≡ with_more_steps old 1
+Counts old (Err n) new = (new ≡ old) ⊎ ((n ≡ fault.Memory) × (new ≡ with_more_steps old 1))

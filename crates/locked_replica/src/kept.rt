@@ -8,7 +8,7 @@ ghost use Rattle.definitions.specs.Chronicles.{IsLawful};
 ghost use Rattle.replica.specs.Steps.{Stepped};
 ghost use Rattle.replica.specs.Inputs.{input_of, same_replica, is_addressed};
 ghost use Rattle.marks.specs.Eyes.{IsOwnerOf, putting};
-ghost use Rattle.locked_replica.specs.Kept.{Holds, is_own, AreAll, counted, gained, mark_of, Counts};
+ghost use Rattle.locked_replica.specs.Kept.{Holds, is_own, AreAll, with_more_steps, gained, mark_of, Counts};
 ghost use Rattle.locked_replica.specs.Addressed.{may_step};
 
 use crate::closed::{Closed, NotAll};
@@ -184,7 +184,7 @@ impl<'a> Kept<'a> {
             (Stepped (identity_of self.old.keys) (input_of input.entry) self.old.replica result
             self.new.replica) }
         ensures share { OnTrue (may_step self.old share.old input.entry)
-            (share.new ≡ counted share.old (gained self.old.replica self.new.replica)) }
+            (share.new ≡ with_more_steps share.old (gained self.old.replica self.new.replica)) }
         ensures shares { OnTrue (may_step self.old share.old input.entry)
             (self.new.shares ≡ slice_set self.old.shares share.old.number share.new.count) }
         ensures eye { OnTrue (may_step self.old share.old input.entry)

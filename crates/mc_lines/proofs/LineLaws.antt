@@ -326,18 +326,20 @@ store_says verb fs y e =
 cas_says : (fs : List Bytes) (y : Head × Bool) → cas_in fs ≡ Some y → Says (codes "cas" ∷ fs) y
 cas_says fs y e =
     let k = after_key fs (λ key. flags_first key.1 >>= λ flags. expiry_first flags.1
-    >>= λ rest. number_first rest >>= λ bytes. number_first bytes.1 >>= λ unique. noreply_in unique.1
-    >>= λ noreply. Some (cas key.0 flags.0 bytes.0 unique.0, noreply)) y e in
+    >>= λ rest. number_first rest >>= λ bytes. number_first bytes.1 >>= λ cas_unique. noreply_in cas_unique.1
+    >>= λ noreply. Some (cas key.0 flags.0 bytes.0 cas_unique.0, noreply)) y e in
     let f = after_flags k.1 (λ flags. expiry_first flags.1 >>= λ rest. number_first rest
-    >>= λ bytes. number_first bytes.1 >>= λ unique. noreply_in unique.1
-    >>= λ noreply. Some (cas k.0 flags.0 bytes.0 unique.0, noreply)) y k.4 in
+    >>= λ bytes. number_first bytes.1 >>= λ cas_unique. noreply_in cas_unique.1
+    >>= λ noreply. Some (cas k.0 flags.0 bytes.0 cas_unique.0, noreply)) y k.4 in
     let z = after_expiry f.1 (λ rest. number_first rest >>= λ bytes. number_first bytes.1
-    >>= λ unique. noreply_in unique.1 >>= λ noreply. Some (cas k.0 f.0 bytes.0 unique.0, noreply)) y
+    >>= λ cas_unique. noreply_in cas_unique.1
+    >>= λ noreply. Some (cas k.0 f.0 bytes.0 cas_unique.0, noreply)) y
     f.4 in
-    let b = after_number z.0 (λ bytes. number_first bytes.1 >>= λ unique. noreply_in unique.1
-    >>= λ noreply. Some (cas k.0 f.0 bytes.0 unique.0, noreply)) y z.2 in
+    let b = after_number z.0 (λ bytes. number_first bytes.1 >>= λ cas_unique. noreply_in cas_unique.1
+    >>= λ noreply. Some (cas k.0 f.0 bytes.0 cas_unique.0, noreply)) y z.2 in
     let u = after_number b.1
-    (λ unique. noreply_in unique.1 >>= λ noreply. Some (cas k.0 f.0 b.0 unique.0, noreply)) y b.4 in
+    (λ cas_unique. noreply_in cas_unique.1 >>= λ noreply. Some (cas k.0 f.0 b.0 cas_unique.0, noreply)) y
+    b.4 in
     let q = after_noreply u.1 (λ noreply. Some (cas k.0 f.0 b.0 u.0, noreply)) y u.4 in
     said (codes "cas" ∷ fs) (cas k.0 f.0 b.0 u.0, q.0) y q.2 (
       (k.2, f.2, b.2, u.2),
@@ -449,17 +451,18 @@ store_reads verb key flags bytes q is small below =
     ) refl
 
 -- cas
-cas_reads : (key : Bytes) (flags bytes unique : ℕ) (q : Bool) → IsKey key → flags < 2 ^ 32 → bytes < 2 ^ 64
-    → unique < 2 ^ 64
-    → cas_in (key ∷ decimal flags ∷ codes "0" ∷ decimal bytes ∷ decimal unique ∷ noreply_field q)
-    ≡ Some (cas key flags bytes unique, q)
-cas_reads key flags bytes unique q is small below few =
+cas_reads : (key : Bytes) (flags bytes cas_unique : ℕ) (q : Bool) → IsKey key → flags < 2 ^ 32
+    → bytes < 2 ^ 64
+    → cas_unique < 2 ^ 64
+    → cas_in (key ∷ decimal flags ∷ codes "0" ∷ decimal bytes ∷ decimal cas_unique ∷ noreply_field q)
+    ≡ Some (cas key flags bytes cas_unique, q)
+cas_reads key flags bytes cas_unique q is small below few =
     rw (
       is_key-passes key is,
       number_in-decimal flags (omega arith),
       lt-ltb flags (2 ^ 32) small,
       number_in-decimal bytes below,
-      number_in-decimal unique few,
+      number_in-decimal cas_unique few,
       noreply_in-field q,
     ) refl
 
@@ -485,8 +488,8 @@ fields_read (store append key flags bytes) noreply form may =
     (named.Store verbs.Append, refl, store_reads append key flags bytes noreply form.0 form.1 form.2)
 fields_read (store prepend key flags bytes) noreply form may =
     (named.Store verbs.Prepend, refl, store_reads prepend key flags bytes noreply form.0 form.1 form.2)
-fields_read (cas key flags bytes unique) noreply form may =
-    (named.Cas, refl, cas_reads key flags bytes unique noreply form.0 form.1 form.2 form.3)
+fields_read (cas key flags bytes cas_unique) noreply form may =
+    (named.Cas, refl, cas_reads key flags bytes cas_unique noreply form.0 form.1 form.2 form.3)
 fields_read (get keys) true form may = absurd (let no : false ≡ true = may refl in cc)
 fields_read (get keys) false form may =
     (named.Get, refl, ap (option_map (λ (k : List Bytes). (get k, false))) (keys_reads keys form))
@@ -529,7 +532,7 @@ pub head_place-name : (head : heads.Head) (q : Bool) (word : Bytes)
     → word ≡ slice_index_or (fields (head_of head) ++ noreply_field q) 0 []
     → length word + 1 ≡ head_place head
 head_place-name (lines.Store verb key flags bytes) q word e = ap (λ (t : Bytes). length t + 1) e
-head_place-name (lines.Cas key flags bytes unique) q word e = ap (λ (t : Bytes). length t + 1) e
+head_place-name (lines.Cas key flags bytes cas_unique) q word e = ap (λ (t : Bytes). length t + 1) e
 head_place-name (lines.Get keys) q word e = ap (λ (t : Bytes). length t + 1) e
 head_place-name (lines.Gets keys) q word e = ap (λ (t : Bytes). length t + 1) e
 head_place-name (lines.Delete key) q word e = ap (λ (t : Bytes). length t + 1) e

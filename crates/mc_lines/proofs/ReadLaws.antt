@@ -10,7 +10,7 @@ use Rattle.ids.specs.declared.line_fault.LineFault.TheVariants.{UnknownName, Bad
 use Rattle.ids.specs.declared.line_fault.LineFault.TheVariants.{LineTooLong}
 use Rattle.definitions.specs.Bytes.{Bytes}
 use Rattle.definitions.specs.Requests.{spelling, Asked, Head, store, cas, get, gets, delete, incr, decr}
-use Rattle.definitions.specs.Requests.{stored_of, crlf, canonical}
+use Rattle.definitions.specs.Requests.{data_field, crlf, canonical}
 use Rattle.definitions.specs.Items.{names, name_of, HasNoEnd, IsLineOf, Item, asked, quit, bad, IsItemAt}
 use Rattle.definitions.specs.Items.{IsUnfinished}
 use Rattle.definitions.specs.Canonical.{request_of}
@@ -48,12 +48,12 @@ item_from-data head noreply start bytes rest =
 
 -- the reader's step is the definitions'
 item_with-line : (head : Head) (noreply : Bool) (l rest : Bytes)
-    → item_with head noreply (length l + 2) rest (stored_of head)
+    → item_with head noreply (length l + 2) rest (data_field head)
     ≡ item_by_line l rest (Some (head, noreply))
 item_with-line (store verb key flags bytes) noreply l rest =
     item_from-data (store verb key flags bytes) noreply (length l + 2) bytes rest
-item_with-line (cas key flags bytes unique) noreply l rest =
-    item_from-data (cas key flags bytes unique) noreply (length l + 2) bytes rest
+item_with-line (cas key flags bytes cas_unique) noreply l rest =
+    item_from-data (cas key flags bytes cas_unique) noreply (length l + 2) bytes rest
 item_with-line (get keys) noreply l rest = refl
 item_with-line (gets keys) noreply l rest = refl
 item_with-line (delete key) noreply l rest = refl
@@ -72,10 +72,10 @@ read_made text l rest (reads.Bad fault used) first e = made_item text l rest (ba
 -- a request's line, its data, or a fault of it
 pub read_line_of : (text l rest : Bytes) (start : ℕ) (head : Head) (noreply : Bool) (r : Read)
     → HasFirst text l rest → IsLineOf l head noreply → start ≡ length l + 2
-    → item_of r ≡ item_with head noreply start rest (stored_of head) → IsReadOf text r
+    → item_of r ≡ item_with head noreply start rest (data_field head) → IsReadOf text r
 read_line_of text l rest start head noreply r first is at e =
     read_made text l rest r first
-    (e ∙ ap (λ (k : ℕ). item_with head noreply k rest (stored_of head)) at
+    (e ∙ ap (λ (k : ℕ). item_with head noreply k rest (data_field head)) at
     ∙ item_with-line head noreply l rest
     ∙ ap (item_by_line l rest) (sym (head_at-line l head noreply is)))
 

@@ -34,21 +34,21 @@ retrieval_text name text =
     ∙ ap (λ (t : Bytes). t ++ crlf) whole)
 
 -- the texts of values are those of the reply
-pub reply_of_values : (values : List Value) (with_unique : Bool)
-    → values_text with_unique values ++ replies.ended (codes "END")
-    ≡ reply_text (replies.values (map value_of values) with_unique)
-reply_of_values values with_unique =
+pub reply_of_values : (values : List Value) (with_cas_unique : Bool)
+    → values_text with_cas_unique values ++ replies.ended (codes "END")
+    ≡ reply_text (replies.values (map value_of values) with_cas_unique)
+reply_of_values values with_cas_unique =
     ap (λ (t : Bytes). t ++ replies.ended (codes "END"))
-    (sym (flat_map-map (value_text with_unique) value_of values))
+    (sym (flat_map-map (value_text with_cas_unique) value_of values))
 
 -- the first values and the next have no more text than all of them
-pub length-values_text-take : (values : List Value) (with_unique : Bool) (i : ℕ) (v : Value)
+pub length-values_text-take : (values : List Value) (with_cas_unique : Bool) (i : ℕ) (v : Value)
     → v ≡ get_or values i v → i < length values
-    → length (values_text with_unique (take i values)) + length (value_text with_unique (value_of v))
-    ≤ length (values_text with_unique values)
-length-values_text-take values with_unique i v is within =
+    → length (values_text with_cas_unique (take i values)) + length (value_text with_cas_unique (value_of v))
+    ≤ length (values_text with_cas_unique values)
+length-values_text-take values with_cas_unique i v is within =
     omega (
       arith,
-      length-flat_map-take (λ (x : Value). value_text with_unique (value_of x)) values i v within,
-      ap (λ (x : Value). length (value_text with_unique (value_of x))) is,
+      length-flat_map-take (λ (x : Value). value_text with_cas_unique (value_of x)) values i v within,
+      ap (λ (x : Value). length (value_text with_cas_unique (value_of x))) is,
     )

@@ -27,7 +27,7 @@ use Rattle.mc_lines.specs.Meaning.{verb_of, keys_of, asked_of}
 -- what a line says
 abbrev pub head_of : Head → requests.Head
 head_of (Store verb key flags bytes) = requests.store (verb_of verb) key.now flags bytes
-head_of (Cas key flags bytes unique) = requests.cas key.now flags bytes unique
+head_of (Cas key flags bytes cas_unique) = requests.cas key.now flags bytes cas_unique
 head_of (Get keys) = requests.get (keys_of keys)
 head_of (Gets keys) = requests.gets (keys_of keys)
 head_of (Delete key) = requests.delete key.now
@@ -41,7 +41,7 @@ seen o = option_map (λ x. (head_of x.0, x.1)) o
 -- the request with this data
 abbrev pub filled : requests.Head → Bytes → Asked
 filled (requests.store verb key flags bytes) stored = requests.store verb key flags stored
-filled (requests.cas key flags bytes unique) stored = requests.cas key flags stored unique
+filled (requests.cas key flags bytes cas_unique) stored = requests.cas key flags stored cas_unique
 filled (requests.get keys) stored = requests.get keys
 filled (requests.gets keys) stored = requests.gets keys
 filled (requests.delete key) stored = requests.delete key
@@ -51,7 +51,7 @@ filled (requests.decr key value) stored = requests.decr key value
 -- the key of a line, or the text of its keys
 abbrev pub head_key : Head → Bor Bytes
 head_key (Store verb key flags bytes) = key
-head_key (Cas key flags bytes unique) = key
+head_key (Cas key flags bytes cas_unique) = key
 head_key (Get keys) = keys.text
 head_key (Gets keys) = keys.text
 head_key (Delete key) = key
@@ -61,7 +61,7 @@ head_key (Decr key value) = key
 -- where it stands
 abbrev pub head_place : Head → ℕ
 head_place (Store verb key flags bytes) = length (verb_name (verb_of verb)) + 1
-head_place (Cas key flags bytes unique) = length (codes "cas") + 1
+head_place (Cas key flags bytes cas_unique) = length (codes "cas") + 1
 head_place (Get keys) = length (codes "get") + 1
 head_place (Gets keys) = length (codes "gets") + 1
 head_place (Delete key) = length (codes "delete") + 1
@@ -97,8 +97,8 @@ abbrev pub cas_in : List Bytes → Option (requests.Head × Bool)
 cas_in fields =
     key_first fields >>= λ key. flags_first key.1 >>= λ flags. expiry_first flags.1
     >>= λ rest. number_first rest >>= λ bytes.
-    number_first bytes.1 >>= λ unique. noreply_in unique.1
-    >>= λ noreply. Some (requests.cas key.0 flags.0 bytes.0 unique.0, noreply)
+    number_first bytes.1 >>= λ cas_unique. noreply_in cas_unique.1
+    >>= λ noreply. Some (requests.cas key.0 flags.0 bytes.0 cas_unique.0, noreply)
 
 -- delete by the fields behind its name
 abbrev pub delete_in : List Bytes → Option (requests.Head × Bool)

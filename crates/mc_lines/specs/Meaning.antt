@@ -16,7 +16,7 @@ use Rattle.mc_lines.specs.declared.request.Request.TheVariants.{Store, Cas, Get,
 use Rattle.mc_lines.specs.declared.reply.Value.{Value}
 use Rattle.mc_lines.specs.declared.reply.Reply.{Reply}
 use Rattle.mc_lines.specs.declared.reply.Reply.TheVariants.{Stored, NotStored, Exists, NotFound, Deleted}
-use Rattle.mc_lines.specs.declared.reply.Reply.TheVariants.{Number, Values, NoRoom, TooLong, NoNumber}
+use Rattle.mc_lines.specs.declared.reply.Reply.TheVariants.{Number, Values, OutOfMemory, TooLarge, NonNumeric}
 use Rattle.mc_lines.specs.declared.reply.Reply.TheVariants.{NoRequest}
 use Rattle.mc_lines.specs.declared.read.Read.{Read}
 use Rattle.mc_lines.specs.declared.read.Read.TheVariants.{Whole, Quit, More, Bad}
@@ -41,7 +41,7 @@ keys_left (Some rest) = slice_split (λ b. b == space) rest.now
 -- a request
 abbrev pub asked_of : Request → Asked
 asked_of (Store verb key flags stored) = requests.store (verb_of verb) key.now flags stored.now
-asked_of (Cas key flags stored unique) = requests.cas key.now flags stored.now unique
+asked_of (Cas key flags stored cas_unique) = requests.cas key.now flags stored.now cas_unique
 asked_of (Get keys) = requests.get (keys_of keys)
 asked_of (Gets keys) = requests.gets (keys_of keys)
 asked_of (Delete key) = requests.delete key.now
@@ -66,7 +66,7 @@ used_of (Bad fault used) = used
 
 -- what is told of one key
 abbrev pub value_of : Value → replies.Value
-value_of v = record { key = v.key.items; flags = v.flags; stored = v.stored.items; unique = v.unique }
+value_of v = record { key = v.key.items; flags = v.flags; stored = v.stored.items; cas_unique = v.cas_unique }
 
 -- a reply
 abbrev pub reply_of : Reply → replies.Reply
@@ -76,10 +76,10 @@ reply_of Exists = replies.exists
 reply_of NotFound = replies.not_found
 reply_of Deleted = replies.deleted
 reply_of (Number n) = replies.number n
-reply_of (Values values with_unique) = replies.values (map value_of values.items) with_unique
-reply_of NoRoom = replies.no_room
-reply_of TooLong = replies.too_long
-reply_of NoNumber = replies.no_number
+reply_of (Values values with_cas_unique) = replies.values (map value_of values.items) with_cas_unique
+reply_of OutOfMemory = replies.out_of_memory
+reply_of TooLarge = replies.too_large
+reply_of NonNumeric = replies.non_numeric
 reply_of NoRequest = replies.no_request
 
 -- ---- where the parts lie
@@ -92,7 +92,7 @@ LentIn (Some rest) place part = LentAt rest place part
 -- the key, or the text of the keys
 abbrev pub key_of : Request → Bor Bytes
 key_of (Store verb key flags stored) = key
-key_of (Cas key flags stored unique) = key
+key_of (Cas key flags stored cas_unique) = key
 key_of (Get keys) = keys.text
 key_of (Gets keys) = keys.text
 key_of (Delete key) = key
@@ -102,7 +102,7 @@ key_of (Decr key value) = key
 -- where it stands: behind the name and a space
 abbrev pub key_place : Request → ℕ
 key_place (Store verb key flags stored) = length (verb_name (verb_of verb)) + 1
-key_place (Cas key flags stored unique) = length (codes "cas") + 1
+key_place (Cas key flags stored cas_unique) = length (codes "cas") + 1
 key_place (Get keys) = length (codes "get") + 1
 key_place (Gets keys) = length (codes "gets") + 1
 key_place (Delete key) = length (codes "delete") + 1
@@ -112,7 +112,8 @@ key_place (Decr key value) = length (codes "decr") + 1
 -- the data stands before the two bytes that end the request
 abbrev pub IsStoredLent : Bor Bytes → Request → ℕ → Type 0
 IsStoredLent source (Store verb key flags stored) used = LentAt source (used - 2 - length stored.now) stored
-IsStoredLent source (Cas key flags stored unique) used = LentAt source (used - 2 - length stored.now) stored
+IsStoredLent source (Cas key flags stored cas_unique) used =
+    LentAt source (used - 2 - length stored.now) stored
 IsStoredLent source (Get keys) used = Unit {0}
 IsStoredLent source (Gets keys) used = Unit {0}
 IsStoredLent source (Delete key) used = Unit {0}

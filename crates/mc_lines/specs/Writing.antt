@@ -15,4 +15,4 @@ store_text name key flags stored =
 
 -- the texts of values, one after the other
 abbrev pub values_text : Bool → List Value → Bytes
-values_text with_unique values = flat_map (λ v. value_text with_unique (value_of v)) values
+values_text with_cas_unique values = flat_map (λ v. value_text with_cas_unique (value_of v)) values

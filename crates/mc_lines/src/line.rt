@@ -1,7 +1,7 @@
 ghost use Rattle.std.specs.Prelude.{◌≡◌, ◌-◌, ℕ, length, option_map, IfSome, IsSome};
 ghost use Rattle.std.specs.Borrow.{Bor};
 ghost use Rattle.definitions.specs.Bytes.{Bytes};
-ghost use Rattle.definitions.specs.Requests.{stored_of};
+ghost use Rattle.definitions.specs.Requests.{data_field};
 ghost use Rattle.definitions.specs.Slices.{LentAt};
 ghost use Rattle.mc_lines.specs.Fields.{parts_after};
 ghost use Rattle.mc_lines.specs.Heads.{head_of, head_key, head_place, filled, seen, name_in, head_for};
@@ -40,7 +40,7 @@ pub(crate) enum Head<'a> {
         key: &'a [u8],
         flags: u32,
         bytes: u64,
-        unique: u64,
+        cas_unique: u64,
     },
     Get(Keys<'a>),
     Gets(Keys<'a>),
@@ -69,7 +69,7 @@ pub(crate) enum Line<'a> {
 impl<'a> Head<'a> {
     /// How many bytes of data are announced.
     pub(crate) fn bytes(&self) -> Option<u64>
-        ensures { result ≡ stored_of (head_of self.now) }
+        ensures { result ≡ data_field (head_of self.now) }
     {
         match *self {
             Head::Store { bytes, .. } => Some(bytes),
@@ -84,7 +84,7 @@ impl<'a> Head<'a> {
         // Where the key and the data lie in a source at their places, so do those of the request.
         ensures lent { (source : Bor Bytes) (used : ℕ)
             → LentAt source (head_place self.entry) (head_key self.entry)
-            → (IsSome (stored_of (head_of self.entry))
+            → (IsSome (data_field (head_of self.entry))
             → LentAt source (used - 2 - length stored.now) stored.entry)
             → AreLent source result used }
     {
@@ -103,13 +103,13 @@ impl<'a> Head<'a> {
             Head::Cas {
                 key,
                 flags,
-                unique,
+                cas_unique,
                 ..
             } => Request::Cas {
                 key,
                 flags,
                 stored,
-                unique,
+                cas_unique,
             },
             Head::Get(keys) => Request::Get(keys),
             Head::Gets(keys) => Request::Gets(keys),
@@ -181,13 +181,13 @@ fn cas(rest: Option<&[u8]>) -> Option<(Head<'_>, bool)>
     let (flags, rest) = flags(rest)?;
     let rest = expiry(rest)?;
     let (bytes, rest) = value(rest)?;
-    let (unique, rest) = value(rest)?;
+    let (cas_unique, rest) = value(rest)?;
     let noreply = noreply(rest)?;
     let head = Head::Cas {
         key,
         flags,
         bytes,
-        unique,
+        cas_unique,
     };
     Some((head, noreply))
 }

@@ -3,7 +3,7 @@ ghost use Rattle.std.specs.Prelude.{◌≡◌, ◌+◌, ◌≤◌, length, take,
 ghost use Rattle.std.specs.Prelude.{IfOk};
 ghost use Rattle.std.specs.Borrow.{Bor};
 ghost use Rattle.definitions.specs.Bytes.{Bytes};
-ghost use Rattle.definitions.specs.Requests.{stored_of};
+ghost use Rattle.definitions.specs.Requests.{data_field};
 ghost use Rattle.definitions.specs.Items.{HasNoEnd};
 ghost use Rattle.definitions.specs.Canonical.{request_of};
 ghost use Rattle.definitions.specs.Slices.{LentAt};
@@ -71,7 +71,7 @@ fn data(rest: &[u8], bytes: u64) -> Result<Option<&[u8]>, LineFault>
 fn with_data<'a>(head: Head<'a>, noreply: bool, rest: &'a [u8], start: usize) -> Read<'a>
     requires { start ≤ MOST_LINE }
     ensures value { item_of result
-        ≡ item_with (head_of head.entry) noreply start rest.now (stored_of (head_of head.entry)) }
+        ≡ item_with (head_of head.entry) noreply start rest.now (data_field (head_of head.entry)) }
     ensures lent { (source : Bor Bytes) → LentAt source (head_place head.entry) (head_key head.entry)
         → LentAt source start rest.entry → IsLent source result }
 {

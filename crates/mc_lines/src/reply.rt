@@ -10,7 +10,7 @@ pub struct Value {
     pub flags: u32,
     pub stored: Vec<u8>,
     /// The number of the change that stored it. Only a gets tells it.
-    pub unique: u64,
+    pub cas_unique: u64,
 }
 
 /// A reply, which owns what it tells.
@@ -31,14 +31,14 @@ pub enum Reply {
     /// What was found of the keys of a get or gets.
     Values {
         values: Vec<Value>,
-        with_unique: bool,
+        with_cas_unique: bool,
     },
     /// The cache is full.
-    NoRoom,
+    OutOfMemory,
     /// The joined data would be too long.
-    TooLong,
+    TooLarge,
     /// What is stored is no number.
-    NoNumber,
+    NonNumeric,
     /// The command is no request.
     NoRequest,
 }

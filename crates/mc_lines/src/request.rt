@@ -30,7 +30,7 @@ pub enum Request<'a> {
         key: &'a [u8],
         flags: u32,
         stored: &'a [u8],
-        unique: u64,
+        cas_unique: u64,
     },
     /// What these keys have.
     Get(Keys<'a>),

@@ -17,7 +17,7 @@ use ids::Fault;
 struct Numbers {
     flags: Decimal,
     size: Decimal,
-    unique: Decimal,
+    cas_unique: Decimal,
 }
 
 /// The name of a storage command.
@@ -60,21 +60,21 @@ fn write_cas(
     key: &[u8],
     flags: u32,
     stored: &[u8],
-    unique: u64,
+    cas_unique: u64,
     out: &mut Vec<u8>,
 ) -> Result<(), Fault>
-    ensures { IsAppended out.old out.new (canonical (cas key.now flags stored.now unique)) result }
+    ensures { IsAppended out.old out.new (canonical (cas key.now flags stored.now cas_unique)) result }
 {
     let flags = Decimal::new(u64::from(flags));
     let flags = flags.as_slice();
     let size = Decimal::new(stored.len() as u64);
     let size = size.as_slice();
-    let unique = Decimal::new(unique);
-    let unique = unique.as_slice();
+    let cas_unique = Decimal::new(cas_unique);
+    let cas_unique = cas_unique.as_slice();
     append(
         out,
         &[
-            b"cas ", key, b" ", flags, b" 0 ", size, b" ", unique, b"\r\n", stored, b"\r\n",
+            b"cas ", key, b" ", flags, b" 0 ", size, b" ", cas_unique, b"\r\n", stored, b"\r\n",
         ],
     )
 }
@@ -114,8 +114,8 @@ pub fn write_request(request: &Request<'_>, out: &mut Vec<u8>) -> Result<(), Fau
             key,
             flags,
             stored,
-            unique,
-        } => write_cas(key, flags, stored, unique, out),
+            cas_unique,
+        } => write_cas(key, flags, stored, cas_unique, out),
         Request::Get(keys) => write_line(b"get", keys.text, out),
         Request::Gets(keys) => write_line(b"gets", keys.text, out),
         Request::Delete { key } => write_line(b"delete", key, out),
@@ -129,30 +129,30 @@ impl Numbers {
     fn of(value: &Value) -> Numbers
         ensures flags { result.flags ≡ decimal value.now.flags }
         ensures size { result.size ≡ decimal (length value.now.stored.items) }
-        ensures unique { result.unique ≡ decimal value.now.unique }
+        ensures cas_unique { result.cas_unique ≡ decimal value.now.cas_unique }
     {
         Numbers {
             flags: Decimal::new(u64::from(value.flags)),
             size: Decimal::new(value.stored.len() as u64),
-            unique: Decimal::new(value.unique),
+            cas_unique: Decimal::new(value.cas_unique),
         }
     }
 }
 
 /// The text of a value, in parts.
-fn value_parts<'a>(value: &'a Value, numbers: &'a Numbers, with_unique: bool) -> [&'a [u8]; 11]
+fn value_parts<'a>(value: &'a Value, numbers: &'a Numbers, with_cas_unique: bool) -> [&'a [u8]; 11]
     requires flags { numbers.now.flags ≡ decimal value.now.flags }
     requires size { numbers.now.size ≡ decimal (length value.now.stored.items) }
-    requires unique { numbers.now.unique ≡ decimal value.now.unique }
-    ensures { joined result ≡ value_text with_unique (value_of value.now) }
+    requires cas_unique { numbers.now.cas_unique ≡ decimal value.now.cas_unique }
+    ensures { joined result ≡ value_text with_cas_unique (value_of value.now) }
 {
-    let gap = if with_unique {
+    let gap = if with_cas_unique {
         b" ".as_slice()
     } else {
         b"".as_slice()
     };
-    let unique = if with_unique {
-        numbers.unique.as_slice()
+    let cas_unique = if with_cas_unique {
+        numbers.cas_unique.as_slice()
     } else {
         b"".as_slice()
     };
@@ -164,7 +164,7 @@ fn value_parts<'a>(value: &'a Value, numbers: &'a Numbers, with_unique: bool) ->
         b" ",
         numbers.size.as_slice(),
         gap,
-        unique,
+        cas_unique,
         b"\r\n",
         value.stored.as_slice(),
         b"\r\n",
@@ -172,54 +172,57 @@ fn value_parts<'a>(value: &'a Value, numbers: &'a Numbers, with_unique: bool) ->
 }
 
 /// So many bytes, and those of the text of a value.
-fn add_value_len(len: usize, value: &Value, with_unique: bool) -> Result<usize, Fault>
-    ensures { IsLength result (len + length (value_text with_unique (value_of value.now))) }
+fn add_value_len(len: usize, value: &Value, with_cas_unique: bool) -> Result<usize, Fault>
+    ensures { IsLength result (len + length (value_text with_cas_unique (value_of value.now))) }
 {
     let numbers = Numbers::of(value);
-    let parts = value_parts(value, &numbers, with_unique);
+    let parts = value_parts(value, &numbers, with_cas_unique);
     add_parts_len(len, &parts)
 }
 
 /// Appends the text of a value, for which there is room.
-fn put_value(out: &mut Vec<u8>, value: &Value, with_unique: bool)
-    requires { vec_len out.old + length (value_text with_unique (value_of value.now)) ≤ vec_capacity out.old }
-    ensures items { out.new.items ≡ out.old.items ++ value_text with_unique (value_of value.now) }
-    ensures len { vec_len out.new ≡ vec_len out.old + length (value_text with_unique (value_of value.now)) }
+fn put_value(out: &mut Vec<u8>, value: &Value, with_cas_unique: bool)
+    requires { vec_len out.old + length (value_text with_cas_unique (value_of value.now))
+        ≤ vec_capacity out.old }
+    ensures items { out.new.items ≡ out.old.items ++ value_text with_cas_unique (value_of value.now) }
+    ensures len { vec_len out.new
+        ≡ vec_len out.old + length (value_text with_cas_unique (value_of value.now)) }
     ensures capacity { vec_capacity out.old ≤ vec_capacity out.new }
 {
     let numbers = Numbers::of(value);
-    let parts = value_parts(value, &numbers, with_unique);
+    let parts = value_parts(value, &numbers, with_cas_unique);
     put_parts(out, &parts);
 }
 
 /// So many bytes, and those of the texts of values.
-fn add_values_len(mut len: usize, values: &[Value], with_unique: bool) -> Result<usize, Fault>
-    ensures { IsLength result (len + length (values_text with_unique values.now)) }
+fn add_values_len(mut len: usize, values: &[Value], with_cas_unique: bool) -> Result<usize, Fault>
+    ensures { IsLength result (len + length (values_text with_cas_unique values.now)) }
 {
     for value in values {
-        len = add_value_len(len, value, with_unique)?;
+        len = add_value_len(len, value, with_cas_unique)?;
     }
     Ok(len)
 }
 
 /// Appends the texts of values, for which there is room.
-fn put_values(out: &mut Vec<u8>, values: &[Value], with_unique: bool)
-    requires { vec_len out.old + length (values_text with_unique values.now) ≤ vec_capacity out.old }
-    ensures items { out.new.items ≡ out.old.items ++ values_text with_unique values.now }
-    ensures len { vec_len out.new ≡ vec_len out.old + length (values_text with_unique values.now) }
+fn put_values(out: &mut Vec<u8>, values: &[Value], with_cas_unique: bool)
+    requires { vec_len out.old + length (values_text with_cas_unique values.now) ≤ vec_capacity out.old }
+    ensures items { out.new.items ≡ out.old.items ++ values_text with_cas_unique values.now }
+    ensures len { vec_len out.new ≡ vec_len out.old + length (values_text with_cas_unique values.now) }
     ensures capacity { vec_capacity out.old ≤ vec_capacity out.new }
 {
     for value in values {
-        put_value(out, value, with_unique);
+        put_value(out, value, with_cas_unique);
     }
 }
 
 /// Appends the reply to a get or gets.
-fn write_values(values: &[Value], with_unique: bool, out: &mut Vec<u8>) -> Result<(), Fault>
-    ensures { IsAppended out.old out.new (values_text with_unique values.now ++ ended (codes "END")) result }
+fn write_values(values: &[Value], with_cas_unique: bool, out: &mut Vec<u8>) -> Result<(), Fault>
+    ensures { IsAppended out.old out.new (values_text with_cas_unique values.now ++ ended (codes "END"))
+        result }
 {
-    out.reserve(add_values_len(5, values, with_unique)?)?;
-    put_values(out, values, with_unique);
+    out.reserve(add_values_len(5, values, with_cas_unique)?)?;
+    put_values(out, values, with_cas_unique);
     put(out, b"END\r\n");
     Ok(())
 }
@@ -239,11 +242,11 @@ pub fn write_reply(reply: &Reply, out: &mut Vec<u8>) -> Result<(), Fault>
         Reply::Number(n) => append(out, &[Decimal::new(*n).as_slice(), b"\r\n"]),
         Reply::Values {
             values,
-            with_unique,
-        } => write_values(values, *with_unique, out),
-        Reply::NoRoom => append(out, &[b"SERVER_ERROR out of memory storing object\r\n"]),
-        Reply::TooLong => append(out, &[b"SERVER_ERROR object too large for cache\r\n"]),
-        Reply::NoNumber => append(
+            with_cas_unique,
+        } => write_values(values, *with_cas_unique, out),
+        Reply::OutOfMemory => append(out, &[b"SERVER_ERROR out of memory storing object\r\n"]),
+        Reply::TooLarge => append(out, &[b"SERVER_ERROR object too large for cache\r\n"]),
+        Reply::NonNumeric => append(
             out,
             &[b"CLIENT_ERROR cannot increment or decrement non-numeric value\r\n"],
         ),

@@ -17,34 +17,43 @@ const LIARS: [&str; 3] = ["mute", "two-faced", "bad-reply"];
 
 /// What the words of a command line say.
 pub(crate) fn matches_of(alloc: Global, words: &[String]) -> Result<ArgMatches<'_>, Error> {
-    let keys = Arg::new(alloc, "keys")
-        .long("keys")
-        .value_name("FILE")
-        .required(true)
-        .help("The key file");
-    let faults = Arg::new(alloc, "faults")
-        .long("faults")
-        .value_name("F")
-        .value_parser(value_parser!(u8))
-        .default_value("1")
-        .help("How many faulty replicas are tolerated, of 3 F + 1");
-    let clients = Arg::new(alloc, "clients")
-        .long("clients")
-        .value_name("C")
-        .value_parser(value_parser!(u8))
-        .default_value("8")
-        .help("How many connections are served at once");
     let command = Command::new(alloc, "mcbft")
         .bin_name("mcbft")?
         .about("Serves memcached's text protocol from replicas, some of which may lie")
         .after_help(EXAMPLE)
-        .arg(keys)?
-        .arg(faults)?
-        .arg(clients)?
+        .arg(keys_arg(alloc))?
+        .arg(faults_arg(alloc))?
+        .arg(clients_arg(alloc))?
         .arg(port_arg(alloc))?
         .arg(liar_arg(alloc))?
         .arg(serve_arg(alloc))?;
     command.try_get_matches_from(words)
+}
+
+fn keys_arg(alloc: Global) -> Arg<'static> {
+    Arg::new(alloc, "keys")
+        .long("keys")
+        .value_name("FILE")
+        .required(true)
+        .help("The key file")
+}
+
+fn faults_arg(alloc: Global) -> Arg<'static> {
+    Arg::new(alloc, "faults")
+        .long("faults")
+        .value_name("F")
+        .value_parser(value_parser!(u8))
+        .default_value("1")
+        .help("How many faulty replicas are tolerated, of 3 F + 1")
+}
+
+fn clients_arg(alloc: Global) -> Arg<'static> {
+    Arg::new(alloc, "clients")
+        .long("clients")
+        .value_name("C")
+        .value_parser(value_parser!(u8))
+        .default_value("8")
+        .help("How many connections are served at once")
 }
 
 fn port_arg(alloc: Global) -> Arg<'static> {

@@ -11,7 +11,7 @@ use Rattle.definitions.specs.Branches.{Branch}
 use Rattle.definitions.specs.Lists.{greatest}
 use Rattle.definitions.specs.Histories.{Entry, History, last_seq, history_of}
 use Rattle.definitions.specs.Chronicles.{Chronicle, Step, Step.noted, Note.got_request, history, executed}
-use Rattle.definitions.specs.Chronicles.{decided, taken}
+use Rattle.definitions.specs.Chronicles.{decided, taken_blocks}
 use Rattle.definitions.specs.States.{is_due, is_same_request, pending, picks, with_request}
 use Rattle.mempool.specs.Laws.{FollowsRequest, IsLeftBy, IsPicked}
 use Rattle.mempool.specs.Pool.{is_up_to, left_after, first_beside}
@@ -92,7 +92,7 @@ left_by c s new w h =
 
 -- a request changes no history
 pub request-history : (c : Chronicle) (r : Command) → history (noted (got_request r) ∷ c) ≡ history c
-unfolding history executed decided taken
+unfolding history executed decided taken_blocks
 request-history c r = refl
 
 same_branches : {A : Type 0} (b : Bool) (x : A) → (if b then x else x) ≡ x

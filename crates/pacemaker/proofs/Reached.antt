@@ -14,7 +14,7 @@ use Rattle.definitions.specs.Branches.{Branch}
 use Rattle.definitions.specs.Chronicles.{Chronicle, Step, Step.took_block, Step.noted, Note.got_vote}
 use Rattle.definitions.specs.Chronicles.{Note.got_new_view, Note.got_request, Note.got_fetch}
 use Rattle.definitions.specs.Chronicles.{Note.timed_out, Note.beat}
-use Rattle.definitions.specs.States.{announcements, announced, reached, view}
+use Rattle.definitions.specs.States.{announcements, announced, reached_view, view}
 use Rattle.definitions.proofs.Lists.{greatest-above, Among-map, Among-mapped, Among-kept}
 use Rattle.definitions.proofs.Counts.{count-same}
 use Rattle.pacemaker.specs.Pacing.{Pace, IsPaceOf, LeavesPace, IsReached, passed_by}
@@ -67,8 +67,8 @@ announced-among i c =
 -- what a pacemaker finds is what the chronicle says
 pub reached-is : (c : Chronicle) (p : Pace) (v : ℕ)
     → ((i : ℕ) → i < replicas p.sizes → slice_index p.announced i ≡ announced i c) → IsReached p v
-    → reached p.sizes c ≡ v
-unfolding reached
+    → reached_view p.sizes c ≡ v
+unfolding reached_view
 reached-is c p v rows r =
     let n = replicas p.sizes in
     let f = p.sizes.faults in
@@ -137,7 +137,7 @@ row_next p c v sender q b o l most i below =
 
 view-next : (s : Sizes) (v sender : ℕ) (q : Certificate) (b : Branch) (c : Chronicle)
     → view s (noted (got_new_view v sender q b) ∷ c)
-    ≡ max (view s c) (reached s (noted (got_new_view v sender q b) ∷ c))
+    ≡ max (view s c) (reached_view s (noted (got_new_view v sender q b) ∷ c))
 unfolding view
 view-next s v sender q b c = refl
 
@@ -171,9 +171,9 @@ pub paced-next : (p n new : Pace) (c : Chronicle) (v sender w r : ℕ) (q : Cert
     → IsPaceOf c p → sender < replicas p.sizes → replicas p.sizes ≤ MOST_REPLICAS →
     n ≡ with_announced p v sender → IsReached n r → new ≡ record n { view = w } → w ≡ max n.view r →
     IsPaceOf (noted (got_new_view v sender q b) ∷ c) new
-paced-next p n new c v sender w r q b o l most noted_is reached new_is e =
+paced-next p n new c v sender w r q b o l most noted_is reached_view new_is e =
     let m = with_announced p v sender in
-    let reached' : IsReached m r = subst (λ (x : Pace). IsReached x r) noted_is reached in
+    let reached' : IsReached m r = subst (λ (x : Pace). IsReached x r) noted_is reached_view in
     let is = reached-is (noted (got_new_view v sender q b) ∷ c) m r (row_next p c v sender q b o l most)
     reached' in
     let e' : w ≡ max p.view r = e ∙ ap (λ (x : Pace). max x.view r) noted_is in

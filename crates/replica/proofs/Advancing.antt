@@ -16,7 +16,8 @@ use Rattle.mempool.proofs.Following.{pending-due}
 use Rattle.definitions.specs.FrameLimits.{IsCore}
 use Rattle.definitions.specs.Branches.{Branch}
 use Rattle.definitions.specs.Digests.{digest_of}
-use Rattle.definitions.specs.Chronicles.{Note, Step, Step.took_block, Step.noted, Chronicle, taken, stored}
+use Rattle.definitions.specs.Chronicles.{Note, Step, Step.took_block, Step.noted, Chronicle, taken_blocks}
+use Rattle.definitions.specs.Chronicles.{stored_blocks}
 use Rattle.definitions.specs.Chronicles.{tree, decided, executed, history, IsSound}
 use Rattle.definitions.specs.Histories.{History, history_of, Answer, answers}
 use Rattle.definitions.specs.Keyrings.{Keys}
@@ -36,8 +37,8 @@ use Rattle.linear_law.proofs.FitAnswers.{answers-fit}
 use Rattle.linear_law.proofs.Inputs.{Carries, FromInput, AllStanding, ruling-from}
 use Rattle.linear_law.proofs.Rows.{taken-known, step-known}
 use Rattle.executor.specs.State.{new_answers}
-use Rattle.replica.specs.Steps.{Sent, bytes_of, shown, Shows}
-use Rattle.replica.specs.Kept.{Variables, Kept, waiting, IsStateOf, AreFit, AreStored}
+use Rattle.replica.specs.Steps.{SentBytes, bytes_of, shown, Shows}
+use Rattle.replica.specs.Kept.{Variables, StateParts, waiting, IsStateOf, AreFit, AreStored}
 use Rattle.replica.specs.Changes.{asked, sent_first}
 use Rattle.replica.specs.Inputs.{IsFitInput}
 use Rattle.replica.specs.Execution.{history_above, IsCut, is_sendable, told}
@@ -62,7 +63,7 @@ fit-carried s beat_in core q f c h = absurd c
 
 fit-from : (s : Sizes) (i : Input) (st : Step) (c : Chronicle) → IsFitInput s i → FromInput i st
     → IsSound s (st ∷ c) → AreFit s c → AreFit s (st ∷ c)
-unfolding tree stored taken
+unfolding tree stored_blocks taken_blocks
 fit-from s i (took_block a) c h from so fit x m =
     step-known (IsCore s) a c a.new refl
     (λ n. taken-known (IsCore s) s a c (so.lawful.0.1 n) fit
@@ -96,7 +97,7 @@ told-all keys (a ∷ xs) h =
     ++ told-all keys xs (λ x m. h x (inr m)) i
 
 history-noted : (n : Note) (c : Chronicle) → history (noted n ∷ c) ≡ history c
-unfolding history executed decided taken
+unfolding history executed decided taken_blocks
 history-noted n c = refl
 
 -- what is sent first, and then the replies
@@ -120,7 +121,7 @@ sent-whole keys (took_block a) c k so fit =
     → Among x (answers (history (st ∷ c))) =
     λ x m. subst (Among x) (sym same)
     (Among-before x z.0 (answers (history c)) (Among-reverse z.0 x (subst (Among x) new m))) in
-    ap (λ (l : List Sent). shown (sent_first self st c) ++ l)
+    ap (λ (l : List SentBytes). shown (sent_first self st c) ++ l)
     (told-all keys (new_answers (history c) (history (st ∷ c)))
     (λ x m. sendable-is keys (st ∷ c) so fit x (among x m)))
     ∙ sym (map-append bytes_of (sent_first self st c) (new_replies self st c))
@@ -128,18 +129,19 @@ sent-whole keys (took_block a) c k so fit =
 -- ---- the step
 
 -- what is kept of a replica that goes on
-pub state-going : (keys : Keys) (c : Chronicle) (s : Kept) (h : History) → IsWholeOf keys (going c) s h
+pub state-going : (keys : Keys) (c : Chronicle) (s : StateParts) (h : History) → IsWholeOf keys (going c) s h
     → IsStateOf keys c s
 unfolding held_pending
 state-going keys c s h o = subst (λ (l : List Command). IsStateOf keys c (waiting l s)) (sym o.waits) o.state
 
-pub history-going : (keys : Keys) (c : Chronicle) (s : Kept) (h : History) → IsWholeOf keys (going c) s h
+pub history-going : (keys : Keys) (c : Chronicle) (s : StateParts) (h : History)
+    → IsWholeOf keys (going c) s h
     → h ≡ history c
 unfolding held_history
 history-going keys c s h o = o.history
 
 -- the last executed block before and after a step
-module _ (keys : Keys) (st : Step) (c : Chronicle) (calm : conflicts st c ≡ false) (s : Kept)
+module _ (keys : Keys) (st : Step) (c : Chronicle) (calm : conflicts st c ≡ false) (s : StateParts)
     (is : IsStateOf keys (st ∷ c) s) where
   top : Branch
   top = executed (st ∷ c)
@@ -169,7 +171,7 @@ module _ (keys : Keys) (st : Step) (c : Chronicle) (calm : conflicts st c ≡ fa
       n
       ∙ (λ i. history_above (is.same i).rules.executed.digest (is.same i).stored (length (executed c))
       ((is.same i).rules.executed.height - length (executed c)) (e i))
-      ∙ ap (λ (b : Branch). history_above (digest_of top) (stored (st ∷ c)) (length (executed c))
+      ∙ ap (λ (b : Branch). history_above (digest_of top) (stored_blocks (st ∷ c)) (length (executed c))
       (length top - length (executed c)) (history_of b)) (sym begins)
       ∙ history-is keys.sizes (st ∷ c) is.sound top top-in (length (executed c))
       (length top - length (executed c)) (omega (arith, whole))
@@ -199,7 +201,7 @@ module _ (keys : Keys) (st : Step) (c : Chronicle) (calm : conflicts st c ≡ fa
       → IsBetween (st ∷ c) top (length (executed c)) new waits left
   unfolding top history
   history-part h new waits left e k =
-      let cut = subst (λ (b : History). IsCut (digest_of top) (stored (st ∷ c)) (length (executed c))
+      let cut = subst (λ (b : History). IsCut (digest_of top) (stored_blocks (st ∷ c)) (length (executed c))
       (length top) b new waits left) (e ∙ ap history_of (sym begins))
       (subst (λ (v : Variables). IsCut v.rules.executed.digest v.stored (length (executed c))
       v.rules.executed.height h new waits left) is.same k) in
@@ -227,7 +229,7 @@ asked-executing (noted n) c l =
 module _ (keys : Keys) (i : Input) (c : Chronicle) (h : History) (before : h ≡ history c)
     (fit : AreFit keys.sizes c) (well : AreStored c) (frame : IsFitInput keys.sizes i) where
   -- what was decided is executed
-  pub sends-all : (out more : List Sent) (s after : Kept) (new : History)
+  pub sends-all : (out more : List SentBytes) (s after : StateParts) (new : History)
       → Stands keys (ruling (identity_of keys) i c) c out s
       → new
       ≡ history_above s.variables.rules.executed.digest s.variables.stored (length (executed c))
@@ -244,7 +246,7 @@ module _ (keys : Keys) (i : Input) (c : Chronicle) (h : History) (before : h ≡
       let fits = fit-step keys i st c t.is_due frame t.state.sound fit in
       let is = history-up keys st c t.calm (waiting (pending (st ∷ c)) s) t.state h new before n in
       let left = waits-up keys st c t.calm (waiting (pending (st ∷ c)) s) t.state s.pending after.pending
-      t.waits (ap (λ (k : Kept). k.pending) a) in
+      t.waits (ap (λ (k : StateParts). k.pending) a) in
       let both : Bool → Replica × Reaction =
       λ b. cond b (stopped_at c, fails fault.Conflict)
       (record { chronicle = st ∷ c; standing = running }, sends_out (sendings self st c)) in
@@ -256,7 +258,7 @@ module _ (keys : Keys) (i : Input) (c : Chronicle) (h : History) (before : h ≡
         replica_is = ap (λ (r : Replica × Reaction). r.0) done;
         whole = record {
           state = subst
-              (λ (k : Kept). IsStateOf keys (st ∷ c) (waiting (pending (st ∷ c)) k)) (sym a) t.state;
+              (λ (k : StateParts). IsStateOf keys (st ∷ c) (waiting (pending (st ∷ c)) k)) (sym a) t.state;
           waits = left;
           history = is;
           fit = fits;
@@ -269,7 +271,7 @@ module _ (keys : Keys) (i : Input) (c : Chronicle) (h : History) (before : h ≡
       }
 
   -- memory was refused in between
-  pub stops-short : (out : List Sent) (s after : Kept) (new : History)
+  pub stops-short : (out : List SentBytes) (s after : StateParts) (new : History)
       → Stands keys (ruling (identity_of keys) i c) c out s → after ≡ waiting after.pending s
       → IsCut s.variables.rules.executed.digest s.variables.stored (length (executed c))
       s.variables.rules.executed.height h new s.pending after.pending
@@ -317,7 +319,8 @@ module _ (keys : Keys) (i : Input) (c : Chronicle) (h : History) (before : h ≡
             ∙ ap (λ (n : ℕ). record { chronicle = st ∷ c; standing = cut_short n }) held;
         whole = record {
           state =
-              subst (λ (x : Kept). IsStateOf keys (st ∷ c) (waiting (pending (st ∷ c)) x)) (sym a) t.state;
+              subst (λ (x : StateParts). IsStateOf keys (st ∷ c) (waiting (pending (st ∷ c)) x)) (sym a)
+              t.state;
           waits =
               b.left_are ∙ ap (left_after b.new) (t.waits ∙ asked-executing st c some)
               ∙ sym (held-waits st c (length new) b.new whole);
@@ -342,7 +345,7 @@ module _ (keys : Keys) (i : Input) (c : Chronicle) (h : History) (before : h ≡
   waits-all false = refl
 
   -- nothing changed
-  pub refuses : (n : Fault) (s : Kept) → IsRefused keys (ruling (identity_of keys) i c) c n s
+  pub refuses : (n : Fault) (s : StateParts) → IsRefused keys (ruling (identity_of keys) i c) c n s
       → Advances keys i c (Refused n) s h
   refuses n s r = record {
     memory = r.memory;

@@ -14,7 +14,7 @@ use Rattle.definitions.specs.Keyrings.{Keys}
 use Rattle.definitions.specs.Checks.{identity_of}
 use Rattle.definitions.specs.Trees.{blocks, find_in}
 use Rattle.definitions.specs.Chronicles.{Note, Step.noted, Note.got_new_view, Note.timed_out, Chronicle}
-use Rattle.definitions.specs.Chronicles.{stored, tree, IsSound}
+use Rattle.definitions.specs.Chronicles.{stored_blocks, tree, IsSound}
 use Rattle.definitions.specs.States.{Justified, view, qc_high, find_block, raised, leaf}
 use Rattle.definitions.specs.Rulings.{Input.timeout_in, Input.new_view_in, Ruling, ruling, conflicts}
 use Rattle.definitions.specs.Rulings.{with_block}
@@ -30,8 +30,8 @@ use Rattle.replica.specs.declared.change.Change.{Change}
 use Rattle.replica.specs.declared.state.High.{High}
 use Rattle.replica.specs.declared.stored.GotNewView.{GotNewView}
 use Rattle.replica.specs.Replay.{or_genesis}
-use Rattle.replica.specs.Steps.{Sent, shown}
-use Rattle.replica.specs.Kept.{Variables, Kept, high_of, variables_of, IsStateOf}
+use Rattle.replica.specs.Steps.{SentBytes, shown}
+use Rattle.replica.specs.Kept.{Variables, StateParts, high_of, variables_of, IsStateOf}
 use Rattle.replica.specs.Changes.{changed_variables, raise_of, IsStep}
 use Rattle.replica.specs.Announcements.{new_view_sent, timeout_change, IsTimeout, new_view_change}
 use Rattle.replica.specs.Announcements.{IsAnnounced, IsNewViewAt, IsNewView}
@@ -57,7 +57,7 @@ qc-timeout : (s : Sizes) (c : Chronicle) → qc_high s (noted timed_out ∷ c) �
 unfolding qc_high raised
 qc-timeout s c = refl
 
-timeout-step : (keys : Keys) (c : Chronicle) (s : Kept) (d : Change) → IsStateOf keys c s
+timeout-step : (keys : Keys) (c : Chronicle) (s : StateParts) (d : Change) → IsStateOf keys c s
     → IsTimeout keys s d → IsStep keys c (noted timed_out) s.pace d
 unfolding Rattle.replica.proofs.Steps.is_beat raised
 timeout-step keys c s d o t =
@@ -81,7 +81,7 @@ timeout-brings : (keys : Keys) (c : Chronicle) → BringsKnown keys.sizes (noted
 unfolding raised
 timeout-brings keys c q e = absurd (let k : None ≡ Some q = e in cc)
 
-pub timeout-decided : (keys : Keys) (c : Chronicle) (s : Kept) (result : Result Change Fault)
+pub timeout-decided : (keys : Keys) (c : Chronicle) (s : StateParts) (result : Result Change Fault)
     → IfOk result (IsTimeout keys s) → OnErr result (result ≡ Err fault.Memory) → IsStateOf keys c s
     → StepsTo keys timeout_in c (answer result) (after result s)
 unfolding ruling conflicts
@@ -91,7 +91,7 @@ timeout-decided keys c s (Ok d) made memory o =
     (calm (noted timed_out) c s.pending refl o.waits) o (timeout-step keys c s d o made) tt
     (ap (λ (x : Change). collects x.growth) made.change)
 timeout-decided keys c s (Err n) made memory o =
-    subst (λ (x : Result (List Sent) Fault). StepsTo keys timeout_in c x s) (sym (ap answer memory))
+    subst (λ (x : Result (List SentBytes) Fault). StepsTo keys timeout_in c x s) (sym (ap answer memory))
     (refused-for-memory keys _ c (noted timed_out) s refl o)
 
 -- ---- an announced view
@@ -136,12 +136,12 @@ module _ (keys : Keys) (c : Chronicle) (n : GotNewView) (b : Branch)
 
   -- the announcement as it is stored
   note-is : noted (got_new_view n.view n.sender n.certificate
-      (or_genesis (find_in n.certificate.digest (blocks (stored c))))) ≡ noted note
+      (or_genesis (find_in n.certificate.digest (blocks (stored_blocks c))))) ≡ noted note
   unfolding note tree
   note-is =
       ap (λ (o : Option Branch). noted (got_new_view n.view n.sender n.certificate (or_genesis o))) found
 
-  announced-step : (s : Kept) (d : Change) → IsStateOf keys c s → IsAnnounced keys s block n d
+  announced-step : (s : StateParts) (d : Change) → IsStateOf keys c s → IsAnnounced keys s block n d
       → IsStep keys c (noted note) s.pace d
   unfolding block Rattle.replica.proofs.Steps.is_beat
   announced-step s d o t =
@@ -167,7 +167,7 @@ module _ (keys : Keys) (c : Chronicle) (n : GotNewView) (b : Branch)
         out = (λ i. cond (nat_lt (was i) (at i)) (new_view_sent keys (at i) (q i) ∷ []) []) ∙ sent-is;
       })
 
-  announced-block : (s : Kept) (d : Change)
+  announced-block : (s : StateParts) (d : Change)
       → IsAnnounced keys s (record { digest = n.certificate.digest; height = length b }) n d
       → IsAnnounced keys s block n d
   unfolding block
@@ -188,7 +188,7 @@ module _ (keys : Keys) (c : Chronicle) (n : GotNewView) (b : Branch)
       (tree-grows (noted note) c b (found-in n.certificate.digest (tree c) b found).0)
 
 -- by what is found
-new-view-by : (keys : Keys) (c : Chronicle) (s : Kept) (n : GotNewView) (result : Result Change Fault)
+new-view-by : (keys : Keys) (c : Chronicle) (s : StateParts) (n : GotNewView) (result : Result Change Fault)
     → IsStateOf keys c s → (o : Option Branch) → find_in n.certificate.digest (tree c) ≡ o
     → IsNewViewAt keys s n result o
     → Follows keys (with_block o n.sender n.certificate.digest
@@ -210,13 +210,13 @@ new-view-by keys c s n (Err f) o (Some b) e h =
     (refused-for-memory keys _ c (noted (got_new_view n.view n.sender n.certificate b)) s refl o)
 
 pub new-view-decided :
-    (keys : Keys) (c : Chronicle) (s : Kept) (n : GotNewView) (result : Result Change Fault)
+    (keys : Keys) (c : Chronicle) (s : StateParts) (n : GotNewView) (result : Result Change Fault)
     → IsNewView keys s n result → IsStateOf keys c s
     → StepsTo keys (new_view_in n.view n.sender n.certificate) c (answer result) (after result s)
 unfolding ruling find_block tree
 new-view-decided keys c s n result h o =
     let same = ap (λ (v : Variables). find_in n.certificate.digest (blocks v.stored)) o.same in
-    new-view-by keys c s n result o (find_in n.certificate.digest (blocks (stored c))) refl
+    new-view-by keys c s n result o (find_in n.certificate.digest (blocks (stored_blocks c))) refl
     (subst (IsNewViewAt keys s n result) same h)
 
 -- whether it moved, as a test

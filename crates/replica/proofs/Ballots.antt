@@ -11,7 +11,8 @@ use Rattle.definitions.specs.Branches.{Branch}
 use Rattle.definitions.specs.Keyrings.{Keys}
 use Rattle.definitions.specs.Checks.{identity_of}
 use Rattle.definitions.specs.Trees.{blocks, find_in}
-use Rattle.definitions.specs.Chronicles.{Note, Step.noted, Note.got_vote, Chronicle, stored, tree, IsSound}
+use Rattle.definitions.specs.Chronicles.{Note, Step.noted, Note.got_vote, Chronicle, stored_blocks, tree}
+use Rattle.definitions.specs.Chronicles.{IsSound}
 use Rattle.definitions.specs.States.{Justified, qc_high, find_block, raised, leaf}
 use Rattle.definitions.specs.Rulings.{Input.vote_in, ruling, conflicts, with_block}
 use Rattle.definitions.specs.Rulings as rulings
@@ -29,7 +30,7 @@ use Rattle.replica_rules.specs.declared.block_ref.BlockRef.{BlockRef}
 use Rattle.replica_rules.specs.Ruled.{ref_of}
 use Rattle.replica.specs.declared.change.Change.{Change}
 use Rattle.replica.specs.Replay.{or_genesis}
-use Rattle.replica.specs.Kept.{Variables, Kept, variables_of, IsStateOf}
+use Rattle.replica.specs.Kept.{Variables, StateParts, variables_of, IsStateOf}
 use Rattle.replica.specs.Changes.{pended, changed, changed_variables, votes_after, IsStep}
 use Rattle.replica.specs.Ballots.{vote_noted, vote_counted, vote_change, IsVoteAt, IsVoteDecided}
 use Rattle.replica.specs.StepsTo.{Follows, StepsTo, answer, after}
@@ -41,7 +42,7 @@ made-by : (t : Bool) (p q : Justified) → cond t (Some p) None ≡ Some q → p
 made-by true p q e = same-some p q e
 made-by false p q e = absurd (let k : None ≡ Some q = e in cc)
 
-module _ (keys : Keys) (c : Chronicle) (s : Kept) (is : IsStateOf keys c s) (d : Bytes) (vote : Vote)
+module _ (keys : Keys) (c : Chronicle) (s : StateParts) (is : IsStateOf keys c s) (d : Bytes) (vote : Vote)
     (b : Branch) (found : find_in d (tree c) ≡ Some b) where
   note : Note
   note = got_vote vote.voter vote.vector b
@@ -58,7 +59,8 @@ module _ (keys : Keys) (c : Chronicle) (s : Kept) (is : IsStateOf keys c s) (d :
   is-note = refl
 
   -- the vote as it is stored
-  note-is : noted (got_vote vote.voter vote.vector (or_genesis (find_in d (blocks (stored c))))) ≡ noted note
+  note-is : noted (got_vote vote.voter vote.vector (or_genesis (find_in d (blocks (stored_blocks c)))))
+      ≡ noted note
   unfolding note tree
   note-is = ap (λ (o : Option Branch). noted (got_vote vote.voter vote.vector (or_genesis o))) found
 
@@ -163,7 +165,7 @@ module _ (keys : Keys) (c : Chronicle) (s : Kept) (is : IsStateOf keys c s) (d :
       (ruling-sound (identity_of keys) (vote_in d vote) c tt is.sound)
 
 -- it leaves the requests that wait
-counted-waits : (s : Kept) (block : BlockRef) (vote : Vote)
+counted-waits : (s : StateParts) (block : BlockRef) (vote : Vote)
     → pended (vote_change s block vote).growth s.pending ≡ s.pending
 counted-waits s block vote =
     cond_both (nat_lt s.variables.high.block.height block.height) _ (vote_noted s block vote) P
@@ -178,7 +180,8 @@ counted-waits s block vote =
     by Complete = refl
 
 -- by what is found
-vote-by : (keys : Keys) (c : Chronicle) (s : Kept) (d : Bytes) (vote : Vote) (result : Result Change Fault)
+vote-by :
+    (keys : Keys) (c : Chronicle) (s : StateParts) (d : Bytes) (vote : Vote) (result : Result Change Fault)
     → IsStateOf keys c s → (o : Option Branch) → find_in d (tree c) ≡ o → IsVoteAt s d vote result o
     → Follows keys
     (with_block o vote.voter d (λ x. rulings.due (noted (got_vote vote.voter vote.vector x)))) c
@@ -203,11 +206,11 @@ vote-by keys c s d vote (Err f) is (Some b) e h =
 
 -- what a vote comes to
 pub vote-decided :
-    (keys : Keys) (c : Chronicle) (s : Kept) (d : Bytes) (vote : Vote) (result : Result Change Fault)
+    (keys : Keys) (c : Chronicle) (s : StateParts) (d : Bytes) (vote : Vote) (result : Result Change Fault)
     → IsVoteDecided s d vote result → IsStateOf keys c s
     → StepsTo keys (vote_in d vote) c (answer result) (after result s)
 unfolding ruling find_block tree
 vote-decided keys c s d vote result h is =
     let same = ap (λ (v : Variables). find_in d (blocks v.stored)) is.same in
-    vote-by keys c s d vote result is (find_in d (blocks (stored c))) refl
+    vote-by keys c s d vote result is (find_in d (blocks (stored_blocks c))) refl
     (subst (IsVoteAt s d vote result) same h)

@@ -28,7 +28,8 @@ use Rattle.replica.proofs.Executing.{above-appended, history-is}
 use Rattle.std.proofs.lemmas.List.{append-nil}
 use Rattle.definitions.specs.Digests.{digest_of, core_of}
 use Rattle.definitions.specs.Trees.{blocks, find_in, IsTree}
-use Rattle.definitions.specs.Chronicles.{Step.noted, Note.beat, Chronicle, stored, tree, executed, history}
+use Rattle.definitions.specs.Chronicles.{Step.noted, Note.beat, Chronicle, stored_blocks, tree, executed}
+use Rattle.definitions.specs.Chronicles.{history}
 use Rattle.definitions.specs.Chronicles.{IsSound}
 use Rattle.definitions.specs.States.{Justified, view, qc_high, pending, leads, find_block, is_known}
 use Rattle.definitions.specs.States.{known_as, picks, child, leaf, proposed, or_else, made_with, raised}
@@ -39,8 +40,8 @@ use Rattle.pacemaker.specs.Pacing.{Pace, IsPaceOf}
 use Rattle.replica_rules.specs.Ruled.{ref_of}
 use Rattle.replica.specs.declared.change.Change.{Change}
 use Rattle.replica.specs.declared.stored.StoredStep.TheVariants.{Beat}
-use Rattle.replica.specs.Steps.{Sent, shown}
-use Rattle.replica.specs.Kept.{Variables, Kept, own_of, variables_of, IsStateOf}
+use Rattle.replica.specs.Steps.{SentBytes, shown}
+use Rattle.replica.specs.Kept.{Variables, StateParts, own_of, variables_of, IsStateOf}
 use Rattle.replica.specs.Changes.{noting, changed_variables, IsStep}
 use Rattle.replica.specs.Beats.{keys_of, known_height, proposed_above, picked as picked_by, child_height}
 use Rattle.replica.specs.Beats.{child_of, child_ref, proposal_sent, own_sent, proposing, beat_change}
@@ -56,7 +57,7 @@ unfolding history
 history-is-of c = refl
 
 found-stored : (c : Chronicle) → IsTree (tree c) → (y : Branch) → Among y (tree c)
-    → find_in (digest_of y) (blocks (stored c)) ≡ Some y
+    → find_in (digest_of y) (blocks (stored_blocks c)) ≡ Some y
 unfolding tree
 found-stored c tr y m = found-itself (tree c) tr y m
 
@@ -90,8 +91,8 @@ module _ (keys : Keys) (c : Chronicle) (so : IsSound keys.sizes c) (x : Branch)
       let whole : from + (length x - from) ≡ length x = omega (arith, l) in
       sym (history-is keys.sizes c so x among from (length x - from) (omega (arith, whole))
       ∙ ap (λ (n : ℕ). history_of (beginning n x)) whole ∙ ap history_of (beginning-whole x))
-      ∙ above-appended (digest_of x) (stored c) from (length x - from) (history_of (beginning from x))
-      ∙ (λ i. history_above (same i) (stored c) from (sym height i - from) [] ++ history_of
+      ∙ above-appended (digest_of x) (stored_blocks c) from (length x - from) (history_of (beginning from x))
+      ∙ (λ i. history_above (same i) (stored_blocks c) from (sym height i - from) [] ++ history_of
       (beginning from x))
 
   beginning-none : (y : Branch) → beginning 0 y ≡ []
@@ -126,7 +127,7 @@ module _ (keys : Keys) (c : Chronicle) (so : IsSound keys.sizes c) (x : Branch)
 
   extends-is : extends_in v.leaf.digest v.rules.executed.digest (blocks v.stored) ≡ extends x (executed c)
   extends-is =
-      let last : find_in (digest_of (executed c)) (blocks (stored c)) ≡ Some (executed c) =
+      let last : find_in (digest_of (executed c)) (blocks (stored_blocks c)) ≡ Some (executed c) =
       found-stored c so.is_tree (executed c) (executed-tree c so.is_tree) in
       λ i. elim (found i) [ Some y ↦ elim (last i) [ Some z ↦ extends y z | None ↦ false ] | None ↦ false ]
 
@@ -147,7 +148,8 @@ height-fits : (keys : Keys) (c : Chronicle) → length (leaf (identity_of keys) 
     → child_height (ref_of (leaf (identity_of keys) c)) ≡ suc (length (leaf (identity_of keys) c))
 height-fits keys c l s = grind arith
 
-child-is : (keys : Keys) (c : Chronicle) (s : Kept) (cs : List Command) → s.variables ≡ variables_of keys c
+child-is : (keys : Keys) (c : Chronicle) (s : StateParts) (cs : List Command)
+    → s.variables ≡ variables_of keys c
     → picked_by s ≡ cs
     → child_height (ref_of (leaf (identity_of keys) c)) ≡ suc (length (leaf (identity_of keys) c))
     → child_of s
@@ -165,7 +167,8 @@ child-is keys c s cs v p e =
     })
 
 -- its digest and height
-ref-is : (keys : Keys) (c : Chronicle) (s : Kept) (cs : List Command) → s.variables ≡ variables_of keys c
+ref-is : (keys : Keys) (c : Chronicle) (s : StateParts) (cs : List Command)
+    → s.variables ≡ variables_of keys c
     → picked_by s ≡ cs
     → child_height (ref_of (leaf (identity_of keys) c)) ≡ suc (length (leaf (identity_of keys) c))
     → child_ref s ≡ ref_of (made keys c cs)
@@ -185,8 +188,8 @@ variables-beat : (keys : Keys) (c : Chronicle) (x : Option Branch) → let self 
       leaf = ref_of (or_else x (leaf self c));
       own = option_map own_of (made_with x (qc_high keys.sizes c).certificate (proposed self c));
     }
-unfolding leaf proposed qc_high raised stored Rattle.definitions.specs.Chronicles.taken
-    Rattle.definitions.specs.Chronicles.vheight Rattle.definitions.specs.Chronicles.voted
+unfolding leaf proposed qc_high raised stored_blocks Rattle.definitions.specs.Chronicles.taken_blocks
+    Rattle.definitions.specs.Chronicles.vheight Rattle.definitions.specs.Chronicles.voted_blocks
     Rattle.definitions.specs.Chronicles.lock Rattle.definitions.specs.Chronicles.executed
     Rattle.definitions.specs.Chronicles.decided
 variables-beat keys c x e = rw e refl
@@ -222,7 +225,7 @@ proposed-beat keys c x e = rw e refl
 -- ---- the step
 
 -- what is kept where this chronicle stands, with this pace
-abbrev state : Keys → Chronicle → Pace → Kept
+abbrev state : Keys → Chronicle → Pace → StateParts
 state keys c p = record {
   variables = variables_of keys c;
   pace = p;
@@ -303,7 +306,7 @@ by-child keys c p so high at false k l e =
 
 known-found : (keys : Keys) (c : Chronicle)
     → is_known (digest_of (leaf (identity_of keys) c)) c
-    ≡ is_some (find_in (digest_of (leaf (identity_of keys) c)) (blocks (stored c)))
+    ≡ is_some (find_in (digest_of (leaf (identity_of keys) c)) (blocks (stored_blocks c)))
 unfolding is_known find_block tree
 known-found keys c = refl
 
@@ -332,7 +335,7 @@ brings-none : (keys : Keys) (c : Chronicle) → BringsKnown keys.sizes (noted be
 unfolding raised
 brings-none keys c q e = absurd (let k : None ≡ Some q = e in cc)
 
-step-is : (keys : Keys) (c : Chronicle) (s : Kept) (d : Change) → IsStateOf keys c s → IsBeat keys c d
+step-is : (keys : Keys) (c : Chronicle) (s : StateParts) (d : Change) → IsStateOf keys c s → IsBeat keys c d
     → IsStep keys c (noted beat) s.pace d
 step-is keys c s d o b = record {
   variables = b.variables;
@@ -343,7 +346,7 @@ step-is keys c s d o b = record {
 }
 
 -- what a beat comes to, where fewer steps stand than fit any memory
-pub beat-decided : (keys : Keys) (c : Chronicle) (s : Kept) (result : Result Change Fault)
+pub beat-decided : (keys : Keys) (c : Chronicle) (s : StateParts) (result : Result Change Fault)
     → length c < 2 ^ 63 → IfOk result (λ d. d ≡ beat_change keys s)
     → OnErr result (result ≡ Err fault.Memory) → IsStateOf keys c s
     → StepsTo keys beat_in c (answer result) (after result s)
@@ -360,5 +363,5 @@ beat-decided keys c s (Ok d) few made memory o =
     (brings-none keys c) (calm (noted beat) c s.pending refl o.waits) o (step-is keys c s d o is) tt
     is.growth
 beat-decided keys c s (Err n) few made memory o =
-    subst (λ (x : Result (List Sent) Fault). StepsTo keys beat_in c x s) (sym (ap answer memory))
+    subst (λ (x : Result (List SentBytes) Fault). StepsTo keys beat_in c x s) (sym (ap answer memory))
     (refused-for-memory keys _ c (noted beat) s refl o)

@@ -16,7 +16,7 @@ use Rattle.definitions.specs.Frames.{Command, Core}
 use Rattle.definitions.specs.Branches.{Block, Branch, Extends}
 use Rattle.definitions.specs.Digests.{digest_of, core_of, core_over}
 use Rattle.definitions.specs.Trees.{Stored, blocks, find_in}
-use Rattle.definitions.specs.Chronicles.{Chronicle, stored, tree, IsSound}
+use Rattle.definitions.specs.Chronicles.{Chronicle, stored_blocks, tree, IsSound}
 use Rattle.definitions.specs.Histories.{Entry, entry_of, History, history_of, Answer, answers, is_fresh}
 use Rattle.definitions.specs.Histories.{answer_in}
 use Rattle.definitions.specs.Keyrings.{Keys}
@@ -30,7 +30,7 @@ use Rattle.definitions.specs.Replicas.{whole_blocks}
 use Rattle.mempool.specs.Pool.{left_after}
 use Rattle.executor.specs.State.{with_commands, new_answers}
 use Rattle.replica.proofs.Waiting.{left-append, shorter, whole-cut, whole-exact}
-use Rattle.replica.specs.Steps.{Sent}
+use Rattle.replica.specs.Steps.{SentBytes}
 use Rattle.replica.specs.Execution.{block_at, commands_at, history_above, IsCutIn, IsCut, told_one, told}
 
 -- ---- the replies
@@ -39,7 +39,7 @@ pub told-append : (keys : Keys) (xs ys : List Answer) → told keys (xs ++ ys) �
 unfolding told
 told-append keys [] ys = refl
 told-append keys (a ∷ xs) ys =
-    ap (λ (l : List Sent). option_to_list (told_one keys a) ++ l) (told-append keys xs ys)
+    ap (λ (l : List SentBytes). option_to_list (told_one keys a) ++ l) (told-append keys xs ys)
     ∙ sym (append_assoc (option_to_list (told_one keys a)) (told keys xs) (told keys ys))
 
 pub told-last : (keys : Keys) (a : Answer) → told keys (a ∷ []) ≡ option_to_list (told_one keys a)
@@ -97,7 +97,7 @@ all-heights from to height none low high =
 
 -- the blocks up to this height were executed
 pub record IsUpTo (keys : Keys) (tip : Bytes) (all : List Stored) (from height : ℕ) (old now : History)
-    (waits left : List Command) (first out : List Sent) : Type 0 where
+    (waits left : List Command) (first out : List SentBytes) : Type 0 where
   pub low : from ≤ height
   pub now_is : now ≡ history_above tip all from (height - from) old
   pub added : List Answer
@@ -116,7 +116,7 @@ above-appended tip all from (suc n) h =
     ∙ sym (append_assoc new (history_above tip all from n []) h)
 
 module _ (keys : Keys) (tip : Bytes) (all : List Stored) (from : ℕ) (old : History) (waits : List Command)
-    (first : List Sent) where
+    (first : List SentBytes) where
   pub begins-up : IsUpTo keys tip all from from old old waits waits first first
   unfolding history_above told left_after
   begins-up = record {
@@ -130,7 +130,7 @@ module _ (keys : Keys) (tip : Bytes) (all : List Stored) (from : ℕ) (old : His
   }
 
   -- one block more, with these commands
-  pub goes-up : (height : ℕ) (now new : History) (left rest : List Command) (out more : List Sent)
+  pub goes-up : (height : ℕ) (now new : History) (left rest : List Command) (out more : List SentBytes)
       (cs : List Command) → IsUpTo keys tip all from height old now waits left first out
       → commands_at tip (suc height) all ≡ cs
       → new ≡ with_commands cs now → rest ≡ left_after (reverse (map entry_of cs)) left
@@ -155,7 +155,7 @@ module _ (keys : Keys) (tip : Bytes) (all : List Stored) (from : ℕ) (old : His
             ∙ sym (append_assoc z.0 u.added (answers old));
         told_are = t ∙ (λ i. u.told_are i ++ told keys (new-are now new z.0 is i))
             ∙ append_assoc first (told keys (reverse u.added)) (told keys (reverse z.0))
-            ∙ ap (λ (l : List Sent). first ++ l) (sym (told-append keys (reverse u.added) (reverse z.0))
+            ∙ ap (λ (l : List SentBytes). first ++ l) (sym (told-append keys (reverse u.added) (reverse z.0))
             ∙ ap (told keys) (sym (reverse-append z.0 u.added)));
         left_are = p ∙ (λ i. left_after (reverse (map entry_of (sym e i))) (u.left_are i))
             ∙ sym (left-append (reverse (map entry_of (commands_at tip (suc height) all)))
@@ -166,7 +166,7 @@ module _ (keys : Keys) (tip : Bytes) (all : List Stored) (from : ℕ) (old : His
       }
 
   -- no block there
-  pub passes-up : (height : ℕ) (now : History) (left : List Command) (out : List Sent)
+  pub passes-up : (height : ℕ) (now : History) (left : List Command) (out : List SentBytes)
       → IsUpTo keys tip all from height old now waits left first out → commands_at tip (suc height) all ≡ []
       → IsUpTo keys tip all from (suc height) old now waits left first out
   unfolding told left_after
@@ -175,7 +175,7 @@ module _ (keys : Keys) (tip : Bytes) (all : List Stored) (from : ℕ) (old : His
       (sym (append-nil out) ∙ ap (λ (l : List Answer). out ++ told keys l) (sym (new-are now now [] refl)))
 
   -- all blocks were executed
-  pub told-up : (to : ℕ) (now : History) (left : List Command) (out : List Sent)
+  pub told-up : (to : ℕ) (now : History) (left : List Command) (out : List SentBytes)
       → IsUpTo keys tip all from to old now waits left first out
       → out ≡ first ++ told keys (new_answers old now)
   told-up to now left out u =
@@ -184,7 +184,8 @@ module _ (keys : Keys) (tip : Bytes) (all : List Stored) (from : ℕ) (old : His
 
   -- memory was refused in the next block
   pub cuts-up :
-      (height to : ℕ) (now new : History) (left rest : List Command) (out : List Sent) (cs : List Command)
+      (height to : ℕ) (now new : History) (left rest : List Command) (out : List SentBytes)
+      (cs : List Command)
       → IsUpTo keys tip all from height old now waits left first out → commands_at tip (suc height) all ≡ cs
       → height < to
       → IsCutIn cs now new left rest → IsCut tip all from to old new waits rest
@@ -253,7 +254,7 @@ stored-commands d all y e l = by (stored_in d all) (sym (blocks-found d all) ∙
 
 -- the block of a chronicle's tree
 module _ (sizes : Sizes) (c : Chronicle) (so : IsSound sizes c) (x : Branch) (m : Among x (tree c)) where
-  found : (y : Branch) → Among y (tree c) → find_in (digest_of y) (blocks (stored c)) ≡ Some y
+  found : (y : Branch) → Among y (tree c) → find_in (digest_of y) (blocks (stored_blocks c)) ≡ Some y
   unfolding tree
   found y k = found-itself (tree c) so.is_tree y k
 
@@ -262,15 +263,15 @@ module _ (sizes : Sizes) (c : Chronicle) (so : IsSound sizes c) (x : Branch) (m 
   below h = tree-below (tree c) so.is_tree x (beginning h x) m (beginning-begins h x)
 
   pub commands-are : (h : ℕ) → 1 ≤ h → h ≤ length x
-      → commands_at (digest_of x) h (stored c) ≡ (core_of (beginning h x)).commands
+      → commands_at (digest_of x) h (stored_blocks c) ≡ (core_of (beginning h x)).commands
   commands-are h l k =
-      let at : option_and_then (at_height h) (find_in (digest_of x) (blocks (stored c)))
+      let at : option_and_then (at_height h) (find_in (digest_of x) (blocks (stored_blocks c)))
       ≡ Some (beginning h x) =
       ap (option_and_then (at_height h)) (found x m)
       ∙ ap (λ (b : Bool). cond b (Some (beginning h x)) None) (le-leb h (length x) k) in
       ap (λ (o : Option Branch). commands-of
-      (option_and_then (λ d. stored_in d (stored c)) (option_map digest_of o))) at
-      ∙ stored-commands (digest_of (beginning h x)) (stored c) (beginning h x)
+      (option_and_then (λ d. stored_in d (stored_blocks c)) (option_map digest_of o))) at
+      ∙ stored-commands (digest_of (beginning h x)) (stored_blocks c) (beginning h x)
       (found (beginning h x) (below h)) (let n = length-beginning h x k in omega (arith, n, l))
 
   -- one block more
@@ -295,7 +296,7 @@ module _ (sizes : Sizes) (c : Chronicle) (so : IsSound sizes c) (x : Branch) (m 
           ∙ grown-by b parent
 
   pub history-is : (from count : ℕ) → from + count ≤ length x
-      → history_above (digest_of x) (stored c) from count (history_of (beginning from x))
+      → history_above (digest_of x) (stored_blocks c) from count (history_of (beginning from x))
       ≡ history_of (beginning (from + count) x)
   unfolding history_above
   history-is from zero l =
@@ -342,11 +343,11 @@ module _ (sizes : Sizes) (c : Chronicle) (so : IsSound sizes c) (x : Branch) (m 
   cs : List Command
   cs = (core_of (beginning (suc (from + blocks)) x)).commands
 
-  cs-are : commands_at (digest_of x) (suc (from + blocks)) (stored c) ≡ cs
+  cs-are : commands_at (digest_of x) (suc (from + blocks)) (stored_blocks c) ≡ cs
   unfolding cs
   cs-are = commands-are sizes c so x m (suc (from + blocks)) (omega arith) (omega (arith, below))
 
-  before : history_above (digest_of x) (stored c) from blocks (history_of (beginning from x))
+  before : history_above (digest_of x) (stored_blocks c) from blocks (history_of (beginning from x))
       ≡ history_of (beginning (from + blocks) x)
   before = history-is sizes c so x m from blocks (omega (arith, below))
 
@@ -365,11 +366,12 @@ module _ (sizes : Sizes) (c : Chronicle) (so : IsSound sizes c) (x : Branch) (m 
       (length-reverse (map entry_of cs) ∙ length-map cs entry_of)
 
   entries : (n : ℕ) → History
-  entries n = history_above (digest_of x) (stored c) from n []
+  entries n = history_above (digest_of x) (stored_blocks c) from n []
 
   up-to : history_of (beginning (from + blocks) x) ≡ entries blocks ++ history_of (beginning from x)
   unfolding entries
-  up-to = sym before ∙ above-appended (digest_of x) (stored c) from blocks (history_of (beginning from x))
+  up-to =
+      sym before ∙ above-appended (digest_of x) (stored_blocks c) from blocks (history_of (beginning from x))
 
   up-over : history_of (beginning (suc (from + blocks)) x)
       ≡ entries (suc blocks) ++ history_of (beginning from x)
@@ -381,9 +383,9 @@ module _ (sizes : Sizes) (c : Chronicle) (so : IsSound sizes c) (x : Branch) (m 
       ++ history_of (beginning from x)) (sym cs-are)
 
   pub cut-by : (h : History) (waits left : List Command) → from ≤ length x
-      → IsCutIn (commands_at (digest_of x) (suc (from + blocks)) (stored c))
-      (history_above (digest_of x) (stored c) from blocks (history_of (beginning from x))) h
-      (left_after (history_above (digest_of x) (stored c) from blocks []) waits) left
+      → IsCutIn (commands_at (digest_of x) (suc (from + blocks)) (stored_blocks c))
+      (history_above (digest_of x) (stored_blocks c) from blocks (history_of (beginning from x))) h
+      (left_after (history_above (digest_of x) (stored_blocks c) from blocks []) waits) left
       → IsBetween c x from h waits left
   unfolding entries history_above
   cut-by h waits left f k =
@@ -429,7 +431,7 @@ module _ (sizes : Sizes) (c : Chronicle) (so : IsSound sizes c) (x : Branch) (m 
                   ∙ up-over,
               k.whole (exact ∙ ap (λ (z : List Command). length z) (sym cs-are))
                   ∙ sym (left-append
-                  (reverse (map entry_of (commands_at (digest_of x) (suc (from + blocks)) (stored c))))
+                  (reverse (map entry_of (commands_at (digest_of x) (suc (from + blocks)) (stored_blocks c))))
                   (entries blocks) waits),
             )
       ] in
@@ -445,7 +447,7 @@ module _ (sizes : Sizes) (c : Chronicle) (so : IsSound sizes c) (x : Branch) (m 
 
 pub cut-is : (sizes : Sizes) (c : Chronicle) → IsSound sizes c → (x : Branch) → Among x (tree c)
     → (from : ℕ) (h : History) (waits left : List Command) → from ≤ length x
-    → IsCut (digest_of x) (stored c) from (length x) (history_of (beginning from x)) h waits left
+    → IsCut (digest_of x) (stored_blocks c) from (length x) (history_of (beginning from x)) h waits left
     → IsBetween c x from h waits left
 cut-is sizes c so x m from h waits left f k =
     cut-by sizes c so x m from k.blocks k.below h waits left f k.next

@@ -12,8 +12,9 @@ use Rattle.definitions.specs.Digests.{digest_of}
 use Rattle.definitions.specs.Keyrings.{Keys}
 use Rattle.definitions.specs.Checks.{identity_of}
 use Rattle.definitions.specs.Trees.{blocks, find_in}
-use Rattle.definitions.specs.Chronicles.{Admitted, Step.noted, Note.got_fetch, Chronicle, taken, stored}
-use Rattle.definitions.specs.Chronicles.{stored_of, tree}
+use Rattle.definitions.specs.Chronicles.{Admitted, Step.noted, Note.got_fetch, Chronicle, taken_blocks}
+use Rattle.definitions.specs.Chronicles.{stored_blocks}
+use Rattle.definitions.specs.Chronicles.{stored_block, tree}
 use Rattle.definitions.specs.States.{find_block, raised}
 use Rattle.definitions.specs.Rulings.{Input.fetch_in, ruling, conflicts}
 use Rattle.definitions.specs.Sendings.{as_taken, supplies, sendings}
@@ -23,8 +24,8 @@ use Rattle.definitions.proofs.Trees.{found-in}
 use Rattle.block_tree.specs.Finding.{stored_in}
 use Rattle.replica.specs.declared.change.Change.{Change}
 use Rattle.replica.specs.declared.stored.GotFetch.{GotFetch}
-use Rattle.replica.specs.Steps.{Sent, shown}
-use Rattle.replica.specs.Kept.{Variables, Kept, variables_of, IsStateOf}
+use Rattle.replica.specs.Steps.{SentBytes, shown}
+use Rattle.replica.specs.Kept.{Variables, StateParts, variables_of, IsStateOf}
 use Rattle.replica.specs.Changes.{changed_variables, IsStep}
 use Rattle.replica.specs.Fetches.{supplied, fetch_change}
 use Rattle.replica.specs.StepsTo.{StepsTo, answer, after}
@@ -55,52 +56,53 @@ not-same d a b t e = false_from_ne_true (branch_eq a b)
 
 -- it is the one of this digest
 named-stored : (d : Bytes) (xs : List Admitted)
-    → option_map stored_of (named (find_in d (blocks (map stored_of xs))) xs)
-    ≡ stored_in d (map stored_of xs)
+    → option_map stored_block (named (find_in d (blocks (map stored_block xs))) xs)
+    ≡ stored_in d (map stored_block xs)
 named-stored d [] = by (bytes_eq (digest_of []) d)
   where
-    by : (t : Bool) → option_map stored_of (named (cond t (Some []) None) []) ≡ None
+    by : (t : Bool) → option_map stored_block (named (cond t (Some []) None) []) ≡ None
     by true = refl
     by false = refl
 named-stored d (a ∷ xs) = by (bytes_eq (digest_of a.branch) d) refl (named-stored d xs)
   where
     next : (o : Option Branch) → bytes_eq (digest_of a.branch) d ≡ false
-        → find_in d (blocks (map stored_of xs)) ≡ o
-        → option_map stored_of (named o (a ∷ xs)) ≡ option_map stored_of (named o xs)
+        → find_in d (blocks (map stored_block xs)) ≡ o
+        → option_map stored_block (named o (a ∷ xs)) ≡ option_map stored_block (named o xs)
     next None t e = refl
-    next (Some b) t e = ap (option_map stored_of) (find-next (λ (x : Admitted). branch_eq x.branch b) a xs
-        (not-same d a.branch b t (found-in d (blocks (map stored_of xs)) b e).1))
+    next (Some b) t e = ap (option_map stored_block) (find-next (λ (x : Admitted). branch_eq x.branch b) a xs
+        (not-same d a.branch b t (found-in d (blocks (map stored_block xs)) b e).1))
 
     by : (t : Bool) → bytes_eq (digest_of a.branch) d ≡ t
-        → option_map stored_of (named (find_in d (blocks (map stored_of xs))) xs)
-        ≡ stored_in d (map stored_of xs)
-        → option_map stored_of
-        (named (cond t (Some a.branch) (find_in d (blocks (map stored_of xs)))) (a ∷ xs))
-        ≡ cond t (Some (stored_of a)) (stored_in d (map stored_of xs))
-    by true t rest = ap (option_map stored_of) (find-first (λ (x : Admitted). branch_eq x.branch a.branch) a
+        → option_map stored_block (named (find_in d (blocks (map stored_block xs))) xs)
+        ≡ stored_in d (map stored_block xs)
+        → option_map stored_block
+        (named (cond t (Some a.branch) (find_in d (blocks (map stored_block xs)))) (a ∷ xs))
+        ≡ cond t (Some (stored_block a)) (stored_in d (map stored_block xs))
+    by true t rest =
+        ap (option_map stored_block) (find-first (λ (x : Admitted). branch_eq x.branch a.branch) a
         xs ((branch_eq-decides a.branch a.branch).1 refl))
-    by false t rest = next (find_in d (blocks (map stored_of xs))) t refl ∙ rest
+    by false t rest = next (find_in d (blocks (map stored_block xs))) t refl ∙ rest
 
-as-named : (o : Option Branch) (c : Chronicle) → as_taken o c ≡ named o (taken c)
+as-named : (o : Option Branch) (c : Chronicle) → as_taken o c ≡ named o (taken_blocks c)
 as-named None c = refl
 as-named (Some b) c = refl
 
 taken-stored : (d : Bytes) (c : Chronicle)
-    → option_map stored_of (as_taken (find_block d c) c) ≡ stored_in d (stored c)
-unfolding find_block tree stored
+    → option_map stored_block (as_taken (find_block d c) c) ≡ stored_in d (stored_blocks c)
+unfolding find_block tree stored_blocks
 taken-stored d c =
-    ap (option_map stored_of) (as-named (find_in d (blocks (map stored_of (taken c)))) c)
-    ∙ named-stored d (taken c)
+    ap (option_map stored_block) (as-named (find_in d (blocks (map stored_block (taken_blocks c)))) c)
+    ∙ named-stored d (taken_blocks c)
 
 shown-supplied : (keys : Keys) (to : ℕ) (o : Option Admitted)
-    → shown (supplies (identity_of keys) to o) ≡ supplied keys to (option_map stored_of o)
+    → shown (supplies (identity_of keys) to o) ≡ supplied keys to (option_map stored_block o)
 unfolding Rattle.definitions.specs.Sendings.block_frame
 shown-supplied keys to None = refl
 shown-supplied keys to (Some a) = refl
 
 -- ---- the step
 
-fetch-step : (keys : Keys) (c : Chronicle) (s : Kept) (f : GotFetch) → IsStateOf keys c s
+fetch-step : (keys : Keys) (c : Chronicle) (s : StateParts) (f : GotFetch) → IsStateOf keys c s
     → IsStep keys c (noted (got_fetch f.sender (find_block f.block c))) s.pace
     (fetch_change keys s.variables f)
 unfolding sendings find_block tree Rattle.replica.proofs.Steps.is_beat raised
@@ -124,7 +126,8 @@ brings-none : (keys : Keys) (c : Chronicle) (to : ℕ) (o : Option Branch)
 unfolding raised
 brings-none keys c to o q e = absurd (let k : None ≡ Some q = e in cc)
 
-pub fetch-decided : (keys : Keys) (c : Chronicle) (s : Kept) (f : GotFetch) (result : Result Change Fault)
+pub fetch-decided :
+    (keys : Keys) (c : Chronicle) (s : StateParts) (f : GotFetch) (result : Result Change Fault)
     → IfOk result (λ d. d ≡ fetch_change keys s.variables f) → OnErr result (result ≡ Err fault.Memory)
     → IsStateOf keys c s
     → StepsTo keys (fetch_in f.sender f.block) c (answer result) (after result s)
@@ -137,6 +140,6 @@ fetch-decided keys c s f (Ok d) made memory o =
     (subst (IsStep keys c (noted st) s.pace) (sym made) (fetch-step keys c s f o)) tt
     (ap (λ (x : Change). collects x.growth) made)
 fetch-decided keys c s f (Err n) made memory o =
-    subst (λ (x : Result (List Sent) Fault). StepsTo keys (fetch_in f.sender f.block) c x s)
+    subst (λ (x : Result (List SentBytes) Fault). StepsTo keys (fetch_in f.sender f.block) c x s)
     (sym (ap answer memory))
     (refused-for-memory keys _ c (noted (got_fetch f.sender (find_block f.block c))) s refl o)

@@ -8,7 +8,8 @@ use Rattle.definitions.specs.Keyrings.{Keys}
 use Rattle.definitions.specs.Branches.{Block, Branch, IsBranch}
 use Rattle.definitions.specs.Digests.{digest}
 use Rattle.definitions.specs.Trees.{IsTree}
-use Rattle.definitions.specs.Chronicles.{taken, stored, tree, decided, decided_by, executed, history, IsSound}
+use Rattle.definitions.specs.Chronicles.{taken_blocks, stored_blocks, tree, decided, decided_by, executed}
+use Rattle.definitions.specs.Chronicles.{history, IsSound}
 use Rattle.definitions.specs.Branches.{highest}
 use Rattle.definitions.specs.FrameLimits.{IsCore}
 use Rattle.definitions.specs.Digests.{AllKnown}
@@ -22,7 +23,7 @@ use Rattle.replica_rules.specs.Ruled.{ref_of, ruled_by}
 use Rattle.vote_collector.specs.Collecting.{Collected}
 use Rattle.vote_collector.specs.Following.{IsVotesOf}
 use Rattle.vote_collector.proofs.Steps.{begins-empty}
-use Rattle.replica.specs.Kept.{Kept, IsStateOf}
+use Rattle.replica.specs.Kept.{StateParts, IsStateOf}
 
 only-genesis : (x : Branch) → Among x ([] ∷ []) → x ≡ []
 only-genesis x (inl e) = e
@@ -40,7 +41,7 @@ genesis-tree = record {
 }
 
 first-sound : (s : Sizes) → IsSound s []
-unfolding tree stored taken
+unfolding tree stored_blocks taken_blocks
 first-sound s = record {
   is_tree = genesis-tree;
   lawful = tt;
@@ -49,7 +50,7 @@ first-sound s = record {
 }
 
 -- the state at the start
-pub first : (keys : Keys) (s : Kept)
+pub first : (keys : Keys) (s : StateParts)
     → s.variables
     ≡ record {
       chronicle = [];
@@ -63,7 +64,7 @@ pub first : (keys : Keys) (s : Kept)
     }
     → s.pace.sizes ≡ keys.sizes → IsPaceOf [] s.pace → s.votes ≡ record { sizes = keys.sizes; kept = [] }
     → s.pending ≡ [] → IsStateOf keys [] s
-unfolding qc_high leaf proposed pending stored taken tree
+unfolding qc_high leaf proposed pending stored_blocks taken_blocks tree
 first keys s e z p v w = record {
   same = e;
   sizes = z;
@@ -77,9 +78,10 @@ first keys s e z p v w = record {
 }
 
 -- with nothing executed
-pub first-whole : (keys : Keys) (s : Kept) (h : History) → IsStateOf keys [] s → h ≡ []
+pub first-whole : (keys : Keys) (s : StateParts) (h : History) → IsStateOf keys [] s → h ≡ []
     → IsWholeOf keys (record { chronicle = []; standing = running }) s h
-unfolding held_history held_pending history history_of executed decided highest decided_by tree stored taken
+unfolding held_history held_pending history history_of executed decided highest decided_by tree
+    stored_blocks taken_blocks
 first-whole keys s h is e =
     record {
       state = subst (λ (l : List Command). IsStateOf keys [] (record s { pending = l })) is.waits is;

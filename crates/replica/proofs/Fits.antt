@@ -13,7 +13,7 @@ use Rattle.replica.specs.declared.change.Change.{Change}
 use Rattle.replica.specs.declared.stored.GotNewView.{GotNewView}
 use Rattle.replica.specs.declared.stored.GotFetch.{GotFetch}
 use Rattle.replica.specs.declared.stored.StoredStep.TheVariants.{Beat}
-use Rattle.replica.specs.Kept.{Variables, Kept}
+use Rattle.replica.specs.Kept.{Variables, StateParts}
 use Rattle.replica.specs.Changes.{noting, Fits}
 use Rattle.replica.specs.Beats.{own_sent, proposing, beat_change}
 use Rattle.replica.specs.Offers.{Offered, IsDecidedAt, IsDecided}
@@ -30,7 +30,7 @@ use Rattle.vote_collector.specs.Collecting.{votes_for, judged}
 use Rattle.replica_rules.specs.declared.block_ref.BlockRef.{BlockRef}
 use Rattle.replica.specs.Ballots.{vote_noted, vote_counted, vote_change, IsVoteAt, IsVoteDecided}
 
-beat-fits : (keys : Keys) (s : Kept) → Fits s (beat_change keys s)
+beat-fits : (keys : Keys) (s : StateParts) → Fits s (beat_change keys s)
 beat-fits keys s =
     let v : Variables = s.variables in
     let P : Change → Type 0 = λ d. Fits s d in
@@ -40,22 +40,23 @@ beat-fits keys s =
     (λ k. record { growth = tt; step = refl }) (λ k. record { growth = tt; step = refl }))
     (λ l. record { growth = tt; step = refl })
 
-pub fits-beat : (keys : Keys) (s : Kept) (result : Result Change Fault)
+pub fits-beat : (keys : Keys) (s : StateParts) (result : Result Change Fault)
     → IfOk result (λ d. d ≡ beat_change keys s) → IfOk result (λ d. Fits s d)
 fits-beat keys s (Ok d) e = subst (Fits s) (sym e) (beat-fits keys s)
 fits-beat keys s (Err n) e = tt
 
-pub fits-timeout : (keys : Keys) (s : Kept) (result : Result Change Fault) → IfOk result (IsTimeout keys s)
+pub fits-timeout : (keys : Keys) (s : StateParts) (result : Result Change Fault)
+    → IfOk result (IsTimeout keys s)
     → IfOk result (λ d. Fits s d)
 fits-timeout keys s (Ok d) t = subst (Fits s) (sym t.change) (record { growth = tt; step = refl })
 fits-timeout keys s (Err n) t = tt
 
-pub fits-fetch : (keys : Keys) (s : Kept) (f : GotFetch) (result : Result Change Fault)
+pub fits-fetch : (keys : Keys) (s : StateParts) (f : GotFetch) (result : Result Change Fault)
     → IfOk result (λ d. d ≡ fetch_change keys s.variables f) → IfOk result (λ d. Fits s d)
 fits-fetch keys s f (Ok d) e = subst (Fits s) (sym e) (record { growth = tt; step = refl })
 fits-fetch keys s f (Err n) e = tt
 
-pub fits-new-view : (keys : Keys) (s : Kept) (n : GotNewView) (result : Result Change Fault)
+pub fits-new-view : (keys : Keys) (s : StateParts) (n : GotNewView) (result : Result Change Fault)
     → IsNewView keys s n result → IfOk result (λ d. Fits s d)
 fits-new-view keys s n result h = by result (find_in n.certificate.digest (blocks s.variables.stored)) h
   where
@@ -64,7 +65,7 @@ fits-new-view keys s n result h = by result (find_in n.certificate.digest (block
     by (Ok d) (Some b) h = subst (Fits s) (sym h.change) (record { growth = tt; step = refl })
     by (Err n) o h = tt
 
-pub fits-block : (keys : Keys) (s : Kept) (o : Offered) (result : Result Change Fault)
+pub fits-block : (keys : Keys) (s : StateParts) (o : Offered) (result : Result Change Fault)
     → IsDecided keys s o result → IfOk result (λ d. Fits s d)
 fits-block keys s o result h =
     by result (placing s.variables.most o.core o.certificate (blocks s.variables.stored)) h
@@ -77,13 +78,13 @@ fits-block keys s o result h =
     by (Ok d) (unfit n) h = absurd (let k : Ok d ≡ Err n = h in cc)
     by (Err n) p h = tt
 
-counted-fits : (s : Kept) (block : BlockRef) (vote : Vote) (a : Added) → IsVote s.votes.sizes vote
+counted-fits : (s : StateParts) (block : BlockRef) (vote : Vote) (a : Added) → IsVote s.votes.sizes vote
     → Fits s (vote_counted s block vote a)
 counted-fits s block vote First h = record { growth = h; step = refl }
 counted-fits s block vote Doubled h = record { growth = tt; step = refl }
 counted-fits s block vote Complete h = record { growth = tt; step = refl }
 
-vote-fits : (s : Kept) (block : BlockRef) (vote : Vote) → IsVote s.votes.sizes vote
+vote-fits : (s : StateParts) (block : BlockRef) (vote : Vote) → IsVote s.votes.sizes vote
     → Fits s (vote_change s block vote)
 vote-fits s block vote h =
     cond_both (nat_lt s.variables.high.block.height block.height)
@@ -94,7 +95,7 @@ vote-fits s block vote h =
     (judged (quorum s.votes.sizes) vote.voter (votes_for block.digest s.votes.kept)) h)
     (λ t. record { growth = tt; step = refl })
 
-pub fits-vote : (s : Kept) (d : Bytes) (vote : Vote) (result : Result Change Fault)
+pub fits-vote : (s : StateParts) (d : Bytes) (vote : Vote) (result : Result Change Fault)
     → IsVote s.votes.sizes vote → IsVoteDecided s d vote result → IfOk result (λ x. Fits s x)
 fits-vote s d vote result v h = by result (find_in d (blocks s.variables.stored)) h
   where

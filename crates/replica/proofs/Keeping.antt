@@ -14,7 +14,7 @@ use Rattle.definitions.specs.Trees.{Placing, Placing.stands, Placing.grows, Plac
 use Rattle.definitions.specs.Trees.{Placing.unfit, placing}
 use Rattle.definitions.specs.Checks.{Identity, Findings}
 use Rattle.definitions.specs.Chronicles.{Admitted, Step, Step.took_block, Step.noted, Note, Chronicle}
-use Rattle.definitions.specs.Chronicles.{history, tree, stored, taken}
+use Rattle.definitions.specs.Chronicles.{history, tree, stored_blocks, taken_blocks}
 use Rattle.definitions.specs.States.{is_due, is_same_request, pending}
 use Rattle.definitions.specs.Rulings.{Input, Input.proposal_in, Input.block_in, Input.vote_in}
 use Rattle.definitions.specs.Rulings.{Input.new_view_in, Input.request_in, Input.fetch_in, Input.timeout_in}
@@ -34,7 +34,7 @@ Stores c (noted n) = ⊤
 placed-stored : (self : Identity) (w : Option ℕ) (sender : ℕ) (core : Core) (q : Certificate) (f : Findings)
     (c : Chronicle) (p : Placing)
     → IsPlaced MOST_BLOCKS core q (tree c) p → AllStanding (Stores c) (on_placing self w sender core q f c p)
-unfolding on_placing admitted tree stored taken
+unfolding on_placing admitted tree stored_blocks taken_blocks
 placed-stored self w sender core q f c (stands b) h =
     let found = found-in (digest core) (tree c) b h.0 in
     record { stands = found.0; named = sym found.1; justified = h.1; own = λ n. absurd (true≢false (sym n)) }

@@ -14,7 +14,8 @@ use Rattle.definitions.specs.Keyrings.{Keys}
 use Rattle.definitions.specs.Checks.{identity_of}
 use Rattle.definitions.specs.Trees.{Stored, blocks, find_in, block_of, Placing, Placing.grows}
 use Rattle.definitions.specs.Trees.{Placing.lacks_parent, Placing.unfit, placing}
-use Rattle.definitions.specs.Chronicles.{Admitted, Step, Step.took_block, Chronicle, stored, stored_of}
+use Rattle.definitions.specs.Chronicles.{Admitted, Step, Step.took_block, Chronicle, stored_blocks}
+use Rattle.definitions.specs.Chronicles.{stored_block}
 use Rattle.definitions.specs.Chronicles.{tree, vheight, IsSound}
 use Rattle.definitions.specs.States.{Justified, view, qc_high, raised, leaf}
 use Rattle.definitions.specs.Rulings.{Input.proposal_in, Input.block_in, Ruling, ruling, admitted}
@@ -40,7 +41,7 @@ use Rattle.replica.specs.declared.change.Change.{Change}
 use Rattle.replica.specs.declared.state.High.{High}
 use Rattle.replica.specs.Replay.{or_genesis}
 use Rattle.replica.specs.Steps.{shown}
-use Rattle.replica.specs.Kept.{Variables, Kept, high_of, own_of, variables_of, IsStateOf}
+use Rattle.replica.specs.Kept.{Variables, StateParts, high_of, own_of, variables_of, IsStateOf}
 use Rattle.replica.specs.Changes.{sent_first, tree_of, raise_of, leaf_after, changed, changed_variables}
 use Rattle.replica.specs.Changes.{IsStep}
 use Rattle.replica.specs.Offers.{Offered, is_for, justified_of, high_in, votes_sent, with_vote_in}
@@ -67,7 +68,7 @@ variables-took : (keys : Keys) (a : Admitted) (c : Chronicle) (r : Option High)
     → AreHigh keys (took_block a) c r
     → variables_of keys (took_block a ∷ c) ≡ record (variables_of keys c) {
       chronicle = took_block a ∷ c;
-      stored = stored (took_block a ∷ c);
+      stored = stored_blocks (took_block a ∷ c);
       rules = ruled_by (took_block a ∷ c);
       high = unwrap_or r (high_of (qc_high keys.sizes c));
       leaf = leaf_after r (ref_of (leaf (identity_of keys) c));
@@ -75,7 +76,7 @@ variables-took : (keys : Keys) (a : Admitted) (c : Chronicle) (r : Option High)
 variables-took keys a c r h = λ i. record {
   chronicle = took_block a ∷ c;
   most = MOST_BLOCKS;
-  stored = stored (took_block a ∷ c);
+  stored = stored_blocks (took_block a ∷ c);
   rules = ruled_by (took_block a ∷ c);
   high = sym h.high i;
   leaf = sym h.its_leaf i;
@@ -93,7 +94,7 @@ sent-took keys a c = shown-if a.voted
 
 -- ---- a block that stood in the tree
 
-module _ (keys : Keys) (c : Chronicle) (s : Kept) (o : Offered) (is : IsStateOf keys c s) where
+module _ (keys : Keys) (c : Chronicle) (s : StateParts) (o : Offered) (is : IsStateOf keys c s) where
   at : s.pace.view ≡ view keys.sizes c
   at = is.pace.view ∙ ap (λ (z : Sizes). view z c) is.sizes
 
@@ -101,7 +102,7 @@ module _ (keys : Keys) (c : Chronicle) (s : Kept) (o : Offered) (is : IsStateOf 
     again : Admitted
     again = given keys c o false b
 
-    found-here : find_in (digest o.core) (blocks (stored c)) ≡ Some b
+    found-here : find_in (digest o.core) (blocks (stored_blocks c)) ≡ Some b
     unfolding tree
     found-here = found
 
@@ -115,7 +116,7 @@ module _ (keys : Keys) (c : Chronicle) (s : Kept) (o : Offered) (is : IsStateOf 
         ∙ sym (votes-known keys.sizes w c (digest o.core) (admitted b o.core o.certificate o.found false)
         is.sound refl found)
 
-    rules-again : with_vote_in again.voted (digest o.core) (stored c) (ruled_by c)
+    rules-again : with_vote_in again.voted (digest o.core) (stored_blocks c) (ruled_by c)
         ≡ ruled_by (took_block again ∷ c)
     unfolding again admitted
     rules-again =
@@ -136,7 +137,8 @@ module _ (keys : Keys) (c : Chronicle) (s : Kept) (o : Offered) (is : IsStateOf 
         let here : (is_for s.pace.view o.view && may_vote_in v.rules (digest o.core) v.stored) ≡ again.voted =
         (λ i. is_for s.pace.view o.view
         && may_vote_in (sym is.same i).rules (digest o.core) (sym is.same i).stored) ∙ voted in
-        let rules = (λ i. with_vote_in (here i) (digest o.core) (stored c) (ruled_by c)) ∙ rules-again in
+        let rules =
+        (λ i. with_vote_in (here i) (digest o.core) (stored_blocks c) (ruled_by c)) ∙ rules-again in
         let block : Bool → Branch → Admitted =
         λ t x. record {
           branch = x;
@@ -228,17 +230,17 @@ module _ (keys : Keys) (c : Chronicle) (s : Kept) (o : Offered) (is : IsStateOf 
         let ep = sym (found-in o.core.parent (tree c) growth.0 growth.1.parent_found).1 in
         ap digest_of growth.1.is ∙ digest-core o.core growth.0 ep growth.1.height
 
-    block-is : node_block o.core (blocks (stored c)) ≡ b
+    block-is : node_block o.core (blocks (stored_blocks c)) ≡ b
     unfolding tree
     block-is =
         ap (λ (x : Option Branch). block_of o.core ∷ elim x [ Some y ↦ y | None ↦ [] ]) growth.1.parent_found
         ∙ sym growth.1.is
 
     node-is : (n : Node) → IsNodeFor (tree_of s.variables) o.core o.certificate o.found.clear n
-        → stored_as n (blocks (stored c)) ≡ stored_of new
+        → stored_as n (blocks (stored_blocks c)) ≡ stored_block new
     unfolding new admitted
     node-is n h = λ i. record {
-      branch = (ap (λ (k : Core). node_block k (blocks (stored c))) h.core ∙ block-is) i;
+      branch = (ap (λ (k : Core). node_block k (blocks (stored_blocks c))) h.core ∙ block-is) i;
       certificate = h.certificate i;
       clear = h.clear i;
     }
@@ -276,7 +278,8 @@ module _ (keys : Keys) (c : Chronicle) (s : Kept) (o : Offered) (is : IsStateOf 
                       chronicle =
                           took_block (block (here i) (node i)
                           ((ap (λ (x : Stored). core_of x.branch) node ∙ core-is) i)) ∷ c;
-                      stored = (ap (λ (x : Stored). x ∷ stored c) node ∙ sym (stored-new new c refl)) i;
+                      stored =
+                          (ap (λ (x : Stored). x ∷ stored_blocks c) node ∙ sym (stored-new new c refl)) i;
                       rules = rules i;
                       high = unwrap_or (raise_of (high_in o) v.high) v.high;
                       leaf = leaf_after (raise_of (high_in o) v.high) v.leaf;
@@ -291,13 +294,13 @@ module _ (keys : Keys) (c : Chronicle) (s : Kept) (o : Offered) (is : IsStateOf 
 
 -- ---- each place
 
-again-is : (keys : Keys) (c : Chronicle) (s : Kept) (o : Offered) → IsStateOf keys c s → (b : Branch)
+again-is : (keys : Keys) (c : Chronicle) (s : StateParts) (o : Offered) → IsStateOf keys c s → (b : Branch)
     → find_in (digest o.core) (tree c) ≡ Some b
     → IsStep keys c (took_block (given keys c o false b)) s.pace (again_change keys s o)
 unfolding again
 again-is keys c s o is b found = again-step keys c s o is b found
 
-new-is : (keys : Keys) (c : Chronicle) (s : Kept) (o : Offered) → IsStateOf keys c s → (b : Branch)
+new-is : (keys : Keys) (c : Chronicle) (s : StateParts) (o : Offered) → IsStateOf keys c s → (b : Branch)
     → o.core.justify_height < o.core.height → placing MOST_BLOCKS o.core o.certificate (tree c) ≡ grows b
     → (d : Change) → IsTaken keys s o d
     → IsStep keys c (took_block (given keys c o true b)) s.pace d
@@ -305,7 +308,7 @@ new-is : (keys : Keys) (c : Chronicle) (s : Kept) (o : Offered) → IsStateOf ke
 unfolding new
 new-is keys c s o is b below e d t = new-step keys c s o is b below e d t
 
-conflict-is : (keys : Keys) (c : Chronicle) (s : Kept) (o : Offered) → IsStateOf keys c s → (b : Branch)
+conflict-is : (keys : Keys) (c : Chronicle) (s : StateParts) (o : Offered) → IsStateOf keys c s → (b : Branch)
     → o.core.justify_height < o.core.height → placing MOST_BLOCKS o.core o.certificate (tree c) ≡ grows b
     → (n : Fault)
     → ruled_after s.variables.rules (justified_of o) s.variables.stored ≡ Err n
@@ -322,7 +325,7 @@ known-brings keys c o b q e = absurd (let k : None ≡ Some q = e in cc)
 new-brings : (keys : Keys) (c : Chronicle) (o : Offered) (b : Branch)
     → IsSound keys.sizes (took_block (given keys c o true b) ∷ c)
     → BringsKnown keys.sizes (took_block (given keys c o true b)) c
-unfolding raised admitted tree stored Rattle.definitions.specs.Chronicles.taken
+unfolding raised admitted tree stored_blocks Rattle.definitions.specs.Chronicles.taken_blocks
 new-brings keys c o b so q e =
     let k : record { block = just1 b; certificate = o.certificate } ≡ q =
     same-some (record { block = just1 b; certificate = o.certificate }) q e in
@@ -351,7 +354,7 @@ unfit-stops n (inr (inl e)) = rw e refl
 unfit-stops n (inr (inr (inl e))) = rw e refl
 unfit-stops n (inr (inr (inr e))) = rw e refl
 
-unfit-ends : (keys : Keys) (c : Chronicle) (s : Kept) (n : Fault) → IsUnfit n → IsStateOf keys c s
+unfit-ends : (keys : Keys) (c : Chronicle) (s : StateParts) (n : Fault) → IsUnfit n → IsStateOf keys c s
     → Follows keys (rulings.refusing n) c (Err n) s
 unfolding on_ruling
 unfit-ends keys c s n u is = record {
@@ -362,7 +365,7 @@ unfit-ends keys c s n u is = record {
 }
 
 -- a block that stands
-known-ends : (keys : Keys) (c : Chronicle) (s : Kept) (o : Offered) (b : Branch) (d : Change)
+known-ends : (keys : Keys) (c : Chronicle) (s : StateParts) (o : Offered) (b : Branch) (d : Change)
     → IsStateOf keys c s → IsSound keys.sizes (took_block (given keys c o false b) ∷ c)
     → find_in (digest o.core) (tree c) ≡ Some b → d ≡ again_change keys s o
     → Follows keys (rulings.due (took_block (given keys c o false b))) c (Ok d.out) (changed d s)
@@ -375,7 +378,7 @@ known-ends keys c s o b d is so found e =
     (ap (λ (x : Change). collects x.growth) e)
 
 -- a new one
-new-ends : (keys : Keys) (c : Chronicle) (s : Kept) (o : Offered) (b : Branch) (d : Change)
+new-ends : (keys : Keys) (c : Chronicle) (s : StateParts) (o : Offered) (b : Branch) (d : Change)
     → IsStateOf keys c s → IsSound keys.sizes (took_block (given keys c o true b) ∷ c)
     → o.core.justify_height < o.core.height
     → placing MOST_BLOCKS o.core o.certificate (tree c) ≡ grows b → IsTaken keys s o d
@@ -389,7 +392,7 @@ new-ends keys c s o b d is so below e t =
 
 -- by the place of the block
 place-by :
-    (keys : Keys) (c : Chronicle) (s : Kept) (o : Offered) (sender : ℕ) (result : Result Change Fault)
+    (keys : Keys) (c : Chronicle) (s : StateParts) (o : Offered) (sender : ℕ) (result : Result Change Fault)
     → IsStateOf keys c s → IsChecked keys.sizes o.core o.certificate o.found
     → (p : Placing) → placing MOST_BLOCKS o.core o.certificate (tree c) ≡ p
     → IsPlaced MOST_BLOCKS o.core o.certificate (tree c) p → IsDecidedAt keys s o result p
@@ -421,7 +424,7 @@ place-by keys c s o sender result is ch (unfit n) e h t =
 
 -- what a block comes to
 pub block-decided :
-    (keys : Keys) (c : Chronicle) (s : Kept) (o : Offered) (sender : ℕ) (result : Result Change Fault)
+    (keys : Keys) (c : Chronicle) (s : StateParts) (o : Offered) (sender : ℕ) (result : Result Change Fault)
     → IsDecided keys s o result → IsStateOf keys c s → IsChecked keys.sizes o.core o.certificate o.found
     → Follows keys (on_block (identity_of keys) o.view sender o.core o.certificate o.found c) c
     (answer result) (after result s)
@@ -433,7 +436,7 @@ block-decided keys c s o sender result h is ch =
 
 -- ---- from what was planned
 
-module _ (keys : Keys) (s : Kept) (o : Offered) (n : Node) (p : Placing)
+module _ (keys : Keys) (s : StateParts) (o : Offered) (n : Node) (p : Placing)
     (planned : IsPlanned (tree_of s.variables) o.core o.certificate o.found.clear (Ok (Grows n)) p) where
   pub conflict-decided : (f : Fault)
       → ruled_after s.variables.rules (justified_of o) s.variables.stored ≡ Err f

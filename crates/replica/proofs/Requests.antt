@@ -25,8 +25,8 @@ use Rattle.pacemaker.proofs.Reached.{paced-still}
 use Rattle.replica.specs.declared.change.Change.{Change}
 use Rattle.replica.specs.declared.stored.StoredStep.TheVariants.{GotRequest}
 use Rattle.replica.specs.declared.change.Growth.TheVariants.{Request}
-use Rattle.replica.specs.Steps.{Sent, bytes_of, shown}
-use Rattle.replica.specs.Kept.{Kept, variables_of, IsStateOf, AreFit}
+use Rattle.replica.specs.Steps.{SentBytes, bytes_of, shown}
+use Rattle.replica.specs.Kept.{StateParts, variables_of, IsStateOf, AreFit}
 use Rattle.replica.specs.Changes.{noting, sent_first, asked, pended, collected, changed, changed_variables}
 use Rattle.replica.specs.Changes.{IsStep}
 use Rattle.replica.specs.Requests.{is_full, growth_for, IsWaiting, reply_again, again_sent, old_change}
@@ -45,7 +45,7 @@ pub or-memory : (result : Result Change Fault) (d : Change) → IfOk result (λ 
 or-memory (Ok x) d made memory = made
 or-memory (Err n) d made memory = memory-same n fault.Memory memory
 
-module _ (keys : Keys) (c : Chronicle) (s : Kept) (r : Command) (o : IsStateOf keys c s) where
+module _ (keys : Keys) (c : Chronicle) (s : StateParts) (r : Command) (o : IsStateOf keys c s) where
   brings-none : BringsKnown keys.sizes (noted (got_request r)) c
   unfolding raised
   brings-none q e = absurd (let k : None ≡ Some q = e in cc)
@@ -74,7 +74,7 @@ module _ (keys : Keys) (c : Chronicle) (s : Kept) (r : Command) (o : IsStateOf k
       (ruling-sound (identity_of keys) (request_in r) c tt o.sound)
 
   -- a step of this growth that sends this
-  step-is : (g : Option Command) (out : List Sent)
+  step-is : (g : Option Command) (out : List SentBytes)
       → out ≡ shown (sent_first (identity_of keys) (noted (got_request r)) c)
       → IsStep keys c (noted (got_request r)) s.pace
       (record (noting s.variables (GotRequest r) out) { growth = growth_for g })
@@ -99,7 +99,7 @@ module _ (keys : Keys) (c : Chronicle) (s : Kept) (r : Command) (o : IsStateOf k
   kept-votes None = refl
   kept-votes (Some x) = refl
 
-  comes : (g : Option Command) (out : List Sent) → on_request r c ≡ due (noted (got_request r))
+  comes : (g : Option Command) (out : List SentBytes) → on_request r c ≡ due (noted (got_request r))
       → pended (growth_for g) s.pending ≡ asked (noted (got_request r)) c
       → out ≡ shown (sent_first (identity_of keys) (noted (got_request r)) c)
       → let d : Change =
@@ -160,7 +160,7 @@ ruled-by : (c : Chronicle) (r : Command) (a b : Bool) → is_due (history c) r �
 unfolding on_request
 ruled-by c r a b e f = λ i. cond (e i && f i) (refusing fault.PoolFull) (due (noted (got_request r)))
 
-module _ (keys : Keys) (c : Chronicle) (s : Kept) (h : History) (r : Command) (o : IsStateOf keys c s)
+module _ (keys : Keys) (c : Chronicle) (s : StateParts) (h : History) (r : Command) (o : IsStateOf keys c s)
     (before : h ≡ history c) (fit : AreFit keys.sizes c) where
   Comes : Result Change Fault → Type 0
   Comes result = Follows keys (on_request r c) c (answer result) (after result s)

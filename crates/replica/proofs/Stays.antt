@@ -10,7 +10,8 @@ use Rattle.definitions.specs.Keyrings.{Keys}
 use Rattle.definitions.specs.Checks.{Identity, identity_of}
 use Rattle.definitions.specs.Chronicles.{Note, Step, Step.took_block, Step.noted, Note.got_vote}
 use Rattle.definitions.specs.Chronicles.{Note.got_new_view, Note.got_request, Note.got_fetch}
-use Rattle.definitions.specs.Chronicles.{Note.timed_out, Note.beat, Chronicle, taken, stored, history}
+use Rattle.definitions.specs.Chronicles.{Note.timed_out, Note.beat, Chronicle, taken_blocks, stored_blocks}
+use Rattle.definitions.specs.Chronicles.{history}
 use Rattle.definitions.specs.States.{Justified, raised, higher, qc_high, leaf, proposed, is_due, pending}
 use Rattle.definitions.specs.States.{with_request}
 use Rattle.definitions.specs.Frames.{Command}
@@ -110,8 +111,8 @@ raise-is keys st c q block n e b = by (nat_lt (length (qc_high keys.sizes c).blo
 
 -- ---- the rest
 
-pub stored-noted : (n : Note) (c : Chronicle) → stored (noted n ∷ c) ≡ stored c
-unfolding stored taken
+pub stored-noted : (n : Note) (c : Chronicle) → stored_blocks (noted n ∷ c) ≡ stored_blocks c
+unfolding stored_blocks taken_blocks
 stored-noted n c = refl
 
 pub proposed-same : (self : Identity) (st : Step) (c : Chronicle) → is_beat st ≡ false

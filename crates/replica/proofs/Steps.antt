@@ -34,8 +34,8 @@ use Rattle.replica.specs.declared.state.High.{High}
 use Rattle.replica.specs.declared.change.Growth.{Growth}
 use Rattle.replica.specs.declared.change.Growth.TheVariants.{Nothing, Block, Vote, Request}
 use Rattle.replica.specs.declared.change.Change.{Change}
-use Rattle.replica.specs.Steps.{Sent, bytes_of, shown, Shows}
-use Rattle.replica.specs.Kept.{Variables, Kept, high_of, IsStateOf}
+use Rattle.replica.specs.Steps.{SentBytes, bytes_of, shown, Shows}
+use Rattle.replica.specs.Kept.{Variables, StateParts, high_of, IsStateOf}
 use Rattle.replica.specs.Changes.{asked, pended, collected, left_above, votes_after, changed}
 use Rattle.replica.specs.Changes.{changed_variables, IsStep}
 use Rattle.replica.specs.StepsTo.{IsRefused, Follows}
@@ -131,7 +131,7 @@ shown-if true x = refl
 shown-if false x = refl
 
 -- want of memory, where a step was due
-pub refused-for-memory : (keys : Keys) (v : Ruling) (c : Chronicle) (st : Step) (s : Kept) → v ≡ due st
+pub refused-for-memory : (keys : Keys) (v : Ruling) (c : Chronicle) (st : Step) (s : StateParts) → v ≡ due st
     → IsStateOf keys c s → Follows keys v c (Err fault.Memory) s
 unfolding on_ruling on_step
 refused-for-memory keys v c st s e o =
@@ -139,7 +139,7 @@ refused-for-memory keys v c st s e o =
     (record { memory = refused_at_once; state = o; left = refl; answer = refl })
 
 -- want of memory in place of a step that would stand
-pub memory-instead : (keys : Keys) (v : Ruling) (c : Chronicle) (out : List Sent) (s new : Kept)
+pub memory-instead : (keys : Keys) (v : Ruling) (c : Chronicle) (out : List SentBytes) (s new : StateParts)
     → Follows keys v c (Ok out) new → IsStateOf keys c s → Follows keys v c (Err fault.Memory) s
 memory-instead keys v c out s new t o = refused-for-memory keys v c t.step s t.is_due o
 
@@ -177,7 +177,7 @@ left-above-is s st c kept (Some r) b tr is e =
     let h : r.block.height ≡ certified s (st ∷ c) = ap (λ (x : High). x.block.height) e in
     subst (λ (n : ℕ). IsVotesOf s (st ∷ c) (kept_above n kept)) (sym h) (followed-else s c kept st b tr is)
 
-pub votes-else : (keys : Keys) (st : Step) (c : Chronicle) (d : Change) (s : Kept) → BringsNoVote st
+pub votes-else : (keys : Keys) (st : Step) (c : Chronicle) (d : Change) (s : StateParts) → BringsNoVote st
     → collected d.growth s.votes.kept ≡ s.votes.kept → IsTree (tree (st ∷ c))
     → IsVotesOf keys.sizes c s.votes.kept → IsStep keys c st s.pace d
     → IsVotesOf keys.sizes (st ∷ c) (votes_after d s.votes.kept)
@@ -186,7 +186,7 @@ votes-else keys st c d s b q tr is x =
     (left-above-is keys.sizes st c s.votes.kept d.high b tr is (ap (λ (v : Variables). v.high) x.variables))
 
 -- a step that stands
-pub stands-with : (keys : Keys) (v : Ruling) (c : Chronicle) (st : Step) (d : Change) (s : Kept)
+pub stands-with : (keys : Keys) (v : Ruling) (c : Chronicle) (st : Step) (d : Change) (s : StateParts)
     → v ≡ due st → conflicts st c ≡ false → IsSound keys.sizes (st ∷ c) → BringsKnown keys.sizes st c
     → pended d.growth s.pending ≡ asked st c
     → IsStateOf keys c s → IsStep keys c st s.pace d
@@ -214,7 +214,7 @@ stands-with keys v c st d s e k so known p o x votes =
     }
 
 -- one that brings no vote
-pub stands : (keys : Keys) (v : Ruling) (c : Chronicle) (st : Step) (d : Change) (s : Kept) → v ≡ due st
+pub stands : (keys : Keys) (v : Ruling) (c : Chronicle) (st : Step) (d : Change) (s : StateParts) → v ≡ due st
     → conflicts st c ≡ false → IsSound keys.sizes (st ∷ c) → BringsKnown keys.sizes st c
     → s.pending ≡ asked st c
     → IsStateOf keys c s → IsStep keys c st s.pace d → BringsNoVote st → collects d.growth ≡ false
@@ -224,7 +224,8 @@ stands keys v c st d s e k so known p o x b q =
     (votes-else keys st c d s b (collected-quiet d.growth s.votes.kept q) so.is_tree o.votes x)
 
 -- a step that decides against what was executed
-pub refused-for-conflict : (keys : Keys) (v : Ruling) (c : Chronicle) (st : Step) (s : Kept) → v ≡ due st
+pub refused-for-conflict : (keys : Keys) (v : Ruling) (c : Chronicle) (st : Step) (s : StateParts)
+    → v ≡ due st
     → conflicts st c ≡ true → IsStateOf keys c s → Follows keys v c (Err fault.Conflict) s
 unfolding on_ruling on_step
 refused-for-conflict keys v c st s e k o =
@@ -240,7 +241,7 @@ refused-for-conflict keys v c st s e k o =
     })
 
 -- a block that isn't in the tree
-pub asks : (keys : Keys) (v : Ruling) (c : Chronicle) (sender : ℕ) (d : Bytes) (s : Kept)
+pub asks : (keys : Keys) (v : Ruling) (c : Chronicle) (sender : ℕ) (d : Bytes) (s : StateParts)
     → v ≡ missing sender d → IsStateOf keys c s → Follows keys v c (Err fault.UnknownParent) s
 unfolding on_ruling
 asks keys v c sender d s e o =
@@ -248,14 +249,14 @@ asks keys v c sender d s e o =
     (record { memory = ample; state = o; left = refl; answer = refl })
 
 -- a change that was decided is made, or memory is refused and all is as before
-pub committed : (keys : Keys) (v : Ruling) (c : Chronicle) (d : Change) (s new : Kept)
-    (result : Result (List Sent) Fault) → Follows keys v c (Ok d.out) (changed d s) → IsStateOf keys c s
+pub committed : (keys : Keys) (v : Ruling) (c : Chronicle) (d : Change) (s new : StateParts)
+    (result : Result (List SentBytes) Fault) → Follows keys v c (Ok d.out) (changed d s) → IsStateOf keys c s
     → OnOk result (new ≡ changed d s) → IfOk result (λ out. out ≡ d.out) → OnErr result (new ≡ s)
     → OnErr result (result ≡ Err fault.Memory) → Follows keys v c result new
 committed keys v c d s new (Ok out) f o made sent unchanged memory =
-    subst (λ (x : Kept). Follows keys v c (Ok out) x) (sym made)
-    (subst (λ (x : List Sent). Follows keys v c (Ok x) (changed d s)) (sym sent) f)
+    subst (λ (x : StateParts). Follows keys v c (Ok out) x) (sym made)
+    (subst (λ (x : List SentBytes). Follows keys v c (Ok x) (changed d s)) (sym sent) f)
 committed keys v c d s new (Err n) f o made sent unchanged memory =
-    subst (λ (x : Kept). Follows keys v c (Err n) x) (sym unchanged)
-    (subst (λ (r : Result (List Sent) Fault). Follows keys v c r s) (sym memory)
+    subst (λ (x : StateParts). Follows keys v c (Err n) x) (sym unchanged)
+    (subst (λ (r : Result (List SentBytes) Fault). Follows keys v c r s) (sym memory)
     (memory-instead keys v c d.out s (changed d s) f o))

@@ -8,9 +8,9 @@ use Rattle.definitions.specs.Checks.{Identity, identity_of}
 use Rattle.definitions.specs.Chronicles.{Step, Chronicle}
 use Rattle.definitions.specs.Rulings.{Input, Ruling, Ruling.missing, Ruling.refusing, ruling, conflicts}
 use Rattle.definitions.specs.Rulings as rulings
-use Rattle.definitions.specs.Replicas.{Memory, ample, refused_at_once, refused_after, running, Standing}
+use Rattle.definitions.specs.Replicas.{MemorySupply, ample, refused_at_once, refused_after, running, Standing}
 use Rattle.definitions.specs.Replicas.{Replica, Reaction, on_step, on_ruling, step, executes}
-use Rattle.replica.specs.Kept.{Variables, Kept}
+use Rattle.replica.specs.Kept.{Variables, StateParts}
 use Rattle.replica.specs.Steps.{Stepped, is_running, standing_of}
 use Rattle.replica.specs.declared.standing.Standing as mark
 use Rattle.replica.specs.declared.standing.Standing.TheVariants.{Running, Stopped, CutShort}
@@ -22,7 +22,8 @@ use Rattle.definitions.specs.Histories.{History}
 abbrev IsGrown : Chronicle → Replica × Reaction → Type 0
 IsGrown c r = (length r.0.chronicle ≡ length c) ⊎ (length r.0.chronicle ≡ suc (length c))
 
-step-grows : (self : Identity) (m : Memory) (st : Step) (c : Chronicle) → IsGrown c (on_step self m st c)
+step-grows : (self : Identity) (m : MemorySupply) (st : Step) (c : Chronicle)
+    → IsGrown c (on_step self m st c)
 unfolding on_step
 step-grows self ample st c = cond_both (conflicts st c) _ _ (IsGrown c) (λ e. inl refl) (λ e. inr refl)
 step-grows self refused_at_once st c = inl refl
@@ -30,13 +31,14 @@ step-grows self (refused_after k) st c =
     cond_both (conflicts st c) _ _ (IsGrown c) (λ e. inl refl)
     (λ e. cond_both (executes st c) _ _ (IsGrown c) (λ x. inr refl) (λ x. inl refl))
 
-ruling-grows : (self : Identity) (m : Memory) (v : Ruling) (c : Chronicle) → IsGrown c (on_ruling self m v c)
+ruling-grows : (self : Identity) (m : MemorySupply) (v : Ruling) (c : Chronicle)
+    → IsGrown c (on_ruling self m v c)
 unfolding on_ruling
 ruling-grows self m (rulings.due st) c = step-grows self m st c
 ruling-grows self m (missing sender d) c = inl refl
 ruling-grows self m (refusing n) c = inl refl
 
-pub grows-from : (keys : Keys) (i : Input) (c : Chronicle) (taken : Taken) (s : Kept) (h : History)
+pub grows-from : (keys : Keys) (i : Input) (c : Chronicle) (taken : Taken) (s : StateParts) (h : History)
     → Advances keys i c taken s h
     → (length s.variables.chronicle ≡ length c) ⊎ (length s.variables.chronicle ≡ suc (length c))
 grows-from keys i c taken s h t =
@@ -48,7 +50,7 @@ grows-from keys i c taken s h t =
 
 -- what is kept after it
 pub kept-from :
-    (keys : Keys) (i : Input) (c : Chronicle) (taken : Taken) (s : Kept) (h : History) (m : Standing)
+    (keys : Keys) (i : Input) (c : Chronicle) (taken : Taken) (s : StateParts) (h : History) (m : Standing)
     → Advances keys i c taken s h → m ≡ standing_after taken (length h)
     → IsWholeOf keys (record { chronicle = s.variables.chronicle; standing = m }) s h
 kept-from keys i c taken s h m t e =
@@ -59,7 +61,7 @@ kept-from keys i c taken s h m t e =
     }) t.whole
 
 -- the step of a replica that goes on
-pub stepped-from : (keys : Keys) (i : Input) (old : Replica) (c : Chronicle) (taken : Taken) (s : Kept)
+pub stepped-from : (keys : Keys) (i : Input) (old : Replica) (c : Chronicle) (taken : Taken) (s : StateParts)
     (h : History) (m : Standing) → old ≡ record { chronicle = c; standing = running }
     → Advances keys i c taken s h
     → m ≡ standing_after taken (length h)

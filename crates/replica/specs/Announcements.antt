@@ -17,12 +17,12 @@ use Rattle.replica_rules.specs.declared.block_ref.BlockRef.{BlockRef}
 use Rattle.replica.specs.declared.stored.GotNewView.{GotNewView}
 use Rattle.replica.specs.declared.stored.StoredStep.TheVariants.{GotNewView as Announced, TimedOut}
 use Rattle.replica.specs.declared.change.Change.{Change}
-use Rattle.replica.specs.Steps.{Sent}
-use Rattle.replica.specs.Kept.{Kept}
+use Rattle.replica.specs.Steps.{SentBytes}
+use Rattle.replica.specs.Kept.{StateParts}
 use Rattle.replica.specs.Changes.{noting, raise_of, leaf_after}
 
 -- the view goes to all, with the highest certificate
-abbrev pub new_view_sent : Keys → ℕ → Certificate → Sent
+abbrev pub new_view_sent : Keys → ℕ → Certificate → SentBytes
 new_view_sent keys view q =
     let content = new_view_text view keys.party (certificate_bytes q) in (
       to_all,
@@ -35,18 +35,18 @@ pub record IsPacedBy (old new : Pace) (Notes : Note → Type 0) : Type 0 where
   pub sizes : new.sizes ≡ old.sizes
   pub paced : (c : Chronicle) (n : Note) → Notes n → IsPaceOf c old → IsPaceOf (noted n ∷ c) new
 
-abbrev pub timeout_change : Keys → Kept → Pace → Change
+abbrev pub timeout_change : Keys → StateParts → Pace → Change
 timeout_change keys s pace =
     record (noting s.variables TimedOut (new_view_sent keys pace.view s.variables.high.certificate ∷ []))
     { pace = Some pace }
 
 -- a timeout goes on by a view, and announces it
-pub record IsTimeout (keys : Keys) (s : Kept) (d : Change) : Type 0 where
+pub record IsTimeout (keys : Keys) (s : StateParts) (d : Change) : Type 0 where
   pub pace : Pace
   pub its_pace : IsPacedBy s.pace pace (λ n. n ≡ timed_out)
   pub change : d ≡ timeout_change keys s pace
 
-abbrev pub new_view_change : Keys → Kept → BlockRef → GotNewView → Pace → Change
+abbrev pub new_view_change : Keys → StateParts → BlockRef → GotNewView → Pace → Change
 new_view_change keys s block n pace =
     let v = s.variables in
     let high = raise_of (record { block = block; certificate = n.certificate }) v.high in
@@ -58,7 +58,7 @@ new_view_change keys s block n pace =
     }
 
 -- a view that was announced, with a certificate for this block
-pub record IsAnnounced (keys : Keys) (s : Kept) (block : BlockRef) (n : GotNewView) (d : Change) :
+pub record IsAnnounced (keys : Keys) (s : StateParts) (block : BlockRef) (n : GotNewView) (d : Change) :
     Type 0 where
   pub pace : Pace
   pub its_pace :
@@ -66,12 +66,12 @@ pub record IsAnnounced (keys : Keys) (s : Kept) (block : BlockRef) (n : GotNewVi
   pub change : d ≡ new_view_change keys s block n pace
 
 -- what an announced view comes to, where this was found of the block of its certificate
-abbrev pub IsNewViewAt : Keys → Kept → GotNewView → Result Change Fault → Option Branch → Type 0
+abbrev pub IsNewViewAt : Keys → StateParts → GotNewView → Result Change Fault → Option Branch → Type 0
 IsNewViewAt keys s n result None = result ≡ Err fault.UnknownParent
 IsNewViewAt keys s n result (Some b) =
     MatchResult result (IsAnnounced keys s (record { digest = n.certificate.digest; height = length b }) n)
     (λ f. f ≡ fault.Memory)
 
-abbrev pub IsNewView : Keys → Kept → GotNewView → Result Change Fault → Type 0
+abbrev pub IsNewView : Keys → StateParts → GotNewView → Result Change Fault → Type 0
 IsNewView keys s n result =
     IsNewViewAt keys s n result (find_in n.certificate.digest (blocks s.variables.stored))

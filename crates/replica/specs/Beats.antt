@@ -18,8 +18,8 @@ use Rattle.definitions.specs.Trees.{blocks, find_in}
 use Rattle.replica_rules.specs.declared.block_ref.BlockRef.{BlockRef}
 use Rattle.replica.specs.declared.stored.StoredStep.TheVariants.{Beat}
 use Rattle.replica.specs.declared.change.Change.{Change}
-use Rattle.replica.specs.Steps.{Sent}
-use Rattle.replica.specs.Kept.{Own, Variables, Kept}
+use Rattle.replica.specs.Steps.{SentBytes}
+use Rattle.replica.specs.Kept.{Own, Variables, StateParts}
 use Rattle.replica.specs.Changes.{noting}
 
 -- the height of a child of a leaf
@@ -48,11 +48,11 @@ proposed_above v =
     keys_of (history_above v.leaf.digest v.stored (executed_below v) (known_height v - executed_below v) [])
 
 -- the first requests that wait and don't stand there
-abbrev pub picked : Kept → List Command
+abbrev pub picked : StateParts → List Command
 picked s = first_beside (proposed_above s.variables) s.pending
 
 -- a child of the leaf with these, which justifies the block of the highest certificate, with that
-abbrev pub child_of : Kept → Own
+abbrev pub child_of : StateParts → Own
 child_of s =
     let v = s.variables in
     record {
@@ -62,11 +62,11 @@ child_of s =
     }
 
 -- its digest and height
-abbrev pub child_ref : Kept → BlockRef
+abbrev pub child_ref : StateParts → BlockRef
 child_ref s = record { digest = sha256 (child_of s).core; height = child_height s.variables.leaf }
 
 -- a proposal goes to all
-abbrev pub proposal_sent : Keys → ℕ → Own → Sent
+abbrev pub proposal_sent : Keys → ℕ → Own → SentBytes
 proposal_sent keys view own =
     let content = proposal_text view own.core own.certificate in (
       to_all,
@@ -75,22 +75,23 @@ proposal_sent keys view own =
     )
 
 -- the last one, where there is one
-abbrev pub own_sent : Keys → ℕ → Option Own → List Sent
+abbrev pub own_sent : Keys → ℕ → Option Own → List SentBytes
 own_sent keys view None = []
 own_sent keys view (Some own) = proposal_sent keys view own ∷ []
 
 -- the child is proposed, and becomes the leaf
-abbrev pub proposing : Keys → Kept → Change
+abbrev pub proposing : Keys → StateParts → Change
 proposing keys s = record (noting s.variables Beat (proposal_sent keys s.pace.view (child_of s) ∷ [])) {
   leaf = child_ref s;
   own = Some (child_of s);
 }
 
 -- a leader proposes where its leaf is known, and else sends its last proposal again
-abbrev pub beat_change : Keys → Kept → Change
+abbrev pub beat_change : Keys → StateParts → Change
 beat_change keys s =
     let v = s.variables in
     if leader keys.sizes s.pace.view == keys.party
-    then (if is_some (find_in v.leaf.digest (blocks v.stored)) then proposing keys s else noting v Beat
-    (own_sent keys s.pace.view v.own))
+    then (if is_some (find_in v.leaf.digest (blocks v.stored))
+    then proposing keys s
+    else noting v Beat (own_sent keys s.pace.view v.own))
     else noting v Beat []

@@ -24,8 +24,8 @@ use Rattle.replica.specs.declared.change.Change.{Change}
 use Rattle.replica.specs.declared.change.Growth.{Growth}
 use Rattle.replica.specs.declared.change.Growth.TheVariants.{Nothing, Block, Vote, Request}
 use Rattle.replica.specs.Replay.{is_new, step_of}
-use Rattle.replica.specs.Steps.{Sent, shown}
-use Rattle.replica.specs.Kept.{Variables, Kept, variables_of}
+use Rattle.replica.specs.Steps.{SentBytes, shown}
+use Rattle.replica.specs.Kept.{Variables, StateParts, variables_of}
 
 -- the blocks of the tree with what is added
 abbrev pub grown : Growth → List Stored → List Stored
@@ -75,7 +75,7 @@ abbrev pub tree_of : Variables → TreeState
 tree_of v = record { most = v.most; stored = v.stored }
 
 -- the change can be made: what is added may be, and the step says so
-pub record Fits (s : Kept) (d : Change) : Type 0 where
+pub record Fits (s : StateParts) (d : Change) : Type 0 where
   pub growth : MayGrow (tree_of s.variables) s.votes.sizes d.growth
   pub step : is_new d.step ≡ adds d.growth
 
@@ -92,7 +92,7 @@ changed_variables d v = record {
 }
 
 -- what is kept after it
-abbrev pub changed : Change → Kept → Kept
+abbrev pub changed : Change → StateParts → StateParts
 changed d s = record {
   variables = changed_variables d s.variables;
   pace = unwrap_or d.pace s.pace;
@@ -101,7 +101,7 @@ changed d s = record {
 }
 
 -- a step that changes nothing beside the chronicle
-abbrev pub noting : Variables → StoredStep → List Sent → Change
+abbrev pub noting : Variables → StoredStep → List SentBytes → Change
 noting v step out = record {
   step = step;
   out = out;

@@ -16,7 +16,7 @@ use Rattle.definitions.specs.Sendings.{reply_to}
 use Rattle.block_tree.specs.Finding.{stored_in, at_height}
 use Rattle.mempool.specs.Pool.{left_after}
 use Rattle.executor.specs.State.{with_commands}
-use Rattle.replica.specs.Steps.{Sent, bytes_of}
+use Rattle.replica.specs.Steps.{SentBytes, bytes_of}
 
 -- the stored block of this height on the branch of a block
 abbrev pub block_at : Bytes → ℕ → List Stored → Option Stored
@@ -59,9 +59,9 @@ abbrev pub is_sendable : Sizes → Answer → Bool
 is_sendable sizes a = nat_lt a.client sizes.clients && nat_le (length a.text) MOST_TEXT
 
 -- the reply to an executed command, and those to all of them
-abbrev pub told_one : Keys → Answer → Option Sent
+abbrev pub told_one : Keys → Answer → Option SentBytes
 told_one keys a = if is_sendable keys.sizes a then Some (bytes_of (reply_to (identity_of keys) a)) else None
 
-unfoldable pub told : Keys → List Answer → List Sent
+unfoldable pub told : Keys → List Answer → List SentBytes
 told keys [] = []
 told keys (a ∷ others) = option_to_list (told_one keys a) ++ told keys others

@@ -11,12 +11,12 @@ use Rattle.block_tree.specs.Finding.{stored_in}
 use Rattle.replica.specs.declared.stored.GotFetch.{GotFetch}
 use Rattle.replica.specs.declared.stored.StoredStep.TheVariants.{GotFetch as Asked}
 use Rattle.replica.specs.declared.change.Change.{Change}
-use Rattle.replica.specs.Steps.{Sent}
+use Rattle.replica.specs.Steps.{SentBytes}
 use Rattle.replica.specs.Kept.{Variables}
 use Rattle.replica.specs.Changes.{noting}
 
 -- a block with its certificate goes to the one who asked
-abbrev pub block_sent : Keys → ℕ → Core → Certificate → Sent
+abbrev pub block_sent : Keys → ℕ → Core → Certificate → SentBytes
 block_sent keys to core q =
     let content = block_text keys.party (core_bytes core) (certificate_bytes q) in (
       to_party to,
@@ -24,7 +24,7 @@ block_sent keys to core q =
     )
 
 -- where it stands in the tree
-abbrev pub supplied : Keys → ℕ → Option Stored → List Sent
+abbrev pub supplied : Keys → ℕ → Option Stored → List SentBytes
 supplied keys to None = []
 supplied keys to (Some s) = block_sent keys to (core_of s.branch) s.certificate ∷ []
 

@@ -11,7 +11,7 @@ use Rattle.definitions.specs.Branches.{Branch}
 use Rattle.definitions.specs.FrameLimits.{IsCore}
 use Rattle.definitions.specs.Digests.{core_of, AllKnown}
 use Rattle.definitions.specs.Trees.{Stored}
-use Rattle.definitions.specs.Chronicles.{Admitted, Step.took_block, Chronicle, stored, tree, IsSound}
+use Rattle.definitions.specs.Chronicles.{Admitted, Step.took_block, Chronicle, stored_blocks, tree, IsSound}
 use Rattle.definitions.specs.States.{Justified, qc_high, leaf, pending, proposed}
 use Rattle.audit_ground.specs.Law.{IsStored}
 use Rattle.pacemaker.specs.Pacing.{Pace, IsPaceOf}
@@ -37,14 +37,14 @@ pub record Variables : Type 0 where
   pub own : Option Own
 
 -- what is kept
-pub record Kept : Type 0 where
+pub record StateParts : Type 0 where
   pub variables : Variables
   pub pace : Pace
   pub votes : Collected
   pub pending : List Command
 
 -- with these requests waiting
-abbrev pub waiting : List Command → Kept → Kept
+abbrev pub waiting : List Command → StateParts → StateParts
 waiting pending s = record s { pending = pending }
 
 -- a certificate with its block, and a proposal, as they are kept
@@ -59,7 +59,7 @@ abbrev pub variables_of : Keys → Chronicle → Variables
 variables_of keys c = record {
   chronicle = c;
   most = MOST_BLOCKS;
-  stored = stored c;
+  stored = stored_blocks c;
   rules = ruled_by c;
   high = high_of (qc_high keys.sizes c);
   leaf = ref_of (leaf (identity_of keys) c);
@@ -76,7 +76,7 @@ abbrev pub AreStored : Chronicle → Type 0
 AreStored c = (a : Admitted) → Among (took_block a) c → IsStored c a
 
 -- what is kept is that of this chronicle, which is a sound one
-pub record IsStateOf (keys : Keys) (c : Chronicle) (s : Kept) : Type 0 where
+pub record IsStateOf (keys : Keys) (c : Chronicle) (s : StateParts) : Type 0 where
   pub same : s.variables ≡ variables_of keys c
   pub sizes : s.pace.sizes ≡ keys.sizes
   pub pace : IsPaceOf c s.pace

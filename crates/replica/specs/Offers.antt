@@ -24,8 +24,8 @@ use Rattle.replica.specs.declared.stored.StoredStep.{StoredStep}
 use Rattle.replica.specs.declared.stored.StoredStep.TheVariants.{TookNew, TookAgain}
 use Rattle.replica.specs.declared.change.Change.{Change}
 use Rattle.replica.specs.declared.change.Growth.TheVariants.{Block}
-use Rattle.replica.specs.Steps.{Sent}
-use Rattle.replica.specs.Kept.{Kept}
+use Rattle.replica.specs.Steps.{SentBytes}
+use Rattle.replica.specs.Kept.{StateParts}
 use Rattle.replica.specs.Changes.{noting, tree_of, raise_of, leaf_after}
 
 -- A block with its certificate and what a check found of them, and the view that it was proposed for, if it
@@ -50,19 +50,19 @@ abbrev pub high_in : Offered → High
 high_in o = record { block = justified_of o; certificate = o.certificate }
 
 -- a vote goes to the leader
-abbrev pub vote_sent : Keys → ℕ → Bytes → Sent
+abbrev pub vote_sent : Keys → ℕ → Bytes → SentBytes
 vote_sent keys view d = (
   to_party (leader keys.sizes view),
   spelling (vote d
       (record { voter = keys.party; vector = vector_for keys.sizes (keyring_of keys) kind.Vote d })),
 )
 
-abbrev pub votes_sent : Keys → ℕ → Bytes → Bool → List Sent
+abbrev pub votes_sent : Keys → ℕ → Bytes → Bool → List SentBytes
 votes_sent keys view d voted = if voted then vote_sent keys view d ∷ [] else []
 
 -- ---- a block that stands in the tree
 
-abbrev pub votes_again : Kept → Offered → Bool
+abbrev pub votes_again : StateParts → Offered → Bool
 votes_again s o =
     is_for s.pace.view o.view && may_vote_in s.variables.rules (digest o.core) s.variables.stored
 
@@ -81,7 +81,7 @@ again_step o voted = TookAgain (record {
   voted = voted;
 })
 
-abbrev pub again_change : Keys → Kept → Offered → Change
+abbrev pub again_change : Keys → StateParts → Offered → Change
 again_change keys s o =
     let v = s.variables in
     let voted = votes_again s o in
@@ -91,12 +91,12 @@ again_change keys s o =
 
 -- ---- a new block
 
-abbrev pub votes_new : Kept → Offered → Bool
+abbrev pub votes_new : StateParts → Offered → Bool
 votes_new s o =
     is_for s.pace.view o.view
     && may_vote_over s.variables.rules (candidate_of o.core o.found.clear) s.variables.stored
 
-abbrev pub new_change : Keys → Kept → Offered → Node → Ruled → Change
+abbrev pub new_change : Keys → StateParts → Offered → Node → Ruled → Change
 new_change keys s o n rules =
     let v = s.variables in
     let voted = votes_new s o in
@@ -110,7 +110,7 @@ new_change keys s o n rules =
     }
 
 -- it is taken by these rules and as this node
-pub record IsTaken (keys : Keys) (s : Kept) (o : Offered) (d : Change) : Type 0 where
+pub record IsTaken (keys : Keys) (s : StateParts) (o : Offered) (d : Change) : Type 0 where
   pub rules : Ruled
   pub node : Node
   pub ruled : ruled_after s.variables.rules (justified_of o) s.variables.stored ≡ Ok rules
@@ -119,7 +119,7 @@ pub record IsTaken (keys : Keys) (s : Kept) (o : Offered) (d : Change) : Type 0 
 
 -- ---- what is decided of a block that comes to this
 
-abbrev pub IsDecidedAt : Keys → Kept → Offered → Result Change Fault → Placing → Type 0
+abbrev pub IsDecidedAt : Keys → StateParts → Offered → Result Change Fault → Placing → Type 0
 IsDecidedAt keys s o result (stands b) =
     MatchResult result (λ d. d ≡ again_change keys s o) (λ n. n ≡ fault.Memory)
 IsDecidedAt keys s o result (grows b) =
@@ -128,6 +128,6 @@ IsDecidedAt keys s o result (grows b) =
 IsDecidedAt keys s o result lacks_parent = result ≡ Err fault.UnknownParent
 IsDecidedAt keys s o result (unfit n) = result ≡ Err n
 
-abbrev pub IsDecided : Keys → Kept → Offered → Result Change Fault → Type 0
+abbrev pub IsDecided : Keys → StateParts → Offered → Result Change Fault → Type 0
 IsDecided keys s o result =
     IsDecidedAt keys s o result (placing s.variables.most o.core o.certificate (blocks s.variables.stored))

@@ -14,8 +14,8 @@ use Rattle.replica.specs.declared.stored.StoredStep.TheVariants.{GotRequest}
 use Rattle.replica.specs.declared.change.Change.{Change}
 use Rattle.replica.specs.declared.change.Growth.{Growth}
 use Rattle.replica.specs.declared.change.Growth.TheVariants.{Nothing, Request}
-use Rattle.replica.specs.Steps.{Sent}
-use Rattle.replica.specs.Kept.{Kept}
+use Rattle.replica.specs.Steps.{SentBytes}
+use Rattle.replica.specs.Kept.{StateParts}
 use Rattle.replica.specs.Changes.{noting}
 use Rattle.replica.specs.Execution.{told_one}
 
@@ -28,31 +28,31 @@ abbrev pub growth_for : Option Command → Growth
 growth_for None = Nothing
 growth_for (Some r) = Request r
 
-abbrev pub waiting_change : Kept → Command → Change
+abbrev pub waiting_change : StateParts → Command → Change
 waiting_change s r =
     record (noting s.variables (GotRequest r) []) { growth = growth_for (planned_for r s.pending) }
 
-abbrev pub IsWaiting : Kept → Command → Result Change Fault → Bool → Type 0
+abbrev pub IsWaiting : StateParts → Command → Result Change Fault → Bool → Type 0
 IsWaiting s r result true = result ≡ Err fault.PoolFull
 IsWaiting s r result false = MatchResult result (λ d. d ≡ waiting_change s r) (λ n. n ≡ fault.Memory)
 
 -- the last reply again
-abbrev pub reply_again : Keys → Option Answer → List Sent
+abbrev pub reply_again : Keys → Option Answer → List SentBytes
 reply_again keys None = []
 reply_again keys (Some a) = option_to_list (told_one keys a)
 
-abbrev pub again_sent : Keys → History → Command → List Sent
+abbrev pub again_sent : Keys → History → Command → List SentBytes
 again_sent keys h r =
     if r.seq == last_seq r.client h then reply_again keys (answer_to r.client r.seq h) else []
 
-abbrev pub old_change : Keys → Kept → History → Command → Change
+abbrev pub old_change : Keys → StateParts → History → Command → Change
 old_change keys s h r = noting s.variables (GotRequest r) (again_sent keys h r)
 
 -- by whether it comes after all that was executed for its client
-abbrev pub IsRequestedIf : Keys → Kept → History → Command → Result Change Fault → Bool → Type 0
+abbrev pub IsRequestedIf : Keys → StateParts → History → Command → Result Change Fault → Bool → Type 0
 IsRequestedIf keys s h r result true = IsWaiting s r result (is_full r s.pending)
 IsRequestedIf keys s h r result false =
     MatchResult result (λ d. d ≡ old_change keys s h r) (λ n. n ≡ fault.Memory)
 
-abbrev pub IsRequested : Keys → Kept → History → Command → Result Change Fault → Type 0
+abbrev pub IsRequested : Keys → StateParts → History → Command → Result Change Fault → Type 0
 IsRequested keys s h r result = IsRequestedIf keys s h r result (is_due h r)

@@ -9,10 +9,11 @@ use Rattle.definitions.specs.Chronicles.{Chronicle, Step}
 use Rattle.definitions.specs.Histories.{History}
 use Rattle.definitions.specs.States.{pending}
 use Rattle.definitions.specs.Rulings.{Input, Ruling, Ruling.due, ruling, conflicts}
-use Rattle.definitions.specs.Replicas.{Memory, Standing, running, stopped, cut_short, Replica, held_history}
+use Rattle.definitions.specs.Replicas.{MemorySupply, Standing, running, stopped, cut_short, Replica}
+use Rattle.definitions.specs.Replicas.{held_history}
 use Rattle.definitions.specs.Replicas.{held_pending, on_ruling}
-use Rattle.replica.specs.Steps.{Sent, Shows, shown}
-use Rattle.replica.specs.Kept.{Kept, waiting, IsStateOf, AreFit, AreStored}
+use Rattle.replica.specs.Steps.{SentBytes, Shows, shown}
+use Rattle.replica.specs.Kept.{StateParts, waiting, IsStateOf, AreFit, AreStored}
 use Rattle.replica.specs.Changes.{changed, asked, sent_first}
 use Rattle.replica.specs.declared.change.Change.{Change}
 use Rattle.replica.specs.declared.standing.Taken.{Taken}
@@ -28,7 +29,8 @@ halts n = false
 -- ---- before anything is executed
 
 -- the step that was due stands
-pub record Stands (keys : Keys) (v : Ruling) (c : Chronicle) (out : List Sent) (new : Kept) : Type 0 where
+pub record Stands (keys : Keys) (v : Ruling) (c : Chronicle) (out : List SentBytes) (new : StateParts) :
+    Type 0 where
   pub step : Step
   pub is_due : v ≡ due step
   pub calm : conflicts step c ≡ false
@@ -37,28 +39,28 @@ pub record Stands (keys : Keys) (v : Ruling) (c : Chronicle) (out : List Sent) (
   pub sent : out ≡ shown (sent_first (identity_of keys) step c)
 
 -- nothing changed
-pub record IsRefused (keys : Keys) (v : Ruling) (c : Chronicle) (n : Fault) (new : Kept) : Type 0 where
-  pub memory : Memory
+pub record IsRefused (keys : Keys) (v : Ruling) (c : Chronicle) (n : Fault) (new : StateParts) : Type 0 where
+  pub memory : MemorySupply
   pub state : IsStateOf keys c new
   pub left : (on_ruling (identity_of keys) memory v c).0
       ≡ record { chronicle = c; standing = if halts n then stopped else running }
   pub answer : Shows (on_ruling (identity_of keys) memory v c).1 (Err n)
 
 -- what a ruling gives where this chronicle stands
-abbrev pub Follows : Keys → Ruling → Chronicle → Result (List Sent) Fault → Kept → Type 0
+abbrev pub Follows : Keys → Ruling → Chronicle → Result (List SentBytes) Fault → StateParts → Type 0
 Follows keys v c result new =
     MatchResult result (λ out. Stands keys v c out new) (λ n. IsRefused keys v c n new)
 
 -- what an input gives
-abbrev pub StepsTo : Keys → Input → Chronicle → Result (List Sent) Fault → Kept → Type 0
+abbrev pub StepsTo : Keys → Input → Chronicle → Result (List SentBytes) Fault → StateParts → Type 0
 StepsTo keys input c result new = Follows keys (ruling (identity_of keys) input c) c result new
 
 -- what is answered, and what is kept, where this was decided
-abbrev pub answer : Result Change Fault → Result (List Sent) Fault
+abbrev pub answer : Result Change Fault → Result (List SentBytes) Fault
 answer (Ok d) = Ok d.out
 answer (Err n) = Err n
 
-abbrev pub after : Result Change Fault → Kept → Kept
+abbrev pub after : Result Change Fault → StateParts → StateParts
 after (Ok d) s = changed d s
 after (Err n) s = s
 
@@ -69,7 +71,7 @@ abbrev pub going : Chronicle → Replica
 going c = record { chronicle = c; standing = running }
 
 -- what is kept is that of this replica, and so is the history
-pub record IsWholeOf (keys : Keys) (r : Replica) (s : Kept) (h : History) : Type 0 where
+pub record IsWholeOf (keys : Keys) (r : Replica) (s : StateParts) (h : History) : Type 0 where
   pub state : IsStateOf keys r.chronicle (waiting (pending r.chronicle) s)
   pub waits : s.pending ≡ held_pending r
   pub history : h ≡ held_history r
@@ -77,7 +79,7 @@ pub record IsWholeOf (keys : Keys) (r : Replica) (s : Kept) (h : History) : Type
   pub stored : AreStored r.chronicle
 
 -- what a caller is told, and whether the replica goes on with so many executed commands
-abbrev pub answer_of : Taken → Result (List Sent) Fault
+abbrev pub answer_of : Taken → Result (List SentBytes) Fault
 answer_of (Sends out) = Ok out
 answer_of (Refused n) = Err n
 answer_of CutShort = Err fault.Memory
@@ -88,9 +90,10 @@ standing_after (Refused n) held = if halts n then stopped else running
 standing_after CutShort held = cut_short held
 
 -- what an input gives where this chronicle stands, with what memory there was
-pub record Advances (keys : Keys) (input : Input) (c : Chronicle) (taken : Taken) (new : Kept) (h : History)
+pub record Advances (keys : Keys) (input : Input) (c : Chronicle) (taken : Taken) (new : StateParts)
+    (h : History)
     : Type 0 where
-  pub memory : Memory
+  pub memory : MemorySupply
   pub replica : Replica
   pub replica_is : (on_ruling (identity_of keys) memory (ruling (identity_of keys) input c) c).0 ≡ replica
   pub whole : IsWholeOf keys replica new h

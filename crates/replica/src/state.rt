@@ -61,10 +61,10 @@ pub(crate) struct State {
 
 impl Model for State {
     ghost use Rattle.std.specs.Prelude.{reverse};
-    ghost use Rattle.replica.specs.Kept.{Kept};
+    ghost use Rattle.replica.specs.Kept.{StateParts};
     ghost use Rattle.replica.specs.Replay.{replay};
 
-    ghost Value = { Kept };
+    ghost Value = { StateParts };
 
     ghost view = { λ s. record {
       variables = record {

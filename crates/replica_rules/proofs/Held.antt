@@ -5,7 +5,7 @@ use Rattle.definitions.specs.Lists.{Among}
 use Rattle.ids.specs.Sizes.{Sizes}
 use Rattle.definitions.specs.Branches.{Branch, extends}
 use Rattle.definitions.specs.Digests.{digest_of}
-use Rattle.definitions.specs.Chronicles.{Chronicle, stored, tree, lock, executed, IsSound}
+use Rattle.definitions.specs.Chronicles.{Chronicle, stored_blocks, tree, lock, executed, IsSound}
 use Rattle.definitions.specs.Trees.{TreeState, Stored, blocks, find_in, clear_above, IsTree}
 use Rattle.definitions.proofs.Trees.{found-itself}
 use Rattle.definitions.proofs.Held.{lock-tree, executed-tree}
@@ -18,7 +18,7 @@ pub record Holds (all : List Stored) (c : Chronicle) : Type 0 where
   pub executed : Among (executed c) (blocks all)
 
 -- so it is of a chronicle's own tree
-pub sound-holds : (sizes : Sizes) (c : Chronicle) → IsSound sizes c → Holds (stored c) c
+pub sound-holds : (sizes : Sizes) (c : Chronicle) → IsSound sizes c → Holds (stored_blocks c) c
 unfolding tree
 sound-holds sizes c s = record {
   is_tree = s.is_tree;

@@ -10,8 +10,9 @@ use Rattle.definitions.specs.Digests.{digest_of}
 use Rattle.definitions.specs.Frames.{Core, Certificate}
 use Rattle.definitions.specs.Lists.{Among}
 use Rattle.definitions.specs.Trees.{Stored, blocks, find_in, block_of, clear_above, Placing.grows, placing}
-use Rattle.definitions.specs.Chronicles.{Admitted, Step.took_block, Chronicle, taken, stored, stored_of}
-use Rattle.definitions.specs.Chronicles.{tree, vheight, lock, may_vote, IsSound}
+use Rattle.definitions.specs.Chronicles.{Admitted, Step.took_block, Chronicle, taken_blocks, stored_blocks}
+use Rattle.definitions.specs.Chronicles.{stored_block}
+use Rattle.definitions.specs.Chronicles.{tree, vheight, lock, is_safe, IsSound}
 use Rattle.definitions.specs.States.{view}
 use Rattle.definitions.specs.Rulings.{votes_for}
 use Rattle.definitions.proofs.Trees.{IsGrowth, growth-new}
@@ -38,8 +39,8 @@ module _ (all : List Stored) (c : Chronicle) (h : Holds all c) where
 
   -- a block of the tree
   pub may-vote-found : (d : Bytes) (b : Branch) → find_in d (blocks all) ≡ Some b
-      → may_vote_in (ruled_by c) d all ≡ (may_vote b c && clear_above (justify_height b) b all)
-  unfolding may_vote
+      → may_vote_in (ruled_by c) d all ≡ (is_safe b c && clear_above (justify_height b) b all)
+  unfolding is_safe
   may-vote-found d b f =
       ap (λ (o : Option Branch). elim o
       [ Some b ↦ may_vote_at (ruled_by c) d (length b) (justify_height b) all | None ↦ false ]) f
@@ -54,9 +55,9 @@ module _ (all : List Stored) (c : Chronicle) (h : Holds all c) where
   pub may-vote-grown : (most : ℕ) (core : Core) (q s : Certificate) (clear : Bool) (b parent : Branch)
       → core.justify_height < core.height → IsGrowth most core q (blocks all) b parent
       → may_vote_over (ruled_by c) (candidate_of core clear) all
-      ≡ (may_vote b c && clear_above (justify_height b) b
+      ≡ (is_safe b c && clear_above (justify_height b) b
       (record { branch = b; certificate = s; clear = clear } ∷ all))
-  unfolding may_vote justify_height
+  unfolding is_safe justify_height
   may-vote-grown most core q s clear b parent below g =
       let new : Among (block_of core ∷ parent) (blocks all) → ⊥ =
       subst (λ (x : Branch). Among x (blocks all) → ⊥) g.is (growth-new most core q (blocks all) b parent g)
@@ -76,7 +77,7 @@ module _ (all : List Stored) (c : Chronicle) (h : Holds all c) where
       (vote_found core.parent parent core.height core.justify_height g.parent_found)
       ∙ swapped clear safe (clear_above core.justify_height parent all) in
       subst (λ (x : Branch). may_vote_over (ruled_by c) (candidate_of core clear) all
-      ≡ (may_vote x c && clear_above (justify_height x) x
+      ≡ (is_safe x c && clear_above (justify_height x) x
       (record { branch = x; certificate = s; clear = clear } ∷ all))) (sym g.is)
       (whole
       ∙ (λ i.
@@ -88,49 +89,53 @@ module _ (all : List Stored) (c : Chronicle) (h : Holds all c) where
 -- a block that stands there
 pub may-vote-known : (sizes : Sizes) (c : Chronicle) (d : Bytes) (b : Branch) → IsSound sizes c
     → find_in d (tree c) ≡ Some b
-    → may_vote_in (ruled_by c) d (stored c) ≡ (may_vote b c && clear_above (justify_height b) b (stored c))
+    → may_vote_in (ruled_by c) d (stored_blocks c)
+    ≡ (is_safe b c && clear_above (justify_height b) b (stored_blocks c))
 unfolding tree
-may-vote-known sizes c d b s f = may-vote-found (stored c) c (sound-holds sizes c s) d b f
+may-vote-known sizes c d b s f = may-vote-found (stored_blocks c) c (sound-holds sizes c s) d b f
 
 -- a block that may stand there, with any certificate
 pub may-vote-new : (sizes : Sizes) (c : Chronicle) (core : Core) (q : Certificate) (a : Admitted)
     → IsSound sizes c → core.justify_height < core.height
     → placing MOST_BLOCKS core q (tree c) ≡ grows a.branch
-    → may_vote_over (ruled_by c) (candidate_of core a.clear) (stored c)
-    ≡ (may_vote a.branch c && clear_above (justify_height a.branch) a.branch (stored_of a ∷ stored c))
+    → may_vote_over (ruled_by c) (candidate_of core a.clear) (stored_blocks c)
+    ≡ (is_safe a.branch c && clear_above (justify_height a.branch) a.branch
+    (stored_block a ∷ stored_blocks c))
 unfolding tree
 may-vote-new sizes c core q a s below e =
-    let g = grown MOST_BLOCKS core q (blocks (stored c)) a.branch e in
-    may-vote-grown (stored c) c (sound-holds sizes c s) MOST_BLOCKS core q a.certificate a.clear a.branch
+    let g = grown MOST_BLOCKS core q (blocks (stored_blocks c)) a.branch e in
+    may-vote-grown (stored_blocks c) c (sound-holds sizes c s) MOST_BLOCKS core q a.certificate a.clear
+    a.branch
     g.0 below g.1
 
 -- ---- the vote on a proposal
 
-pub stored-known : (a : Admitted) (c : Chronicle) → a.new ≡ false → stored (took_block a ∷ c) ≡ stored c
-unfolding stored taken
+pub stored-known : (a : Admitted) (c : Chronicle) → a.new ≡ false
+    → stored_blocks (took_block a ∷ c) ≡ stored_blocks c
+unfolding stored_blocks taken_blocks
 stored-known a c n = rw n refl
 
 pub stored-new : (a : Admitted) (c : Chronicle) → a.new ≡ true
-    → stored (took_block a ∷ c) ≡ stored_of a ∷ stored c
-unfolding stored taken
+    → stored_blocks (took_block a ∷ c) ≡ stored_block a ∷ stored_blocks c
+unfolding stored_blocks taken_blocks
 stored-new a c n = rw n refl
 
 pub votes-known : (sizes : Sizes) (w : ℕ) (c : Chronicle) (d : Bytes) (a : Admitted) → IsSound sizes c
     → a.new ≡ false → find_in d (tree c) ≡ Some a.branch
-    → votes_for sizes (Some w) a c ≡ ((w == view sizes c) && may_vote_in (ruled_by c) d (stored c))
+    → votes_for sizes (Some w) a c ≡ ((w == view sizes c) && may_vote_in (ruled_by c) d (stored_blocks c))
 unfolding votes_for
 votes-known sizes w c d a s n f =
     ap (λ (all : List Stored). (w == view sizes c)
-    && (may_vote a.branch c && clear_above (justify_height a.branch) a.branch all)) (stored-known a c n)
+    && (is_safe a.branch c && clear_above (justify_height a.branch) a.branch all)) (stored-known a c n)
     ∙ ap (λ (x : Bool). (w == view sizes c) && x) (sym (may-vote-known sizes c d a.branch s f))
 
 pub votes-new : (sizes : Sizes) (w : ℕ) (c : Chronicle) (core : Core) (q : Certificate) (a : Admitted)
     → IsSound sizes c → core.justify_height < core.height → a.new ≡ true
     → placing MOST_BLOCKS core q (tree c) ≡ grows a.branch
     → votes_for sizes (Some w) a c
-    ≡ ((w == view sizes c) && may_vote_over (ruled_by c) (candidate_of core a.clear) (stored c))
+    ≡ ((w == view sizes c) && may_vote_over (ruled_by c) (candidate_of core a.clear) (stored_blocks c))
 unfolding votes_for
 votes-new sizes w c core q a s below n e =
     ap (λ (all : List Stored). (w == view sizes c)
-    && (may_vote a.branch c && clear_above (justify_height a.branch) a.branch all)) (stored-new a c n)
+    && (is_safe a.branch c && clear_above (justify_height a.branch) a.branch all)) (stored-new a c n)
     ∙ ap (λ (x : Bool). (w == view sizes c) && x) (sym (may-vote-new sizes c core q a s below e))

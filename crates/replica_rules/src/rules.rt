@@ -36,7 +36,7 @@ impl Model for Rules {
 
 impl Rules {
     /// The rules of a replica that has made no step: all of them are at genesis.
-    #[tactic(auto, unfolding(definitions::specs::Chronicles::vheight, definitions::specs::Chronicles::lock, definitions::specs::Chronicles::executed, definitions::specs::Chronicles::decided, definitions::specs::Chronicles::decided_by, definitions::specs::Chronicles::taken, definitions::specs::Chronicles::voted, definitions::specs::Branches::highest, definitions::specs::Lists::greatest, definitions::specs::Digests::digest_of))]
+    #[tactic(auto, unfolding(definitions::specs::Chronicles::vheight, definitions::specs::Chronicles::lock, definitions::specs::Chronicles::executed, definitions::specs::Chronicles::decided, definitions::specs::Chronicles::decided_by, definitions::specs::Chronicles::taken_blocks, definitions::specs::Chronicles::voted_blocks, definitions::specs::Branches::highest, definitions::specs::Lists::greatest, definitions::specs::Digests::digest_of))]
     pub fn new() -> Rules
         ensures { result ≡ ruled_by [] }
     {

@@ -9,7 +9,7 @@ ghost use Rattle.marks.specs.Eyes.{first_eye, first_eyes};
 ghost use Rattle.ids.specs.Sizes.{replicas};
 
 use ids::{Config, Fault, PartyId, ReplicaId};
-use locked_replica::{Closed, Kept, NotAll, Share};
+use locked_replica::{Kept, NotAll, Share};
 use marks::{Eye, Marks};
 use replica::Replica;
 use simulated_keys::keyring_of;
@@ -89,11 +89,17 @@ fn refused(kept: Kept<'_>, shares: Vec<Share>) -> Result<NotAll<'_>, Fault> {
     kept.close(shares).err().ok_or(Fault::NotAll)
 }
 
-/// The replica that closing gives back.
-fn closed(kept: Kept<'_>, shares: Vec<Share>) -> Result<Replica, Fault> {
-    match kept.close(shares) {
-        Ok(Closed { replica, eye: _ }) => Ok(replica),
-        Err(_) => Err(Fault::NotAll),
+/// How many steps the replica counts that closing gives back.
+fn closed(kept: Kept<'_>, shares: Vec<Share>) -> Result<usize, Fault> {
+    let closed = kept.close(shares).ok().ok_or(Fault::NotAll)?;
+    Ok(closed.replica.steps())
+}
+
+/// A value with what a call gave; where the call was refused, the value is dropped.
+fn beside<T: Drop, U>(value: T, given: Result<U, Fault>) -> Result<(T, U), Fault> {
+    match given {
+        Ok(given) => Ok((value, given)),
+        Err(fault) => Err(fault),
     }
 }
 
@@ -103,19 +109,25 @@ fn split_last(mut shares: Vec<Share>) -> Result<(Vec<Share>, Share), Fault> {
     Ok((shares, last))
 }
 
+/// Puts a share behind the others.
+fn joined(mut shares: Vec<Share>, last: Share) -> Result<Vec<Share>, Fault> {
+    shares.push(last)?;
+    Ok(shares)
+}
+
 /// Closes with all shares but the last, which is refused, and then with all. How many steps the
 /// replica counts.
 fn close_again(kept: Kept<'_>, shares: Vec<Share>, last: Share) -> Result<usize, Fault> {
-    let NotAll { kept, mut shares } = refused(kept, shares)?;
-    shares.push(last)?;
-    Ok(closed(kept, shares)?.steps())
+    let NotAll { kept, shares } = refused(kept, shares)?;
+    let (kept, shares) = beside(kept, joined(shares, last))?;
+    closed(kept, shares)
 }
 
 /// Closes three times; the last share is the strange one.
 pub(crate) fn close(kept: Kept<'_>, shares: Vec<Share>, text: &mut String) -> Result<(), Fault> {
     let NotAll { kept, shares } = refused(kept, shares)?;
-    let (own, _strange) = split_last(shares)?;
-    let (own, last) = split_last(own)?;
+    let (kept, (own, _strange)) = beside(kept, split_last(shares))?;
+    let (kept, (own, last)) = beside(kept, split_last(own))?;
     let steps = close_again(kept, own, last)?;
     write!(text, " refused, refused, closed {steps}")?;
     Ok(())

@@ -6,11 +6,11 @@ use Rattle.ids.specs.declared.fault.Fault.{Fault}
 use Rattle.ids.specs.declared.fault.Fault.TheVariants as fault
 use Rattle.definitions.specs.Checks.{identity_of}
 use Rattle.marks.specs.Eyes.{putting}
-use Rattle.locked_replica.specs.Kept.{KeptState, ShareState, is_own, counted, gained, mark_of}
+use Rattle.locked_replica.specs.Kept.{KeptState, ShareState, is_own, with_more_steps, gained, mark_of}
 use Rattle.locked_replica.specs.Addressed.{may_step, KeptStep}
 use Rattle.replica.specs.declared.input.Input.{Input}
 use Rattle.replica.specs.Inputs.{input_of, is_addressed}
-use Rattle.replica.specs.Steps.{Sent, Stepped}
+use Rattle.replica.specs.Steps.{SentBytes, Stepped}
 
 -- four facts of one case
 four : {A B C D E : Type 0} (b : Bool) → (A → B → C → D → E) → OnTrue b A → OnTrue b B → OnTrue b C
@@ -18,7 +18,8 @@ four : {A B C D E : Type 0} (b : Bool) → (A → B → C → D → E) → OnTru
 four true f x y z w = f x y z w
 four false f x y z w = tt
 
-pub kept_step : (old : KeptState) (share : ShareState) (input : Input) (answer : Result (List Sent) Fault)
+pub kept_step :
+    (old : KeptState) (share : ShareState) (input : Input) (answer : Result (List SentBytes) Fault)
     (new : KeptState) (share' : ShareState)
     → OnFalse (is_addressed old.keys input) (IsErrOf answer fault.NotMine)
     → OnTrue (is_addressed old.keys input) (OnFalse (is_own old share) (IsErrOf answer fault.NotAll))
@@ -26,7 +27,7 @@ pub kept_step : (old : KeptState) (share : ShareState) (input : Input) (answer :
     → OnFalse (may_step old share input) (share' ≡ share)
     → OnTrue (may_step old share input)
     (Stepped (identity_of old.keys) (input_of input) old.replica answer new.replica)
-    → OnTrue (may_step old share input) (share' ≡ counted share (gained old.replica new.replica))
+    → OnTrue (may_step old share input) (share' ≡ with_more_steps share (gained old.replica new.replica))
     → OnTrue (may_step old share input) (new.shares ≡ slice_set old.shares share.number share'.count)
     → OnTrue (may_step old share input) (new.eye ≡ putting old.eye old.keys.party (mark_of new.replica))
     → new.keys ≡ old.keys

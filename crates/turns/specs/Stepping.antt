@@ -2,12 +2,12 @@
 use Rattle.std.specs.Prelude.{List, Result}
 use Rattle.ids.specs.declared.fault.Fault.{Fault}
 use Rattle.replica.specs.declared.input.Input.{Input}
-use Rattle.replica.specs.Steps.{Sent}
+use Rattle.replica.specs.Steps.{SentBytes}
 use Rattle.locked_replica.specs.Kept.{KeptState, ShareState, Holds}
 use Rattle.locked_replica.specs.Addressed.{KeptStep}
 
 -- A kept replica was under the lock, and it made this step; what holds of each kept replica held before and
 -- after. Which one it was, and in which order threads came, isn't told.
-abbrev pub SomeStep : ShareState → Input → Result (List Sent) Fault → ShareState → Type 0
+abbrev pub SomeStep : ShareState → Input → Result (List SentBytes) Fault → ShareState → Type 0
 SomeStep share input answer share' =
     (old : KeptState) × (new : KeptState) × Holds old × Holds new × KeptStep old share input answer new share'

@@ -3,7 +3,7 @@
 ghost use Rattle.std.specs.Prelude.{◌≡◌, List, Result, IfSome, IfNone};
 ghost use Rattle.ids.specs.declared.fault.Fault.{Fault};
 ghost use Rattle.replica.specs.declared.input.Input.{Input};
-ghost use Rattle.replica.specs.Steps.{Sent};
+ghost use Rattle.replica.specs.Steps.{SentBytes};
 ghost use Rattle.locked_replica.specs.Addressed.{KeptStep};
 ghost use Rattle.locked_replica.specs.Kept.{ShareState, Counts};
 ghost use Rattle.turns.specs.Stepping.{SomeStep};
@@ -17,7 +17,7 @@ use std::sync::Wait;
 pub trait Steps {
     /// What a step does: the value and the share before, the input, the answer, and the value and
     /// the share after.
-    ghost moved: { Self → ShareState → Input → Result (List Sent) Fault → Self → ShareState → Type 0 };
+    ghost moved: { Self → ShareState → Input → Result (List SentBytes) Fault → Self → ShareState → Type 0 };
 
     /// One step. It may wait for the replica.
     fn step<R: Wait>(&mut self, rt: &R, share: &mut Share, input: Input<'_>) -> Result<Out, Fault>

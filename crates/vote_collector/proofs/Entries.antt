@@ -16,7 +16,8 @@ use Rattle.std.proofs.lemmas.Map.Text.{is_eq-slice_cmp}
 use Rattle.definitions.specs.Bytes.{Bytes}
 use Rattle.definitions.specs.Frames.{Vote, vote_bytes}
 use Rattle.definitions.specs.States.{insert_vote}
-use Rattle.vote_collector.specs.Collecting.{Entry, Kept, votes_in, entry_for, votes_for, judged, with_vote}
+use Rattle.vote_collector.specs.Collecting.{Entry, VotesByDigest, votes_in, entry_for, votes_for, judged}
+use Rattle.vote_collector.specs.Collecting.{with_vote}
 use Rattle.vote_collector.specs.Collecting.{with_vote_to, kept_above, AreVotesOf}
 use Rattle.ids.specs.Sizes.{Sizes, quorum}
 use Rattle.definitions.specs.FrameLimits.{IsVote}
@@ -59,7 +60,7 @@ entry_above height (Some e) = cond (nat_lt height e.height) (Some e) None
 abbrev pub seen_above : ℕ → Seen → Seen
 seen_above height kept d = entry_above height (kept d)
 
-abbrev pub seen : Kept → Seen
+abbrev pub seen : VotesByDigest → Seen
 seen kept d = entry_for d kept
 
 same_bytes : (a b : Bytes) → bytes_eq a b ≡ true → a ≡ b
@@ -95,7 +96,7 @@ module _ (d : Bytes) (e : Entry) (x : Bytes) where
   apart y other a b =
       true≢false (sym ((bytes_eq-Decides d y).1 (same_bytes d x b ∙ same_bytes x y a)) ∙ other)
 
-  put-set : (kept : Kept) (old : Entry) → entry_for d kept ≡ Some old
+  put-set : (kept : VotesByDigest) (old : Entry) → entry_for d kept ≡ Some old
       → entry_for x (set_value (λ y. bytes_eq d y) kept e) ≡ cond (bytes_eq d x) (Some e) (entry_for x kept)
   put-set [] old is = absurd (let no : None ≡ Some old → ⊥ = λ k. cc in no is)
   put-set (y ∷ ys) old is =
@@ -112,7 +113,7 @@ module _ (d : Bytes) (e : Entry) (x : Bytes) where
       ] in
       both (bytes_eq d y.0) refl is
 
-  put-new : (kept : Kept) → entry_for d kept ≡ None
+  put-new : (kept : VotesByDigest) → entry_for d kept ≡ None
       → entry_for x (insert_entry (slice_cmp nat_cmp) kept d e)
       ≡ cond (bytes_eq d x) (Some e) (entry_for x kept)
   put-new [] none = ap (λ (t : Bool). cond t (Some e) None) (turned x d)
@@ -140,7 +141,7 @@ module _ (d : Bytes) (e : Entry) (x : Bytes) where
       ] in
       both (bytes_eq d y.0) refl none
 
-pub seen-with : (d : Bytes) (height : ℕ) (b : Vote) (kept : Kept) (x : Bytes)
+pub seen-with : (d : Bytes) (height : ℕ) (b : Vote) (kept : VotesByDigest) (x : Bytes)
     → seen (with_vote d height b kept) x ≡ seen_with d height b (seen kept) x
 seen-with d height b kept x = go (entry_for d kept) refl
   where
@@ -154,7 +155,8 @@ seen-with d height b kept x = go (entry_for d kept) refl
 
 module _ (P : Bytes × Entry → Type 0) where
   -- it holds of one that is found
-  pub all-found : (kept : Kept) (d : Bytes) (e : Entry) → AllByRecursion P kept → entry_for d kept ≡ Some e
+  pub all-found : (kept : VotesByDigest) (d : Bytes) (e : Entry) → AllByRecursion P kept
+      → entry_for d kept ≡ Some e
       → P (d, e)
   all-found [] d e h is = absurd (let no : None ≡ Some e → ⊥ = λ k. cc in no is)
   all-found (x ∷ xs) d e h is =
@@ -168,7 +170,7 @@ module _ (P : Bytes × Entry → Type 0) where
       ] in
       both (bytes_eq d x.0) refl is
 
-  all-new : (kept : Kept) (d : Bytes) (e : Entry) → P (d, e) → AllByRecursion P kept
+  all-new : (kept : VotesByDigest) (d : Bytes) (e : Entry) → P (d, e) → AllByRecursion P kept
       → AllByRecursion P (insert_entry (slice_cmp nat_cmp) kept d e)
   all-new [] d e p h = (p, tt)
   all-new (x ∷ xs) d e p h =
@@ -187,16 +189,16 @@ module _ (P : Bytes × Entry → Type 0) where
       ] in
       each (slice_cmp nat_cmp d x.0) refl
 
-  all-set : (kept : Kept) (d : Bytes) (e : Entry) → P (d, e) → AllByRecursion P kept
+  all-set : (kept : VotesByDigest) (d : Bytes) (e : Entry) → P (d, e) → AllByRecursion P kept
       → AllByRecursion P (set_value (λ y. bytes_eq d y) kept e)
   all-set [] d e p h = tt
   all-set (x ∷ xs) d e p h =
       cond_both (bytes_eq d x.0) ((x.0, e) ∷ xs) (x ∷ set_value (λ y. bytes_eq d y) xs e)
-      (λ (l : Kept). AllByRecursion P l)
+      (λ (l : VotesByDigest). AllByRecursion P l)
       (λ same. (subst (λ (y : Bytes). P (y, e)) (same_bytes d x.0 same) p, h.1))
       (λ other. (h.0, all-set xs d e p h.1))
 
-  pub all-with : (kept : Kept) (d : Bytes) (height : ℕ) (b : Vote)
+  pub all-with : (kept : VotesByDigest) (d : Bytes) (height : ℕ) (b : Vote)
       → P (d, entry_with height b (entry_for d kept)) → AllByRecursion P kept
       → AllByRecursion P (with_vote d height b kept)
   all-with kept d height b p h = go (entry_for d kept) p
@@ -207,12 +209,13 @@ module _ (P : Bytes × Entry → Type 0) where
       go (Some old) q = all-set kept d (entry_with height b (Some old)) q h
 
   pub all-above : (Q : Bytes × Entry → Type 0) (height : ℕ)
-      → ((e : Bytes × Entry) → P e → height < e.1.height → Q e) → (kept : Kept) → AllByRecursion P kept
+      → ((e : Bytes × Entry) → P e → height < e.1.height → Q e) → (kept : VotesByDigest)
+      → AllByRecursion P kept
       → AllByRecursion Q (kept_above height kept)
   all-above Q height f [] h = tt
   all-above Q height f (x ∷ xs) h =
       cond_both (nat_lt height x.1.height) (x ∷ kept_above height xs) (kept_above height xs)
-      (λ (l : Kept). AllByRecursion Q l)
+      (λ (l : VotesByDigest). AllByRecursion Q l)
       (λ e. (f x h.0 (ltb-true height x.1.height e), all-above Q height f xs h.1))
       (λ e. all-above Q height f xs h.1)
 
@@ -220,11 +223,11 @@ module _ (P : Bytes × Entry → Type 0) where
   module _ (one : (x y : Bytes × Entry) → P x → P y → x.0 ≡ y.0 → x.1.height ≡ y.1.height) (height : ℕ)
       (d : Bytes) where
     none-left : (x : Bytes × Entry) → P x → bytes_eq d x.0 ≡ true → nat_lt height x.1.height ≡ false
-        → (kept : Kept) → AllByRecursion P kept → entry_for d (kept_above height kept) ≡ None
+        → (kept : VotesByDigest) → AllByRecursion P kept → entry_for d (kept_above height kept) ≡ None
     none-left x p is low [] h = refl
     none-left x p is low (y ∷ ys) h =
         cond_both (nat_lt height y.1.height) (y ∷ kept_above height ys) (kept_above height ys)
-        (λ (l : Kept). entry_for d l ≡ None)
+        (λ (l : VotesByDigest). entry_for d l ≡ None)
         (λ high. cond_both (bytes_eq d y.0) (Some y.1) (entry_for d (kept_above height ys))
         (λ (o : Option Entry). o ≡ None)
         (λ same. absurd (true≢false (sym high
@@ -233,7 +236,7 @@ module _ (P : Bytes × Entry → Type 0) where
         (λ other. none-left x p is low ys h.1))
         (λ le. none-left x p is low ys h.1)
 
-    pub seen-above : (kept : Kept) → AllByRecursion P kept
+    pub seen-above : (kept : VotesByDigest) → AllByRecursion P kept
         → entry_for d (kept_above height kept) ≡ entry_above height (entry_for d kept)
     seen-above [] h = refl
     seen-above (y ∷ ys) h =
@@ -259,17 +262,18 @@ module _ (P : Bytes × Entry → Type 0) where
         each (bytes_eq d y.0) (nat_lt height y.1.height) refl refl
 
 -- a look-up by order is one by bytes
-pub found-by : (d : Bytes) (kept : Kept) → lookup (is_at (slice_cmp nat_cmp d)) kept ≡ entry_for d kept
+pub found-by : (d : Bytes) (kept : VotesByDigest)
+    → lookup (is_at (slice_cmp nat_cmp d)) kept ≡ entry_for d kept
 found-by d kept = ap (λ (t : Bytes → Bool). lookup t kept) (λ i x. is_eq-slice_cmp d x i)
 
 -- a value is put in by order as it is by bytes
-pub put-by : (d : Bytes) (kept : Kept) (e : Entry)
+pub put-by : (d : Bytes) (kept : VotesByDigest) (e : Entry)
     → set_value (is_at (slice_cmp nat_cmp d)) kept e ≡ set_value (λ x. bytes_eq d x) kept e
 put-by d kept e = ap (λ (t : Bytes → Bool). set_value t kept e) (λ i x. is_eq-slice_cmp d x i)
 
 -- ---- what the code finds and leaves
 
-module _ (d : Bytes) (kept : Kept) where
+module _ (d : Bytes) (kept : VotesByDigest) where
   abbrev by_order : Bytes → Bool
   by_order = is_at (slice_cmp nat_cmp d)
 
@@ -279,7 +283,8 @@ module _ (d : Bytes) (kept : Kept) where
   pub found-none : None ≡ lookup by_order kept → [] ≡ votes_for d kept
   found-none is = ap votes_in (is ∙ found-by d kept)
 
-  pub written-more : (height : ℕ) (b : Vote) (old w : Entry) (new : Kept) → Some old ≡ lookup by_order kept
+  pub written-more : (height : ℕ) (b : Vote) (old w : Entry) (new : VotesByDigest)
+      → Some old ≡ lookup by_order kept
       → new ≡ set_value by_order kept w
       → w ≡ record { height = old.height; votes = insert_vote b old.votes } → new ≡ with_vote d height b kept
   written-more height b old w new is set e =
@@ -287,12 +292,12 @@ module _ (d : Bytes) (kept : Kept) where
       ∙ put-by d kept (record { height = old.height; votes = insert_vote b old.votes })
       ∙ ap (λ (o : Option Entry). with_vote_to o d height b kept) (is ∙ found-by d kept)
 
-  pub written-same : (old w : Entry) (new : Kept) → Some old ≡ lookup by_order kept
+  pub written-same : (old w : Entry) (new : VotesByDigest) → Some old ≡ lookup by_order kept
       → new ≡ set_value by_order kept w → w ≡ old → new ≡ kept
   written-same old w new is set e =
       set ∙ set_value_same by_order kept w (sym is ∙ ap (λ (x : Entry). Some x) (sym e))
 
-  pub written-first : (height : ℕ) (b : Vote) (e : Entry) (new : Kept) → None ≡ lookup by_order kept
+  pub written-first : (height : ℕ) (b : Vote) (e : Entry) (new : VotesByDigest) → None ≡ lookup by_order kept
       → new ≡ insert_entry (slice_cmp nat_cmp) kept d e
       → e ≡ record { height = height; votes = b ∷ [] } → new ≡ with_vote d height b kept
   written-first height b e new is put same =
@@ -315,7 +320,7 @@ length-put b [] = refl
 length-put b (x ∷ xs) = cond_both (nat_lt b.voter x.voter) (b ∷ x ∷ xs) (x ∷ insert_vote b xs)
     (λ (l : List Vote). length l ≡ suc (length (x ∷ xs))) (λ e. refl) (λ e. ap suc (length-put b xs))
 
-module _ (sizes : Sizes) (kept : Kept) (all : AreVotesOf sizes kept) where
+module _ (sizes : Sizes) (kept : VotesByDigest) (all : AreVotesOf sizes kept) where
   abbrev Fit : Bytes × Entry → Type 0
   Fit e = AllByRecursion (IsVote sizes) e.1.votes
 

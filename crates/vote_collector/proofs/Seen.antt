@@ -13,7 +13,7 @@ use Rattle.definitions.specs.Digests.{digest_of}
 use Rattle.definitions.specs.Trees.{find_in, IsTree}
 use Rattle.definitions.specs.Chronicles.{Chronicle, Step, Note, Step.took_block, Step.noted, Note.got_vote}
 use Rattle.definitions.specs.Chronicles.{Note.got_new_view, Note.got_request, Note.got_fetch}
-use Rattle.definitions.specs.Chronicles.{Note.timed_out, Note.beat, stored, taken, tree}
+use Rattle.definitions.specs.Chronicles.{Note.timed_out, Note.beat, stored_blocks, taken_blocks, tree}
 use Rattle.definitions.specs.States.{Justified, votes, by_voter, insert_vote, raised, higher, qc_high}
 use Rattle.definitions.proofs.Trees.{found-in, not-found}
 use Rattle.definitions.proofs.Chronicles.{tree-grows}
@@ -81,7 +81,7 @@ module _ (s : Sizes) (c : Chronicle) (kept : Seen) (of : IsVotesIn s c kept) whe
 -- ---- at the start
 
 pub tree-none : (b : Branch) → Among b (tree []) → b ≡ []
-unfolding tree stored taken
+unfolding tree stored_blocks taken_blocks
 tree-none b (inl e) = e
 tree-none b (inr m) = absurd m
 
@@ -214,7 +214,7 @@ unfolding by_voter
 by_voter-more b xs = refl
 
 pub tree-noted : (n : Note) (c : Chronicle) → tree (noted n ∷ c) ≡ tree c
-unfolding tree stored taken
+unfolding tree stored_blocks taken_blocks
 tree-noted n c = refl
 
 module _ (s : Sizes) (c : Chronicle) (kept : Seen) (b : Branch) (vote : Vote) (tr : IsTree (tree c))

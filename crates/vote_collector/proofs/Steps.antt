@@ -15,7 +15,7 @@ use Rattle.definitions.specs.States.{Justified, qc_high}
 use Rattle.definitions.proofs.Trees.{found-in}
 use Rattle.definitions.proofs.Chronicles.{tree-grows}
 use Rattle.definitions.proofs.Certificates.{all-implied, filter-all}
-use Rattle.vote_collector.specs.Collecting.{Entry, Kept, entry_for, with_vote, kept_above}
+use Rattle.vote_collector.specs.Collecting.{Entry, VotesByDigest, entry_for, with_vote, kept_above}
 use Rattle.vote_collector.specs.Following.{IsVotesOf, IsOfBlock, certified}
 use Rattle.vote_collector.specs.Lawful.{Leaves, FollowsVote, BeginsEmpty, IsFollowedAtVote, IsFollowedElse}
 use Rattle.vote_collector.specs.Lawful.{NoneAreLow, made_with}
@@ -31,20 +31,21 @@ use Rattle.vote_collector.proofs.Seen.{low-vote, doubled-vote, first-vote, compl
 abbrev OfBlock : Sizes → Chronicle → Bytes × Entry → Type 0
 OfBlock s c e = IsOfBlock s c e.0 e.1
 
-into : (s : Sizes) (c : Chronicle) (kept : Kept) → IsVotesOf s c kept → IsVotesIn s c (seen kept)
+into : (s : Sizes) (c : Chronicle) (kept : VotesByDigest) → IsVotesOf s c kept → IsVotesIn s c (seen kept)
 into s c kept of = record {
   above = of.above;
   alone = λ d e is. all-found (OfBlock s c) kept d e of.alone is;
   unknown = of.unknown;
 }
 
-back : (s : Sizes) (c : Chronicle) (kept : Kept) (other : Seen) → ((x : Bytes) → other x ≡ seen kept x)
+back : (s : Sizes) (c : Chronicle) (kept : VotesByDigest) (other : Seen)
+    → ((x : Bytes) → other x ≡ seen kept x)
     → IsVotesIn s c other → AllByRecursion (OfBlock s c) kept → IsVotesOf s c kept
 back s c kept other is of all =
     let w : IsVotesIn s c (seen kept) = subst (IsVotesIn s c) (λ i x. is x i) of in
     record { above = w.above; alone = all; unknown = w.unknown }
 
-module _ (s : Sizes) (st : Step) (c : Chronicle) (kept : Kept) (of : IsVotesOf s c kept) where
+module _ (s : Sizes) (st : Step) (c : Chronicle) (kept : VotesByDigest) (of : IsVotesOf s c kept) where
   next-one : (e : Bytes × Entry) → OfBlock s c e → certified s (st ∷ c) < e.1.height → OfBlock s (st ∷ c) e
   next-one e w l = record {
     block = w.block;
@@ -78,12 +79,12 @@ module _ (s : Sizes) (st : Step) (c : Chronicle) (kept : Kept) (of : IsVotesOf s
       (all-above (OfBlock s c) (OfBlock s (st ∷ c)) height (λ e v l. next-one e v (omega (arith, l, is)))
       kept of.alone)
 
-pub followed-else : (s : Sizes) (c : Chronicle) (kept : Kept) → IsFollowedElse s c kept
+pub followed-else : (s : Sizes) (c : Chronicle) (kept : VotesByDigest) → IsFollowedElse s c kept
 followed-else s c kept st silent tr of =
     dropped s st c kept of tr (certified s (st ∷ c)) refl
     (seen-else s c (seen kept) st silent tr (into s c kept of))
 
-module _ (s : Sizes) (c : Chronicle) (kept : Kept) (b : Branch) (vote : Vote) (tr : IsTree (tree c))
+module _ (s : Sizes) (c : Chronicle) (kept : VotesByDigest) (b : Branch) (vote : Vote) (tr : IsTree (tree c))
     (m : Among b (tree c)) (of : IsVotesOf s c kept) where
   abbrev step : Step
   step = noted (got_vote vote.voter vote.vector b)
@@ -124,14 +125,14 @@ module _ (s : Sizes) (c : Chronicle) (kept : Kept) (b : Branch) (vote : Vote) (t
         λ l judgement. fewer (complete-vote s c (seen kept) b vote tr m (into s c kept of) l judgement);
   }
 
-pub followed-vote : (s : Sizes) (c : Chronicle) (kept : Kept) → IsFollowedAtVote s c kept
+pub followed-vote : (s : Sizes) (c : Chronicle) (kept : VotesByDigest) → IsFollowedAtVote s c kept
 followed-vote s c kept d b vote tr found of =
     let r = found-in d (tree c) b found in
     subst (λ (x : Bytes). FollowsVote s c kept x b vote) r.1 (at-digest s c kept b vote tr r.0 of)
 
 -- ---- at the start, and where nothing is low
 
-pub none-low : (s : Sizes) (c : Chronicle) (kept : Kept) → NoneAreLow s c kept
+pub none-low : (s : Sizes) (c : Chronicle) (kept : VotesByDigest) → NoneAreLow s c kept
 none-low s c kept height of le =
     filter-all (λ (e : Bytes × Entry). nat_lt height e.1.height) kept
     (all-implied (OfBlock s c) (λ (e : Bytes × Entry). nat_lt height e.1.height ≡ true)

@@ -21,16 +21,16 @@ pub record Entry : Type 0 where
   pub votes : List Vote
 
 -- what is kept for each digest, in order of the digests
-abbrev pub Kept : Type 0
-Kept = List (Bytes × Entry)
+abbrev pub VotesByDigest : Type 0
+VotesByDigest = List (Bytes × Entry)
 
 -- the sizes, and what is kept
 pub record Collected : Type 0 where
   pub sizes : Sizes
-  pub kept : Kept
+  pub kept : VotesByDigest
 
 -- what is kept for a digest, if anything
-abbrev pub entry_for : Bytes → Kept → Option Entry
+abbrev pub entry_for : Bytes → VotesByDigest → Option Entry
 entry_for d kept = lookup (λ x. bytes_eq d x) kept
 
 -- the votes of what is kept of a block
@@ -39,7 +39,7 @@ votes_in None = []
 votes_in (Some e) = e.votes
 
 -- the votes that are kept for a digest
-abbrev pub votes_for : Bytes → Kept → List Vote
+abbrev pub votes_for : Bytes → VotesByDigest → List Vote
 votes_for d kept = votes_in (entry_for d kept)
 
 -- one of them is of this voter
@@ -53,20 +53,20 @@ judged most voter votes =
     if length votes + 1 == most then Complete else First
 
 -- one more vote for the block of this digest and height, where this was kept of it
-abbrev pub with_vote_to : Option Entry → Bytes → ℕ → Vote → Kept → Kept
+abbrev pub with_vote_to : Option Entry → Bytes → ℕ → Vote → VotesByDigest → VotesByDigest
 with_vote_to None d height b kept =
     insert_entry (slice_cmp nat_cmp) kept d (record { height = height; votes = b ∷ [] })
 with_vote_to (Some e) d height b kept =
     set_value (λ x. bytes_eq d x) kept (record { height = e.height; votes = insert_vote b e.votes })
 
 -- one more vote for the block of this digest and height
-abbrev pub with_vote : Bytes → ℕ → Vote → Kept → Kept
+abbrev pub with_vote : Bytes → ℕ → Vote → VotesByDigest → VotesByDigest
 with_vote d height b kept = with_vote_to (entry_for d kept) d height b kept
 
 -- the votes for blocks above this height
-abbrev pub kept_above : ℕ → Kept → Kept
+abbrev pub kept_above : ℕ → VotesByDigest → VotesByDigest
 kept_above height kept = filter (λ e. nat_lt height e.1.height) kept
 
 -- votes at these sizes
-abbrev pub AreVotesOf : Sizes → Kept → Type 0
+abbrev pub AreVotesOf : Sizes → VotesByDigest → Type 0
 AreVotesOf sizes kept = AllByRecursion (λ e. AllByRecursion (IsVote sizes) e.1.votes) kept

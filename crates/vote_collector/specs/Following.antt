@@ -9,7 +9,7 @@ use Rattle.definitions.specs.Branches.{Branch}
 use Rattle.definitions.specs.Digests.{digest_of}
 use Rattle.definitions.specs.Chronicles.{Chronicle, tree}
 use Rattle.definitions.specs.States.{votes, by_voter, qc_high}
-use Rattle.vote_collector.specs.Collecting.{Entry, Kept, votes_for}
+use Rattle.vote_collector.specs.Collecting.{Entry, VotesByDigest, votes_for}
 
 -- the height of the highest certificate
 abbrev pub certified : Sizes → Chronicle → ℕ
@@ -30,7 +30,7 @@ pub record IsOfBlock (s : Sizes) (c : Chronicle) (d : Bytes) (e : Entry) : Type 
 
 -- These are the votes that a replica of this chronicle may need again: all that it has for each block above
 -- its highest certificate's, and no others. For a digest that isn't in the tree there are none.
-pub record IsVotesOf (s : Sizes) (c : Chronicle) (kept : Kept) : Type 0 where
+pub record IsVotesOf (s : Sizes) (c : Chronicle) (kept : VotesByDigest) : Type 0 where
   pub above : (b : Branch) → Among b (tree c) → certified s c < length b
       → AreCollected s c (votes_for (digest_of b) kept) b
   pub alone : AllByRecursion (λ e. IsOfBlock s c e.0 e.1) kept

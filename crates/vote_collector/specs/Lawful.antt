@@ -8,22 +8,23 @@ use Rattle.definitions.specs.Trees.{find_in, IsTree}
 use Rattle.definitions.specs.Chronicles.{Chronicle, Step, Step.noted, Note.got_vote, tree}
 use Rattle.definitions.specs.States.{Justified, qc_high, insert_vote}
 use Rattle.vote_collector.specs.declared.added.Added.TheVariants.{First, Doubled, Complete}
-use Rattle.vote_collector.specs.Collecting.{Kept, votes_for, judged, with_vote, kept_above}
+use Rattle.vote_collector.specs.Collecting.{VotesByDigest, votes_for, judged, with_vote, kept_above}
 use Rattle.vote_collector.specs.Following.{IsVotesOf, certified}
 
 -- the certificate that a vote makes with those that are kept for its digest
-abbrev pub made_with : Bytes → Vote → Kept → Certificate
+abbrev pub made_with : Bytes → Vote → VotesByDigest → Certificate
 made_with d vote kept = record { digest = d; votes = insert_vote vote (votes_for d kept) }
 
 -- what is kept is that of a chronicle, whose highest certificate is this one
-abbrev pub Leaves : Sizes → Chronicle → Kept → Justified → Type 0
+abbrev pub Leaves : Sizes → Chronicle → VotesByDigest → Justified → Type 0
 Leaves s c kept q = IsVotesOf s c kept × (qc_high s c ≡ q)
 
 -- What comes of a vote for the block b of digest d, by its height and what it is to the votes that are
 -- kept: where it is no higher than the highest certificate's block, or doubled, nothing changes; a first
 -- one is kept; and one that completes a quorum makes the highest certificate, and the votes for blocks of
 -- at most this height go.
-pub record FollowsVote (s : Sizes) (c : Chronicle) (kept : Kept) (d : Bytes) (b : Branch) (vote : Vote) :
+pub record FollowsVote (s : Sizes) (c : Chronicle) (kept : VotesByDigest) (d : Bytes) (b : Branch)
+    (vote : Vote) :
     Type 0 where
   pub low : length b ≤ certified s c
       → Leaves s (noted (got_vote vote.voter vote.vector b) ∷ c) kept (qc_high s c)
@@ -48,17 +49,17 @@ abbrev pub BeginsEmpty : Sizes → Type 0
 BeginsEmpty s = IsVotesOf s [] []
 
 -- a vote for a block of the tree
-abbrev pub IsFollowedAtVote : Sizes → Chronicle → Kept → Type 0
+abbrev pub IsFollowedAtVote : Sizes → Chronicle → VotesByDigest → Type 0
 IsFollowedAtVote s c kept =
     (d : Bytes) (b : Branch) (vote : Vote) → IsTree (tree c) → find_in d (tree c) ≡ Some b
     → IsVotesOf s c kept → FollowsVote s c kept d b vote
 
 -- any other step: the votes for blocks of at most the height of the highest certificate then may go
-abbrev pub IsFollowedElse : Sizes → Chronicle → Kept → Type 0
+abbrev pub IsFollowedElse : Sizes → Chronicle → VotesByDigest → Type 0
 IsFollowedElse s c kept = (st : Step) → BringsNoVote st → IsTree (tree (st ∷ c)) → IsVotesOf s c kept
     → IsVotesOf s (st ∷ c) (kept_above (certified s (st ∷ c)) kept)
 
 -- where that height stays, none are so low
-abbrev pub NoneAreLow : Sizes → Chronicle → Kept → Type 0
+abbrev pub NoneAreLow : Sizes → Chronicle → VotesByDigest → Type 0
 NoneAreLow s c kept =
     (height : ℕ) → IsVotesOf s c kept → height ≤ certified s c → kept_above height kept ≡ kept

@@ -2,7 +2,7 @@
 
 ghost use Rattle.ids.specs.Sizes.{Sizes};
 ghost use Rattle.definitions.specs.Chronicles.{Chronicle};
-ghost use Rattle.vote_collector.specs.Collecting.{Kept};
+ghost use Rattle.vote_collector.specs.Collecting.{VotesByDigest};
 ghost use Rattle.vote_collector.specs.Lawful.{BeginsEmpty, IsFollowedAtVote, IsFollowedElse, NoneAreLow};
 
 /// An empty collector is that of a replica before its first step.
@@ -15,16 +15,16 @@ pub fn begins_empty()
 /// and what `drop_up_to` leaves where it is `Complete`; the highest certificate is then the one
 /// that `completed` gives, and else the one before.
 pub fn votes_are_followed()
-    ensures { (s : Sizes) (c : Chronicle) (kept : Kept) → IsFollowedAtVote s c kept }
+    ensures { (s : Sizes) (c : Chronicle) (kept : VotesByDigest) → IsFollowedAtVote s c kept }
 {}
 
 /// After any other step its collector is what `drop_up_to` leaves at the height of the highest
 /// certificate then.
 pub fn other_steps_are_followed()
-    ensures { (s : Sizes) (c : Chronicle) (kept : Kept) → IsFollowedElse s c kept }
+    ensures { (s : Sizes) (c : Chronicle) (kept : VotesByDigest) → IsFollowedElse s c kept }
 {}
 
 /// Dropping up to a height that the highest certificate had before changes nothing.
 pub fn none_are_low()
-    ensures { (s : Sizes) (c : Chronicle) (kept : Kept) → NoneAreLow s c kept }
+    ensures { (s : Sizes) (c : Chronicle) (kept : VotesByDigest) → NoneAreLow s c kept }
 {}

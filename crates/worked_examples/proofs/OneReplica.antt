@@ -12,10 +12,11 @@ use Rattle.definitions.specs.Branches.{justify_height, just1, just2, just3, comm
 use Rattle.definitions.specs.Branches.{extends, highest}
 use Rattle.definitions.specs.Digests.{digest, core_over, digest_of, core_of}
 use Rattle.definitions.specs.Histories.{history_of, is_fresh, cache_after, answers, last_seq}
-use Rattle.definitions.specs.Chronicles.{voted, taken, tree, vheight, lock, decides, decided_by, decided}
-use Rattle.definitions.specs.Chronicles.{executed, history, stored, may_vote}
-use Rattle.definitions.specs.Checks.{counted, is_good, is_clear_core}
-use Rattle.definitions.specs.States.{find_block, view, announcements, announced, reached, votes, raised}
+use Rattle.definitions.specs.Chronicles.{voted_blocks, taken_blocks, tree, vheight, lock, decides}
+use Rattle.definitions.specs.Chronicles.{decided_by, decided}
+use Rattle.definitions.specs.Chronicles.{executed, history, stored_blocks, is_safe}
+use Rattle.definitions.specs.Checks.{counted_voters, is_good, is_clear_core}
+use Rattle.definitions.specs.States.{find_block, view, announcements, announced, reached_view, votes, raised}
 use Rattle.definitions.specs.States.{qc_high, is_due, pending, leads, is_known, picks, child, leaf}
 use Rattle.definitions.specs.Trees.{is_clear, clear_above, placing_known, placing_new, placing}
 use Rattle.definitions.specs.Rulings.{admitted, votes_for, on_placing, on_request, ruling, conflicts}
@@ -27,8 +28,10 @@ pub votes_and_locks : VotesAndLocks
 unfolding sha256 digest_bytes hash_after compress rounds schedule first_words beginning greatest count_below
     hmac tag_for verify tags_for justify_height just1 just2 just3 command_eq block_eq branch_eq extends
     highest digest core_over digest_of core_of history_of is_fresh cache_after answers last_seq apply_payload
-    request_of digits voted taken tree vheight lock decides decided_by decided executed history stored
-    is_clear clear_above may_vote counted is_good is_clear_core view announcements announced reached votes
+    request_of digits voted_blocks taken_blocks tree vheight lock decides decided_by decided executed
+    history stored_blocks
+    is_clear clear_above is_safe counted_voters is_good is_clear_core view announcements announced
+    reached_view votes
     raised qc_high is_due pending leads is_known picks child leaf find_block admitted votes_for placing_known
     placing_new placing on_placing on_request ruling conflicts on_step on_ruling step
 votes_and_locks = (refl, refl, refl)
@@ -37,8 +40,10 @@ pub waits : Waits
 unfolding sha256 digest_bytes hash_after compress rounds schedule first_words beginning greatest count_below
     hmac tag_for verify tags_for justify_height just1 just2 just3 command_eq block_eq branch_eq extends
     highest digest core_over digest_of core_of history_of is_fresh cache_after answers last_seq apply_payload
-    request_of digits voted taken tree vheight lock decides decided_by decided executed history stored
-    is_clear clear_above may_vote counted is_good is_clear_core view announcements announced reached votes
+    request_of digits voted_blocks taken_blocks tree vheight lock decides decided_by decided executed
+    history stored_blocks
+    is_clear clear_above is_safe counted_voters is_good is_clear_core view announcements announced
+    reached_view votes
     raised qc_high is_due pending leads is_known picks child leaf find_block admitted votes_for placing_known
     placing_new placing on_placing on_request ruling conflicts on_step on_ruling step
 waits = (refl, refl, refl)
@@ -47,8 +52,10 @@ pub executes : Executes
 unfolding sha256 digest_bytes hash_after compress rounds schedule first_words beginning greatest count_below
     hmac tag_for verify tags_for justify_height just1 just2 just3 command_eq block_eq branch_eq extends
     highest digest core_over digest_of core_of history_of is_fresh cache_after answers last_seq apply_payload
-    request_of digits voted taken tree vheight lock decides decided_by decided executed history stored
-    is_clear clear_above may_vote counted is_good is_clear_core view announcements announced reached votes
+    request_of digits voted_blocks taken_blocks tree vheight lock decides decided_by decided executed
+    history stored_blocks
+    is_clear clear_above is_safe counted_voters is_good is_clear_core view announcements announced
+    reached_view votes
     raised qc_high is_due pending leads is_known picks child leaf find_block admitted votes_for placing_known
     placing_new placing on_placing on_request ruling conflicts on_step on_ruling step
 executes = (refl, refl, simp map_laws)
@@ -57,8 +64,10 @@ pub orphan : Orphan
 unfolding sha256 digest_bytes hash_after compress rounds schedule first_words beginning greatest count_below
     hmac tag_for verify tags_for justify_height just1 just2 just3 command_eq block_eq branch_eq extends
     highest digest core_over digest_of core_of history_of is_fresh cache_after answers last_seq apply_payload
-    request_of digits voted taken tree vheight lock decides decided_by decided executed history stored
-    is_clear clear_above may_vote counted is_good is_clear_core view announcements announced reached votes
+    request_of digits voted_blocks taken_blocks tree vheight lock decides decided_by decided executed
+    history stored_blocks
+    is_clear clear_above is_safe counted_voters is_good is_clear_core view announcements announced
+    reached_view votes
     raised qc_high is_due pending leads is_known picks child leaf find_block admitted votes_for placing_known
     placing_new placing on_placing on_request ruling conflicts on_step on_ruling step
 orphan = refl
@@ -67,8 +76,10 @@ pub gap : Gap
 unfolding sha256 digest_bytes hash_after compress rounds schedule first_words beginning greatest count_below
     hmac tag_for verify tags_for justify_height just1 just2 just3 command_eq block_eq branch_eq extends
     highest digest core_over digest_of core_of history_of is_fresh cache_after answers last_seq apply_payload
-    request_of digits voted taken tree vheight lock decides decided_by decided executed history stored
-    is_clear clear_above may_vote counted is_good is_clear_core view announcements announced reached votes
+    request_of digits voted_blocks taken_blocks tree vheight lock decides decided_by decided executed
+    history stored_blocks
+    is_clear clear_above is_safe counted_voters is_good is_clear_core view announcements announced
+    reached_view votes
     raised qc_high is_due pending leads is_known picks child leaf find_block admitted votes_for placing_known
     placing_new placing on_placing on_request ruling conflicts on_step on_ruling step
 gap = refl
@@ -77,8 +88,10 @@ pub other_justified : OtherJustified
 unfolding sha256 digest_bytes hash_after compress rounds schedule first_words beginning greatest count_below
     hmac tag_for verify tags_for justify_height just1 just2 just3 command_eq block_eq branch_eq extends
     highest digest core_over digest_of core_of history_of is_fresh cache_after answers last_seq apply_payload
-    request_of digits voted taken tree vheight lock decides decided_by decided executed history stored
-    is_clear clear_above may_vote counted is_good is_clear_core view announcements announced reached votes
+    request_of digits voted_blocks taken_blocks tree vheight lock decides decided_by decided executed
+    history stored_blocks
+    is_clear clear_above is_safe counted_voters is_good is_clear_core view announcements announced
+    reached_view votes
     raised qc_high is_due pending leads is_known picks child leaf find_block admitted votes_for placing_known
     placing_new placing on_placing on_request ruling conflicts on_step on_ruling step
 other_justified = refl
@@ -87,8 +100,10 @@ pub known_block : KnownBlock
 unfolding sha256 digest_bytes hash_after compress rounds schedule first_words beginning greatest count_below
     hmac tag_for verify tags_for justify_height just1 just2 just3 command_eq block_eq branch_eq extends
     highest digest core_over digest_of core_of history_of is_fresh cache_after answers last_seq apply_payload
-    request_of digits voted taken tree vheight lock decides decided_by decided executed history stored
-    is_clear clear_above may_vote counted is_good is_clear_core view announcements announced reached votes
+    request_of digits voted_blocks taken_blocks tree vheight lock decides decided_by decided executed
+    history stored_blocks
+    is_clear clear_above is_safe counted_voters is_good is_clear_core view announcements announced
+    reached_view votes
     raised qc_high is_due pending leads is_known picks child leaf find_block admitted votes_for placing_known
     placing_new placing on_placing on_request ruling conflicts on_step on_ruling step
 known_block = (refl, refl)
@@ -97,8 +112,10 @@ pub other_view : OtherView
 unfolding sha256 digest_bytes hash_after compress rounds schedule first_words beginning greatest count_below
     hmac tag_for verify tags_for justify_height just1 just2 just3 command_eq block_eq branch_eq extends
     highest digest core_over digest_of core_of history_of is_fresh cache_after answers last_seq apply_payload
-    request_of digits voted taken tree vheight lock decides decided_by decided executed history stored
-    is_clear clear_above may_vote counted is_good is_clear_core view announcements announced reached votes
+    request_of digits voted_blocks taken_blocks tree vheight lock decides decided_by decided executed
+    history stored_blocks
+    is_clear clear_above is_safe counted_voters is_good is_clear_core view announcements announced
+    reached_view votes
     raised qc_high is_due pending leads is_known picks child leaf find_block admitted votes_for placing_known
     placing_new placing on_placing on_request ruling conflicts on_step on_ruling step
 other_view = (refl, refl)

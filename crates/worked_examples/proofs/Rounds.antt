@@ -8,10 +8,11 @@ use Rattle.definitions.specs.Branches.{justify_height, just1, just2, just3, comm
 use Rattle.definitions.specs.Branches.{extends, highest}
 use Rattle.definitions.specs.Digests.{digest, core_over, digest_of, core_of}
 use Rattle.definitions.specs.Histories.{history_of, answers, last_seq, is_fresh, cache_after}
-use Rattle.definitions.specs.Chronicles.{voted, taken, tree, vheight, lock, decides, decided_by, decided}
-use Rattle.definitions.specs.Chronicles.{executed, history, stored, may_vote}
-use Rattle.definitions.specs.Checks.{counted, is_good, is_clear_core}
-use Rattle.definitions.specs.States.{find_block, view, announcements, announced, reached, votes, raised}
+use Rattle.definitions.specs.Chronicles.{voted_blocks, taken_blocks, tree, vheight, lock, decides}
+use Rattle.definitions.specs.Chronicles.{decided_by, decided}
+use Rattle.definitions.specs.Chronicles.{executed, history, stored_blocks, is_safe}
+use Rattle.definitions.specs.Checks.{counted_voters, is_good, is_clear_core}
+use Rattle.definitions.specs.States.{find_block, view, announcements, announced, reached_view, votes, raised}
 use Rattle.definitions.specs.States.{qc_high, is_due, pending, leads, is_known, picks, child, leaf}
 use Rattle.definitions.specs.States.{proposed, insert_vote, by_voter}
 use Rattle.definitions.specs.Trees.{is_clear, clear_above, placing_known, placing_new, placing}
@@ -33,9 +34,11 @@ use Rattle.worked_examples.specs.Rounds.{SentSizes, SentIn}
 pub sent_sizes : SentSizes
 unfolding sha256 digest_bytes hash_after compress rounds schedule first_words beginning greatest count_below
     hmac tag_for verify tags_for justify_height just1 just2 just3 command_eq block_eq branch_eq extends
-    highest digest core_over digest_of core_of history_of answers last_seq voted taken tree vheight lock
-    decides decided_by decided executed history stored is_clear clear_above may_vote counted is_good
-    is_clear_core view announcements announced reached votes raised qc_high is_due pending leads is_known
+    highest digest core_over digest_of core_of history_of answers last_seq voted_blocks taken_blocks tree
+    vheight lock
+    decides decided_by decided executed history stored_blocks is_clear clear_above is_safe counted_voters
+    is_good
+    is_clear_core view announcements announced reached_view votes raised qc_high is_due pending leads is_known
     picks child leaf proposed find_block admitted votes_for placing_known placing_new placing on_placing
     ruling conflicts vote_frame proposal_frame new_replies sendings on_step on_ruling step check new_world
     nothing stepped comes party_of brought acts effect happens refusal run after is_fresh cache_after
@@ -47,9 +50,11 @@ sent_sizes = refl
 pub sent_in : SentIn
 unfolding sha256 digest_bytes hash_after compress rounds schedule first_words beginning greatest count_below
     hmac tag_for verify tags_for justify_height just1 just2 just3 command_eq block_eq branch_eq extends
-    highest digest core_over digest_of core_of history_of answers last_seq voted taken tree vheight lock
-    decides decided_by decided executed history stored is_clear clear_above may_vote counted is_good
-    is_clear_core view announcements announced reached votes raised qc_high is_due pending leads is_known
+    highest digest core_over digest_of core_of history_of answers last_seq voted_blocks taken_blocks tree
+    vheight lock
+    decides decided_by decided executed history stored_blocks is_clear clear_above is_safe counted_voters
+    is_good
+    is_clear_core view announcements announced reached_view votes raised qc_high is_due pending leads is_known
     picks child leaf proposed find_block admitted votes_for placing_known placing_new placing on_placing
     ruling conflicts vote_frame proposal_frame new_replies sendings on_step on_ruling step check new_world
     nothing stepped comes party_of brought acts effect happens refusal run after is_fresh cache_after

@@ -8,10 +8,11 @@ use Rattle.definitions.specs.Branches.{justify_height, just1, just2, just3, comm
 use Rattle.definitions.specs.Branches.{extends, highest}
 use Rattle.definitions.specs.Digests.{digest, core_over, digest_of, core_of}
 use Rattle.definitions.specs.Histories.{history_of, answers, last_seq}
-use Rattle.definitions.specs.Chronicles.{voted, taken, tree, vheight, lock, decides, decided_by, decided}
-use Rattle.definitions.specs.Chronicles.{executed, history, stored, may_vote}
-use Rattle.definitions.specs.Checks.{counted, is_good, is_clear_core}
-use Rattle.definitions.specs.States.{find_block, view, announcements, announced, reached, votes, raised}
+use Rattle.definitions.specs.Chronicles.{voted_blocks, taken_blocks, tree, vheight, lock, decides}
+use Rattle.definitions.specs.Chronicles.{decided_by, decided}
+use Rattle.definitions.specs.Chronicles.{executed, history, stored_blocks, is_safe}
+use Rattle.definitions.specs.Checks.{counted_voters, is_good, is_clear_core}
+use Rattle.definitions.specs.States.{find_block, view, announcements, announced, reached_view, votes, raised}
 use Rattle.definitions.specs.States.{qc_high, is_due, pending, leads, is_known, picks, child, leaf}
 use Rattle.definitions.specs.States.{proposed}
 use Rattle.definitions.specs.Trees.{is_clear, clear_above, placing_known, placing_new, placing}
@@ -48,9 +49,11 @@ proposal_sent = record { event = 1; sender = 0; to = to_all; frame = example.pro
 pub sends : SendsOneVote
 unfolding sha256 digest_bytes hash_after compress rounds schedule first_words beginning greatest count_below
     hmac tag_for verify tags_for justify_height just1 just2 just3 command_eq block_eq branch_eq extends
-    highest digest core_over digest_of core_of history_of answers last_seq voted taken tree vheight lock
-    decides decided_by decided executed history stored is_clear clear_above may_vote counted is_good
-    is_clear_core view announcements announced reached votes raised qc_high is_due pending leads is_known
+    highest digest core_over digest_of core_of history_of answers last_seq voted_blocks taken_blocks tree
+    vheight lock
+    decides decided_by decided executed history stored_blocks is_clear clear_above is_safe counted_voters
+    is_good
+    is_clear_core view announcements announced reached_view votes raised qc_high is_due pending leads is_known
     picks child leaf proposed find_block admitted votes_for placing_known placing_new placing on_placing
     ruling conflicts vote_frame proposal_frame new_replies sendings on_step on_ruling step check new_world
     nothing stepped comes party_of brought acts effect happens refusal run after
@@ -60,9 +63,11 @@ sends = refl
 pub taken_whole : IsTakenWhole
 unfolding sha256 digest_bytes hash_after compress rounds schedule first_words beginning greatest count_below
     hmac tag_for verify tags_for justify_height just1 just2 just3 command_eq block_eq branch_eq extends
-    highest digest core_over digest_of core_of history_of answers last_seq voted taken tree vheight lock
-    decides decided_by decided executed history stored is_clear clear_above may_vote counted is_good
-    is_clear_core view announcements announced reached votes raised qc_high is_due pending leads is_known
+    highest digest core_over digest_of core_of history_of answers last_seq voted_blocks taken_blocks tree
+    vheight lock
+    decides decided_by decided executed history stored_blocks is_clear clear_above is_safe counted_voters
+    is_good
+    is_clear_core view announcements announced reached_view votes raised qc_high is_due pending leads is_known
     picks child leaf proposed find_block admitted votes_for placing_known placing_new placing on_placing
     ruling conflicts vote_frame proposal_frame new_replies sendings on_step on_ruling step check new_world
     nothing stepped comes party_of brought acts effect happens refusal run after
@@ -72,9 +77,11 @@ taken_whole = refl
 pub lengths : Lengths
 unfolding sha256 digest_bytes hash_after compress rounds schedule first_words beginning greatest count_below
     hmac tag_for verify tags_for justify_height just1 just2 just3 command_eq block_eq branch_eq extends
-    highest digest core_over digest_of core_of history_of answers last_seq voted taken tree vheight lock
-    decides decided_by decided executed history stored is_clear clear_above may_vote counted is_good
-    is_clear_core view announcements announced reached votes raised qc_high is_due pending leads is_known
+    highest digest core_over digest_of core_of history_of answers last_seq voted_blocks taken_blocks tree
+    vheight lock
+    decides decided_by decided executed history stored_blocks is_clear clear_above is_safe counted_voters
+    is_good
+    is_clear_core view announcements announced reached_view votes raised qc_high is_due pending leads is_known
     picks child leaf proposed find_block admitted votes_for placing_known placing_new placing on_placing
     ruling conflicts vote_frame proposal_frame new_replies sendings on_step on_ruling step check new_world
     nothing stepped comes party_of brought acts effect happens refusal run after
@@ -84,9 +91,11 @@ lengths = refl
 pub answered : Answers
 unfolding sha256 digest_bytes hash_after compress rounds schedule first_words beginning greatest count_below
     hmac tag_for verify tags_for justify_height just1 just2 just3 command_eq block_eq branch_eq extends
-    highest digest core_over digest_of core_of history_of answers last_seq voted taken tree vheight lock
-    decides decided_by decided executed history stored is_clear clear_above may_vote counted is_good
-    is_clear_core view announcements announced reached votes raised qc_high is_due pending leads is_known
+    highest digest core_over digest_of core_of history_of answers last_seq voted_blocks taken_blocks tree
+    vheight lock
+    decides decided_by decided executed history stored_blocks is_clear clear_above is_safe counted_voters
+    is_good
+    is_clear_core view announcements announced reached_view votes raised qc_high is_due pending leads is_known
     picks child leaf proposed find_block admitted votes_for placing_known placing_new placing on_placing
     ruling conflicts vote_frame proposal_frame new_replies sendings on_step on_ruling step check new_world
     nothing stepped comes party_of brought acts effect happens refusal run after
@@ -98,9 +107,11 @@ answered = refl
 after_beat : (after start ((beat 0, ample) ∷ [])).sent ≡ proposal_sent ∷ []
 unfolding sha256 digest_bytes hash_after compress rounds schedule first_words beginning greatest count_below
     hmac tag_for verify tags_for justify_height just1 just2 just3 command_eq block_eq branch_eq extends
-    highest digest core_over digest_of core_of history_of answers last_seq voted taken tree vheight lock
-    decides decided_by decided executed history stored is_clear clear_above may_vote counted is_good
-    is_clear_core view announcements announced reached votes raised qc_high is_due pending leads is_known
+    highest digest core_over digest_of core_of history_of answers last_seq voted_blocks taken_blocks tree
+    vheight lock
+    decides decided_by decided executed history stored_blocks is_clear clear_above is_safe counted_voters
+    is_good
+    is_clear_core view announcements announced reached_view votes raised qc_high is_due pending leads is_known
     picks child leaf proposed find_block admitted votes_for placing_known placing_new placing on_placing
     ruling conflicts vote_frame proposal_frame new_replies sendings on_step on_ruling step check new_world
     nothing stepped comes party_of brought acts effect happens refusal run after
@@ -110,9 +121,11 @@ after_vote : (after start ((beat 0, ample) ∷ (relay 0 1, ample) ∷ [])).sent
     ≡ proposal_sent ∷ record { event = 2; sender = 1; to = to_party 0; frame = example.voted } ∷ []
 unfolding sha256 digest_bytes hash_after compress rounds schedule first_words beginning greatest count_below
     hmac tag_for verify tags_for justify_height just1 just2 just3 command_eq block_eq branch_eq extends
-    highest digest core_over digest_of core_of history_of answers last_seq voted taken tree vheight lock
-    decides decided_by decided executed history stored is_clear clear_above may_vote counted is_good
-    is_clear_core view announcements announced reached votes raised qc_high is_due pending leads is_known
+    highest digest core_over digest_of core_of history_of answers last_seq voted_blocks taken_blocks tree
+    vheight lock
+    decides decided_by decided executed history stored_blocks is_clear clear_above is_safe counted_voters
+    is_good
+    is_clear_core view announcements announced reached_view votes raised qc_high is_due pending leads is_known
     picks child leaf proposed find_block admitted votes_for placing_known placing_new placing on_placing
     ruling conflicts vote_frame proposal_frame new_replies sendings on_step on_ruling step check new_world
     nothing stepped comes party_of brought acts effect happens refusal run after

@@ -44,7 +44,7 @@ abbrev pub StaysPadded : Type 0
 StaysPadded = replies_to (store set (codes "k") 0 (codes "05") ∷ incr (codes "k") 1 ∷ [])
     ≡ text (codes "STORED" ∷ codes "CLIENT_ERROR cannot increment or decrement non-numeric value" ∷ [])
 
--- each change gives a new unique, which a cas has to name
+-- each change gives a new cas unique, which a cas has to name
 abbrev pub ComparesUniques : Type 0
 ComparesUniques = replies_to (store set (codes "k") 7 (codes "5") ∷ incr (codes "k") 3 ∷ gets (codes "k" ∷ [])
     ∷ cas (codes "k") 7 (codes "9") 1 ∷ cas (codes "k") 7 (codes "9") 2 ∷ gets (codes "k" ∷ [])

@@ -11,7 +11,7 @@ use Rattle.definitions.specs.Keyrings.{vector_for}
 use Rattle.definitions.specs.Branches.{Branch, just1}
 use Rattle.definitions.specs.Digests.{digest_of, core_of}
 use Rattle.definitions.specs.Histories.{answers}
-use Rattle.definitions.specs.Chronicles.{Chronicle, voted, tree, lock, executed, history}
+use Rattle.definitions.specs.Chronicles.{Chronicle, voted_blocks, tree, lock, executed, history}
 use Rattle.definitions.specs.Checks.{Identity, findings}
 use Rattle.definitions.specs.States.{pending, qc_high}
 use Rattle.definitions.specs.Rulings.{Input, proposal_in, request_in}
@@ -84,7 +84,7 @@ last = (step self ample (proposes fourth) (stands_at before)).0.chronicle
 -- it voted for all of them, and its lock is the second
 abbrev pub VotesAndLocks : Type 0
 VotesAndLocks =
-    (map length (voted last) ≡ 4 ∷ 3 ∷ 2 ∷ 1 ∷ []) × (length (lock last) ≡ 2)
+    (map length (voted_blocks last) ≡ 4 ∷ 3 ∷ 2 ∷ 1 ∷ []) × (length (lock last) ≡ 2)
     × (length (qc_high sizes last).block ≡ 3)
 
 -- until the fourth it executed nothing, and the request waits
@@ -134,4 +134,4 @@ abbrev pub OtherView : Type 0
 OtherView =
     let c =
     (step self ample (proposal_of 4 (core_of first) (certificate_for first)) (stands_at [])).0.chronicle in
-    (length (voted c) ≡ 0) × (length (tree c) ≡ 2)
+    (length (voted_blocks c) ≡ 0) × (length (tree c) ≡ 2)

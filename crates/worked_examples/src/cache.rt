@@ -20,7 +20,7 @@ pub fn only_numbers_are_counted()
     ensures padded { StaysPadded }
 {}
 
-/// A `cas` stores exactly where its unique is the key's.
+/// A `cas` stores exactly where its cas unique is the key's.
 pub fn cas_compares_uniques()
     ensures { ComparesUniques }
 {}

@@ -6,8 +6,8 @@ ghost use Rattle.ids.specs.Sizes.{replicas};
 use anyhow::{Result, bail};
 use bytes::Bytes;
 use frames_view::{Payload, ReplyText, genesis_digest};
-use ids::{ClientId, Config, Digest, PartyId, Place, ReplicaId, Seq, View};
-use replica::{Input, Replica, Sending, To};
+use ids::{ClientId, Config, Digest, Fault, PartyId, Place, ReplicaId, Seq, View};
+use replica::{Input, Out, Replica, Sending, To};
 use signed_frames::{fetch_frame, new_view_frame, reply_frame, request_frame, vote_frame};
 use simulated_keys::keyring_of;
 use std::alloc::Global;
@@ -40,11 +40,16 @@ pub(crate) fn spoilt(alloc: Global, config: Config) -> Result<Bytes> {
     Ok(Bytes::from_vec(bytes)?)
 }
 
+/// What a replica sends at a beat, which is its last step.
+fn last_beat(mut replica: Replica) -> Result<Out, Fault> {
+    replica.step(Input::Beat)
+}
+
 /// The first proposal of replica 0, as its beat makes it.
 pub(crate) fn proposal(alloc: Global, config: Config) -> Result<Bytes> {
     let keyring = keyring_of(alloc, config, PartyId(0))?;
-    let mut leader = Replica::new(alloc, config, ReplicaId(0), keyring)?;
-    let Some(sending) = leader.step(Input::Beat)?.into_sendings().pop() else {
+    let leader = Replica::new(alloc, config, ReplicaId(0), keyring)?;
+    let Some(sending) = last_beat(leader)?.into_sendings().pop() else {
         bail!("no proposal");
     };
     Ok(Bytes::from_vec(sending.frame)?)

@@ -1,6 +1,9 @@
 //! Runs workers in threads, and prints what must be seen whatever the schedule.
 #![tactic(auto)]
 
+ghost use Rattle.std.specs.Prelude.{◌<◌};
+ghost use Rattle.ids.specs.Sizes.{replicas};
+
 mod fake;
 mod frames;
 mod held;
@@ -21,31 +24,32 @@ use std::thread::Threads;
 use std::time::Clock;
 use turns::Open;
 
-/// Two workers of one replica: the turn of frame 1 is held, after its check and before its step,
-/// until frame 2 was stepped. A third frame has a spoilt tag.
-fn two_workers<R: Threads + Wait + Clock + Sync>(rt: &R, alloc: Global) -> Result<String> {
-    let config = Config::new(1, 2)?;
-    let (gate, seen) = (Held::new(), Seen::new(alloc, false)?);
+/// So many questions for a replica, each another one.
+fn questions(
+    alloc: Global,
+    config: Config,
+    to: ReplicaId,
+    count: u16,
+) -> Result<Vec<(ReplicaId, Bytes)>>
+    requires { to < replicas config }
+{
     let mut handed = Vec::new(alloc);
-    handed.push((
-        ReplicaId(0),
-        frames::question(alloc, config, ReplicaId(0), 1)?,
-    ))?;
-    handed.push((
-        ReplicaId(0),
-        frames::question(alloc, config, ReplicaId(0), 2)?,
-    ))?;
-    handed.push((ReplicaId(0), frames::spoilt(alloc, config)?))?;
-    let told = run(
-        rt,
-        alloc,
-        config,
-        0..1,
-        &gate,
-        &seen,
-        handed,
-        Until::Inputs(2),
-    )?;
+    for number in 0..count {
+        handed.push((to, frames::question(alloc, config, to, number)?))?;
+    }
+    Ok(handed)
+}
+
+/// Two questions for replica 0, and then a frame with a spoilt tag.
+fn questions_and_spoilt(alloc: Global, config: Config) -> Result<Vec<(ReplicaId, Bytes)>> {
+    let spoilt = frames::spoilt(alloc, config)?;
+    let mut handed = questions(alloc, config, ReplicaId(0), 2)?;
+    handed.push((ReplicaId(0), spoilt))?;
+    Ok(handed)
+}
+
+/// What came of a turn that was held.
+fn tell_turns(alloc: Global, gate: &Held, told: &Told) -> Result<String> {
     Ok(format!(in alloc;
         "frame 1 waited for frame 2's step: {}; a spoilt frame was entered: {}; steps: {}",
         gate.has_met(),
@@ -54,29 +58,19 @@ fn two_workers<R: Threads + Wait + Clock + Sync>(rt: &R, alloc: Global) -> Resul
     )?)
 }
 
-/// The same, held where the replica is stepped: the call for frame 1 waits until that for frame 2 began.
-fn two_calls<R: Threads + Wait + Clock + Sync>(rt: &R, alloc: Global) -> Result<String> {
+/// Two workers of one replica: the turn of frame 1 is held, after its check and before its step,
+/// until frame 2 was stepped. A third frame has a spoilt tag.
+fn two_workers<R: Threads + Wait + Clock + Sync>(rt: &R, alloc: Global) -> Result<String> {
     let config = Config::new(1, 2)?;
-    let seen = Seen::new(alloc, true)?;
-    let mut handed = Vec::new(alloc);
-    handed.push((
-        ReplicaId(0),
-        frames::question(alloc, config, ReplicaId(0), 1)?,
-    ))?;
-    handed.push((
-        ReplicaId(0),
-        frames::question(alloc, config, ReplicaId(0), 2)?,
-    ))?;
-    let told = run(
-        rt,
-        alloc,
-        config,
-        0..1,
-        &Open,
-        &seen,
-        handed,
-        Until::Inputs(2),
-    )?;
+    let handed = questions_and_spoilt(alloc, config)?;
+    let (gate, seen) = (Held::new(), Seen::new(alloc, false)?);
+    let until = Until::Inputs(2);
+    let told = run(rt, alloc, config, 0..1, &gate, &seen, handed, until)?;
+    tell_turns(alloc, &gate, &told)
+}
+
+/// What came of a call that was held.
+fn tell_calls(alloc: Global, seen: &Seen, told: &Told) -> Result<String> {
     Ok(format!(in alloc;
         "call 1 waited for call 2: {}; steps: {}",
         seen.has_met(),
@@ -84,37 +78,36 @@ fn two_calls<R: Threads + Wait + Clock + Sync>(rt: &R, alloc: Global) -> Result<
     )?)
 }
 
+/// The same, held where the replica is stepped: the call for frame 1 waits until that for frame 2 began.
+fn two_calls<R: Threads + Wait + Clock + Sync>(rt: &R, alloc: Global) -> Result<String> {
+    let config = Config::new(1, 2)?;
+    let handed = questions(alloc, config, ReplicaId(0), 2)?;
+    let seen = Seen::new(alloc, true)?;
+    let until = Until::Inputs(2);
+    let told = run(rt, alloc, config, 0..1, &Open, &seen, handed, until)?;
+    tell_calls(alloc, &seen, &told)
+}
+
+/// One proposal for replica 1, twice.
+fn proposals(alloc: Global, config: Config) -> Result<Vec<(ReplicaId, Bytes)>> {
+    let mut handed = Vec::new(alloc);
+    for _ in 0..2 {
+        handed.push((ReplicaId(1), frames::proposal(alloc, config)?))?;
+    }
+    Ok(handed)
+}
+
 /// One proposal, brought twice to one replica.
 fn one_vote<R: Threads + Wait + Clock + Sync>(rt: &R, alloc: Global) -> Result<String> {
     let config = Config::new(1, 2)?;
+    let handed = proposals(alloc, config)?;
     let seen = Seen::new(alloc, false)?;
-    let mut handed = Vec::new(alloc);
-    handed.push((ReplicaId(1), frames::proposal(alloc, config)?))?;
-    handed.push((ReplicaId(1), frames::proposal(alloc, config)?))?;
-    let told = run(
-        rt,
-        alloc,
-        config,
-        1..2,
-        &Open,
-        &seen,
-        handed,
-        Until::Inputs(2),
-    )?;
+    let until = Until::Inputs(2);
+    let told = run(rt, alloc, config, 1..2, &Open, &seen, handed, until)?;
     Ok(format!(in alloc;
         "one proposal twice: votes {}, steps {}",
         told.left, told.steps
     )?)
-}
-
-/// A thousand questions for replica 1, each another one.
-fn thousand_questions(alloc: Global, config: Config) -> Result<Vec<(ReplicaId, Bytes)>> {
-    let mut handed = Vec::new(alloc);
-    for k in 0..1000 {
-        let question = frames::question(alloc, config, ReplicaId(1), k)?;
-        handed.push((ReplicaId(1), question))?;
-    }
-    Ok(handed)
 }
 
 /// What came of a thousand questions.
@@ -133,39 +126,30 @@ fn tell_each(alloc: Global, seen: &Seen, told: &Told) -> Result<String> {
 /// to replica 2, and one to client 0.
 fn each_once<R: Threads + Wait + Clock + Sync>(rt: &R, alloc: Global) -> Result<String> {
     let config = Config::new(1, 2)?;
+    let handed = questions(alloc, config, ReplicaId(1), 1000)?;
     let seen = Seen::new(alloc, false)?;
     seen.answer_with(rt, frames::answers(alloc, config)?);
-    let told = run(
-        rt,
-        alloc,
-        config,
-        0..4,
-        &Open,
-        &seen,
-        thousand_questions(alloc, config)?,
-        Until::Inputs(1005),
-    )?;
+    let until = Until::Inputs(1005);
+    let told = run(rt, alloc, config, 0..4, &Open, &seen, handed, until)?;
     tell_each(alloc, &seen, &told)
+}
+
+/// A request for each replica.
+fn requests(alloc: Global, config: Config) -> Result<Vec<(ReplicaId, Bytes)>> {
+    let mut handed = Vec::new(alloc);
+    for number in 0..4 {
+        handed.push((ReplicaId(number), frames::set(alloc, config)?))?;
+    }
+    Ok(handed)
 }
 
 /// One request for all replicas, which each of them executes.
 fn one_set<R: Threads + Wait + Clock + Sync>(rt: &R, alloc: Global) -> Result<String> {
     let config = Config::new(1, 2)?;
+    let handed = requests(alloc, config)?;
     let seen = Seen::new(alloc, false)?;
-    let mut handed = Vec::new(alloc);
-    for number in 0..4 {
-        handed.push((ReplicaId(number), frames::set(alloc, config)?))?;
-    }
-    let told = run(
-        rt,
-        alloc,
-        config,
-        0..4,
-        &Open,
-        &seen,
-        handed,
-        Until::Executed,
-    )?;
+    let until = Until::Executed;
+    let told = run(rt, alloc, config, 0..4, &Open, &seen, handed, until)?;
     Ok(format!(in alloc; "one set: a new eye reads{}", told.executed)?)
 }
 

@@ -8,7 +8,7 @@ use bytes::Bytes;
 use crossbeam_channel::Receiver;
 use fabric::{Ends, Links, Parcel, Post};
 use ids::{Config, Fault, ReplicaId};
-use locked_replica::{Closed, Share};
+use locked_replica::Share;
 use marks::Marks;
 use simulated_keys::keyring_of;
 use std::alloc::Global;
@@ -162,6 +162,18 @@ impl<'s, 'a, G: Gate> Worker<'s, 'a, G> {
     }
 }
 
+/// The two workers of a station.
+fn pair<'s, 'a, G: Gate>(
+    stage: &Stage<'s, G>,
+    station: &'s Station<'a>,
+    crew: Crew,
+) -> Result<(Worker<'s, 'a, G>, Worker<'s, 'a, G>), Fault> {
+    let Crew { one, two } = crew;
+    let one = Worker::new(stage, station, one)?;
+    let two = Worker::new(stage, station, two)?;
+    Ok((one, two))
+}
+
 /// Two workers for each station, one behind the other.
 fn workers<'s, 'a, G: Gate>(
     stage: &Stage<'s, G>,
@@ -170,9 +182,9 @@ fn workers<'s, 'a, G: Gate>(
 ) -> Result<Vec<Worker<'s, 'a, G>>, Fault> {
     let mut workers = Vec::new(stage.alloc);
     for (station, crew) in stations.iter().zip(crews) {
-        let Crew { one, two } = crew;
-        workers.push(Worker::new(stage, station, one)?)?;
-        workers.push(Worker::new(stage, station, two)?)?;
+        let (one, two) = pair(stage, station, crew)?;
+        workers.push(one)?;
+        workers.push(two)?;
     }
     Ok(workers)
 }
@@ -211,10 +223,9 @@ fn close(station: Station<'_>, shares: Vec<Share>) -> Result<usize, Fault> {
         locked,
         room: _,
     } = station;
-    match locked.into_inner().close(shares) {
-        Ok(Closed { replica, eye: _ }) => Ok(replica.steps()),
-        Err(_) => Err(Fault::NotAll),
-    }
+    let closed = locked.into_inner().close(shares).ok();
+    let closed = closed.ok_or(Fault::NotAll)?;
+    Ok(closed.replica.steps())
 }
 
 /// How many steps all replicas made. The shares come two for each station in turn.
@@ -282,6 +293,55 @@ fn look<R: Wait>(rt: &R, ends: &Ends, steps: usize, executed: String) -> Told {
     told
 }
 
+/// The shares of all stations, after their workers took the frames that are handed in.
+fn work_through<R: Threads + Wait + Clock + Sync, G: Gate + Sync>(
+    rt: &R,
+    stage: &Stage<'_, G>,
+    stations: &[Station<'_>],
+    crews: Vec<Crew>,
+    handed: Vec<(ReplicaId, Bytes)>,
+    until: Until,
+    onlooker: &mut Onlooker<'_>,
+) -> Result<Vec<Share>, Fault> {
+    let workers = workers(stage, stations, crews)?;
+    work_all(rt, stage, workers, handed, until, onlooker)
+}
+
+/// How many steps the stations' replicas made until the run was over.
+fn count_steps<R: Threads + Wait + Clock + Sync, G: Gate + Sync>(
+    rt: &R,
+    stage: &Stage<'_, G>,
+    stations: Vec<Station<'_>>,
+    crews: Vec<Crew>,
+    handed: Vec<(ReplicaId, Bytes)>,
+    until: Until,
+    onlooker: &mut Onlooker<'_>,
+) -> Result<usize, Fault> {
+    let row = stations.as_slice();
+    let shares = work_through(rt, stage, row, crews, handed, until, onlooker)?;
+    close_all(stage.alloc, stations, shares)
+}
+
+/// How many steps the replicas made until the run was over, and how far a new eye sees that each
+/// has executed.
+fn run_at<R: Threads + Wait + Clock + Sync, G: Gate + Sync>(
+    rt: &R,
+    stage: &Stage<'_, G>,
+    replicas: Range<u8>,
+    handed: Vec<(ReplicaId, Bytes)>,
+    until: Until,
+) -> Result<(usize, String), Fault> {
+    let (marks, mut eyes) = Marks::new(stage.alloc, stage.config.n())?;
+    let Some(eye) = eyes.pop() else {
+        return Err(Fault::NotAll);
+    };
+    let mut onlooker = Onlooker::new(stage.config, &marks, eye);
+    let (stations, crews) = stations(stage.alloc, stage.config, &marks, eyes, replicas)?;
+    let steps = count_steps(rt, stage, stations, crews, handed, until, &mut onlooker)?;
+    let executed = onlooker.another()?.listed(stage.alloc)?;
+    Ok((steps, executed))
+}
+
 /// Two workers for each wanted replica take the frames that are handed in, until the run is over.
 pub(crate) fn run<R: Threads + Wait + Clock + Sync, G: Gate + Sync>(
     rt: &R,
@@ -293,12 +353,6 @@ pub(crate) fn run<R: Threads + Wait + Clock + Sync, G: Gate + Sync>(
     handed: Vec<(ReplicaId, Bytes)>,
     until: Until,
 ) -> Result<Told, Fault> {
-    let (marks, mut eyes) = Marks::new(alloc, config.n())?;
-    let Some(eye) = eyes.pop() else {
-        return Err(Fault::NotAll);
-    };
-    let mut onlooker = Onlooker::new(config, &marks, eye);
-    let (stations, crews) = stations(alloc, config, &marks, eyes, replicas)?;
     let (links, ends) = Links::new(alloc, config)?;
     let stage = Stage {
         alloc,
@@ -308,9 +362,6 @@ pub(crate) fn run<R: Threads + Wait + Clock + Sync, G: Gate + Sync>(
         gate,
         seen,
     };
-    let workers = workers(&stage, stations.as_slice(), crews)?;
-    let shares = work_all(rt, &stage, workers, handed, until, &mut onlooker)?;
-    let steps = close_all(alloc, stations, shares)?;
-    let executed = onlooker.another()?.listed(alloc)?;
+    let (steps, executed) = run_at(rt, &stage, replicas, handed, until)?;
     Ok(look(rt, &ends, steps, executed))
 }

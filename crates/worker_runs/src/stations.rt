@@ -66,7 +66,7 @@ fn make_station<'a>(
     requires number { (number < replicas config) × (number < marks.now.words) }
 {
     let mut kept = new_kept(alloc, config, number, eye, marks)?;
-    let crew = crew_of(&mut kept)?;
+    let (kept, crew) = crew_of(&mut kept).map(|crew| (kept, crew))?;
     let station = Station {
         number,
         locked: Mutex::new(kept),

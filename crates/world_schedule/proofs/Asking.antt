@@ -22,7 +22,8 @@ use Rattle.definitions.specs.Rulings.{Input, Input.timeout_in, Input.beat_in, Ru
 use Rattle.definitions.specs.Rulings.{Ruling.missing, Ruling.refusing, ruling, conflicts, on_placing}
 use Rattle.definitions.specs.Rulings.{on_block, on_request, with_block}
 use Rattle.definitions.specs.Admission.{Checked, Checked.passes, Checked.rejected, check, when}
-use Rattle.definitions.specs.Replicas.{Memory, Memory.ample, Memory.refused_at_once, Memory.refused_after}
+use Rattle.definitions.specs.Replicas.{MemorySupply, MemorySupply.ample, MemorySupply.refused_at_once}
+use Rattle.definitions.specs.Replicas.{MemorySupply.refused_after}
 use Rattle.definitions.specs.Replicas.{Replica, Standing, Standing.running, Standing.stopped}
 use Rattle.definitions.specs.Replicas.{Standing.cut_short, Reaction, Reaction.sends_out, Reaction.fails}
 use Rattle.definitions.specs.Replicas.{Reaction.asks_for, executes, on_step, on_ruling, step}
@@ -37,7 +38,7 @@ use Rattle.admission.specs.Lacking.{lacked, lacked_by}
 use Rattle.admission.specs.Admitted as admitted
 use Rattle.admission.specs.Admitted.{Admits, AnswersRead}
 use Rattle.replica.specs.declared.input.Input as entering
-use Rattle.replica.specs.Steps.{Sent, Shows, Stepped}
+use Rattle.replica.specs.Steps.{SentBytes, Shows, Stepped}
 use Rattle.replica.specs.Outs.{sent_of}
 use Rattle.world_schedule.specs.declared.effect.Effect.{Effect}
 use Rattle.world_schedule.specs.Turns.{admits, takes, TellsReaction, Takes, Ticks}
@@ -58,7 +59,7 @@ ReactsRightly lack (fails n) = n ≡ fault.UnknownParent → ⊥
 ReactsRightly lack (asks_for sender d) = lack ≡ Some (sender, d)
 
 -- a step that is to stand asks for nothing
-on_step-right : (lack : Option (ℕ × Bytes)) (self : Identity) (m : Memory) (st : Step) (c : Chronicle)
+on_step-right : (lack : Option (ℕ × Bytes)) (self : Identity) (m : MemorySupply) (st : Step) (c : Chronicle)
     → ReactsRightly lack (on_step self m st c).1
 unfolding on_step
 on_step-right lack self ample st c =
@@ -70,7 +71,7 @@ on_step-right lack self (refused_after n) st c =
     (λ x k. cc))
 
 -- a step
-step-right : (lack : Option (ℕ × Bytes)) (self : Identity) (m : Memory) (i : Input) (r : Replica)
+step-right : (lack : Option (ℕ × Bytes)) (self : Identity) (m : MemorySupply) (i : Input) (r : Replica)
     → RulesRightly lack (ruling self i r.chronicle) → ReactsRightly lack (step self m i r).1
 unfolding step on_ruling
 step-right lack self m i r h = by r.standing
@@ -170,7 +171,7 @@ check-other self (frame.reply r c s p t g) n e = λ k. let a : fault.NotMine ≡
 -- ---- what bytes bring
 
 -- a reaction to bytes
-pub takes-right : (self : Identity) (m : Memory) (read : Option Frame) (old : Replica)
+pub takes-right : (self : Identity) (m : MemorySupply) (read : Option Frame) (old : Replica)
     → ReactsRightly (lacked_by self.sizes read) (takes self m read old).1
 takes-right self m None old = λ k. cc
 takes-right self m (Some f) old = by (check self f) refl
@@ -180,11 +181,11 @@ takes-right self m (Some f) old = by (check self f) refl
     by (rejected n) e = check-other self f n e
 
 -- where a block is asked for, memory changes nothing
-abbrev AsksAny : Identity → Memory → Ruling → Chronicle → ℕ → Bytes → Memory → Type 0
+abbrev AsksAny : Identity → MemorySupply → Ruling → Chronicle → ℕ → Bytes → MemorySupply → Type 0
 AsksAny self m v c sender d other =
     (on_ruling self m v c).1 ≡ asks_for sender d → on_ruling self other v c ≡ on_ruling self m v c
 
-never-asks : (self : Identity) (m : Memory) (st : Step) (c : Chronicle) (sender : ℕ) (d : Bytes)
+never-asks : (self : Identity) (m : MemorySupply) (st : Step) (c : Chronicle) (sender : ℕ) (d : Bytes)
     → (on_step self m st c).1 ≡ asks_for sender d → ⊥
 unfolding on_step
 never-asks self ample st c sender d =
@@ -197,7 +198,8 @@ never-asks self (refused_after n) st c sender d =
     (λ x k. cc) (λ x k. cc))
 
 ruling-any :
-    (self : Identity) (m : Memory) (v : Ruling) (c : Chronicle) (sender : ℕ) (d : Bytes) (other : Memory)
+    (self : Identity) (m : MemorySupply) (v : Ruling) (c : Chronicle) (sender : ℕ) (d : Bytes)
+    (other : MemorySupply)
     → AsksAny self m v c sender d other
 unfolding on_ruling
 ruling-any self m (due st) c sender d other e = absurd (never-asks self m st c sender d e)
@@ -205,12 +207,13 @@ ruling-any self m (missing s b) c sender d other e = refl
 ruling-any self m (refusing n) c sender d other e = refl
 
 step-any :
-    (self : Identity) (m : Memory) (i : Input) (r : Replica) (sender : ℕ) (d : Bytes) (other : Memory)
+    (self : Identity) (m : MemorySupply) (i : Input) (r : Replica) (sender : ℕ) (d : Bytes)
+    (other : MemorySupply)
     → (step self m i r).1 ≡ asks_for sender d → step self other i r ≡ step self m i r
 unfolding step
 step-any self m i r sender d other = by r.standing
   where
-    at : Memory → Standing → Replica × Reaction
+    at : MemorySupply → Standing → Replica × Reaction
     at x s = elim s as (λ x. Replica × Reaction) [
       | running ↦
           on_ruling self x (ruling self i r.chronicle) r.chronicle
@@ -240,8 +243,9 @@ step-any self m i r sender d other = by r.standing
     by stopped = λ e. refl
     by (cut_short held) = λ e. refl
 
-takes-any : (self : Identity) (m : Memory) (read : Option Frame) (old : Replica) (sender : ℕ) (d : Bytes)
-    (other : Memory) → (takes self m read old).1 ≡ asks_for sender d
+takes-any :
+    (self : Identity) (m : MemorySupply) (read : Option Frame) (old : Replica) (sender : ℕ) (d : Bytes)
+    (other : MemorySupply) → (takes self m read old).1 ≡ asks_for sender d
     → takes self other read old ≡ takes self m read old
 takes-any self m None old sender d other = λ e. refl
 takes-any self m (Some f) old sender d other = by (check self f)
@@ -254,7 +258,7 @@ takes-any self m (Some f) old sender d other = by (check self f)
 -- ---- what is told
 
 -- frames that go out
-pub sent-told : (self : Identity) (bytes : Bytes) (old new : Replica) (sent : List Sent) (e : Effect)
+pub sent-told : (self : Identity) (bytes : Bytes) (old new : Replica) (sent : List SentBytes) (e : Effect)
     → Answers self bytes old new (Ok sent)
     → map sent_of e.out.items ≡ sent → e.accepted ≡ None → e.answer ≡ None → Takes self bytes old new e
 sent-told self bytes old new sent e a out accepted answer =
@@ -330,7 +334,7 @@ timer-due self i c (inl e) = subst (λ x. RulesRightly None (ruling self x c)) (
 timer-due self i c (inr e) = subst (λ x. RulesRightly None (ruling self x c)) (sym e) tt
 
 -- frames that go out
-pub sent-ticked : (self : Identity) (i : Input) (old new : Replica) (sent : List Sent) (e : Effect)
+pub sent-ticked : (self : Identity) (i : Input) (old new : Replica) (sent : List SentBytes) (e : Effect)
     → Stepped self i old (Ok sent) new
     → map sent_of e.out.items ≡ sent → e.accepted ≡ None → e.answer ≡ None → Ticks self i old new e
 sent-ticked self i old new sent e a out accepted answer = by (step self a.memory i old).1 refl a.answer
@@ -370,7 +374,7 @@ refusal-ticked self i old new n e timer a out accepted answer = by (step self a.
 
 -- a refusal of the checks is the replica's answer, and changes nothing
 pub refused-answers :
-    (keys : Keys) (bytes : Bor Bytes) (old : Replica) (n : Fault) (result : Result (List Sent) Fault)
+    (keys : Keys) (bytes : Bor Bytes) (old : Replica) (n : Fault) (result : Result (List SentBytes) Fault)
     → Admits keys bytes (Err n) → result ≡ Err n → Answers (identity_of keys) bytes.now old old result
 refused-answers keys bytes old n result (read, is_read, h) e = by read is_read h
   where

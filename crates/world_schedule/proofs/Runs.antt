@@ -17,7 +17,7 @@ use Rattle.definitions.specs.Frames.{Frame, spelling}
 use Rattle.definitions.specs.FrameLimits.{IsFrame, IsReadAs}
 use Rattle.definitions.specs.Keyrings.{client_at, is_replica_of, is_client_of}
 use Rattle.definitions.specs.Sendings.{Sending}
-use Rattle.definitions.specs.Replicas.{Memory.ample}
+use Rattle.definitions.specs.Replicas.{MemorySupply.ample}
 use Rattle.definitions.specs.Sessions.{Receipt}
 use Rattle.definitions.specs.Worlds as worlds
 use Rattle.definitions.specs.Worlds.{World, Sent, AcceptedBy, Happening, new_world, is_correct}
@@ -217,7 +217,7 @@ abbrev in_event : ℕ → ℕ → Sending → Sent
 in_event now party o = record { event = now; sender = party; to = o.0; frame = o.1 }
 
 -- with the number of the event
-abbrev dated : ℕ → steps.Sent → Shown
+abbrev dated : ℕ → steps.SentBytes → Shown
 dated now x = (now, x)
 
 abbrev dated_sending : ℕ → code.Sending → Shown

@@ -19,7 +19,7 @@ use Rattle.definitions.specs.Checks.{Identity, identity_of}
 use Rattle.definitions.specs.Rulings.{Input}
 use Rattle.definitions.specs.Admission.{Checked, Checked.passes, Checked.rejected, check}
 use Rattle.definitions.specs.Replicas as replicas
-use Rattle.definitions.specs.Replicas.{Memory, Reaction, step}
+use Rattle.definitions.specs.Replicas.{MemorySupply, Reaction, step}
 use Rattle.definitions.specs.Sessions.{Client, Session, Heard, submission, on_reply}
 use Rattle.definitions.specs.Worlds.{World, is_replica, self_of, put, new_world}
 use Rattle.definitions.specs.Worlds as worlds
@@ -195,7 +195,7 @@ module _ (s : Setting) (held : List steps.Held) (seats : List sessions.Held) (w 
   -- ---- a replica
 
   -- a reaction in the world
-  reacts : (p : ℕ) (m : Memory) (new : steps.Held) (e : Effect) (r : replicas.Replica × Reaction)
+  reacts : (p : ℕ) (m : MemorySupply) (new : steps.Held) (e : Effect) (r : replicas.Replica × Reaction)
       → p < replicas s.sizes → HasKeysOf s p new.keys → new.replica ≡ r.0
       → TellsReaction (self_of w p) m r.1 e
       → AreOf s (slice_set held p new) seats (with_effect w (stepped w p m r))
@@ -208,7 +208,7 @@ module _ (s : Setting) (held : List steps.Held) (seats : List sessions.Held) (w 
   )
 
   -- a refusal in the world
-  refuses : (p : ℕ) (m : Memory) (new : steps.Held) (e : Effect) (n : Fault) → p < replicas s.sizes
+  refuses : (p : ℕ) (m : MemorySupply) (new : steps.Held) (e : Effect) (n : Fault) → p < replicas s.sizes
       → HasKeysOf s p new.keys → new.replica ≡ w.replica p
       → TellsReaction (self_of w p) m (replicas.fails n) e
       → AreOf s (slice_set held p new) seats (with_effect w (nothing w (Some n)))
@@ -225,7 +225,7 @@ module _ (s : Setting) (held : List steps.Held) (seats : List sessions.Held) (w 
       ap replicas at.setting.sizes_are in omega (arith, l, e))
 
   -- a frame that was checked comes
-  on-checked : (p : ℕ) (m : Memory) (new : steps.Held) (e : Effect) (x : Checked) → p < replicas s.sizes
+  on-checked : (p : ℕ) (m : MemorySupply) (new : steps.Held) (e : Effect) (x : Checked) → p < replicas s.sizes
       → HasKeysOf s p new.keys → new.replica ≡ (admits (self_of w p) m x (w.replica p)).0
       → TellsReaction (self_of w p) m (admits (self_of w p) m x (w.replica p)).1 e
       → AreOf s (slice_set held p new) seats (with_effect w (on_checked p m x w))
@@ -235,7 +235,7 @@ module _ (s : Setting) (held : List steps.Held) (seats : List sessions.Held) (w 
   on-checked p m new e (rejected n) l keys is tells = refuses p m new e n l keys is tells
 
   -- bytes come
-  frame-comes : (p : ℕ) (m : Memory) (new : steps.Held) (e : Effect) (read : Option Frame)
+  frame-comes : (p : ℕ) (m : MemorySupply) (new : steps.Held) (e : Effect) (read : Option Frame)
       → p < replicas s.sizes → HasKeysOf s p new.keys
       → new.replica ≡ (takes (self_of w p) m read (w.replica p)).0
       → TellsReaction (self_of w p) m (takes (self_of w p) m read (w.replica p)).1 e
@@ -344,7 +344,7 @@ module _ (s : Setting) (held : List steps.Held) (seats : List sessions.Held) (w 
       ap replicas at.setting.sizes_are in omega (arith, l, e, are.1, high)
 
   -- bytes come to it
-  bytes-come : (p : ℕ) (m : Memory) (new : sessions.Held) (e : Effect) (read : Option Frame)
+  bytes-come : (p : ℕ) (m : MemorySupply) (new : sessions.Held) (e : Effect) (read : Option Frame)
       → AreSizes s.sizes → 256 ≤ p → client_at p < s.sizes.clients
       → HasKeysOf s (client_party (client_at p)) new.keys
       → new.session ≡ (hears (worlds.client_of w (client_at p)) m read (w.session (client_at p))).0

@@ -7,9 +7,9 @@ use Rattle.definitions.specs.Frames.{Frame}
 use Rattle.definitions.specs.FrameLimits.{IsReadAs}
 use Rattle.definitions.specs.Keyrings.{Keys, keyring_of}
 use Rattle.definitions.specs.Checks.{Identity}
-use Rattle.definitions.specs.Replicas.{Memory, Replica, asks_for}
+use Rattle.definitions.specs.Replicas.{MemorySupply, Replica, asks_for}
 use Rattle.admission.specs.Lacking.{lacked_by}
-use Rattle.replica.specs.Steps.{Sent, Shows}
+use Rattle.replica.specs.Steps.{SentBytes, Shows}
 use Rattle.world_schedule.specs.Turns.{takes, TellsReaction}
 use Rattle.world_schedule.specs.declared.effect.Effect.{Effect}
 
@@ -20,11 +20,12 @@ pub record SameReplica (a b : Keys) : Type 0 where
   pub ring : keyring_of a ≡ keyring_of b
 
 -- what a replica answers to bytes
-pub record Answers (self : Identity) (bytes : Bytes) (old new : Replica) (result : Result (List Sent) Fault)
+pub record Answers (self : Identity) (bytes : Bytes) (old new : Replica)
+    (result : Result (List SentBytes) Fault)
     : Type 0 where
   pub read : Option Frame
   pub is_read : IsReadAs self.sizes bytes read
-  pub memory : Memory
+  pub memory : MemorySupply
   pub state : new ≡ (takes self memory read old).0
   pub answer : Shows (takes self memory read old).1 result
 
@@ -32,7 +33,7 @@ pub record Answers (self : Identity) (bytes : Bytes) (old new : Replica) (result
 pub record Asks (self : Identity) (bytes : Bytes) (e : Effect) : Type 0 where
   pub read : Option Frame
   pub is_read : IsReadAs self.sizes bytes read
-  pub memory : Memory
+  pub memory : MemorySupply
   pub tells : (sender : ℕ) (block : Bytes) → lacked_by self.sizes read ≡ Some (sender, block)
       → TellsReaction self memory (asks_for sender block) e
 

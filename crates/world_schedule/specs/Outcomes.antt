@@ -15,7 +15,7 @@ use Rattle.world_schedule.specs.declared.outcome.Outcome.{Outcome}
 
 -- an event, and the bytes that were sent in it with their destination
 abbrev pub Shown : Type 0
-Shown = ℕ × steps.Sent
+Shown = ℕ × steps.SentBytes
 
 -- as a frame is told
 abbrev pub shown_frame : SentFrame → Shown

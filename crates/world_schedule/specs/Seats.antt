@@ -5,7 +5,7 @@ use Rattle.definitions.specs.Keyrings.{Keys, keyring_of}
 use Rattle.definitions.specs.Bytes.{Bytes}
 use Rattle.definitions.specs.Frames.{Frame}
 use Rattle.definitions.specs.FrameLimits.{IsReadAs}
-use Rattle.definitions.specs.Replicas.{Memory, running}
+use Rattle.definitions.specs.Replicas.{MemorySupply, running}
 use Rattle.definitions.specs.Sessions.{new_session}
 use Rattle.definitions.specs.Worlds.{World, Happening}
 use Rattle.definitions.specs.Events as events
@@ -75,21 +75,21 @@ pub record Brings (s : Setting) (w : World) (to : ℕ) (bytes : Bytes) (held : L
     (seats : List sessions.Held) (e : Effect) : Type 0 where
   pub read : Option Frame
   pub is_read : IsReadAs s.sizes bytes read
-  pub memory : Memory
+  pub memory : MemorySupply
   pub parties : AreOf s held seats (with_effect w (comes to memory read w))
   pub tells : Tells (comes to memory read w) (client_at to) e
 
 -- a client that isn't faulty was handed a payload to submit
 pub record Hands (s : Setting) (w : World) (client : ℕ) (payload : Bytes) (held : List steps.Held)
     (seats : List sessions.Held) (e : Effect) : Type 0 where
-  pub memory : Memory
+  pub memory : MemorySupply
   pub parties : AreOf s held seats (with_effect w (submits client memory payload w))
   pub tells : Tells (submits client memory payload w) (client_at (client_party client)) e
 
 -- a replica that isn't faulty took a timeout or a beat
 pub record Moves (s : Setting) (w : World) (input : Input) (i : ℕ) (held : List steps.Held)
     (seats : List sessions.Held) (e : Effect) : Type 0 where
-  pub memory : Memory
+  pub memory : MemorySupply
   pub parties : AreOf s held seats (with_effect w (events.steps i memory input w))
   pub tells : Tells (events.steps i memory input w) (client_at i) e
 

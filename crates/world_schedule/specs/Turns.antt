@@ -8,7 +8,7 @@ use Rattle.definitions.specs.FrameLimits.{IsReadAs}
 use Rattle.definitions.specs.Keyrings.{client_at}
 use Rattle.definitions.specs.Checks.{Identity}
 use Rattle.definitions.specs.Rulings.{Input}
-use Rattle.definitions.specs.Replicas.{Memory, Replica, Reaction, fails, step}
+use Rattle.definitions.specs.Replicas.{MemorySupply, Replica, Reaction, fails, step}
 use Rattle.definitions.specs.Admission.{Checked, passes, rejected, check}
 use Rattle.definitions.specs.Sessions.{Client, Session, Heard, not_counted, submission, on_reply}
 use Rattle.definitions.specs.Events as events
@@ -29,17 +29,17 @@ pub record Tells (f : events.Effect) (client : ℕ) (e : Effect) : Type 0 where
 -- ---- a replica
 
 -- what a replica makes of a frame that was checked
-abbrev pub admits : Identity → Memory → Checked → Replica → Replica × Reaction
+abbrev pub admits : Identity → MemorySupply → Checked → Replica → Replica × Reaction
 admits self m (passes i) r = step self m i r
 admits self m (rejected n) r = (r, fails n)
 
 -- what it makes of bytes that are read so
-abbrev pub takes : Identity → Memory → Option Frame → Replica → Replica × Reaction
+abbrev pub takes : Identity → MemorySupply → Option Frame → Replica → Replica × Reaction
 takes self m None r = (r, fails fault.NotAFrame)
 takes self m (Some f) r = admits self m (check self f) r
 
 -- the effect tells of a reaction
-pub record TellsReaction (self : Identity) (m : Memory) (x : Reaction) (e : Effect) : Type 0 where
+pub record TellsReaction (self : Identity) (m : MemorySupply) (x : Reaction) (e : Effect) : Type 0 where
   pub out : map sent_of e.out.items ≡ shown (out_of self m x)
   pub accepted : e.accepted ≡ None
   pub answer : e.answer ≡ answer_of x
@@ -48,27 +48,27 @@ pub record TellsReaction (self : Identity) (m : Memory) (x : Reaction) (e : Effe
 pub record Takes (self : Identity) (bytes : Bytes) (old new : Replica) (e : Effect) : Type 0 where
   pub read : Option Frame
   pub is_read : IsReadAs self.sizes bytes read
-  pub memory : Memory
+  pub memory : MemorySupply
   pub state : new ≡ (takes self memory read old).0
   pub tells : TellsReaction self memory (takes self memory read old).1 e
 
 -- its time is out, or its beat comes
 pub record Ticks (self : Identity) (input : Input) (old new : Replica) (e : Effect) : Type 0 where
-  pub memory : Memory
+  pub memory : MemorySupply
   pub state : new ≡ (step self memory input old).0
   pub tells : TellsReaction self memory (step self memory input old).1 e
 
 -- ---- a client
 
 -- what a client makes of bytes that are read so
-abbrev pub hears : Client → Memory → Option Frame → Session → Session × Heard
+abbrev pub hears : Client → MemorySupply → Option Frame → Session → Session × Heard
 hears me m None s = (s, not_counted fault.NotAFrame)
 hears me m (Some f) s = on_reply me m f s
 
 -- a client was handed a payload to submit
 pub record Submits (old : Held) (payload : Bytes) (new : Held) (e : Effect) : Type 0 where
   pub keys : new.keys ≡ old.keys
-  pub memory : Memory
+  pub memory : MemorySupply
   pub state : new.session ≡ (submission (client_of old.keys) memory payload old.session).0
   pub out : map sent_of e.out.items
       ≡ shown (submitted_out (submission (client_of old.keys) memory payload old.session).1)
@@ -80,7 +80,7 @@ pub record Hears (old : Held) (bytes : Bytes) (new : Held) (e : Effect) : Type 0
   pub keys : new.keys ≡ old.keys
   pub read : Option Frame
   pub is_read : IsReadAs old.keys.sizes bytes read
-  pub memory : Memory
+  pub memory : MemorySupply
   pub state : new.session ≡ (hears (client_of old.keys) memory read old.session).0
   pub out : e.out.items ≡ []
   pub accepted : option_to_list e.accepted

@@ -1,6 +1,6 @@
 use Rattle.std.proofs.Common.{◌+◌, ◌-◌, length, arith}
 use Rattle.mc_lines.specs.Heads.{head_of}
-use Rattle.definitions.specs.Requests.{stored_of}
+use Rattle.definitions.specs.Requests.{data_field}
 use Rattle.definitions.proofs.Slices.{LentAt-within, LentAt-same}
 use Rattle.mc_lines.proofs.Places.{not_some}
 use Rattle.mc_lines.proofs.read.with_data.Goals as goal
@@ -8,7 +8,7 @@ use Rattle.mc_lines.proofs.read.with_data.Goals as goal
 pub returns-in_default-clause-lent : goal.returns-in_default-clause-lent
 returns-in_default-clause-lent c =
     λ source key rest. c.with.ensures.lent source c.args.start key
-    (λ some. absurd (not_some (stored_of (head_of c.args.head)) (cc) some))
+    (λ some. absurd (not_some (data_field (head_of c.args.head)) (cc) some))
 
 pub returns-in-Ok-Some-clause-lent : goal.returns-in-Ok-Some-clause-lent
 returns-in-Ok-Some-clause-lent c =

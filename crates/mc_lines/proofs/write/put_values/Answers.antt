@@ -6,6 +6,6 @@ pub put_value-requires : goal.put_value-requires
 put_value-requires c =
     omega (
       arith,
-      length-values_text-take c.args.values.now c.args.with_unique c.loop-value.value-index
+      length-values_text-take c.args.values.now c.args.with_cas_unique c.loop-value.value-index
           c.value-item.result c.value-item.is c.loop-value-test.true,
     )

@@ -6,8 +6,8 @@ use Rattle.mc_lines.proofs.write.put_values.Given as goal
 abbrev pub invariant-loop-value : goal.invariant-loop-value
 invariant-loop-value l =
     record {
-      items : l.out.items ≡ l.fn.out.items ++ values_text l.with_unique (take l.value-index l.values);
+      items : l.out.items ≡ l.fn.out.items ++ values_text l.with_cas_unique (take l.value-index l.values);
       len : vec_len l.out
-          ≡ vec_len l.fn.out + length (values_text l.with_unique (take l.value-index l.values));
+          ≡ vec_len l.fn.out + length (values_text l.with_cas_unique (take l.value-index l.values));
       capacity : vec_capacity l.fn.out ≤ vec_capacity l.out;
     }

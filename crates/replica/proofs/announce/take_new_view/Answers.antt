@@ -5,7 +5,7 @@ use Rattle.pacemaker.specs.Pacing.{Pace, IsPaceOf}
 use Rattle.frames_view.specs.Views.{new_view_of}
 use Rattle.frames_view.specs.Fields.{frame_certificate}
 use Rattle.replica.specs.Changes.{noting, raise_of, leaf_after}
-use Rattle.replica.specs.Kept.{Kept}
+use Rattle.replica.specs.Kept.{StateParts}
 use Rattle.replica.specs.Announcements.{new_view_sent}
 use Rattle.replica.specs.declared.change.Change.{Change}
 use Rattle.replica.specs.declared.stored.StoredStep.TheVariants.{GotNewView}
@@ -18,8 +18,9 @@ returns-clause-made c =
     let v = c.args.state.now.variables in
     let frame = new_view_of c.args.announced.now in
     let new = c.on_new_view-moved.new.self in
-    let pace : c.state.inside.pace ≡ c.args.state.now.pace = ap (λ (k : Kept). k.pace) c.state.view_is in
-    let high : c.state.inside.high ≡ v.high = ap (λ (k : Kept). k.variables.high) c.state.view_is in
+    let pace : c.state.inside.pace ≡ c.args.state.now.pace =
+    ap (λ (k : StateParts). k.pace) c.state.view_is in
+    let high : c.state.inside.high ≡ v.high = ap (λ (k : StateParts). k.variables.high) c.state.view_is in
     let raised : c.in_ok-high.high
     ≡ raise_of (record { block = c.args.block; certificate = frame_certificate frame }) v.high =
     c.in_ok-high.ensures.made

@@ -3,7 +3,7 @@ use Rattle.std.proofs.lemmas.List.{length-map}
 use Rattle.std.specs.List.{flat_map}
 use Rattle.definitions.specs.Frames.{Command, command_bytes, core_text}
 use Rattle.mempool.specs.Pool.{first_beside}
-use Rattle.replica.specs.Kept.{Kept}
+use Rattle.replica.specs.Kept.{StateParts}
 use Rattle.replica.specs.Beats.{child_height, proposed_above, picked}
 use Rattle.replica.proofs.Waiting.{beside-reversed}
 use Rattle.replica.proofs.Walking.{few-beside}
@@ -19,10 +19,10 @@ count_of-count-requires c =
 
 pub returns-clause-made : goal.returns-clause-made
 returns-clause-made c =
-    let s : Kept = c.args.state.now in
+    let s : StateParts = c.args.state.now in
     let in_ = c.state.inside in
     let on = c.deref.ensures.value ∙ c.in_ok-on_branch.ensures.found in
-    let pool : in_.pool ≡ s.pending = ap (λ (k : Kept). k.pending) c.state.view_is in
+    let pool : in_.pool ≡ s.pending = ap (λ (k : StateParts). k.pending) c.state.view_is in
     let took : map (λ r. r.now) c.in_ok-picked.picked.items ≡ picked s =
     c.in_ok-picked.ensures.picked ∙ (λ i. first_beside (on i) (pool i))
     ∙ beside-reversed (proposed_above s.variables) s.pending in
@@ -38,6 +38,6 @@ returns-clause-made c =
     ∙ (λ i. c.new-core.ensures.items i ++ core_text (c.state.view_is i).variables.leaf.digest
     (c.child_height-height.ensures i) (c.state.view_is i).variables.high.block.height (count i)
     ((c.deref-4.ensures.value ∙ commands) i))
-    ∙ ap (λ (k : Kept). core_text s.variables.leaf.digest (child_height k.variables.leaf)
+    ∙ ap (λ (k : StateParts). core_text s.variables.leaf.digest (child_height k.variables.leaf)
     s.variables.high.block.height (length (picked s)) (flat_map command_bytes (picked s)))
     c.state.view_is

@@ -7,7 +7,7 @@ use Rattle.block_tree.specs.declared.insert.Plan.TheVariants.{Grows}
 use Rattle.block_tree.specs.Insertions.{IsPlanned}
 use Rattle.block_tree.proofs.Planning.{node-planned}
 use Rattle.replica_rules.specs.Chains.{ruled_after}
-use Rattle.replica.specs.Kept.{Kept}
+use Rattle.replica.specs.Kept.{StateParts}
 use Rattle.replica.specs.Changes.{tree_of}
 use Rattle.replica.specs.Offers.{Offered, justified_of, IsDecided}
 use Rattle.replica.proofs.Offers.{conflict-decided}
@@ -26,7 +26,7 @@ returns-in_err-rules-in-Grows c =
     let o = c.args.offer.now in
     let planned : IsPlannedFor (tree_of k.variables) o (Grows n) =
     subst (IsPlannedFor (tree_of k.variables) o) c.in-Grows.is
-    (subst (λ (x : Kept). IsPlannedFor (tree_of x.variables) o c.in_ok-digest.field-0) c.state.view_is
+    (subst (λ (x : StateParts). IsPlannedFor (tree_of x.variables) o c.in_ok-digest.field-0) c.state.view_is
     (subst (λ (x : Offered). IsPlannedFor c.state.inside.tree x c.in_ok-digest.field-0) c.offer.view_is
     c.in_ok-digest.ensures)) in
     let r = err_from_is_err_and c.from_residual-in_err-rules-in-Grows.result
@@ -43,7 +43,7 @@ take_new-requires-clause-node c =
     let o = c.args.offer.now in
     let planned : IsPlannedFor (tree_of k.variables) o (Grows c.in-Grows.node) =
     subst (IsPlannedFor (tree_of k.variables) o) c.in-Grows.is
-    (subst (λ (x : Kept). IsPlannedFor (tree_of x.variables) o c.in_ok-digest.field-0) c.state.view_is
+    (subst (λ (x : StateParts). IsPlannedFor (tree_of x.variables) o c.in_ok-digest.field-0) c.state.view_is
     (subst (λ (x : Offered). IsPlannedFor c.state.inside.tree x c.in_ok-digest.field-0) c.offer.view_is
     c.in_ok-digest.ensures)) in
     node-planned (tree_of k.variables) o.core o.certificate o.found.clear c.in-Grows.node _ planned

@@ -1,7 +1,7 @@
 use Rattle.std.proofs.Common.{ℕ, suc, ◌+◌, ◌≡◌, ◌++◌, option_to_list, append_assoc, [], ◌∷◌, List, take}
 use Rattle.std.proofs.Common.{arith, sym, ap, ◌∙◌}
 use Rattle.definitions.specs.Histories.{Answer}
-use Rattle.replica.specs.Steps.{Sent}
+use Rattle.replica.specs.Steps.{SentBytes}
 use Rattle.replica.specs.Execution.{told_one, told}
 use Rattle.std.proofs.Math.Seq.{take-suc}
 use Rattle.std.proofs.lemmas.List.{append-nil, take_all}
@@ -20,9 +20,9 @@ loop-answer-preserved c =
     let a : Answer = c.answer-item.result in
     c.in_ok-tell_one.ensures.told ∙ (λ j. c.loop-answer.invariant j ++ option_to_list (told_one keys a))
     ∙ append_assoc c.args.out.now (told keys (take i xs)) (option_to_list (told_one keys a))
-    ∙ ap (λ (l : List Sent). c.args.out.now ++ l)
+    ∙ ap (λ (l : List SentBytes). c.args.out.now ++ l)
     (sym (told-append keys (take i xs) (a ∷ [])
-    ∙ ap (λ (l : List Sent). told keys (take i xs) ++ l) (told-last keys a)) ∙ ap (told keys) (sym (
+    ∙ ap (λ (l : List SentBytes). told keys (take i xs) ++ l) (told-last keys a)) ∙ ap (told keys) (sym (
     ap (λ (n : ℕ). take n xs) (let e : i + 1 ≡ suc i = omega arith in e)
     ∙ take-suc xs i a c.loop-answer-test.true
     ∙ ap (λ (x : Answer). take i xs ++ x ∷ []) (sym c.answer-item.is))))

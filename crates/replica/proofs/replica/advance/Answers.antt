@@ -1,7 +1,7 @@
 use Rattle.std.proofs.Common.{◌≡◌, ◌-◌, ℕ, List, [], length, ap, ◌∙◌, subst}
 use Rattle.definitions.specs.Chronicles.{executed}
 use Rattle.replica_rules.specs.declared.block_ref.BlockRef.{BlockRef}
-use Rattle.replica.specs.Kept.{Variables, Kept, waiting}
+use Rattle.replica.specs.Kept.{Variables, StateParts, waiting}
 use Rattle.definitions.specs.Frames.{Command}
 use Rattle.mempool.specs.Pool.{left_after}
 use Rattle.replica.specs.Inputs.{input_of}
@@ -20,7 +20,7 @@ returns-in-Ok-execute c c' o =
     let last : BlockRef = c.take.new.state.variables.rules.executed in
     let from : c.executed-from.result.height ≡ length (executed c') =
     ap (λ (b : BlockRef). b.height) (c.executed-from.ensures
-    ∙ ap (λ (k : Kept). k.variables.rules.executed) c.state.view_is
+    ∙ ap (λ (k : StateParts). k.variables.rules.executed) c.state.view_is
     ∙ ap (λ (v : Variables). v.rules.executed) o.state.same) in
     sends-all c.args.keyring.now (input_of c.args.input) c' c.args.executor.now
     (history-going c.args.keyring.now c' c.args.state.now c.args.executor.now o) o.fit o.stored
@@ -42,7 +42,7 @@ returns-in-Err-execute c c' o =
     let last : BlockRef = c.take.new.state.variables.rules.executed in
     let from : c.executed-from.result.height ≡ length (executed c') =
     ap (λ (b : BlockRef). b.height) (c.executed-from.ensures
-    ∙ ap (λ (k : Kept). k.variables.rules.executed) c.state.view_is
+    ∙ ap (λ (k : StateParts). k.variables.rules.executed) c.state.view_is
     ∙ ap (λ (v : Variables). v.rules.executed) o.state.same) in
     stops-short c.args.keyring.now (input_of c.args.input) c' c.args.executor.now
     (history-going c.args.keyring.now c' c.args.state.now c.args.executor.now o) o.fit o.stored

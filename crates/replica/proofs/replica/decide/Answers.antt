@@ -7,7 +7,7 @@ use Rattle.frames_view.specs.Fields.{frame_core, frame_view, frame_replica, fram
 use Rattle.frames_view.specs.Views.{command_of, proposal_of, block_of, vote_frame_of}
 use Rattle.frames_view.specs.declared.frame_views.NewViewView.{NewViewView}
 use Rattle.frames_view.specs.declared.frame_views.FetchView.{FetchView}
-use Rattle.replica.specs.Kept.{Variables, Kept}
+use Rattle.replica.specs.Kept.{Variables, StateParts}
 use Rattle.replica.specs.Inputs.{proposal_offered, block_offered, announced_by, asked_by, same_replica}
 use Rattle.replica.specs.Offers.{Offered, IsDecided}
 use Rattle.replica.specs.Announcements.{IsNewView}
@@ -88,7 +88,7 @@ returns-in-Beat-clause-decided c c' w =
     let o = state-going c.args.keyring.now c' c.args.state.now c.args.executor.now w in
     let items = c.state.inside.steps.items in
     let chronicle =
-    ap (λ (k : Kept). length k.variables.chronicle) c.state.view_is
+    ap (λ (k : StateParts). length k.variables.chronicle) c.state.view_is
     ∙ ap (λ (v : Variables). length v.chronicle) o.same in
     let few : length c' < 2 ^ 63 =
     (let n =

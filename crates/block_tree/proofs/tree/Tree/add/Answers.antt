@@ -5,7 +5,7 @@ use Rattle.definitions.specs.Branches.{Branch}
 use Rattle.definitions.specs.Trees.{Stored, TreeState, blocks}
 use Rattle.definitions.proofs.Trees.{found-in}
 use Rattle.block_tree.specs.declared.node.Node.{Node}
-use Rattle.block_tree.specs.Nodes.{branch_in, block_in, stored_as, stored_of, IsNode, IsWhole}
+use Rattle.block_tree.specs.Nodes.{branch_in, block_in, stored_as, all_stored_as, IsNode, IsWhole}
 use Rattle.block_tree.specs.Numbers.{count_of, AreCounts}
 use Rattle.block_tree.proofs.Kept.{sound-of}
 use Rattle.block_tree.proofs.Counted.{same-counts, one-more}
@@ -31,7 +31,7 @@ reach-requires-clause-next c =
 pub invariant_of-self-in_err-insert : goal.invariant_of-self-in_err-insert
 invariant_of-self-in_err-insert c =
     let inside = c.self.inside in
-    let tree = blocks (stored_of (reverse inside.nodes.items)) in
+    let tree = blocks (all_stored_as (reverse inside.nodes.items)) in
     subst
     (λ (l : List Node). IsWhole inside.most inside.genesis (reverse l) c.insert.new.self c.reach.new.self)
     (sym c.reserve.ensures.items)
@@ -62,7 +62,7 @@ invariant_of-self-2 c =
     let inside = c.self.inside in
     let items = inside.nodes.items in
     let n = c.args.node in
-    let tree = blocks (stored_of (reverse items)) in
+    let tree = blocks (all_stored_as (reverse items)) in
     let pushed : c.push.new.self.items ≡ items ++ n ∷ [] =
     rw c.unwrap.ensures at c.push.ensures.items
     ∙ ap (λ (l : List Node). l ++ n ∷ []) c.reserve.ensures.items in
@@ -93,7 +93,8 @@ returns-clause-added c =
     rw c.unwrap.ensures at c.push.ensures.items
     ∙ ap (λ (l : List Node). l ++ c.args.node ∷ []) c.reserve.ensures.items in
     let value : List Stored → TreeState = λ l. record { most = inside.most; stored = l } in
-    ap (λ (l : List Node). value (stored_of (reverse l))) pushed ∙ ap value (added-stored items c.args.node)
+    ap (λ (l : List Node). value (all_stored_as (reverse l))) pushed
+    ∙ ap value (added-stored items c.args.node)
     ∙ ap (λ (t : TreeState). let u : TreeState =
     record { most = t.most; stored = stored_as c.args.node (blocks t.stored) ∷ t.stored } in u)
     c.self.view_is

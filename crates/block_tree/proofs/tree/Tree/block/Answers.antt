@@ -3,7 +3,7 @@ use Rattle.std.specs.Prelude.{option_map}
 use Rattle.std.proofs.lemmas.List.{length-reverse}
 use Rattle.definitions.specs.Trees.{TreeState}
 use Rattle.block_tree.specs.declared.node.Node.{Node}
-use Rattle.block_tree.specs.Nodes.{stored_of}
+use Rattle.block_tree.specs.Nodes.{all_stored_as}
 use Rattle.block_tree.specs.Finding.{kept, kept_of, stored_in}
 use Rattle.block_tree.specs.Numbers.{stored_number}
 use Rattle.block_tree.proofs.Kept.{stored-count, reverse-twice}
@@ -38,7 +38,7 @@ returns c =
     let d = c.args.digest.now in
     let k = c.in_ok-number.number in
     let x = c.index.result.now in
-    let number : stored_number d (stored_of (reverse items)) ≡ Some k =
+    let number : stored_number d (all_stored_as (reverse items)) ≡ Some k =
     ap (λ (t : TreeState). stored_number d t.stored) c.self.view_is ∙ sym c.in_ok-number.ensures in
     subst (λ (t : TreeState). Some (kept x) ≡ option_map kept_of (stored_in d t.stored)) c.self.view_is
     (number-kept (reverse items) c.self.invariant.kept.nodes d k x number

@@ -4,7 +4,7 @@ use Rattle.definitions.specs.Checks.{identity_of}
 use Rattle.definitions.specs.Keyrings.{Keys}
 use Rattle.definitions.specs.Chronicles.{Chronicle}
 use Rattle.definitions.specs.Replicas.{Replica}
-use Rattle.replica.specs.Steps.{Sent, Held, Stepped, standing_of}
+use Rattle.replica.specs.Steps.{SentBytes, Held, Stepped, standing_of}
 use Rattle.replica.specs.StepsTo.{IsWholeOf}
 use Rattle.replica.specs.Inputs.{input_of}
 use Rattle.replica.proofs.Whole.{goes-on, kept-from, stepped-from, stepped-not, grows-from}
@@ -48,7 +48,7 @@ returns-clause-stepped c =
     (c.standing-self-inside.ensures (length c.advance-taken.new.executor)) in
     subst (λ (k : Keys). Stepped (identity_of k) (input_of c.args.input) c.args.self.now.replica
     c.into_answer.result new) (ap (λ (h : Held). h.keys) c.self.view_is)
-    (subst (λ (x : Result (List Sent) Fault). Stepped (identity_of r.keyring) (input_of c.args.input)
+    (subst (λ (x : Result (List SentBytes) Fault). Stepped (identity_of r.keyring) (input_of c.args.input)
     c.args.self.now.replica x new) (sym c.into_answer.ensures) step)
 
 pub returns-clause-grows : goal.returns-clause-grows

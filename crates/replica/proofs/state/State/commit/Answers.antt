@@ -4,7 +4,7 @@ use Rattle.definitions.specs.Trees.{Stored}
 use Rattle.replica.specs.declared.stored.StoredStep.{StoredStep}
 use Rattle.replica.specs.Replay.{step_of, replay}
 use Rattle.vote_collector.specs.Collecting.{Collected}
-use Rattle.replica.specs.Kept.{Kept}
+use Rattle.replica.specs.Kept.{StateParts}
 use Rattle.replica.specs.Changes.{grown, left_above, changed}
 use Rattle.replica.proofs.Replaying.{replay-push, before-grown}
 use Rattle.replica.proofs.state.State.commit.Goals as goal
@@ -39,4 +39,4 @@ returns-clause-made c =
       pace = c.unwrap_or-self-inside.ensures i;
       votes = votes i;
       pending = c.in_ok-grow.ensures.pended i;
-    }) ∙ ap (λ (k : Kept). changed d k) c.self.view_is
+    }) ∙ ap (λ (k : StateParts). changed d k) c.self.view_is

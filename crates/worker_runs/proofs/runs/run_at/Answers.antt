@@ -1,7 +1,7 @@
 use Rattle.std.proofs.Common.{rules}
 use Rattle.marks.proofs.Owners.{all_owners}
 use Rattle.worker_runs.proofs.LastEye.{last_eye}
-use Rattle.worker_runs.proofs.runs.run.Goals as goal
+use Rattle.worker_runs.proofs.runs.run_at.Goals as goal
 
 pub stations-requires-clause-owners : goal.stations-requires-clause-owners
 stations-requires-clause-owners g c =
