@@ -22,9 +22,9 @@ enum Reply {
     Deleted,
     Number(u64),
     Values(Vec<(Vec<u8>, u32, Vec<u8>, u64)>, bool),
-    NoRoom,
-    TooLong,
-    NoNumber,
+    OutOfMemory,
+    TooLarge,
+    NonNumeric,
 }
 
 #[derive(Clone, Copy)]
