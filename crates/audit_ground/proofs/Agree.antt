@@ -141,9 +141,12 @@ pub some-agreement : SomeAgreement
 some-agreement = record {
   sizes = sizes;
   judged = judged;
-  four = refl;
-  are_judged = can-be_judged replicas (omega arith) refl (omega arith, (omega arith, (omega arith, tt))) kept;
-  kept = member-kept replicas kept;
+  of_four = record {
+    four = refl;
+    are_judged =
+        can-be_judged replicas (omega arith) refl (omega arith, (omega arith, (omega arith, tt))) kept;
+    kept = member-kept replicas kept;
+  };
   apart = apart-from (cores 0) cores-apart replicas (shared-among, (shared-among, (shared-among, tt)));
   backed = backed;
   executed = executed-one;

@@ -213,9 +213,12 @@ pub some-circle : SomeCircle
 some-circle = record {
   sizes = sizes;
   judged = judged;
-  four = refl;
-  are_judged = can-be_judged replicas (omega arith) refl (omega arith, (omega arith, (omega arith, tt))) kept;
-  kept = member-kept replicas kept;
+  of_four = record {
+    four = refl;
+    are_judged =
+        can-be_judged replicas (omega arith) refl (omega arith, (omega arith, (omega arith, tt))) kept;
+    kept = member-kept replicas kept;
+  };
   fronts = steps_in turns;
   are_fronts = fronts;
   lengths = front-lengths;

@@ -195,9 +195,12 @@ pub some-fork : SomeFork
 some-fork = record {
   sizes = sizes;
   judged = judged;
-  four = refl;
-  are_judged = can-be_judged replicas (omega arith) refl (omega arith, (omega arith, (omega arith, tt))) kept;
-  kept = member-kept replicas kept;
+  of_four = record {
+    four = refl;
+    are_judged =
+        can-be_judged replicas (omega arith) refl (omega arith, (omega arith, (omega arith, tt))) kept;
+    kept = member-kept replicas kept;
+  };
   apart = apart-from all_cores cores-apart replicas (first-among, (second-among, (second-among, tt)));
   differ = differ;
   receiver = 1;

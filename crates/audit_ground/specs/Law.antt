@@ -147,13 +147,17 @@ EachForkHasAReason =
 abbrev pub EachAuditAnswers : Type 0
 EachAuditAnswers = (sizes : Sizes) (ks : Judged) → AreJudged sizes ks → (v : Verdict) × IsVerdict ks v
 
+-- judged replicas of four, each kept well
+pub record AreOfFour (sizes : Sizes) (judged : Judged) : Type 0 where
+  pub four : replicas sizes ≡ 4
+  pub are_judged : AreJudged sizes judged
+  pub kept : (m : Member) → Among m judged → IsLawfullyKept sizes m.replica.chronicle
+
 -- Three of four replicas, each kept well, that executed something; no cores collide, and no vote is unbacked.
 pub record SomeAgreement : Type 0 where
   pub sizes : Sizes
   pub judged : Judged
-  pub four : replicas sizes ≡ 4
-  pub are_judged : AreJudged sizes judged
-  pub kept : (m : Member) → Among m judged → IsLawfullyKept sizes m.replica.chronicle
+  pub of_four : AreOfFour sizes judged
   pub apart : NoCollision (KnownTo judged)
   pub backed : NoneUnbacked judged
   pub executed : (m : Member) → Among m judged → 0 < length (held_history m.replica)
@@ -163,9 +167,7 @@ pub record SomeAgreement : Type 0 where
 pub record SomeFork : Type 0 where
   pub sizes : Sizes
   pub judged : Judged
-  pub four : replicas sizes ≡ 4
-  pub are_judged : AreJudged sizes judged
-  pub kept : (m : Member) → Among m judged → IsLawfullyKept sizes m.replica.chronicle
+  pub of_four : AreOfFour sizes judged
   pub apart : NoCollision (KnownTo judged)
   pub differ : HistoriesAgree judged → ⊥
   pub receiver : ℕ
@@ -179,9 +181,7 @@ pub record SomeFork : Type 0 where
 pub record SomeCircle : Type 0 where
   pub sizes : Sizes
   pub judged : Judged
-  pub four : replicas sizes ≡ 4
-  pub are_judged : AreJudged sizes judged
-  pub kept : (m : Member) → Among m judged → IsLawfullyKept sizes m.replica.chronicle
+  pub of_four : AreOfFour sizes judged
   pub fronts : Cut
   pub are_fronts : AreFronts judged fronts
   pub lengths : (fronts 1 ≡ 1) × (fronts 2 ≡ 2) × (fronts 3 ≡ 3)

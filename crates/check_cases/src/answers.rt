@@ -31,15 +31,21 @@ fn tell_voters(voters: &[ReplicaId], text: &mut String) -> Result<(), Fault> {
     Ok(())
 }
 
+/// Tells `ok` or the number of the refusal, and gives what passed.
+fn passed<V: Drop>(checked: Result<V, Fault>, text: &mut String) -> Result<Option<V>, Fault> {
+    match &checked {
+        Ok(_) => text.push_str("ok")?,
+        Err(fault) => write!(text, "{}", fault.number())?,
+    }
+    Ok(checked.ok())
+}
+
 /// A frame without a certificate.
 fn tell_plain<V: Authenticated + Drop>(
     checked: Result<Checked<V>, Fault>,
     text: &mut String,
 ) -> Result<(), Fault> {
-    match checked {
-        Ok(_) => text.push_str("ok")?,
-        Err(fault) => write!(text, "{}", fault.number())?,
-    }
+    passed(checked, text)?;
     Ok(())
 }
 
@@ -48,15 +54,9 @@ fn tell_certified<V: Certified + Drop>(
     checked: Result<Checked<V>, Fault>,
     text: &mut String,
 ) -> Result<(), Fault> {
-    match checked {
-        Ok(checked) => {
-            text.push_str("ok")?;
-            tell_voters(checked.counted(), text)
-        }
-        Err(fault) => {
-            write!(text, "{}", fault.number())?;
-            Ok(())
-        }
+    match passed(checked, text)? {
+        Some(checked) => tell_voters(checked.counted(), text),
+        None => Ok(()),
     }
 }
 
@@ -65,18 +65,16 @@ fn tell_block<V: CarriesBlock + Drop>(
     checked: Result<Checked<V>, Fault>,
     text: &mut String,
 ) -> Result<(), Fault> {
-    match checked {
-        Ok(checked) => {
-            text.push_str("ok")?;
-            tell_voters(checked.counted(), text)?;
-            text.push_str(if checked.is_clear() {
-                " clear"
-            } else {
-                " unclear"
-            })?;
-        }
-        Err(fault) => write!(text, "{}", fault.number())?,
-    }
+    let Some(checked) = passed(checked, text)? else {
+        return Ok(());
+    };
+    tell_voters(checked.counted(), text)?;
+    let clear = if checked.is_clear() {
+        " clear"
+    } else {
+        " unclear"
+    };
+    text.push_str(clear)?;
     Ok(())
 }
 

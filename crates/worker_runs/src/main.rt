@@ -19,31 +19,32 @@ use anyhow::Result;
 use bytes::Bytes;
 use ids::{Config, ReplicaId};
 use std::alloc::Global;
+use std::ops::Range;
 use std::sync::Wait;
 use std::thread::Threads;
 use std::time::Clock;
 use turns::Open;
 
-/// So many questions for a replica, each another one.
+/// The questions of these numbers for a replica.
 fn questions(
     alloc: Global,
     config: Config,
     to: ReplicaId,
-    count: u16,
+    numbers: Range<u16>,
 ) -> Result<Vec<(ReplicaId, Bytes)>>
     requires { to < replicas config }
 {
     let mut handed = Vec::new(alloc);
-    for number in 0..count {
+    for number in numbers {
         handed.push((to, frames::question(alloc, config, to, number)?))?;
     }
     Ok(handed)
 }
 
-/// Two questions for replica 0, and then a frame with a spoilt tag.
+/// Questions 1 and 2 for replica 0, and then a frame with a spoilt tag.
 fn questions_and_spoilt(alloc: Global, config: Config) -> Result<Vec<(ReplicaId, Bytes)>> {
     let spoilt = frames::spoilt(alloc, config)?;
-    let mut handed = questions(alloc, config, ReplicaId(0), 2)?;
+    let mut handed = questions(alloc, config, ReplicaId(0), 1..3)?;
     handed.push((ReplicaId(0), spoilt))?;
     Ok(handed)
 }
@@ -81,7 +82,7 @@ fn tell_calls(alloc: Global, seen: &Seen, told: &Told) -> Result<String> {
 /// The same, held where the replica is stepped: the call for frame 1 waits until that for frame 2 began.
 fn two_calls<R: Threads + Wait + Clock + Sync>(rt: &R, alloc: Global) -> Result<String> {
     let config = Config::new(1, 2)?;
-    let handed = questions(alloc, config, ReplicaId(0), 2)?;
+    let handed = questions(alloc, config, ReplicaId(0), 1..3)?;
     let seen = Seen::new(alloc, true)?;
     let until = Until::Inputs(2);
     let told = run(rt, alloc, config, 0..1, &Open, &seen, handed, until)?;
@@ -126,7 +127,7 @@ fn tell_each(alloc: Global, seen: &Seen, told: &Told) -> Result<String> {
 /// to replica 2, and one to client 0.
 fn each_once<R: Threads + Wait + Clock + Sync>(rt: &R, alloc: Global) -> Result<String> {
     let config = Config::new(1, 2)?;
-    let handed = questions(alloc, config, ReplicaId(1), 1000)?;
+    let handed = questions(alloc, config, ReplicaId(1), 0..1000)?;
     let seen = Seen::new(alloc, false)?;
     seen.answer_with(rt, frames::answers(alloc, config)?);
     let until = Until::Inputs(1005);

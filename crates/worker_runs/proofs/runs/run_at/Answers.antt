@@ -1,6 +1,5 @@
 use Rattle.std.proofs.Common.{rules}
-use Rattle.marks.proofs.Owners.{all_owners}
-use Rattle.worker_runs.proofs.LastEye.{last_eye}
+use Rattle.marks.proofs.Owners.{all_owners, last_eye}
 use Rattle.worker_runs.proofs.runs.run_at.Goals as goal
 
 pub stations-requires-clause-owners : goal.stations-requires-clause-owners
