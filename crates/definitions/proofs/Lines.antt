@@ -22,7 +22,7 @@ use Rattle.definitions.specs.Requests.{Verb, set, add, replace, append, prepend,
 use Rattle.definitions.specs.Requests.{gets, delete, incr, decr, takes_noreply, crlf, space, verb_name}
 use Rattle.definitions.specs.Requests.{fields, noreply_field, line, IsKey, AreKeys, HasForm, MayHave}
 use Rattle.definitions.specs.Items.{HasNoEnd, IsLineOf}
-use Rattle.definitions.specs.Canonical.{is_key}
+use Rattle.definitions.specs.Canonical.{is_key_byte, is_key}
 
 -- ---- the bytes of a field
 
@@ -270,7 +270,7 @@ key_passes key e =
       leb-true _ _ q.1,
       λ i d within.
           let byte = and_parts _ _ (AllPass-from_list_all
-          (λ b. nat_le 33 b && nat_lt b 256 && not (b == 127)) key p.1 i d within) in
+          is_key_byte key p.1 i d within) in
           let range = and_parts _ _ byte.0 in
           (leb-true _ _ range.0, ltb-true _ _ range.1, eqb-false _ _ (not-true _ byte.1)),
     )
@@ -279,7 +279,7 @@ key_passes key e =
 pub is_key-passes : (key : Bytes) → IsKey key → is_key key ≡ true
 is_key-passes key is =
     and_from _ _ (and_from _ _ (le-leb _ _ is.0) (le-leb _ _ is.1))
-    (list_all-from_AllPass (λ b. nat_le 33 b && nat_lt b 256 && not (b == 127)) key
+    (list_all-from_AllPass is_key_byte key
     (λ i d within. let byte =
     is.2 i d within in
     and_from _ _ (and_from _ _ (le-leb _ _ byte.0) (lt-ltb _ _ byte.1)) (ap not (ne_eqb _ 127 byte.2))))
@@ -306,9 +306,9 @@ is_form (incr key value) = is_key key && nat_lt value (2 ^ 64)
 is_form (decr key value) = is_key key && nat_lt value (2 ^ 64)
 
 -- the test of all keys decides them
-are_keys : (keys : List Bytes)
+keys_are : (keys : List Bytes)
     → (nat_le 1 (length keys) && nat_le (length keys) 16 && list_all is_key keys) ≡ true → AreKeys keys
-are_keys keys e =
+keys_are keys e =
     let p =
     and_parts _ _ e in let q = and_parts _ _ p.0 in (leb-true _ _ q.0, leb-true _ _ q.1, keys_pass keys p.1)
 
@@ -328,8 +328,8 @@ form_passes (cas key flags bytes cas_unique) e =
     and_parts _ _ e in let p =
     and_parts _ _ o.0 in let q =
     and_parts _ _ p.0 in (key_passes key q.0, ltb-true _ _ q.1, ltb-true _ _ p.1, ltb-true _ _ o.1)
-form_passes (get keys) e = are_keys keys e
-form_passes (gets keys) e = are_keys keys e
+form_passes (get keys) e = keys_are keys e
+form_passes (gets keys) e = keys_are keys e
 form_passes (delete key) e = key_passes key e
 form_passes (incr key value) e = let p = and_parts _ _ e in (key_passes key p.0, ltb-true _ _ p.1)
 form_passes (decr key value) e = let p = and_parts _ _ e in (key_passes key p.0, ltb-true _ _ p.1)

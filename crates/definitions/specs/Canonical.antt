@@ -32,11 +32,17 @@ guesses payload =
     ∷ get keys ∷ gets keys
     ∷ delete (field 1) ∷ incr (field 1) (number 2) ∷ decr (field 1) (number 2) ∷ []
 
+-- the test of a byte of a key
+abbrev pub is_key_byte : ℕ → Bool
+is_key_byte b = nat_le 33 b && nat_lt b 256 && not (b == 127)
+
 -- the test of a key
 abbrev pub is_key : Bytes → Bool
-is_key key =
-    nat_le 1 (length key) && nat_le (length key) MOST_KEY
-    && list_all (λ b. nat_le 33 b && nat_lt b 256 && not (b == 127)) key
+is_key key = nat_le 1 (length key) && nat_le (length key) MOST_KEY && list_all is_key_byte key
+
+-- the test of the keys of one retrieval
+abbrev pub are_keys : List Bytes → Bool
+are_keys keys = nat_le 1 (length keys) && nat_le (length keys) MOST_ASKED && list_all is_key keys
 
 -- the test of a whole request
 abbrev pub is_request : Asked → Bool
@@ -44,8 +50,8 @@ is_request (store verb key flags stored) =
     is_key key && nat_lt flags (2 ^ 32) && nat_le (length stored) MOST_DATA
 is_request (cas key flags stored cas_unique) =
     is_key key && nat_lt flags (2 ^ 32) && nat_le (length stored) MOST_DATA && nat_lt cas_unique (2 ^ 64)
-is_request (get keys) = nat_le 1 (length keys) && nat_le (length keys) MOST_ASKED && list_all is_key keys
-is_request (gets keys) = nat_le 1 (length keys) && nat_le (length keys) MOST_ASKED && list_all is_key keys
+is_request (get keys) = are_keys keys
+is_request (gets keys) = are_keys keys
 is_request (delete key) = is_key key
 is_request (incr key value) = is_key key && nat_lt value (2 ^ 64)
 is_request (decr key value) = is_key key && nat_lt value (2 ^ 64)

@@ -1,5 +1,5 @@
 -- The fields of a line, read one after the other: what the steps of the reader give.
-use Rattle.std.specs.Prelude.{ℕ, zero, suc, ◌^◌, Bool, true, false, ◌&&◌, not, List, [], ◌∷◌, nat_lt}
+use Rattle.std.specs.Prelude.{ℕ, zero, suc, ◌^◌, Bool, true, false, ◌&&◌, List, [], ◌∷◌, nat_lt}
 use Rattle.std.specs.Prelude.{nat_le, ◌==◌, codes, bytes_eq, Option, Some, None, if◌then◌else◌}
 use Rattle.std.specs.Prelude.{option_and_then}
 use Rattle.std.specs.List.{slice_split}
@@ -18,10 +18,6 @@ parts l = slice_split (λ b. b == space) l
 abbrev pub parts_after : Option (Bor Bytes) → List Bytes
 parts_after None = []
 parts_after (Some rest) = parts rest.now
-
--- the test of a byte of a key
-abbrev pub is_key_byte : ℕ → Bool
-is_key_byte b = nat_le 33 b && nat_lt b 256 && not (b == 127)
 
 -- at least one key, and at most so many
 abbrev pub keys_pass : ℕ → List Bytes → Bool

@@ -1,7 +1,7 @@
 ghost use Rattle.std.specs.Prelude.{◌≡◌};
 ghost use Rattle.std.specs.List.{list_all};
-ghost use Rattle.definitions.specs.Canonical.{is_key};
-ghost use Rattle.mc_lines.specs.Fields.{parts, is_key_byte, keys_pass};
+ghost use Rattle.definitions.specs.Canonical.{is_key, is_key_byte};
+ghost use Rattle.mc_lines.specs.Fields.{parts, keys_pass};
 ghost use Rattle.mc_lines.specs.Meaning.{keys_of, keys_left};
 
 use crate::fields::cut;

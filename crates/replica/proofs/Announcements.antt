@@ -37,7 +37,8 @@ use Rattle.replica.specs.Announcements.{new_view_sent, timeout_change, IsTimeout
 use Rattle.replica.specs.Announcements.{IsAnnounced, IsNewViewAt, IsNewView}
 use Rattle.replica.specs.StepsTo.{Follows, StepsTo, answer, after}
 use Rattle.replica.proofs.Steps.{shown-if, is_beat, collects, BringsKnown, refused-for-memory, stands, asks}
-use Rattle.replica.proofs.Stays.{calm, same-some, AreHigh, raise-is, variables-calm, variables-noted}
+use Rattle.std.proofs.lemmas.Option.{same_Some}
+use Rattle.replica.proofs.Stays.{calm, AreHigh, raise-is, variables-calm, variables-noted}
 
 -- ---- a timeout
 
@@ -183,7 +184,7 @@ module _ (keys : Keys) (c : Chronicle) (n : GotNewView) (b : Branch)
   new-view-brings : BringsKnown keys.sizes (noted note) c
   new-view-brings q e =
       let k : record { block = b; certificate = n.certificate } ≡ q =
-      same-some (record { block = b; certificate = n.certificate }) q (sym brought ∙ e) in
+      same_Some (record { block = b; certificate = n.certificate }) q (sym brought ∙ e) in
       subst (λ (j : Justified). Among j.block (tree (noted note ∷ c))) k
       (tree-grows (noted note) c b (found-in n.certificate.digest (tree c) b found).0)
 

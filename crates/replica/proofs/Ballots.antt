@@ -36,10 +36,11 @@ use Rattle.replica.specs.Ballots.{vote_noted, vote_counted, vote_change, IsVoteA
 use Rattle.replica.specs.StepsTo.{Follows, StepsTo, answer, after}
 use Rattle.pacemaker.proofs.Reached.{paced-still}
 use Rattle.replica.proofs.Steps.{is_beat, BringsKnown, refused-for-memory, stands-with, asks}
-use Rattle.replica.proofs.Stays.{calm, same-some, leaf-same, leaf-raised, variables-noted}
+use Rattle.std.proofs.lemmas.Option.{same_Some}
+use Rattle.replica.proofs.Stays.{calm, leaf-same, leaf-raised, variables-noted}
 
 made-by : (t : Bool) (p q : Justified) → cond t (Some p) None ≡ Some q → p ≡ q
-made-by true p q e = same-some p q e
+made-by true p q e = same_Some p q e
 made-by false p q e = absurd (let k : None ≡ Some q = e in cc)
 
 module _ (keys : Keys) (c : Chronicle) (s : StateParts) (is : IsStateOf keys c s) (d : Bytes) (vote : Vote)

@@ -50,7 +50,8 @@ use Rattle.replica.specs.StepsTo.{Follows, halts, answer, after}
 use Rattle.pacemaker.proofs.Reached.{paced-still}
 use Rattle.replica.proofs.Steps.{shown-if, is_beat, collects, BringsKnown, refused-for-memory}
 use Rattle.replica.proofs.Steps.{refused-for-conflict, stands as stood, asks}
-use Rattle.replica.proofs.Stays.{same-some, qc-same, AreHigh, raise-is, unraised, proposed-same, calm}
+use Rattle.std.proofs.lemmas.Option.{same_Some}
+use Rattle.replica.proofs.Stays.{qc-same, AreHigh, raise-is, unraised, proposed-same, calm}
 
 -- ---- the step that takes a block
 
@@ -328,7 +329,7 @@ new-brings : (keys : Keys) (c : Chronicle) (o : Offered) (b : Branch)
 unfolding raised admitted tree stored_blocks Rattle.definitions.specs.Chronicles.taken_blocks
 new-brings keys c o b so q e =
     let k : record { block = just1 b; certificate = o.certificate } ≡ q =
-    same-some (record { block = just1 b; certificate = o.certificate }) q e in
+    same_Some (record { block = just1 b; certificate = o.certificate }) q e in
     subst (λ (j : Justified). Among j.block (b ∷ tree c)) k
     (tree-below (b ∷ tree c) so.is_tree b (just1 b) (inl refl) (just1-extends b))
 

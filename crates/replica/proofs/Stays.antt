@@ -69,9 +69,6 @@ leaf-raised self st c q n e h =
 
 -- ---- a certificate that is brought
 
-pub same-some : {A : Type 0} (x y : A) → Some x ≡ Some y → x ≡ y
-same-some x y e = cc
-
 -- highest certificate and leaf after a raise
 pub record AreHigh (keys : Keys) (st : Step) (c : Chronicle) (r : Option High) : Type 0 where
   pub high : unwrap_or r (high_of (qc_high keys.sizes c)) ≡ high_of (qc_high keys.sizes (st ∷ c))
