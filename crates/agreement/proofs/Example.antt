@@ -52,8 +52,8 @@ only-itself : (parent x : Branch) → Extends (on parent) x → length (just1 (o
 only-itself parent x e h =
     elim (extends-cases _ parent x e) [
       | inl i ↦ sym i
-      | inr k ↦ absurd (omega
-          (arith, h, length-extends parent x k, ap (λ (z : Branch). length z) (just1-on parent)))
+      | inr k ↦ absurd (
+          omega (arith, h, length-extends parent x k, ap (λ (z : Branch). length z) (just1-on parent)))
     ]
 
 -- what is lower does not stand among

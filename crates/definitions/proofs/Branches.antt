@@ -125,8 +125,8 @@ extends-between [] x y (c ∷ added, e) h l = absurd (nil (sym e))
     nil : [] ≡ c ∷ (added ++ x) → ⊥
     nil k = cc
 extends-between (d ∷ b) x y (c ∷ added, e) ([], k) l =
-    absurd (let m = length-extends b x (added, (cc)) in let n = ap (λ (z : Branch). length z) k in omega
-    (arith, m, n, l))
+    absurd (let m = length-extends b x (added, (cc)) in let n = ap (λ (z : Branch). length z) k in
+    omega (arith, m, n, l))
 extends-between (d ∷ b) x y (c ∷ added, e) (f ∷ more, k) l =
     extends-between b x y (added, (cc)) (more, (cc)) l
 

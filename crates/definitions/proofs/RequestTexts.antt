@@ -201,8 +201,7 @@ data_found l stored =
     let front : drop (length l + 2) (l ++ crlf ++ (stored ++ crlf)) ≡ stored ++ crlf =
     drop_at (l ++ crlf) (stored ++ crlf) (length l + 2) (length-append l crlf) in
     let long : length (l ++ crlf ++ (stored ++ crlf)) - length l - 4 ≡ length stored =
-    omega
-    (arith, length-append (l ++ crlf) (stored ++ crlf), length-append l crlf, length-append stored crlf)
+    omega (arith, length-append (l ++ crlf) (stored ++ crlf), length-append l crlf, length-append stored crlf)
     in
     rw (front, long) (take_at stored crlf (length stored) refl)
 
@@ -344,8 +343,7 @@ pub length-canonical : (r : Asked) → IsRequest r false → length (canonical r
 length-canonical (store verb key flags stored) is =
     let few =
     length_store verb key flags (length stored) is.0.0 is.0.1 is.2 in
-    omega
-    (arith, few, is.2, length-spelling (store verb key flags stored) false, length-append stored crlf)
+    omega (arith, few, is.2, length-spelling (store verb key flags stored) false, length-append stored crlf)
 length-canonical (cas key flags stored cas_unique) is =
     let few =
     length_cas key flags (length stored) cas_unique is.0.0 is.0.1 is.2 is.0.3 in

@@ -239,8 +239,7 @@ module _ {X : Type 0} (P : X → Type 0) (spell : X → Bytes) (read : Reader X)
             let g = exact'.found x.1 y.0 y.1 (rest_fits bytes x.0 x.1 fits a.1) b.1 in
             let parts : bytes ≡ (spell x.0 ++ spell' y.0) ++ y.1 =
             f.1
-            ∙ (ap (λ (l : Bytes). spell x.0 ++ l) g.1 ∙ sym (append_assoc (spell x.0) (spell' y.0) y.1))
-            in
+            ∙ (ap (λ (l : Bytes). spell x.0 ++ l) g.1 ∙ sym (append_assoc (spell x.0) (spell' y.0) y.1)) in
             subst
             (λ (q : (X × Y) × Bytes). (P q.0.0 × Q q.0.1) × (bytes ≡ (spell q.0.0 ++ spell' q.0.1) ++ q.1))
             b.2 ((f.0, g.0), parts);

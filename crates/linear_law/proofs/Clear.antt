@@ -67,8 +67,7 @@ justified-vote fam co p a mp m =
           let v = quorum-member fam.sizes fam.is_member a.counted co.enough q.0 q.1 q.2 in
           let vote = counted-voted fam.is_member co.orderly.order co.orderly.ordered p a
           (subst (λ (c : Chronicle). Among a (taken_blocks c)) (sym (co.orderly.whole p mp)) m) t.2 v.0 v.1
-          v.2
-          in
+          v.2 in
           inl (
             v.0,
             v.2,

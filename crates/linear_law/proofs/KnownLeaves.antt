@@ -115,8 +115,7 @@ module _ (Known : Core → Type 0) (apart : NoCollision Known) (genesis : Known 
       sent (to_all, proposal_frame self (view self.sizes c) j)
       (subst
       (λ (s : Step). Among (to_all, proposal_frame self (view self.sizes c) j) (sendings self s c))
-      (sym beats) m) (core_of x) (proposal-core self (view self.sizes c) j) (made-core self c x g k e)
-      in
+      (sym beats) m) (core_of x) (proposal-core self (view self.sizes c) j) (made-core self c x g k e) in
       subst (AllKnown Known) (sym ch.is) (subst (λ (y : Branch). Known (core_of y)) ch.is here, k.known)
 
   -- both

@@ -302,8 +302,7 @@ module _ (keys : Keys) (i : Input) (c : Chronicle) (h : History) (before : h ≡
         fails fault.Memory,
       ) in
       let by : Bool → Bool → Replica × Reaction =
-      λ x y. cond x (stopped_at c, fails fault.Conflict) (cond y cut (stopped_at c, fails fault.Memory))
-      in
+      λ x y. cond x (stopped_at c, fails fault.Conflict) (cond y cut (stopped_at c, fails fault.Memory)) in
       let executing : executes st c ≡ true = lt-ltb (length (history c)) (length (history (st ∷ c))) some in
       let done : on_ruling self (refused_after more) (ruling self i c) c ≡ cut =
       ap (λ (v : Ruling). on_ruling self (refused_after more) v c) t.is_due

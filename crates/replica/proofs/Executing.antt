@@ -403,8 +403,7 @@ module _ (sizes : Sizes) (c : Chronicle) (so : IsSound sizes c) (x : Branch) (m 
       let first = (let a =
       length-append (entries blocks) (history_of (beginning from x)) in let e =
       ap (λ (z : History). length z) up-to in
-      let r : length (history_of (beginning from x)) ≤ length prior = omega (arith, a, e) in r)
-      in
+      let r : length (history_of (beginning from x)) ≤ length prior = omega (arith, a, e) in r) in
       let taken = length-append (reverse (map entry_of (take k.count cs))) prior in
       let count = length-reverse (map entry_of (take k.count cs)) ∙ length-map (take k.count cs) entry_of in
       let most : k.count ≤ length cs = subst (λ (z : List Command). k.count ≤ length z) cs-are k.most in

@@ -22,8 +22,7 @@ overflow_sub-bytes c =
     let left : behind_rising rank (vote_in (replicas sizes)) 0 c.args.count c.args.bytes.now
     ≡ Some c.in_ok-rest.rest.now =
     sym (c.in_ok-rest.ensures
-    ∙ ap (λ (n : ℕ). behind_rising rank (vote_in n) 0 c.args.count c.args.bytes.now) c.n.ensures.count)
-    in
+    ∙ ap (λ (n : ℕ). behind_rising rank (vote_in n) 0 c.args.count c.args.bytes.now) c.n.ensures.count) in
     rising_shorter (IsVote sizes) vote_bytes (vote_in (replicas sizes)) (IsExact-vote sizes (few, none))
     rank c.args.count c.args.bytes.now c.in_ok-rest.rest.now
     (λ i. omega (arith, c.type_inv.bytes i)) left
@@ -38,8 +37,7 @@ returns-clause-left c =
     let left : behind_rising rank (vote_in (replicas sizes)) 0 c.args.count c.args.bytes.now
     ≡ Some c.in_ok-rest.rest.now =
     sym (c.in_ok-rest.ensures
-    ∙ ap (λ (n : ℕ). behind_rising rank (vote_in n) 0 c.args.count c.args.bytes.now) c.n.ensures.count)
-    in
+    ∙ ap (λ (n : ℕ). behind_rising rank (vote_in n) 0 c.args.count c.args.bytes.now) c.n.ensures.count) in
     let some : List ℕ → Option (List ℕ) = λ rest. Some rest in
     ap some (c.split.ensures.value.1
     ∙ rising_left (IsVote sizes) vote_bytes (vote_in (replicas sizes)) (IsExact-vote sizes (few, none))
@@ -56,8 +54,7 @@ returns-clause-taken c =
     let left : behind_rising rank (vote_in (replicas sizes)) 0 c.args.count c.args.bytes.now
     ≡ Some c.in_ok-rest.rest.now =
     sym (c.in_ok-rest.ensures
-    ∙ ap (λ (n : ℕ). behind_rising rank (vote_in n) 0 c.args.count c.args.bytes.now) c.n.ensures.count)
-    in
+    ∙ ap (λ (n : ℕ). behind_rising rank (vote_in n) 0 c.args.count c.args.bytes.now) c.n.ensures.count) in
     subst (IsRead vote_bytes (vote_in (replicas sizes)) c.args.count c.args.bytes.now)
     (sym c.split.ensures.value.0)
     (rising_read (IsVote sizes) vote_bytes (vote_in (replicas sizes)) (IsExact-vote sizes (few, none)) rank

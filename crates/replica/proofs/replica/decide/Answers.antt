@@ -93,8 +93,7 @@ returns-in-Beat-clause-decided c c' w =
     let few : length c' < 2 ^ 63 =
     (let n =
     length-replay (reverse items) c.state.inside.tree.stored in let r =
-    length-reverse items in let k = c.state.inside.steps.ok.0 in omega (arith, chronicle, n, r, k))
-    in
+    length-reverse items in let k = c.state.inside.steps.ok.0 in omega (arith, chronicle, n, r, k)) in
     rw c.in-Beat.is (beat-decided c.args.keyring.now c' c.args.state.now c.decide_beat.result few
     c.decide_beat.ensures.made c.decide_beat.ensures.memory o)
 

@@ -20,8 +20,7 @@ returns-then-last_seq-seq c =
       c.seq-2.view_is,
       c.last_seq.ensures ∙ ap (λ k. last_seq k h) c.client.ensures,
       c.seq.ensures,
-    ))
-    in
+    )) in
     subst (IsRequestedIf c.args.keyring.now c.args.state.now h r c.wait.result) (sym due) c.wait.ensures
 
 pub returns-else-last_seq-seq : goal.returns-else-last_seq-seq
@@ -37,8 +36,7 @@ returns-else-last_seq-seq c =
       c.seq-2.view_is,
       c.last_seq.ensures ∙ ap (λ k. last_seq k h) c.client.ensures,
       c.seq.ensures,
-    ))
-    in
+    )) in
     subst (IsRequestedIf c.args.keyring.now c.args.state.now h r c.repeat.result) (sym late)
     (or-memory c.repeat.result (old_change c.args.keyring.now c.args.state.now h r) c.repeat.ensures.made
     c.repeat.ensures.memory)

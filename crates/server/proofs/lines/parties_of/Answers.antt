@@ -41,8 +41,7 @@ loop-left-preserved c =
     ap (list_any (λ q. nat_eq q c.in-Some-party_of.party)) (sym c.deref.ensures.value)
     ∙ sym c.contains.ensures.value ∙ c.if-contains.false in
     let fit : AreParties (c.loop-left.parties.items ++ c.in-Some-party_of.party ∷ []) =
-    once_more c.loop-left.parties.items c.in-Some-party_of.party c.loop-left.invariant.fit party.0 absent
-    in
+    once_more c.loop-left.parties.items c.in-Some-party_of.party c.loop-left.invariant.fit party.0 absent in
     rw c.in_ok-push.ensures.items record {
       fit = fit;
       spell = more_spelled c.loop-left.parties.items c.in-Some-party_of.party _ c.in-Some.fields.now _ _

@@ -8,8 +8,7 @@ use Rattle.pacemaker.proofs.pacemaker.Pacemaker.on_new_view.Goals as goal
 pub returns-then-moves-clause-paced : goal.returns-then-moves-clause-paced
 returns-then-moves-clause-paced c c' q b o =
     let most : replicas c.args.self.now.sizes ≤ MOST_REPLICAS =
-    omega
-    (arith, c.n-n.ensures.count, c.n-n.ensures.most, ap (λ (p : Pace). replicas p.sizes) c.self.view_is)
+    omega (arith, c.n-n.ensures.count, c.n-n.ensures.most, ap (λ (p : Pace). replicas p.sizes) c.self.view_is)
     in
     let greater : c.reached-reached.result ≡ max c.note.new.self.view c.reached-reached.result =
     omega (arith, c.if-moves.true, ap (λ (p : Pace). p.view) c.self-2.view_is) in
@@ -21,8 +20,7 @@ returns-then-moves-clause-paced c c' q b o =
 pub returns-else-moves-clause-paced : goal.returns-else-moves-clause-paced
 returns-else-moves-clause-paced c c' q b o =
     let most : replicas c.args.self.now.sizes ≤ MOST_REPLICAS =
-    omega
-    (arith, c.n-n.ensures.count, c.n-n.ensures.most, ap (λ (p : Pace). replicas p.sizes) c.self.view_is)
+    omega (arith, c.n-n.ensures.count, c.n-n.ensures.most, ap (λ (p : Pace). replicas p.sizes) c.self.view_is)
     in
     let greater : c.note.new.self.view ≡ max c.note.new.self.view c.reached-reached.result =
     omega (arith, c.if-moves.false, ap (λ (p : Pace). p.view) c.self-2.view_is) in
