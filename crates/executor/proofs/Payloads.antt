@@ -1,5 +1,6 @@
 -- The rows of entries, and their payloads, after one more entry.
-use Rattle.std.proofs.Common.{ℕ, suc, ◌≡◌, ◌≤◌, ◌+◌, ◌-◌, List, [], ◌∷◌, ◌++◌, length, take, drop, refl, ap, ◌∙◌, arith}
+use Rattle.std.proofs.Common.{ℕ, suc, ◌≡◌, ◌≤◌, ◌+◌, ◌-◌, List, [], ◌∷◌, ◌++◌, length, take, drop, refl}
+use Rattle.std.proofs.Common.{ap, subst, ◌∙◌, arith}
 use Rattle.std.specs.List.{slice_range}
 use Rattle.std.proofs.lemmas.List.{map-append, take-append-le, drop-append-le, length-drop, take_all}
 use Rattle.std.proofs.Math.Seq.{drop-append_seam}
@@ -22,6 +23,12 @@ next-part : (first more : Bytes) (b : ℕ) → b ≡ length first + length more
 next-part first more b e = ap (take (b - length first)) (drop-append_seam first more)
     ∙ take_all (b - length first) more (omega (arith, e))
 
+-- the rows without the first
+pub rows-behind : (payloads : Bytes) (rows others : List Row) (r : Row) → rows ≡ r ∷ others
+    → AreRowsOf payloads rows → AreRowsOf payloads others
+rows-behind payloads rows others r e h k d l =
+    subst (AreRowsOf payloads) e h (suc k) d (omega (arith, l))
+
 -- the entries stay when bytes are added
 same-entries : (payloads more : Bytes) (rows : List Row) → AreRowsOf payloads rows
     → entries_in (payloads ++ more) rows ≡ entries_in payloads rows
@@ -29,7 +36,7 @@ same-entries payloads more [] h = refl
 same-entries payloads more (r ∷ rows) h =
     let lies = h 0 r (omega arith) in
     let part = first-part payloads more r.start r.end lies.0 lies.1 in
-    let others = same-entries payloads more rows (λ k d l. h (suc k) d (omega (arith, l))) in
+    let others = same-entries payloads more rows (rows-behind payloads (r ∷ rows) rows r refl h) in
     λ i. record { client = r.client; seq = r.seq; payload = part i } ∷ others i
 
 -- a row more, and its payload behind the others

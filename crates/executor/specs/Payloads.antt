@@ -16,6 +16,10 @@ entry_in payloads row = record {
 abbrev pub entries_in : Bytes → List Row → List Entry
 entries_in payloads rows = map (entry_in payloads) rows
 
+-- the row's payload lies in these
+abbrev pub LiesIn : Bytes → Row → Type 0
+LiesIn payloads row = (row.start ≤ row.end) × (row.end ≤ length payloads)
+
 -- each row's payload lies in these
 abbrev pub AreRowsOf : Bytes → List Row → Type 0
-AreRowsOf payloads rows = All (λ row. (row.start ≤ row.end) × (row.end ≤ length payloads)) rows
+AreRowsOf payloads rows = All (LiesIn payloads) rows

@@ -4,7 +4,7 @@ ghost use Rattle.std.specs.Prelude.{◌≡◌, ◌==◌, ◌<◌, ◌≤◌, ◌
 ghost use Rattle.std.specs.Prelude.{[], ◌∷◌, ◌++◌, OnOk, OnErr, IfOk};
 ghost use Rattle.definitions.specs.Cache.{apply_payload};
 ghost use Rattle.definitions.specs.Replies.{reply_text};
-ghost use Rattle.executor.specs.Payloads.{entries_in, AreRowsOf};
+ghost use Rattle.executor.specs.Payloads.{entry_in, entries_in, LiesIn, AreRowsOf};
 
 use crate::apply::{Texts, apply};
 use crate::entry::Entry;
@@ -40,6 +40,18 @@ impl Model for Entries {
     ghost view = { λ e. entries_in e.payloads.items e.rows.items };
 
     ghost invariant = { λ e. AreRowsOf e.payloads.items e.rows.items };
+}
+
+/// The entry of a row.
+fn entry_in<'a>(payloads: &'a [u8], row: &Row) -> Entry<'a>
+    requires { LiesIn payloads.now row.now }
+    ensures { result ≡ entry_in payloads.now row.now }
+{
+    Entry {
+        client: row.client,
+        seq: row.seq,
+        payload: &payloads[row.start..row.end],
+    }
 }
 
 /// Makes room for a row more, and for so many bytes of payload more.
@@ -105,11 +117,17 @@ impl Entries {
         ensures { result ≡ slice_get self.now i }
     {
         let row = self.rows.get(i)?;
-        Some(Entry {
-            client: row.client,
-            seq: row.seq,
-            payload: &self.payloads[row.start..row.end],
-        })
+        Some(entry_in(&self.payloads, row))
+    }
+
+    /// All of them, oldest first.
+    pub fn iter(&self) -> EntryIter<'_>
+        ensures { result ≡ self.now }
+    {
+        EntryIter {
+            rows: &self.rows,
+            payloads: &self.payloads,
+        }
     }
 
     /// Puts an entry last.
@@ -145,5 +163,52 @@ impl Entries {
         let texts = apply(alloc, cache, entry.payload())?;
         put_last(&mut self.rows, &mut self.payloads, entry);
         Ok(texts)
+    }
+}
+
+/// Executed commands that are left to walk.
+#[derive(Drop)]
+pub struct EntryIter<'a> {
+    rows: &'a [Row],
+    payloads: &'a [u8],
+}
+
+impl<'a> Model for EntryIter<'a> {
+    ghost use Rattle.std.specs.Prelude.{List};
+    ghost use Rattle.definitions.specs.Histories as histories;
+    ghost use Rattle.executor.specs.Payloads.{entries_in, AreRowsOf};
+
+    ghost Value = { List histories.Entry };
+
+    ghost view = { λ it. entries_in it.payloads.now it.rows.now };
+
+    ghost invariant = { λ it. AreRowsOf it.payloads.now it.rows.now };
+}
+
+impl<'a> Iterator for EntryIter<'a> {
+    type Item = Entry<'a>;
+
+    ghost use Rattle.std.specs.Iterator.{YieldsFirst, item_count};
+
+    ghost next_gives = { YieldsFirst (λ left. left) };
+
+    ghost remaining = { item_count (λ left. left) };
+
+    fn next(&mut self) -> Option<Entry<'a>> {
+        let (row, rows) = self.rows.split_first()?;
+        self.rows = rows;
+        Some(entry_in(self.payloads, row))
+    }
+}
+
+impl<'a> IntoIterator for &'a Entries {
+    type Item = Entry<'a>;
+
+    type IntoIter = EntryIter<'a>;
+
+    ghost into_iter_gives = { λ entries it. it ≡ entries.now };
+
+    fn into_iter(self) -> EntryIter<'a> {
+        self.iter()
     }
 }

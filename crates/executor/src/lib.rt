@@ -9,6 +9,6 @@ mod entry;
 mod executor;
 
 pub use answer::Answer;
-pub use entries::Entries;
+pub use entries::{Entries, EntryIter};
 pub use entry::Entry;
 pub use executor::Executor;
