@@ -1,4 +1,5 @@
 pub mod Told
 pub mod Texts
 pub mod State
+pub mod Payloads
 pub mod Blocks

@@ -25,7 +25,7 @@ impl Model for Answer {
 
 impl Answer {
     /// The answer of this text to an entry.
-    pub(crate) fn to(entry: &Entry, place: Place, text: Vec<u8>) -> Answer
+    pub(crate) fn to(entry: &Entry<'_>, place: Place, text: Vec<u8>) -> Answer
         ensures { result
             ≡ record { client = entry.now.client; seq = entry.now.seq; place = place; text = text.items } }
     {

@@ -1,42 +1,39 @@
 //! One executed command.
 
-ghost use Rattle.std.specs.Prelude.{◌≡◌, IfOk, OnErr};
+ghost use Rattle.std.specs.Prelude.{◌≡◌};
 ghost use Rattle.definitions.specs.Histories.{entry_of};
 ghost use Rattle.frames_view.specs.Views.{command_of};
 
 use frames_view::CommandView;
-use ids::{ClientId, Fault, Seq};
-use std::alloc::Global;
+use ids::{ClientId, Seq};
 use std::marker::Model;
 
-/// An executed command, without its tags. It keeps a copy of the payload.
+/// A command without its tags, as it is entered and as the history lends it.
 #[derive(Debug, Drop)]
-pub struct Entry {
-    client: ClientId,
-    seq: Seq,
-    payload: Vec<u8>,
+pub struct Entry<'a> {
+    pub(crate) client: ClientId,
+    pub(crate) seq: Seq,
+    pub(crate) payload: &'a [u8],
 }
 
-impl Model for Entry {
+impl<'a> Model for Entry<'a> {
     ghost use Rattle.definitions.specs.Histories as histories;
 
     ghost Value = { histories.Entry };
 
-    ghost view = { λ e. record { client = e.client; seq = e.seq; payload = e.payload.items } };
+    ghost view = { λ e. record { client = e.client; seq = e.seq; payload = e.payload.now } };
 }
 
-impl Entry {
-    /// Keeps a command.
-    pub(crate) fn new(alloc: Global, command: &CommandView<'_>) -> Result<Entry, Fault>
-        ensures kept { IfOk result (λ e. e ≡ entry_of (command_of command.now)) }
-        ensures memory { OnErr result (result ≡ Err Fault.Memory) }
+impl<'a> Entry<'a> {
+    /// The entry of a command.
+    pub(crate) fn of(command: &CommandView<'a>) -> Entry<'a>
+        ensures { result ≡ entry_of (command_of command.now) }
     {
-        let payload = Vec::from_slice(alloc, command.payload())?;
-        Ok(Entry {
+        Entry {
             client: command.client(),
             seq: command.seq(),
-            payload,
-        })
+            payload: command.payload(),
+        }
     }
 
     /// Whose command it is.
@@ -54,9 +51,9 @@ impl Entry {
     }
 
     /// What was asked, as it came: any bytes.
-    pub fn payload(&self) -> &[u8]
+    pub fn payload(&self) -> &'a [u8]
         ensures { result.now ≡ self.now.payload }
     {
-        &self.payload
+        self.payload
     }
 }

@@ -7,8 +7,8 @@ ghost use Rattle.frames_view.specs.Views.{command_of, commands_left};
 ghost use Rattle.executor.specs.State.{answer_at, with_commands, new_answers};
 
 use crate::answer::Answer;
-use crate::apply::apply;
 use crate::clients::Clients;
+use crate::entries::Entries;
 use crate::entry::Entry;
 use cache::Cache;
 use frames_view::{CommandView, Commands};
@@ -22,8 +22,7 @@ pub struct Executor {
     alloc: Global,
     cache: Cache,
     clients: Clients,
-    /// Oldest first.
-    entries: Vec<Entry>,
+    entries: Entries,
 }
 
 impl Model for Executor {
@@ -33,9 +32,9 @@ impl Model for Executor {
 
     ghost Value = { History };
 
-    ghost view = { λ x. reverse x.entries.items };
+    ghost view = { λ x. reverse x.entries };
 
-    ghost invariant = { λ x. IsStateOf (reverse x.entries.items) x.cache x.clients };
+    ghost invariant = { λ x. IsStateOf (reverse x.entries) x.cache x.clients };
 }
 
 /// Puts an answer last, where there is one.
@@ -58,7 +57,7 @@ impl Executor {
             alloc,
             cache: Cache::new(alloc, MOST_KEYS),
             clients: Clients::new(alloc)?,
-            entries: Vec::new(alloc),
+            entries: Entries::new(alloc),
         })
     }
 
@@ -77,10 +76,10 @@ impl Executor {
     }
 
     /// What was executed, oldest first.
-    pub fn history(&self) -> &[Entry]
+    pub fn history(&self) -> &Entries
         ensures { reverse result.now ≡ self.now }
     {
-        self.entries.as_slice()
+        &self.entries
     }
 
     /// The greatest number of a client's commands; 0 where it has none.
@@ -103,9 +102,9 @@ impl Executor {
     }
 
     /// Enters a command that is not fresh.
-    fn enter(&mut self, entry: Entry) -> Result<(), Fault>
-        requires { is_fresh entry self.old ≡ false }
-        ensures entered { OnOk result (self.new ≡ entry ∷ self.old) }
+    fn enter(&mut self, entry: &Entry<'_>) -> Result<(), Fault>
+        requires { is_fresh entry.now self.old ≡ false }
+        ensures entered { OnOk result (self.new ≡ entry.now ∷ self.old) }
         ensures unchanged { OnErr result (self.new ≡ self.old) }
         ensures memory { OnErr result (result ≡ Err Fault.Memory) }
     {
@@ -114,19 +113,19 @@ impl Executor {
     }
 
     /// Executes a fresh command.
-    fn execute(&mut self, entry: Entry) -> Result<Answer, Fault>
-        requires { is_fresh entry self.old ≡ true }
-        ensures executed { OnOk result (self.new ≡ entry ∷ self.old) }
-        ensures answered { IfOk result (λ a. a ≡ answer_in entry self.old) }
+    fn execute(&mut self, entry: &Entry<'_>) -> Result<Answer, Fault>
+        requires { is_fresh entry.now self.old ≡ true }
+        ensures executed { OnOk result (self.new ≡ entry.now ∷ self.old) }
+        ensures answered { IfOk result (λ a. a ≡ answer_in entry.now self.old) }
         ensures unchanged { OnErr result (self.new ≡ self.old) }
         ensures memory { OnErr result (result ≡ Err Fault.Memory) }
     {
-        self.entries.reserve(1)?;
-        let place = Place(self.entries.len() as u64 + 1);
-        let texts = apply(self.alloc, &mut self.cache, entry.payload())?;
-        let answer = Answer::to(&entry, place, texts.told);
-        self.clients.set(Answer::to(&entry, place, texts.kept));
-        self.entries.push(entry).unwrap();
+        let texts = self
+            .entries
+            .push_applied(self.alloc, &mut self.cache, entry)?;
+        let place = Place(self.entries.len() as u64);
+        let answer = Answer::to(entry, place, texts.told);
+        self.clients.set(Answer::to(entry, place, texts.kept));
         Ok(answer)
     }
 
@@ -137,11 +136,11 @@ impl Executor {
         ensures unchanged { OnErr result (self.new ≡ self.old) }
         ensures memory { OnErr result (result ≡ Err Fault.Memory) }
     {
-        let entry = Entry::new(self.alloc, command)?;
+        let entry = Entry::of(command);
         if self.clients.is_after(entry.client(), entry.seq()) {
-            Ok(Some(self.execute(entry)?))
+            Ok(Some(self.execute(&entry)?))
         } else {
-            self.enter(entry)?;
+            self.enter(&entry)?;
             Ok(None)
         }
     }

@@ -4,9 +4,11 @@
 mod answer;
 mod apply;
 mod clients;
+mod entries;
 mod entry;
 mod executor;
 
 pub use answer::Answer;
+pub use entries::{Entries, EntryIter};
 pub use entry::Entry;
 pub use executor::Executor;

@@ -32,7 +32,7 @@ use crate::state::{High, State};
 use crate::vote::decide_vote;
 use authenticators::Keyring;
 use block_tree::Tree;
-use executor::{Entry, Executor};
+use executor::{Entries, Executor};
 use frames_view::{CertificateBuf, genesis_digest};
 use ids::{Config, Digest, Fault, MOST_BLOCKS, ReplicaId, View};
 use mempool::Mempool;
@@ -224,7 +224,7 @@ impl Replica {
     }
 
     /// What it executed, oldest first.
-    pub fn history(&self) -> &[Entry]
+    pub fn history(&self) -> &Entries
         ensures { reverse result.now ≡ held_history self.now.replica }
     {
         self.executor.history()

@@ -4,7 +4,7 @@ ghost use Rattle.std.specs.Prelude.{◌≡◌, reverse};
 ghost use Rattle.definitions.specs.Replicas.{held_history};
 
 use client_accept::Receipt;
-use executor::Entry;
+use executor::Entries;
 use ids::{ClientId, Fault, ReplicaId};
 use replica::{Replica, To};
 use std::marker::Model;
@@ -56,7 +56,7 @@ impl History {
     }
 
     /// The executed commands, oldest first.
-    pub fn entries(&self) -> &[Entry]
+    pub fn entries(&self) -> &Entries
         ensures { reverse result.now ≡ self.now.history }
     {
         self.replica.history()

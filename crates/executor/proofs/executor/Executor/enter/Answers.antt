@@ -7,6 +7,8 @@ use Rattle.executor.proofs.executor.Executor.enter.Goals as goal
 pub invariant_of-self-2 : goal.invariant_of-self-2
 invariant_of-self-2 c =
     let x = c.self.inside in
-    subst (λ (h : History). IsStateOf h x.cache x.clients) (sym (ap reverse c.in_ok-push.ensures.items
-    ∙ entered x.entries.items c.args.entry))
-    (stale-state _ _ _ c.self.invariant c.args.entry (ap (is_fresh c.args.entry) c.self.view_is ∙ c.requires))
+    let e = c.args.entry.now in
+    let stale = ap (is_fresh e) c.self.view_is ∙ c.requires in
+    subst (λ (h : History). IsStateOf h x.cache x.clients)
+    (sym (ap reverse c.in_ok-push.ensures.entered ∙ entered x.entries e))
+    (stale-state _ _ _ c.self.invariant e stale)
