@@ -5,12 +5,13 @@
 // its steps as they are stored. The way down a branch goes from parent to parent, by digest. Copies are made where they
 // are kept, and nowhere else.
 
-use std::collections::HashMap;
+use std::collections::{BTreeMap, HashMap};
 
 const REQUEST: u8 = 1;
 const PROPOSAL: u8 = 2;
 const VOTE: u8 = 3;
 const NEW_VIEW: u8 = 4;
+const REPLY: u8 = 5;
 
 const MARKS: [u64; 3] = [1_000, 10_000, 100_000];
 const SPAN: u64 = 500;
@@ -34,12 +35,13 @@ enum Fault {
 struct Keyring {
     config: Config,
     own: u16,
-    replicas: Vec<[u8; 32]>,
-    clients: Vec<[u8; 32]>,
+    replicas: Vec<KeyedHashers>,
+    clients: Vec<KeyedHashers>,
 }
 
-fn key(one: u16, other: u16) -> [u8; 32] {
-    sha256(&[&b"hsim"[..], &one.min(other).to_be_bytes(), &one.max(other).to_be_bytes()].concat())
+fn key(one: u16, other: u16) -> KeyedHashers {
+    let bytes = [&b"hsim"[..], &one.min(other).to_be_bytes(), &one.max(other).to_be_bytes()].concat();
+    KeyedHashers::new(&sha256(&bytes))
 }
 
 fn head(label: u8, sender: u16, receiver: u16) -> [u8; 5] {
@@ -58,7 +60,7 @@ impl Keyring {
     /// Whether the tag for this replica in a vector is the one that the sender makes.
     fn verify(&self, label: u8, sender: u16, content: &[u8], vector: &[u8]) -> bool {
         let key = if sender < 256 { &self.replicas[usize::from(sender)] } else { &self.clients[usize::from(sender - 256)] };
-        let right = hmac(key, &head(label, sender, self.own), content);
+        let right = key.clone().hmac(&head(label, sender, self.own), content);
         let place = TAG * usize::from(self.own);
         let differing = vector[place..place + TAG].iter().zip(&right).fold(0, |sum, (a, b)| sum | (a ^ b));
         differing == 0
@@ -67,8 +69,23 @@ impl Keyring {
     /// Appends the tag for each replica.
     fn push_vector(&self, label: u8, content: &[u8], out: &mut Vec<u8>) {
         for (receiver, key) in self.replicas.iter().enumerate() {
-            out.extend_from_slice(&hmac(key, &head(label, self.own, receiver as u16), content));
+            out.extend_from_slice(&key.clone().hmac(&head(label, self.own, receiver as u16), content));
         }
+    }
+
+    /// The reply `STORED` to a command.
+    fn reply(&self, client: u16, seq: u64, place: u64) -> Vec<u8> {
+        let mut frame = vec![REPLY];
+        frame.extend_from_slice(&self.own.to_be_bytes());
+        frame.extend_from_slice(&client.to_be_bytes());
+        frame.extend_from_slice(&seq.to_be_bytes());
+        frame.extend_from_slice(&place.to_be_bytes());
+        frame.extend_from_slice(&8u32.to_be_bytes());
+        frame.extend_from_slice(b"STORED\r\n");
+        let key = &self.clients[usize::from(client)];
+        let tag = key.clone().hmac(&head(REPLY, self.own, 256 + client), &frame[1..]);
+        frame.extend_from_slice(&tag);
+        frame
     }
 
     fn leader(&self, view: u64) -> u16 {
@@ -192,6 +209,42 @@ struct Replica {
     view: u64,
     votes: HashMap<Digest, KeptVotes>,
     steps: Vec<Step>,
+    executed: Executed,
+    replies: Vec<Vec<u8>>,
+}
+
+/// What was executed: the history, the last number of each client, and the cache.
+#[derive(Default)]
+struct Executed {
+    rows: Vec<(u16, u64, usize)>,
+    payloads: Vec<u8>,
+    last: [u64; 16],
+    items: BTreeMap<Vec<u8>, (u32, Vec<u8>, u64)>,
+}
+
+impl Executed {
+    /// Enters a command. One that is fresh is applied, and its place is given.
+    fn enter(&mut self, command: &Command<'_>) -> Option<u64> {
+        self.payloads.extend_from_slice(command.payload);
+        self.rows.push((command.client, command.seq, self.payloads.len()));
+        let last = &mut self.last[usize::from(command.client)];
+        if command.seq <= *last {
+            return None;
+        }
+        *last = command.seq;
+        self.set(command.payload);
+        Some(self.rows.len() as u64)
+    }
+
+    /// Applies `set KEY FLAGS 0 BYTES`, as all commands of the chain are.
+    fn set(&mut self, payload: &[u8]) {
+        let end = payload.iter().position(|byte| *byte == b'\r').expect("a line");
+        let line = std::str::from_utf8(&payload[..end]).expect("letters");
+        let fields: Vec<&str> = line.split(' ').collect();
+        let data = payload[end + 2..payload.len() - 2].to_vec();
+        let count = self.items.len() as u64 + 1;
+        self.items.insert(fields[1].into(), (fields[2].parse().expect("flags"), data, count));
+    }
 }
 
 impl Replica {
@@ -210,6 +263,27 @@ impl Replica {
             view: 0,
             votes: HashMap::new(),
             steps: Vec::new(),
+            executed: Executed::default(),
+            replies: Vec::new(),
+        }
+    }
+
+    /// Executes the blocks above this height up to the last executed one, lowest first.
+    fn execute_above(&mut self, height: u64) {
+        let mut path = Vec::new();
+        let mut at = self.rules.executed;
+        while at.height > height {
+            path.push(at.digest);
+            at = BlockRef { digest: self.blocks[&at.digest].parent, height: at.height - 1 };
+        }
+        for digest in path.iter().rev() {
+            let mut cursor = Cursor { rest: &self.blocks[digest].core };
+            let core = cursor.core(self.ring.config).expect("a core");
+            for command in core.commands {
+                if let Some(place) = self.executed.enter(&command) {
+                    self.replies.push(self.ring.reply(command.client, command.seq, place));
+                }
+            }
         }
     }
 
@@ -360,6 +434,7 @@ impl Replica {
             rules.voted = rules.voted.max(core.height);
         }
         let out = self.vote_out(&digest, voted);
+        let executed = self.rules.executed.height;
         self.rules = rules;
         if justified.height > self.high.height {
             self.raise(justified, KeptCertificate::copy(certificate));
@@ -377,6 +452,7 @@ impl Replica {
         }
         self.counts[core.height as usize - 1] += 1;
         self.steps.push(Step::TookNew { digest, counted: checked.counted, voted });
+        self.execute_above(executed);
         Ok(out)
     }
 
@@ -517,6 +593,9 @@ fn main() {
         let step = started.elapsed().as_nanos();
         if let Some((_, frame)) = &out {
             sum = weight(sum, frame);
+        }
+        for frame in replica.replies.drain(..) {
+            sum = weight(sum, &frame);
         }
         if is_watched(height) {
             let name = if is_proposal { "proposal" } else { "vote" };
