@@ -33,7 +33,7 @@ pub(crate) struct Told {
 }
 
 /// When a run ends.
-#[derive(Clone, Copy, Debug)]
+#[derive(Clone, Copy)]
 pub(crate) enum Until {
     /// So many inputs were brought.
     Inputs(u64),
@@ -223,9 +223,9 @@ fn close(station: Station<'_>, shares: Vec<Share>) -> Result<usize, Fault> {
         locked,
         room: _,
     } = station;
-    let closed = locked.into_inner().close(shares).ok();
-    let closed = closed.ok_or(Fault::NotAll)?;
-    Ok(closed.replica.steps())
+    let closed = locked.into_inner().close(shares);
+    let steps = closed.map(|closed| closed.replica.steps());
+    steps.ok().ok_or(Fault::NotAll)
 }
 
 /// How many steps all replicas made. The shares come two for each station in turn.
@@ -307,23 +307,30 @@ fn work_through<R: Threads + Wait + Clock + Sync, G: Gate + Sync>(
     work_all(rt, stage, workers, handed, until, onlooker)
 }
 
-/// How many steps the stations' replicas made until the run was over.
-fn count_steps<R: Threads + Wait + Clock + Sync, G: Gate + Sync>(
+/// How far a new eye of the onlooker's marks sees that each replica has executed.
+fn seen_anew(alloc: Global, onlooker: &mut Onlooker<'_>) -> Result<String, Fault> {
+    onlooker.another()?.listed(alloc)
+}
+
+/// How many steps the stations' replicas made until the run was over, and how far a new eye sees
+/// that each has executed.
+fn look_on<R: Threads + Wait + Clock + Sync, G: Gate + Sync>(
     rt: &R,
     stage: &Stage<'_, G>,
+    mut onlooker: Onlooker<'_>,
     stations: Vec<Station<'_>>,
     crews: Vec<Crew>,
     handed: Vec<(ReplicaId, Bytes)>,
     until: Until,
-    onlooker: &mut Onlooker<'_>,
-) -> Result<usize, Fault> {
-    let row = stations.as_slice();
-    let shares = work_through(rt, stage, row, crews, handed, until, onlooker)?;
-    close_all(stage.alloc, stations, shares)
+) -> Result<(usize, String), Fault> {
+    let (row, seat) = (stations.as_slice(), &mut onlooker);
+    let shares = work_through(rt, stage, row, crews, handed, until, seat)?;
+    let steps = close_all(stage.alloc, stations, shares)?;
+    let executed = seen_anew(stage.alloc, &mut onlooker)?;
+    Ok((steps, executed))
 }
 
-/// How many steps the replicas made until the run was over, and how far a new eye sees that each
-/// has executed.
+/// What `look_on` tells of new replicas.
 fn run_at<R: Threads + Wait + Clock + Sync, G: Gate + Sync>(
     rt: &R,
     stage: &Stage<'_, G>,
@@ -335,11 +342,9 @@ fn run_at<R: Threads + Wait + Clock + Sync, G: Gate + Sync>(
     let Some(eye) = eyes.pop() else {
         return Err(Fault::NotAll);
     };
-    let mut onlooker = Onlooker::new(stage.config, &marks, eye);
+    let onlooker = Onlooker::new(stage.config, &marks, eye);
     let (stations, crews) = stations(stage.alloc, stage.config, &marks, eyes, replicas)?;
-    let steps = count_steps(rt, stage, stations, crews, handed, until, &mut onlooker)?;
-    let executed = onlooker.another()?.listed(stage.alloc)?;
-    Ok((steps, executed))
+    look_on(rt, stage, onlooker, stations, crews, handed, until)
 }
 
 /// Two workers for each wanted replica take the frames that are handed in, until the run is over.
