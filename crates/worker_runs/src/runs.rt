@@ -323,8 +323,8 @@ fn look_on<R: Threads + Wait + Clock + Sync, G: Gate + Sync>(
     handed: Vec<(ReplicaId, Bytes)>,
     until: Until,
 ) -> Result<(usize, String), Fault> {
-    let (row, seat) = (stations.as_slice(), &mut onlooker);
-    let shares = work_through(rt, stage, row, crews, handed, until, seat)?;
+    let row = stations.as_slice();
+    let shares = work_through(rt, stage, row, crews, handed, until, &mut onlooker)?;
     let steps = close_all(stage.alloc, stations, shares)?;
     let executed = seen_anew(stage.alloc, &mut onlooker)?;
     Ok((steps, executed))
