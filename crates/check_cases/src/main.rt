@@ -45,16 +45,7 @@ fn small(digits: Option<&str>) -> Result<u8, Fault> {
 
 /// The kind of frame whose number this is.
 fn kind_of(number: &str) -> Result<Kind, Fault> {
-    Ok(match number {
-        "1" => Kind::Request,
-        "2" => Kind::Proposal,
-        "3" => Kind::Vote,
-        "4" => Kind::NewView,
-        "5" => Kind::Reply,
-        "6" => Kind::Fetch,
-        "7" => Kind::Block,
-        _ => return Err(Fault::BadFields),
-    })
+    Kind::from_number(small(Some(number))?).ok_or(Fault::BadFields)
 }
 
 /// A party's tags for all replicas.

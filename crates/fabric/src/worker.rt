@@ -10,7 +10,7 @@ use crate::waiting::{Brought, Waiting, WaitingRoom};
 use authenticators::Keyring;
 use bytes::Bytes;
 use crossbeam_channel::Receiver;
-use ids::{Digest, Fault, ReplicaId};
+use ids::{Digest, Fault, Kind, ReplicaId};
 use locked_replica::Share;
 use replica::{Input, Out, Sending, To};
 use signed_frames::fetch_frame;
@@ -39,7 +39,7 @@ pub trait Outgoing {
 /// The links take them as they are.
 impl Outgoing for Links {
     fn send<R: Wait>(&self, rt: &R, sending: Sending) {
-        let Sending { to, frame } = sending;
+        let Sending { to, frame, .. } = sending;
         let Ok(bytes) = Bytes::from_vec(frame) else {
             return;
         };
@@ -89,8 +89,12 @@ impl<'a, G: Gate, O: Outgoing> Post<'a, G, O> {
             return;
         }
         if let Ok(frame) = fetch_frame(self.alloc, &self.keyring, sender, &block) {
-            let to = To::Replica(sender);
-            self.out.send(rt, Sending { to, frame });
+            let sending = Sending {
+                to: To::Replica(sender),
+                kind: Kind::Fetch,
+                frame,
+            };
+            self.out.send(rt, sending);
         }
     }
 

@@ -19,7 +19,7 @@
 
 use anyhow::Result;
 use frames_view::{CertificateView, CommandView, CoreView, Frame, ReplyView, VoteView};
-use ids::{Fault, Kind};
+use ids::Fault;
 use sha2::{Digest, Sha256};
 use std::alloc::Global;
 
@@ -121,49 +121,34 @@ impl Line {
         self.bytes(reply.tag())
     }
 
-    fn kind(&mut self, kind: Kind) -> Result<()> {
-        write!(self.text, "{kind}")?;
-        Ok(())
-    }
-
     /// The kind and the fields of a frame.
     pub(crate) fn frame(&mut self, frame: &Frame) -> Result<()> {
+        write!(self.text, "{}", frame.kind())?;
         match frame {
-            Frame::Request(command) => {
-                self.kind(Kind::Request)?;
-                self.command(command)
-            }
+            Frame::Request(command) => self.command(command),
             Frame::Proposal(proposal) => {
-                self.kind(Kind::Proposal)?;
                 self.number(proposal.view().0)?;
                 self.core(&proposal.core())?;
                 self.certificate(&proposal.certificate())?;
                 self.bytes(proposal.vector())
             }
             Frame::Vote(vote) => {
-                self.kind(Kind::Vote)?;
                 self.bytes(vote.digest())?;
                 self.vote(&vote.vote())
             }
             Frame::NewView(new_view) => {
-                self.kind(Kind::NewView)?;
                 self.number(new_view.view().0)?;
                 self.number(u64::from(new_view.sender().0))?;
                 self.certificate(&new_view.certificate())?;
                 self.bytes(new_view.vector())
             }
-            Frame::Reply(reply) => {
-                self.kind(Kind::Reply)?;
-                self.reply(reply)
-            }
+            Frame::Reply(reply) => self.reply(reply),
             Frame::Fetch(fetch) => {
-                self.kind(Kind::Fetch)?;
                 self.number(u64::from(fetch.sender().0))?;
                 self.bytes(fetch.digest())?;
                 self.bytes(fetch.tag())
             }
             Frame::Block(block) => {
-                self.kind(Kind::Block)?;
                 self.number(u64::from(block.sender().0))?;
                 self.core(&block.core())?;
                 self.certificate(&block.certificate())?;

@@ -2,6 +2,7 @@
 
 ghost use Rattle.std.specs.Prelude.{◌≡◌, option_map, IfSome, IfOk};
 ghost use Rattle.std.specs.Result.{result_ok};
+ghost use Rattle.definitions.specs.Frames.{kind_of};
 ghost use Rattle.definitions.specs.FrameLimits.{IsReadAs};
 ghost use Rattle.frames_view.specs.Parts.{kind_in, frame_in};
 ghost use Rattle.frames_view.specs.Views.{Gives, frame_of};
@@ -16,7 +17,24 @@ use crate::new_view::take_new_view;
 use crate::proposal::take_proposal;
 use crate::reply::take_reply;
 use crate::vote_frame::take_vote_frame;
-use ids::{Config, NotAFrame};
+use ids::{Config, Kind, NotAFrame};
+
+impl Frame<'_> {
+    /// What kind of frame it is.
+    pub fn kind(&self) -> Kind
+        ensures { result ≡ kind_of (frame_of self.now) }
+    {
+        match self {
+            Frame::Request(_) => Kind::Request,
+            Frame::Proposal(_) => Kind::Proposal,
+            Frame::Vote(_) => Kind::Vote,
+            Frame::NewView(_) => Kind::NewView,
+            Frame::Reply(_) => Kind::Reply,
+            Frame::Fetch(_) => Kind::Fetch,
+            Frame::Block(_) => Kind::Block,
+        }
+    }
+}
 
 /// A frame of the kind of this number, with what is left behind it.
 #[tactic(auto, unfolding(crate::specs::Parts::kind_in))]
@@ -24,36 +42,35 @@ fn take_kind<'a>(config: &Config, kind: u8, bytes: &'a [u8]) -> Option<(Frame<'a
     ensures taken { Gives (λ p. (frame_of p.0, p.1.now)) result (kind_in config.now kind bytes.now) }
     ensures lent { IfSome result (λ p. IsFrameAt bytes.entry 0 p.0) }
 {
-    match kind {
-        1 => {
+    match Kind::from_number(kind)? {
+        Kind::Request => {
             let (command, rest) = take_command(bytes, config.n(), config.clients())?;
             Some((Frame::Request(command), rest))
         }
-        2 => {
+        Kind::Proposal => {
             let (proposal, rest) = take_proposal(config, bytes)?;
             Some((Frame::Proposal(proposal), rest))
         }
-        3 => {
+        Kind::Vote => {
             let (vote, rest) = take_vote_frame(config, bytes)?;
             Some((Frame::Vote(vote), rest))
         }
-        4 => {
+        Kind::NewView => {
             let (new_view, rest) = take_new_view(config, bytes)?;
             Some((Frame::NewView(new_view), rest))
         }
-        5 => {
+        Kind::Reply => {
             let (reply, rest) = take_reply(config, bytes)?;
             Some((Frame::Reply(reply), rest))
         }
-        6 => {
+        Kind::Fetch => {
             let (fetch, rest) = take_fetch(config, bytes)?;
             Some((Frame::Fetch(fetch), rest))
         }
-        7 => {
+        Kind::Block => {
             let (block, rest) = take_block(config, bytes)?;
             Some((Frame::Block(block), rest))
         }
-        _ => None,
     }
 }
 

@@ -1,5 +1,5 @@
--- The numbers of refusals and of kinds of frames.
-use Rattle.std.specs.Prelude.{ℕ}
+-- The numbers of refusals, and the numbers and names of kinds of frames.
+use Rattle.std.specs.Prelude.{ℕ, List, codes}
 use Rattle.ids.specs.declared.fault.Fault.{Fault}
 use Rattle.ids.specs.declared.fault.Fault.TheVariants.{BadSize, UnknownName, BadFields, TooLarge, BadChunk}
 use Rattle.ids.specs.declared.fault.Fault.TheVariants.{LineTooLong, FeedFull, NotAFrame, BadTag}
@@ -67,3 +67,13 @@ kind_number NewView = 4
 kind_number Reply = 5
 kind_number Fetch = 6
 kind_number Block = 7
+
+-- how it is named
+abbrev pub kind_name : Kind → List ℕ
+kind_name Request = codes "Request"
+kind_name Proposal = codes "Proposal"
+kind_name Vote = codes "Vote"
+kind_name NewView = codes "NewView"
+kind_name Reply = codes "Reply"
+kind_name Fetch = codes "Fetch"
+kind_name Block = codes "Block"

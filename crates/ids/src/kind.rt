@@ -1,5 +1,5 @@
-ghost use Rattle.std.specs.Prelude.{◌≡◌};
-ghost use Rattle.ids.specs.Numbers.{kind_number};
+ghost use Rattle.std.specs.Prelude.{◌≡◌, ◌<◌, ◌⊎◌, IfSome, IfNone};
+ghost use Rattle.ids.specs.Numbers.{kind_number, kind_name};
 
 use std::fmt;
 
@@ -29,11 +29,29 @@ impl Kind {
     {
         self as u8
     }
-}
 
-impl fmt::Display for Kind {
-    fn fmt<W: fmt::Write>(&self, f: &mut fmt::Formatter<W>) -> fmt::Result {
-        f.write_str(match self {
+    /// The kind of this number, where there is one.
+    pub fn from_number(number: u8) -> Option<Kind>
+        ensures known { IfSome result (λ kind. kind_number kind ≡ number) }
+        ensures unknown { IfNone result ((number ≡ 0) ⊎ (7 < number)) }
+    {
+        match number {
+            1 => Some(Kind::Request),
+            2 => Some(Kind::Proposal),
+            3 => Some(Kind::Vote),
+            4 => Some(Kind::NewView),
+            5 => Some(Kind::Reply),
+            6 => Some(Kind::Fetch),
+            7 => Some(Kind::Block),
+            _ => None,
+        }
+    }
+
+    /// Its name, as it is displayed.
+    pub fn name(self) -> &'static str
+        ensures { result.now ≡ kind_name self }
+    {
+        match self {
             Kind::Request => "Request",
             Kind::Proposal => "Proposal",
             Kind::Vote => "Vote",
@@ -41,6 +59,12 @@ impl fmt::Display for Kind {
             Kind::Reply => "Reply",
             Kind::Fetch => "Fetch",
             Kind::Block => "Block",
-        })
+        }
+    }
+}
+
+impl fmt::Display for Kind {
+    fn fmt<W: fmt::Write>(&self, f: &mut fmt::Formatter<W>) -> fmt::Result {
+        f.write_str(self.name())
     }
 }

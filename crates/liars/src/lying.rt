@@ -6,7 +6,7 @@ ghost use Rattle.frames_view.specs.Views.{reply_of, proposal_of};
 use authenticators::Keyring;
 use frame_writers::{ReplyText, write_core};
 use frames_view::{Frame, ProposalView, ReplyView, read};
-use ids::{Digest, Fault, ReplicaId};
+use ids::{Digest, Fault, Kind, ReplicaId};
 use replica::{Sending, To};
 use signed_frames::{proposal_frame, reply_frame};
 use std::alloc::Global;
@@ -52,6 +52,7 @@ pub fn lie(
                 alloc,
                 Sending {
                     to: sending.to,
+                    kind: Kind::Reply,
                     frame,
                 },
             )
@@ -102,6 +103,7 @@ fn two_faced(alloc: Global, n: u8, even: &[u8], odd: &[u8]) -> Result<Vec<Sendin
         let frame = Vec::from_slice(alloc, if number % 2 == 0 { even } else { odd })?;
         out.push(Sending {
             to: To::Replica(ReplicaId(number)),
+            kind: Kind::Proposal,
             frame,
         })?;
     }

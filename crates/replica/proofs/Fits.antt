@@ -1,8 +1,6 @@
 -- Each decided change can be made.
-use Rattle.std.proofs.Common.{◌≡◌, ◌==◌, [], refl, sym, subst, Option, Some, None, Result, Ok, Err, IfOk}
-use Rattle.std.specs.Prelude.{is_some}
+use Rattle.std.proofs.Common.{◌≡◌, refl, sym, subst, Option, Some, None, Result, Ok, Err, IfOk}
 use Rattle.std.proofs.lemmas.Bool.{cond_both}
-use Rattle.ids.specs.Sizes.{leader}
 use Rattle.ids.specs.declared.fault.Fault.{Fault}
 use Rattle.ids.specs.declared.fault.Fault.TheVariants as fault
 use Rattle.definitions.specs.Branches.{Branch}
@@ -11,14 +9,10 @@ use Rattle.definitions.specs.Trees.{blocks, find_in, Placing, Placing.stands, Pl
 use Rattle.definitions.specs.Trees.{Placing.lacks_parent, Placing.unfit, placing}
 use Rattle.replica.specs.declared.change.Change.{Change}
 use Rattle.replica.specs.declared.stored.GotNewView.{GotNewView}
-use Rattle.replica.specs.declared.stored.GotFetch.{GotFetch}
-use Rattle.replica.specs.declared.stored.StoredStep.TheVariants.{Beat}
-use Rattle.replica.specs.Kept.{Variables, StateParts}
-use Rattle.replica.specs.Changes.{noting, Fits}
-use Rattle.replica.specs.Beats.{own_sent, proposing, beat_change}
+use Rattle.replica.specs.Kept.{StateParts}
+use Rattle.replica.specs.Changes.{Fits}
 use Rattle.replica.specs.Offers.{Offered, IsDecidedAt, IsDecided}
 use Rattle.replica.specs.Announcements.{IsTimeout, IsNewViewAt, IsNewView}
-use Rattle.replica.specs.Fetches.{fetch_change}
 use Rattle.std.specs.Prelude.{nat_lt, length}
 use Rattle.ids.specs.Sizes.{quorum}
 use Rattle.definitions.specs.Bytes.{Bytes}
@@ -30,31 +24,11 @@ use Rattle.vote_collector.specs.Collecting.{votes_for, judged}
 use Rattle.replica_rules.specs.declared.block_ref.BlockRef.{BlockRef}
 use Rattle.replica.specs.Ballots.{vote_noted, vote_counted, vote_change, IsVoteAt, IsVoteDecided}
 
-beat-fits : (keys : Keys) (s : StateParts) → Fits s (beat_change keys s)
-beat-fits keys s =
-    let v : Variables = s.variables in
-    let P : Change → Type 0 = λ d. Fits s d in
-    cond_both (leader keys.sizes s.pace.view == keys.party) _ (noting v Beat []) P
-    (λ l. cond_both (is_some (find_in v.leaf.digest (blocks v.stored))) (proposing keys s)
-    (noting v Beat (own_sent keys s.pace.view v.own)) P
-    (λ k. record { growth = tt; step = refl }) (λ k. record { growth = tt; step = refl }))
-    (λ l. record { growth = tt; step = refl })
-
-pub fits-beat : (keys : Keys) (s : StateParts) (result : Result Change Fault)
-    → IfOk result (λ d. d ≡ beat_change keys s) → IfOk result (λ d. Fits s d)
-fits-beat keys s (Ok d) e = subst (Fits s) (sym e) (beat-fits keys s)
-fits-beat keys s (Err n) e = tt
-
 pub fits-timeout : (keys : Keys) (s : StateParts) (result : Result Change Fault)
     → IfOk result (IsTimeout keys s)
     → IfOk result (λ d. Fits s d)
 fits-timeout keys s (Ok d) t = subst (Fits s) (sym t.change) (record { growth = tt; step = refl })
 fits-timeout keys s (Err n) t = tt
-
-pub fits-fetch : (keys : Keys) (s : StateParts) (f : GotFetch) (result : Result Change Fault)
-    → IfOk result (λ d. d ≡ fetch_change keys s.variables f) → IfOk result (λ d. Fits s d)
-fits-fetch keys s f (Ok d) e = subst (Fits s) (sym e) (record { growth = tt; step = refl })
-fits-fetch keys s f (Err n) e = tt
 
 pub fits-new-view : (keys : Keys) (s : StateParts) (n : GotNewView) (result : Result Change Fault)
     → IsNewView keys s n result → IfOk result (λ d. Fits s d)

@@ -4,6 +4,8 @@ pub mod Executing
 pub mod Walking
 pub mod Advancing
 pub mod Stays
+pub mod Decided
+pub mod Picks
 pub mod Beats
 pub mod Offers
 pub mod Announcements

@@ -4,7 +4,7 @@ use Rattle.ids.specs.declared.fault.Fault.TheVariants as fault
 use Rattle.std.proofs.Common.{ℕ, filter, arith, ◌++◌, ◌≡◌, ◌==◌, ◌&&◌, Bool, true, false, List, [], ◌∷◌}
 use Rattle.std.proofs.Common.{cond, refl, sym, ap, ◌∙◌, subst, option_to_list, Option, Some, None, Result}
 use Rattle.std.proofs.Common.{Ok, Err}
-use Rattle.std.specs.Prelude.{MatchResult, IfOk, OnErr}
+use Rattle.std.specs.Prelude.{MatchResult}
 use Rattle.std.proofs.lemmas.Bool.{ltb-true, ne_eqb}
 use Rattle.std.specs.List.{list_any}
 use Rattle.definitions.specs.Frames.{Command}
@@ -17,7 +17,6 @@ use Rattle.definitions.specs.Rulings.{Input.request_in, Ruling, Ruling.due, Ruli
 use Rattle.definitions.specs.Rulings.{on_request, conflicts}
 use Rattle.definitions.specs.Sendings.{again, sendings, reply_to}
 use Rattle.definitions.specs.Replicas.{ample, on_ruling}
-use Rattle.definitions.proofs.Sound.{OnStands, ruling-sound}
 use Rattle.linear_law.proofs.Sends.{answer_to-among}
 use Rattle.mempool.specs.Pool.{planned_for}
 use Rattle.mempool.proofs.Following.{request-history, follows_request}
@@ -32,24 +31,12 @@ use Rattle.replica.specs.Changes.{IsStep}
 use Rattle.replica.specs.Requests.{is_full, growth_for, IsWaiting, reply_again, again_sent, old_change}
 use Rattle.replica.specs.Requests.{IsRequestedIf, IsRequested}
 use Rattle.replica.specs.StepsTo.{IsRefused, Follows, StepsTo, answer, after}
-use Rattle.replica.proofs.Steps.{BringsKnown, refused-for-memory, stands-with, votes-else}
+use Rattle.replica.proofs.Steps.{brings-none, refused-for-memory, stands-with, votes-else}
+use Rattle.replica.proofs.Decided.{due-sound}
 use Rattle.replica.proofs.Stays.{variables-calm}
 use Rattle.replica.proofs.Advancing.{sendable-is}
 
--- a change, or want of memory
-memory-same : (a b : Fault) → ◌≡◌ {A = Result Change Fault} (Err a) (Err b) → a ≡ b
-memory-same a b e = cc
-
-pub or-memory : (result : Result Change Fault) (d : Change) → IfOk result (λ x. x ≡ d)
-    → OnErr result (result ≡ Err fault.Memory) → MatchResult result (λ x. x ≡ d) (λ n. n ≡ fault.Memory)
-or-memory (Ok x) d made memory = made
-or-memory (Err n) d made memory = memory-same n fault.Memory memory
-
 module _ (keys : Keys) (c : Chronicle) (s : StateParts) (r : Command) (o : IsStateOf keys c s) where
-  brings-none : BringsKnown keys.sizes (noted (got_request r)) c
-  unfolding raised
-  brings-none q e = absurd (let k : None ≡ Some q = e in cc)
-
   -- the variables after it
   variables-are : variables_of keys (noted (got_request r) ∷ c)
       ≡ record (variables_of keys c) { chronicle = noted (got_request r) ∷ c }
@@ -66,12 +53,6 @@ module _ (keys : Keys) (c : Chronicle) (s : StateParts) (r : Command) (o : IsSta
       → pended (growth_for (cond b None (Some r))) waits ≡ with_request (noted (got_request r)) waits
   planned-is waits true e = sym (ap (λ (t : Bool). cond t waits (waits ++ r ∷ [])) e)
   planned-is waits false e = refl
-
-  sound-after : (st : Ruling) → st ≡ due (noted (got_request r)) → on_request r c ≡ st
-      → IsSound keys.sizes (noted (got_request r) ∷ c)
-  unfolding ruling
-  sound-after st e k = subst (OnStands (λ x. IsSound keys.sizes (x ∷ c))) (k ∙ e)
-      (ruling-sound (identity_of keys) (request_in r) c tt o.sound)
 
   -- a step of this growth that sends this
   step-is : (g : Option Command) (out : List SentBytes)
@@ -105,13 +86,13 @@ module _ (keys : Keys) (c : Chronicle) (s : StateParts) (r : Command) (o : IsSta
       → let d : Change =
       record (noting s.variables (GotRequest r) out) { growth = growth_for g } in
       Follows keys (on_request r c) c (Ok out) (changed d s)
-  unfolding conflicts
+  unfolding conflicts raised ruling
   comes g out e w t =
       let st = noted (got_request r) in
       let d : Change = record (noting s.variables (GotRequest r) out) { growth = growth_for g } in
-      let so = sound-after _ refl e in
+      let so = due-sound keys (request_in r) c st tt o.sound e in
       let x = step-is g out t in
-      stands-with keys (on_request r c) c st d s e refl so brings-none w o x
+      stands-with keys (on_request r c) c st d s e refl so (brings-none keys.sizes st c refl) w o x
       (votes-else keys st c d s tt (kept-votes g) so.is_tree o.votes x)
 
 -- ---- by what was executed for its client

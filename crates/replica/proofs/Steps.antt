@@ -6,6 +6,7 @@ use Rattle.std.proofs.Common.{ℕ, suc, ◌≡◌, ◌≤◌, ◌+◌, ◌&&◌,
 use Rattle.std.proofs.Common.{length, cond, refl, sym, ap, ◌∙◌, subst, arith, nat_lt, Option, Some, None}
 use Rattle.std.proofs.Common.{Result, Ok, Err, IfOk, OnOk, OnErr}
 use Rattle.std.proofs.lemmas.Bool.{cond_both}
+use Rattle.std.proofs.lemmas.Option.{same_Some}
 use Rattle.definitions.specs.Lists.{Among}
 use Rattle.definitions.specs.Bytes.{Bytes}
 use Rattle.ids.specs.Sizes.{Sizes}
@@ -45,6 +46,14 @@ use Rattle.replica.specs.StepsTo.{IsRefused, Follows}
 -- a certificate that a step brings is for a block of the tree
 abbrev pub BringsKnown : Sizes → Step → Chronicle → Type 0
 BringsKnown s st c = (q : Justified) → raised s st c ≡ Some q → Among q.block (tree (st ∷ c))
+
+pub brings-none : (s : Sizes) (st : Step) (c : Chronicle) → raised s st c ≡ None → BringsKnown s st c
+brings-none s st c e q k = absurd (let h : None ≡ Some q = sym e ∙ k in cc)
+
+pub brings-one : (s : Sizes) (st : Step) (c : Chronicle) (q : Justified) → raised s st c ≡ Some q
+    → Among q.block (tree (st ∷ c)) → BringsKnown s st c
+brings-one s st c q e m p k =
+    subst (λ (j : Justified). Among j.block (tree (st ∷ c))) (same_Some q p (sym e ∙ k)) m
 
 pub certified-step : (s : Sizes) (st : Step) (c : Chronicle) → Among (qc_high s c).block (tree c)
     → BringsKnown s st c → Among (qc_high s (st ∷ c)).block (tree (st ∷ c))

@@ -11,7 +11,7 @@ use Rattle.definitions.specs.Histories.{Entry, entry_of, History}
 use Rattle.definitions.specs.Trees.{Stored}
 use Rattle.mempool.specs.Pool.{is_up_to, left_after, first_beside, stands_among}
 use Rattle.executor.specs.State.{with_commands}
-use Rattle.replica.specs.Beats.{key_of, keys_of}
+use Rattle.replica.specs.Picks.{key_of, keys_of}
 use Rattle.replica.specs.Execution.{commands_at, history_above}
 use Rattle.replica.proofs.Executing.{all-heights}
 

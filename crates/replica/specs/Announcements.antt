@@ -26,6 +26,7 @@ abbrev pub new_view_sent : Keys → ℕ → Certificate → SentBytes
 new_view_sent keys view q =
     let content = new_view_text view keys.party (certificate_bytes q) in (
       to_all,
+      kind.NewView,
       frame_text (kind_number kind.NewView) content
           (vector_for keys.sizes (keyring_of keys) kind.NewView content),
     )

@@ -20,6 +20,7 @@ abbrev pub block_sent : Keys → ℕ → Core → Certificate → SentBytes
 block_sent keys to core q =
     let content = block_text keys.party (core_bytes core) (certificate_bytes q) in (
       to_party to,
+      kind.Block,
       frame_text (kind_number kind.Block) content (tag_for (keyring_of keys) kind.Block to content),
     )
 

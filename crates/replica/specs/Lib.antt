@@ -6,6 +6,7 @@ pub mod Kept
 pub mod Changes
 pub mod StepsTo
 pub mod Execution
+pub mod Picks
 pub mod Beats
 pub mod Offers
 pub mod Announcements

@@ -53,6 +53,7 @@ high_in o = record { block = justified_of o; certificate = o.certificate }
 abbrev pub vote_sent : Keys → ℕ → Bytes → SentBytes
 vote_sent keys view d = (
   to_party (leader keys.sizes view),
+  kind.Vote,
   spelling (vote d
       (record { voter = keys.party; vector = vector_for keys.sizes (keyring_of keys) kind.Vote d })),
 )

@@ -8,13 +8,13 @@ ghost use Rattle.replica.specs.Inputs.{announced_by};
 
 use crate::blocks::{leaf_after, raised};
 use crate::change::Change;
-use crate::out::{Out, To};
+use crate::out::{Out, Sending, To};
 use crate::state::{High, State};
 use crate::stored::{GotNewView, StoredStep};
 use authenticators::Keyring;
 use certificates::Checked;
 use frames_view::{CertificateBuf, NewViewView};
-use ids::{Digest, Fault, View};
+use ids::{Digest, Fault, Kind, View};
 use replica_rules::BlockRef;
 use signed_frames::new_view_frame;
 use std::alloc::Global;
@@ -28,7 +28,12 @@ fn announcement(alloc: Global, keyring: &Keyring, view: View, high: &High) -> Re
     let mut certificate = Vec::new(alloc);
     high.certificate.view().write(&mut certificate)?;
     let frame = new_view_frame(alloc, keyring, view, &certificate)?;
-    Out::one(alloc, To::All, frame)
+    let sending = Sending {
+        to: To::All,
+        kind: Kind::NewView,
+        frame,
+    };
+    Out::one(alloc, sending)
 }
 
 /// What a timeout comes to: the replica goes on to the next view, and announces it.

@@ -1,22 +1,19 @@
 //! Proposing at a beat.
 
-ghost use Rattle.std.specs.Prelude.{◌≡◌, ◌<◌, ◌≤◌, ◌==◌, [], ◌∷◌, length, map, reverse, IfOk, OnErr};
-ghost use Rattle.std.specs.List.{flat_map};
-ghost use Rattle.definitions.specs.Frames.{command_bytes};
-ghost use Rattle.ids.specs.Sizes.{replicas, leader};
-ghost use Rattle.replica.specs.Beats.{beat_change, executed_below, proposed_above, child_height, child_of};
-ghost use Rattle.replica.specs.Beats.{child_ref, own_sent, proposal_sent, proposing};
+ghost use Rattle.std.specs.Prelude.{◌≡◌, ◌<◌, [], ◌∷◌, IfOk, OnErr};
+ghost use Rattle.ids.specs.Sizes.{replicas};
+ghost use Rattle.std.specs.Option.{option_or};
+ghost use Rattle.replica.specs.Beats.{beat_change, child_height, child_of, proposal_sent, is_led, made_by};
+ghost use Rattle.replica.specs.Beats.{leaf_with, last_sent};
 
-use crate::branch::keys_between;
 use crate::change::Change;
-use crate::out::{Out, To};
+use crate::out::{Out, Sending, To};
+use crate::pick::picked;
 use crate::state::{OwnProposal, State};
 use crate::stored::StoredStep;
-use appending::append;
 use authenticators::Keyring;
 use frames_view::write_core;
-use ids::{ClientId, Digest, Fault, Height, Seq, View};
-use mempool::Pending;
+use ids::{Digest, Fault, Height, Kind, View};
 use replica_rules::BlockRef;
 use sha2::Sha256;
 use signed_frames::proposal_frame;
@@ -29,59 +26,12 @@ fn child_height(leaf: BlockRef) -> Height
     Height(leaf.height.0.saturating_add(1))
 }
 
-/// The height above which requests that wait may stand on the leaf's branch: nothing that was executed waits.
-fn executed_below(state: &State) -> Height
-    ensures { result ≡ executed_below state.now.variables }
-{
-    let executed = state.rules.executed();
-    if state.tree.extends(&state.leaf.digest, &executed.digest) {
-        executed.height
-    } else {
-        Height(0)
-    }
-}
-
-/// The clients and numbers of what stands above it on the leaf's branch, in any order.
-fn proposed_above(state: &State) -> Result<Vec<(ClientId, Seq)>, Fault>
-    ensures found { IfOk result (λ keys. keys.items ≡ reverse (proposed_above state.now.variables)) }
-    ensures memory { OnErr result (result ≡ Err Fault.Memory) }
-{
-    let (tree, leaf) = (&state.tree, &state.leaf.digest);
-    let height = tree.height(leaf).unwrap_or(Height(0));
-    let from = executed_below(state);
-    keys_between(state.alloc, tree, leaf, from.0, height.0)
-}
-
-/// The bytes of requests, one behind the other.
-fn bytes_of(alloc: Global, requests: &[&Pending]) -> Result<Vec<u8>, Fault>
-    ensures joined { IfOk result
-        (λ bytes. bytes.items ≡ flat_map command_bytes (map (λ r. r.now) requests.now)) }
-    ensures memory { OnErr result (result ≡ Err Fault.Memory) }
-{
-    let mut bytes = Vec::new(alloc);
-    for request in requests {
-        append(&mut bytes, &[request.bytes()])?;
-    }
-    Ok(bytes)
-}
-
-/// How many requests were picked.
-fn count_of(picked: &[&Pending]) -> u8
-    requires { length picked.now ≤ 16 }
-    ensures { result ≡ length picked.now }
-{
-    picked.len() as u8
-}
-
 /// The core of a child of the leaf, with the first requests that wait and don't stand on the leaf's branch.
 fn core_of(state: &State) -> Result<Vec<u8>, Fault>
     ensures made { IfOk result (λ core. core.items ≡ (child_of state.now).core) }
     ensures memory { OnErr result (result ≡ Err Fault.Memory) }
 {
-    let on_branch = proposed_above(state)?;
-    let picked = state.pool.pick(&on_branch)?;
-    let count = count_of(&picked);
-    let commands = bytes_of(state.alloc, &picked)?;
+    let (count, commands) = picked(state)?;
     let height = child_height(state.leaf);
     let mut core = Vec::new(state.alloc);
     write_core(
@@ -117,49 +67,65 @@ fn proposal_out(
     ensures memory { OnErr result (result ≡ Err Fault.Memory) }
 {
     let frame = proposal_frame(alloc, keyring, view, &own.core, &own.certificate)?;
-    Out::one(alloc, To::All, frame)
-}
-
-/// The own last proposal, where there is one.
-fn own_out(
-    alloc: Global,
-    keyring: &Keyring,
-    view: View,
-    own: &Option<OwnProposal>,
-) -> Result<Out, Fault>
-    ensures made { IfOk result (λ out. out ≡ own_sent keyring.now view own.now) }
-    ensures memory { OnErr result (result ≡ Err Fault.Memory) }
-{
-    match own {
-        Some(own) => proposal_out(alloc, keyring, view, own),
-        None => Ok(Out::none(alloc)),
-    }
-}
-
-/// Makes a child of the leaf, and proposes it.
-fn propose(state: &State, keyring: &Keyring) -> Result<Change, Fault>
-    ensures made { IfOk result (λ d. d ≡ proposing keyring.now state.now) }
-    ensures memory { OnErr result (result ≡ Err Fault.Memory) }
-{
-    let own = child_of(state)?;
-    let leaf = BlockRef {
-        digest: Digest(<Sha256 as sha2::Digest>::digest(&own.core)),
-        height: child_height(state.leaf),
+    let sending = Sending {
+        to: To::All,
+        kind: Kind::Proposal,
+        frame,
     };
-    let out = proposal_out(state.alloc, keyring, state.pace.view(), &own)?;
-    Ok(Change {
-        leaf,
-        own: Some(own),
-        ..Change::noting(state, StoredStep::Beat, out)
-    })
+    Out::one(alloc, sending)
 }
 
 /// Whether the replica leads its view.
 pub(crate) fn leads(state: &State, keyring: &Keyring) -> bool
     requires { keyring.now.party < replicas keyring.now.sizes }
-    ensures { result ≡ (leader keyring.now.sizes state.now.pace.view == keyring.now.party) }
+    ensures { result ≡ is_led keyring.now state.now }
 {
     keyring.config().leader(state.pace.view()) == keyring.replica()
+}
+
+/// Makes a child of the leaf, where the replica leads its view and the leaf's block is known.
+fn made_by(state: &State, keyring: &Keyring) -> Result<Option<OwnProposal>, Fault>
+    requires { keyring.now.party < replicas keyring.now.sizes }
+    ensures made { IfOk result (λ own. own ≡ made_by keyring.now state.now) }
+    ensures memory { OnErr result (result ≡ Err Fault.Memory) }
+{
+    if !leads(state, keyring) {
+        return Ok(None);
+    }
+    if !state.tree.contains(&state.leaf.digest) {
+        return Ok(None);
+    }
+    let own = child_of(state)?;
+    Ok(Some(own))
+}
+
+/// The leaf, where this was made on it.
+fn leaf_with(made: &Option<OwnProposal>, leaf: BlockRef) -> BlockRef
+    ensures { result ≡ leaf_with made.now leaf }
+{
+    match made {
+        Some(own) => BlockRef {
+            digest: Digest(<Sha256 as sha2::Digest>::digest(&own.core)),
+            height: child_height(leaf),
+        },
+        None => leaf,
+    }
+}
+
+/// A leader's last proposal, to all: the one that it made now, or the one before.
+fn last_out(state: &State, keyring: &Keyring, made: &Option<OwnProposal>) -> Result<Out, Fault>
+    requires { keyring.now.party < replicas keyring.now.sizes }
+    ensures made { IfOk result
+        (λ out. out ≡ last_sent keyring.now state.now (option_or made.now state.now.variables.own)) }
+    ensures memory { OnErr result (result ≡ Err Fault.Memory) }
+{
+    if !leads(state, keyring) {
+        return Ok(Out::none(state.alloc));
+    }
+    match made.as_ref().or(state.own.as_ref()) {
+        Some(own) => proposal_out(state.alloc, keyring, state.pace.view(), own),
+        None => Ok(Out::none(state.alloc)),
+    }
 }
 
 /// What a beat comes to: where the replica leads its view, it proposes a child of its leaf, or its
@@ -169,12 +135,11 @@ pub(crate) fn decide_beat(state: &State, keyring: &Keyring) -> Result<Change, Fa
     ensures made { IfOk result (λ d. d ≡ beat_change keyring.now state.now) }
     ensures memory { OnErr result (result ≡ Err Fault.Memory) }
 {
-    if !leads(state, keyring) {
-        return Ok(Change::noting(state, StoredStep::Beat, Out::none(state.alloc)));
-    }
-    if state.tree.contains(&state.leaf.digest) {
-        return propose(state, keyring);
-    }
-    let out = own_out(state.alloc, keyring, state.pace.view(), &state.own)?;
-    Ok(Change::noting(state, StoredStep::Beat, out))
+    let made = made_by(state, keyring)?;
+    let out = last_out(state, keyring, &made)?;
+    Ok(Change {
+        leaf: leaf_with(&made, state.leaf),
+        own: made,
+        ..Change::noting(state, StoredStep::Beat, out)
+    })
 }

@@ -12,13 +12,13 @@ ghost use Rattle.replica.specs.Offers.{IsDecided};
 
 use crate::change::{Change, Growth};
 use crate::offer::Offer;
-use crate::out::{Out, To};
+use crate::out::{Out, Sending, To};
 use crate::state::{High, State};
 use crate::stored::{StoredStep, TookAgain, TookNew};
 use authenticators::Keyring;
 use block_tree::{Node, Plan, Tree};
 use frames_view::{CertificateBuf, CertificateView, CoreBuf};
-use ids::{Digest, Fault, Height};
+use ids::{Digest, Fault, Height, Kind};
 use replica_rules::{BlockRef, Rules};
 use signed_frames::vote_frame;
 use std::alloc::Global;
@@ -34,7 +34,12 @@ fn vote_out(state: &State, keyring: &Keyring, digest: &Digest, voted: bool) -> R
     }
     let frame = vote_frame(state.alloc, keyring, digest)?;
     let leader = keyring.config().leader(state.pace.view());
-    Out::one(state.alloc, To::Replica(leader), frame)
+    let sending = Sending {
+        to: To::Replica(leader),
+        kind: Kind::Vote,
+        frame,
+    };
+    Out::one(state.alloc, sending)
 }
 
 /// The rules after a vote for a block of this height, if one was given.

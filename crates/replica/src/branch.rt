@@ -4,7 +4,7 @@ ghost use Rattle.std.specs.Prelude.{◌≡◌, ◌-◌, ◌++◌, reverse, map, 
 ghost use Rattle.definitions.specs.Digests.{core_of};
 ghost use Rattle.frames_view.specs.Views.{commands_left};
 ghost use Rattle.replica.specs.Execution.{block_at, history_above};
-ghost use Rattle.replica.specs.Beats.{key_of, keys_of};
+ghost use Rattle.replica.specs.Picks.{key_of, keys_of};
 
 use block_tree::{Node, Tree};
 use frames_view::Commands;

@@ -20,7 +20,7 @@ use block_tree::{Node, Tree};
 use executor::{Answer, Executor};
 use frame_writers::ReplyText;
 use frames_view::Commands;
-use ids::{Digest, Fault, Height};
+use ids::{Digest, Fault, Height, Kind};
 use mempool::Mempool;
 use signed_frames::reply_frame;
 use std::alloc::Global;
@@ -52,6 +52,7 @@ fn reply(alloc: Global, keyring: &Keyring, answer: &Answer) -> Result<Option<Sen
     let frame = reply_frame(alloc, keyring, client, answer.seq(), answer.place(), &text)?;
     Ok(Some(Sending {
         to: To::Client(client),
+        kind: Kind::Reply,
         frame,
     }))
 }

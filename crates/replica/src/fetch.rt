@@ -7,12 +7,12 @@ ghost use Rattle.replica.specs.Fetches.{supplied, fetch_change};
 ghost use Rattle.replica.specs.Inputs.{asked_by};
 
 use crate::change::Change;
-use crate::out::{Out, To};
+use crate::out::{Out, Sending, To};
 use crate::state::State;
 use crate::stored::{GotFetch, StoredStep};
 use authenticators::Keyring;
 use frames_view::FetchView;
-use ids::{Digest, Fault, ReplicaId};
+use ids::{Digest, Fault, Kind, ReplicaId};
 use signed_frames::block_frame;
 
 /// The block of a digest with its certificate, for a replica that asked for it, where it stands in the tree.
@@ -29,7 +29,12 @@ fn supply(state: &State, keyring: &Keyring, to: ReplicaId, digest: &Digest) -> R
     let mut certificate = Vec::new(state.alloc);
     block.certificate().write(&mut certificate)?;
     let frame = block_frame(state.alloc, keyring, to, block.core().raw(), &certificate)?;
-    Out::one(state.alloc, To::Replica(to), frame)
+    let sending = Sending {
+        to: To::Replica(to),
+        kind: Kind::Block,
+        frame,
+    };
+    Out::one(state.alloc, sending)
 }
 
 /// What a question for a block comes to: the block goes to the one who asked, where it stands in the tree.

@@ -11,6 +11,7 @@ mod fetch;
 mod input;
 mod offer;
 mod out;
+mod pick;
 mod replica;
 mod request;
 mod standing;

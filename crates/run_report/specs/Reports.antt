@@ -1,9 +1,9 @@
 -- What is told of a run.
 use Rattle.std.specs.Prelude.{ℕ, suc, ◌+◌, ◌==◌, not, List, [], ◌∷◌, ◌++◌, length, take, drop, codes}
-use Rattle.std.specs.Prelude.{decimal, slice_index, position, unwrap_or, Option, Some, None, if◌then◌else◌}
+use Rattle.std.specs.Prelude.{decimal, position, unwrap_or, Option, Some, None}
 use Rattle.std.specs.List.{flat_map}
 use Rattle.hex.specs.Hex.{encode_lower}
-use Rattle.ids.specs.Numbers.{fault_number}
+use Rattle.ids.specs.Numbers.{fault_number, kind_name}
 use Rattle.ids.specs.declared.fault.Fault.{Fault}
 use Rattle.definitions.specs.Bytes.{Bytes}
 use Rattle.replica.specs.declared.out.To.{To}
@@ -24,17 +24,6 @@ answer_text event None = codes "e" ++ decimal event ++ codes " ok" ++ lf
 answer_text event (Some fault) =
     codes "e" ++ decimal event ++ codes " fault " ++ decimal (fault_number fault) ++ lf
 
--- what a frame is, by its first byte
-abbrev pub kind_text : Bytes → Bytes
-kind_text frame =
-    if slice_index frame 0 == 1 then codes "Request"
-    else if slice_index frame 0 == 2 then codes "Proposal"
-    else if slice_index frame 0 == 3 then codes "Vote"
-    else if slice_index frame 0 == 4 then codes "NewView"
-    else if slice_index frame 0 == 5 then codes "Reply"
-    else if slice_index frame 0 == 6 then codes "Fetch"
-    else codes "Block"
-
 -- where a frame goes
 abbrev pub destination_text : To → Bytes
 destination_text All = codes "all"
@@ -44,7 +33,7 @@ destination_text (Client c) = client_text c
 -- a sent frame, by its number in the record
 abbrev pub frame_text : ℕ → SentFrame → Bytes
 frame_text number f =
-    codes "f" ++ decimal number ++ codes " " ++ kind_text f.frame.items ++ codes " "
+    codes "f" ++ decimal number ++ codes " " ++ kind_name f.kind ++ codes " "
     ++ decimal (length f.frame.items) ++ codes " to " ++ destination_text f.to ++ lf
 
 abbrev pub frames_text : ℕ → List SentFrame → Bytes

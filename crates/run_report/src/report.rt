@@ -2,7 +2,7 @@
 
 ghost use Rattle.std.specs.Prelude.{◌≡◌, ◌+◌, ◌^◌, ◌<◌, ◌++◌, codes, length, OnOk, OnErr, IfOk};
 ghost use Rattle.std.specs.List.{flat_map};
-ghost use Rattle.run_report.specs.Reports.{answer_text, kind_text, destination_text, frame_text};
+ghost use Rattle.run_report.specs.Reports.{answer_text, destination_text, frame_text};
 ghost use Rattle.run_report.specs.Reports.{frames_text, receipt_text, history_text, other_frame, sent_in};
 ghost use Rattle.run_report.specs.Reports.{other_receipt, accepted_in, outcome_text};
 
@@ -30,28 +30,6 @@ fn tell_answer(text: &mut Vec<u8>, event: u64, answer: Option<Fault>) -> Result<
     }
 }
 
-/// What a frame is, by its first byte.
-fn kind_name(frame: &[u8]) -> &'static str
-    ensures { result.now ≡ kind_text frame.now }
-{
-    let kind = frame.first().copied().unwrap_or(0);
-    if kind == 1 {
-        "Request"
-    } else if kind == 2 {
-        "Proposal"
-    } else if kind == 3 {
-        "Vote"
-    } else if kind == 4 {
-        "NewView"
-    } else if kind == 5 {
-        "Reply"
-    } else if kind == 6 {
-        "Fetch"
-    } else {
-        "Block"
-    }
-}
-
 /// Where a frame goes: `all`, or a party's letter and number.
 fn destination(to: To, digits: &mut Buffer) -> (&'static str, &str)
     ensures { result.0.now ++ result.1.now ≡ destination_text to }
@@ -72,7 +50,7 @@ fn tell_frame(text: &mut Vec<u8>, number: u64, sent: &SentFrame) -> Result<(), F
     let number = number_digits.format(number).as_bytes();
     let mut size_digits = Buffer::new();
     let size = size_digits.format(sent.frame.len() as u64).as_bytes();
-    let kind = kind_name(&sent.frame).as_bytes();
+    let kind = sent.kind.name().as_bytes();
     let mut party_digits = Buffer::new();
     let (letter, party) = destination(sent.to, &mut party_digits);
     let (letter, party) = (letter.as_bytes(), party.as_bytes());

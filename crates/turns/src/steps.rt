@@ -4,12 +4,11 @@ ghost use Rattle.std.specs.Prelude.{◌≡◌, List, Result, IfSome, IfNone};
 ghost use Rattle.ids.specs.declared.fault.Fault.{Fault};
 ghost use Rattle.replica.specs.declared.input.Input.{Input};
 ghost use Rattle.replica.specs.Steps.{SentBytes};
-ghost use Rattle.locked_replica.specs.Addressed.{KeptStep};
 ghost use Rattle.locked_replica.specs.Kept.{ShareState, Counts};
 ghost use Rattle.turns.specs.Stepping.{SomeStep};
 
-use ids::{Digest, Fault, ReplicaId};
-use locked_replica::{Kept, Locked, Share};
+use ids::Fault;
+use locked_replica::{Locked, Share};
 use replica::{Input, Out};
 use std::sync::Wait;
 
@@ -32,27 +31,6 @@ pub trait Steps {
             (λ answer. moved self.old share.old Input.Beat answer self.new share.new) }
         ensures counts { IfSome result (λ answer. Counts share.old answer share.new) }
         ensures rests { IfNone result ((self.new ≡ self.old) × (share.new ≡ share.old)) };
-}
-
-/// In one thread.
-impl<'a> Steps for Kept<'a> {
-    ghost moved = { KeptStep };
-
-    fn step<R: Wait>(
-        &mut self,
-        _rt: &R,
-        share: &mut Share,
-        input: Input<'_>,
-    ) -> Result<Out, Fault> {
-        Kept::step(self, share, input)
-    }
-
-    fn beat_now<R: Wait>(&mut self, _rt: &R, share: &mut Share) -> Option<Result<Out, Fault>> {
-        if !self.replica().wants_beat_now() {
-            return None;
-        }
-        Some(Kept::step(self, share, Input::Beat))
-    }
 }
 
 /// By any thread. What is under the lock then, no clause can name: it is some kept replica, which

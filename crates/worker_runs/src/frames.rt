@@ -6,7 +6,7 @@ ghost use Rattle.ids.specs.Sizes.{replicas};
 use anyhow::{Result, bail};
 use bytes::Bytes;
 use frames_view::{Payload, ReplyText, genesis_digest};
-use ids::{ClientId, Config, Digest, Fault, PartyId, Place, ReplicaId, Seq, View};
+use ids::{ClientId, Config, Digest, Fault, Kind, PartyId, Place, ReplicaId, Seq, View};
 use replica::{Input, Out, Replica, Sending, To};
 use signed_frames::{fetch_frame, new_view_frame, reply_frame, request_frame, vote_frame};
 use simulated_keys::keyring_of;
@@ -76,14 +76,17 @@ pub(crate) fn answers(alloc: Global, config: Config) -> Result<Vec<Sending>> {
     let mut answers = Vec::new(alloc);
     answers.push(Sending {
         to: To::All,
+        kind: Kind::NewView,
         frame: new_view_frame(alloc, &keyring, View(1), &certificate)?,
     })?;
     answers.push(Sending {
         to: To::Replica(ReplicaId(2)),
+        kind: Kind::Vote,
         frame: vote_frame(alloc, &keyring, &genesis_digest())?,
     })?;
     answers.push(Sending {
         to: To::Client(ClientId(0)),
+        kind: Kind::Reply,
         frame: reply_frame(alloc, &keyring, ClientId(0), Seq(1), Place(1), &text)?,
     })?;
     Ok(answers)

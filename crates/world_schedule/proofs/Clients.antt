@@ -1,14 +1,17 @@
 -- What a client's session answers is what the definitions' client does.
 use Rattle.ids.specs.declared.fault.Fault.{Fault}
 use Rattle.ids.specs.declared.fault.Fault.TheVariants as fault
+use Rattle.ids.specs.declared.kind.Kind.TheVariants as kind
 use Rattle.std.proofs.Common.{ℕ, false, IfOk, ◌≡◌, [], ◌∷◌, map, refl, sym, ap, subst, ◌∙◌, Some, None}
 use Rattle.std.proofs.Common.{Result, Ok, Err}
-use Rattle.std.specs.Prelude.{Vec}
+use Rattle.std.proofs.lemmas.Bool.{cond_both}
+use Rattle.std.specs.Prelude.{Vec, ◌-◌, ◌^◌, ◌==◌, not}
 use Rattle.std.specs.declared.alloc.Global.{Global}
 use Rattle.ids.specs.Sizes.{Sizes}
 use Rattle.definitions.specs.Bytes.{Bytes}
 use Rattle.definitions.specs.FrameLimits.{IsReadAs}
-use Rattle.definitions.specs.Replicas.{ample}
+use Rattle.definitions.specs.Frames.{kind_of}
+use Rattle.definitions.specs.Replicas.{MemorySupply, ample}
 use Rattle.frames_view.specs.declared.frame_views.Frame as views
 use Rattle.frames_view.specs.declared.frame_views.Frame.TheVariants as view
 use Rattle.frames_view.specs.declared.frame_views.ReplyView.{ReplyView}
@@ -19,6 +22,7 @@ use Rattle.definitions.specs.Canonical.{request_of}
 use Rattle.definitions.specs.Sendings.{To.to_all}
 use Rattle.definitions.specs.Sessions.{Client, Session, Heard, not_counted, on_reply, Submitted}
 use Rattle.definitions.specs.Sessions.{Submitted.sent_request, Submitted.not_sent, submission}
+use Rattle.definitions.specs.Sessions.{is_ample, request_frame}
 use Rattle.definitions.specs.Events.{submitted_out, submitted_answer}
 use Rattle.definitions.proofs.RequestTexts.{request_of_some}
 use Rattle.signed_frames.specs.Clients.{client_of}
@@ -45,29 +49,46 @@ pub record Called (old new : Held) (text : Bytes) (result : Result (Vec ℕ Glob
       }
   pub answer : IsSubmitted (submission (client_of old.keys) (memory_of result) text old.session).1 result
 
+-- a session sends requests alone
+abbrev IsRequestSent : Submitted → Type 0
+IsRequestSent (sent_request f) = kind_of f ≡ kind.Request
+IsRequestSent (not_sent n) = ⊤
+
+request-sent : (me : Client) (m : MemorySupply) (payload : Bytes) (s : Session)
+    → IsRequestSent (submission me m payload s).1
+unfolding submission request_frame
+request-sent me m payload s =
+    cond_both s.waiting _ _ Sends (λ e. tt)
+    (λ e. cond_both (s.used == (2 ^ 64 - 1)) _ _ Sends (λ e. tt)
+    (λ e. cond_both (not (is_ample m)) _ _ Sends (λ e. tt) (λ e. refl)))
+  where
+    abbrev Sends : Session × Submitted → Type 0
+    Sends x = IsRequestSent x.1
+
 -- a frame that is sent
 pub sent-submitted : (old new : Held) (text payload : Bytes) (bytes : Vec ℕ Global) (e : Effect)
     → text ≡ payload → Called old new text (Ok bytes)
-    → map sent_of e.out.items ≡ (to_all, bytes.items) ∷ [] → e.accepted ≡ None → e.answer ≡ None
+    → map sent_of e.out.items ≡ (to_all, kind.Request, bytes.items) ∷ [] → e.accepted ≡ None → e.answer ≡ None
     → Submits old payload new e
 sent-submitted old new text payload bytes e is c out accepted answer =
     subst (λ (t : Bytes). Submits old t new e) is (record {
       keys = ap (λ (h : Held). h.keys) c.state;
       memory = memory_of {T = Vec ℕ Global} (Ok bytes);
       state = ap (λ (h : Held). h.session) c.state;
-      out = (by
-          (submission (client_of old.keys) (memory_of {T = Vec ℕ Global} (Ok bytes)) text old.session).1
-          c.answer).0;
+      out = told.0;
       accepted = accepted;
-      answer = (by
-          (submission (client_of old.keys) (memory_of {T = Vec ℕ Global} (Ok bytes)) text old.session).1
-          c.answer).1;
+      answer = told.1;
     })
   where
-    by : (x : Submitted) → IsSubmitted x (Ok bytes)
+    by : (x : Submitted) → IsRequestSent x → IsSubmitted x (Ok bytes)
         → (map sent_of e.out.items ≡ shown (submitted_out x)) × (e.answer ≡ submitted_answer x)
-    by (sent_request f) h = (out ∙ ap (λ (b : Bytes). (to_all, b) ∷ []) h, answer)
-    by (not_sent n) h = absurd h
+    by (sent_request f) is h = (out ∙ (λ i. (to_all, sym is i, h i) ∷ []), answer)
+    by (not_sent n) is h = absurd h
+
+    told = by
+        (submission (client_of old.keys) (memory_of {T = Vec ℕ Global} (Ok bytes)) text old.session).1
+        (request-sent (client_of old.keys) (memory_of {T = Vec ℕ Global} (Ok bytes)) text old.session)
+        c.answer
 
 -- a refusal
 pub refused-submitted : (old new : Held) (text payload : Bytes) (n : Fault) (e : Effect) → text ≡ payload
@@ -94,7 +115,7 @@ refused-submitted old new text payload n e is c out accepted answer =
 -- where there is an effect
 pub sent-if : (old new : Held) (text payload : Bytes) (bytes : Vec ℕ Global) (r : Result Effect Fault)
     → text ≡ payload → Called old new text (Ok bytes)
-    → IfOk r (λ e. map sent_of e.out.items ≡ (to_all, bytes.items) ∷ []) → IfOk r (λ e. e.accepted ≡ None)
+    → IfOk r (λ e. map sent_of e.out.items ≡ (to_all, kind.Request, bytes.items) ∷ []) → IfOk r (λ e. e.accepted ≡ None)
     → IfOk r (λ e. e.answer ≡ None) → IfOk r (λ e. Submits old payload new e)
 sent-if old new text payload bytes (Ok e) is c out accepted answer =
     sent-submitted old new text payload bytes e is c out accepted answer

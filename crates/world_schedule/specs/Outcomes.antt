@@ -13,13 +13,13 @@ use Rattle.world_schedule.specs.declared.outcome.SentFrame.{SentFrame}
 use Rattle.world_schedule.specs.declared.outcome.Accepted.{Accepted}
 use Rattle.world_schedule.specs.declared.outcome.Outcome.{Outcome}
 
--- an event, and the bytes that were sent in it with their destination
+-- an event, and the bytes that were sent in it with their kind and destination
 abbrev pub Shown : Type 0
 Shown = ℕ × steps.SentBytes
 
 -- as a frame is told
 abbrev pub shown_frame : SentFrame → Shown
-shown_frame f = (f.event, (to_of f.to, f.frame.items))
+shown_frame f = (f.event, (to_of f.to, f.kind, f.frame.items))
 
 -- as the definitions have it: the frame is spelled
 abbrev pub shown_sent : Sent → Shown

@@ -8,9 +8,9 @@ ghost use Rattle.world_schedule.specs.Hearing.{HearsAs};
 use crate::effect::Effect;
 use client_accept::{Receipt, Session};
 use frames_view::{Frame, read};
-use ids::Fault;
+use ids::{Fault, Kind};
 use mc_lines::read_canonical;
-use replica::To;
+use replica::{Sending, To};
 use std::alloc::Global;
 
 /// Has a client submit the request that a payload spells.
@@ -21,7 +21,14 @@ pub(crate) fn submit(alloc: Global, session: &mut Session, payload: &[u8]) -> Re
 {
     let request = read_canonical(payload).unwrap();
     match session.submit(&request) {
-        Ok(frame) => Effect::one(alloc, To::All, frame, None),
+        Ok(frame) => {
+            let sending = Sending {
+                to: To::All,
+                kind: Kind::Request,
+                frame,
+            };
+            Effect::one(alloc, sending, None)
+        }
         Err(fault) => Ok(Effect::only(alloc, Some(fault))),
     }
 }

@@ -1,11 +1,11 @@
 //! What an event does beside its change of a party.
 
 ghost use Rattle.std.specs.Prelude.{◌≡◌, [], ◌∷◌, map, None, IfOk, OnErr};
-ghost use Rattle.replica.specs.Outs.{sent_of, to_of};
+ghost use Rattle.replica.specs.Outs.{sent_of};
 
 use client_accept::Receipt;
 use ids::{ClientId, Fault};
-use replica::{Out, Sending, To};
+use replica::{Out, Sending};
 use std::alloc::Global;
 
 /// What a party sends and accepts in an event, and the refusal that it is answered, if any.
@@ -46,17 +46,16 @@ impl Effect {
     /// One frame, with an answer.
     pub(crate) fn one(
         alloc: Global,
-        to: To,
-        frame: Vec<u8>,
+        sending: Sending,
         answer: Option<Fault>,
     ) -> Result<Effect, Fault>
-        ensures out { IfOk result (λ e. map sent_of e.out.items ≡ (to_of to, frame.items) ∷ []) }
+        ensures out { IfOk result (λ e. map sent_of e.out.items ≡ sent_of sending ∷ []) }
         ensures accepted { IfOk result (λ e. e.accepted ≡ None) }
         ensures answer { IfOk result (λ e. e.answer ≡ answer) }
         ensures memory { OnErr result (result ≡ Err Fault.Memory) }
     {
         let mut out = Vec::new(alloc);
-        out.push(Sending { to, frame })?;
+        out.push(sending)?;
         Ok(Effect {
             out,
             accepted: None,

@@ -26,8 +26,13 @@ fn note_frame(frames: &mut Vec<SentFrame>, event: u64, sending: Sending) -> Resu
         ≡ map shown_frame frames.old.items ++ (event, sent_of sending) ∷ []) }
     ensures memory { OnErr result (result ≡ Err Fault.Memory) }
 {
-    let Sending { to, frame } = sending;
-    frames.push(SentFrame { event, to, frame })?;
+    let Sending { to, kind, frame } = sending;
+    frames.push(SentFrame {
+        event,
+        to,
+        kind,
+        frame,
+    })?;
     Ok(())
 }
 

@@ -5,15 +5,17 @@ ghost use Rattle.definitions.specs.Replicas.{held_history};
 
 use client_accept::Receipt;
 use executor::Entries;
-use ids::{ClientId, Fault, ReplicaId};
+use ids::{ClientId, Fault, Kind, ReplicaId};
 use replica::{Replica, To};
 use std::marker::Model;
 
-/// A frame of the record: in which event it was sent, counted from 1, where it goes, and its bytes.
+/// A frame of the record: in which event it was sent, counted from 1, where it goes, of what kind it
+/// is, and its bytes.
 #[derive(Drop)]
 pub struct SentFrame {
     pub event: u64,
     pub to: To,
+    pub kind: Kind,
     pub frame: Vec<u8>,
 }
 

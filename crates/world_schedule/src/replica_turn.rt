@@ -14,8 +14,8 @@ ghost use Rattle.world_schedule.specs.Asking.{Answers, Asks, is_lack, Refuses, S
 use crate::effect::Effect;
 use admission::{admit, missing};
 use authenticators::Keyring;
-use ids::Fault;
-use replica::{Input, Out, Replica, To};
+use ids::{Fault, Kind};
+use replica::{Input, Out, Replica, Sending, To};
 use std::alloc::Global;
 
 /// Brings bytes to a replica, checked with its keys.
@@ -47,7 +47,14 @@ fn ask(alloc: Global, replica: &Replica, bytes: &[u8]) -> Result<Effect, Fault>
         return Ok(Effect::only(alloc, refused));
     }
     match replica.write_fetch(to, &block) {
-        Ok(frame) => Effect::one(alloc, To::Replica(to), frame, refused),
+        Ok(frame) => {
+            let sending = Sending {
+                to: To::Replica(to),
+                kind: Kind::Fetch,
+                frame,
+            };
+            Effect::one(alloc, sending, refused)
+        }
         Err(_) => Ok(Effect::only(alloc, refused)),
     }
 }

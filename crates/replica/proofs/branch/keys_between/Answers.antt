@@ -1,7 +1,7 @@
 use Rattle.std.proofs.Common.{◌≡◌, ◌+◌, ◌++◌, ◌∙◌, ℕ, suc, List, [], map, arith, sym, ap, option_map}
 use Rattle.std.proofs.lemmas.List.{append-nil}
 use Rattle.definitions.specs.Frames.{Command, Core}
-use Rattle.replica.specs.Beats.{key_of}
+use Rattle.replica.specs.Picks.{key_of}
 use Rattle.replica.specs.Execution.{commands_at}
 use Rattle.replica.proofs.Executing.{commands-some, commands-none}
 use Rattle.replica.proofs.Walking.{keys-begin, keys-go_on, keys-all}

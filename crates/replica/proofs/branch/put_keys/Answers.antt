@@ -2,7 +2,7 @@ use Rattle.std.proofs.Common.{◌∙◌, ◌++◌, ◌∷◌, [], map, refl, sym
 use Rattle.std.proofs.lemmas.List.{append-nil}
 use Rattle.definitions.specs.Frames.{Command}
 use Rattle.frames_view.specs.Views.{command_of}
-use Rattle.replica.specs.Beats.{key_of}
+use Rattle.replica.specs.Picks.{key_of}
 use Rattle.replica.proofs.Walking.{over-next, over-all, puts-next}
 use Rattle.replica.proofs.branch.put_keys.Goals as goal
 

@@ -1,6 +1,6 @@
 use Rattle.std.proofs.Common.{◌++◌, map}
 use Rattle.frames_view.specs.Views.{commands_left}
-use Rattle.replica.specs.Beats.{key_of}
+use Rattle.replica.specs.Picks.{key_of}
 use Rattle.replica.proofs.Walking.{IsOver}
 use Rattle.replica.proofs.branch.put_keys.Given as goal
 

@@ -1,4 +1,4 @@
-use Rattle.std.proofs.Common.{refl, ◌≡◌, ◌-◌, ◌+◌, ◌++◌, ℕ, suc, [], arith, sym, ap, subst, ◌∙◌, option_map}
+use Rattle.std.proofs.Common.{refl, ◌≡◌, ◌+◌, ◌++◌, ℕ, suc, [], arith, sym, ap, subst, ◌∙◌, option_map}
 use Rattle.executor.proofs.Texts.{on_err}
 use Rattle.definitions.specs.Frames.{Core}
 use Rattle.definitions.specs.Histories.{History}

@@ -1,6 +1,7 @@
 use Rattle.ids.specs.declared.limits.TheConstants.{MOST_TEXT}
 use Rattle.std.proofs.Common.{◌≡◌, ◌&&◌, true, Some, None, length, arith, sym, ap, ◌∙◌, cond, nat_lt, nat_le}
 use Rattle.std.proofs.lemmas.Bool.{lt-ltb, le-leb}
+use Rattle.ids.specs.declared.kind.Kind.TheVariants as kind
 use Rattle.ids.specs.Sizes.{client_party}
 use Rattle.definitions.specs.Frames.{spelling}
 use Rattle.definitions.specs.Checks.{identity_of}
@@ -39,6 +40,7 @@ returns-clause-made c =
     } in
     (λ i. Some (
       to_party (client_party (c.client-client.ensures i)),
+      kind.Reply,
       (c.in_ok-frame.ensures.made ∙ ap (λ (x : Answer). spelling (reply_to (identity_of keys) x).1) same)
           i,
     ))

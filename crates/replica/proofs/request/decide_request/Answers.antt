@@ -4,7 +4,7 @@ use Rattle.definitions.specs.Histories.{last_seq}
 use Rattle.definitions.specs.States.{is_due}
 use Rattle.frames_view.specs.Views.{command_of}
 use Rattle.replica.specs.Requests.{old_change, IsRequestedIf}
-use Rattle.replica.proofs.Requests.{or-memory}
+use Rattle.replica.proofs.Decided.{or-memory}
 use Rattle.replica.proofs.request.decide_request.Goals as goal
 
 pub returns-then-last_seq-seq : goal.returns-then-last_seq-seq
@@ -38,5 +38,5 @@ returns-else-last_seq-seq c =
       c.seq.ensures,
     )) in
     subst (IsRequestedIf c.args.keyring.now c.args.state.now h r c.repeat.result) (sym late)
-    (or-memory c.repeat.result (old_change c.args.keyring.now c.args.state.now h r) c.repeat.ensures.made
+    (or-memory c.repeat.result (λ d. d ≡ old_change c.args.keyring.now c.args.state.now h r) c.repeat.ensures.made
     c.repeat.ensures.memory)

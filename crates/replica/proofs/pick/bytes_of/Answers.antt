@@ -5,7 +5,7 @@ use Rattle.std.specs.List.{flat_map}
 use Rattle.definitions.specs.Bytes.{Bytes}
 use Rattle.definitions.specs.Frames.{Command, command_bytes}
 use Rattle.replica.proofs.Walking.{bytes-next}
-use Rattle.replica.proofs.beat.bytes_of.Goals as goal
+use Rattle.replica.proofs.pick.bytes_of.Goals as goal
 
 pub loop-request-init : goal.loop-request-init
 loop-request-init c = c.new-bytes.ensures.items

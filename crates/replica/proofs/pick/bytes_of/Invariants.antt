@@ -1,7 +1,7 @@
 use Rattle.std.proofs.Common.{◌≡◌, map, take}
 use Rattle.std.specs.List.{flat_map}
 use Rattle.definitions.specs.Frames.{command_bytes}
-use Rattle.replica.proofs.beat.bytes_of.Given as goal
+use Rattle.replica.proofs.pick.bytes_of.Given as goal
 
 abbrev pub invariant-loop-request : goal.invariant-loop-request
 invariant-loop-request l =
