@@ -1,14 +1,13 @@
 -- What a timeout and an announced view change is what their steps change.
 use Rattle.ids.specs.declared.fault.Fault.{Fault}
 use Rattle.ids.specs.declared.fault.Fault.TheVariants as fault
-use Rattle.std.proofs.Common.{ℕ, ◌≡◌, ◌<◌, Bool, true, false, true≢false, List, [], ◌∷◌, length, cond}
-use Rattle.std.proofs.Common.{nat_lt, refl, sym, ap, ◌∙◌, subst, Option, Some, None, Result, Ok, Err, IfOk}
+use Rattle.std.proofs.Common.{ℕ, ◌≡◌, ◌<◌, Bool, true, false, true≢false, [], ◌∷◌, length, cond}
+use Rattle.std.proofs.Common.{nat_lt, refl, sym, ap, ◌∙◌, subst, Option, Some, None, Result, Err, IfOk}
 use Rattle.std.proofs.Common.{OnErr}
 use Rattle.std.specs.Option.{unwrap_or}
 use Rattle.std.specs.Prelude.{IsTrue, ◌↔◌}
 use Rattle.std.proofs.lemmas.Bool.{lt-ltb, ltb-true, false_from_ne_true}
 use Rattle.ids.specs.Sizes.{Sizes}
-use Rattle.definitions.specs.Lists.{Among}
 use Rattle.definitions.specs.Branches.{Branch}
 use Rattle.definitions.specs.Keyrings.{Keys}
 use Rattle.definitions.specs.Checks.{identity_of}
@@ -30,15 +29,15 @@ use Rattle.replica.specs.declared.change.Change.{Change}
 use Rattle.replica.specs.declared.state.High.{High}
 use Rattle.replica.specs.declared.stored.GotNewView.{GotNewView}
 use Rattle.replica.specs.Replay.{or_genesis}
-use Rattle.replica.specs.Steps.{SentBytes, shown}
+use Rattle.replica.specs.Steps.{shown}
 use Rattle.replica.specs.Kept.{Variables, StateParts, high_of, variables_of, IsStateOf}
 use Rattle.replica.specs.Changes.{changed_variables, raise_of, IsStep}
 use Rattle.replica.specs.Announcements.{new_view_sent, timeout_change, IsTimeout, new_view_change}
 use Rattle.replica.specs.Announcements.{IsAnnounced, IsNewViewAt, IsNewView}
 use Rattle.replica.specs.StepsTo.{Follows, StepsTo, answer, after}
-use Rattle.replica.proofs.Steps.{shown-if, is_beat, collects, BringsKnown, refused-for-memory, stands, asks}
-use Rattle.std.proofs.lemmas.Option.{same_Some}
-use Rattle.replica.proofs.Stays.{calm, AreHigh, raise-is, variables-calm, variables-noted}
+use Rattle.replica.proofs.Steps.{shown-if, is_beat, collects, BringsKnown, brings-none, brings-one, asks, refused}
+use Rattle.replica.proofs.Decided.{or-memory, decided}
+use Rattle.replica.proofs.Stays.{AreHigh, raise-is, variables-calm, variables-noted}
 
 -- ---- a timeout
 
@@ -78,48 +77,37 @@ timeout-step keys c s d o t =
       out = (λ i. new_view_sent keys (at i) (q i) ∷ []) ∙ timeout-sent keys c;
     })
 
-timeout-brings : (keys : Keys) (c : Chronicle) → BringsKnown keys.sizes (noted timed_out) c
-unfolding raised
-timeout-brings keys c q e = absurd (let k : None ≡ Some q = e in cc)
-
 pub timeout-decided : (keys : Keys) (c : Chronicle) (s : StateParts) (result : Result Change Fault)
     → IfOk result (IsTimeout keys s) → OnErr result (result ≡ Err fault.Memory) → IsStateOf keys c s
     → StepsTo keys timeout_in c (answer result) (after result s)
-unfolding ruling conflicts
-timeout-decided keys c s (Ok d) made memory o =
-    stands keys _ c (noted timed_out) d s refl refl
-    (ruling-sound (identity_of keys) timeout_in c tt o.sound) (timeout-brings keys c)
-    (calm (noted timed_out) c s.pending refl o.waits) o (timeout-step keys c s d o made) tt
-    (ap (λ (x : Change). collects x.growth) made.change)
-timeout-decided keys c s (Err n) made memory o =
-    subst (λ (x : Result (List SentBytes) Fault). StepsTo keys timeout_in c x s) (sym (ap answer memory))
-    (refused-for-memory keys _ c (noted timed_out) s refl o)
+unfolding ruling conflicts raised
+timeout-decided keys c s result made memory o =
+    decided keys _ c (noted timed_out) s result (IsTimeout keys s) refl
+    (ruling-sound (identity_of keys) timeout_in c tt o.sound) refl
+    (brings-none keys.sizes (noted timed_out) c refl) refl o tt
+    (λ d t. (timeout-step keys c s d o t, ap (λ (x : Change). collects x.growth) t.change))
+    (or-memory result _ made memory)
 
 -- ---- an announced view
 
 module _ (keys : Keys) (c : Chronicle) (n : GotNewView) (b : Branch)
     (found : find_in n.certificate.digest (tree c) ≡ Some b) where
-  note : Note
+  abbrev note : Note
   note = got_new_view n.view n.sender n.certificate b
 
-  note-named : note ≡ got_new_view n.view n.sender n.certificate b
-  unfolding note
-  note-named = refl
-
-  is-note : is_beat (noted note) ≡ false
-  unfolding note Rattle.replica.proofs.Steps.is_beat
-  is-note = refl
-
-  block : BlockRef
+  abbrev block : BlockRef
   block = record { digest = n.certificate.digest; height = length b }
 
   block-is : block ≡ ref_of b
-  unfolding block
   block-is =
       λ i. record { digest = sym (found-in n.certificate.digest (tree c) b found).1 i; height = length b }
 
+  is-note : is_beat (noted note) ≡ false
+  unfolding Rattle.replica.proofs.Steps.is_beat
+  is-note = refl
+
   brought : raised keys.sizes (noted note) c ≡ Some (record { block = b; certificate = n.certificate })
-  unfolding raised note
+  unfolding raised
   brought = refl
 
   high-is : AreHigh keys (noted note) c
@@ -131,23 +119,22 @@ module _ (keys : Keys) (c : Chronicle) (n : GotNewView) (b : Branch)
       (new_view_sent keys (view keys.sizes (noted note ∷ c))
       (qc_high keys.sizes (noted note ∷ c)).certificate ∷ []) []
       ≡ shown (sendings (identity_of keys) (noted note) c)
-  unfolding note sendings Rattle.definitions.specs.Sendings.new_view_frame
+  unfolding sendings Rattle.definitions.specs.Sendings.new_view_frame
   sent-is = sym (shown-if (nat_lt (view keys.sizes c) (view keys.sizes (noted note ∷ c)))
       (to_all, new_view_frame (identity_of keys) (noted note ∷ c)))
 
   -- the announcement as it is stored
   note-is : noted (got_new_view n.view n.sender n.certificate
       (or_genesis (find_in n.certificate.digest (blocks (stored_blocks c))))) ≡ noted note
-  unfolding note tree
+  unfolding tree
   note-is =
       ap (λ (o : Option Branch). noted (got_new_view n.view n.sender n.certificate (or_genesis o))) found
 
   announced-step : (s : StateParts) (d : Change) → IsStateOf keys c s → IsAnnounced keys s block n d
       → IsStep keys c (noted note) s.pace d
-  unfolding block Rattle.replica.proofs.Steps.is_beat
   announced-step s d o t =
       let sizes : t.pace.sizes ≡ keys.sizes = t.its_pace.sizes ∙ o.sizes in
-      let pace = t.its_pace.paced c note (n.certificate, b, note-named) o.pace in
+      let pace = t.its_pace.paced c note (n.certificate, b, refl) o.pace in
       let was = view-after keys c s.pace o.sizes o.pace in
       let at = view-after keys (noted note ∷ c) t.pace sizes pace in
       let r : High → Option High = λ h. raise_of (record { block = block; certificate = n.certificate }) h in
@@ -168,25 +155,16 @@ module _ (keys : Keys) (c : Chronicle) (n : GotNewView) (b : Branch)
         out = (λ i. cond (nat_lt (was i) (at i)) (new_view_sent keys (at i) (q i) ∷ []) []) ∙ sent-is;
       })
 
-  announced-block : (s : StateParts) (d : Change)
-      → IsAnnounced keys s (record { digest = n.certificate.digest; height = length b }) n d
-      → IsAnnounced keys s block n d
-  unfolding block
-  announced-block s d h = h
-
   note-sound : IsSound keys.sizes c → IsSound keys.sizes (noted note ∷ c)
-  unfolding note ruling find_block
+  unfolding ruling find_block
   note-sound so = subst (OnStands (λ st. IsSound keys.sizes (st ∷ c)))
       (ap (λ (o : Option Branch). with_block o n.sender n.certificate.digest
       (λ x. rulings.due (noted (got_new_view n.view n.sender n.certificate x)))) found)
       (ruling-sound (identity_of keys) (new_view_in n.view n.sender n.certificate) c tt so)
 
   new-view-brings : BringsKnown keys.sizes (noted note) c
-  new-view-brings q e =
-      let k : record { block = b; certificate = n.certificate } ≡ q =
-      same_Some (record { block = b; certificate = n.certificate }) q (sym brought ∙ e) in
-      subst (λ (j : Justified). Among j.block (tree (noted note ∷ c))) k
-      (tree-grows (noted note) c b (found-in n.certificate.digest (tree c) b found).0)
+  new-view-brings = brings-one keys.sizes (noted note) c (record { block = b; certificate = n.certificate })
+      brought (tree-grows (noted note) c b (found-in n.certificate.digest (tree c) b found).0)
 
 -- by what is found
 new-view-by : (keys : Keys) (c : Chronicle) (s : StateParts) (n : GotNewView) (result : Result Change Fault)
@@ -195,20 +173,13 @@ new-view-by : (keys : Keys) (c : Chronicle) (s : StateParts) (n : GotNewView) (r
     → Follows keys (with_block o n.sender n.certificate.digest
     (λ x. rulings.due (noted (got_new_view n.view n.sender n.certificate x)))) c (answer result)
     (after result s)
-unfolding note conflicts
+unfolding conflicts
 new-view-by keys c s n result o None e h =
-    subst (λ (r : Result Change Fault). Follows keys (rulings.missing n.sender n.certificate.digest) c
-    (answer r) (after r s)) (sym h) (asks keys _ c n.sender n.certificate.digest s refl o)
-new-view-by keys c s n (Ok d) o (Some b) e h =
-    let st = noted (note keys c n b e) in
-    stands keys (rulings.due st) c st d s refl refl (note-sound keys c n b e o.sound)
-    (new-view-brings keys c n b e) (calm st c s.pending refl o.waits) o
-    (announced-step keys c n b e s d o (announced-block keys c n b e s d h)) tt
-    (ap (λ (x : Change). collects x.growth) h.change)
-new-view-by keys c s n (Err f) o (Some b) e h =
-    subst (λ (m : Fault). Follows keys (rulings.due (noted (got_new_view n.view n.sender n.certificate b)))
-    c (Err m) s) (sym h)
-    (refused-for-memory keys _ c (noted (got_new_view n.view n.sender n.certificate b)) s refl o)
+    refused keys _ c _ s result h (asks keys _ c n.sender n.certificate.digest s refl o)
+new-view-by keys c s n result o (Some b) e h =
+    decided keys _ c (noted (note keys c n b e)) s result _ refl (note-sound keys c n b e o.sound) refl
+    (new-view-brings keys c n b e) refl o tt
+    (λ d t. (announced-step keys c n b e s d o t, ap (λ (x : Change). collects x.growth) t.change)) h
 
 pub new-view-decided :
     (keys : Keys) (c : Chronicle) (s : StateParts) (n : GotNewView) (result : Result Change Fault)

@@ -1,5 +1,6 @@
 -- What a vote changes is what its step changes.
 use Rattle.ids.specs.declared.fault.Fault.{Fault}
+use Rattle.ids.specs.declared.fault.Fault.TheVariants as fault
 use Rattle.std.proofs.Common.{◌≡◌, ◌<◌, ◌≤◌, Bool, true, false, ◌∷◌, length, cond, nat_lt, refl, sym, ap}
 use Rattle.std.proofs.Common.{◌∙◌, arith, subst, Option, Some, None, Result, Ok, Err}
 use Rattle.std.proofs.lemmas.Bool.{cond_both, ltb-true, ltb-false}
@@ -35,7 +36,7 @@ use Rattle.replica.specs.Changes.{pended, changed, changed_variables, votes_afte
 use Rattle.replica.specs.Ballots.{vote_noted, vote_counted, vote_change, IsVoteAt, IsVoteDecided}
 use Rattle.replica.specs.StepsTo.{Follows, StepsTo, answer, after}
 use Rattle.pacemaker.proofs.Reached.{paced-still}
-use Rattle.replica.proofs.Steps.{is_beat, BringsKnown, refused-for-memory, stands-with, asks}
+use Rattle.replica.proofs.Steps.{is_beat, BringsKnown, refused-for-memory, stands-with, asks, refused}
 use Rattle.std.proofs.lemmas.Option.{same_Some}
 use Rattle.replica.proofs.Stays.{calm, leaf-same, leaf-raised, variables-noted}
 
@@ -45,24 +46,23 @@ made-by false p q e = absurd (let k : None ≡ Some q = e in cc)
 
 module _ (keys : Keys) (c : Chronicle) (s : StateParts) (is : IsStateOf keys c s) (d : Bytes) (vote : Vote)
     (b : Branch) (found : find_in d (tree c) ≡ Some b) where
-  note : Note
+  abbrev note : Note
   note = got_vote vote.voter vote.vector b
 
-  block : BlockRef
+  abbrev block : BlockRef
   block = record { digest = d; height = length b }
 
   block-is : block ≡ ref_of b
-  unfolding block
   block-is = λ i. record { digest = sym (found-in d (tree c) b found).1 i; height = length b }
 
   is-note : is_beat (noted note) ≡ false
-  unfolding note Rattle.replica.proofs.Steps.is_beat
+  unfolding Rattle.replica.proofs.Steps.is_beat
   is-note = refl
 
   -- the vote as it is stored
   note-is : noted (got_vote vote.voter vote.vector (or_genesis (find_in d (blocks (stored_blocks c)))))
       ≡ noted note
-  unfolding note tree
+  unfolding tree
   note-is = ap (λ (o : Option Branch). noted (got_vote vote.voter vote.vector (or_genesis o))) found
 
   follows : FollowsVote keys.sizes c s.votes.kept d b vote
@@ -76,7 +76,7 @@ module _ (keys : Keys) (c : Chronicle) (s : StateParts) (is : IsStateOf keys c s
   -- where the highest certificate stays
   noted-step : qc_high keys.sizes (noted note ∷ c) ≡ qc_high keys.sizes c
       → IsStep keys c (noted note) s.pace (vote_noted s block vote)
-  unfolding block sendings note
+  unfolding sendings
   noted-step q = record {
     variables = (λ i. changed_variables (vote_noted (record s { variables = is.same i }) block vote)
         (variables_of keys c))
@@ -99,7 +99,7 @@ module _ (keys : Keys) (c : Chronicle) (s : StateParts) (is : IsStateOf keys c s
       → qc_high keys.sizes (noted note ∷ c)
       ≡ record { block = b; certificate = made_with d vote s.votes.kept }
       → IsStep keys c (noted note) s.pace (vote_counted s block vote Complete)
-  unfolding block sendings note
+  unfolding sendings
   complete-step lt q =
       let made : Justified = record { block = b; certificate = made_with d vote s.votes.kept } in
       record {
@@ -121,18 +121,15 @@ module _ (keys : Keys) (c : Chronicle) (s : StateParts) (is : IsStateOf keys c s
   counted-comes : certified keys.sizes c < length b → (a : Added)
       → judged (quorum keys.sizes) vote.voter (votes_for d s.votes.kept) ≡ a
       → Comes (vote_counted s block vote a)
-  unfolding block note
   counted-comes lt Doubled e = let l = follows.doubled lt e in record { step = noted-step l.1; votes = l.0 }
   counted-comes lt First e = let l = follows.first lt e in record { step = first-step l.1; votes = l.0 }
   counted-comes lt Complete e =
       let l = follows.complete lt e in record { step = complete-step lt l.1; votes = l.0 }
 
   low-comes : length b ≤ certified keys.sizes c → Comes (vote_noted s block vote)
-  unfolding block note
   low-comes le = let l = follows.low le in record { step = noted-step l.1; votes = l.0 }
 
   change-comes : Comes (vote_change s block vote)
-  unfolding block
   change-comes = by (nat_lt s.variables.high.block.height (length b)) refl
     where
       height : s.variables.high.block.height ≡ certified keys.sizes c
@@ -154,12 +151,12 @@ module _ (keys : Keys) (c : Chronicle) (s : StateParts) (is : IsStateOf keys c s
           low-comes (let k = ltb-false s.variables.high.block.height (length b) t in omega (arith, k, height))
 
   vote-brings : BringsKnown keys.sizes (noted note) c
-  unfolding raised note
+  unfolding raised
   vote-brings q e = subst (λ (j : Justified). Among j.block (tree (noted note ∷ c))) (made-by _ _ q e)
       (tree-grows (noted note) c b (found-in d (tree c) b found).0)
 
   vote-sound : IsSound keys.sizes (noted note ∷ c)
-  unfolding note ruling find_block
+  unfolding ruling find_block
   vote-sound = subst (OnStands (λ st. IsSound keys.sizes (st ∷ c)))
       (ap (λ (o : Option Branch). with_block o vote.voter d
       (λ x. rulings.due (noted (got_vote vote.voter vote.vector x)))) found)
@@ -187,11 +184,9 @@ vote-by :
     → Follows keys
     (with_block o vote.voter d (λ x. rulings.due (noted (got_vote vote.voter vote.vector x)))) c
     (answer result) (after result s)
-unfolding note block conflicts
+unfolding conflicts
 vote-by keys c s d vote result is None e h =
-    subst
-    (λ (r : Result Change Fault). Follows keys (rulings.missing vote.voter d) c (answer r) (after r s))
-    (sym h) (asks keys _ c vote.voter d s refl is)
+    refused keys _ c _ s result h (asks keys _ c vote.voter d s refl is)
 vote-by keys c s d vote (Ok x) is (Some b) e h =
     let st = noted (note keys c s is d vote b e) in
     let comes = change-comes keys c s is d vote b e in
@@ -201,9 +196,8 @@ vote-by keys c s d vote (Ok x) is (Some b) e h =
     (counted-waits s (record { digest = d; height = length b }) vote ∙ calm st c s.pending refl is.waits)
     is comes.step comes.votes)
 vote-by keys c s d vote (Err f) is (Some b) e h =
-    subst
-    (λ (m : Fault). Follows keys (rulings.due (noted (got_vote vote.voter vote.vector b))) c (Err m) s)
-    (sym h) (refused-for-memory keys _ c (noted (got_vote vote.voter vote.vector b)) s refl is)
+    refused keys _ c fault.Memory s _ (ap Err h)
+    (refused-for-memory keys _ c (noted (got_vote vote.voter vote.vector b)) s refl is)
 
 -- what a vote comes to
 pub vote-decided :

@@ -1,15 +1,13 @@
 -- What a beat changes is what its step changes.
-use Rattle.ids.specs.declared.limits.TheConstants.{MOST_BLOCKS}
 use Rattle.ids.specs.declared.fault.Fault.{Fault}
 use Rattle.ids.specs.declared.fault.Fault.TheVariants as fault
-use Rattle.std.proofs.Common.{suc, ◌≡◌, ◌≤◌, ◌<◌, ◌+◌, ◌^◌, ◌&&◌, Bool, true, false, [], ◌∷◌, length}
+use Rattle.std.proofs.Common.{suc, ◌≡◌, ◌<◌, ◌^◌, ◌&&◌, Bool, true, false, [], ◌∷◌, length}
 use Rattle.std.proofs.Common.{cond, refl, sym, ap, ◌∙◌, subst, arith, Option, Some, None, Result, Err}
 use Rattle.std.proofs.Common.{IfOk, OnErr}
 use Rattle.std.proofs.lemmas.Bool.{and_parts}
 use Rattle.std.specs.Prelude.{option_map}
 use Rattle.std.specs.Option.{option_or}
 use Rattle.std.specs.List.{flat_map}
-use Rattle.ids.specs.Sizes.{Sizes}
 use Rattle.sha2.specs.Sha256.{sha256}
 use Rattle.definitions.specs.Frames.{Certificate, command_bytes, core_text, certificate_bytes}
 use Rattle.definitions.specs.Branches.{Branch}
@@ -21,7 +19,6 @@ use Rattle.definitions.specs.States.{Justified, view, qc_high, pending, leads, i
 use Rattle.definitions.specs.States.{leaf, proposed, or_else, made_with, raised}
 use Rattle.definitions.specs.Rulings.{Input.beat_in, ruling, conflicts}
 use Rattle.definitions.specs.Sendings.{sendings, proposes}
-use Rattle.pacemaker.specs.Pacing.{Pace, IsPaceOf}
 use Rattle.pacemaker.proofs.Reached.{paced-still}
 use Rattle.replica_rules.specs.Ruled.{ref_of}
 use Rattle.replica.specs.declared.change.Change.{Change}
@@ -32,7 +29,8 @@ use Rattle.replica.specs.Beats.{child_height, child_of, proposal_sent, made_by, 
 use Rattle.replica.specs.Beats.{beat_change}
 use Rattle.replica.specs.StepsTo.{StepsTo, answer, after}
 use Rattle.replica.proofs.Steps.{collects, brings-none}
-use Rattle.replica.proofs.Decided.{or-memory, decided}
+use Rattle.replica.proofs.Decided.{or-memory, kept_at, where-kept, decided}
+use Rattle.definitions.proofs.Sound.{ruling-sound}
 use Rattle.replica.proofs.Picks.{picks-known}
 
 -- a proposal of a block, with this certificate
@@ -45,8 +43,8 @@ last-is : (x : Option Branch) (q : Certificate) (p : Option Justified)
 last-is None q p = refl
 last-is (Some b) q p = refl
 
-module _ (keys : Keys) (c : Chronicle) (so : IsSound keys.sizes c) (few : length c < 2 ^ 63)
-    (low : length (leaf (identity_of keys) c) ≤ length c + MOST_BLOCKS) (pace : Pace) where
+module _ (keys : Keys) (c : Chronicle) (kept : StateParts) (few : length c < 2 ^ 63)
+    (is : IsStateOf keys c (kept_at keys c kept)) where
   abbrev self : Identity
   self = identity_of keys
 
@@ -56,18 +54,12 @@ module _ (keys : Keys) (c : Chronicle) (so : IsSound keys.sizes c) (few : length
   abbrev high : Justified
   high = qc_high keys.sizes c
 
-  -- what is kept where this chronicle stands
   abbrev s : StateParts
-  s = record {
-    variables = variables_of keys c;
-    pace = record pace { view = view keys.sizes c };
-    votes = record { sizes = keys.sizes; kept = [] };
-    pending = pending c;
-  }
+  s = kept_at keys c kept
 
   -- its height is within 64 bits
   height-is : child_height (ref_of on) ≡ suc (length on)
-  height-is = grind arith
+  height-is = grind (arith, is.leaf_low, few)
 
   -- what is made, and the leaf that it becomes
   made-is : (made_by keys s ≡ option_map (own_with high.certificate) (child self c on))
@@ -83,7 +75,7 @@ module _ (keys : Keys) (c : Chronicle) (so : IsSound keys.sizes c) (few : length
           (made ≡ option_map (own_with high.certificate) x)
           × (leaf_with made (ref_of on) ≡ ref_of (or_else x on))
       by true k =
-          let took = picks-known keys c so (and_parts (leads self c) (is_known (digest_of on) c) k).1 in
+          let took = picks-known keys c is.sound (and_parts (leads self c) (is_known (digest_of on) c) k).1 in
           let own : child_of s
           ≡ own_with high.certificate
           (record { commands = picks c (known_as on c); justify = length high.block } ∷ on) =
@@ -105,19 +97,19 @@ module _ (keys : Keys) (c : Chronicle) (so : IsSound keys.sizes c) (few : length
   sent-is true (Some p) = refl
   sent-is false p = refl
 
-  step-is : pace.sizes ≡ keys.sizes → IsPaceOf c pace → IsStep keys c (noted beat) pace (beat_change keys s)
+  step-is : IsStep keys c (noted beat) s.pace (beat_change keys s)
   unfolding leaf proposed leads sendings qc_high raised Rattle.definitions.specs.Chronicles.stored_blocks
       Rattle.definitions.specs.Chronicles.taken_blocks Rattle.definitions.specs.Chronicles.vheight
       Rattle.definitions.specs.Chronicles.voted_blocks Rattle.definitions.specs.Chronicles.lock
       Rattle.definitions.specs.Chronicles.executed Rattle.definitions.specs.Chronicles.decided
-  step-is sizes paced =
+  step-is =
       let own = ap (λ (o : Option Own). option_or o (option_map own_of (proposed self c))) made-is.0
       ∙ last-is (child self c on) high.certificate (proposed self c) in
       record {
         variables = λ i. record (variables_of keys c)
             { chronicle = noted beat ∷ c; leaf = made-is.1 i; own = own i };
-        sizes = sizes;
-        pace = paced-still (noted beat) c pace tt paced;
+        sizes = is.sizes;
+        pace = paced-still (noted beat) c s.pace tt is.pace;
         out = ap (last_sent keys s) own
             ∙ sent-is (leads self c) (made_with (child self c on) high.certificate (proposed self c));
       }
@@ -128,13 +120,13 @@ pub beat-decided : (keys : Keys) (c : Chronicle) (s : StateParts) (result : Resu
     → OnErr result (result ≡ Err fault.Memory) → IsStateOf keys c s
     → StepsTo keys beat_in c (answer result) (after result s)
 unfolding ruling conflicts raised
-beat-decided keys c s result few made memory o =
-    let at : s.pace.view ≡ view keys.sizes c = o.pace.view ∙ ap (λ (z : Sizes). view z c) o.sizes in
-    decided keys beat_in c (noted beat) s result (λ d. d ≡ beat_change keys s) tt refl refl
-    (brings-none keys.sizes (noted beat) c refl) refl o tt
+beat-decided keys c s result few made memory o = where-kept keys c s
+    (λ x. IfOk result (λ d. d ≡ beat_change keys x) → StepsTo keys beat_in c (answer result) (after result x))
+    o
+    (λ k made. decided keys _ c (noted beat) (kept_at keys c s) result _ refl
+    (ruling-sound (identity_of keys) beat_in c tt o.sound) refl (brings-none keys.sizes (noted beat) c refl)
+    refl k tt
     (λ d e. (
-      subst (IsStep keys c (noted beat) s.pace) (sym (e ∙ (λ i. beat_change keys (record s
-          { variables = o.same i; pace = record s.pace { view = at i }; pending = o.waits i }))))
-          (step-is keys c o.sound few o.leaf_low s.pace o.sizes o.pace),
+      subst (IsStep keys c (noted beat) (kept_at keys c s).pace) (sym e) (step-is keys c s few k),
       ap (λ (x : Change). collects x.growth) e,
-    )) (or-memory result _ made memory)
+    )) (or-memory result _ made memory)) made

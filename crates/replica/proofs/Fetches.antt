@@ -2,7 +2,7 @@
 use Rattle.ids.specs.declared.fault.Fault.{Fault}
 use Rattle.ids.specs.declared.fault.Fault.TheVariants as fault
 use Rattle.std.proofs.Common.{ℕ, ◌≡◌, Bool, true, false, true≢false, List, [], ◌∷◌, map, find, cond, refl}
-use Rattle.std.proofs.Common.{sym, ap, ◌∙◌, subst, Option, Some, None, Result, Ok, Err, IfOk, OnErr}
+use Rattle.std.proofs.Common.{sym, ap, ◌∙◌, subst, Option, Some, None, Result, Err, IfOk, OnErr}
 use Rattle.std.specs.Prelude.{option_map, bytes_eq}
 use Rattle.std.proofs.lemmas.Bool.{false_from_ne_true}
 use Rattle.std.proofs.lemmas.Slice.Eq.{bytes_eq-Decides}
@@ -24,14 +24,15 @@ use Rattle.definitions.proofs.Trees.{found-in}
 use Rattle.block_tree.specs.Finding.{stored_in}
 use Rattle.replica.specs.declared.change.Change.{Change}
 use Rattle.replica.specs.declared.stored.GotFetch.{GotFetch}
-use Rattle.replica.specs.Steps.{SentBytes, shown}
+use Rattle.replica.specs.Steps.{shown}
 use Rattle.replica.specs.Kept.{Variables, StateParts, variables_of, IsStateOf}
 use Rattle.replica.specs.Changes.{changed_variables, IsStep}
 use Rattle.replica.specs.Fetches.{supplied, fetch_change}
 use Rattle.replica.specs.StepsTo.{StepsTo, answer, after}
 use Rattle.pacemaker.proofs.Reached.{paced-still}
-use Rattle.replica.proofs.Steps.{collects, BringsKnown, refused-for-memory, stands}
-use Rattle.replica.proofs.Stays.{calm, variables-calm}
+use Rattle.replica.proofs.Steps.{collects, brings-none}
+use Rattle.replica.proofs.Decided.{or-memory, decided}
+use Rattle.replica.proofs.Stays.{variables-calm}
 
 -- ---- the block that is asked for
 
@@ -120,26 +121,18 @@ fetch-step keys c s f o =
           ∙ sym (shown-supplied keys f.sender (as_taken (find_block f.block c) c));
     }
 
--- a question brings no certificate
-brings-none : (keys : Keys) (c : Chronicle) (to : ℕ) (o : Option Branch)
-    → BringsKnown keys.sizes (noted (got_fetch to o)) c
-unfolding raised
-brings-none keys c to o q e = absurd (let k : None ≡ Some q = e in cc)
-
 pub fetch-decided :
     (keys : Keys) (c : Chronicle) (s : StateParts) (f : GotFetch) (result : Result Change Fault)
     → IfOk result (λ d. d ≡ fetch_change keys s.variables f) → OnErr result (result ≡ Err fault.Memory)
     → IsStateOf keys c s
     → StepsTo keys (fetch_in f.sender f.block) c (answer result) (after result s)
-unfolding ruling conflicts
-fetch-decided keys c s f (Ok d) made memory o =
-    let st = got_fetch f.sender (find_block f.block c) in
-    stands keys _ c (noted st) d s refl refl
-    (ruling-sound (identity_of keys) (fetch_in f.sender f.block) c tt o.sound)
-    (brings-none keys c f.sender (find_block f.block c)) (calm (noted st) c s.pending refl o.waits) o
-    (subst (IsStep keys c (noted st) s.pace) (sym made) (fetch-step keys c s f o)) tt
-    (ap (λ (x : Change). collects x.growth) made)
-fetch-decided keys c s f (Err n) made memory o =
-    subst (λ (x : Result (List SentBytes) Fault). StepsTo keys (fetch_in f.sender f.block) c x s)
-    (sym (ap answer memory))
-    (refused-for-memory keys _ c (noted (got_fetch f.sender (find_block f.block c))) s refl o)
+unfolding ruling conflicts raised
+fetch-decided keys c s f result made memory o =
+    let st = noted (got_fetch f.sender (find_block f.block c)) in
+    decided keys _ c st s result _ refl
+    (ruling-sound (identity_of keys) (fetch_in f.sender f.block) c tt o.sound) refl
+    (brings-none keys.sizes st c refl) refl o tt
+    (λ d e. (
+      subst (IsStep keys c st s.pace) (sym e) (fetch-step keys c s f o),
+      ap (λ (x : Change). collects x.growth) e,
+    )) (or-memory result _ made memory)

@@ -13,10 +13,9 @@ use Rattle.definitions.specs.Keyrings.{Keys}
 use Rattle.definitions.specs.Checks.{identity_of}
 use Rattle.definitions.specs.Chronicles.{Step.noted, Note.got_request, Chronicle, history, IsSound}
 use Rattle.definitions.specs.States.{raised, is_due, is_same_request, pending, with_request}
-use Rattle.definitions.specs.Rulings.{Input.request_in, Ruling, Ruling.due, Ruling.refusing, ruling}
+use Rattle.definitions.specs.Rulings.{Input.request_in, Ruling.due, Ruling.refusing, ruling}
 use Rattle.definitions.specs.Rulings.{on_request, conflicts}
 use Rattle.definitions.specs.Sendings.{again, sendings, reply_to}
-use Rattle.definitions.specs.Replicas.{ample, on_ruling}
 use Rattle.linear_law.proofs.Sends.{answer_to-among}
 use Rattle.mempool.specs.Pool.{planned_for}
 use Rattle.mempool.proofs.Following.{request-history, follows_request}
@@ -30,9 +29,10 @@ use Rattle.replica.specs.Changes.{noting, sent_first, asked, pended, collected, 
 use Rattle.replica.specs.Changes.{IsStep}
 use Rattle.replica.specs.Requests.{is_full, growth_for, IsWaiting, reply_again, again_sent, old_change}
 use Rattle.replica.specs.Requests.{IsRequestedIf, IsRequested}
-use Rattle.replica.specs.StepsTo.{IsRefused, Follows, StepsTo, answer, after}
-use Rattle.replica.proofs.Steps.{brings-none, refused-for-memory, stands-with, votes-else}
-use Rattle.replica.proofs.Decided.{due-sound}
+use Rattle.replica.specs.StepsTo.{Follows, StepsTo, answer, after}
+use Rattle.replica.proofs.Steps.{brings-none, refuses, refused, refused-for-memory, stands-with, votes-else}
+use Rattle.replica.proofs.Decided.{KeepsSound}
+use Rattle.definitions.proofs.Sound.{ruling-sound}
 use Rattle.replica.proofs.Stays.{variables-calm}
 use Rattle.replica.proofs.Advancing.{sendable-is}
 
@@ -90,7 +90,8 @@ module _ (keys : Keys) (c : Chronicle) (s : StateParts) (r : Command) (o : IsSta
   comes g out e w t =
       let st = noted (got_request r) in
       let d : Change = record (noting s.variables (GotRequest r) out) { growth = growth_for g } in
-      let so = due-sound keys (request_in r) c st tt o.sound e in
+      let so : IsSound keys.sizes (st ∷ c) = subst (KeepsSound keys c) e
+      (ruling-sound (identity_of keys) (request_in r) c tt o.sound) in
       let x = step-is g out t in
       stands-with keys (on_request r c) c st d s e refl so (brings-none keys.sizes st c refl) w o x
       (votes-else keys st c d s tt (kept-votes g) so.is_tree o.votes x)
@@ -149,13 +150,12 @@ module _ (keys : Keys) (c : Chronicle) (s : StateParts) (h : History) (r : Comma
   -- it may wait
   waits-by : (result : Result Change Fault) (b : Bool) → is_due h r ≡ true → is_full r s.pending ≡ b
       → IsWaiting s r result b → Comes result
-  unfolding Comes on_ruling
+  unfolding Comes
   waits-by result true d f w =
       let ruled = ruled-by c r true true (ap (λ (x : History). is_due x r) (sym before) ∙ d)
       (ap (is_full r) (sym o.waits) ∙ f) in
-      subst (λ (x : Result Change Fault). Follows keys (on_request r c) c (answer x) (after x s)) (sym w)
-      (subst (λ (v : Ruling). IsRefused keys v c fault.PoolFull s) (sym ruled)
-      (record { memory = ample; state = o; left = refl; answer = refl }))
+      refused keys (on_request r c) c fault.PoolFull s result w
+      (refuses keys (on_request r c) c fault.PoolFull s ruled refl o)
   waits-by (Ok d) false e f w =
       let due_now = ap (λ (x : History). is_due x r) (sym before) ∙ e in
       let ruled = ruled-by c r true false due_now (ap (is_full r) (sym o.waits) ∙ f) in
@@ -168,7 +168,7 @@ module _ (keys : Keys) (c : Chronicle) (s : StateParts) (h : History) (r : Comma
   waits-by (Err n) false e f w =
       let ruled = ruled-by c r true false (ap (λ (x : History). is_due x r) (sym before) ∙ e)
       (ap (is_full r) (sym o.waits) ∙ f) in
-      subst (λ (m : Fault). Follows keys (on_request r c) c (Err m) s) (sym w)
+      refused keys (on_request r c) c fault.Memory s _ (ap Err w)
       (refused-for-memory keys (on_request r c) c (noted (got_request r)) s ruled o)
 
   late-ruled : is_due h r ≡ false → on_request r c ≡ due (noted (got_request r))
@@ -185,7 +185,7 @@ module _ (keys : Keys) (c : Chronicle) (s : StateParts) (h : History) (r : Comma
       subst (λ (x : Change). Follows keys (on_request r c) c (Ok x.out) (changed x s)) (sym w)
       (comes keys c s r o None (again_sent keys h r) (late-ruled e) waits
       (again-sent keys c h r before o.sound fit))
-  comes-late (Err n) e w = subst (λ (m : Fault). Follows keys (on_request r c) c (Err m) s) (sym w)
+  comes-late (Err n) e w = refused keys (on_request r c) c fault.Memory s _ (ap Err w)
       (refused-for-memory keys (on_request r c) c (noted (got_request r)) s (late-ruled e) o)
 
   pub request-decided : (result : Result Change Fault) → IsRequested keys s h r result

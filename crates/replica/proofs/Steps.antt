@@ -20,9 +20,10 @@ use Rattle.definitions.specs.States.{Justified, raised, higher, qc_high, leaf, c
 use Rattle.definitions.specs.States.{leads}
 use Rattle.definitions.specs.Frames.{Command}
 use Rattle.definitions.specs.Digests.{digest_of}
-use Rattle.definitions.specs.Rulings.{Ruling, Ruling.due, Ruling.missing, conflicts}
+use Rattle.definitions.specs.Rulings.{Ruling, Ruling.due, Ruling.missing, Ruling.refusing, conflicts}
 use Rattle.definitions.specs.Sendings.{Sending, sendings}
-use Rattle.definitions.specs.Replicas.{ample, refused_at_once, running, stopped_at, Replica, Reaction}
+use Rattle.definitions.specs.Replicas.{ample, refused_at_once, running, stopped, stopped_at, stops, Replica}
+use Rattle.definitions.specs.Replicas.{Reaction}
 use Rattle.definitions.specs.Replicas.{sends_out, fails, on_step, on_ruling}
 use Rattle.definitions.proofs.Chronicles.{tree-grows}
 use Rattle.std.specs.Option.{unwrap_or}
@@ -39,7 +40,7 @@ use Rattle.replica.specs.Steps.{SentBytes, bytes_of, shown, Shows}
 use Rattle.replica.specs.Kept.{Variables, StateParts, high_of, IsStateOf}
 use Rattle.replica.specs.Changes.{asked, pended, collected, left_above, votes_after, changed}
 use Rattle.replica.specs.Changes.{changed_variables, IsStep}
-use Rattle.replica.specs.StepsTo.{IsRefused, Follows}
+use Rattle.replica.specs.StepsTo.{halts, IsRefused, Follows, answer, after}
 
 -- ---- the highest certificate and the leaf
 
@@ -256,6 +257,24 @@ unfolding on_ruling
 asks keys v c sender d s e o =
     subst (λ (x : Ruling). IsRefused keys x c fault.UnknownParent s) (sym e)
     (record { memory = ample; state = o; left = refl; answer = refl })
+
+-- an input that is refused
+pub refuses : (keys : Keys) (v : Ruling) (c : Chronicle) (n : Fault) (s : StateParts) → v ≡ refusing n
+    → stops n ≡ halts n → IsStateOf keys c s → Follows keys v c (Err n) s
+unfolding on_ruling
+refuses keys v c n s e h o = subst (λ (x : Ruling). IsRefused keys x c n s) (sym e) (record {
+  memory = ample;
+  state = o;
+  left = ap (λ (b : Bool). record { chronicle = c; standing = cond b stopped running }) h;
+  answer = refl;
+})
+
+-- where a refusal was decided
+pub refused : (keys : Keys) (v : Ruling) (c : Chronicle) (n : Fault) (s : StateParts)
+    (result : Result Change Fault) → result ≡ Err n → Follows keys v c (Err n) s
+    → Follows keys v c (answer result) (after result s)
+refused keys v c n s result r f =
+    subst (λ (x : Result Change Fault). Follows keys v c (answer x) (after x s)) (sym r) f
 
 -- a change that was decided is made, or memory is refused and all is as before
 pub committed : (keys : Keys) (v : Ruling) (c : Chronicle) (d : Change) (s new : StateParts)

@@ -7,8 +7,11 @@ use Rattle.frames_view.specs.Fields.{frame_core, frame_view, frame_replica, fram
 use Rattle.frames_view.specs.Views.{command_of, proposal_of, block_of, vote_frame_of}
 use Rattle.frames_view.specs.declared.frame_views.NewViewView.{NewViewView}
 use Rattle.frames_view.specs.declared.frame_views.FetchView.{FetchView}
+use Rattle.definitions.specs.Checks.{identity_of}
+use Rattle.definitions.proofs.Sound.{ruling-sound}
+use Rattle.replica.specs.declared.input.Input.TheVariants.{Proposal, Block}
 use Rattle.replica.specs.Kept.{Variables, StateParts}
-use Rattle.replica.specs.Inputs.{proposal_offered, block_offered, announced_by, asked_by, same_replica}
+use Rattle.replica.specs.Inputs.{input_of, proposal_offered, block_offered, announced_by, asked_by, same_replica}
 use Rattle.replica.specs.Offers.{Offered, IsDecided}
 use Rattle.replica.specs.Announcements.{IsNewView}
 use Rattle.replica.specs.Fetches.{fetch_change}
@@ -35,11 +38,12 @@ returns-in-Proposal-clause-decided c c' w =
     let keys = c.args.keyring.now in
     let p = c.in-Proposal.proposal in
     let own : same_replica p.keys keys ≡ true = rw c.in-Proposal.is at c.requires.own in
+    let ch = checked-proposal p keys own c.of_proposal.ensures.frame c.of_proposal.ensures.passed in
     let decided = subst (λ (x : Offered). IsDecided keys c.args.state.now x c.decide_block.result)
     c.of_proposal.ensures.offered c.decide_block.ensures in
     rw c.in-Proposal.is (block-decided keys c' c.args.state.now (proposal_offered p)
-    (leader keys.sizes (frame_view (proposal_of p.view))) c.decide_block.result decided o
-    (checked-proposal p keys own c.of_proposal.ensures.frame c.of_proposal.ensures.passed))
+    (leader keys.sizes (frame_view (proposal_of p.view))) c.decide_block.result decided o ch.below
+    (ruling-sound (identity_of keys) (input_of (Proposal p)) c' ch o.sound))
 
 pub returns-in-Block-clause-decided : goal.returns-in-Block-clause-decided
 unfolding ruling
@@ -48,11 +52,12 @@ returns-in-Block-clause-decided c c' w =
     let keys = c.args.keyring.now in
     let b = c.in-Block.block in
     let own : same_replica b.keys keys ≡ true = rw c.in-Block.is at c.requires.own in
+    let ch = checked-block b keys own c.of_block.ensures.frame c.of_block.ensures.passed in
     let decided = subst (λ (x : Offered). IsDecided keys c.args.state.now x c.decide_block-in-Block.result)
     c.of_block.ensures.offered c.decide_block-in-Block.ensures in
     rw c.in-Block.is (block-decided keys c' c.args.state.now (block_offered b)
-    (frame_replica (block_of b.view)) c.decide_block-in-Block.result decided o
-    (checked-block b keys own c.of_block.ensures.frame c.of_block.ensures.passed))
+    (frame_replica (block_of b.view)) c.decide_block-in-Block.result decided o ch.below
+    (ruling-sound (identity_of keys) (input_of (Block b)) c' ch o.sound))
 
 pub returns-in-NewView-clause-decided : goal.returns-in-NewView-clause-decided
 returns-in-NewView-clause-decided c c' w =
