@@ -2,7 +2,7 @@
 -- are frames.
 use Rattle.ids.specs.declared.limits.TheConstants.{MOST_BLOCKS}
 use Rattle.std.proofs.Common.{ℕ, suc, ◌≡◌, ◌+◌, ◌-◌, ◌<◌, ◌≤◌, ◌^◌, ◌==◌, not, true, Bool, List, [], ◌∷◌}
-use Rattle.std.proofs.Common.{length, refl, sym, ap, subst, arith, inl, inr, Option, Some, None, Ok}
+use Rattle.std.proofs.Common.{length, refl, sym, subst, arith, inl, inr, Option, Some, None, Ok}
 use Rattle.std.proofs.lemmas.Bool.{and_parts, cond_both, ltb-true}
 use Rattle.ids.specs.Sizes.{Sizes, replicas}
 use Rattle.definitions.specs.Lists.{Among}
@@ -36,8 +36,7 @@ use Rattle.linear_law.proofs.Runs.{arises-checked}
 use Rattle.linear_law.proofs.Rows.{taken-known, step-known}
 use Rattle.linear_law.proofs.StoredFrames.{IsStored, AreStored, IsStoredRuling, arises-read, ruling-stored}
 use Rattle.linear_law.proofs.MadeCertificates.{qc_high-is}
-use Rattle.linear_law.proofs.Leaves.{LeafStep, LeafStep.raises, LeafStep.keeps, LeafStep.makes, leaf-step}
-use Rattle.linear_law.proofs.Leaves.{child-is, child-core}
+use Rattle.linear_law.proofs.Leaves.{leaf-low, child-is, child-core}
 use Rattle.linear_law.proofs.SentFrames.{IsFitProposal, sends-fit}
 use Rattle.linear_law.proofs.Sends.{sends}
 use Rattle.linear_law.proofs.FitAnswers.{answers-fit}
@@ -69,20 +68,6 @@ later self now c p = record {
   low = p.low;
   proposal = p.proposal;
 }
-
--- the leaf is higher by one at most, or a certified block of the tree
-leaf-low : (self : Identity) (st : Step) (c : Chronicle) (b : Branch) → IsSound self.sizes (st ∷ c)
-    → AreStored self (st ∷ c) → length (leaf self c) ≤ length c + MOST_BLOCKS → LeafStep self st c b
-    → length b ≤ length (st ∷ c) + MOST_BLOCKS
-leaf-low self st c b so h low (raises l) =
-    let m = (qc_high-is self (st ∷ c) so.lawful h).among in
-    let k = so.heights (qc_high self.sizes (st ∷ c)).block m in
-    let n = so.bounded in
-    omega (arith, k, n)
-leaf-low self st c b so h low (keeps l) = omega (arith, low)
-leaf-low self st c b so h low (makes x beats l e) =
-    let i = ap (λ (y : Branch). length y) (child-is self c (leaf self c) x e).is in
-    omega (arith, low, i)
 
 -- the proposal after a step
 proposal-now : (self : Identity) (now : ℕ) (st : Step) (c : Chronicle) → now ≤ 2 ^ 63 → IsPlain self now c
@@ -126,7 +111,7 @@ grown self now st c few p so h = record {
   stored_are = (h, p.stored_are);
   fit = fit-now self st c so h p.fit;
   short = (let l = p.short in omega (arith, l));
-  low = leaf-low self st c (leaf self (st ∷ c)) so (h, p.stored_are) p.low (leaf-step self st c);
+  low = leaf-low self st c so (qc_high-is self (st ∷ c) so.lawful (h, p.stored_are)).among p.low;
   proposal = proposal-now self now st c few p;
 }
 

@@ -1,7 +1,7 @@
 -- Views, waiting requests and the block that the next proposal stands on, of a chronicle whose steps came
 -- in frames.
-use Rattle.ids.specs.declared.limits.TheConstants.{MOST_COMMANDS}
-use Rattle.std.proofs.Common.{ℕ, zero, suc, if◌then◌else◌, ◌≡◌, ◌<◌, ◌≤◌, ◌^◌, ◌&&◌, not, true, List, []}
+use Rattle.ids.specs.declared.limits.TheConstants.{MOST_COMMANDS, MOST_BLOCKS}
+use Rattle.std.proofs.Common.{ℕ, zero, suc, if◌then◌else◌, ◌≡◌, ◌<◌, ◌≤◌, ◌+◌, ◌^◌, ◌&&◌, not, true, List, []}
 use Rattle.std.proofs.Common.{◌∷◌, ◌++◌, length, refl, sym, ap, subst, arith, Option, Some, None}
 use Rattle.std.proofs.Common.{true≢false, ◌==◌, nat_lt, nat_le, map, filter, take, is_some}
 use Rattle.std.specs.List.{list_any, AllByRecursion}
@@ -17,7 +17,7 @@ use Rattle.definitions.specs.Digests.{digest_of, core_of, core_over}
 use Rattle.definitions.specs.Histories.{history_of}
 use Rattle.definitions.specs.Chronicles.{Step, Step.took_block, Step.noted, Note.got_new_view}
 use Rattle.definitions.specs.Chronicles.{Note.got_request, Note.timed_out, Note.beat, Chronicle, tree}
-use Rattle.definitions.specs.Chronicles.{history}
+use Rattle.definitions.specs.Chronicles.{history, IsSound}
 use Rattle.definitions.specs.Checks.{Identity}
 use Rattle.definitions.specs.States.{known_as, announcements, announced, reached_view, view, raised, qc_high}
 use Rattle.definitions.specs.States.{is_same_request, is_due, with_request, pending, leads, find_block}
@@ -199,6 +199,19 @@ pub leaf-above : (self : Identity) (c : Chronicle)
     → length (qc_high self.sizes c).block ≤ length (leaf self c)
 leaf-above self [] = genesis-above self
 leaf-above self (st ∷ c) = above-step self st c (leaf self (st ∷ c)) (leaf-above self c) (leaf-step self st c)
+
+-- it is higher by one at most, or a certified block of the tree
+pub leaf-low : (self : Identity) (st : Step) (c : Chronicle) → IsSound self.sizes (st ∷ c)
+    → Among (qc_high self.sizes (st ∷ c)).block (tree (st ∷ c)) → length (leaf self c) ≤ length c + MOST_BLOCKS
+    → length (leaf self (st ∷ c)) ≤ length (st ∷ c) + MOST_BLOCKS
+leaf-low self st c so m low = by (leaf self (st ∷ c)) (leaf-step self st c)
+  where
+    by : (b : Branch) → LeafStep self st c b → length b ≤ length (st ∷ c) + MOST_BLOCKS
+    by b (raises l) =
+        let k = so.heights (qc_high self.sizes (st ∷ c)).block m in let n = so.bounded in omega (arith, k, n)
+    by b (keeps l) = omega (arith, low)
+    by b (makes x beats l e) =
+        let i = ap (λ (y : Branch). length y) (child-is self c (leaf self c) x e).is in omega (arith, low, i)
 
 -- ---- the core of a new block
 

@@ -35,7 +35,7 @@ use Rattle.replica.specs.Changes.{changed_variables, raise_of, IsStep}
 use Rattle.replica.specs.Announcements.{new_view_sent, timeout_change, IsTimeout, new_view_change}
 use Rattle.replica.specs.Announcements.{IsAnnounced, IsNewViewAt, IsNewView}
 use Rattle.replica.specs.StepsTo.{Follows, StepsTo, answer, after}
-use Rattle.replica.proofs.Steps.{shown-if, is_beat, collects, BringsKnown, brings-none, brings-one, asks, refused}
+use Rattle.replica.proofs.Steps.{shown-if, collects, BringsKnown, brings-none, brings-one, asks, refused}
 use Rattle.replica.proofs.Decided.{or-memory, decided}
 use Rattle.replica.proofs.Stays.{AreHigh, raise-is, variables-calm, variables-noted}
 
@@ -59,7 +59,7 @@ qc-timeout s c = refl
 
 timeout-step : (keys : Keys) (c : Chronicle) (s : StateParts) (d : Change) → IsStateOf keys c s
     → IsTimeout keys s d → IsStep keys c (noted timed_out) s.pace d
-unfolding Rattle.replica.proofs.Steps.is_beat raised
+unfolding raised
 timeout-step keys c s d o t =
     let sizes : t.pace.sizes ≡ keys.sizes = t.its_pace.sizes ∙ o.sizes in
     let pace = t.its_pace.paced c timed_out refl o.pace in
@@ -102,17 +102,13 @@ module _ (keys : Keys) (c : Chronicle) (n : GotNewView) (b : Branch)
   block-is =
       λ i. record { digest = sym (found-in n.certificate.digest (tree c) b found).1 i; height = length b }
 
-  is-note : is_beat (noted note) ≡ false
-  unfolding Rattle.replica.proofs.Steps.is_beat
-  is-note = refl
-
   brought : raised keys.sizes (noted note) c ≡ Some (record { block = b; certificate = n.certificate })
   unfolding raised
   brought = refl
 
   high-is : AreHigh keys (noted note) c
       (raise_of (record { block = block; certificate = n.certificate }) (high_of (qc_high keys.sizes c)))
-  high-is = raise-is keys (noted note) c (record { block = b; certificate = n.certificate }) block is-note
+  high-is = raise-is keys (noted note) c (record { block = b; certificate = n.certificate }) block refl
       brought block-is
 
   sent-is : cond (nat_lt (view keys.sizes c) (view keys.sizes (noted note ∷ c)))
@@ -149,7 +145,7 @@ module _ (keys : Keys) (c : Chronicle) (n : GotNewView) (b : Branch)
             ∙ (λ i. record (variables_of keys c)
             { chronicle = note-is i ∷ c; high = high-is.high i; leaf = high-is.its_leaf i })
             ∙ sym (variables-noted keys note c (qc_high keys.sizes (noted note ∷ c))
-            (leaf (identity_of keys) (noted note ∷ c)) is-note refl refl);
+            (leaf (identity_of keys) (noted note ∷ c)) refl refl refl);
         sizes = sizes;
         pace = pace;
         out = (λ i. cond (nat_lt (was i) (at i)) (new_view_sent keys (at i) (q i) ∷ []) []) ∙ sent-is;

@@ -36,7 +36,7 @@ use Rattle.replica.specs.Changes.{pended, changed, changed_variables, votes_afte
 use Rattle.replica.specs.Ballots.{vote_noted, vote_counted, vote_change, IsVoteAt, IsVoteDecided}
 use Rattle.replica.specs.StepsTo.{Follows, StepsTo, answer, after}
 use Rattle.pacemaker.proofs.Reached.{paced-still}
-use Rattle.replica.proofs.Steps.{is_beat, BringsKnown, refused-for-memory, stands-with, asks, refused}
+use Rattle.replica.proofs.Steps.{BringsKnown, refused-for-memory, stands-with, asks, refused}
 use Rattle.std.proofs.lemmas.Option.{same_Some}
 use Rattle.replica.proofs.Stays.{calm, leaf-same, leaf-raised, variables-noted}
 
@@ -54,10 +54,6 @@ module _ (keys : Keys) (c : Chronicle) (s : StateParts) (is : IsStateOf keys c s
 
   block-is : block ≡ ref_of b
   block-is = λ i. record { digest = sym (found-in d (tree c) b found).1 i; height = length b }
-
-  is-note : is_beat (noted note) ≡ false
-  unfolding Rattle.replica.proofs.Steps.is_beat
-  is-note = refl
 
   -- the vote as it is stored
   note-is : noted (got_vote vote.voter vote.vector (or_genesis (find_in d (blocks (stored_blocks c)))))
@@ -81,8 +77,8 @@ module _ (keys : Keys) (c : Chronicle) (s : StateParts) (is : IsStateOf keys c s
     variables = (λ i. changed_variables (vote_noted (record s { variables = is.same i }) block vote)
         (variables_of keys c))
         ∙ (λ i. record (variables_of keys c) { chronicle = note-is i ∷ c })
-        ∙ sym (variables-noted keys note c (qc_high keys.sizes c) (leaf (identity_of keys) c) is-note q
-        (leaf-same (identity_of keys) (noted note) c is-note q));
+        ∙ sym (variables-noted keys note c (qc_high keys.sizes c) (leaf (identity_of keys) c) refl q
+        (leaf-same (identity_of keys) (noted note) c refl q));
     sizes = is.sizes;
     pace = paced-still (noted note) c s.pace tt is.pace;
     out = refl;
@@ -110,8 +106,8 @@ module _ (keys : Keys) (c : Chronicle) (s : StateParts) (is : IsStateOf keys c s
               high = record { block = block-is i; certificate = made.certificate };
               leaf = block-is i;
             })
-            ∙ sym (variables-noted keys note c made b is-note q
-            (leaf-raised (identity_of keys) (noted note) c made is-note q lt));
+            ∙ sym (variables-noted keys note c made b refl q
+            (leaf-raised (identity_of keys) (noted note) c made q lt));
         sizes = is.sizes;
         pace = paced-still (noted note) c s.pace tt is.pace;
         out = refl;

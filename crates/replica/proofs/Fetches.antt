@@ -106,7 +106,7 @@ shown-supplied keys to (Some a) = refl
 fetch-step : (keys : Keys) (c : Chronicle) (s : StateParts) (f : GotFetch) → IsStateOf keys c s
     → IsStep keys c (noted (got_fetch f.sender (find_block f.block c))) s.pace
     (fetch_change keys s.variables f)
-unfolding sendings find_block tree Rattle.replica.proofs.Steps.is_beat raised
+unfolding sendings find_block tree raised
 fetch-step keys c s f o =
     let st = got_fetch f.sender (find_block f.block c) in
     record {

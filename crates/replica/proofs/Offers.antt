@@ -74,7 +74,7 @@ module _ (keys : Keys) (c : Chronicle) (kept : StateParts) (o : Offered)
       → out ≡ votes_sent keys (view keys.sizes c) (digest_of a.branch) a.voted
       → IsStep keys c (took_block a) s.pace
       (record (noting v step out) { growth = g; rules = r; high = h; leaf = leaf_after h v.leaf })
-  unfolding vote_frame Rattle.replica.proofs.Steps.is_beat
+  unfolding vote_frame
   took-step a step g r h out steps stored rules high sent = record {
     variables = λ i. record {
       chronicle = steps i ∷ c;
@@ -106,7 +106,7 @@ module _ (keys : Keys) (c : Chronicle) (kept : StateParts) (o : Offered)
 
   again-step : (b : Branch) → find_in (digest o.core) (tree c) ≡ Some b
       → IsStep keys c (took_block (taken false b)) s.pace (again_change keys s o)
-  unfolding admitted raised tree Rattle.replica.proofs.Steps.is_beat
+  unfolding admitted raised tree
   again-step b found =
       let a = taken false b in
       let voted = voted-again b found o.view in
@@ -165,7 +165,7 @@ module _ (keys : Keys) (c : Chronicle) (kept : StateParts) (o : Offered)
 
     new-step : (d : Change) → IsTaken keys s o d
         → IsStep keys c (took_block new) s.pace d × (conflicts (took_block new) c ≡ false)
-    unfolding admitted raised Rattle.replica.proofs.Steps.is_beat
+    unfolding admitted raised
     new-step d t =
         let node = node-is t.node t.its_node in
         let voted = voted-new o.view in

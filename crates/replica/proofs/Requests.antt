@@ -40,7 +40,7 @@ module _ (keys : Keys) (c : Chronicle) (s : StateParts) (r : Command) (o : IsSta
   -- the variables after it
   variables-are : variables_of keys (noted (got_request r) ∷ c)
       ≡ record (variables_of keys c) { chronicle = noted (got_request r) ∷ c }
-  unfolding Rattle.replica.proofs.Steps.is_beat raised
+  unfolding raised
   variables-are = variables-calm keys (got_request r) c refl refl
 
   -- what waits after it

@@ -23,7 +23,7 @@ use Rattle.mempool.proofs.Following.{pending-due}
 use Rattle.replica.specs.Changes.{asked, raise_of, leaf_after}
 use Rattle.std.specs.Option.{unwrap_or}
 use Rattle.replica.specs.Kept.{high_of, own_of, variables_of}
-use Rattle.replica.proofs.Steps.{is_beat, leaf-other}
+use Rattle.linear_law.proofs.Leaves.{LeafStep, LeafStep.raises, LeafStep.keeps, LeafStep.makes, leaf-step}
 
 -- ---- the highest certificate
 
@@ -49,23 +49,32 @@ qc-higher s st c q e lt =
 
 -- ---- the leaf
 
+abbrev pub is_beat : Step → Bool
+is_beat (noted beat) = true
+is_beat st = false
+
 pub leaf-same : (self : Identity) (st : Step) (c : Chronicle) → is_beat st ≡ false
     → qc_high self.sizes (st ∷ c) ≡ qc_high self.sizes c → leaf self (st ∷ c) ≡ leaf self c
-leaf-same self st c n e =
-    leaf-other self st c n
-    ∙ ap (λ (q : Justified). cond (nat_lt (length (qc_high self.sizes c).block) (length q.block)) q.block
-    (leaf self c)) e
-    ∙ (rw (le-ltb (length (qc_high self.sizes c).block) (length (qc_high self.sizes c).block) (omega arith))
-    refl)
+leaf-same self st c n e = by (leaf self (st ∷ c)) (leaf-step self st c)
+  where
+    by : (b : Branch) → LeafStep self st c b → b ≡ leaf self c
+    by b (raises l) = absurd (let h = ap (λ (q : Justified). length q.block) e in omega (arith, l, h))
+    by b (keeps l) = refl
+    by b (makes x beats l k) = absurd (true≢false (sym (ap is_beat beats) ∙ n))
 
-pub leaf-raised : (self : Identity) (st : Step) (c : Chronicle) (q : Justified) → is_beat st ≡ false
+pub leaf-raised : (self : Identity) (st : Step) (c : Chronicle) (q : Justified)
     → qc_high self.sizes (st ∷ c) ≡ q → length (qc_high self.sizes c).block < length q.block
     → leaf self (st ∷ c) ≡ q.block
-leaf-raised self st c q n e h =
-    leaf-other self st c n
-    ∙ ap (λ (q : Justified). cond (nat_lt (length (qc_high self.sizes c).block) (length q.block)) q.block
-    (leaf self c)) e
-    ∙ (rw (lt-ltb (length (qc_high self.sizes c).block) (length q.block) h) refl)
+leaf-raised self st c q e h =
+    by (leaf self (st ∷ c)) (leaf-step self st c) ∙ ap (λ (j : Justified). j.block) e
+  where
+    same : length (qc_high self.sizes (st ∷ c)).block ≡ length q.block
+    same = ap (λ (j : Justified). length j.block) e
+
+    by : (b : Branch) → LeafStep self st c b → b ≡ (qc_high self.sizes (st ∷ c)).block
+    by b (raises l) = refl
+    by b (keeps l) = absurd (omega (arith, l, h, same))
+    by b (makes x beats l k) = absurd (omega (arith, l, h, same))
 
 -- ---- a certificate that is brought
 
@@ -98,7 +107,7 @@ raise-is keys st c q block n e b = by (nat_lt (length (qc_high keys.sizes c).blo
         let h = qc-higher keys.sizes st c q e lt in
         record {
           high = (λ i. record { block = b i; certificate = q.certificate }) ∙ ap high_of (sym h);
-          its_leaf = b ∙ ap ref_of (sym (leaf-raised (identity_of keys) st c q n h lt));
+          its_leaf = b ∙ ap ref_of (sym (leaf-raised (identity_of keys) st c q h lt));
         }
     by false t =
         let le : length q.block ≤ length (qc_high keys.sizes c).block =
@@ -114,7 +123,7 @@ stored-noted n c = refl
 
 pub proposed-same : (self : Identity) (st : Step) (c : Chronicle) → is_beat st ≡ false
     → proposed self (st ∷ c) ≡ proposed self c
-unfolding proposed is_beat
+unfolding proposed
 proposed-same self (took_block a) c e = refl
 proposed-same self (noted (got_vote voter v b)) c e = refl
 proposed-same self (noted (got_new_view w sender q b)) c e = refl

@@ -26,6 +26,7 @@ use Rattle.definitions.specs.Replicas.{ample, refused_at_once, running, stopped,
 use Rattle.definitions.specs.Replicas.{Reaction}
 use Rattle.definitions.specs.Replicas.{sends_out, fails, on_step, on_ruling}
 use Rattle.definitions.proofs.Chronicles.{tree-grows}
+use Rattle.linear_law.proofs.Leaves.{leaf-low}
 use Rattle.std.specs.Option.{unwrap_or}
 use Rattle.definitions.specs.Trees.{IsTree}
 use Rattle.vote_collector.specs.Collecting.{Entry, kept_above}
@@ -42,7 +43,7 @@ use Rattle.replica.specs.Changes.{asked, pended, collected, left_above, votes_af
 use Rattle.replica.specs.Changes.{changed_variables, IsStep}
 use Rattle.replica.specs.StepsTo.{halts, IsRefused, Follows, answer, after}
 
--- ---- the highest certificate and the leaf
+-- ---- the highest certificate
 
 -- a certificate that a step brings is for a block of the tree
 abbrev pub BringsKnown : Sizes → Step → Chronicle → Type 0
@@ -68,70 +69,6 @@ certified-step s st c m h = go (raised s st c) refl
     go None e = tree-grows st c (qc_high s c).block m
     go (Some q) e = cond_both (nat_lt (length (qc_high s c).block) (length q.block)) q (qc_high s c) P
         (λ t. h q e) (λ t. tree-grows st c (qc_high s c).block m)
-
--- a block of the tree isn't high
-low : (s : Sizes) (c : Chronicle) (x : Branch) → IsSound s c → Among x (tree c) → length x ≤ MOST_BLOCKS
-low s c x so m = let h = so.heights x m in let b = so.bounded in omega (arith, h, b)
-
--- the child of a leaf is one higher
-child-low : (self : Identity) (c : Chronicle) (x : Branch)
-    → length (or_else (child self c x) x) ≤ suc (length x)
-unfolding child
-child-low self c x =
-    cond_both (leads self c && is_known (digest_of x) c) _ None P (λ t. omega arith) (λ t. omega arith)
-  where
-    P : Option Branch → Type 0
-    P o = length (or_else o x) ≤ suc (length x)
-
--- the leaf after a step that is no beat
-unfoldable pub is_beat : Step → Bool
-is_beat (noted beat) = true
-is_beat s = false
-
-pub leaf-other : (self : Identity) (st : Step) (c : Chronicle) → is_beat st ≡ false
-    → leaf self (st ∷ c)
-    ≡ cond (nat_lt (length (qc_high self.sizes c).block) (length (qc_high self.sizes (st ∷ c)).block))
-    (qc_high self.sizes (st ∷ c)).block (leaf self c)
-unfolding leaf is_beat
-leaf-other self (took_block a) c e = refl
-leaf-other self (noted (got_vote voter v b)) c e = refl
-leaf-other self (noted (got_new_view w sender q b)) c e = refl
-leaf-other self (noted (got_request r)) c e = refl
-leaf-other self (noted (got_fetch to b)) c e = refl
-leaf-other self (noted timed_out) c e = refl
-leaf-other self (noted beat) c e = absurd (true≢false e)
-
-leaf-beat : (self : Identity) (st : Step) (c : Chronicle) → is_beat st ≡ true
-    → leaf self (st ∷ c) ≡ or_else (child self c (leaf self c)) (leaf self c)
-unfolding leaf is_beat
-leaf-beat self (took_block a) c e = absurd (true≢false (sym e))
-leaf-beat self (noted (got_vote voter v b)) c e = absurd (true≢false (sym e))
-leaf-beat self (noted (got_new_view w sender q b)) c e = absurd (true≢false (sym e))
-leaf-beat self (noted (got_request r)) c e = absurd (true≢false (sym e))
-leaf-beat self (noted (got_fetch to b)) c e = absurd (true≢false (sym e))
-leaf-beat self (noted timed_out) c e = absurd (true≢false (sym e))
-leaf-beat self (noted beat) c e = refl
-
--- each step makes the leaf higher by one at most, or a certified block of the tree is the leaf
-pub leaf-low-step : (self : Identity) (st : Step) (c : Chronicle)
-    → length (leaf self c) ≤ length c + MOST_BLOCKS → IsSound self.sizes (st ∷ c)
-    → Among (qc_high self.sizes (st ∷ c)).block (tree (st ∷ c))
-    → length (leaf self (st ∷ c)) ≤ length (st ∷ c) + MOST_BLOCKS
-leaf-low-step self st c l so m = go (is_beat st) refl
-  where
-    P : Branch → Type 0
-    P b = length b ≤ suc (length c) + MOST_BLOCKS
-
-    go : (t : Bool) → is_beat st ≡ t → P (leaf self (st ∷ c))
-    go true e =
-        let k = child-low self c (leaf self c) in subst P (sym (leaf-beat self st c e)) (omega (arith, k, l))
-    go false e =
-        let k = low self.sizes (st ∷ c) (qc_high self.sizes (st ∷ c)).block so m in
-        subst P (sym (leaf-other self st c e))
-        (cond_both
-        (nat_lt (length (qc_high self.sizes c).block) (length (qc_high self.sizes (st ∷ c)).block))
-        (qc_high self.sizes (st ∷ c)).block (leaf self c) P (λ t. omega (arith, k))
-        (λ t. omega (arith, l)))
 
 -- ---- what a ruling comes to
 
@@ -216,7 +153,7 @@ stands-with keys v c st d s e k so known p o x votes =
         votes = votes;
         sound = so;
         certified = block;
-        leaf_low = leaf-low-step (identity_of keys) st c o.leaf_low so block;
+        leaf_low = leaf-low (identity_of keys) st c so block o.leaf_low;
         waits = refl;
       };
       waits = p;
