@@ -42,7 +42,8 @@ use Rattle.replica.specs.Kept.{Variables, StateParts, waiting, IsStateOf, AreFit
 use Rattle.replica.specs.Changes.{asked, sent_first}
 use Rattle.replica.specs.Inputs.{IsFitInput}
 use Rattle.replica.specs.Execution.{history_above, IsCut, is_sendable, told}
-use Rattle.replica.specs.StepsTo.{halts, going, Stands, IsRefused, IsWholeOf, Advances}
+use Rattle.replica.specs.StepsTo.{halts, Stands, IsRefused}
+use Rattle.replica.specs.Advances.{going, IsWholeOf, Advances}
 use Rattle.replica.specs.declared.standing.Taken.TheVariants.{Sends, Refused, CutShort}
 use Rattle.replica.proofs.Keeping.{stores-on}
 use Rattle.replica.proofs.Waiting.{waits-on, held-waits}

@@ -16,7 +16,7 @@ use Rattle.definitions.specs.Digests.{AllKnown}
 use Rattle.definitions.specs.Histories.{History, history_of}
 use Rattle.definitions.specs.Replicas.{running, held_history, held_pending}
 use Rattle.definitions.specs.Frames.{Command}
-use Rattle.replica.specs.StepsTo.{IsWholeOf}
+use Rattle.replica.specs.Advances.{IsWholeOf}
 use Rattle.definitions.specs.States.{qc_high, leaf, pending, proposed}
 use Rattle.pacemaker.specs.Pacing.{IsPaceOf}
 use Rattle.replica_rules.specs.Ruled.{ref_of, ruled_by}

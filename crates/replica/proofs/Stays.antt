@@ -8,9 +8,8 @@ use Rattle.ids.specs.Sizes.{Sizes}
 use Rattle.definitions.specs.Branches.{Branch}
 use Rattle.definitions.specs.Keyrings.{Keys}
 use Rattle.definitions.specs.Checks.{Identity, identity_of}
-use Rattle.definitions.specs.Chronicles.{Note, Step, Step.took_block, Step.noted, Note.got_vote}
-use Rattle.definitions.specs.Chronicles.{Note.got_new_view, Note.got_request, Note.got_fetch}
-use Rattle.definitions.specs.Chronicles.{Note.timed_out, Note.beat, Chronicle, taken_blocks, stored_blocks}
+use Rattle.definitions.specs.Chronicles.{Note, Step, Step.took_block, Step.noted}
+use Rattle.definitions.specs.Chronicles.{Note.beat, Chronicle, taken_blocks, stored_blocks}
 use Rattle.definitions.specs.Chronicles.{history}
 use Rattle.definitions.specs.States.{Justified, raised, higher, qc_high, leaf, proposed, is_due, pending}
 use Rattle.definitions.specs.States.{with_request}
@@ -124,13 +123,9 @@ stored-noted n c = refl
 pub proposed-same : (self : Identity) (st : Step) (c : Chronicle) → is_beat st ≡ false
     → proposed self (st ∷ c) ≡ proposed self c
 unfolding proposed
-proposed-same self (took_block a) c e = refl
-proposed-same self (noted (got_vote voter v b)) c e = refl
-proposed-same self (noted (got_new_view w sender q b)) c e = refl
-proposed-same self (noted (got_request r)) c e = refl
-proposed-same self (noted (got_fetch to b)) c e = refl
-proposed-same self (noted timed_out) c e = refl
 proposed-same self (noted beat) c e = absurd (true≢false e)
+proposed-same self (took_block a) c e = refl
+proposed-same self (noted n) c e = refl
 
 -- the variables after a note that is no beat, by highest certificate and leaf
 pub variables-noted : (keys : Keys) (n : Note) (c : Chronicle) (h : Justified) (b : Branch)

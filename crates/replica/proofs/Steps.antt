@@ -1,8 +1,7 @@
 -- What a ruling comes to, case by case, for every input.
-use Rattle.ids.specs.declared.limits.TheConstants.{MOST_BLOCKS}
 use Rattle.ids.specs.declared.fault.Fault.{Fault}
 use Rattle.ids.specs.declared.fault.Fault.TheVariants as fault
-use Rattle.std.proofs.Common.{ℕ, suc, ◌≡◌, ◌≤◌, ◌+◌, ◌&&◌, Bool, false, true, true≢false, List, [], ◌∷◌}
+use Rattle.std.proofs.Common.{ℕ, ◌≡◌, Bool, false, true, true≢false, List, [], ◌∷◌}
 use Rattle.std.proofs.Common.{length, cond, refl, sym, ap, ◌∙◌, subst, arith, nat_lt, Option, Some, None}
 use Rattle.std.proofs.Common.{Result, Ok, Err, IfOk, OnOk, OnErr}
 use Rattle.std.proofs.lemmas.Bool.{cond_both}
@@ -10,16 +9,12 @@ use Rattle.std.proofs.lemmas.Option.{same_Some}
 use Rattle.definitions.specs.Lists.{Among}
 use Rattle.definitions.specs.Bytes.{Bytes}
 use Rattle.ids.specs.Sizes.{Sizes}
-use Rattle.definitions.specs.Branches.{Branch}
 use Rattle.definitions.specs.Keyrings.{Keys}
-use Rattle.definitions.specs.Checks.{Identity, identity_of}
-use Rattle.definitions.specs.Chronicles.{Step, Step.took_block, Step.noted, Note.got_vote}
-use Rattle.definitions.specs.Chronicles.{Note.got_new_view, Note.got_request, Note.got_fetch}
-use Rattle.definitions.specs.Chronicles.{Note.timed_out, Note.beat, Chronicle, tree, IsSound}
-use Rattle.definitions.specs.States.{Justified, raised, higher, qc_high, leaf, child, or_else, is_known}
-use Rattle.definitions.specs.States.{leads}
+use Rattle.definitions.specs.Checks.{identity_of}
+use Rattle.definitions.specs.Chronicles.{Step}
+use Rattle.definitions.specs.Chronicles.{Chronicle, tree, IsSound}
+use Rattle.definitions.specs.States.{Justified, raised, higher, qc_high}
 use Rattle.definitions.specs.Frames.{Command}
-use Rattle.definitions.specs.Digests.{digest_of}
 use Rattle.definitions.specs.Rulings.{Ruling, Ruling.due, Ruling.missing, Ruling.refusing, conflicts}
 use Rattle.definitions.specs.Sendings.{Sending, sendings}
 use Rattle.definitions.specs.Replicas.{ample, refused_at_once, running, stopped, stopped_at, stops, Replica}
@@ -94,22 +89,16 @@ memory-instead keys v c out s new t o = refused-for-memory keys v c t.step s t.i
 
 -- a vote or a request is added
 abbrev pub collects : Growth → Bool
-collects Nothing = false
-collects (Block n) = false
 collects (Vote b v) = true
 collects (Request r) = true
+collects g = false
 
-collected-quiet : (g : Growth) (kept : List (Bytes × Entry)) → collects g ≡ false → collected g kept ≡ kept
-collected-quiet Nothing kept e = refl
-collected-quiet (Block n) kept e = refl
-collected-quiet (Vote b v) kept e = absurd (true≢false e)
-collected-quiet (Request r) kept e = refl
-
-pended-quiet : (g : Growth) (waits : List Command) → collects g ≡ false → pended g waits ≡ waits
-pended-quiet Nothing waits e = refl
-pended-quiet (Block n) waits e = refl
-pended-quiet (Vote b v) waits e = refl
-pended-quiet (Request r) waits e = absurd (true≢false e)
+quiet : (g : Growth) (kept : List (Bytes × Entry)) (waits : List Command) → collects g ≡ false
+    → (collected g kept ≡ kept) × (pended g waits ≡ waits)
+quiet (Vote b v) kept waits e = absurd (true≢false e)
+quiet (Request r) kept waits e = absurd (true≢false e)
+quiet Nothing kept waits e = (refl, refl)
+quiet (Block n) kept waits e = (refl, refl)
 
 -- after a step that brings no vote, by what is raised
 left-above-is : (s : Sizes) (st : Step) (c : Chronicle) (kept : List (Bytes × Entry)) (r : Option High)
@@ -167,8 +156,9 @@ pub stands : (keys : Keys) (v : Ruling) (c : Chronicle) (st : Step) (d : Change)
     → IsStateOf keys c s → IsStep keys c st s.pace d → BringsNoVote st → collects d.growth ≡ false
     → Follows keys v c (Ok d.out) (changed d s)
 stands keys v c st d s e k so known p o x b q =
-    stands-with keys v c st d s e k so known (pended-quiet d.growth s.pending q ∙ p) o x
-    (votes-else keys st c d s b (collected-quiet d.growth s.votes.kept q) so.is_tree o.votes x)
+    let stays = quiet d.growth s.votes.kept s.pending q in
+    stands-with keys v c st d s e k so known (stays.1 ∙ p) o x
+    (votes-else keys st c d s b stays.0 so.is_tree o.votes x)
 
 -- a step that decides against what was executed
 pub refused-for-conflict : (keys : Keys) (v : Ruling) (c : Chronicle) (st : Step) (s : StateParts)

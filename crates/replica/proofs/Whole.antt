@@ -14,7 +14,7 @@ use Rattle.replica.specs.Kept.{Variables, StateParts}
 use Rattle.replica.specs.Steps.{Stepped, is_running, standing_of}
 use Rattle.replica.specs.declared.standing.Standing as mark
 use Rattle.replica.specs.declared.standing.Standing.TheVariants.{Running, Stopped, CutShort}
-use Rattle.replica.specs.StepsTo.{IsWholeOf, Advances, answer_of, standing_after}
+use Rattle.replica.specs.Advances.{IsWholeOf, Advances, answer_of, standing_after}
 use Rattle.replica.specs.declared.standing.Taken.{Taken}
 use Rattle.definitions.specs.Histories.{History}
 

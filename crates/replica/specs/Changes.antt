@@ -29,24 +29,18 @@ use Rattle.replica.specs.Kept.{Variables, StateParts, variables_of}
 
 -- the blocks of the tree with what is added
 abbrev pub grown : Growth → List Stored → List Stored
-grown Nothing stored = stored
 grown (Block n) stored = stored_as n (blocks stored) ∷ stored
-grown (Vote b v) stored = stored
-grown (Request r) stored = stored
+grown g stored = stored
 
 -- the collected votes with what is added
 abbrev pub collected : Growth → List (Bytes × Entry) → List (Bytes × Entry)
-collected Nothing kept = kept
-collected (Block n) kept = kept
 collected (Vote b v) kept = with_vote b.digest b.height v kept
-collected (Request r) kept = kept
+collected g kept = kept
 
 -- the requests that wait, with what is added
 abbrev pub pended : Growth → List Command → List Command
-pended Nothing waits = waits
-pended (Block n) waits = waits
-pended (Vote b v) waits = waits
 pended (Request r) waits = with_request (noted (got_request r)) waits
+pended g waits = waits
 
 -- without those that no higher certificate can need
 abbrev pub left_above : Option High → List (Bytes × Entry) → List (Bytes × Entry)
@@ -58,17 +52,14 @@ votes_after d kept = left_above d.high (collected d.growth kept)
 
 -- whether a block is added
 abbrev pub adds : Growth → Bool
-adds Nothing = false
 adds (Block n) = true
-adds (Vote b v) = false
-adds (Request r) = false
+adds g = false
 
 -- what is added may be added
 abbrev pub MayGrow : TreeState → Sizes → Growth → Type 0
-MayGrow t s Nothing = ⊤
 MayGrow t s (Block n) = MayStand t n
 MayGrow t s (Vote b v) = IsVote s v
-MayGrow t s (Request r) = ⊤
+MayGrow t s g = ⊤
 
 -- the tree of these variables
 abbrev pub tree_of : Variables → TreeState

@@ -5,6 +5,7 @@ pub mod Replay
 pub mod Kept
 pub mod Changes
 pub mod StepsTo
+pub mod Advances
 pub mod Execution
 pub mod Picks
 pub mod Beats

@@ -14,7 +14,8 @@ ghost use Rattle.replica.specs.Wanting.{wants_beat, wants_beat_now};
 ghost use Rattle.definitions.specs.Keyrings.{Keys};
 ghost use Rattle.replica.specs.Kept.{IsStateOf};
 ghost use Rattle.replica.specs.Changes.{Fits};
-ghost use Rattle.replica.specs.StepsTo.{StepsTo, going, IsWholeOf, Advances, answer, after};
+ghost use Rattle.replica.specs.StepsTo.{StepsTo, answer, after};
+ghost use Rattle.replica.specs.Advances.{going, IsWholeOf, Advances};
 ghost use Rattle.replica.specs.Inputs.{input_of, IsFitInput, is_addressed};
 
 use crate::announce::{decide_new_view, decide_timeout};
@@ -60,7 +61,7 @@ impl Model for Replica {
     ghost Value = { Held };
 
     ghost use Rattle.std.specs.Prelude.{length};
-    ghost use Rattle.replica.specs.StepsTo.{IsWholeOf};
+    ghost use Rattle.replica.specs.Advances.{IsWholeOf};
 
     ghost view = { λ r. record {
       keys = r.keyring;

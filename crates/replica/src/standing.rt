@@ -2,7 +2,8 @@
 
 ghost use Rattle.std.specs.Prelude.{◌≡◌, ℕ};
 ghost use Rattle.replica.specs.Steps.{is_running, standing_of};
-ghost use Rattle.replica.specs.StepsTo.{halts, answer_of, standing_after};
+ghost use Rattle.replica.specs.StepsTo.{halts};
+ghost use Rattle.replica.specs.Advances.{answer_of, standing_after};
 
 use crate::out::Out;
 use ids::Fault;

@@ -2,7 +2,7 @@ use Rattle.std.proofs.Common.{◌≡◌, [], sym, ap, subst}
 use Rattle.definitions.specs.Chronicles.{Chronicle}
 use Rattle.definitions.specs.Replicas.{running}
 use Rattle.replica.specs.Kept.{Variables}
-use Rattle.replica.specs.StepsTo.{IsWholeOf}
+use Rattle.replica.specs.Advances.{IsWholeOf}
 use Rattle.replica.proofs.First.{first-whole}
 use Rattle.replica.proofs.replica.Replica.new.Goals as goal
 

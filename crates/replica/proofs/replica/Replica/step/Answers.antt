@@ -5,7 +5,7 @@ use Rattle.definitions.specs.Keyrings.{Keys}
 use Rattle.definitions.specs.Chronicles.{Chronicle}
 use Rattle.definitions.specs.Replicas.{Replica}
 use Rattle.replica.specs.Steps.{SentBytes, Held, Stepped, standing_of}
-use Rattle.replica.specs.StepsTo.{IsWholeOf}
+use Rattle.replica.specs.Advances.{IsWholeOf}
 use Rattle.replica.specs.Inputs.{input_of}
 use Rattle.replica.proofs.Whole.{goes-on, kept-from, stepped-from, stepped-not, grows-from}
 use Rattle.replica.proofs.replica.Replica.step.Goals as goal
