@@ -35,9 +35,9 @@ use Rattle.replica.specs.Changes.{changed_variables, raise_of, IsStep}
 use Rattle.replica.specs.Announcements.{new_view_sent, timeout_change, IsTimeout, new_view_change}
 use Rattle.replica.specs.Announcements.{IsAnnounced, IsNewViewAt, IsNewView}
 use Rattle.replica.specs.StepsTo.{Follows, StepsTo, answer, after}
-use Rattle.replica.proofs.Steps.{shown-if, collects, BringsKnown, brings-none, brings-one, asks, refused}
+use Rattle.replica.proofs.Steps.{collects, BringsKnown, brings-none, brings-one, asks, refused}
 use Rattle.replica.proofs.Decided.{or-memory, decided}
-use Rattle.replica.proofs.Stays.{AreHigh, raise-is, variables-calm, variables-noted}
+use Rattle.replica.proofs.Stays.{shown-if, AreHigh, raise-is, variables-calm, variables-noted}
 
 -- ---- a timeout
 

@@ -3,7 +3,7 @@ use Rattle.ids.specs.declared.limits.TheConstants.{MOST_BLOCKS}
 use Rattle.ids.specs.declared.fault.Fault.{Fault}
 use Rattle.ids.specs.declared.fault.Fault.TheVariants as fault
 use Rattle.std.proofs.Common.{ℕ, ◌≡◌, ◌<◌, ◌&&◌, Bool, true, false, [], ◌∷◌, length}
-use Rattle.std.proofs.Common.{refl, sym, ap, ◌∙◌, subst, List, inl, inr, Option, Some, None, Result, Ok, Err}
+use Rattle.std.proofs.Common.{cond, refl, sym, ap, ◌∙◌, subst, List, inl, inr, Option, Some, None, Result, Ok, Err}
 use Rattle.std.specs.Prelude.{option_map}
 use Rattle.ids.specs.Sizes.{leader}
 use Rattle.definitions.specs.Frames.{Core}
@@ -17,10 +17,12 @@ use Rattle.definitions.specs.Chronicles.{Admitted, Step, Step.took_block, Chroni
 use Rattle.definitions.specs.Chronicles.{stored_block}
 use Rattle.definitions.specs.Chronicles.{tree, vheight, IsSound}
 use Rattle.definitions.specs.States.{view, raised}
-use Rattle.definitions.specs.Rulings.{admitted}
-use Rattle.definitions.specs.Rulings.{votes_for, on_placing, on_block, conflicts}
+use Rattle.definitions.specs.Rulings.{Ruling, Ruling.due, admitted, votes_for, on_placing, on_block}
+use Rattle.definitions.specs.Rulings.{conflicts}
 use Rattle.definitions.specs.Sendings.{to_party, vote_frame}
-use Rattle.definitions.specs.Replicas.{stops}
+use Rattle.definitions.specs.Replicas.{Replica, Reaction, ample, running, stopped_at, stops, sends_out, fails}
+use Rattle.definitions.specs.Replicas.{on_step, on_ruling}
+use Rattle.definitions.specs.Sendings.{sendings}
 use Rattle.definitions.proofs.Branches.{just1-extends}
 use Rattle.definitions.proofs.Trees.{IsGrowth, IsUnfit, IsPlaced, placed, found-in, core-known, digest-core}
 use Rattle.definitions.proofs.Trees.{tree-below}
@@ -38,7 +40,7 @@ use Rattle.replica_rules.proofs.Takes.{ruled-known}
 use Rattle.replica.specs.declared.change.Change.{Change}
 use Rattle.replica.specs.declared.state.High.{High}
 use Rattle.replica.specs.Replay.{or_genesis, step_of}
-use Rattle.replica.specs.Steps.{SentBytes}
+use Rattle.replica.specs.Steps.{SentBytes, Shows}
 use Rattle.replica.specs.Kept.{Variables, StateParts, own_of, variables_of, IsStateOf}
 use Rattle.replica.specs.Changes.{grown, noting, tree_of, raise_of, leaf_after, IsStep}
 use Rattle.replica.specs.declared.change.Growth.{Growth}
@@ -46,12 +48,29 @@ use Rattle.replica.specs.declared.change.Growth.TheVariants.{Nothing, Block}
 use Rattle.replica.specs.declared.stored.StoredStep.{StoredStep}
 use Rattle.replica.specs.Offers.{Offered, is_for, justified_of, high_in, votes_sent}
 use Rattle.replica.specs.Offers.{again_change, IsTaken, IsDecidedAt, IsDecided}
-use Rattle.replica.specs.StepsTo.{Follows, halts, answer, after}
+use Rattle.replica.specs.StepsTo.{IsRefused, Follows, halts, answer, after}
 use Rattle.pacemaker.proofs.Reached.{paced-still}
-use Rattle.replica.proofs.Steps.{shown-if, collects, BringsKnown, brings-none, brings-one}
-use Rattle.replica.proofs.Steps.{refused-for-memory, refused-for-conflict, asks, refuses, refused}
+use Rattle.replica.proofs.Steps.{collects, BringsKnown, brings-none, brings-one}
+use Rattle.replica.proofs.Steps.{refused-for-memory, asks, refuses, refused}
 use Rattle.replica.proofs.Decided.{kept_at, where-kept, KeepsSound, decided}
-use Rattle.replica.proofs.Stays.{qc-same, AreHigh, raise-is, unraised, proposed-same}
+use Rattle.replica.proofs.Stays.{shown-if, qc-same, AreHigh, raise-is, unraised, proposed-same}
+
+-- a step that decides against what was executed
+refused-for-conflict : (keys : Keys) (v : Ruling) (c : Chronicle) (st : Step) (s : StateParts)
+    → v ≡ due st
+    → conflicts st c ≡ true → IsStateOf keys c s → Follows keys v c (Err fault.Conflict) s
+unfolding on_ruling on_step
+refused-for-conflict keys v c st s e k o =
+    let both : Bool → Replica × Reaction =
+    λ b. cond b (stopped_at c, fails fault.Conflict)
+    (record { chronicle = st ∷ c; standing = running }, sends_out (sendings (identity_of keys) st c)) in
+    subst (λ (x : Ruling). IsRefused keys x c fault.Conflict s) (sym e)
+    (record {
+      memory = ample;
+      state = o;
+      left = ap (λ (b : Bool). (both b).0) k;
+      answer = subst (λ (b : Bool). Shows (both b).1 (Err fault.Conflict)) (sym k) refl;
+    })
 
 module _ (keys : Keys) (c : Chronicle) (kept : StateParts) (o : Offered)
     (is : IsStateOf keys c (kept_at keys c kept)) where

@@ -1,6 +1,6 @@
 -- What steps leave as it was.
 use Rattle.ids.specs.declared.limits.TheConstants.{MOST_BLOCKS}
-use Rattle.std.proofs.Common.{◌≡◌, ◌<◌, ◌≤◌, Bool, true, false, true≢false, List, ◌∷◌, filter, length, cond}
+use Rattle.std.proofs.Common.{◌≡◌, ◌<◌, ◌≤◌, Bool, true, false, true≢false, List, [], ◌∷◌, filter, length, cond}
 use Rattle.std.proofs.Common.{refl, sym, ap, ◌∙◌, arith, nat_lt, Option, Some, None}
 use Rattle.std.specs.Prelude.{option_map}
 use Rattle.std.proofs.lemmas.Bool.{lt-ltb, le-ltb, ltb-true, ltb-false}
@@ -19,6 +19,8 @@ use Rattle.replica_rules.proofs.Takes.{ruled-noted}
 use Rattle.replica_rules.specs.declared.block_ref.BlockRef.{BlockRef}
 use Rattle.replica.specs.declared.state.High.{High}
 use Rattle.mempool.proofs.Following.{pending-due}
+use Rattle.definitions.specs.Sendings.{Sending}
+use Rattle.replica.specs.Steps.{bytes_of, shown}
 use Rattle.replica.specs.Changes.{asked, raise_of, leaf_after}
 use Rattle.std.specs.Option.{unwrap_or}
 use Rattle.replica.specs.Kept.{high_of, own_of, variables_of}
@@ -115,6 +117,11 @@ raise-is keys st c q block n e b = by (nat_lt (length (qc_high keys.sizes c).blo
         unraised keys st c n (qc-lower keys.sizes st c q e le)
 
 -- ---- the rest
+
+-- one frame or none
+pub shown-if : (t : Bool) (x : Sending) → shown (cond t (x ∷ []) []) ≡ cond t (bytes_of x ∷ []) []
+shown-if true x = refl
+shown-if false x = refl
 
 pub stored-noted : (n : Note) (c : Chronicle) → stored_blocks (noted n ∷ c) ≡ stored_blocks c
 unfolding stored_blocks taken_blocks

@@ -1,7 +1,7 @@
 -- What a ruling comes to, case by case, for every input.
 use Rattle.ids.specs.declared.fault.Fault.{Fault}
 use Rattle.ids.specs.declared.fault.Fault.TheVariants as fault
-use Rattle.std.proofs.Common.{ℕ, ◌≡◌, Bool, false, true, true≢false, List, [], ◌∷◌}
+use Rattle.std.proofs.Common.{ℕ, ◌≡◌, Bool, false, true, true≢false, List, ◌∷◌}
 use Rattle.std.proofs.Common.{length, cond, refl, sym, ap, ◌∙◌, subst, arith, nat_lt, Option, Some, None}
 use Rattle.std.proofs.Common.{Result, Ok, Err, IfOk, OnOk, OnErr}
 use Rattle.std.proofs.lemmas.Bool.{cond_both}
@@ -16,10 +16,8 @@ use Rattle.definitions.specs.Chronicles.{Chronicle, tree, IsSound}
 use Rattle.definitions.specs.States.{Justified, raised, higher, qc_high}
 use Rattle.definitions.specs.Frames.{Command}
 use Rattle.definitions.specs.Rulings.{Ruling, Ruling.due, Ruling.missing, Ruling.refusing, conflicts}
-use Rattle.definitions.specs.Sendings.{Sending, sendings}
-use Rattle.definitions.specs.Replicas.{ample, refused_at_once, running, stopped, stopped_at, stops, Replica}
-use Rattle.definitions.specs.Replicas.{Reaction}
-use Rattle.definitions.specs.Replicas.{sends_out, fails, on_step, on_ruling}
+use Rattle.definitions.specs.Replicas.{ample, refused_at_once, running, stopped, stops}
+use Rattle.definitions.specs.Replicas.{on_step, on_ruling}
 use Rattle.definitions.proofs.Chronicles.{tree-grows}
 use Rattle.linear_law.proofs.Leaves.{leaf-low}
 use Rattle.std.specs.Option.{unwrap_or}
@@ -32,7 +30,7 @@ use Rattle.replica.specs.declared.state.High.{High}
 use Rattle.replica.specs.declared.change.Growth.{Growth}
 use Rattle.replica.specs.declared.change.Growth.TheVariants.{Nothing, Block, Vote, Request}
 use Rattle.replica.specs.declared.change.Change.{Change}
-use Rattle.replica.specs.Steps.{SentBytes, bytes_of, shown, Shows}
+use Rattle.replica.specs.Steps.{SentBytes}
 use Rattle.replica.specs.Kept.{Variables, StateParts, high_of, IsStateOf}
 use Rattle.replica.specs.Changes.{asked, pended, collected, left_above, votes_after, changed}
 use Rattle.replica.specs.Changes.{changed_variables, IsStep}
@@ -66,11 +64,6 @@ certified-step s st c m h = go (raised s st c) refl
         (λ t. h q e) (λ t. tree-grows st c (qc_high s c).block m)
 
 -- ---- what a ruling comes to
-
--- one frame or none
-pub shown-if : (t : Bool) (x : Sending) → shown (cond t (x ∷ []) []) ≡ cond t (bytes_of x ∷ []) []
-shown-if true x = refl
-shown-if false x = refl
 
 -- want of memory, where a step was due
 pub refused-for-memory : (keys : Keys) (v : Ruling) (c : Chronicle) (st : Step) (s : StateParts) → v ≡ due st
@@ -159,23 +152,6 @@ stands keys v c st d s e k so known p o x b q =
     let stays = quiet d.growth s.votes.kept s.pending q in
     stands-with keys v c st d s e k so known (stays.1 ∙ p) o x
     (votes-else keys st c d s b stays.0 so.is_tree o.votes x)
-
--- a step that decides against what was executed
-pub refused-for-conflict : (keys : Keys) (v : Ruling) (c : Chronicle) (st : Step) (s : StateParts)
-    → v ≡ due st
-    → conflicts st c ≡ true → IsStateOf keys c s → Follows keys v c (Err fault.Conflict) s
-unfolding on_ruling on_step
-refused-for-conflict keys v c st s e k o =
-    let both : Bool → Replica × Reaction =
-    λ b. cond b (stopped_at c, fails fault.Conflict)
-    (record { chronicle = st ∷ c; standing = running }, sends_out (sendings (identity_of keys) st c)) in
-    subst (λ (x : Ruling). IsRefused keys x c fault.Conflict s) (sym e)
-    (record {
-      memory = ample;
-      state = o;
-      left = ap (λ (b : Bool). (both b).0) k;
-      answer = subst (λ (b : Bool). Shows (both b).1 (Err fault.Conflict)) (sym k) refl;
-    })
 
 -- a block that isn't in the tree
 pub asks : (keys : Keys) (v : Ruling) (c : Chronicle) (sender : ℕ) (d : Bytes) (s : StateParts)

@@ -62,7 +62,7 @@ request-sent me m payload s =
     (λ e. cond_both (s.used == (2 ^ 64 - 1)) _ _ Sends (λ e. tt)
     (λ e. cond_both (not (is_ample m)) _ _ Sends (λ e. tt) (λ e. refl)))
   where
-    abbrev Sends : Session × Submitted → Type 0
+    Sends : Session × Submitted → Type 0
     Sends x = IsRequestSent x.1
 
 -- a frame that is sent

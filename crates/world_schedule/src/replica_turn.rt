@@ -35,6 +35,7 @@ fn take(replica: &mut Replica, keyring: &Keyring, bytes: &[u8]) -> Result<Out, F
 /// The effect of a refused frame whose block's branch isn't whole: the question for what is
 /// missing, to the frame's sender. It is left out where that is the replica itself, or where memory
 /// for it is refused.
+#[tactic(auto, unfolding(definitions::specs::Sendings::fetch_frame))]
 fn ask(alloc: Global, replica: &Replica, bytes: &[u8]) -> Result<Effect, Fault>
     ensures asked { IfOk result (λ e. Asks (identity_of replica.now.keys) bytes.now e) }
     ensures memory { OnErr result (result ≡ Err Fault.Memory) }
