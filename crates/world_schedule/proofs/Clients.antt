@@ -5,7 +5,7 @@ use Rattle.ids.specs.declared.kind.Kind.TheVariants as kind
 use Rattle.std.proofs.Common.{ℕ, false, IfOk, ◌≡◌, [], ◌∷◌, map, refl, sym, ap, subst, ◌∙◌, Some, None}
 use Rattle.std.proofs.Common.{Result, Ok, Err}
 use Rattle.std.proofs.lemmas.Bool.{cond_both}
-use Rattle.std.specs.Prelude.{Vec, ◌-◌, ◌^◌, ◌==◌, not}
+use Rattle.std.specs.Prelude.{⊤, Vec, ◌-◌, ◌^◌, ◌==◌, not}
 use Rattle.std.specs.declared.alloc.Global.{Global}
 use Rattle.ids.specs.Sizes.{Sizes}
 use Rattle.definitions.specs.Bytes.{Bytes}
@@ -71,6 +71,9 @@ pub sent-submitted : (old new : Held) (text payload : Bytes) (bytes : Vec ℕ Gl
     → map sent_of e.out.items ≡ (to_all, kind.Request, bytes.items) ∷ [] → e.accepted ≡ None → e.answer ≡ None
     → Submits old payload new e
 sent-submitted old new text payload bytes e is c out accepted answer =
+    let m = memory_of {T = Vec ℕ Global} (Ok bytes) in
+    let told = by (submission (client_of old.keys) m text old.session).1
+    (request-sent (client_of old.keys) m text old.session) c.answer in
     subst (λ (t : Bytes). Submits old t new e) is (record {
       keys = ap (λ (h : Held). h.keys) c.state;
       memory = memory_of {T = Vec ℕ Global} (Ok bytes);
@@ -84,11 +87,6 @@ sent-submitted old new text payload bytes e is c out accepted answer =
         → (map sent_of e.out.items ≡ shown (submitted_out x)) × (e.answer ≡ submitted_answer x)
     by (sent_request f) is h = (out ∙ (λ i. (to_all, sym is i, h i) ∷ []), answer)
     by (not_sent n) is h = absurd h
-
-    told = by
-        (submission (client_of old.keys) (memory_of {T = Vec ℕ Global} (Ok bytes)) text old.session).1
-        (request-sent (client_of old.keys) (memory_of {T = Vec ℕ Global} (Ok bytes)) text old.session)
-        c.answer
 
 -- a refusal
 pub refused-submitted : (old new : Held) (text payload : Bytes) (n : Fault) (e : Effect) → text ≡ payload

@@ -96,7 +96,7 @@ recorded-at (f ∷ frames) [] k d e l = absurd (none e)
     none : shown_frame f ∷ map shown_frame frames ≡ [] → ⊥
     none h = cc
 recorded-at (f ∷ frames) (x ∷ xs) zero d e l =
-    record { sent = x; here = refl; among = inl refl; bytes = ap (λ (s : Shown). s.1.1.1) first }
+    record { sent = x; here = refl; among = inl refl; bytes = ap (λ (s : Shown). s.1.2) first }
   where
     first : shown_frame f ≡ shown_sent x
     first = ap (λ (s : List Shown). slice_index_or s 0 (shown_frame f)) e
