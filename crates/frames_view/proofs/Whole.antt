@@ -7,7 +7,11 @@ use Rattle.std.specs.Option.{option_and_then}
 use Rattle.std.specs.Int.{w8}
 use Rattle.std.proofs.lemmas.Bool.{eqb-true}
 use Rattle.std.proofs.lemmas.List.{append-nil, nil_from_length}
+use Rattle.ids.specs.Numbers.{kind_number, kinds, kind_numbered}
 use Rattle.ids.specs.Sizes.{Sizes, replicas}
+use Rattle.ids.specs.declared.kind.Kind.{Kind}
+use Rattle.ids.specs.declared.kind.Kind.TheVariants as kind
+use Rattle.definitions.proofs.Lists.{find_some}
 use Rattle.definitions.specs.Bytes.{Bytes}
 use Rattle.definitions.specs.Frames.{Command, Core, Vote, Certificate, Frame, request, proposal, vote}
 use Rattle.definitions.specs.Frames.{new_view, reply, fetch, block, spelling}
@@ -43,14 +47,6 @@ module _ (sizes : Sizes) {X : Type 0} (P : X → Type 0) (spell : X → Bytes) (
   made_again x h bytes e =
       let whole : bytes ≡ spell x ++ [] = ap (drop 1) (e ∙ sym (good x h).1) ∙ sym (append-nil (spell x)) in
       ap (made make read) whole ∙ rw (exact.again x [] h) refl
-
--- which way a test went
-went : {A : Type 0} (b : Bool) (x y z : A) → cond b x y ≡ z → ((b ≡ true) × (x ≡ z)) ⊎ (y ≡ z)
-went true x y z e = inl (refl, e)
-went false x y z e = inr e
-
-pick : {A : Type 0} (k n : ℕ) (x y z : A) → cond (k == n) x y ≡ z → ((k ≡ n) × (x ≡ z)) ⊎ (y ≡ z)
-pick k n x y z e = elim (went (k == n) x y z e) [ inl h ↦ inl (eqb-true k n h.0, h.1) | inr h ↦ inr h ]
 
 module _ (sizes : Sizes) (are : AreFew sizes) where
   abbrev Found : ℕ → Reader Frame → Type 0
@@ -188,78 +184,71 @@ module _ (sizes : Sizes) (are : AreFew sizes) where
 
   -- ---- any frame
 
-  kind_found : (kind : ℕ) → Found kind (kind_in sizes kind)
+  kind_found : (k : Kind) → Found (kind_number k) (kind_in sizes k)
   unfolding kind_in
-  kind_found k bytes f rest fits e = elim (pick k 1 _ _ _ e) [
-    | inl h ↦ let t = request_found bytes f rest fits h.1 in (t.0, ap (λ (i : ℕ). i ∷ bytes) h.0 ∙ t.1)
-    | inr e2 ↦ elim (pick k 2 _ _ _ e2) [
-      | inl h ↦ let t = proposal_found bytes f rest fits h.1 in (t.0, ap (λ (i : ℕ). i ∷ bytes) h.0 ∙ t.1)
-      | inr e3 ↦ elim (pick k 3 _ _ _ e3) [
-        | inl h ↦ let t = vote_frame_found bytes f rest fits h.1 in (t.0, ap (λ (i : ℕ). i ∷ bytes) h.0 ∙ t.1)
-        | inr e4 ↦ elim (pick k 4 _ _ _ e4) [
-          | inl h ↦ let t = new_view_found bytes f rest fits h.1 in (t.0, ap (λ (i : ℕ). i ∷ bytes) h.0 ∙ t.1)
-          | inr e5 ↦ elim (pick k 5 _ _ _ e5) [
-            | inl h ↦ let t = reply_found bytes f rest fits h.1 in (t.0, ap (λ (i : ℕ). i ∷ bytes) h.0 ∙ t.1)
-            | inr e6 ↦ elim (pick k 6 _ _ _ e6) [
-              | inl h ↦ let t =
-                  fetch_found bytes f rest fits h.1 in (t.0, ap (λ (i : ℕ). i ∷ bytes) h.0 ∙ t.1)
-              | inr e7 ↦ elim (pick k 7 _ _ _ e7) [
-                | inl h ↦ let t =
-                    block_found bytes f rest fits h.1 in (t.0, ap (λ (i : ℕ). i ∷ bytes) h.0 ∙ t.1)
-                | inr none ↦ absurd cc
-              ]
-            ]
-          ]
-        ]
-      ]
-    ]
-  ]
+  kind_found kind.Request = request_found
+  kind_found kind.Proposal = proposal_found
+  kind_found kind.Vote = vote_frame_found
+  kind_found kind.NewView = new_view_found
+  kind_found kind.Reply = reply_found
+  kind_found kind.Fetch = fetch_found
+  kind_found kind.Block = block_found
 
   -- a frame that is read is spelled so
   pub frame_found : (bytes : Bytes) (f : Frame) → IsBytes bytes → frame_in sizes bytes ≡ Some f
       → Spells sizes bytes f
   unfolding frame_in
   frame_found bytes f fits e =
-      let a = and_then_parts (λ kind. option_and_then (λ g. cond (length g.1 == 0) (Some g.0) None)
-      (kind_in sizes kind.0 kind.1)) (number w8 bytes) f e in
-      let kind = a.0 in
-      let first = IsExact-byte.found bytes kind.0 kind.1 fits a.1 in
-      let b =
-      and_then_parts (λ g. cond (length g.1 == 0) (Some g.0) None) (kind_in sizes kind.0 kind.1) f a.2 in
+      let a = and_then_parts _ (number w8 bytes) f e in
+      let first = IsExact-byte.found bytes a.0.0 a.0.1 fits a.1 in
+      let k = and_then_parts _ (kind_numbered a.0.0) f a.2 in
+      let named : a.0.0 ≡ kind_number k.0 =
+      sym (eqb-true _ _ (find_some (λ x. kind_number x == a.0.0) kinds k.0 k.1).1) in
+      let b = and_then_parts _ (kind_in sizes k.0 a.0.1) f k.2 in
       let g = b.0 in
       let t = guard_true (length g.1 == 0) (Some g.0) f b.2 in
       let none : g.1 ≡ [] = nil_from_length g.1 (eqb-true _ _ t.0) in
       let same : g.0 ≡ f = same_Some g.0 f t.1 in
-      let left = IsBytes-right (kind.0 ∷ []) kind.1 (subst IsBytes first.1 fits) in
-      let h = kind_found kind.0 kind.1 g.0 g.1 left b.1 in
+      let left = IsBytes-right (a.0.0 ∷ []) a.0.1 (subst IsBytes first.1 fits) in
+      let h = kind_found k.0 a.0.1 g.0 g.1 left b.1 in
       let whole : bytes ≡ spelling g.0 =
-      first.1 ∙ (h.1 ∙ (ap (λ (l : Bytes). spelling g.0 ++ l) none ∙ append-nil (spelling g.0))) in
+      first.1 ∙ ap (λ (n : ℕ). n ∷ a.0.1) named
+      ∙ (h.1 ∙ (ap (λ (l : Bytes). spelling g.0 ++ l) none ∙ append-nil (spelling g.0))) in
       subst (Spells sizes bytes) same (h.0, whole)
 
+  -- the kind of its number
+  number_of : (k : Kind) → (kind_number k < 256) × (kind_numbered (kind_number k) ≡ Some k)
+  number_of kind.Request = (omega arith, refl)
+  number_of kind.Proposal = (omega arith, refl)
+  number_of kind.Vote = (omega arith, refl)
+  number_of kind.NewView = (omega arith, refl)
+  number_of kind.Reply = (omega arith, refl)
+  number_of kind.Fetch = (omega arith, refl)
+  number_of kind.Block = (omega arith, refl)
+
   -- so many bytes behind a kind that are a frame of it, all of them
-  again_by : (kind : ℕ) (f : Frame) (bytes : Bytes) → kind < 256 → kind_in sizes kind bytes ≡ Some (f, [])
-      → frame_in sizes (kind ∷ bytes) ≡ Some f
+  again_by : (k : Kind) (f : Frame) (bytes : Bytes) → kind_in sizes k bytes ≡ Some (f, [])
+      → frame_in sizes (kind_number k ∷ bytes) ≡ Some f
   unfolding frame_in
-  again_by kind f bytes lt e = rw (IsExact-byte.again kind bytes lt, e) refl
+  again_by k f bytes e =
+      let n = number_of k in rw (IsExact-byte.again (kind_number k) bytes n.0, n.1, e) refl
 
   -- a frame that is spelled is read
   pub frame_again : (f : Frame) → IsFrame sizes f → frame_in sizes (spelling f) ≡ Some f
   unfolding kind_in
-  frame_again (request c) h = again_by 1 (request c) _ (omega arith) (request_again c h _ refl)
+  frame_again (request c) h = again_by kind.Request (request c) _ (request_again c h _ refl)
   frame_again (proposal view k q vector) h =
-      again_by 2 (proposal view k q vector) _ (omega arith) (proposal_again view k q vector h _ refl)
-  frame_again (vote digest v) h =
-      again_by 3 (vote digest v) _ (omega arith) (vote_frame_again digest v h _ refl)
+      again_by kind.Proposal (proposal view k q vector) _ (proposal_again view k q vector h _ refl)
+  frame_again (vote digest v) h = again_by kind.Vote (vote digest v) _ (vote_frame_again digest v h _ refl)
   frame_again (new_view view sender q vector) h =
-      again_by 4 (new_view view sender q vector) _ (omega arith)
-      (new_view_again view sender q vector h _ refl)
+      again_by kind.NewView (new_view view sender q vector) _ (new_view_again view sender q vector h _ refl)
   frame_again (reply replica client seq place text tag) h =
-      again_by 5 (reply replica client seq place text tag) _ (omega arith)
+      again_by kind.Reply (reply replica client seq place text tag) _
       (reply_again replica client seq place text tag h _ refl)
   frame_again (fetch sender digest tag) h =
-      again_by 6 (fetch sender digest tag) _ (omega arith) (fetch_again sender digest tag h _ refl)
+      again_by kind.Fetch (fetch sender digest tag) _ (fetch_again sender digest tag h _ refl)
   frame_again (block sender k q tag) h =
-      again_by 7 (block sender k q tag) _ (omega arith) (block_again sender k q tag h _ refl)
+      again_by kind.Block (block sender k q tag) _ (block_again sender k q tag h _ refl)
 
   -- what reading gives is what the bytes are read as
   pub is_read : (bytes : Bytes) (o : Option Frame) → IsBytes bytes → o ≡ frame_in sizes bytes

@@ -4,7 +4,10 @@ use Rattle.std.specs.Prelude.{ℕ, ◌*◌, Bool, List, length, Option, Some, No
 use Rattle.std.specs.Prelude.{◌||◌, if◌then◌else◌}
 use Rattle.std.specs.Option.{option_and_then}
 use Rattle.std.specs.Int.{w8, w16, w32, w64}
+use Rattle.ids.specs.Numbers.{kind_numbered}
 use Rattle.ids.specs.Sizes.{Sizes, replicas, quorum}
+use Rattle.ids.specs.declared.kind.Kind.{Kind}
+use Rattle.ids.specs.declared.kind.Kind.TheVariants as kind
 use Rattle.definitions.specs.Bytes.{Bytes}
 use Rattle.definitions.specs.Frames.{Command, Core, Vote, Certificate, Frame, request, proposal, vote}
 use Rattle.definitions.specs.Frames.{new_view, reply, fetch, block}
@@ -108,19 +111,19 @@ unfoldable pub block_in : Sizes → Reader Frame
 block_in sizes = made (λ p. block p.0 p.1.0 p.1.1.0 p.1.1.1)
     (both (party_in (replicas sizes)) (both (core_in sizes) (both (certificate_in sizes) digest_in)))
 
--- a frame of the kind of this number
-unfoldable pub kind_in : Sizes → ℕ → Reader Frame
-kind_in sizes kind bytes =
-    if kind == 1 then made request (command_in (replicas sizes) sizes.clients) bytes else
-    if kind == 2 then proposal_in sizes bytes else
-    if kind == 3 then vote_frame_in sizes bytes else
-    if kind == 4 then new_view_in sizes bytes else
-    if kind == 5 then reply_in sizes bytes else
-    if kind == 6 then fetch_in sizes bytes else
-    if kind == 7 then block_in sizes bytes else None
+-- a frame of this kind
+unfoldable pub kind_in : Sizes → Kind → Reader Frame
+kind_in sizes kind.Request = made request (command_in (replicas sizes) sizes.clients)
+kind_in sizes kind.Proposal = proposal_in sizes
+kind_in sizes kind.Vote = vote_frame_in sizes
+kind_in sizes kind.NewView = new_view_in sizes
+kind_in sizes kind.Reply = reply_in sizes
+kind_in sizes kind.Fetch = fetch_in sizes
+kind_in sizes kind.Block = block_in sizes
 
 -- the frame that the bytes are, all of them
 unfoldable pub frame_in : Sizes → Bytes → Option Frame
 frame_in sizes bytes =
-    option_and_then (λ kind. option_and_then (λ f. if length f.1 == 0 then Some f.0 else None)
-    (kind_in sizes kind.0 kind.1)) (number w8 bytes)
+    option_and_then (λ n. option_and_then (λ k. option_and_then
+    (λ f. if length f.1 == 0 then Some f.0 else None)
+    (kind_in sizes k n.1)) (kind_numbered n.0)) (number w8 bytes)

@@ -36,13 +36,13 @@ impl Frame<'_> {
     }
 }
 
-/// A frame of the kind of this number, with what is left behind it.
+/// A frame of this kind, with what is left behind it.
 #[tactic(auto, unfolding(crate::specs::Parts::kind_in))]
-fn take_kind<'a>(config: &Config, kind: u8, bytes: &'a [u8]) -> Option<(Frame<'a>, &'a [u8])>
+fn take_kind<'a>(config: &Config, kind: Kind, bytes: &'a [u8]) -> Option<(Frame<'a>, &'a [u8])>
     ensures taken { Gives (λ p. (frame_of p.0, p.1.now)) result (kind_in config.now kind bytes.now) }
     ensures lent { IfSome result (λ p. IsFrameAt bytes.entry 0 p.0) }
 {
-    match Kind::from_number(kind)? {
+    match kind {
         Kind::Request => {
             let (command, rest) = take_command(bytes, config.n(), config.clients())?;
             Some((Frame::Request(command), rest))
@@ -80,7 +80,8 @@ fn whole_frame<'a>(config: &Config, bytes: &'a [u8]) -> Option<Frame<'a>>
     ensures taken { option_map frame_of result ≡ frame_in config.now bytes.now }
     ensures lent { IfSome result (λ f. IsFrameAt bytes.entry 1 f) }
 {
-    let (kind, rest) = take_u8(bytes)?;
+    let (number, rest) = take_u8(bytes)?;
+    let kind = Kind::from_number(number)?;
     let (frame, rest) = take_kind(config, kind, rest)?;
     if !rest.is_empty() {
         return None;

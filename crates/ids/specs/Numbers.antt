@@ -1,5 +1,5 @@
 -- The numbers of refusals, and the numbers and names of kinds of frames.
-use Rattle.std.specs.Prelude.{ℕ, List, codes}
+use Rattle.std.specs.Prelude.{ℕ, ◌==◌, List, [], ◌∷◌, find, Option, codes}
 use Rattle.ids.specs.declared.fault.Fault.{Fault}
 use Rattle.ids.specs.declared.fault.Fault.TheVariants.{BadSize, UnknownName, BadFields, TooLarge, BadChunk}
 use Rattle.ids.specs.declared.fault.Fault.TheVariants.{LineTooLong, FeedFull, NotAFrame, BadTag}
@@ -67,6 +67,13 @@ kind_number NewView = 4
 kind_number Reply = 5
 kind_number Fetch = 6
 kind_number Block = 7
+
+-- all kinds, and the one of a number
+abbrev pub kinds : List Kind
+kinds = Request ∷ Proposal ∷ Vote ∷ NewView ∷ Reply ∷ Fetch ∷ Block ∷ []
+
+abbrev pub kind_numbered : ℕ → Option Kind
+kind_numbered number = find (λ kind. kind_number kind == number) kinds
 
 -- how it is named
 abbrev pub kind_name : Kind → List ℕ

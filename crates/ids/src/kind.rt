@@ -1,5 +1,5 @@
-ghost use Rattle.std.specs.Prelude.{◌≡◌, ◌<◌, ◌⊎◌, IfSome, IfNone};
-ghost use Rattle.ids.specs.Numbers.{kind_number, kind_name};
+ghost use Rattle.std.specs.Prelude.{◌≡◌};
+ghost use Rattle.ids.specs.Numbers.{kind_number, kind_numbered, kind_name};
 
 use std::fmt;
 
@@ -32,8 +32,7 @@ impl Kind {
 
     /// The kind of this number, where there is one.
     pub fn from_number(number: u8) -> Option<Kind>
-        ensures known { IfSome result (λ kind. kind_number kind ≡ number) }
-        ensures unknown { IfNone result ((number ≡ 0) ⊎ (7 < number)) }
+        ensures { result ≡ kind_numbered number }
     {
         match number {
             1 => Some(Kind::Request),

@@ -2,5 +2,5 @@ use Rattle.frames_view.proofs.Places.{IsFrameAt-behind}
 use Rattle.frames_view.proofs.frame.whole_frame.Goals as goal
 
 pub returns-clause-lent : goal.returns-clause-lent
-returns-clause-lent c = IsFrameAt-behind c.args.bytes c.in_ok-kind.rest 1 c.in_ok-kind.ensures.lent.0
+returns-clause-lent c = IsFrameAt-behind c.args.bytes c.in_ok-number.rest 1 c.in_ok-number.ensures.lent.0
     c.in_ok-frame.frame c.in_ok-frame.ensures.lent
