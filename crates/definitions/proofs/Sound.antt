@@ -13,7 +13,7 @@ use Rattle.std.proofs.lemmas.Bool.{and_parts, or_cases, cond_both, ltb-true, ltb
 use lib.Dec.{ltb}
 use Rattle.definitions.specs.Lists.{Among, AreDistinct}
 use Rattle.definitions.specs.Frames.{Command, Core, Vote, Certificate}
-use Rattle.definitions.specs.Branches.{Branch, justify_height, just1, Extends, IsBranch}
+use Rattle.definitions.specs.Branches.{Block, Branch, justify_height, just1, Extends, IsBranch}
 use Rattle.definitions.specs.Bytes.{Bytes}
 use Rattle.ids.specs.Sizes.{Sizes, replicas, quorum}
 use Rattle.definitions.specs.Digests.{digest, digest_of}
@@ -25,7 +25,7 @@ use Rattle.definitions.specs.Chronicles.{Admitted, Step, Step.took_block, Step.n
 use Rattle.definitions.specs.Chronicles.{Note.got_new_view, Note.got_request, Note.timed_out, Note.beat}
 use Rattle.definitions.specs.Chronicles.{Chronicle, taken_blocks, stored_blocks, stored_block, tree, lock}
 use Rattle.definitions.specs.Chronicles.{history, is_safe}
-use Rattle.definitions.specs.Chronicles.{IsLawfulVote, IsLawfulStep, IsSound}
+use Rattle.definitions.specs.Chronicles.{IsLawfulVote, IsLawfulStep, AreKnown, IsSound}
 use Rattle.definitions.specs.Checks.{Identity, Findings, is_genesis}
 use Rattle.definitions.specs.States.{find_block, is_due, pending, is_same_request}
 use Rattle.definitions.specs.Rulings.{Input, Input.proposal_in, Input.block_in, Input.vote_in}
@@ -40,6 +40,32 @@ use Rattle.definitions.specs.Replicas.{Standing}
 use Rattle.definitions.specs.Replicas.{Standing.running, Standing.stopped, Standing.cut_short, Reaction}
 use Rattle.definitions.specs.Replicas.{Reaction.fails, Reaction.sends_out, Reaction.asks_for, stopped_at}
 use Rattle.definitions.specs.Replicas.{stops, executes}
+
+-- ---- the chronicle without steps
+
+pub only-genesis : (x : Branch) → Among x ([] ∷ []) → x ≡ []
+only-genesis x (inl e) = e
+only-genesis x (inr n) = absurd n
+
+nothing-above : (b : Block) (parent : Branch) → b ∷ parent ≡ [] → ⊥
+nothing-above b parent e = cc
+
+pub first-sound : (s : Sizes) → IsSound s []
+unfolding tree stored_blocks taken_blocks
+first-sound s = record {
+  is_tree = record {
+    branches = λ x m. subst IsBranch (sym (only-genesis x m)) tt;
+    one = λ x y m n e. only-genesis x m ∙ sym (only-genesis y n);
+    parents = λ b parent m. absurd (nothing-above b parent (only-genesis (b ∷ parent) m));
+    genesis = inl refl;
+  };
+  lawful = tt;
+  known = tt;
+  bounded = omega arith;
+  heights = λ x m. let e = ap (λ (b : Branch). length b) (only-genesis x m) in omega (arith, e);
+}
+
+-- ---- each step
 
 -- what is known of a core, a certificate and what was found of them, where they were read and checked at
 -- these sizes
@@ -168,6 +194,7 @@ new-step self w parent core q f c so tr fresh m ch e room = record {
     ),
     so.lawful,
   );
+  known = so.known;
   bounded = (let l = room in omega (arith, l));
   heights = grown-heights (tree c) (block_of core) parent m so.heights;
 }
@@ -195,6 +222,7 @@ placed-sound self w sender core q f c ch so (stands b) h =
         ),
         so.lawful,
       );
+      known = so.known;
       bounded = so.bounded;
       heights = so.heights;
     }
@@ -218,28 +246,29 @@ block-sound self w sender core q f c ch so =
 
 -- a step that takes no block
 other-sound : (need : Sizes) (c : Chronicle) (st : Step) → tree (st ∷ c) ≡ tree c → IsLawfulStep need st c
-    → IsSound need c → IsSound need (st ∷ c)
-other-sound need c st e l so = record {
+    → AreKnown (st ∷ c) → IsSound need c → IsSound need (st ∷ c)
+other-sound need c st e l k so = record {
   is_tree = subst IsTree (sym e) so.is_tree;
   lawful = (l, so.lawful);
+  known = k;
   bounded = subst (λ (t : List Branch). length t ≤ MOST_BLOCKS) (sym e) so.bounded;
   heights = subst (λ (t : List Branch). (x : Branch) → Among x t → length x < length t) (sym e) so.heights;
 }
 
-vote-sound : (self : Identity) (o : Option Branch) (b : Vote) (d : Bytes) (c : Chronicle)
-    → IsSound self.sizes c
+vote-sound : (self : Identity) (b : Vote) (d : Bytes) (c : Chronicle) → IsSound self.sizes c
+    → (o : Option Branch) → find_block d c ≡ o
     → Keeps self c (with_block o b.voter d (λ x. due (noted (got_vote b.voter b.vector x))))
 unfolding tree stored_blocks taken_blocks
-vote-sound self None b d c so = tt
-vote-sound self (Some x) b d c so = other-sound _ c _ refl tt so
+vote-sound self b d c so None e = tt
+vote-sound self b d c so (Some x) e = other-sound _ c _ refl tt ((found d c x e).0, so.known) so
 
-new_view-sound :
-    (self : Identity) (o : Option Branch) (w sender : ℕ) (q : Certificate) (d : Bytes) (c : Chronicle)
-    → IsSound self.sizes c
-    → Keeps self c (with_block o sender d (λ x. due (noted (got_new_view w sender q x))))
+new_view-sound : (self : Identity) (w sender : ℕ) (q : Certificate) (c : Chronicle) → IsSound self.sizes c
+    → (o : Option Branch) → find_block q.digest c ≡ o
+    → Keeps self c (with_block o sender q.digest (λ x. due (noted (got_new_view w sender q x))))
 unfolding tree stored_blocks taken_blocks
-new_view-sound self None w sender q d c so = tt
-new_view-sound self (Some x) w sender q d c so = other-sound _ c _ refl tt so
+new_view-sound self w sender q c so None e = tt
+new_view-sound self w sender q c so (Some x) e =
+    other-sound _ c _ refl tt ((found q.digest c x e).0, so.known) so
 
 request-sound : (self : Identity) (r : Command) (c : Chronicle) → IsSound self.sizes c
     → Keeps self c (on_request r c)
@@ -247,7 +276,7 @@ unfolding tree stored_blocks taken_blocks on_request
 request-sound self r c so =
     cond_both (is_due (history c) r
     && (not (list_any (is_same_request r) (pending c)) && not (nat_lt (length (pending c)) 4096))) _ _ P
-    (λ e k. cc) (λ e. other-sound _ c (noted (got_request r)) refl tt so)
+    (λ e k. cc) (λ e. other-sound _ c (noted (got_request r)) refl tt so.known so)
   where
     P : Ruling → Type 0
     P = Keeps self c
@@ -257,12 +286,12 @@ pub ruling-sound : (self : Identity) (i : Input) (c : Chronicle) → IsCheckedIn
 unfolding ruling tree stored_blocks taken_blocks
 ruling-sound self (proposal_in w core q f) c ch so = block-sound self _ _ core q f c ch so
 ruling-sound self (block_in sender core q f) c ch so = block-sound self _ _ core q f c ch so
-ruling-sound self (vote_in d b) c ch so = vote-sound self _ b d c so
-ruling-sound self (new_view_in w sender q) c ch so = new_view-sound self _ w sender q _ c so
+ruling-sound self (vote_in d b) c ch so = vote-sound self b d c so _ refl
+ruling-sound self (new_view_in w sender q) c ch so = new_view-sound self w sender q c so _ refl
 ruling-sound self (request_in r) c ch so = request-sound self r c so
-ruling-sound self (fetch_in sender d) c ch so = other-sound _ c _ refl tt so
-ruling-sound self timeout_in c ch so = other-sound _ c (noted timed_out) refl tt so
-ruling-sound self beat_in c ch so = other-sound _ c (noted beat) refl tt so
+ruling-sound self (fetch_in sender d) c ch so = other-sound _ c _ refl tt so.known so
+ruling-sound self timeout_in c ch so = other-sound _ c (noted timed_out) refl tt so.known so
+ruling-sound self beat_in c ch so = other-sound _ c (noted beat) refl tt so.known so
 
 -- ---- the whole step
 

@@ -142,10 +142,19 @@ abbrev pub IsLawful : Sizes → Chronicle → Type 0
 IsLawful sizes [] = ⊤
 IsLawful sizes (s ∷ earlier) = IsLawfulStep sizes s earlier × IsLawful sizes earlier
 
--- What is kept of a replica's chronicle at these sizes: each step is lawful, and the blocks that it knows
--- are a tree of at most so many as a tree may have, in which each height is below their number.
+-- the block of each vote and of each announced certificate was known when it came
+abbrev pub AreKnown : Chronicle → Type 0
+AreKnown [] = ⊤
+AreKnown (noted (got_vote voter vector b) ∷ earlier) = Among b (tree earlier) × AreKnown earlier
+AreKnown (noted (got_new_view view sender q b) ∷ earlier) = Among b (tree earlier) × AreKnown earlier
+AreKnown (s ∷ earlier) = AreKnown earlier
+
+-- What is kept of a replica's chronicle at these sizes: each step is lawful, what is said of blocks is said of
+-- known ones, and these are a tree of at most so many as a tree may have, in which each height is below their
+-- number.
 pub record IsSound (sizes : Sizes) (c : Chronicle) : Type 0 where
   pub is_tree : IsTree (tree c)
   pub lawful : IsLawful sizes c
+  pub known : AreKnown c
   pub bounded : length (tree c) ≤ MOST_BLOCKS
   pub heights : (x : Branch) → Among x (tree c) → length x < length (tree c)

@@ -4,7 +4,7 @@ use Rattle.std.specs.Prelude.{◌≢◌, ℕ, ◌^◌, ◌<◌, ◌≤◌, Bool,
 use Rattle.std.specs.Prelude.{IsTrue, Option, Some, None, IfSome, decimal, codes}
 use Rattle.std.specs.List.{join_with_byte, AllByRecursion}
 use Rattle.std.specs.Option.{option_map_or}
-use Rattle.ids.specs.declared.limits.TheConstants.{MOST_ASKED, MOST_DATA, MOST_KEY, MOST_LINE}
+use Rattle.ids.specs.declared.limits.TheConstants.{MOST_ASKED, MOST_DATA, MOST_KEY}
 use Rattle.definitions.specs.Bytes.{Bytes}
 
 -- ---- what is asked

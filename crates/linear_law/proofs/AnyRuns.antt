@@ -1,6 +1,5 @@
 -- What holds in every run, whatever tags are forged and whatever cores collide: what correct parties send
 -- are frames.
-use Rattle.ids.specs.declared.limits.TheConstants.{MOST_BLOCKS}
 use Rattle.std.proofs.Common.{ℕ, suc, ◌≡◌, ◌+◌, ◌-◌, ◌<◌, ◌≤◌, ◌^◌, ◌==◌, not, true, Bool, List, [], ◌∷◌}
 use Rattle.std.proofs.Common.{length, refl, sym, subst, arith, inl, inr, Option, Some, None, Ok}
 use Rattle.std.proofs.lemmas.Bool.{and_parts, cond_both, ltb-true}
@@ -43,7 +42,8 @@ use Rattle.linear_law.proofs.FitAnswers.{answers-fit}
 use Rattle.linear_law.proofs.Accounts.{put-session, on_reply-used, next-fits}
 use Rattle.linear_law.proofs.FramedRuns.{AsksRightly, step-asks, lacks-fit, payload-short, submission-fits}
 use Rattle.linear_law.proofs.FramedRuns.{requested, put-both}
-use Rattle.linear_law.proofs.Linear.{run-step, new-row}
+use Rattle.linear_law.proofs.Linear.{run-step}
+use Rattle.definitions.proofs.Sound.{only-genesis, first-sound}
 use Rattle.linear_law.proofs.WholeRuns.{comes-framed}
 use Rattle.linear_law.specs.Law.{SentAreFrames, HaveOwnKeys, AnySentFramesAreFrames}
 
@@ -55,7 +55,6 @@ pub record IsPlain (self : Identity) (now : ℕ) (c : Chronicle) : Type 0 where
   pub stored_are : AreStored self c
   pub fit : (x : Branch) → Among x (tree c) → AllKnown (IsCore self.sizes) x
   pub short : length c < now
-  pub low : length (leaf self c) ≤ length c + MOST_BLOCKS
   pub proposal : (j : Justified) → proposed self c ≡ Some j → IsFitProposal self.sizes j
 
 -- it stays so
@@ -65,7 +64,6 @@ later self now c p = record {
   stored_are = p.stored_are;
   fit = p.fit;
   short = (let l = p.short in omega (arith, l));
-  low = p.low;
   proposal = p.proposal;
 }
 
@@ -81,18 +79,18 @@ proposal-now self now (noted beat) c few p j e = by (child self c (leaf self c))
     by None i f = p.proposal j f
     by (Some b) i f =
         let is : record { block = b; certificate = (qc_high self.sizes c).certificate } ≡ j = cc in
-        let l = p.low in
+        let l = leaf-low self c p.sound in
         let s = p.short in
         subst (IsFitProposal self.sizes) is (record {
           core_is =
               child-core self c b p.stored_are (omega (arith, l, s, few)) (child-is self c (leaf self c) b i);
-          certificate_is = (qc_high-is self c p.sound.lawful p.stored_are).certificate_is;
+          certificate_is = (qc_high-is self c p.stored_are).certificate_is;
         })
 proposal-now self now (took_block a) c few p j e = p.proposal j e
 proposal-now self now (noted n) c few p j e = p.proposal j e
 
 -- the tree after a step
-fit-now : (self : Identity) (st : Step) (c : Chronicle) → IsSound self.sizes (st ∷ c) → IsStored self c st
+fit-now : (self : Identity) (st : Step) (c : Chronicle) → IsSound self.sizes (st ∷ c) → IsStored self st
     → ((x : Branch) → Among x (tree c) → AllKnown (IsCore self.sizes) x) → (x : Branch)
     → Among x (tree (st ∷ c)) → AllKnown (IsCore self.sizes) x
 unfolding tree stored_blocks taken_blocks
@@ -105,13 +103,12 @@ fit-now self (noted n) c so h fit x m = fit x m
 
 -- one step more
 grown : (self : Identity) (now : ℕ) (st : Step) (c : Chronicle) → now ≤ 2 ^ 63 → IsPlain self now c
-    → IsSound self.sizes (st ∷ c) → IsStored self c st → IsPlain self (suc now) (st ∷ c)
+    → IsSound self.sizes (st ∷ c) → IsStored self st → IsPlain self (suc now) (st ∷ c)
 grown self now st c few p so h = record {
   sound = so;
   stored_are = (h, p.stored_are);
   fit = fit-now self st c so h p.fit;
   short = (let l = p.short in omega (arith, l));
-  low = leaf-low self st c so (qc_high-is self (st ∷ c) so.lawful (h, p.stored_are)).among p.low;
   proposal = proposal-now self now st c few p;
 }
 
@@ -146,7 +143,6 @@ after-plain self now m v before r few number p kept h asks (cut st n u e k) = re
 after-plain self now m v before r few number p kept h asks (stood st u e k) = record {
   left = next;
   out = λ o k. sends-fit self st before.chronicle o (record {
-    lawful = next.sound.lawful;
     stored = next.stored_are;
     number = number;
     before = answers-fit (IsCore self.sizes) self.sizes (λ c x. inr x) before.chronicle p.sound p.fit;
@@ -292,11 +288,10 @@ unfolding new_world leaf proposed tree stored_blocks taken_blocks
 new-plain sizes is_faulty ring keys = record {
   rings = keys;
   each = λ p m. record {
-    sound = (new-row (IsCore sizes) sizes (λ i. true)).sound 0 refl;
+    sound = first-sound sizes;
     stored_are = tt;
-    fit = λ x k. elim k [ inl i ↦ subst (AllKnown (IsCore sizes)) (sym i) tt | inr n ↦ absurd n ];
+    fit = λ x k. subst (AllKnown (IsCore sizes)) (sym (only-genesis x k)) tt;
     short = omega arith;
-    low = omega arith;
     proposal = λ j e. absurd (none j e);
   };
   room = λ c. omega arith;

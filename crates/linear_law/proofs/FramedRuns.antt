@@ -152,7 +152,6 @@ module _ (Known : Core → Type 0) (apart : NoCollision Known) (genesis : Known 
     stored = now.stored;
     leaf = λ i. kept;
     out = λ o k. sends-fit self st before.chronicle o (record {
-      lawful = so.lawful;
       stored = now.stored;
       number = number;
       before = answers-fit Known self.sizes cores before.chronicle g.sound g.known;

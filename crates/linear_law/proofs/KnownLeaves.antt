@@ -18,7 +18,7 @@ use Rattle.linear_law.proofs.Linear.{ground}
 use Rattle.linear_law.proofs.StoredFrames.{AreStored}
 use Rattle.linear_law.proofs.MadeCertificates.{qc_high-is}
 use Rattle.linear_law.proofs.Leaves.{IsChild, child-is, LeafStep, LeafStep.raises, LeafStep.keeps}
-use Rattle.linear_law.proofs.Leaves.{LeafStep.makes, leaf-step, known-block, child-core}
+use Rattle.linear_law.proofs.Leaves.{LeafStep.makes, leaf-step, known-block, child-core, high-known}
 use Rattle.linear_law.proofs.SentFrames.{IsFitProposal}
 
 -- what is kept of a running replica's leaf and of its last proposal
@@ -94,7 +94,7 @@ module _ (Known : Core → Type 0) (apart : NoCollision Known) (genesis : Known 
           let is : record { block = b; certificate = (qc_high self.sizes c).certificate } ≡ j = cc in
           subst (IsFitProposal self.sizes) is (record {
             core_is = made-core self c b g k i;
-            certificate_is = (qc_high-is self c g.sound.lawful g.stored).certificate_is;
+            certificate_is = (qc_high-is self c g.stored).certificate_is;
           })
   proposal-now self (took_block a) c g k j e = k.proposal j e
   proposal-now self (noted n) c g k j e = k.proposal j e
@@ -105,7 +105,7 @@ module _ (Known : Core → Type 0) (apart : NoCollision Known) (genesis : Known 
       → ((o : Sending) → Among o (sendings self st c) → (x : Core) → CoreOf x o.1 → IsCore self.sizes x
       → Known x) → LeafStep self st c b → AllKnown Known b
   leaf-now self st c b g now k sent (raises l) =
-      now.known _ (qc_high-is self (st ∷ c) now.sound.lawful now.stored).among
+      now.known _ (high-known self.sizes (st ∷ c) now.sound.lawful now.sound.known)
   leaf-now self st c b g now k sent (keeps l) = k.known
   leaf-now self st c b g now k sent (makes x beats l e) =
       let ch = child-is self c (leaf self c) x e in

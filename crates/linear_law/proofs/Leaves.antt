@@ -2,12 +2,12 @@
 -- in frames.
 use Rattle.ids.specs.declared.limits.TheConstants.{MOST_COMMANDS, MOST_BLOCKS}
 use Rattle.std.proofs.Common.{ℕ, zero, suc, if◌then◌else◌, ◌≡◌, ◌<◌, ◌≤◌, ◌+◌, ◌^◌, ◌&&◌, not, true, List, []}
-use Rattle.std.proofs.Common.{◌∷◌, ◌++◌, length, refl, sym, ap, subst, arith, Option, Some, None}
+use Rattle.std.proofs.Common.{◌∷◌, ◌++◌, length, refl, sym, ap, subst, arith, inl, Option, Some, None}
 use Rattle.std.proofs.Common.{true≢false, ◌==◌, nat_lt, nat_le, map, filter, take, is_some}
 use Rattle.std.specs.List.{list_any, AllByRecursion}
 use Rattle.std.proofs.lemmas.Bool.{and_parts, cond_both, ltb-true, ltb-false}
 use Rattle.std.proofs.lemmas.List.{length-take}
-use Rattle.ids.specs.Sizes.{replicas}
+use Rattle.ids.specs.Sizes.{Sizes, replicas, quorum}
 use Rattle.definitions.specs.Lists.{Among, greatest, count_below}
 use Rattle.definitions.specs.Bytes.{Bytes}
 use Rattle.definitions.specs.Frames.{Command}
@@ -15,15 +15,19 @@ use Rattle.definitions.specs.FrameLimits.{IsCommand, IsCore}
 use Rattle.definitions.specs.Branches.{Branch}
 use Rattle.definitions.specs.Digests.{digest_of, core_of, core_over}
 use Rattle.definitions.specs.Histories.{history_of}
-use Rattle.definitions.specs.Chronicles.{Step, Step.took_block, Step.noted, Note.got_new_view}
-use Rattle.definitions.specs.Chronicles.{Note.got_request, Note.timed_out, Note.beat, Chronicle, tree}
-use Rattle.definitions.specs.Chronicles.{history, IsSound}
+use Rattle.definitions.specs.Chronicles.{Admitted, Step, Step.took_block, Step.noted, Note.got_new_view}
+use Rattle.definitions.specs.Chronicles.{Note.got_vote, Note.got_request, Note.timed_out, Note.beat, Chronicle}
+use Rattle.definitions.specs.Chronicles.{taken_blocks, tree, history, IsLawful, AreKnown, IsSound}
 use Rattle.definitions.specs.Checks.{Identity}
 use Rattle.definitions.specs.States.{known_as, announcements, announced, reached_view, view, raised, qc_high}
+use Rattle.definitions.specs.States.{Justified, higher, votes}
 use Rattle.definitions.specs.States.{is_same_request, is_due, with_request, pending, leads, find_block}
 use Rattle.definitions.specs.States.{is_known, picks, child, leaf, or_else}
 use Rattle.std.proofs.lemmas.Option.{same_Some}
 use Rattle.definitions.proofs.Sound.{found}
+use Rattle.definitions.proofs.Chronicles.{tree-genesis, tree-grows, taken-tree, tree-just1}
+use Rattle.std.specs.Prelude.{IfSome}
+use Rattle.std.proofs.lemmas.Bool.{cond-true}
 use Rattle.definitions.proofs.Certificates.{IsDigest-digest_of, all-filter}
 use Rattle.linear_law.proofs.StoredFrames.{AreStored}
 
@@ -179,6 +183,58 @@ leaf-step self (noted beat) c = by (child self c (leaf self c)) refl
 leaf-step self (took_block a) c = leaf-either self (took_block a) c
 leaf-step self (noted n) c = leaf-either self (noted n) c
 
+-- the highest certificate never falls
+high-rises : (s : Sizes) (st : Step) (c : Chronicle)
+    → length (qc_high s c).block ≤ length (qc_high s (st ∷ c)).block
+unfolding qc_high
+high-rises s st c = by (raised s st c)
+  where
+    by : (o : Option Justified) → length (qc_high s c).block ≤ length (higher o (qc_high s c)).block
+    by None = omega arith
+    by (Some q) =
+        cond_both (nat_lt (length (qc_high s c).block) (length q.block)) q (qc_high s c)
+        (λ (j : Justified). length (qc_high s c).block ≤ length j.block)
+        (λ t. let l = ltb-true _ _ t in omega (arith, l)) (λ t. omega arith)
+
+-- what a step brings is for a known block
+brought-known : (s : Sizes) (st : Step) (c : Chronicle) → IsLawful s (st ∷ c) → AreKnown (st ∷ c)
+    → IfSome (raised s st c) (λ q. Among q.block (tree (st ∷ c)))
+unfolding raised taken_blocks
+brought-known s (took_block a) c l k =
+    cond_both a.new _ _ (λ (o : Option Justified). IfSome o (λ q. Among q.block (tree (took_block a ∷ c))))
+    (λ e. tree-just1 s (took_block a ∷ c) l a.branch
+    (taken-tree (took_block a ∷ c) a (subst (λ (xs : List Admitted). Among a xs)
+    (sym (cond-true a.new (a ∷ taken_blocks c) (taken_blocks c) e)) (inl refl)))) (λ e. tt)
+brought-known s (noted (got_vote voter v b)) c l k =
+    cond_both (nat_lt (length (votes s (digest_of b) c)) (quorum s)
+    && (length (votes s (digest_of b) (noted (got_vote voter v b) ∷ c)) == quorum s)) _ _
+    (λ (o : Option Justified). IfSome o
+    (λ q. Among q.block (tree (noted (got_vote voter v b) ∷ c))))
+    (λ e. tree-grows (noted (got_vote voter v b)) c b k.0) (λ e. tt)
+brought-known s (noted (got_new_view w r q b)) c l k = tree-grows (noted (got_new_view w r q b)) c b k.0
+brought-known s (noted n) c l k = tt
+
+known-before : (st : Step) (c : Chronicle) → AreKnown (st ∷ c) → AreKnown c
+known-before (took_block a) c k = k
+known-before (noted (got_vote voter v b)) c k = k.1
+known-before (noted (got_new_view w r q b)) c k = k.1
+known-before (noted n) c k = k
+
+-- so is the highest one
+pub high-known : (s : Sizes) (c : Chronicle) → IsLawful s c → AreKnown c → Among (qc_high s c).block (tree c)
+unfolding qc_high
+high-known s [] l k = tree-genesis []
+high-known s (st ∷ c) l k = by (raised s st c) (brought-known s st c l k)
+    (tree-grows st c (qc_high s c).block (high-known s c l.1 (known-before st c k)))
+  where
+    P : Justified → Type 0
+    P q = Among q.block (tree (st ∷ c))
+
+    by : (o : Option Justified) → IfSome o P → P (qc_high s c) → P (higher o (qc_high s c))
+    by None m old = old
+    by (Some q) m old = cond_both (nat_lt (length (qc_high s c).block) (length q.block)) q (qc_high s c) P
+        (λ t. m) (λ t. old)
+
 -- each step leaves it as high as the highest certified block
 above-step : (self : Identity) (st : Step) (c : Chronicle) (b : Branch)
     → length (qc_high self.sizes c).block ≤ length (leaf self c) → LeafStep self st c b
@@ -200,18 +256,31 @@ pub leaf-above : (self : Identity) (c : Chronicle)
 leaf-above self [] = genesis-above self
 leaf-above self (st ∷ c) = above-step self st c (leaf self (st ∷ c)) (leaf-above self c) (leaf-step self st c)
 
--- it is higher by one at most, or a certified block of the tree
-pub leaf-low : (self : Identity) (st : Step) (c : Chronicle) → IsSound self.sizes (st ∷ c)
-    → Among (qc_high self.sizes (st ∷ c)).block (tree (st ∷ c)) → length (leaf self c) ≤ length c + MOST_BLOCKS
-    → length (leaf self (st ∷ c)) ≤ length (st ∷ c) + MOST_BLOCKS
-leaf-low self st c so m low = by (leaf self (st ∷ c)) (leaf-step self st c)
+-- each step puts it higher by one at most, or on the highest certified block
+raised-low : (self : Identity) (c : Chronicle)
+    → length (leaf self c) ≤ length c + length (qc_high self.sizes c).block
+unfolding leaf
+raised-low self [] = omega arith
+raised-low self (st ∷ c) =
+    by (raised-low self c) (high-rises self.sizes st c) (leaf self (st ∷ c)) (leaf-step self st c)
   where
-    by : (b : Branch) → LeafStep self st c b → length b ≤ length (st ∷ c) + MOST_BLOCKS
-    by b (raises l) =
-        let k = so.heights (qc_high self.sizes (st ∷ c)).block m in let n = so.bounded in omega (arith, k, n)
-    by b (keeps l) = omega (arith, low)
-    by b (makes x beats l e) =
-        let i = ap (λ (y : Branch). length y) (child-is self c (leaf self c) x e).is in omega (arith, low, i)
+    by : length (leaf self c) ≤ length c + length (qc_high self.sizes c).block
+        → length (qc_high self.sizes c).block ≤ length (qc_high self.sizes (st ∷ c)).block → (b : Branch)
+        → LeafStep self st c b → length b ≤ length (st ∷ c) + length (qc_high self.sizes (st ∷ c)).block
+    by low rises b (raises l) = omega arith
+    by low rises b (keeps l) = omega (arith, low, rises)
+    by low rises b (makes x beats l e) =
+        let i = ap (λ (y : Branch). length y) (child-is self c (leaf self c) x e).is in
+        omega (arith, low, rises, i)
+
+-- so its height is bounded by the number of steps
+pub leaf-low : (self : Identity) (c : Chronicle) → IsSound self.sizes c
+    → length (leaf self c) ≤ length c + MOST_BLOCKS
+leaf-low self c so =
+    let low = raised-low self c in
+    let high = so.heights (qc_high self.sizes c).block (high-known self.sizes c so.lawful so.known) in
+    let room = so.bounded in
+    omega (arith, low, high, room)
 
 -- ---- the core of a new block
 

@@ -14,11 +14,12 @@ use Rattle.linear_law.proofs.Requested.{happens-requested}
 use Rattle.linear_law.proofs.Entries.{entry-requested}
 use Rattle.linear_law.proofs.Runs.{chronicles, IsRun, IsMadeWell, IsHonest, happens-keeps, row-agrees}
 use Rattle.definitions.proofs.Chronicles.{executed-decided}
+use Rattle.definitions.proofs.Sound.{only-genesis, first-sound}
 use Rattle.std.specs.List.{AllByRecursion}
 use Rattle.definitions.specs.Lists.{IsBeginning, Among, count_below}
 use Rattle.definitions.specs.Frames.{Core, genesis_core}
 use Rattle.definitions.specs.FrameLimits.{IsCore}
-use Rattle.definitions.specs.Branches.{Block, Branch, IsBranch, Extends, extends}
+use Rattle.definitions.specs.Branches.{Branch, Extends, extends}
 use Rattle.ids.specs.Sizes.{Sizes, replicas, quorum, client_party}
 use Rattle.definitions.specs.Keyrings.{Keyring}
 use Rattle.definitions.proofs.Spellings.{command_content_injective}
@@ -85,30 +86,10 @@ pub new-row : (Known : Core → Type 0) (sizes : Sizes) (is_member : ℕ → Boo
     → IsRow Known sizes is_member (λ i. [])
 unfolding tree stored_blocks taken_blocks steps_of
 new-row Known sizes is_member = record {
-  sound = λ p m. record {
-    is_tree = record {
-      branches = λ x k. one_only (λ (b : Branch). IsBranch b) tt x k;
-      one = λ x y k l e. by x k ∙ sym (by y l);
-      parents = λ b parent k. absurd (cons-nil b parent (by (b ∷ parent) k));
-      genesis = inl refl;
-    };
-    lawful = tt;
-    bounded = omega arith;
-    heights = λ x k. one_only (λ (b : Branch). length b < 1) (omega arith) x k;
-  };
-  known = λ p m b k. one_only (AllKnown Known) tt b k;
+  sound = λ p m. first-sound sizes;
+  known = λ p m b k. subst (AllKnown Known) (sym (only-genesis b k)) tt;
   orderly = record { order = []; whole = λ i m. refl; ordered = tt };
 }
-  where
-    by : (x : Branch) → Among x ([] ∷ []) → x ≡ []
-    by x (inl e) = e
-    by x (inr k) = absurd k
-
-    one_only : (P : Branch → Type 0) → P [] → (x : Branch) → Among x ([] ∷ []) → P x
-    one_only P h x k = subst P (sym (by x k)) h
-
-    cons-nil : (b : Block) (parent : Branch) → b ∷ parent ≡ [] → ⊥
-    cons-nil b parent e = cc
 
 abbrev pub IsMade : Sizes → (ℕ → Bool) → (ℕ → Keyring) → Type 0
 IsMade sizes is_faulty ring =

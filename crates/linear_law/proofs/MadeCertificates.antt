@@ -8,17 +8,15 @@ use Rattle.std.proofs.lemmas.Bool.{and_parts, eqb-true, eq-eqb, cond_both, cond-
 use Rattle.std.proofs.lemmas.Bool.{not-true, or_parts}
 use lib.Pointwise.{bytes_decides}
 use Rattle.ids.specs.Sizes.{Sizes, quorum}
-use Rattle.definitions.specs.Lists.{Among}
 use Rattle.definitions.specs.Bytes.{Bytes}
 use Rattle.definitions.specs.Frames.{Vote, genesis_core}
 use Rattle.definitions.specs.FrameLimits.{IsVote, IsCertificate}
 use Rattle.definitions.specs.Branches.{Branch}
 use Rattle.definitions.specs.Digests.{digest, digest_of}
-use Rattle.definitions.specs.Chronicles.{Admitted, Step, Step.took_block, Step.noted, Note.got_vote}
-use Rattle.definitions.specs.Chronicles.{Note.got_new_view, Chronicle, taken_blocks, tree, IsLawful}
+use Rattle.definitions.specs.Chronicles.{Step, Step.took_block, Step.noted, Note.got_vote}
+use Rattle.definitions.specs.Chronicles.{Note.got_new_view, Chronicle, taken_blocks}
 use Rattle.definitions.specs.Checks.{Identity, is_good, is_genesis, vote_verifies}
 use Rattle.definitions.specs.States.{votes, by_voter, Justified, raised, higher, qc_high}
-use Rattle.definitions.proofs.Chronicles.{tree-genesis, tree-grows, taken-tree, tree-just1}
 use Rattle.definitions.proofs.Certificates.{AreOfEach, IsDigest-digest, IsDigest-digest_of}
 use Rattle.definitions.proofs.Certificates.{IsCertificate-by_voter, is_good-by_voter, all-implied}
 use Rattle.linear_law.specs.Law.{HasCertificates}
@@ -76,12 +74,11 @@ votes-count self d (noted n ∷ c) h = votes-count self d c h.1
 
 -- ---- the certificates that steps bring or complete
 
--- a certificate of a block of the tree; but for a certificate of genesis it is good for the replica
-pub record IsRaised (self : Identity) (c : Chronicle) (j : Justified) : Type 0 where
+-- a certificate of its block; but for a certificate of genesis it is good for the replica
+pub record IsRaised (self : Identity) (j : Justified) : Type 0 where
   pub certificate_is : IsCertificate self.sizes j.certificate
   pub good : 0 < length j.block → is_good self j.certificate ≡ true
   pub justified : j.certificate.digest ≡ digest_of j.block
-  pub among : Among j.block (tree c)
 
 -- a lower block than genesis is none
 above-genesis : (b : Branch) → b ≡ [] → 0 < length b → ⊥
@@ -91,7 +88,7 @@ above-genesis b e l = let k = ap (λ (x : Branch). length x) e in omega (arith, 
 completed : (self : Identity) (voter : ℕ) (v : Bytes) (b : Branch) (c : Chronicle)
     → AreStored self (noted (got_vote voter v b) ∷ c)
     → length (votes self.sizes (digest_of b) (noted (got_vote voter v b) ∷ c)) ≡ quorum self.sizes
-    → IsRaised self (noted (got_vote voter v b) ∷ c)
+    → IsRaised self
     (record {
       block = b;
       certificate =
@@ -114,75 +111,68 @@ completed self voter v b c h enough =
           (elim (cases_Bool (is_genesis (digest_of b)))
           [ inl t ↦ absurd (above-genesis b (h.0.genesis t) l) | inr f ↦ f ]);
       justified = refl;
-      among = tree-grows (noted (got_vote voter v b)) c b h.0.among;
     }
 
 -- what a step may raise
-abbrev AllRaised : Identity → Chronicle → Option Justified → Type 0
-AllRaised self c None = ⊤
-AllRaised self c (Some j) = IsRaised self c j
+abbrev AllRaised : Identity → Option Justified → Type 0
+AllRaised self None = ⊤
+AllRaised self (Some j) = IsRaised self j
 
 -- each step of a chronicle whose steps came in frames
-raised-all : (self : Identity) (st : Step) (c : Chronicle) → IsLawful self.sizes (st ∷ c)
-    → AreStored self (st ∷ c) → AllRaised self (st ∷ c) (raised self.sizes st c)
+raised-all : (self : Identity) (st : Step) (c : Chronicle) → AreStored self (st ∷ c)
+    → AllRaised self (raised self.sizes st c)
 unfolding raised taken_blocks
-raised-all self (took_block a) c l h =
-    cond_both a.new _ _ (AllRaised self (took_block a ∷ c))
+raised-all self (took_block a) c h =
+    cond_both a.new _ _ (AllRaised self)
     (λ e. record {
       certificate_is = h.0.certificate_is;
       good = λ k. h.0.good;
       justified = h.0.justified;
-      among = tree-just1 self.sizes (took_block a ∷ c) l a.branch
-          (taken-tree (took_block a ∷ c) a (subst (λ (xs : List Admitted). Among a xs)
-          (sym (cond-true a.new (a ∷ taken_blocks c) (taken_blocks c) e)) (inl refl)));
     })
     (λ e. tt)
-raised-all self (noted (got_vote voter v b)) c l h =
+raised-all self (noted (got_vote voter v b)) c h =
     cond_both (nat_lt (length (votes self.sizes (digest_of b) c)) (quorum self.sizes)
     && (length (votes self.sizes (digest_of b) (noted (got_vote voter v b) ∷ c)) == quorum self.sizes))
-    _ _ (AllRaised self (noted (got_vote voter v b) ∷ c))
+    _ _ (AllRaised self)
     (λ e. completed self voter v b c h (eqb-true _ _ (and_parts _ _ e).1))
     (λ e. tt)
-raised-all self (noted (got_new_view w r q b)) c l h =
+raised-all self (noted (got_new_view w r q b)) c h =
     record {
       certificate_is = h.0.certificate_is;
       good = λ k. h.0.good;
       justified = h.0.justified;
-      among = tree-grows (noted (got_new_view w r q b)) c b h.0.among;
     }
-raised-all self (noted n) c l h = tt
+raised-all self (noted n) c h = tt
 
 -- the certificate that a step brings or completes
-pub raised-is : (self : Identity) (st : Step) (c : Chronicle) (j : Justified) → IsLawful self.sizes (st ∷ c)
-    → AreStored self (st ∷ c) → raised self.sizes st c ≡ Some j → IsRaised self (st ∷ c) j
-raised-is self st c j l h e = subst (AllRaised self (st ∷ c)) e (raised-all self st c l h)
+pub raised-is : (self : Identity) (st : Step) (c : Chronicle) (j : Justified) → AreStored self (st ∷ c)
+    → raised self.sizes st c ≡ Some j → IsRaised self j
+raised-is self st c j h e = subst (AllRaised self) e (raised-all self st c h)
 
 -- ---- the highest certificate
 
--- the highest certificate is good, and of a block of the tree
-pub record IsHigh (self : Identity) (c : Chronicle) (j : Justified) : Type 0 where
+-- the highest certificate is good, and of its block
+pub record IsHigh (self : Identity) (j : Justified) : Type 0 where
   pub certificate_is : IsCertificate self.sizes j.certificate
   pub good : is_good self j.certificate ≡ true
   pub justified : j.certificate.digest ≡ digest_of j.block
-  pub among : Among j.block (tree c)
 
 -- the higher one of two
-higher-high : (self : Identity) (c : Chronicle) (o : Option Justified) (q : Justified) → AllRaised self c o
-    → IsHigh self c q → IsHigh self c (higher o q)
-higher-high self c None q r h = h
-higher-high self c (Some p) q r h =
-    cond_both (nat_lt (length q.block) (length p.block)) p q (IsHigh self c)
+higher-high : (self : Identity) (o : Option Justified) (q : Justified) → AllRaised self o
+    → IsHigh self q → IsHigh self (higher o q)
+higher-high self None q r h = h
+higher-high self (Some p) q r h =
+    cond_both (nat_lt (length q.block) (length p.block)) p q (IsHigh self)
     (λ e. record {
       certificate_is = r.certificate_is;
       good = r.good (let l = ltb-true (length q.block) (length p.block) e in omega (arith, l));
       justified = r.justified;
-      among = r.among;
     })
     (λ e. h)
 
 -- genesis's certificate has no votes
 genesis-high : (self : Identity)
-    → IsHigh self []
+    → IsHigh self
     (record { block = []; certificate = record { digest = digest genesis_core; votes = [] } })
 unfolding is_good digest_of
 genesis-high self = record {
@@ -190,23 +180,14 @@ genesis-high self = record {
       record { digest = IsDigest-digest genesis_core; count = inl refl; votes = tt; rising = tt };
   good = cond-true _ _ _ ((bytes_decides (digest genesis_core) (digest genesis_core)).1 refl);
   justified = refl;
-  among = tree-genesis [];
 }
 
 -- of a chronicle whose steps came in frames
-pub qc_high-is : (self : Identity) (c : Chronicle) → IsLawful self.sizes c → AreStored self c
-    → IsHigh self c (qc_high self.sizes c)
+pub qc_high-is : (self : Identity) (c : Chronicle) → AreStored self c → IsHigh self (qc_high self.sizes c)
 unfolding qc_high
-qc_high-is self [] l h = genesis-high self
-qc_high-is self (st ∷ c) l h =
-    let old = qc_high-is self c l.1 h.1 in
-    higher-high self (st ∷ c) (raised self.sizes st c) (qc_high self.sizes c) (raised-all self st c l h)
-    (record {
-      certificate_is = old.certificate_is;
-      good = old.good;
-      justified = old.justified;
-      among = tree-grows st c (qc_high self.sizes c).block old.among;
-    })
+qc_high-is self [] h = genesis-high self
+qc_high-is self (st ∷ c) h = higher-high self (raised self.sizes st c) (qc_high self.sizes c)
+    (raised-all self st c h) (qc_high-is self c h.1)
 
 -- ---- all of a chronicle
 
@@ -215,23 +196,15 @@ stored-beginning : (self : Identity) (added c : Chronicle) → AreStored self (a
 stored-beginning self [] c h = h
 stored-beginning self (st ∷ added) c h = stored-beginning self added c h.1
 
--- and lawful
-lawful-beginning : (s : Sizes) (added c : Chronicle) → IsLawful s (added ++ c) → IsLawful s c
-lawful-beginning s [] c h = h
-lawful-beginning s (st ∷ added) c h = lawful-beginning s added c h.1
-
 -- the certificates of a chronicle whose steps came in frames
-pub has-certificates : (self : Identity) (c : Chronicle) → IsLawful self.sizes c → AreStored self c
-    → HasCertificates self c
-has-certificates self c l h =
-    let high = qc_high-is self c l h in
+pub has-certificates : (self : Identity) (c : Chronicle) → AreStored self c → HasCertificates self c
+has-certificates self c h =
+    let high = qc_high-is self c h in
     record {
       each = λ st earlier j b e.
           let k : AreStored self (st ∷ earlier) =
           stored-beginning self b.0 (st ∷ earlier) (subst (AreStored self) (sym b.1) h) in
-          let m : IsLawful self.sizes (st ∷ earlier) =
-          lawful-beginning self.sizes b.0 (st ∷ earlier) (subst (IsLawful self.sizes) (sym b.1) l) in
-          let r = raised-is self st earlier j m k e in
+          let r = raised-is self st earlier j k e in
           record { certificate = r.certificate_is; digest = r.justified; good = r.good };
       highest = record { certificate = high.certificate_is; digest = high.justified; good = λ n. high.good };
       good = high.good;

@@ -11,7 +11,7 @@ use Rattle.definitions.specs.FrameLimits.{IsDigest, IsFrame, IsCore, IsCertifica
 use Rattle.definitions.specs.Branches.{Branch}
 use Rattle.definitions.specs.Digests.{digest_of, core_of}
 use Rattle.definitions.specs.Histories.{Answer, answers}
-use Rattle.definitions.specs.Chronicles.{Admitted, Step, Chronicle, taken_blocks, history, IsLawful}
+use Rattle.definitions.specs.Chronicles.{Admitted, Step, Chronicle, taken_blocks, history}
 use Rattle.definitions.specs.Checks.{Identity}
 use Rattle.definitions.specs.States.{Justified, view, qc_high, me, proposed}
 use Rattle.definitions.specs.Sendings.{Sending, vote_frame, proposal_frame, new_view_frame, reply_to}
@@ -39,7 +39,6 @@ pub record IsFitProposal (s : Sizes) (j : Justified) : Type 0 where
 
 -- what is known of a replica that stores a step
 pub record IsReady (self : Identity) (st : Step) (c : Chronicle) : Type 0 where
-  pub lawful : IsLawful self.sizes (st ∷ c)
   pub stored : AreStored self (st ∷ c)
   pub number : me self < replicas self.sizes
   pub before : (a : Answer) → Among a (answers (history c)) → IsFitAnswer self.sizes a
@@ -63,14 +62,13 @@ module _ (self : Identity) (number : me self < replicas self.sizes) where
   fetch-fits to d h = (number, h, length-tag_for self.ring kind.Fetch (fetch_content (me self) d) to)
 
   -- an announcement of the view
-  new_view-fits : (c : Chronicle) → IsLawful self.sizes c → AreStored self c
-      → IsFrame self.sizes (new_view_frame self c)
+  new_view-fits : (c : Chronicle) → AreStored self c → IsFrame self.sizes (new_view_frame self c)
   unfolding new_view_frame
-  new_view-fits c l h =
+  new_view-fits c h =
       let q : Certificate = (qc_high self.sizes c).certificate in (
         view-fits self c h,
         number,
-        (qc_high-is self c l h).certificate_is,
+        (qc_high-is self c h).certificate_is,
         IsVector-vector_for self.sizes self.ring kind.NewView
             (new_view_content (view self.sizes c) (me self) q),
       )
@@ -122,7 +120,7 @@ taken-fit self (st ∷ c) a h m =
     elim (taken-now st c a m) [
       | inl now ↦
           (let s =
-          subst (IsStored self c) now.0 h.0 in
+          subst (IsStored self) now.0 h.0 in
           (subst (IsCore self.sizes) (sym (s.stored now.1)) s.core_is, s.certificate_is))
       | inr k ↦ taken-fit self c a h.1 k
     ]
@@ -135,7 +133,7 @@ pub sends-fit : (self : Identity) (st : Step) (c : Chronicle) (o : Sending) → 
 sends-fit self st c o r (its_vote a e v to) = vote-fits self r.number a.branch
 sends-fit self st c o r (new_reply a m) = reply-fits self r.number a (r.now a m)
 sends-fit self st c o r (old_reply a m) = reply-fits self r.number a (r.before a m)
-sends-fit self st c o r its_view = new_view-fits self r.number (st ∷ c) r.lawful r.stored
+sends-fit self st c o r its_view = new_view-fits self r.number (st ∷ c) r.stored
 sends-fit self st c o r (its_block to a m) =
     let k = taken-fit self c a r.stored.1 m in block-fits self r.number to a k.0 k.1
 sends-fit self st c o r (its_proposal j l e) =

@@ -42,34 +42,31 @@ pub record IsStoredBlock (self : Identity) (a : Admitted) : Type 0 where
   pub justified : a.certificate.digest ≡ digest_of (just1 a.branch)
   pub stored : a.new ≡ true → core_of a.branch ≡ a.core
 
--- a vote for a block of the tree
-pub record IsStoredVote (self : Identity) (v : Vote) (b : Branch) (c : Chronicle) : Type 0 where
+-- a vote for a block
+pub record IsStoredVote (self : Identity) (v : Vote) (b : Branch) : Type 0 where
   pub vote_is : IsVote self.sizes v
   pub verifies : vote_verifies self (digest_of b) v ≡ true
   pub genesis : is_genesis (digest_of b) ≡ true → b ≡ []
-  pub among : Among b (tree c)
 
--- a view that was announced, with a certificate of a block of the tree
-pub record IsStoredView (self : Identity) (view : ℕ) (q : Certificate) (b : Branch) (c : Chronicle) :
-    Type 0 where
+-- a view that was announced, with a certificate of a block
+pub record IsStoredView (self : Identity) (view : ℕ) (q : Certificate) (b : Branch) : Type 0 where
   pub view_is : view < 2 ^ 64
   pub certificate_is : IsCertificate self.sizes q
   pub good : is_good self q ≡ true
   pub justified : q.digest ≡ digest_of b
-  pub among : Among b (tree c)
 
--- a step that is stored after this chronicle
-abbrev pub IsStored : Identity → Chronicle → Step → Type 0
-IsStored self c (took_block a) = IsStoredBlock self a
-IsStored self c (noted (got_vote voter v b)) = IsStoredVote self (record { voter = voter; vector = v }) b c
-IsStored self c (noted (got_new_view view sender q b)) = IsStoredView self view q b c
-IsStored self c (noted (got_request r)) = IsCommand self.sizes r
-IsStored self c st = ⊤
+-- a step that is stored
+abbrev pub IsStored : Identity → Step → Type 0
+IsStored self (took_block a) = IsStoredBlock self a
+IsStored self (noted (got_vote voter v b)) = IsStoredVote self (record { voter = voter; vector = v }) b
+IsStored self (noted (got_new_view view sender q b)) = IsStoredView self view q b
+IsStored self (noted (got_request r)) = IsCommand self.sizes r
+IsStored self st = ⊤
 
 -- each step of a chronicle
 abbrev pub AreStored : Identity → Chronicle → Type 0
 AreStored self [] = ⊤
-AreStored self (st ∷ c) = IsStored self c st × AreStored self c
+AreStored self (st ∷ c) = IsStored self st × AreStored self c
 
 -- what an input says, where it was a frame
 abbrev pub IsReadInput : Identity → Input → Type 0
@@ -85,7 +82,7 @@ IsReadInput self i = ⊤
 
 -- the step that a ruling stores, and the digest that it asks for
 abbrev pub IsStoredRuling : Identity → Chronicle → Ruling → Type 0
-IsStoredRuling self c (due st) = IsStored self c st
+IsStoredRuling self c (due st) = IsStored self st
 IsStoredRuling self c (missing sender d) = IsDigest d
 IsStoredRuling self c (refusing n) = ⊤
 
@@ -168,7 +165,6 @@ vote-stored self b d c so hd hb v (Some x) e =
       vote_is = hb;
       verifies = subst (λ (y : Bytes). vote_verifies self y b ≡ true) (sym r.1) v;
       genesis = genesis-only c x so.is_tree r.0;
-      among = r.0;
     }
 
 -- a view that is announced
@@ -179,7 +175,7 @@ view-stored self w sender q c l hq g None e = hq.digest
 view-stored self w sender q c l hq g (Some x) e =
     let r =
     found q.digest c x e in
-    record { view_is = l; certificate_is = hq; good = g; justified = sym r.1; among = r.0 }
+    record { view_is = l; certificate_is = hq; good = g; justified = sym r.1 }
 
 -- a request
 request-stored : (self : Identity) (r : Command) (c : Chronicle) → IsCommand self.sizes r

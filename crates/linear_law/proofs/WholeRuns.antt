@@ -223,5 +223,4 @@ sent-are-read sizes is_faulty ring hs last met e are s read m rd =
 pub made-are-certificates : MadeCertificatesAreCertificates
 made-are-certificates sizes is_faulty ring hs last met e =
     let r = run-is-well sizes is_faulty ring hs last met e in
-    λ i c. has-certificates (self_of last i) (chronicles last i) (r.good.run.row.sound i c).lawful
-    (r.framed.stored i c)
+    λ i c. has-certificates (self_of last i) (chronicles last i) (r.framed.stored i c)

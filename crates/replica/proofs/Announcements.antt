@@ -19,7 +19,6 @@ use Rattle.definitions.specs.Rulings.{Input.timeout_in, Input.new_view_in, Rulin
 use Rattle.definitions.specs.Rulings.{with_block}
 use Rattle.definitions.specs.Rulings as rulings
 use Rattle.definitions.specs.Sendings.{Sending, to_all, new_view_frame, sendings}
-use Rattle.definitions.proofs.Chronicles.{tree-grows}
 use Rattle.definitions.proofs.Sound.{OnStands, ruling-sound}
 use Rattle.definitions.proofs.Trees.{found-in}
 use Rattle.pacemaker.specs.Pacing.{Pace, IsPaceOf}
@@ -35,8 +34,7 @@ use Rattle.replica.specs.Changes.{changed_variables, raise_of, IsStep}
 use Rattle.replica.specs.Announcements.{new_view_sent, timeout_change, IsTimeout, new_view_change}
 use Rattle.replica.specs.Announcements.{IsAnnounced, IsNewViewAt, IsNewView}
 use Rattle.replica.specs.StepsTo.{Follows, StepsTo, answer, after}
-use Rattle.replica.proofs.Steps.{collects, BringsKnown, brings-none, brings-one, asks, refused}
-use Rattle.replica.proofs.Decided.{or-memory, decided}
+use Rattle.replica.proofs.Steps.{collects, asks, refused, or-memory, decided}
 use Rattle.replica.proofs.Stays.{shown-if, AreHigh, raise-is, variables-calm, variables-noted}
 
 -- ---- a timeout
@@ -82,9 +80,8 @@ pub timeout-decided : (keys : Keys) (c : Chronicle) (s : StateParts) (result : R
     → StepsTo keys timeout_in c (answer result) (after result s)
 unfolding ruling conflicts raised
 timeout-decided keys c s result made memory o =
-    decided keys _ c (noted timed_out) s result (IsTimeout keys s) refl
-    (ruling-sound (identity_of keys) timeout_in c tt o.sound) refl
-    (brings-none keys.sizes (noted timed_out) c refl) refl o tt
+    decided keys c (noted timed_out) s result (IsTimeout keys s)
+    (ruling-sound (identity_of keys) timeout_in c tt o.sound) refl refl o tt
     (λ d t. (timeout-step keys c s d o t, ap (λ (x : Change). collects x.growth) t.change))
     (or-memory result _ made memory)
 
@@ -158,10 +155,6 @@ module _ (keys : Keys) (c : Chronicle) (n : GotNewView) (b : Branch)
       (λ x. rulings.due (noted (got_new_view n.view n.sender n.certificate x)))) found)
       (ruling-sound (identity_of keys) (new_view_in n.view n.sender n.certificate) c tt so)
 
-  new-view-brings : BringsKnown keys.sizes (noted note) c
-  new-view-brings = brings-one keys.sizes (noted note) c (record { block = b; certificate = n.certificate })
-      brought (tree-grows (noted note) c b (found-in n.certificate.digest (tree c) b found).0)
-
 -- by what is found
 new-view-by : (keys : Keys) (c : Chronicle) (s : StateParts) (n : GotNewView) (result : Result Change Fault)
     → IsStateOf keys c s → (o : Option Branch) → find_in n.certificate.digest (tree c) ≡ o
@@ -171,10 +164,9 @@ new-view-by : (keys : Keys) (c : Chronicle) (s : StateParts) (n : GotNewView) (r
     (after result s)
 unfolding conflicts
 new-view-by keys c s n result o None e h =
-    refused keys _ c _ s result h (asks keys _ c n.sender n.certificate.digest s refl o)
+    refused keys _ c _ s result h (asks keys c n.sender n.certificate.digest s o)
 new-view-by keys c s n result o (Some b) e h =
-    decided keys _ c (noted (note keys c n b e)) s result _ refl (note-sound keys c n b e o.sound) refl
-    (new-view-brings keys c n b e) refl o tt
+    decided keys c (noted (note keys c n b e)) s result _ (note-sound keys c n b e o.sound) refl refl o tt
     (λ d t. (announced-step keys c n b e s d o t, ap (λ (x : Change). collects x.growth) t.change)) h
 
 pub new-view-decided :

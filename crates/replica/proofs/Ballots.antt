@@ -1,12 +1,10 @@
 -- What a vote changes is what its step changes.
 use Rattle.ids.specs.declared.fault.Fault.{Fault}
-use Rattle.ids.specs.declared.fault.Fault.TheVariants as fault
 use Rattle.std.proofs.Common.{◌≡◌, ◌<◌, ◌≤◌, Bool, true, false, ◌∷◌, length, cond, nat_lt, refl, sym, ap}
 use Rattle.std.proofs.Common.{◌∙◌, arith, subst, Option, Some, None, Result, Ok, Err}
 use Rattle.std.proofs.lemmas.Bool.{cond_both, ltb-true, ltb-false}
 use Rattle.ids.specs.Sizes.{Sizes, quorum}
 use Rattle.definitions.specs.Bytes.{Bytes}
-use Rattle.definitions.specs.Lists.{Among}
 use Rattle.definitions.specs.Frames.{Vote}
 use Rattle.definitions.specs.Branches.{Branch}
 use Rattle.definitions.specs.Keyrings.{Keys}
@@ -14,11 +12,10 @@ use Rattle.definitions.specs.Checks.{identity_of}
 use Rattle.definitions.specs.Trees.{blocks, find_in}
 use Rattle.definitions.specs.Chronicles.{Note, Step.noted, Note.got_vote, Chronicle, stored_blocks, tree}
 use Rattle.definitions.specs.Chronicles.{IsSound}
-use Rattle.definitions.specs.States.{Justified, qc_high, find_block, raised, leaf}
+use Rattle.definitions.specs.States.{Justified, qc_high, find_block, leaf}
 use Rattle.definitions.specs.Rulings.{Input.vote_in, ruling, conflicts, with_block}
 use Rattle.definitions.specs.Rulings as rulings
 use Rattle.definitions.specs.Sendings.{sendings}
-use Rattle.definitions.proofs.Chronicles.{tree-grows}
 use Rattle.definitions.proofs.Sound.{OnStands, ruling-sound}
 use Rattle.definitions.proofs.Trees.{found-in}
 use Rattle.vote_collector.specs.declared.added.Added.{Added}
@@ -36,13 +33,8 @@ use Rattle.replica.specs.Changes.{pended, changed, changed_variables, votes_afte
 use Rattle.replica.specs.Ballots.{vote_noted, vote_counted, vote_change, IsVoteAt, IsVoteDecided}
 use Rattle.replica.specs.StepsTo.{Follows, StepsTo, answer, after}
 use Rattle.pacemaker.proofs.Reached.{paced-still}
-use Rattle.replica.proofs.Steps.{BringsKnown, refused-for-memory, stands-with, asks, refused}
-use Rattle.std.proofs.lemmas.Option.{same_Some}
-use Rattle.replica.proofs.Stays.{calm, leaf-same, leaf-raised, variables-noted}
-
-made-by : (t : Bool) (p q : Justified) → cond t (Some p) None ≡ Some q → p ≡ q
-made-by true p q e = same_Some p q e
-made-by false p q e = absurd (let k : None ≡ Some q = e in cc)
+use Rattle.replica.proofs.Steps.{no-memory, asks, refused, stands, calm}
+use Rattle.replica.proofs.Stays.{leaf-same, leaf-raised, variables-noted}
 
 module _ (keys : Keys) (c : Chronicle) (s : StateParts) (is : IsStateOf keys c s) (d : Bytes) (vote : Vote)
     (b : Branch) (found : find_in d (tree c) ≡ Some b) where
@@ -146,11 +138,6 @@ module _ (keys : Keys) (c : Chronicle) (s : StateParts) (is : IsStateOf keys c s
       by false t =
           low-comes (let k = ltb-false s.variables.high.block.height (length b) t in omega (arith, k, height))
 
-  vote-brings : BringsKnown keys.sizes (noted note) c
-  unfolding raised
-  vote-brings q e = subst (λ (j : Justified). Among j.block (tree (noted note ∷ c))) (made-by _ _ q e)
-      (tree-grows (noted note) c b (found-in d (tree c) b found).0)
-
   vote-sound : IsSound keys.sizes (noted note ∷ c)
   unfolding ruling find_block
   vote-sound = subst (OnStands (λ st. IsSound keys.sizes (st ∷ c)))
@@ -182,18 +169,17 @@ vote-by :
     (answer result) (after result s)
 unfolding conflicts
 vote-by keys c s d vote result is None e h =
-    refused keys _ c _ s result h (asks keys _ c vote.voter d s refl is)
+    refused keys _ c _ s result h (asks keys c vote.voter d s is)
 vote-by keys c s d vote (Ok x) is (Some b) e h =
     let st = noted (note keys c s is d vote b e) in
     let comes = change-comes keys c s is d vote b e in
     subst (λ (y : Change). Follows keys (rulings.due st) c (Ok y.out) (changed y s)) (sym h)
-    (stands-with keys (rulings.due st) c st (vote_change s (record { digest = d; height = length b }) vote)
-    s refl refl (vote-sound keys c s is d vote b e) (vote-brings keys c s is d vote b e)
+    (stands keys c st (vote_change s (record { digest = d; height = length b }) vote) s refl
+    (vote-sound keys c s is d vote b e)
     (counted-waits s (record { digest = d; height = length b }) vote ∙ calm st c s.pending refl is.waits)
     is comes.step comes.votes)
 vote-by keys c s d vote (Err f) is (Some b) e h =
-    refused keys _ c fault.Memory s _ (ap Err h)
-    (refused-for-memory keys _ c (noted (got_vote vote.voter vote.vector b)) s refl is)
+    no-memory keys c (noted (got_vote vote.voter vote.vector b)) f s h is
 
 -- what a vote comes to
 pub vote-decided :

@@ -30,8 +30,7 @@ use Rattle.replica.specs.Changes.{changed_variables, IsStep}
 use Rattle.replica.specs.Fetches.{supplied, fetch_change}
 use Rattle.replica.specs.StepsTo.{StepsTo, answer, after}
 use Rattle.pacemaker.proofs.Reached.{paced-still}
-use Rattle.replica.proofs.Steps.{collects, brings-none}
-use Rattle.replica.proofs.Decided.{or-memory, decided}
+use Rattle.replica.proofs.Steps.{collects, or-memory, decided}
 use Rattle.replica.proofs.Stays.{variables-calm}
 
 -- ---- the block that is asked for
@@ -129,9 +128,8 @@ pub fetch-decided :
 unfolding ruling conflicts raised
 fetch-decided keys c s f result made memory o =
     let st = noted (got_fetch f.sender (find_block f.block c)) in
-    decided keys _ c st s result _ refl
-    (ruling-sound (identity_of keys) (fetch_in f.sender f.block) c tt o.sound) refl
-    (brings-none keys.sizes st c refl) refl o tt
+    decided keys c st s result _ (ruling-sound (identity_of keys) (fetch_in f.sender f.block) c tt o.sound)
+    refl refl o tt
     (λ d e. (
       subst (IsStep keys c st s.pace) (sym e) (fetch-step keys c s f o),
       ap (λ (x : Change). collects x.growth) e,

@@ -1,15 +1,11 @@
 -- A replica that has made no step.
 use Rattle.ids.specs.declared.limits.TheConstants.{MOST_BLOCKS}
-use Rattle.std.proofs.Common.{List, ◌≡◌, [], ◌∷◌, length, refl, sym, ap, ◌∙◌, arith, subst, inl, inr, None}
-use Rattle.ids.specs.Sizes.{Sizes}
-use Rattle.definitions.specs.Lists.{Among}
+use Rattle.std.proofs.Common.{List, ◌≡◌, [], sym, ap, subst, None}
 use Rattle.definitions.specs.Frames.{genesis_core}
 use Rattle.definitions.specs.Keyrings.{Keys}
-use Rattle.definitions.specs.Branches.{Block, Branch, IsBranch}
 use Rattle.definitions.specs.Digests.{digest}
-use Rattle.definitions.specs.Trees.{IsTree}
 use Rattle.definitions.specs.Chronicles.{taken_blocks, stored_blocks, tree, decided, decided_by, executed}
-use Rattle.definitions.specs.Chronicles.{history, IsSound}
+use Rattle.definitions.specs.Chronicles.{history}
 use Rattle.definitions.specs.Branches.{highest}
 use Rattle.definitions.specs.FrameLimits.{IsCore}
 use Rattle.definitions.specs.Digests.{AllKnown}
@@ -22,32 +18,9 @@ use Rattle.pacemaker.specs.Pacing.{IsPaceOf}
 use Rattle.replica_rules.specs.Ruled.{ref_of, ruled_by}
 use Rattle.vote_collector.specs.Collecting.{Collected}
 use Rattle.vote_collector.specs.Following.{IsVotesOf}
+use Rattle.definitions.proofs.Sound.{only-genesis, first-sound}
 use Rattle.vote_collector.proofs.Steps.{begins-empty}
 use Rattle.replica.specs.Kept.{StateParts, IsStateOf}
-
-only-genesis : (x : Branch) → Among x ([] ∷ []) → x ≡ []
-only-genesis x (inl e) = e
-only-genesis x (inr n) = absurd n
-
-nothing-above : (b : Block) (parent : Branch) → b ∷ parent ≡ [] → ⊥
-nothing-above b parent e = cc
-
-genesis-tree : IsTree ([] ∷ [])
-genesis-tree = record {
-  branches = λ x m. subst IsBranch (sym (only-genesis x m)) tt;
-  one = λ x y m n e. only-genesis x m ∙ sym (only-genesis y n);
-  parents = λ b parent m. absurd (nothing-above b parent (only-genesis (b ∷ parent) m));
-  genesis = inl refl;
-}
-
-first-sound : (s : Sizes) → IsSound s []
-unfolding tree stored_blocks taken_blocks
-first-sound s = record {
-  is_tree = genesis-tree;
-  lawful = tt;
-  bounded = omega arith;
-  heights = λ x m. let e = ap (λ (b : Branch). length b) (only-genesis x m) in omega (arith, e);
-}
 
 -- the state at the start
 pub first : (keys : Keys) (s : StateParts)
@@ -72,8 +45,6 @@ first keys s e z p v w = record {
   vote_sizes = ap (λ (x : Collected). x.sizes) v;
   votes = subst (λ (x : Collected). IsVotesOf keys.sizes [] x.kept) (sym v) (begins-empty keys.sizes);
   sound = first-sound keys.sizes;
-  certified = inl refl;
-  leaf_low = omega arith;
   waits = w;
 }
 

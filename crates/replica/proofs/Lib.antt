@@ -4,7 +4,6 @@ pub mod Executing
 pub mod Walking
 pub mod Advancing
 pub mod Stays
-pub mod Decided
 pub mod Picks
 pub mod Beats
 pub mod Offers

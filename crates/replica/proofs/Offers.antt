@@ -15,17 +15,16 @@ use Rattle.definitions.specs.Trees.{Stored, blocks, find_in, block_of, Placing, 
 use Rattle.definitions.specs.Trees.{Placing.lacks_parent, Placing.unfit, placing}
 use Rattle.definitions.specs.Chronicles.{Admitted, Step, Step.took_block, Chronicle, stored_blocks}
 use Rattle.definitions.specs.Chronicles.{stored_block}
-use Rattle.definitions.specs.Chronicles.{tree, vheight, IsSound}
+use Rattle.definitions.specs.Chronicles.{tree}
 use Rattle.definitions.specs.States.{view, raised}
-use Rattle.definitions.specs.Rulings.{Ruling, Ruling.due, admitted, votes_for, on_placing, on_block}
+use Rattle.definitions.specs.Rulings.{Ruling.due, admitted, votes_for, on_placing, on_block}
 use Rattle.definitions.specs.Rulings.{conflicts}
 use Rattle.definitions.specs.Sendings.{to_party, vote_frame}
 use Rattle.definitions.specs.Replicas.{Replica, Reaction, ample, running, stopped_at, stops, sends_out, fails}
 use Rattle.definitions.specs.Replicas.{on_step, on_ruling}
 use Rattle.definitions.specs.Sendings.{sendings}
-use Rattle.definitions.proofs.Branches.{just1-extends}
+use Rattle.definitions.proofs.Sound.{Keeps}
 use Rattle.definitions.proofs.Trees.{IsGrowth, IsUnfit, IsPlaced, placed, found-in, core-known, digest-core}
-use Rattle.definitions.proofs.Trees.{tree-below}
 use Rattle.block_tree.specs.declared.node.Node.{Node}
 use Rattle.block_tree.specs.Nodes.{block_in as node_block, stored_as}
 use Rattle.block_tree.specs.Insertions.{IsNodeFor, IsPlanned}
@@ -48,29 +47,25 @@ use Rattle.replica.specs.declared.change.Growth.TheVariants.{Nothing, Block}
 use Rattle.replica.specs.declared.stored.StoredStep.{StoredStep}
 use Rattle.replica.specs.Offers.{Offered, is_for, justified_of, high_in, votes_sent}
 use Rattle.replica.specs.Offers.{again_change, IsTaken, IsDecidedAt, IsDecided}
-use Rattle.replica.specs.StepsTo.{IsRefused, Follows, halts, answer, after}
+use Rattle.replica.specs.StepsTo.{Follows, halts, answer, after}
 use Rattle.pacemaker.proofs.Reached.{paced-still}
-use Rattle.replica.proofs.Steps.{collects, BringsKnown, brings-none, brings-one}
-use Rattle.replica.proofs.Steps.{refused-for-memory, asks, refuses, refused}
-use Rattle.replica.proofs.Decided.{kept_at, where-kept, KeepsSound, decided}
+use Rattle.replica.proofs.Steps.{collects, no-memory, asks, refuses, refused, decided, kept_at, where-kept}
 use Rattle.replica.proofs.Stays.{shown-if, qc-same, AreHigh, raise-is, unraised, proposed-same}
 
 -- a step that decides against what was executed
-refused-for-conflict : (keys : Keys) (v : Ruling) (c : Chronicle) (st : Step) (s : StateParts)
-    → v ≡ due st
-    → conflicts st c ≡ true → IsStateOf keys c s → Follows keys v c (Err fault.Conflict) s
+refused-for-conflict : (keys : Keys) (c : Chronicle) (st : Step) (s : StateParts) → conflicts st c ≡ true
+    → IsStateOf keys c s → Follows keys (due st) c (Err fault.Conflict) s
 unfolding on_ruling on_step
-refused-for-conflict keys v c st s e k o =
+refused-for-conflict keys c st s k o =
     let both : Bool → Replica × Reaction =
     λ b. cond b (stopped_at c, fails fault.Conflict)
     (record { chronicle = st ∷ c; standing = running }, sends_out (sendings (identity_of keys) st c)) in
-    subst (λ (x : Ruling). IsRefused keys x c fault.Conflict s) (sym e)
-    (record {
+    record {
       memory = ample;
       state = o;
       left = ap (λ (b : Bool). (both b).0) k;
       answer = subst (λ (b : Bool). Shows (both b).1 (Err fault.Conflict)) (sym k) refl;
-    })
+    }
 
 module _ (keys : Keys) (c : Chronicle) (kept : StateParts) (o : Offered)
     (is : IsStateOf keys c (kept_at keys c kept)) where
@@ -212,13 +207,6 @@ module _ (keys : Keys) (c : Chronicle) (kept : StateParts) (o : Offered)
           r.0,
         )
 
-    -- it brings a certificate of the tree's own block
-    new-brings : IsSound keys.sizes (took_block new ∷ c) → BringsKnown keys.sizes (took_block new) c
-    unfolding raised admitted tree stored_blocks Rattle.definitions.specs.Chronicles.taken_blocks
-    new-brings so = brings-one keys.sizes (took_block new) c
-        (record { block = just1 b; certificate = o.certificate }) refl
-        (tree-below (b ∷ tree c) so.is_tree b (just1 b) (inl refl) (just1-extends b))
-
   -- ---- each place
 
   unfit-stops : (n : Fault) → IsUnfit n → stops n ≡ halts n
@@ -230,36 +218,36 @@ module _ (keys : Keys) (c : Chronicle) (kept : StateParts) (o : Offered)
   place-by : (sender : ℕ) (result : Result Change Fault) → o.core.justify_height < o.core.height
       → (p : Placing) → placing MOST_BLOCKS o.core o.certificate (tree c) ≡ p
       → IsPlaced MOST_BLOCKS o.core o.certificate (tree c) p → let v =
-      on_placing (identity_of keys) o.view sender o.core o.certificate o.found c p in KeepsSound keys c v
+      on_placing (identity_of keys) o.view sender o.core o.certificate o.found c p in Keeps (identity_of keys) c v
       → IsDecidedAt keys s o result p → Follows keys v c (answer result) (after result s)
   unfolding on_placing admitted conflicts raised
   place-by sender result below (Placing.stands b) e h so t =
       let st = took_block (taken false b) in
-      decided keys _ c st s result _ refl so refl (brings-none keys.sizes st c refl) refl is tt
+      decided keys c st s result _ so refl refl is tt
       (λ d q. (
         subst (IsStep keys c st s.pace) (sym q) (again-step b h.0),
         ap (λ (x : Change). collects x.growth) q,
       )) t
   place-by sender (Ok d) below (grows b) e h so t =
-      decided keys _ c (took_block (taken true b)) s (Ok d) (IsTaken keys s o) refl so
-      (new-step b below e d t).1 (new-brings b below e so) refl is tt
+      decided keys c (took_block (taken true b)) s (Ok d) (IsTaken keys s o) so (new-step b below e d t).1
+      refl is tt
       (λ d q. ((new-step b below e d q).0, ap (λ (x : Change). collects x.growth) q.change)) t
-  place-by sender (Err n) below (grows b) e h so (inl m) = refused keys _ c fault.Memory s _ (ap Err m)
-      (refused-for-memory keys _ c (took_block (taken true b)) s refl is)
+  place-by sender (Err n) below (grows b) e h so (inl m) =
+      no-memory keys c (took_block (taken true b)) n s m is
   place-by sender (Err n) below (grows b) e h so (inr x) =
       let r = taking-refused c (taken true b) n (sym x ∙ ruled-is b below e) in
       refused keys _ c fault.Conflict s _ (ap Err r.1)
-      (refused-for-conflict keys _ c (took_block (taken true b)) s refl r.0 is)
+      (refused-for-conflict keys c (took_block (taken true b)) s r.0 is)
   place-by sender result below lacks_parent e h so t =
-      refused keys _ c _ s result t (asks keys _ c sender o.core.parent s refl is)
+      refused keys _ c _ s result t (asks keys c sender o.core.parent s is)
   place-by sender result below (unfit n) e h so t =
-      refused keys _ c n s result t (refuses keys _ c n s refl (unfit-stops n h) is)
+      refused keys _ c n s result t (refuses keys c n s (unfit-stops n h) is)
 
 -- what a block comes to
 pub block-decided :
     (keys : Keys) (c : Chronicle) (s : StateParts) (o : Offered) (sender : ℕ) (result : Result Change Fault)
     → IsDecided keys s o result → IsStateOf keys c s → o.core.justify_height < o.core.height → let v =
-    on_block (identity_of keys) o.view sender o.core o.certificate o.found c in KeepsSound keys c v
+    on_block (identity_of keys) o.view sender o.core o.certificate o.found c in Keeps (identity_of keys) c v
     → Follows keys v c (answer result) (after result s)
 unfolding tree
 block-decided keys c s o sender result h is below so = where-kept keys c s

@@ -13,7 +13,7 @@ use Rattle.definitions.specs.Keyrings.{Keys}
 use Rattle.definitions.specs.Checks.{identity_of}
 use Rattle.definitions.specs.Chronicles.{Step.noted, Note.got_request, Chronicle, history, IsSound}
 use Rattle.definitions.specs.States.{raised, is_due, is_same_request, pending, with_request}
-use Rattle.definitions.specs.Rulings.{Input.request_in, Ruling.due, Ruling.refusing, ruling}
+use Rattle.definitions.specs.Rulings.{Input.request_in, Ruling, Ruling.due, Ruling.refusing, ruling}
 use Rattle.definitions.specs.Rulings.{on_request, conflicts}
 use Rattle.definitions.specs.Sendings.{again, sendings, reply_to}
 use Rattle.linear_law.proofs.Sends.{answer_to-among}
@@ -30,8 +30,8 @@ use Rattle.replica.specs.Changes.{IsStep}
 use Rattle.replica.specs.Requests.{is_full, growth_for, IsWaiting, reply_again, again_sent, old_change}
 use Rattle.replica.specs.Requests.{IsRequestedIf, IsRequested}
 use Rattle.replica.specs.StepsTo.{Follows, StepsTo, answer, after}
-use Rattle.replica.proofs.Steps.{brings-none, refuses, refused, refused-for-memory, stands-with, votes-else}
-use Rattle.replica.proofs.Decided.{KeepsSound}
+use Rattle.replica.proofs.Steps.{refuses, refused, no-memory, stands, votes-else}
+use Rattle.definitions.proofs.Sound.{Keeps}
 use Rattle.definitions.proofs.Sound.{ruling-sound}
 use Rattle.replica.proofs.Stays.{variables-calm}
 use Rattle.replica.proofs.Advancing.{sendable-is}
@@ -85,15 +85,15 @@ module _ (keys : Keys) (c : Chronicle) (s : StateParts) (r : Command) (o : IsSta
       → out ≡ shown (sent_first (identity_of keys) (noted (got_request r)) c)
       → let d : Change =
       record (noting s.variables (GotRequest r) out) { growth = growth_for g } in
-      Follows keys (on_request r c) c (Ok out) (changed d s)
-  unfolding conflicts raised ruling
+      Follows keys (due (noted (got_request r))) c (Ok out) (changed d s)
+  unfolding conflicts ruling
   comes g out e w t =
       let st = noted (got_request r) in
       let d : Change = record (noting s.variables (GotRequest r) out) { growth = growth_for g } in
-      let so : IsSound keys.sizes (st ∷ c) = subst (KeepsSound keys c) e
+      let so : IsSound keys.sizes (st ∷ c) = subst (Keeps (identity_of keys) c) e
       (ruling-sound (identity_of keys) (request_in r) c tt o.sound) in
       let x = step-is g out t in
-      stands-with keys (on_request r c) c st d s e refl so (brings-none keys.sizes st c refl) w o x
+      stands keys c st d s refl so w o x
       (votes-else keys st c d s tt (kept-votes g) so.is_tree o.votes x)
 
 -- ---- by what was executed for its client
@@ -144,18 +144,18 @@ ruled-by c r a b e f = λ i. cond (e i && f i) (refusing fault.PoolFull) (due (n
 
 module _ (keys : Keys) (c : Chronicle) (s : StateParts) (h : History) (r : Command) (o : IsStateOf keys c s)
     (before : h ≡ history c) (fit : AreFit keys.sizes c) where
-  Comes : Result Change Fault → Type 0
-  Comes result = Follows keys (on_request r c) c (answer result) (after result s)
+  Comes : Result Change Fault → Ruling → Type 0
+  Comes result v = Follows keys v c (answer result) (after result s)
 
   -- it may wait
   waits-by : (result : Result Change Fault) (b : Bool) → is_due h r ≡ true → is_full r s.pending ≡ b
-      → IsWaiting s r result b → Comes result
+      → IsWaiting s r result b → Comes result (on_request r c)
   unfolding Comes
   waits-by result true d f w =
       let ruled = ruled-by c r true true (ap (λ (x : History). is_due x r) (sym before) ∙ d)
       (ap (is_full r) (sym o.waits) ∙ f) in
-      refused keys (on_request r c) c fault.PoolFull s result w
-      (refuses keys (on_request r c) c fault.PoolFull s ruled refl o)
+      subst (Comes result) (sym ruled)
+      (refused keys _ c fault.PoolFull s result w (refuses keys c fault.PoolFull s refl o))
   waits-by (Ok d) false e f w =
       let due_now = ap (λ (x : History). is_due x r) (sym before) ∙ e in
       let ruled = ruled-by c r true false due_now (ap (is_full r) (sym o.waits) ∙ f) in
@@ -163,13 +163,12 @@ module _ (keys : Keys) (c : Chronicle) (s : StateParts) (h : History) (r : Comma
       planned-is keys c s r o s.pending (list_any (is_same_request r) s.pending) refl
       ∙ ap (with_request (noted (got_request r))) o.waits
       ∙ sym ((follows_request c r).due due_now) ∙ sym (asked-is keys c s r o) in
-      subst (λ (x : Change). Follows keys (on_request r c) c (Ok x.out) (changed x s)) (sym w)
-      (comes keys c s r o (planned_for r s.pending) [] ruled waits (newer-sent keys c r due_now))
+      subst (Comes (Ok d)) (sym ruled) (subst (λ (x : Change). Comes (Ok x) (due (noted (got_request r))))
+      (sym w) (comes keys c s r o (planned_for r s.pending) [] ruled waits (newer-sent keys c r due_now)))
   waits-by (Err n) false e f w =
       let ruled = ruled-by c r true false (ap (λ (x : History). is_due x r) (sym before) ∙ e)
       (ap (is_full r) (sym o.waits) ∙ f) in
-      refused keys (on_request r c) c fault.Memory s _ (ap Err w)
-      (refused-for-memory keys (on_request r c) c (noted (got_request r)) s ruled o)
+      subst (Comes (Err n)) (sym ruled) (no-memory keys c (noted (got_request r)) n s w o)
 
   late-ruled : is_due h r ≡ false → on_request r c ≡ due (noted (got_request r))
   late-ruled e =
@@ -177,22 +176,24 @@ module _ (keys : Keys) (c : Chronicle) (s : StateParts) (h : History) (r : Comma
 
   -- or comes late
   comes-late : (result : Result Change Fault) → is_due h r ≡ false
-      → MatchResult result (λ d. d ≡ old_change keys s h r) (λ n. n ≡ fault.Memory) → Comes result
+      → MatchResult result (λ d. d ≡ old_change keys s h r) (λ n. n ≡ fault.Memory)
+      → Comes result (on_request r c)
   unfolding Comes
   comes-late (Ok d) e w =
       let late = ap (λ (x : History). is_due x r) (sym before) ∙ e in
       let waits = o.waits ∙ sym ((follows_request c r).late late) ∙ sym (asked-is keys c s r o) in
-      subst (λ (x : Change). Follows keys (on_request r c) c (Ok x.out) (changed x s)) (sym w)
+      subst (Comes (Ok d)) (sym (late-ruled e)) (subst
+      (λ (x : Change). Comes (Ok x) (due (noted (got_request r)))) (sym w)
       (comes keys c s r o None (again_sent keys h r) (late-ruled e) waits
-      (again-sent keys c h r before o.sound fit))
-  comes-late (Err n) e w = refused keys (on_request r c) c fault.Memory s _ (ap Err w)
-      (refused-for-memory keys (on_request r c) c (noted (got_request r)) s (late-ruled e) o)
+      (again-sent keys c h r before o.sound fit)))
+  comes-late (Err n) e w =
+      subst (Comes (Err n)) (sym (late-ruled e)) (no-memory keys c (noted (got_request r)) n s w o)
 
   pub request-decided : (result : Result Change Fault) → IsRequested keys s h r result
       → StepsTo keys (request_in r) c (answer result) (after result s)
   unfolding ruling Comes
   request-decided result w = by (is_due h r) refl w
     where
-      by : (b : Bool) → is_due h r ≡ b → IsRequestedIf keys s h r result b → Comes result
+      by : (b : Bool) → is_due h r ≡ b → IsRequestedIf keys s h r result b → Comes result (on_request r c)
       by true e w = waits-by result (is_full r s.pending) e refl w
       by false e w = comes-late result e w

@@ -1,6 +1,6 @@
 -- What steps leave as it was.
 use Rattle.ids.specs.declared.limits.TheConstants.{MOST_BLOCKS}
-use Rattle.std.proofs.Common.{◌≡◌, ◌<◌, ◌≤◌, Bool, true, false, true≢false, List, [], ◌∷◌, filter, length, cond}
+use Rattle.std.proofs.Common.{◌≡◌, ◌<◌, ◌≤◌, Bool, true, false, true≢false, [], ◌∷◌, length, cond}
 use Rattle.std.proofs.Common.{refl, sym, ap, ◌∙◌, arith, nat_lt, Option, Some, None}
 use Rattle.std.specs.Prelude.{option_map}
 use Rattle.std.proofs.lemmas.Bool.{lt-ltb, le-ltb, ltb-true, ltb-false}
@@ -10,18 +10,14 @@ use Rattle.definitions.specs.Keyrings.{Keys}
 use Rattle.definitions.specs.Checks.{Identity, identity_of}
 use Rattle.definitions.specs.Chronicles.{Note, Step, Step.took_block, Step.noted}
 use Rattle.definitions.specs.Chronicles.{Note.beat, Chronicle, taken_blocks, stored_blocks}
-use Rattle.definitions.specs.Chronicles.{history}
-use Rattle.definitions.specs.States.{Justified, raised, higher, qc_high, leaf, proposed, is_due, pending}
-use Rattle.definitions.specs.States.{with_request}
-use Rattle.definitions.specs.Frames.{Command}
+use Rattle.definitions.specs.States.{Justified, raised, higher, qc_high, leaf, proposed}
 use Rattle.replica_rules.specs.Ruled.{ref_of}
 use Rattle.replica_rules.proofs.Takes.{ruled-noted}
 use Rattle.replica_rules.specs.declared.block_ref.BlockRef.{BlockRef}
 use Rattle.replica.specs.declared.state.High.{High}
-use Rattle.mempool.proofs.Following.{pending-due}
 use Rattle.definitions.specs.Sendings.{Sending}
 use Rattle.replica.specs.Steps.{bytes_of, shown}
-use Rattle.replica.specs.Changes.{asked, raise_of, leaf_after}
+use Rattle.replica.specs.Changes.{raise_of, leaf_after}
 use Rattle.std.specs.Option.{unwrap_or}
 use Rattle.replica.specs.Kept.{high_of, own_of, variables_of}
 use Rattle.linear_law.proofs.Leaves.{LeafStep, LeafStep.raises, LeafStep.keeps, LeafStep.makes, leaf-step}
@@ -158,8 +154,3 @@ variables-calm keys n c e r =
     let q = qc-same keys.sizes (noted n) c r in
     variables-noted keys n c (qc_high keys.sizes c) (leaf (identity_of keys) c) e q
     (leaf-same (identity_of keys) (noted n) c e q)
-
--- the requests that wait, where none came
-pub calm : (st : Step) (c : Chronicle) (waits : List Command) → with_request st (pending c) ≡ pending c
-    → waits ≡ pending c → waits ≡ asked st c
-calm st c waits e w = w ∙ sym (ap (filter (is_due (history c))) e ∙ pending-due c)

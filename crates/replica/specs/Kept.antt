@@ -1,6 +1,6 @@
 -- What a replica keeps, as plain data, and what that is: functions of its chronicle.
 use Rattle.ids.specs.declared.limits.TheConstants.{MOST_BLOCKS}
-use Rattle.std.specs.Prelude.{ℕ, ◌≡◌, ◌+◌, ◌≤◌, length, List, Option, option_map}
+use Rattle.std.specs.Prelude.{ℕ, ◌≡◌, List, Option, option_map}
 use Rattle.definitions.specs.Bytes.{Bytes}
 use Rattle.definitions.specs.Lists.{Among}
 use Rattle.definitions.specs.Frames.{Command, core_bytes, certificate_bytes}
@@ -83,6 +83,4 @@ pub record IsStateOf (keys : Keys) (c : Chronicle) (s : StateParts) : Type 0 whe
   pub vote_sizes : s.votes.sizes ≡ keys.sizes
   pub votes : IsVotesOf keys.sizes c s.votes.kept
   pub sound : IsSound keys.sizes c
-  pub certified : Among (qc_high keys.sizes c).block (tree c)
-  pub leaf_low : length (leaf (identity_of keys) c) ≤ length c + MOST_BLOCKS
   pub waits : s.pending ≡ pending c

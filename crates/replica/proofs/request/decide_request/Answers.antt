@@ -4,7 +4,7 @@ use Rattle.definitions.specs.Histories.{last_seq}
 use Rattle.definitions.specs.States.{is_due}
 use Rattle.frames_view.specs.Views.{command_of}
 use Rattle.replica.specs.Requests.{old_change, IsRequestedIf}
-use Rattle.replica.proofs.Decided.{or-memory}
+use Rattle.replica.proofs.Steps.{or-memory}
 use Rattle.replica.proofs.request.decide_request.Goals as goal
 
 pub returns-then-last_seq-seq : goal.returns-then-last_seq-seq
