@@ -123,6 +123,11 @@ module _ (tree : List Branch) (b : Branch) (at level : ℕ) (links : List ℕ)
       subst (λ (n : ℕ). IsDown tree n b next) sum
       (down-more tree (2 ^ level) (2 ^ level) b at next w.last down)
 
+  -- so there are few levels
+  pub build-few : (next : ℕ) → IsDown tree (2 ^ level) (numbered tree at) next → length b < 2 ^ 21
+      → level + 1 < 21
+  build-few next down low = pow-lower (level + 1) 21 (length b) (next_down next down).high low
+
   pub build-more : (next : ℕ) → IsDown tree (2 ^ level) (numbered tree at) next
       → Building tree b next (level + 1) (links ++ next ∷ [])
   build-more next down =

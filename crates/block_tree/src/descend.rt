@@ -1,19 +1,20 @@
 //! Blocks by their numbers, and the way down a branch along the links.
 
-ghost use Rattle.std.specs.Prelude.{◌≡◌, ◌+◌, ◌<◌, ◌≤◌, ◌^◌, length, MatchOption, IsSome, IfOk, OnErr};
+ghost use Rattle.std.specs.Prelude.{◌≡◌, ◌+◌, ◌<◌, ◌≤◌, ◌^◌, length, MatchOption, IsSome};
 ghost use Rattle.std.specs.Prelude.{count_ones};
 ghost use Rattle.definitions.specs.Digests.{digest_of};
 ghost use Rattle.definitions.specs.Trees.{blocks, find_in};
 ghost use Rattle.frames_view.specs.Views.{core_of};
 ghost use Rattle.block_tree.specs.Nodes.{block_in, IsNodeAt};
 ghost use Rattle.block_tree.specs.Numbers.{numbered, number_in, IsDown, AreLinks};
+ghost use Rattle.block_tree.specs.Finding.{heights_of};
 
 use crate::links::Links;
 use crate::node::Node;
 use crate::tree::Tree;
 use crate::turns::Turns;
 use frames_view::CoreView;
-use ids::{Digest, Fault, Height};
+use ids::{Digest, Height};
 
 impl Tree {
     /// The number of the block of a digest: 0 for genesis, the others in order of insertion.
@@ -41,10 +42,20 @@ impl Tree {
         requires { number < length (blocks self.now.stored) }
         ensures { result ≡ length (numbered (blocks self.now.stored) number) }
     {
+        let (height, _) = self.heights_at(number);
+        height
+    }
+
+    /// The height of the block of a number, and the height that it justifies.
+    pub(crate) fn heights_at(&self, number: usize) -> (Height, Height)
+        requires { number < length (blocks self.now.stored) }
+        ensures { result ≡ heights_of (numbered (blocks self.now.stored) number) }
+    {
         if number == 0 {
-            return Height(0);
+            return (Height(0), Height(0));
         }
-        self.node_at(number).core.view().height()
+        let core = self.node_at(number).core.view();
+        (core.height(), core.justify_height())
     }
 
     /// The digest of the block of a number.
@@ -108,23 +119,22 @@ impl Tree {
     }
 
     /// The links of a block on its parent, which stands in the tree.
-    pub(crate) fn links_over(&self, core: &CoreView) -> Result<Links, Fault>
+    pub(crate) fn links_over(&self, core: &CoreView) -> Links
         requires { IsSome (find_in (core_of core.now).parent (blocks self.now.stored)) }
-        ensures linked { IfOk result (λ l. AreLinks (blocks self.now.stored)
-            (block_in (core_of core.now) (blocks self.now.stored)) l) }
-        ensures memory { OnErr result (result ≡ Err Fault.Memory) }
+        ensures { AreLinks (blocks self.now.stored)
+            (block_in (core_of core.now) (blocks self.now.stored)) result }
     {
         // At most 2^20 blocks stand in the tree.
         let _nodes = &self.nodes;
         let mut at = self.number(&Digest(*core.parent())).unwrap();
-        let mut links = Links::new(self.alloc);
-        links.push(at)?;
+        let mut links = Links::new();
+        links.push(at);
         let mut level: usize = 0;
         'build: while let Some(next) = self.link(at, level) {
-            links.push(next)?;
+            links.push(next);
             at = next;
             level += 1;
         }
-        Ok(links)
+        links
     }
 }

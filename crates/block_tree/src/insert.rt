@@ -44,7 +44,7 @@ impl Tree {
         match self.placing(&digest, core, certificate)? {
             Place::Stands => Ok(Plan::Stands(digest)),
             Place::Grows => {
-                let links = self.links_over(core)?;
+                let links = self.links_over(core);
                 let node = Node::copy(self.alloc, digest, core, certificate, clear, links)?;
                 Ok(Plan::Grows(node))
             }

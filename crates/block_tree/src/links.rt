@@ -1,50 +1,60 @@
 //! The links of a block.
 
-ghost use Rattle.std.specs.Prelude.{◌≡◌, ◌<◌, ◌^◌, [], ◌∷◌, ◌++◌, slice_get, OnErr, OnOk};
+ghost use Rattle.std.specs.Prelude.{◌≡◌, ◌<◌, ◌^◌, [], ◌∷◌, ◌++◌, length, slice_get};
 
-use ids::Fault;
-use std::alloc::Global;
 use std::marker::Model;
 
+/// As many links as a block may have: no tree has more than 2^20 blocks.
+pub(crate) const MOST_LINKS: usize = 21;
+
 /// The numbers of a block's ancestors at the distances 1, 2, 4 and so on, up to its height.
+///
+/// They stand within the block's node, so that a link costs one look into memory.
 #[derive(Drop)]
 pub(crate) struct Links {
-    numbers: Vec<u32>,
+    row: [u32; MOST_LINKS],
+    count: usize,
 }
 
 impl Model for Links {
-    ghost use Rattle.std.specs.Prelude.{ℕ, List};
+    ghost use Rattle.std.specs.Prelude.{ℕ, List, ◌≤◌, take};
+    ghost use Rattle.block_tree.specs.declared.links.TheConstants.{MOST_LINKS};
 
     ghost Value = { List ℕ };
 
-    ghost view = { λ l. l.numbers.items };
+    ghost view = { λ l. take l.count l.row };
+
+    ghost invariant = { λ l. l.count ≤ MOST_LINKS };
 }
 
 impl Links {
+    ghost use Rattle.block_tree.specs.declared.links.TheConstants.{MOST_LINKS};
+
     /// No links, as genesis has them.
-    pub(crate) fn new(alloc: Global) -> Links
+    pub(crate) fn new() -> Links
         ensures { result ≡ [] }
     {
         Links {
-            numbers: Vec::new(alloc),
+            row: [0; MOST_LINKS],
+            count: 0,
         }
     }
 
     /// One more link.
-    pub(crate) fn push(&mut self, number: usize) -> Result<(), Fault>
-        requires { number < 2 ^ 32 }
-        ensures pushed { OnOk result (self.new ≡ self.old ++ number ∷ []) }
-        ensures memory { OnErr result (result ≡ Err Fault.Memory) }
+    pub(crate) fn push(&mut self, number: usize)
+        requires room { length self.old < MOST_LINKS }
+        requires number { number < 2 ^ 32 }
+        ensures { self.new ≡ self.old ++ number ∷ [] }
     {
-        self.numbers.push(number as u32)?;
-        Ok(())
+        self.row[self.count] = number as u32;
+        self.count += 1;
     }
 
     /// Where the link of a level leads, over `2^level` blocks.
     pub(crate) fn get(&self, level: usize) -> Option<usize>
         ensures { result ≡ slice_get self.now level }
     {
-        let number = self.numbers.get(level)?;
+        let number = self.row[..self.count].get(level)?;
         Some(*number as usize)
     }
 }

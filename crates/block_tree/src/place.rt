@@ -37,7 +37,7 @@ impl Tree {
             (blocks self.now.stored)) }
     {
         match self.justified(digest) {
-            Some(justified) if is_same(&Digest(*certificate.digest()), &justified) => {
+            Some((justified, _)) if is_same(&Digest(*certificate.digest()), &justified) => {
                 Ok(Place::Stands)
             }
             Some(_) => Err(Fault::WrongJustify),

@@ -32,7 +32,6 @@ impl BlockRef {
 pub(crate) fn justified(tree: &Tree, digest: &Digest) -> Option<BlockRef>
     ensures { result ≡ justified_in digest.now tree.now.stored }
 {
-    let height = tree.justify_height(digest)?;
-    let digest = tree.justified(digest)?;
+    let (digest, height) = tree.justified(digest)?;
     Some(BlockRef { digest, height })
 }

@@ -120,7 +120,10 @@ impl Blocks {
             return Err(Fault::UnknownParent);
         };
         let (parent, certified) = (Digest(*core.parent()), Digest(*certificate.digest()));
-        let justified = self.tree.justified(block).unwrap_or(genesis_digest());
+        let justified = match self.tree.justified(block) {
+            Some((justified, _)) => justified,
+            None => genesis_digest(),
+        };
         let (height, below) = (core.height(), core.justify_height());
         Ok(format!(in self.alloc; "{height} {below} {parent} {certified} {justified}")?)
     }

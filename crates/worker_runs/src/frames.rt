@@ -6,9 +6,11 @@ ghost use Rattle.ids.specs.Sizes.{replicas};
 use anyhow::{Result, bail};
 use bytes::Bytes;
 use frames_view::{Payload, ReplyText, genesis_digest};
-use ids::{ClientId, Config, Digest, Fault, Kind, PartyId, Place, ReplicaId, Seq, View};
-use replica::{Input, Out, Replica, Sending, To};
-use signed_frames::{fetch_frame, new_view_frame, reply_frame, request_frame, vote_frame};
+use ids::{ClientId, Config, Digest, Kind, PartyId, Place, ReplicaId, Seq, View};
+use replica::{Sending, To};
+use signed_frames::{
+    fetch_frame, new_view_frame, proposal_frame, reply_frame, request_frame, vote_frame,
+};
 use simulated_keys::keyring_of;
 use std::alloc::Global;
 
@@ -40,19 +42,21 @@ pub(crate) fn spoilt(alloc: Global, config: Config) -> Result<Bytes> {
     Ok(Bytes::from_vec(bytes)?)
 }
 
-/// What a replica sends at a beat, which is its last step.
-fn last_beat(mut replica: Replica) -> Result<Out, Fault> {
-    replica.step(Input::Beat)
+/// The bytes of genesis's certificate: its digest, and no votes.
+fn genesis_certificate() -> [u8; 33] {
+    let mut certificate = [0; 33];
+    certificate[..32].copy_from_slice(&genesis_digest().0);
+    certificate
 }
 
-/// The first proposal of replica 0, as its beat makes it.
+/// The first proposal of replica 0: a block of height 1 without commands, on genesis and with its certificate.
 pub(crate) fn proposal(alloc: Global, config: Config) -> Result<Bytes> {
     let keyring = keyring_of(alloc, config, PartyId(0))?;
-    let leader = Replica::new(alloc, config, ReplicaId(0), keyring)?;
-    let Some(sending) = last_beat(leader)?.into_sendings().pop() else {
-        bail!("no proposal");
-    };
-    Ok(Bytes::from_vec(sending.frame)?)
+    let mut core = [0; 49];
+    core[..32].copy_from_slice(&genesis_digest().0);
+    core[39] = 1;
+    let frame = proposal_frame(alloc, &keyring, View(0), &core, &genesis_certificate())?;
+    Ok(Bytes::from_vec(frame)?)
 }
 
 /// Client 0's first request: it sets an item.
@@ -71,8 +75,7 @@ pub(crate) fn answers(alloc: Global, config: Config) -> Result<Vec<Sending>> {
     let Some(text) = ReplyText::new(b"STORED\r\n") else {
         bail!("no text of a reply");
     };
-    let mut certificate = [0; 33];
-    certificate[..32].copy_from_slice(&genesis_digest().0);
+    let certificate = genesis_certificate();
     let mut answers = Vec::new(alloc);
     answers.push(Sending {
         to: To::All,

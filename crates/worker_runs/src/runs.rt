@@ -3,7 +3,7 @@
 use crate::fake::Fake;
 use crate::onlooker::Onlooker;
 use crate::seen::Seen;
-use crate::stations::{Crew, Station, stations};
+use crate::stations::{Station, stations};
 use bytes::Bytes;
 use crossbeam_channel::Receiver;
 use fabric::{Ends, Links, Parcel, Post};
@@ -104,104 +104,57 @@ fn stop_all<R: Wait>(rt: &R, links: &Links) {
     }
 }
 
-/// A worker's place at a replica, with a keyring of its own.
-fn post<'s, 'a, G: Gate>(
-    stage: &Stage<'s, G>,
-    station: &'s Station<'a>,
-) -> Result<Post<'s, G>, Fault> {
-    let number = station.number;
+/// Works at a station, with a keyring of its own, until it is told to stop. The share comes back.
+fn man<R: Wait, G: Gate>(
+    rt: &R,
+    stage: &Stage<'_, G>,
+    station: &Station<'_>,
+    share: Share,
+) -> Share {
+    let (alloc, number) = (stage.alloc, station.number);
+    let Some(parcels) = stage.ends.replicas.get(usize::from(number.0)) else {
+        return share;
+    };
     if number.0 >= stage.config.n() {
-        return Err(Fault::NoSuchParty);
+        return share;
     }
-    let keyring = keyring_of(stage.alloc, stage.config, number.into())?;
-    let parcels = stage.ends.replicas.get(usize::from(number.0));
-    let parcels = parcels.ok_or(Fault::NoSuchParty)?;
-    Ok(Post::new(
-        stage.alloc,
+    let Ok(keyring) = keyring_of(alloc, stage.config, number.into()) else {
+        return share;
+    };
+    let mut fake = Fake {
+        number,
+        locked: &station.locked,
+        seen: stage.seen,
+    };
+    let post = Post::new(
+        alloc,
         keyring,
         stage.gate,
         parcels,
         stage.links,
         &station.room,
-    ))
+    );
+    post.work(rt, &mut fake, share)
 }
 
-/// What one worker thread is made of.
-#[derive(Drop)]
-struct Worker<'s, 'a, G> {
-    post: Post<'s, G>,
-    fake: Fake<'s, 'a>,
-    share: Share,
-}
-
-impl<'s, 'a, G: Gate> Worker<'s, 'a, G> {
-    fn new(
-        stage: &Stage<'s, G>,
-        station: &'s Station<'a>,
-        share: Share,
-    ) -> Result<Worker<'s, 'a, G>, Fault> {
-        let fake = Fake {
-            number: station.number,
-            locked: &station.locked,
-            seen: stage.seen,
-        };
-        Ok(Worker {
-            post: post(stage, station)?,
-            fake,
-            share,
-        })
-    }
-
-    fn work<R: Wait>(self, rt: &R) -> Share {
-        let Worker {
-            post,
-            mut fake,
-            share,
-        } = self;
-        post.work(rt, &mut fake, share)
-    }
-}
-
-/// The two workers of a station.
-fn pair<'s, 'a, G: Gate>(
-    stage: &Stage<'s, G>,
-    station: &'s Station<'a>,
-    crew: Crew,
-) -> Result<(Worker<'s, 'a, G>, Worker<'s, 'a, G>), Fault> {
-    let Crew { one, two } = crew;
-    let one = Worker::new(stage, station, one)?;
-    let two = Worker::new(stage, station, two)?;
-    Ok((one, two))
-}
-
-/// Two workers for each station, one behind the other.
-fn workers<'s, 'a, G: Gate>(
-    stage: &Stage<'s, G>,
-    stations: &'s [Station<'a>],
-    crews: Vec<Crew>,
-) -> Result<Vec<Worker<'s, 'a, G>>, Fault> {
-    let mut workers = Vec::new(stage.alloc);
-    for (station, crew) in stations.iter().zip(crews) {
-        let (one, two) = pair(stage, station, crew)?;
-        workers.push(one)?;
-        workers.push(two)?;
-    }
-    Ok(workers)
-}
-
-/// A thread for each worker while the frames are handed in. The shares come back in the order of the workers.
-fn work_all<'s, 'a, R: Threads + Wait + Clock + Sync, G: Gate + Sync>(
+/// A thread for each share while the frames are handed in, two for each station. The shares come
+/// back in the same order.
+fn work_all<R: Threads + Wait + Clock + Sync, G: Gate + Sync>(
     rt: &R,
-    stage: &Stage<'s, G>,
-    workers: Vec<Worker<'s, 'a, G>>,
+    stage: &Stage<'_, G>,
+    stations: &[Station<'_>],
+    shares: Vec<Share>,
     handed: Vec<(ReplicaId, Bytes)>,
     until: Until,
     onlooker: &mut Onlooker<'_>,
 ) -> Result<Vec<Share>, Fault> {
-    let mut handles = Vec::with_capacity(stage.alloc, workers.len())?;
+    let mut handles = Vec::with_capacity(stage.alloc, shares.len())?;
     thread::scope(thread::scope_env(), rt, |scope| {
-        for worker in workers {
-            let Ok(handle) = scope.spawn(move || worker.work(rt)) else {
+        for (i, share) in shares.into_iter().enumerate() {
+            let Some(station) = stations.get(i / 2) else {
+                break;
+            };
+            let Ok(handle) = scope.spawn(move || man(rt, stage, station, share)) else {
                 stop_all(rt, stage.links);
                 return Err(Fault::Memory);
             };
@@ -293,20 +246,6 @@ fn look<R: Wait>(rt: &R, ends: &Ends, steps: usize, executed: String) -> Told {
     told
 }
 
-/// The shares of all stations, after their workers took the frames that are handed in.
-fn work_through<R: Threads + Wait + Clock + Sync, G: Gate + Sync>(
-    rt: &R,
-    stage: &Stage<'_, G>,
-    stations: &[Station<'_>],
-    crews: Vec<Crew>,
-    handed: Vec<(ReplicaId, Bytes)>,
-    until: Until,
-    onlooker: &mut Onlooker<'_>,
-) -> Result<Vec<Share>, Fault> {
-    let workers = workers(stage, stations, crews)?;
-    work_all(rt, stage, workers, handed, until, onlooker)
-}
-
 /// How far a new eye of the onlooker's marks sees that each replica has executed.
 fn seen_anew(alloc: Global, onlooker: &mut Onlooker<'_>) -> Result<String, Fault> {
     onlooker.another()?.listed(alloc)
@@ -319,12 +258,12 @@ fn look_on<R: Threads + Wait + Clock + Sync, G: Gate + Sync>(
     stage: &Stage<'_, G>,
     mut onlooker: Onlooker<'_>,
     stations: Vec<Station<'_>>,
-    crews: Vec<Crew>,
+    shares: Vec<Share>,
     handed: Vec<(ReplicaId, Bytes)>,
     until: Until,
 ) -> Result<(usize, String), Fault> {
     let row = stations.as_slice();
-    let shares = work_through(rt, stage, row, crews, handed, until, &mut onlooker)?;
+    let shares = work_all(rt, stage, row, shares, handed, until, &mut onlooker)?;
     let steps = close_all(stage.alloc, stations, shares)?;
     let executed = seen_anew(stage.alloc, &mut onlooker)?;
     Ok((steps, executed))
@@ -343,8 +282,8 @@ fn run_at<R: Threads + Wait + Clock + Sync, G: Gate + Sync>(
         return Err(Fault::NotAll);
     };
     let onlooker = Onlooker::new(stage.config, &marks, eye);
-    let (stations, crews) = stations(stage.alloc, stage.config, &marks, eyes, replicas)?;
-    look_on(rt, stage, onlooker, stations, crews, handed, until)
+    let (stations, shares) = stations(stage.alloc, stage.config, &marks, eyes, replicas)?;
+    look_on(rt, stage, onlooker, stations, shares, handed, until)
 }
 
 /// Two workers for each wanted replica take the frames that are handed in, until the run is over.

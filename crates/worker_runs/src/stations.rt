@@ -24,13 +24,6 @@ pub(crate) struct Station<'a> {
     pub(crate) room: WaitingRoom,
 }
 
-/// The shares of a replica's two workers.
-#[derive(Drop)]
-pub(crate) struct Crew {
-    pub(crate) one: Share,
-    pub(crate) two: Share,
-}
-
 /// A replica that has made no step.
 fn new_kept<'a>(
     alloc: Global,
@@ -47,55 +40,54 @@ fn new_kept<'a>(
     Ok(Kept::new(alloc, replica, eye, marks))
 }
 
-/// Shares for two workers.
-fn crew_of(kept: &mut Kept<'_>) -> Result<Crew, Fault> {
-    let one = kept.share()?;
-    let two = kept.share()?;
-    Ok(Crew { one, two })
+/// One more share for each of two workers.
+fn share_out(kept: &mut Kept<'_>, shares: &mut Vec<Share>) -> Result<(), Fault> {
+    shares.push(kept.share()?)?;
+    shares.push(kept.share()?)?;
+    Ok(())
 }
 
-/// The station of a replica that has made no step, and its crew.
+/// The station of a replica that has made no step. The shares of its two workers come last.
 fn make_station<'a>(
     alloc: Global,
     config: Config,
     number: ReplicaId,
     eye: Eye,
     marks: &'a Marks,
-) -> Result<(Station<'a>, Crew), Fault>
+    shares: &mut Vec<Share>,
+) -> Result<Station<'a>, Fault>
     requires eye { eye ≡ first_eye marks.now number }
     requires number { (number < replicas config) × (number < marks.now.words) }
 {
     let mut kept = new_kept(alloc, config, number, eye, marks)?;
-    let (kept, crew) = crew_of(&mut kept).map(|crew| (kept, crew))?;
-    let station = Station {
+    share_out(&mut kept, shares)?;
+    Ok(Station {
         number,
         locked: Mutex::new(kept),
         room: WaitingRoom::new(alloc),
-    };
-    Ok((station, crew))
+    })
 }
 
-/// Those of all replicas that are wanted, by number.
+/// Those of all replicas that are wanted, by number, and two shares for each, in the same order.
 pub(crate) fn stations<'a>(
     alloc: Global,
     config: Config,
     marks: &'a Marks,
     owners: Vec<Eye>,
     wanted: Range<u8>,
-) -> Result<(Vec<Station<'a>>, Vec<Crew>), Fault>
+) -> Result<(Vec<Station<'a>>, Vec<Share>), Fault>
     requires words { marks.now.words ≡ replicas config }
     requires owners { owners.items ≡ map (first_eye marks.now) (range_with_len 0 marks.now.words) }
 {
     let mut stations = Vec::new(alloc);
-    let mut crews = Vec::new(alloc);
+    let mut shares = Vec::new(alloc);
     let _replicas = config.n();
     for (i, eye) in owners.into_iter().enumerate() {
         let number = i as u8;
         if wanted.contains(&number) {
-            let (station, crew) = make_station(alloc, config, ReplicaId(number), eye, marks)?;
-            stations.push(station)?;
-            crews.push(crew)?;
+            let replica = ReplicaId(number);
+            stations.push(make_station(alloc, config, replica, eye, marks, &mut shares)?)?;
         }
     }
-    Ok((stations, crews))
+    Ok((stations, shares))
 }

@@ -7,8 +7,8 @@ use Rattle.block_tree.proofs.Growing.{growth-node, growth-room, growth-parent}
 use Rattle.block_tree.proofs.Planning.{planned-grows}
 use Rattle.block_tree.proofs.tree.Tree.plan.Goals as goal
 
-pub links_over-requires : goal.links_over-requires
-links_over-requires c =
+pub links_over-links-requires : goal.links_over-links-requires
+links_over-links-requires c =
     growth-parent c.args.self.now.most (core_of c.args.core.now) (certificate_of c.args.certificate.now)
     (blocks c.args.self.now.stored) (ap Ok (sym c.in-Grows.is) ∙ c.in_ok-placing.ensures)
 
@@ -23,7 +23,7 @@ returns-in_ok-node-in-Grows c =
       core = core;
       certificate = q;
       clear = c.args.clear;
-      links = c.in_ok-links-in-Grows.links;
+      links = c.links_over-links.result;
     } in
     let is : IsNodeFor t core q c.args.clear node = record {
       digest = c.digest-digest.ensures;
@@ -32,7 +32,7 @@ returns-in_ok-node-in-Grows c =
       clear = refl;
       may_stand = record {
         node = growth-node t.most node (blocks t.stored) c.digest-digest.ensures
-            c.args.core.now.fields.below c.in_ok-links-in-Grows.ensures.linked answer;
+            c.args.core.now.fields.below c.links_over-links.ensures answer;
         room = growth-room t.most core q (blocks t.stored) answer;
       };
     } in
