@@ -14,7 +14,7 @@ use crate::change::{Change, Growth};
 use crate::offer::Offer;
 use crate::out::{Out, Sending, To};
 use crate::state::{High, State};
-use crate::stored::{StoredStep, TookAgain, TookNew};
+use crate::stored::{Again, StoredStep, TookAgain, TookNew};
 use authenticators::Keyring;
 use block_tree::{Node, Plan, Tree};
 use frames_view::{CertificateBuf, CertificateView, CoreBuf};
@@ -69,12 +69,15 @@ fn stored_again(state: &State, offer: &Offer, voted: bool) -> Result<StoredStep,
     ensures memory { OnErr result (result ≡ Err Fault.Memory) }
 {
     let alloc = state.alloc;
-    Ok(StoredStep::TookAgain(TookAgain {
+    let again = Again {
         core: CoreBuf::copy(alloc, &offer.core)?,
         certificate: CertificateBuf::copy(alloc, &offer.certificate)?,
         counted: offer.counted.to_vec(alloc)?,
         clear: offer.clear,
         voted,
+    };
+    Ok(StoredStep::TookAgain(TookAgain {
+        again: Box::new(alloc, again)?,
     }))
 }
 
