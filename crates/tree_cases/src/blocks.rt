@@ -3,7 +3,7 @@
 use block_tree::{Tree, Turns};
 use frame_writers::{write_block, write_certificate, write_core};
 use frames_view::{Frame, genesis_digest, read};
-use ids::{Config, Digest, Fault, Height, ReplicaId};
+use ids::{Config, Digest, Fault, Height, MOST_BLOCKS, ReplicaId};
 use replica_rules::{BlockRef, Rules};
 use std::alloc::Global;
 
@@ -187,7 +187,7 @@ impl Blocks {
 
 /// A tree of genesis alone, with room for so many blocks.
 pub(crate) fn tree_of(alloc: Global, most: u64) -> Result<Blocks, Fault> {
-    if most == 0 || most > 2_000 {
+    if most == 0 || most > MOST_BLOCKS as u64 {
         return Err(Fault::BadSize);
     }
     Ok(Blocks {
