@@ -3,7 +3,7 @@
 use crate::fake::Fake;
 use crate::onlooker::Onlooker;
 use crate::seen::Seen;
-use crate::stations::{Station, stations};
+use crate::stations::{Station, beside, stations};
 use bytes::Bytes;
 use crossbeam_channel::Receiver;
 use fabric::{Ends, Links, Parcel, Post};
@@ -169,6 +169,11 @@ fn work_all<R: Threads + Wait + Clock + Sync, G: Gate + Sync>(
     })
 }
 
+/// What was read of a value, which is dropped.
+fn read_of<T: Drop>(_value: T, read: usize) -> usize {
+    read
+}
+
 /// How many steps a replica made, where its shares have come back.
 fn close(station: Station<'_>, shares: Vec<Share>) -> Result<usize, Fault> {
     let Station {
@@ -177,7 +182,10 @@ fn close(station: Station<'_>, shares: Vec<Share>) -> Result<usize, Fault> {
         room: _,
     } = station;
     let closed = locked.into_inner().close(shares);
-    let steps = closed.map(|closed| closed.replica.steps());
+    let steps = closed.map(|closed| {
+        let steps = closed.replica.steps();
+        read_of(closed, steps)
+    });
     steps.ok().ok_or(Fault::NotAll)
 }
 
@@ -263,7 +271,8 @@ fn look_on<R: Threads + Wait + Clock + Sync, G: Gate + Sync>(
     until: Until,
 ) -> Result<(usize, String), Fault> {
     let row = stations.as_slice();
-    let shares = work_all(rt, stage, row, shares, handed, until, &mut onlooker)?;
+    let shares = work_all(rt, stage, row, shares, handed, until, &mut onlooker);
+    let (stations, shares) = beside(stations, shares)?;
     let steps = close_all(stage.alloc, stations, shares)?;
     let executed = seen_anew(stage.alloc, &mut onlooker)?;
     Ok((steps, executed))

@@ -47,6 +47,14 @@ fn share_out(kept: &mut Kept<'_>, shares: &mut Vec<Share>) -> Result<(), Fault> 
     Ok(())
 }
 
+/// A value with what a call gave; where the call was refused, the value is dropped.
+pub(crate) fn beside<T: Drop, U>(value: T, given: Result<U, Fault>) -> Result<(T, U), Fault> {
+    match given {
+        Ok(given) => Ok((value, given)),
+        Err(fault) => Err(fault),
+    }
+}
+
 /// The station of a replica that has made no step. The shares of its two workers come last.
 fn make_station<'a>(
     alloc: Global,
@@ -60,7 +68,8 @@ fn make_station<'a>(
     requires number { (number < replicas config) × (number < marks.now.words) }
 {
     let mut kept = new_kept(alloc, config, number, eye, marks)?;
-    share_out(&mut kept, shares)?;
+    let shared = share_out(&mut kept, shares);
+    let (kept, ()) = beside(kept, shared)?;
     Ok(Station {
         number,
         locked: Mutex::new(kept),
