@@ -211,6 +211,28 @@ def announced_views():
     return run
 
 
+def two_hundred_heights():
+    """A chain of two hundred heights. A client counts: it sends a command in each tenth round, which is executed three
+    rounds later. The leader changes in the middle. One replica gets nothing at first, and then all proposals in a row."""
+    run = Run(clients=1)
+    early, late = REPLICAS[:3], REPLICAS[3]
+    proposals, leader = [], 0
+    for number in range(201):
+        if number == 100:
+            leader = 1
+            for replica in REPLICAS:
+                run.do(Timeout(replica))
+        if number % 10 == 0:
+            [request] = run.do(Submit(0, b"incr a 1\r\n" if number else b"set a 0 0 1\r\n0\r\n"))
+            run.relay(request, early)
+        proposals.append(len(run.world.record))
+        for reply in run.round(leader, early):
+            run.relay(reply, [C0])
+    for proposal in proposals:
+        run.relay(proposal, [late])
+    return run
+
+
 def all_runs():
     """(name, schedule)"""
     runs = [
@@ -227,6 +249,8 @@ def all_runs():
         ("certificates of another block, of a bad tag, of one voter twice; and a reply",
          certificate_of_another_block()),
         ("a replica goes to the view that f + 1 have announced or passed", announced_views()),
+        ("two hundred heights and two leaders; one replica gets all proposals at the end",
+         two_hundred_heights()),
     ]
     return [(name, run.schedule()) for name, run in runs]
 
