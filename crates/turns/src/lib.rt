@@ -8,4 +8,4 @@ mod steps;
 
 pub use frame_turn::turn;
 pub use gate::{Gate, Open};
-pub use steps::Steps;
+pub use steps::{Steps, UnderLock};

@@ -8,9 +8,9 @@ ghost use Rattle.locked_replica.specs.Kept.{ShareState, Counts};
 ghost use Rattle.turns.specs.Stepping.{SomeStep};
 
 use ids::Fault;
-use locked_replica::{Locked, Share};
+use locked_replica::{Kept, Share};
 use replica::{Input, Out};
-use std::sync::Wait;
+use std::sync::{Mutex, Wait};
 
 /// Steps a replica with a share that counts it.
 pub trait Steps {
@@ -33,27 +33,50 @@ pub trait Steps {
         ensures rests { IfNone result ((self.new ≡ self.old) × (share.new ≡ share.old)) };
 }
 
-/// By any thread. What is under the lock then, no clause can name: it is some kept replica, which
-/// makes this step.
-impl<'l, 'a> Steps for &'l Locked<'a> {
-    ghost moved = { λ _ share input answer _ share'. SomeStep share input answer share' };
+/// What lies under a lock, where any thread may step it.
+pub trait UnderLock {
+    /// What a step does, as far as a caller can be told who can't name what lies under the lock: the
+    /// share before, the input, the answer, and the share after.
+    ghost made: { ShareState → Input → Result (List SentBytes) Fault → ShareState → Type 0 };
 
-    fn step<R: Wait>(&mut self, rt: &R, share: &mut Share, input: Input<'_>) -> Result<Out, Fault> {
-        let mut kept = self.lock(rt);
-        kept.holds();
-        let answer = kept.step(share, input);
-        kept.holds();
+    /// One step.
+    fn step(&mut self, share: &mut Share, input: Input<'_>) -> Result<Out, Fault>
+        ensures made { made share.old input.entry result share.new }
+        ensures counts { Counts share.old result share.new };
+
+    /// Whether a beat brings something at once, as `Replica::wants_beat_now` says.
+    fn wants_beat_now(&self) -> bool;
+}
+
+/// It is some kept replica, which makes this step.
+impl<'a> UnderLock for Kept<'a> {
+    ghost made = { SomeStep };
+
+    fn step(&mut self, share: &mut Share, input: Input<'_>) -> Result<Out, Fault> {
+        self.holds();
+        let answer = Kept::step(self, share, input);
+        self.holds();
         answer
     }
 
+    fn wants_beat_now(&self) -> bool {
+        self.replica().wants_beat_now()
+    }
+}
+
+/// By any thread: what lies under the lock makes the step.
+impl<'l, K: UnderLock + Drop> Steps for &'l Mutex<K> {
+    ghost moved = { λ _ share input answer _ share'. K.made share input answer share' };
+
+    fn step<R: Wait>(&mut self, rt: &R, share: &mut Share, input: Input<'_>) -> Result<Out, Fault> {
+        self.lock(rt).step(share, input)
+    }
+
     fn beat_now<R: Wait>(&mut self, rt: &R, share: &mut Share) -> Option<Result<Out, Fault>> {
-        let mut kept = self.lock(rt);
-        if !kept.replica().wants_beat_now() {
+        let mut locked = self.lock(rt);
+        if !locked.wants_beat_now() {
             return None;
         }
-        kept.holds();
-        let answer = kept.step(share, Input::Beat);
-        kept.holds();
-        Some(answer)
+        Some(locked.step(share, Input::Beat))
     }
 }
