@@ -25,10 +25,10 @@ use Rattle.frames_view.specs.Places.{IsFrameAt, IsProposalAt, IsBlockAt, IsVoteF
 use Rattle.frames_view.specs.Places.{IsCommandAt, IsFetchAt}
 use Rattle.frames_view.specs.Views.{frame_of, command_of, proposal_of, block_of, vote_frame_of, new_view_of}
 use Rattle.frames_view.specs.Views.{fetch_of, reply_of}
-use Rattle.replica.specs.declared.input.Input.{Input}
-use Rattle.replica.specs.declared.input.Input.TheVariants.{Proposal, Block, Vote as AVote, NewView, Request}
-use Rattle.replica.specs.declared.input.Input.TheVariants.{Fetch}
-use Rattle.replica.specs.Inputs.{input_of, same_replica, is_addressed}
+use Rattle.admission.specs.declared.input.Input.{Input}
+use Rattle.admission.specs.declared.input.Input.TheVariants.{Proposal, Block, Vote as AVote, NewView, Request}
+use Rattle.admission.specs.declared.input.Input.TheVariants.{Fetch}
+use Rattle.admission.specs.Inputs.{input_of, same_replica, is_addressed}
 use Rattle.admission.specs.Admitted.{Brings, Answers}
 
 -- what was found, as an input

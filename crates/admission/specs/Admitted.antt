@@ -11,10 +11,10 @@ use Rattle.definitions.specs.Checks.{identity_of}
 use Rattle.definitions.specs.Admission.{Checked, passes, rejected, check}
 use Rattle.frames_view.specs.Places.{IsProposalAt, IsBlockAt, IsVoteFrameAt, IsNewViewAt, IsCommandAt}
 use Rattle.frames_view.specs.Places.{IsFetchAt}
-use Rattle.replica.specs.declared.input.Input.{Input}
-use Rattle.replica.specs.declared.input.Input.TheVariants.{Proposal, Block, Vote as AVote, NewView, Request}
-use Rattle.replica.specs.declared.input.Input.TheVariants.{Fetch, Timeout, Beat}
-use Rattle.replica.specs.Inputs.{input_of, is_addressed}
+use Rattle.admission.specs.declared.input.Input.{Input}
+use Rattle.admission.specs.declared.input.Input.TheVariants.{Proposal, Block, Vote as AVote, NewView, Request}
+use Rattle.admission.specs.declared.input.Input.TheVariants.{Fetch, Timeout, Beat}
+use Rattle.admission.specs.Inputs.{input_of, is_addressed}
 
 -- each part of the frame that it lends lies in the bytes, at the place where the grammar has it
 abbrev pub LiesIn : Bor Bytes → Input → Type 0

@@ -6,17 +6,17 @@ ghost use Rattle.definitions.specs.FrameLimits.{IsFrame};
 ghost use Rattle.definitions.specs.Checks.{identity_of};
 ghost use Rattle.frames_view.specs.Places.{IsFrameAt};
 ghost use Rattle.frames_view.specs.Views.{frame_of};
-ghost use Rattle.replica.specs.Inputs.{is_addressed};
+ghost use Rattle.admission.specs.Inputs.{is_addressed};
 ghost use Rattle.admission.specs.Admitted.{Admits, Answers};
 ghost use Rattle.definitions.specs.Admission.{check as checks};
 
+use crate::input::Input;
 use authenticators::Keyring;
 use certificates::{
     check_block, check_fetch, check_new_view, check_proposal, check_request, check_vote,
 };
 use frames_view::{Frame, read};
 use ids::{Config, Fault};
-use replica::Input;
 
 /// The input that a frame brings, which was read from these bytes.
 fn check<'a>(

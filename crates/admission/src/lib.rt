@@ -2,7 +2,9 @@
 #![tactic(auto)]
 
 mod admitting;
+mod input;
 mod lacking;
 
 pub use admitting::admit;
+pub use input::Input;
 pub use lacking::missing;

@@ -6,7 +6,7 @@ ghost use Rattle.ids.specs.Sizes.{replicas};
 use authenticators::Keyring;
 use fabric::{Links, Outgoing};
 use liars::{Liar, lie};
-use replica::Sending;
+use signed_frames::Sending;
 use std::alloc::Global;
 use std::sync::Wait;
 

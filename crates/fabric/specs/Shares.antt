@@ -1,6 +1,6 @@
 -- What becomes of a share whose worker steps a replica.
 use Rattle.std.specs.Prelude.{◌≡◌, ◌≤◌}
-use Rattle.locked_replica.specs.Kept.{ShareState}
+use Rattle.turns.specs.Shares.{ShareState}
 
 -- the same share, by which steps may have been made since
 abbrev pub HasGrown : ShareState → ShareState → Type 0

@@ -2,21 +2,20 @@
 
 ghost use Rattle.std.specs.Prelude.{◌<◌};
 ghost use Rattle.ids.specs.Sizes.{replicas};
-ghost use Rattle.locked_replica.specs.Kept.{Counts};
+ghost use Rattle.turns.specs.Shares.{Counts};
 ghost use Rattle.fabric.specs.Shares.{HasGrown};
 
 use crate::links::{Links, Parcel};
 use crate::waiting::{Brought, Waiting, WaitingRoom};
+use admission::Input;
 use authenticators::Keyring;
 use bytes::Bytes;
 use crossbeam_channel::Receiver;
 use ids::{Digest, Fault, Kind, ReplicaId};
-use locked_replica::Share;
-use replica::{Input, Out, Sending, To};
-use signed_frames::fetch_frame;
+use signed_frames::{Out, Sending, To, fetch_frame};
 use std::alloc::Global;
 use std::sync::Wait;
-use turns::{Gate, Steps, turn};
+use turns::{Gate, Share, Steps, turn};
 
 /// Where a worker stands: it takes from a replica's link, sends by `out`, and has a keyring of its own.
 #[derive(Drop)]

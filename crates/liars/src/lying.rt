@@ -7,8 +7,7 @@ use authenticators::Keyring;
 use frame_writers::{ReplyText, write_core};
 use frames_view::{Frame, ProposalView, ReplyView, read};
 use ids::{Digest, Fault, Kind, ReplicaId};
-use replica::{Sending, To};
-use signed_frames::{proposal_frame, reply_frame};
+use signed_frames::{Sending, To, proposal_frame, reply_frame};
 use std::alloc::Global;
 
 /// The text that a bad reply has.

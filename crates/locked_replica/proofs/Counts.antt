@@ -8,7 +8,8 @@ use Rattle.std.proofs.lemmas.List.Elements.{recursion_from_All}
 use Rattle.std.proofs.Math.Seq.{take-length}
 use Rattle.std.specs.List.{AllByRecursion}
 use Rattle.std.specs.Prelude.{IsTrue}
-use Rattle.locked_replica.specs.Kept.{ShareState, KeptState, AreAll, is_own}
+use Rattle.turns.specs.Shares.{ShareState}
+use Rattle.locked_replica.specs.Kept.{KeptState, AreAll, is_own}
 
 -- the sum of a function over the numbers below n
 abbrev total : (ℕ → ℕ) → ℕ → ℕ

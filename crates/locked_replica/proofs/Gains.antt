@@ -13,8 +13,10 @@ use Rattle.definitions.specs.Replicas.{MemorySupply.refused_after}
 use Rattle.definitions.specs.Replicas.{Standing, Standing.running, Standing.stopped, Standing.cut_short}
 use Rattle.definitions.specs.Replicas.{Replica, Reaction, Reaction.sends_out, Reaction.fails}
 use Rattle.definitions.specs.Replicas.{Reaction.asks_for, executes, on_step, on_ruling, step}
-use Rattle.replica.specs.Steps.{SentBytes, Shows, Stepped}
-use Rattle.locked_replica.specs.Kept.{ShareState, with_more_steps, gained, Counts}
+use Rattle.signed_frames.specs.Outs.{SentBytes}
+use Rattle.replica.specs.Steps.{Shows, Stepped}
+use Rattle.turns.specs.Shares.{ShareState, with_more_steps, Counts}
+use Rattle.locked_replica.specs.Kept.{gained}
 
 -- a reaction, and by how much the chronicle grew with it
 abbrev Grows : Replica → Replica × Reaction → Type 0

@@ -18,7 +18,8 @@ use Rattle.definitions.specs.Replicas.{Standing, Standing.running, Standing.stop
 use Rattle.definitions.specs.Replicas.{Replica, Reaction, held_history, executes, stops, on_step, on_ruling}
 use Rattle.definitions.specs.Replicas.{step}
 use Rattle.linear_law.proofs.Replies.{history-grows}
-use Rattle.replica.specs.Steps.{SentBytes, Stepped}
+use Rattle.signed_frames.specs.Outs.{SentBytes}
+use Rattle.replica.specs.Steps.{Stepped}
 use Rattle.locked_replica.specs.Kept.{mark_of}
 
 longer : (s : Step) (c : Chronicle) → conflicts s c ≡ false → length (history c) ≤ length (history (s ∷ c))

@@ -5,10 +5,12 @@ use Rattle.ids.specs.declared.fault.Fault.{Fault}
 use Rattle.ids.specs.declared.fault.Fault.TheVariants as fault
 use Rattle.definitions.specs.Checks.{identity_of}
 use Rattle.marks.specs.Eyes.{putting}
-use Rattle.locked_replica.specs.Kept.{KeptState, ShareState, is_own, with_more_steps, gained, mark_of}
-use Rattle.replica.specs.declared.input.Input.{Input}
-use Rattle.replica.specs.Inputs.{input_of, is_addressed}
-use Rattle.replica.specs.Steps.{SentBytes, Stepped}
+use Rattle.turns.specs.Shares.{ShareState, with_more_steps}
+use Rattle.locked_replica.specs.Kept.{KeptState, is_own, gained, mark_of}
+use Rattle.admission.specs.declared.input.Input.{Input}
+use Rattle.admission.specs.Inputs.{input_of, is_addressed}
+use Rattle.signed_frames.specs.Outs.{SentBytes}
+use Rattle.replica.specs.Steps.{Stepped}
 
 -- the input is for this replica, and the share its own
 abbrev pub may_step : KeptState → ShareState → Input → Bool

@@ -1,13 +1,11 @@
--- A replica that is kept for several threads, and the shares that count its steps.
-use Rattle.std.specs.Prelude.{◌≡◌, ◌⊎◌, ℕ, ◌-◌, ◌+◌, ◌<◌, ◌==◌, Bool, ◌&&◌, IsTrue, List, length, sum}
-use Rattle.std.specs.Prelude.{slice_index, nat_lt, All, EachIndex, count_by, Result, Ok, Err}
-use Rattle.ids.specs.declared.fault.Fault.{Fault}
-use Rattle.ids.specs.declared.fault.Fault.TheVariants as fault
+-- A replica that is kept for several threads, and its shares.
+use Rattle.std.specs.Prelude.{◌≡◌, ℕ, ◌-◌, ◌<◌, ◌==◌, Bool, ◌&&◌, IsTrue, List, length, sum}
+use Rattle.std.specs.Prelude.{slice_index, nat_lt, All, EachIndex, count_by}
 use Rattle.definitions.specs.Keyrings.{Keys}
 use Rattle.definitions.specs.Chronicles.{IsLawful}
 use Rattle.definitions.specs.Replicas.{Replica, held_history}
 use Rattle.marks.specs.Eyes.{EyeState, IsOwnerOf}
-use Rattle.replica.specs.Steps.{SentBytes}
+use Rattle.turns.specs.Shares.{ShareState}
 
 -- a kept replica: its keys and its state, the count of each share made of it, and the eye that owns its mark
 pub record KeptState : Type 0 where
@@ -29,12 +27,6 @@ pub record Holds (kept : KeptState) : Type 0 where
   pub owner : IsOwnerOf kept.keys.party kept.eye.sight
   pub put : kept.eye.sight.put ≡ mark_of kept.replica
 
--- a share: of which replica, which of those made, and how many steps it counts
-pub record ShareState : Type 0 where
-  pub replica : ℕ
-  pub number : ℕ
-  pub count : ℕ
-
 -- the share is one of those made, with the count that is kept for it
 abbrev pub is_own : KeptState → ShareState → Bool
 is_own kept share = (share.replica == kept.keys.party)
@@ -45,16 +37,6 @@ pub record AreAll (kept : KeptState) (shares : List ShareState) : Type 0 where
   pub own : All (λ s. IsTrue (is_own kept s)) shares
   pub once : EachIndex kept.shares (λ i. count_by (λ s. s.number == i) shares ≡ 1)
 
--- a share after some more steps
-abbrev pub with_more_steps : ShareState → ℕ → ShareState
-with_more_steps share more = record share { count = share.count + more }
-
 -- how many steps a replica gained
 abbrev pub gained : Replica → Replica → ℕ
 gained old new = length new.chronicle - length old.chronicle
-
--- what a share counts of an answer: an answer that sends something is one step; want of memory may be one,
--- while it is executed; and another refusal is none
-abbrev pub Counts : ShareState → Result (List SentBytes) Fault → ShareState → Type 0
-Counts old (Ok out) new = new ≡ with_more_steps old 1
-Counts old (Err n) new = (new ≡ old) ⊎ ((n ≡ fault.Memory) × (new ≡ with_more_steps old 1))

@@ -1,9 +1,9 @@
 //! What closing gives.
 
 use crate::kept::Kept;
-use crate::share::Share;
 use marks::Eye;
 use replica::Replica;
+use turns::Share;
 
 /// A replica whose shares have all come back, and the eye that owns its mark.
 #[derive(Drop)]

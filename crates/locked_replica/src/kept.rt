@@ -6,14 +6,14 @@ ghost use Rattle.std.specs.Bool.{OnTrue, OnFalse};
 ghost use Rattle.definitions.specs.Checks.{identity_of};
 ghost use Rattle.definitions.specs.Chronicles.{IsLawful};
 ghost use Rattle.replica.specs.Steps.{Stepped};
-ghost use Rattle.replica.specs.Inputs.{input_of, same_replica, is_addressed};
+ghost use Rattle.admission.specs.Inputs.{input_of, same_replica, is_addressed};
 ghost use Rattle.marks.specs.Eyes.{IsOwnerOf, putting};
-ghost use Rattle.locked_replica.specs.Kept.{Holds, is_own, AreAll, with_more_steps, gained, mark_of, Counts};
+ghost use Rattle.turns.specs.Shares.{with_more_steps, Counts};
+ghost use Rattle.locked_replica.specs.Kept.{Holds, is_own, AreAll, gained, mark_of};
 ghost use Rattle.locked_replica.specs.Addressed.{may_step};
 
 use crate::closed::{Closed, NotAll};
 use crate::once::each_once;
-use crate::share::Share;
 use certificates::{Authenticated, Checked};
 use ids::{Fault, PartyId, ReplicaId};
 use marks::{Eye, Marks};
@@ -21,6 +21,7 @@ use replica::{Input, Out, Replica};
 use std::alloc::Global;
 use std::marker::Model;
 use std::sync::Mutex;
+use turns::Share;
 
 /// A replica, the count of each share made of it, and the eye that owns its mark.
 ///
@@ -129,20 +130,16 @@ impl<'a> Kept<'a> {
     {
         let number = self.shares.len();
         self.shares.push(0)?;
-        Ok(Share {
-            replica: self.number(),
-            number,
-            count: 0,
-        })
+        Ok(Share::new(self.number(), number))
     }
 
     /// Whether this is one of the shares made, with the count that is kept for it.
     pub fn owns(&self, share: &Share) -> bool
         ensures { result ≡ is_own self.now share.now }
     {
-        share.replica == self.number()
-            && share.number < self.shares.len()
-            && self.shares[share.number] == share.count
+        share.replica() == self.number()
+            && share.number() < self.shares.len()
+            && self.shares[share.number()] == share.count()
     }
 
     /// Whether a frame was checked for this replica, at its sizes.
@@ -201,8 +198,8 @@ impl<'a> Kept<'a> {
         let replica = &mut self.replica;
         let before = replica.steps();
         let outcome = replica.step(input);
-        share.count += replica.steps() - before;
-        self.shares[share.number] = share.count;
+        share.add(replica.steps() - before);
+        self.shares[share.number()] = share.count();
         let (number, length) = (self.replica.number(), executed(&self.replica));
         self.marks.put(&mut self.eye, number, length);
         outcome

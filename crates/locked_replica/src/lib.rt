@@ -8,8 +8,8 @@
 mod closed;
 mod kept;
 mod once;
-mod share;
+mod under_lock;
 
 pub use closed::{Closed, NotAll};
 pub use kept::{Kept, Locked};
-pub use share::Share;
+pub use turns::Share;

@@ -37,7 +37,8 @@ use Rattle.linear_law.proofs.FitAnswers.{answers-fit}
 use Rattle.linear_law.proofs.Inputs.{Carries, FromInput, AllStanding, ruling-from}
 use Rattle.linear_law.proofs.Rows.{taken-known, step-known}
 use Rattle.executor.specs.State.{new_answers}
-use Rattle.replica.specs.Steps.{SentBytes, bytes_of, shown, Shows}
+use Rattle.signed_frames.specs.Outs.{SentBytes}
+use Rattle.replica.specs.Steps.{bytes_of, shown, Shows}
 use Rattle.replica.specs.Kept.{Variables, StateParts, waiting, IsStateOf, AreFit, AreStored}
 use Rattle.replica.specs.Changes.{asked, sent_first}
 use Rattle.replica.specs.Inputs.{IsFitInput}

@@ -18,7 +18,8 @@ use Rattle.frames_view.specs.declared.frame_views.BlockView.{BlockView}
 use Rattle.frames_view.specs.declared.frame_views.VoteFrameView.{VoteFrameView}
 use Rattle.frames_view.specs.Fields.{frame_vote}
 use Rattle.frames_view.specs.Views.{proposal_of, block_of, vote_frame_of}
-use Rattle.replica.specs.Inputs.{proposal_offered, block_offered, same_sizes, same_replica}
+use Rattle.admission.specs.Inputs.{same_sizes, same_replica}
+use Rattle.replica.specs.Inputs.{proposal_offered, block_offered}
 
 -- the same sizes
 same-sizes : (a b : Sizes) → same_sizes a b ≡ true → a ≡ b

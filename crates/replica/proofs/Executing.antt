@@ -30,7 +30,7 @@ use Rattle.definitions.specs.Replicas.{whole_blocks}
 use Rattle.mempool.specs.Pool.{left_after}
 use Rattle.executor.specs.State.{with_commands, new_answers}
 use Rattle.replica.proofs.Waiting.{left-append, shorter, whole-cut, whole-exact}
-use Rattle.replica.specs.Steps.{SentBytes}
+use Rattle.signed_frames.specs.Outs.{SentBytes}
 use Rattle.replica.specs.Execution.{block_at, commands_at, history_above, IsCutIn, IsCut, told_one, told}
 
 -- ---- the replies

@@ -39,7 +39,8 @@ use Rattle.replica_rules.proofs.Takes.{ruled-known}
 use Rattle.replica.specs.declared.change.Change.{Change}
 use Rattle.replica.specs.declared.state.High.{High}
 use Rattle.replica.specs.Replay.{or_genesis, step_of}
-use Rattle.replica.specs.Steps.{SentBytes, Shows}
+use Rattle.signed_frames.specs.Outs.{SentBytes}
+use Rattle.replica.specs.Steps.{Shows}
 use Rattle.replica.specs.Kept.{Variables, StateParts, own_of, variables_of, IsStateOf}
 use Rattle.replica.specs.Changes.{grown, noting, tree_of, raise_of, leaf_after, IsStep}
 use Rattle.replica.specs.declared.change.Growth.{Growth}

@@ -23,7 +23,8 @@ use Rattle.pacemaker.proofs.Reached.{paced-still}
 use Rattle.replica.specs.declared.change.Change.{Change}
 use Rattle.replica.specs.declared.stored.StoredStep.TheVariants.{GotRequest}
 use Rattle.replica.specs.declared.change.Growth.TheVariants.{Request}
-use Rattle.replica.specs.Steps.{SentBytes, bytes_of, shown}
+use Rattle.signed_frames.specs.Outs.{SentBytes}
+use Rattle.replica.specs.Steps.{bytes_of, shown}
 use Rattle.replica.specs.Kept.{StateParts, variables_of, IsStateOf, AreFit}
 use Rattle.replica.specs.Changes.{noting, sent_first, asked, pended, collected, changed, changed_variables}
 use Rattle.replica.specs.Changes.{IsStep}

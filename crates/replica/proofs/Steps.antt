@@ -23,7 +23,7 @@ use Rattle.replica.specs.declared.state.High.{High}
 use Rattle.replica.specs.declared.change.Growth.{Growth}
 use Rattle.replica.specs.declared.change.Growth.TheVariants.{Nothing, Block, Vote, Request}
 use Rattle.replica.specs.declared.change.Change.{Change}
-use Rattle.replica.specs.Steps.{SentBytes}
+use Rattle.signed_frames.specs.Outs.{SentBytes}
 use Rattle.replica.specs.Kept.{Variables, StateParts, high_of, variables_of, IsStateOf}
 use Rattle.replica.specs.Changes.{asked, pended, collected, left_above, votes_after, changed}
 use Rattle.replica.specs.Changes.{changed_variables, IsStep}

@@ -11,7 +11,8 @@ use Rattle.definitions.specs.Rulings.{Input, ruling}
 use Rattle.definitions.specs.Replicas.{MemorySupply, Standing, running, stopped, cut_short, Replica}
 use Rattle.definitions.specs.Replicas.{held_history}
 use Rattle.definitions.specs.Replicas.{held_pending, on_ruling}
-use Rattle.replica.specs.Steps.{SentBytes, Shows}
+use Rattle.signed_frames.specs.Outs.{SentBytes}
+use Rattle.replica.specs.Steps.{Shows}
 use Rattle.replica.specs.Kept.{StateParts, waiting, IsStateOf, AreFit, AreStored}
 use Rattle.replica.specs.declared.standing.Taken.{Taken}
 use Rattle.replica.specs.declared.standing.Taken.TheVariants.{Sends, Refused, CutShort}

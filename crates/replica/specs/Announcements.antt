@@ -17,7 +17,7 @@ use Rattle.replica_rules.specs.declared.block_ref.BlockRef.{BlockRef}
 use Rattle.replica.specs.declared.stored.GotNewView.{GotNewView}
 use Rattle.replica.specs.declared.stored.StoredStep.TheVariants.{GotNewView as Announced, TimedOut}
 use Rattle.replica.specs.declared.change.Change.{Change}
-use Rattle.replica.specs.Steps.{SentBytes}
+use Rattle.signed_frames.specs.Outs.{SentBytes}
 use Rattle.replica.specs.Kept.{StateParts}
 use Rattle.replica.specs.Changes.{noting, raise_of, leaf_after}
 

@@ -14,7 +14,7 @@ use Rattle.definitions.specs.Trees.{blocks, find_in}
 use Rattle.replica_rules.specs.declared.block_ref.BlockRef.{BlockRef}
 use Rattle.replica.specs.declared.stored.StoredStep.TheVariants.{Beat}
 use Rattle.replica.specs.declared.change.Change.{Change}
-use Rattle.replica.specs.Steps.{SentBytes}
+use Rattle.signed_frames.specs.Outs.{SentBytes}
 use Rattle.replica.specs.Kept.{Own, StateParts}
 use Rattle.replica.specs.Changes.{noting}
 use Rattle.replica.specs.Picks.{picked}

@@ -24,7 +24,8 @@ use Rattle.replica.specs.declared.change.Change.{Change}
 use Rattle.replica.specs.declared.change.Growth.{Growth}
 use Rattle.replica.specs.declared.change.Growth.TheVariants.{Nothing, Block, Vote, Request}
 use Rattle.replica.specs.Replay.{is_new, step_of}
-use Rattle.replica.specs.Steps.{SentBytes, shown}
+use Rattle.signed_frames.specs.Outs.{SentBytes}
+use Rattle.replica.specs.Steps.{shown}
 use Rattle.replica.specs.Kept.{Variables, StateParts, variables_of}
 
 -- the blocks of the tree with what is added

@@ -16,7 +16,8 @@ use Rattle.definitions.specs.Sendings.{reply_to}
 use Rattle.block_tree.specs.Finding.{stored_in, at_height}
 use Rattle.mempool.specs.Pool.{left_after}
 use Rattle.executor.specs.State.{with_commands}
-use Rattle.replica.specs.Steps.{SentBytes, bytes_of}
+use Rattle.signed_frames.specs.Outs.{SentBytes}
+use Rattle.replica.specs.Steps.{bytes_of}
 
 -- the stored block of this height on the branch of a block
 abbrev pub block_at : Bytes → ℕ → List Stored → Option Stored

@@ -11,7 +11,7 @@ use Rattle.block_tree.specs.Finding.{stored_in}
 use Rattle.replica.specs.declared.stored.GotFetch.{GotFetch}
 use Rattle.replica.specs.declared.stored.StoredStep.TheVariants.{GotFetch as Asked}
 use Rattle.replica.specs.declared.change.Change.{Change}
-use Rattle.replica.specs.Steps.{SentBytes}
+use Rattle.signed_frames.specs.Outs.{SentBytes}
 use Rattle.replica.specs.Kept.{Variables}
 use Rattle.replica.specs.Changes.{noting}
 

@@ -1,5 +1,4 @@
 pub mod Steps
-pub mod Outs
 pub mod Entries
 pub mod Replay
 pub mod Kept

@@ -24,7 +24,7 @@ use Rattle.replica.specs.declared.stored.StoredStep.{StoredStep}
 use Rattle.replica.specs.declared.stored.StoredStep.TheVariants.{TookNew, TookAgain}
 use Rattle.replica.specs.declared.change.Change.{Change}
 use Rattle.replica.specs.declared.change.Growth.TheVariants.{Block}
-use Rattle.replica.specs.Steps.{SentBytes}
+use Rattle.signed_frames.specs.Outs.{SentBytes}
 use Rattle.replica.specs.Kept.{StateParts}
 use Rattle.replica.specs.Changes.{noting, tree_of, raise_of, leaf_after}
 

@@ -14,7 +14,7 @@ use Rattle.replica.specs.declared.stored.StoredStep.TheVariants.{GotRequest}
 use Rattle.replica.specs.declared.change.Change.{Change}
 use Rattle.replica.specs.declared.change.Growth.{Growth}
 use Rattle.replica.specs.declared.change.Growth.TheVariants.{Nothing, Request}
-use Rattle.replica.specs.Steps.{SentBytes}
+use Rattle.signed_frames.specs.Outs.{SentBytes}
 use Rattle.replica.specs.Kept.{StateParts}
 use Rattle.replica.specs.Changes.{noting}
 use Rattle.replica.specs.Execution.{told_one}

@@ -10,7 +10,8 @@ use Rattle.definitions.specs.States.{pending}
 use Rattle.definitions.specs.Rulings.{Input, Ruling, Ruling.due, ruling, conflicts}
 use Rattle.definitions.specs.Replicas.{MemorySupply, running, stopped}
 use Rattle.definitions.specs.Replicas.{on_ruling}
-use Rattle.replica.specs.Steps.{SentBytes, Shows, shown}
+use Rattle.signed_frames.specs.Outs.{SentBytes}
+use Rattle.replica.specs.Steps.{Shows, shown}
 use Rattle.replica.specs.Kept.{StateParts, waiting, IsStateOf}
 use Rattle.replica.specs.Changes.{changed, asked, sent_first}
 use Rattle.replica.specs.declared.change.Change.{Change}

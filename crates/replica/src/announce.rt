@@ -8,7 +8,6 @@ ghost use Rattle.replica.specs.Inputs.{announced_by};
 
 use crate::blocks::{leaf_after, raised};
 use crate::change::Change;
-use crate::out::{Out, Sending, To};
 use crate::state::{High, State};
 use crate::stored::{GotNewView, StoredStep};
 use authenticators::Keyring;
@@ -16,7 +15,7 @@ use certificates::Checked;
 use frames_view::{CertificateBuf, NewViewView};
 use ids::{Digest, Fault, Kind, View};
 use replica_rules::BlockRef;
-use signed_frames::new_view_frame;
+use signed_frames::{Out, Sending, To, new_view_frame};
 use std::alloc::Global;
 
 /// The view goes to all, with the highest certificate.

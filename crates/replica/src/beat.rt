@@ -7,7 +7,6 @@ ghost use Rattle.replica.specs.Beats.{beat_change, child_height, child_of, propo
 ghost use Rattle.replica.specs.Beats.{leaf_with, last_sent};
 
 use crate::change::Change;
-use crate::out::{Out, Sending, To};
 use crate::pick::picked;
 use crate::state::{OwnProposal, State};
 use crate::stored::StoredStep;
@@ -16,7 +15,7 @@ use frames_view::write_core;
 use ids::{Digest, Fault, Height, Kind, View};
 use replica_rules::BlockRef;
 use sha2::Sha256;
-use signed_frames::proposal_frame;
+use signed_frames::{Out, Sending, To, proposal_frame};
 use std::alloc::Global;
 
 /// The height of a child of the leaf. No leaf is so high that there is none.

@@ -12,7 +12,6 @@ ghost use Rattle.replica.specs.Offers.{IsDecided};
 
 use crate::change::{Change, Growth};
 use crate::offer::Offer;
-use crate::out::{Out, Sending, To};
 use crate::state::{High, State};
 use crate::stored::{Again, StoredStep, TookAgain, TookNew};
 use authenticators::Keyring;
@@ -20,7 +19,7 @@ use block_tree::{Node, Plan, Tree};
 use frames_view::{CertificateBuf, CertificateView, CoreBuf};
 use ids::{Digest, Fault, Height, Kind};
 use replica_rules::{BlockRef, Rules};
-use signed_frames::vote_frame;
+use signed_frames::{Out, Sending, To, vote_frame};
 use std::alloc::Global;
 
 /// What goes out: the vote, if one was given.

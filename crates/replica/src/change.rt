@@ -3,13 +3,13 @@
 ghost use Rattle.std.specs.Prelude.{◌≡◌};
 ghost use Rattle.replica.specs.Changes.{noting};
 
-use crate::out::Out;
 use crate::state::{High, OwnProposal, State};
 use crate::stored::StoredStep;
 use block_tree::Node;
 use mempool::Pending;
 use pacemaker::Pacemaker;
 use replica_rules::{BlockRef, Rules};
+use signed_frames::Out;
 use vote_collector::KeptVote;
 
 /// What is added.

@@ -9,11 +9,10 @@ ghost use Rattle.mempool.specs.Pool.{left_after};
 ghost use Rattle.replica.specs.Kept.{waiting};
 ghost use Rattle.frames_view.specs.Views.{commands_left};
 ghost use Rattle.executor.specs.State.{with_commands, new_answers};
-ghost use Rattle.replica.specs.Outs.{sent_of};
+ghost use Rattle.signed_frames.specs.Outs.{sent_of};
 ghost use Rattle.replica.specs.Execution.{history_above, IsCutIn, IsCut, told_one, told};
 
 use crate::branch::block_at;
-use crate::out::{Out, Sending, To};
 use crate::state::State;
 use authenticators::Keyring;
 use block_tree::{Node, Tree};
@@ -22,7 +21,7 @@ use frame_writers::ReplyText;
 use frames_view::Commands;
 use ids::{Digest, Fault, Height, Kind};
 use mempool::Mempool;
-use signed_frames::reply_frame;
+use signed_frames::{Out, Sending, To, reply_frame};
 use std::alloc::Global;
 
 /// The text of an answer, where it is short enough for a frame.

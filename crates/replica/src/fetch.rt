@@ -7,13 +7,12 @@ ghost use Rattle.replica.specs.Fetches.{supplied, fetch_change};
 ghost use Rattle.replica.specs.Inputs.{asked_by};
 
 use crate::change::Change;
-use crate::out::{Out, Sending, To};
 use crate::state::State;
 use crate::stored::{GotFetch, StoredStep};
 use authenticators::Keyring;
 use frames_view::FetchView;
 use ids::{Digest, Fault, Kind, ReplicaId};
-use signed_frames::block_frame;
+use signed_frames::{Out, Sending, To, block_frame};
 
 /// The block of a digest with its certificate, for a replica that asked for it, where it stands in the tree.
 fn supply(state: &State, keyring: &Keyring, to: ReplicaId, digest: &Digest) -> Result<Out, Fault>

@@ -8,9 +8,7 @@ mod branch;
 mod change;
 mod execution;
 mod fetch;
-mod input;
 mod offer;
-mod out;
 mod pick;
 mod replica;
 mod request;
@@ -19,6 +17,6 @@ mod state;
 mod stored;
 mod vote;
 
-pub use input::Input;
-pub use out::{Out, Sending, To};
+pub use admission::Input;
 pub use replica::Replica;
+pub use signed_frames::{Out, Sending, To};

@@ -7,7 +7,6 @@ ghost use Rattle.replica.specs.Requests.{again_sent, is_full, IsWaiting, old_cha
 
 use crate::change::{Change, Growth};
 use crate::execution::tell_one;
-use crate::out::Out;
 use crate::state::State;
 use crate::stored::StoredStep;
 use authenticators::Keyring;
@@ -15,6 +14,7 @@ use executor::Executor;
 use frames_view::CommandView;
 use ids::Fault;
 use mempool::Pending;
+use signed_frames::Out;
 
 /// A request that comes after all that was executed for its client: it waits, unless it does so already.
 fn wait(state: &State, request: &CommandView) -> Result<Change, Fault>

@@ -5,8 +5,8 @@ ghost use Rattle.replica.specs.Steps.{is_running, standing_of};
 ghost use Rattle.replica.specs.StepsTo.{halts};
 ghost use Rattle.replica.specs.Advances.{answer_of, standing_after};
 
-use crate::out::Out;
 use ids::Fault;
+use signed_frames::Out;
 
 /// Whether a replica goes on.
 #[derive(Clone, Copy)]

@@ -6,7 +6,6 @@ ghost use Rattle.definitions.specs.Trees.{Stored};
 ghost use Rattle.replica.specs.Changes.{changed, grown, collected, pended, left_above, MayGrow, Fits};
 
 use crate::change::{Change, Growth};
-use crate::out::Out;
 use crate::stored::StoredStep;
 use block_tree::Tree;
 use frames_view::CertificateBuf;
@@ -14,6 +13,7 @@ use ids::Fault;
 use mempool::Mempool;
 use pacemaker::Pacemaker;
 use replica_rules::{BlockRef, Rules};
+use signed_frames::Out;
 use std::alloc::Global;
 use std::marker::Model;
 use vote_collector::Collector;

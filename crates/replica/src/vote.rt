@@ -10,12 +10,12 @@ ghost use Rattle.ids.specs.Sizes.{quorum};
 ghost use Rattle.vote_collector.specs.Collecting.{votes_for, judged};
 
 use crate::change::{Change, Growth};
-use crate::out::Out;
 use crate::state::{High, State};
 use crate::stored::{GotVote, StoredStep};
 use frames_view::{VoteFrameView, VoteView};
 use ids::{Digest, Fault};
 use replica_rules::BlockRef;
+use signed_frames::Out;
 use vote_collector::{Added, KeptVote};
 
 /// A vote that is stored, and changes nothing else.

@@ -6,8 +6,8 @@ use Rattle.hex.specs.Hex.{encode_lower}
 use Rattle.ids.specs.Numbers.{fault_number, kind_name}
 use Rattle.ids.specs.declared.fault.Fault.{Fault}
 use Rattle.definitions.specs.Bytes.{Bytes}
-use Rattle.replica.specs.declared.out.To.{To}
-use Rattle.replica.specs.declared.out.To.TheVariants.{All, Replica, Client}
+use Rattle.signed_frames.specs.declared.out.To.{To}
+use Rattle.signed_frames.specs.declared.out.To.TheVariants.{All, Replica, Client}
 use Rattle.world_schedule.specs.Told.{Told}
 use Rattle.world_schedule.specs.declared.outcome.SentFrame.{SentFrame}
 use Rattle.world_schedule.specs.declared.outcome.Accepted.{Accepted}

@@ -9,7 +9,7 @@ ghost use Rattle.run_report.specs.Reports.{other_receipt, accepted_in, outcome_t
 use appending::append;
 use ids::Fault;
 use itoa::Buffer;
-use replica::To;
+use signed_frames::To;
 use std::alloc::Global;
 use world_schedule::{Accepted, History, Outcome, SentFrame};
 

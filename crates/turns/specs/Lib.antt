@@ -1,1 +1,1 @@
-pub mod Stepping
+pub mod Shares

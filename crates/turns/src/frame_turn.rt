@@ -3,17 +3,17 @@
 ghost use Rattle.std.specs.Prelude.{◌≡◌, ◌<◌, Result, MatchResult};
 ghost use Rattle.ids.specs.Sizes.{replicas};
 ghost use Rattle.ids.specs.declared.fault.Fault as faults;
-ghost use Rattle.replica.specs.declared.input.Input as inputs;
+ghost use Rattle.admission.specs.declared.input.Input as inputs;
 ghost use Rattle.admission.specs.Admitted.{Admits};
-ghost use Rattle.locked_replica.specs.Kept.{Counts};
+ghost use Rattle.turns.specs.Shares.{Counts};
 
 use crate::gate::Gate;
+use crate::share::Share;
 use crate::steps::Steps;
 use admission::admit;
 use authenticators::Keyring;
 use ids::{Config, Fault};
-use locked_replica::Share;
-use replica::Out;
+use signed_frames::Out;
 use std::sync::Wait;
 
 /// Takes the bytes of a frame to a replica: `admit`, the gate's `enter`, one step, the gate's `stepped`.

@@ -4,8 +4,10 @@
 
 mod frame_turn;
 mod gate;
+mod share;
 mod steps;
 
 pub use frame_turn::turn;
 pub use gate::{Gate, Open};
+pub use share::Share;
 pub use steps::{Steps, UnderLock};

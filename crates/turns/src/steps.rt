@@ -2,14 +2,14 @@
 
 ghost use Rattle.std.specs.Prelude.{◌≡◌, List, Result, IfSome, IfNone};
 ghost use Rattle.ids.specs.declared.fault.Fault.{Fault};
-ghost use Rattle.replica.specs.declared.input.Input.{Input};
-ghost use Rattle.replica.specs.Steps.{SentBytes};
-ghost use Rattle.locked_replica.specs.Kept.{ShareState, Counts};
-ghost use Rattle.turns.specs.Stepping.{SomeStep};
+ghost use Rattle.admission.specs.declared.input.Input.{Input};
+ghost use Rattle.signed_frames.specs.Outs.{SentBytes};
+ghost use Rattle.turns.specs.Shares.{ShareState, Counts};
 
+use crate::share::Share;
+use admission::Input;
 use ids::Fault;
-use locked_replica::{Kept, Share};
-use replica::{Input, Out};
+use signed_frames::Out;
 use std::sync::{Mutex, Wait};
 
 /// Steps a replica with a share that counts it.
@@ -46,22 +46,6 @@ pub trait UnderLock {
 
     /// Whether a beat brings something at once, as `Replica::wants_beat_now` says.
     fn wants_beat_now(&self) -> bool;
-}
-
-/// It is some kept replica, which makes this step.
-impl<'a> UnderLock for Kept<'a> {
-    ghost made = { SomeStep };
-
-    fn step(&mut self, share: &mut Share, input: Input<'_>) -> Result<Out, Fault> {
-        self.holds();
-        let answer = Kept::step(self, share, input);
-        self.holds();
-        answer
-    }
-
-    fn wants_beat_now(&self) -> bool {
-        self.replica().wants_beat_now()
-    }
 }
 
 /// By any thread: what lies under the lock makes the step.

@@ -37,9 +37,9 @@ use Rattle.definitions.specs.Checks.{identity_of}
 use Rattle.admission.specs.Lacking.{lacked, lacked_by}
 use Rattle.admission.specs.Admitted as admitted
 use Rattle.admission.specs.Admitted.{Admits, AnswersRead}
-use Rattle.replica.specs.declared.input.Input as entering
-use Rattle.replica.specs.Steps.{SentBytes, Shows, Stepped}
-use Rattle.replica.specs.Outs.{sent_of}
+use Rattle.admission.specs.declared.input.Input as entering
+use Rattle.replica.specs.Steps.{Shows, Stepped}
+use Rattle.signed_frames.specs.Outs.{SentBytes, sent_of}
 use Rattle.world_schedule.specs.declared.effect.Effect.{Effect}
 use Rattle.world_schedule.specs.Turns.{admits, takes, TellsReaction, Takes, Ticks}
 use Rattle.world_schedule.specs.Asking.{Answers, Asks, SameReplica, is_lack, Refuses}

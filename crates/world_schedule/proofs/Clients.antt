@@ -27,7 +27,7 @@ use Rattle.definitions.specs.Events.{submitted_out, submitted_answer}
 use Rattle.definitions.proofs.RequestTexts.{request_of_some}
 use Rattle.signed_frames.specs.Clients.{client_of}
 use Rattle.replica.specs.Steps.{shown}
-use Rattle.replica.specs.Outs.{sent_of}
+use Rattle.signed_frames.specs.Outs.{sent_of}
 use Rattle.client_accept.specs.Sessions.{Held, memory_of, IsSubmitted, frame_after}
 use Rattle.world_schedule.specs.declared.effect.Effect.{Effect}
 use Rattle.world_schedule.specs.Turns.{Submits}

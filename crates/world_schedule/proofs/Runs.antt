@@ -32,8 +32,8 @@ use Rattle.linear_law.proofs.WholeRuns.{every-run-linear, none-conflicts}
 use Rattle.linear_law.proofs.AnyRuns.{any-sent-are-frames}
 use Rattle.replica.specs.Steps as steps
 use Rattle.replica.specs.Steps.{bytes_of, shown}
-use Rattle.replica.specs.Outs.{sent_of}
-use Rattle.replica.specs.declared.out.Sending as code
+use Rattle.signed_frames.specs.Outs.{SentBytes, sent_of}
+use Rattle.signed_frames.specs.declared.out.Sending as code
 use Rattle.client_accept.specs.Sessions as sessions
 use Rattle.world_schedule.specs.declared.effect.Effect.{Effect}
 use Rattle.world_schedule.specs.declared.event.Event.{Event}
@@ -217,7 +217,7 @@ abbrev in_event : ℕ → ℕ → Sending → Sent
 in_event now party o = record { event = now; sender = party; to = o.0; frame = o.1 }
 
 -- with the number of the event
-abbrev dated : ℕ → steps.SentBytes → Shown
+abbrev dated : ℕ → SentBytes → Shown
 dated now x = (now, x)
 
 abbrev dated_sending : ℕ → code.Sending → Shown

@@ -27,7 +27,7 @@ use Rattle.definitions.specs.Events as events
 use Rattle.definitions.specs.Events.{nothing, stepped, told, submitted, on_checked, comes}
 use Rattle.signed_frames.specs.Clients.{client_of}
 use Rattle.replica.specs.Steps as steps
-use Rattle.replica.specs.Outs.{sent_of}
+use Rattle.signed_frames.specs.Outs.{sent_of}
 use Rattle.client_accept.specs.Sessions as sessions
 use Rattle.world_schedule.specs.declared.effect.Effect.{Effect}
 use Rattle.world_schedule.specs.Settings.{Setting, start_of}

@@ -9,7 +9,8 @@ use Rattle.definitions.specs.Keyrings.{Keys, keyring_of}
 use Rattle.definitions.specs.Checks.{Identity}
 use Rattle.definitions.specs.Replicas.{MemorySupply, Replica, asks_for}
 use Rattle.admission.specs.Lacking.{lacked_by}
-use Rattle.replica.specs.Steps.{SentBytes, Shows}
+use Rattle.signed_frames.specs.Outs.{SentBytes}
+use Rattle.replica.specs.Steps.{Shows}
 use Rattle.world_schedule.specs.Turns.{takes, TellsReaction}
 use Rattle.world_schedule.specs.declared.effect.Effect.{Effect}
 

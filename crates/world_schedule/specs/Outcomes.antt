@@ -4,9 +4,9 @@ use Rattle.std.specs.List.{range_with_len}
 use Rattle.ids.specs.Sizes.{replicas}
 use Rattle.definitions.specs.Replicas.{held_history}
 use Rattle.definitions.specs.Worlds.{World, Sent, AcceptedBy, is_correct}
-use Rattle.replica.specs.Steps as steps
 use Rattle.replica.specs.Steps.{bytes_of}
-use Rattle.replica.specs.Outs.{to_of}
+use Rattle.replica.specs.Steps as steps
+use Rattle.signed_frames.specs.Outs.{SentBytes, to_of}
 use Rattle.world_schedule.specs.Told.{Told}
 use Rattle.world_schedule.specs.Settings.{Setting, is_faulty_in}
 use Rattle.world_schedule.specs.declared.outcome.SentFrame.{SentFrame}
@@ -15,7 +15,7 @@ use Rattle.world_schedule.specs.declared.outcome.Outcome.{Outcome}
 
 -- an event, and the bytes that were sent in it with their kind and destination
 abbrev pub Shown : Type 0
-Shown = ℕ × steps.SentBytes
+Shown = ℕ × SentBytes
 
 -- as a frame is told
 abbrev pub shown_frame : SentFrame → Shown

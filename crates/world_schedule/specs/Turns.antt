@@ -16,7 +16,7 @@ use Rattle.definitions.specs.Events.{out_of, answer_of, submitted_out, submitted
 use Rattle.definitions.specs.Events.{heard_answer}
 use Rattle.signed_frames.specs.Clients.{client_of}
 use Rattle.replica.specs.Steps.{shown}
-use Rattle.replica.specs.Outs.{sent_of}
+use Rattle.signed_frames.specs.Outs.{sent_of}
 use Rattle.client_accept.specs.Sessions.{Held}
 use Rattle.world_schedule.specs.declared.effect.Effect.{Effect}
 

@@ -1,7 +1,7 @@
 //! What an event does beside its change of a party.
 
 ghost use Rattle.std.specs.Prelude.{◌≡◌, [], ◌∷◌, map, None, IfOk, OnErr};
-ghost use Rattle.replica.specs.Outs.{sent_of};
+ghost use Rattle.signed_frames.specs.Outs.{sent_of};
 
 use client_accept::Receipt;
 use ids::{ClientId, Fault};

@@ -2,7 +2,7 @@
 
 ghost use Rattle.std.specs.Prelude.{◌≡◌, suc, [], ◌∷◌, ◌++◌, length, map, OnOk, OnErr};
 ghost use Rattle.std.specs.Option.{option_to_list};
-ghost use Rattle.replica.specs.Outs.{sent_of};
+ghost use Rattle.signed_frames.specs.Outs.{sent_of};
 ghost use Rattle.world_schedule.specs.Outcomes.{shown_frame, accepted_by};
 
 use crate::effect::Effect;

@@ -1,5 +1,5 @@
 use Rattle.std.proofs.Common.{rules, ap, sym}
-use Rattle.replica.specs.declared.input.Input.TheVariants.{Proposal, Block, Vote, NewView, Request, Fetch}
+use Rattle.admission.specs.declared.input.Input.TheVariants.{Proposal, Block, Vote, NewView, Request, Fetch}
 use Rattle.admission.proofs.Checks.{taken, proposal, block, vote, new_view, fetch, request, reply}
 use Rattle.admission.proofs.admitting.check.Goals as goal
 

@@ -1,7 +1,7 @@
 use Rattle.std.proofs.Common.{ℕ, suc, ◌+◌, ◌≡◌, ◌++◌, option_to_list, append_assoc, [], ◌∷◌, List, take}
 use Rattle.std.proofs.Common.{arith, sym, ap, ◌∙◌}
 use Rattle.definitions.specs.Histories.{Answer}
-use Rattle.replica.specs.Steps.{SentBytes}
+use Rattle.signed_frames.specs.Outs.{SentBytes}
 use Rattle.replica.specs.Execution.{told_one, told}
 use Rattle.std.proofs.Math.Seq.{take-suc}
 use Rattle.std.proofs.lemmas.List.{append-nil, take_all}

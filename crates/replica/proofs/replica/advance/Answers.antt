@@ -4,7 +4,7 @@ use Rattle.replica_rules.specs.declared.block_ref.BlockRef.{BlockRef}
 use Rattle.replica.specs.Kept.{Variables, StateParts, waiting}
 use Rattle.definitions.specs.Frames.{Command}
 use Rattle.mempool.specs.Pool.{left_after}
-use Rattle.replica.specs.Inputs.{input_of}
+use Rattle.admission.specs.Inputs.{input_of}
 use Rattle.replica.specs.Execution.{history_above, IsCut}
 use Rattle.replica.proofs.Advancing.{history-going, sends-all, stops-short, refuses}
 use Rattle.replica.proofs.replica.advance.Goals as goal

@@ -9,9 +9,10 @@ use Rattle.frames_view.specs.declared.frame_views.NewViewView.{NewViewView}
 use Rattle.frames_view.specs.declared.frame_views.FetchView.{FetchView}
 use Rattle.definitions.specs.Checks.{identity_of}
 use Rattle.definitions.proofs.Sound.{ruling-sound}
-use Rattle.replica.specs.declared.input.Input.TheVariants.{Proposal, Block}
+use Rattle.admission.specs.declared.input.Input.TheVariants.{Proposal, Block}
 use Rattle.replica.specs.Kept.{Variables, StateParts}
-use Rattle.replica.specs.Inputs.{input_of, proposal_offered, block_offered, announced_by, asked_by, same_replica}
+use Rattle.admission.specs.Inputs.{input_of, same_replica}
+use Rattle.replica.specs.Inputs.{proposal_offered, block_offered, announced_by, asked_by}
 use Rattle.replica.specs.Offers.{Offered, IsDecided}
 use Rattle.replica.specs.Announcements.{IsNewView}
 use Rattle.replica.specs.Fetches.{fetch_change}

@@ -1,6 +1,6 @@
 use Rattle.definitions.specs.Checks.{identity_of}
 use Rattle.definitions.specs.Rulings.{ruling}
-use Rattle.replica.specs.Inputs.{input_of}
+use Rattle.admission.specs.Inputs.{input_of}
 use Rattle.replica.proofs.Steps.{committed}
 use Rattle.replica.proofs.Advancing.{state-going}
 use Rattle.replica.proofs.replica.take.Goals as goal

@@ -1,5 +1,5 @@
 use Rattle.std.proofs.Common.{◌≡◌, ◌++◌, map}
-use Rattle.replica.specs.Outs.{sent_of}
+use Rattle.signed_frames.specs.Outs.{sent_of}
 use Rattle.world_schedule.specs.Outcomes.{shown_frame}
 use Rattle.world_schedule.proofs.journal.note_frames.Given as goal
 

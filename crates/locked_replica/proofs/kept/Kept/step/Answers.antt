@@ -1,6 +1,6 @@
 use Rattle.std.proofs.Common.{rules, arith}
 use Rattle.definitions.specs.Checks.{identity_of}
-use Rattle.replica.specs.Inputs.{input_of}
+use Rattle.admission.specs.Inputs.{input_of}
 use Rattle.locked_replica.proofs.Gains.{step-counts}
 use Rattle.locked_replica.proofs.Growth.{mark_grows}
 use Rattle.locked_replica.proofs.kept.Kept.step.Goals as goal

@@ -4,9 +4,10 @@ use Rattle.definitions.specs.Checks.{identity_of}
 use Rattle.definitions.specs.Keyrings.{Keys}
 use Rattle.definitions.specs.Chronicles.{Chronicle}
 use Rattle.definitions.specs.Replicas.{Replica}
-use Rattle.replica.specs.Steps.{SentBytes, Held, Stepped, standing_of}
+use Rattle.signed_frames.specs.Outs.{SentBytes}
+use Rattle.replica.specs.Steps.{Held, Stepped, standing_of}
 use Rattle.replica.specs.Advances.{IsWholeOf}
-use Rattle.replica.specs.Inputs.{input_of}
+use Rattle.admission.specs.Inputs.{input_of}
 use Rattle.replica.proofs.Whole.{goes-on, kept-from, stepped-from, stepped-not, grows-from}
 use Rattle.replica.proofs.replica.Replica.step.Goals as goal
 

@@ -1,7 +1,7 @@
 use Rattle.std.proofs.Common.{rules}
 use Rattle.locked_replica.specs.Kept.{Holds}
-use Rattle.turns.proofs.Bundles.{kept_step}
-use Rattle.turns.proofs.steps.KeptUnderLock.step.Goals as goal
+use Rattle.locked_replica.proofs.Bundles.{kept_step}
+use Rattle.locked_replica.proofs.under_lock.KeptUnderLock.step.Goals as goal
 
 pub returns-clause-made : goal.returns-clause-made
 returns-clause-made c =

@@ -6,11 +6,13 @@ use Rattle.ids.specs.declared.fault.Fault.{Fault}
 use Rattle.ids.specs.declared.fault.Fault.TheVariants as fault
 use Rattle.definitions.specs.Checks.{identity_of}
 use Rattle.marks.specs.Eyes.{putting}
-use Rattle.locked_replica.specs.Kept.{KeptState, ShareState, is_own, with_more_steps, gained, mark_of}
+use Rattle.turns.specs.Shares.{ShareState, with_more_steps}
+use Rattle.locked_replica.specs.Kept.{KeptState, is_own, gained, mark_of}
 use Rattle.locked_replica.specs.Addressed.{may_step, KeptStep}
-use Rattle.replica.specs.declared.input.Input.{Input}
-use Rattle.replica.specs.Inputs.{input_of, is_addressed}
-use Rattle.replica.specs.Steps.{SentBytes, Stepped}
+use Rattle.admission.specs.declared.input.Input.{Input}
+use Rattle.admission.specs.Inputs.{input_of, is_addressed}
+use Rattle.signed_frames.specs.Outs.{SentBytes}
+use Rattle.replica.specs.Steps.{Stepped}
 
 -- four facts of one case
 four : {A B C D E : Type 0} (b : Bool) → (A → B → C → D → E) → OnTrue b A → OnTrue b B → OnTrue b C

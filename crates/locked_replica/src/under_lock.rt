@@ -1,0 +1,24 @@
+//! What a kept replica does under its lock.
+
+ghost use Rattle.locked_replica.specs.Stepping.{SomeStep};
+
+use crate::kept::Kept;
+use ids::Fault;
+use replica::{Input, Out};
+use turns::{Share, UnderLock};
+
+/// It is some kept replica, which makes this step.
+impl<'a> UnderLock for Kept<'a> {
+    ghost made = { SomeStep };
+
+    fn step(&mut self, share: &mut Share, input: Input<'_>) -> Result<Out, Fault> {
+        self.holds();
+        let answer = Kept::step(self, share, input);
+        self.holds();
+        answer
+    }
+
+    fn wants_beat_now(&self) -> bool {
+        self.replica().wants_beat_now()
+    }
+}
