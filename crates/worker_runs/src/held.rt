@@ -1,33 +1,30 @@
 //! A gate that holds the first frame.
 
+use crate::meeting::Meeting;
 use std::sync::atomic::AtomicBool;
 use std::sync::atomic::Ordering::SeqCst;
-use std::thread::yield_now;
 use turns::Gate;
 
-/// How often a wait yields, at most: for some seconds, since a machine may be busy with other things.
-pub(crate) const MOST_YIELDS: u32 = 10_000_000;
-
-/// Holds frame 1 until frame 2 was stepped, and notes whether frame 3 was entered.
+/// Holds frame 1 until frame 2 was stepped, if it is to, and notes whether frame 3 was entered.
 #[derive(Drop)]
 pub(crate) struct Held {
-    stepped: AtomicBool,
-    met: AtomicBool,
+    holds: bool,
+    meeting: Meeting,
     third: AtomicBool,
 }
 
 impl Held {
-    pub(crate) fn new() -> Held {
+    pub(crate) fn new(holds: bool) -> Held {
         Held {
-            stepped: AtomicBool::new(false),
-            met: AtomicBool::new(false),
+            holds,
+            meeting: Meeting::new(),
             third: AtomicBool::new(false),
         }
     }
 
     /// Whether frame 1 waited until frame 2 was stepped.
     pub(crate) fn has_met(&self) -> bool {
-        self.met.load(SeqCst)
+        self.meeting.has_met()
     }
 
     /// Whether frame 3 was entered.
@@ -41,21 +38,14 @@ impl Gate for Held {
         if frame == 3 {
             self.third.store(true, SeqCst);
         }
-        if frame != 1 {
-            return;
-        }
-        for _ in 0..MOST_YIELDS {
-            if self.stepped.load(SeqCst) {
-                self.met.store(true, SeqCst);
-                return;
-            }
-            yield_now();
+        if frame == 1 && self.holds {
+            self.meeting.wait();
         }
     }
 
     fn stepped(&self, frame: u64) {
         if frame == 2 {
-            self.stepped.store(true, SeqCst);
+            self.meeting.come();
         }
     }
 }

@@ -104,8 +104,9 @@ fn stop_all<R: Wait>(rt: &R, links: &Links) {
     }
 }
 
-/// Works at a station, with a keyring of its own, until it is told to stop. The share comes back.
-fn man<R: Wait, G: Gate>(
+/// Works at a station with this share and a keyring of its own, until it is told to stop. The share
+/// comes back.
+fn work<R: Wait, G: Gate>(
     rt: &R,
     stage: &Stage<'_, G>,
     station: &Station<'_>,
@@ -137,35 +138,35 @@ fn man<R: Wait, G: Gate>(
     post.work(rt, &mut fake, share)
 }
 
-/// A thread for each share while the frames are handed in, two for each station. The shares come
-/// back in the same order.
+/// Works at a station with one of its shares, which is put back at the end.
+fn man<R: Wait, G: Gate>(rt: &R, stage: &Stage<'_, G>, station: &Station<'_>) {
+    let share = station.shares.lock(rt).pop();
+    if let Some(share) = share {
+        let share = work(rt, stage, station, share);
+        let _is_back = station.shares.lock(rt).push(share);
+    }
+}
+
+/// Two threads for each station while the frames are handed in. All have ended when it returns.
 fn work_all<R: Threads + Wait + Clock + Sync, G: Gate + Sync>(
     rt: &R,
     stage: &Stage<'_, G>,
     stations: &[Station<'_>],
-    shares: Vec<Share>,
     handed: Vec<(ReplicaId, Bytes)>,
     until: Until,
     onlooker: &mut Onlooker<'_>,
-) -> Result<Vec<Share>, Fault> {
-    let mut handles = Vec::with_capacity(stage.alloc, shares.len())?;
+) -> Result<(), Fault> {
     thread::scope(thread::scope_env(), rt, |scope| {
-        for (i, share) in shares.into_iter().enumerate() {
-            let Some(station) = stations.get(i / 2) else {
-                break;
-            };
-            let Ok(handle) = scope.spawn(move || man(rt, stage, station, share)) else {
+        for station in stations {
+            let one = scope.spawn(move || man(rt, stage, station));
+            let two = scope.spawn(move || man(rt, stage, station));
+            if one.is_err() || two.is_err() {
                 stop_all(rt, stage.links);
                 return Err(Fault::Memory);
-            };
-            handles.push(handle)?;
+            }
         }
         drive(rt, stage, handed, until, onlooker);
-        let mut shares = Vec::new(stage.alloc);
-        for handle in handles {
-            shares.push(handle.join(rt))?;
-        }
-        Ok(shares)
+        Ok(())
     })
 }
 
@@ -174,14 +175,15 @@ fn read_of<T: Drop>(_value: T, read: usize) -> usize {
     read
 }
 
-/// How many steps a replica made, where its shares have come back.
-fn close(station: Station<'_>, shares: Vec<Share>) -> Result<usize, Fault> {
+/// How many steps a replica made, where both its shares have come back.
+fn close(station: Station<'_>) -> Result<usize, Fault> {
     let Station {
         number: _,
         locked,
         room: _,
+        shares,
     } = station;
-    let closed = locked.into_inner().close(shares);
+    let closed = locked.into_inner().close(shares.into_inner());
     let steps = closed.map(|closed| {
         let steps = closed.replica.steps();
         read_of(closed, steps)
@@ -189,20 +191,12 @@ fn close(station: Station<'_>, shares: Vec<Share>) -> Result<usize, Fault> {
     steps.ok().ok_or(Fault::NotAll)
 }
 
-/// How many steps all replicas made. The shares come two for each station in turn.
-fn close_all(
-    alloc: Global,
-    stations: Vec<Station<'_>>,
-    shares: Vec<Share>,
-) -> Result<usize, Fault> {
+/// How many steps all replicas made, where their workers could be had.
+fn close_all(stations: Vec<Station<'_>>, worked: Result<(), Fault>) -> Result<usize, Fault> {
+    let (stations, ()) = beside(stations, worked)?;
     let mut steps = 0usize;
-    let mut rest = shares.into_iter();
     for station in stations {
-        let mut own = Vec::new(alloc);
-        for share in rest.by_ref().take(2) {
-            own.push(share)?;
-        }
-        steps = steps.wrapping_add(close(station, own)?);
+        steps = steps.wrapping_add(close(station)?);
     }
     Ok(steps)
 }
@@ -266,14 +260,11 @@ fn look_on<R: Threads + Wait + Clock + Sync, G: Gate + Sync>(
     stage: &Stage<'_, G>,
     mut onlooker: Onlooker<'_>,
     stations: Vec<Station<'_>>,
-    shares: Vec<Share>,
     handed: Vec<(ReplicaId, Bytes)>,
     until: Until,
 ) -> Result<(usize, String), Fault> {
-    let row = stations.as_slice();
-    let shares = work_all(rt, stage, row, shares, handed, until, &mut onlooker);
-    let (stations, shares) = beside(stations, shares)?;
-    let steps = close_all(stage.alloc, stations, shares)?;
+    let worked = work_all(rt, stage, stations.as_slice(), handed, until, &mut onlooker);
+    let steps = close_all(stations, worked)?;
     let executed = seen_anew(stage.alloc, &mut onlooker)?;
     Ok((steps, executed))
 }
@@ -291,8 +282,8 @@ fn run_at<R: Threads + Wait + Clock + Sync, G: Gate + Sync>(
         return Err(Fault::NotAll);
     };
     let onlooker = Onlooker::new(stage.config, &marks, eye);
-    let (stations, shares) = stations(stage.alloc, stage.config, &marks, eyes, replicas)?;
-    look_on(rt, stage, onlooker, stations, shares, handed, until)
+    let stations = stations(stage.alloc, stage.config, &marks, eyes, replicas)?;
+    look_on(rt, stage, onlooker, stations, handed, until)
 }
 
 /// Two workers for each wanted replica take the frames that are handed in, until the run is over.

@@ -1,13 +1,12 @@
 //! What came to the stand-ins for replicas.
 
-use crate::held::MOST_YIELDS;
+use crate::meeting::Meeting;
 use ids::{Fault, ReplicaId};
 use replica::{Input, Out, Sending};
 use std::alloc::Global;
+use std::sync::atomic::AtomicU64;
 use std::sync::atomic::Ordering::SeqCst;
-use std::sync::atomic::{AtomicBool, AtomicU64};
 use std::sync::{Mutex, Wait};
-use std::thread::yield_now;
 
 /// The question that is answered with more frames.
 const ANSWERED: usize = 500;
@@ -24,8 +23,7 @@ pub(crate) struct Seen {
     voted: Vec<AtomicU64>,
     /// Whether the call for question 1 waits for that for question 2.
     waits: bool,
-    began: AtomicBool,
-    met: AtomicBool,
+    meeting: Meeting,
     /// What one question is answered with.
     answers: Mutex<Option<Vec<Sending>>>,
 }
@@ -46,35 +44,31 @@ fn count(counters: &[AtomicU64], place: usize) {
     }
 }
 
-/// The counts, one after the other.
+/// The counts, one after the other, with a blank before each.
 fn listed(alloc: Global, counters: &[AtomicU64]) -> Result<String, Fault> {
     let mut text = String::new(alloc);
     for counter in counters {
-        if !text.is_empty() {
-            text.push(' ')?;
-        }
-        text.push_str(format!(in alloc; "{}", counter.load(SeqCst))?.as_str())?;
+        let count = counter.load(SeqCst);
+        write!(text, " {count}")?;
     }
     Ok(text)
 }
 
 impl Seen {
-    pub(crate) fn new(alloc: Global, waits: bool) -> Result<Seen, Fault> {
+    /// One question is answered with these frames.
+    pub(crate) fn new(alloc: Global, waits: bool, answers: Vec<Sending>) -> Result<Seen, Fault> {
+        let questions = counters(alloc, 1000)?;
+        let announced = counters(alloc, 4)?;
+        let voted = counters(alloc, 4)?;
         Ok(Seen {
             inputs: AtomicU64::new(0),
-            questions: counters(alloc, 1000)?,
-            announced: counters(alloc, 4)?,
-            voted: counters(alloc, 4)?,
+            questions,
+            announced,
+            voted,
             waits,
-            began: AtomicBool::new(false),
-            met: AtomicBool::new(false),
-            answers: Mutex::new(None),
+            meeting: Meeting::new(),
+            answers: Mutex::new(Some(answers)),
         })
-    }
-
-    /// From now on one question is answered with these.
-    pub(crate) fn answer_with<R: Wait>(&self, rt: &R, answers: Vec<Sending>) {
-        *self.answers.lock(rt) = Some(answers);
     }
 
     /// The number of a question: the first bytes of the digest that it asks for.
@@ -100,18 +94,10 @@ impl Seen {
 
     /// Waits in the call for question 1 until that for question 2 began.
     pub(crate) fn meet(&self, question: Option<usize>) {
-        if question == Some(2) {
-            self.began.store(true, SeqCst);
-        }
-        if question != Some(1) || !self.waits {
-            return;
-        }
-        for _ in 0..MOST_YIELDS {
-            if self.began.load(SeqCst) {
-                self.met.store(true, SeqCst);
-                return;
-            }
-            yield_now();
+        match question {
+            Some(1) if self.waits => self.meeting.wait(),
+            Some(2) => self.meeting.come(),
+            _ => {}
         }
     }
 
@@ -138,7 +124,7 @@ impl Seen {
 
     /// Whether call 1 waited until call 2 began.
     pub(crate) fn has_met(&self) -> bool {
-        self.met.load(SeqCst)
+        self.meeting.has_met()
     }
 
     /// How many questions came once.

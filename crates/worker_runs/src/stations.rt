@@ -22,6 +22,8 @@ pub(crate) struct Station<'a> {
     pub(crate) locked: Locked<'a>,
     /// Where the frames of its link wait.
     pub(crate) room: WaitingRoom,
+    /// The shares of its two workers, while they don't work.
+    pub(crate) shares: Mutex<Vec<Share>>,
 }
 
 /// A replica that has made no step.
@@ -40,11 +42,13 @@ fn new_kept<'a>(
     Ok(Kept::new(alloc, replica, eye, marks))
 }
 
-/// One more share for each of two workers.
-fn share_out(kept: &mut Kept<'_>, shares: &mut Vec<Share>) -> Result<(), Fault> {
-    shares.push(kept.share()?)?;
-    shares.push(kept.share()?)?;
-    Ok(())
+/// A share for each of two workers.
+fn two_shares(alloc: Global, kept: &mut Kept<'_>) -> Result<Vec<Share>, Fault> {
+    let mut shares = Vec::with_capacity(alloc, 2)?;
+    for _ in 0..2 {
+        shares.push(kept.share()?)?;
+    }
+    Ok(shares)
 }
 
 /// A value with what a call gave; where the call was refused, the value is dropped.
@@ -55,48 +59,46 @@ pub(crate) fn beside<T: Drop, U>(value: T, given: Result<U, Fault>) -> Result<(T
     }
 }
 
-/// The station of a replica that has made no step. The shares of its two workers come last.
+/// The station of a replica that has made no step.
 fn make_station<'a>(
     alloc: Global,
     config: Config,
     number: ReplicaId,
     eye: Eye,
     marks: &'a Marks,
-    shares: &mut Vec<Share>,
 ) -> Result<Station<'a>, Fault>
     requires eye { eye ≡ first_eye marks.now number }
     requires number { (number < replicas config) × (number < marks.now.words) }
 {
     let mut kept = new_kept(alloc, config, number, eye, marks)?;
-    let shared = share_out(&mut kept, shares);
-    let (kept, ()) = beside(kept, shared)?;
+    let shares = two_shares(alloc, &mut kept);
+    let (kept, shares) = beside(kept, shares)?;
     Ok(Station {
         number,
         locked: Mutex::new(kept),
         room: WaitingRoom::new(alloc),
+        shares: Mutex::new(shares),
     })
 }
 
-/// Those of all replicas that are wanted, by number, and two shares for each, in the same order.
+/// The stations of those replicas that are wanted, by number.
 pub(crate) fn stations<'a>(
     alloc: Global,
     config: Config,
     marks: &'a Marks,
     owners: Vec<Eye>,
     wanted: Range<u8>,
-) -> Result<(Vec<Station<'a>>, Vec<Share>), Fault>
+) -> Result<Vec<Station<'a>>, Fault>
     requires words { marks.now.words ≡ replicas config }
     requires owners { owners.items ≡ map (first_eye marks.now) (range_with_len 0 marks.now.words) }
 {
     let mut stations = Vec::new(alloc);
-    let mut shares = Vec::new(alloc);
     let _replicas = config.n();
     for (i, eye) in owners.into_iter().enumerate() {
         let number = i as u8;
         if wanted.contains(&number) {
-            let replica = ReplicaId(number);
-            stations.push(make_station(alloc, config, replica, eye, marks, &mut shares)?)?;
+            stations.push(make_station(alloc, config, ReplicaId(number), eye, marks)?)?;
         }
     }
-    Ok((stations, shares))
+    Ok(stations)
 }
