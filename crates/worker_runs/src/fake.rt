@@ -4,27 +4,25 @@ ghost use Rattle.std.specs.Prelude.{⊤};
 
 use crate::seen::Seen;
 use ids::{Fault, ReplicaId};
-use locked_replica::{Locked, Share};
 use replica::{Input, Out};
 use std::sync::Wait;
-use turns::Steps;
+use turns::{Share, Steps};
 
-/// Steps a locked replica, and notes what comes.
+/// Notes what comes, and lets `below` make the steps.
 #[derive(Drop)]
-pub(crate) struct Fake<'l, 'a> {
+pub(crate) struct Fake<'l, S> {
     pub(crate) number: ReplicaId,
-    pub(crate) locked: &'l Locked<'a>,
+    pub(crate) below: S,
     pub(crate) seen: &'l Seen,
 }
 
-impl<'l, 'a> Steps for Fake<'l, 'a> {
+impl<'l, S: Steps> Steps for Fake<'l, S> {
     ghost moved = { λ _ _ _ _ _ _. ⊤ };
 
     fn step<R: Wait>(&mut self, rt: &R, share: &mut Share, input: Input<'_>) -> Result<Out, Fault> {
         let question = self.seen.note(self.number, &input);
         self.seen.meet(question);
-        let mut locked = self.locked;
-        let answer = Steps::step(&mut locked, rt, share, input);
+        let answer = self.below.step(rt, share, input);
         self.seen.done();
         match answer {
             Ok(out) => Ok(self.seen.out_of(rt, question, out)),
@@ -33,7 +31,6 @@ impl<'l, 'a> Steps for Fake<'l, 'a> {
     }
 
     fn beat_now<R: Wait>(&mut self, rt: &R, share: &mut Share) -> Option<Result<Out, Fault>> {
-        let mut locked = self.locked;
-        Steps::beat_now(&mut locked, rt, share)
+        self.below.beat_now(rt, share)
     }
 }

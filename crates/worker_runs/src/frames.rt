@@ -6,7 +6,7 @@ ghost use Rattle.ids.specs.Sizes.{replicas};
 use anyhow::{Result, bail};
 use bytes::Bytes;
 use frames_view::{Payload, ReplyText, genesis_digest};
-use ids::{ClientId, Config, Digest, Kind, PartyId, Place, ReplicaId, Seq, View};
+use ids::{ClientId, Config, Digest, Fault, Kind, PartyId, Place, ReplicaId, Seq, View};
 use replica::{Sending, To};
 use signed_frames::{
     fetch_frame, new_view_frame, proposal_frame, reply_frame, request_frame, vote_frame,
@@ -69,28 +69,29 @@ pub(crate) fn set(alloc: Global, config: Config) -> Result<Bytes> {
     Ok(Bytes::from_vec(frame)?)
 }
 
+/// Adds a frame that goes out.
+fn add(
+    sendings: &mut Vec<Sending>,
+    to: To,
+    kind: Kind,
+    frame: Result<Vec<u8>, Fault>,
+) -> Result<(), Fault> {
+    let frame = frame?;
+    Ok(sendings.push(Sending { to, kind, frame })?)
+}
+
 /// What replica 1 sends at once: its view to all, a vote for genesis to replica 2, and a reply to client 0.
 pub(crate) fn answers(alloc: Global, config: Config) -> Result<Vec<Sending>> {
     let keyring = keyring_of(alloc, config, PartyId(1))?;
     let Some(text) = ReplyText::new(b"STORED\r\n") else {
         bail!("no text of a reply");
     };
-    let certificate = genesis_certificate();
     let mut answers = Vec::new(alloc);
-    answers.push(Sending {
-        to: To::All,
-        kind: Kind::NewView,
-        frame: new_view_frame(alloc, &keyring, View(1), &certificate)?,
-    })?;
-    answers.push(Sending {
-        to: To::Replica(ReplicaId(2)),
-        kind: Kind::Vote,
-        frame: vote_frame(alloc, &keyring, &genesis_digest())?,
-    })?;
-    answers.push(Sending {
-        to: To::Client(ClientId(0)),
-        kind: Kind::Reply,
-        frame: reply_frame(alloc, &keyring, ClientId(0), Seq(1), Place(1), &text)?,
-    })?;
+    let announcement = new_view_frame(alloc, &keyring, View(1), &genesis_certificate());
+    add(&mut answers, To::All, Kind::NewView, announcement)?;
+    let vote = vote_frame(alloc, &keyring, &genesis_digest());
+    add(&mut answers, To::Replica(ReplicaId(2)), Kind::Vote, vote)?;
+    let reply = reply_frame(alloc, &keyring, ClientId(0), Seq(1), Place(1), &text);
+    add(&mut answers, To::Client(ClientId(0)), Kind::Reply, reply)?;
     Ok(answers)
 }

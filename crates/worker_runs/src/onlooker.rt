@@ -5,7 +5,6 @@ ghost use Rattle.ids.specs.Sizes.{replicas};
 
 use ids::{Config, Fault, ReplicaId};
 use marks::{Eye, Marks};
-use std::alloc::Global;
 
 /// An eye with the marks that it came from.
 #[derive(Drop)]
@@ -44,22 +43,13 @@ impl<'m> Onlooker<'m> {
         }
     }
 
-    /// Whether each replica has executed something.
-    pub(crate) fn has_seen_all(&mut self) -> bool {
-        let mut all = true;
-        for replica in 0..self.config.n() {
-            all = all && self.executed(replica) > 0;
-        }
-        all
-    }
-
-    /// How far each replica has executed, one after the other.
-    pub(crate) fn listed(&mut self, alloc: Global) -> Result<String, Fault> {
-        let mut text = String::new(alloc);
-        for replica in 0..self.config.n() {
-            let executed = self.executed(replica);
-            write!(text, " {executed}")?;
-        }
-        Ok(text)
+    /// How far each replica has executed, by number.
+    pub(crate) fn seen(&mut self) -> [u64; 4] {
+        [
+            self.executed(0),
+            self.executed(1),
+            self.executed(2),
+            self.executed(3),
+        ]
     }
 }

@@ -3,7 +3,7 @@
 use crate::fake::Fake;
 use crate::onlooker::Onlooker;
 use crate::seen::Seen;
-use crate::stations::{Station, beside, stations};
+use crate::stations::{Station, stations};
 use bytes::Bytes;
 use crossbeam_channel::Receiver;
 use fabric::{Ends, Links, Parcel, Post};
@@ -29,7 +29,7 @@ pub(crate) struct Told {
     /// How many frames came to client 0, and to no other.
     pub(crate) replies: usize,
     /// How far a new eye sees that each replica has executed.
-    pub(crate) executed: String,
+    pub(crate) executed: [u64; 4],
 }
 
 /// When a run ends.
@@ -72,7 +72,7 @@ fn is_over<R: Wait, G>(
             if k % 50 == 49 {
                 let _told = stage.links.beat(rt, ReplicaId(0));
             }
-            onlooker.has_seen_all()
+            !onlooker.seen().contains(&0)
         }
     }
 }
@@ -124,7 +124,7 @@ fn work<R: Wait, G: Gate>(
     };
     let mut fake = Fake {
         number,
-        locked: &station.locked,
+        below: &station.locked,
         seen: stage.seen,
     };
     let post = Post::new(
@@ -191,14 +191,18 @@ fn close(station: Station<'_>) -> Result<usize, Fault> {
     steps.ok().ok_or(Fault::NotAll)
 }
 
+/// Both together, where neither was refused.
+fn sum_of(one: Result<usize, Fault>, other: Result<usize, Fault>) -> Result<usize, Fault> {
+    Ok(one?.wrapping_add(other?))
+}
+
 /// How many steps all replicas made, where their workers could be had.
 fn close_all(stations: Vec<Station<'_>>, worked: Result<(), Fault>) -> Result<usize, Fault> {
-    let (stations, ()) = beside(stations, worked)?;
-    let mut steps = 0usize;
+    let mut steps = worked.map(|()| 0);
     for station in stations {
-        steps = steps.wrapping_add(close(station)?);
+        steps = sum_of(steps, close(station));
     }
-    Ok(steps)
+    steps
 }
 
 /// How many frames are left at a replica's link.
@@ -227,7 +231,7 @@ fn came_to<R: Wait>(rt: &R, end: &Receiver<Bytes>) -> usize {
 }
 
 /// What is left in the links, after so many steps.
-fn look<R: Wait>(rt: &R, ends: &Ends, steps: usize, executed: String) -> Told {
+fn look<R: Wait>(rt: &R, ends: &Ends, steps: usize, executed: [u64; 4]) -> Told {
     let mut told = Told {
         steps,
         left: 0,
@@ -248,11 +252,6 @@ fn look<R: Wait>(rt: &R, ends: &Ends, steps: usize, executed: String) -> Told {
     told
 }
 
-/// How far a new eye of the onlooker's marks sees that each replica has executed.
-fn seen_anew(alloc: Global, onlooker: &mut Onlooker<'_>) -> Result<String, Fault> {
-    onlooker.another()?.listed(alloc)
-}
-
 /// How many steps the stations' replicas made until the run was over, and how far a new eye sees
 /// that each has executed.
 fn look_on<R: Threads + Wait + Clock + Sync, G: Gate + Sync>(
@@ -262,11 +261,11 @@ fn look_on<R: Threads + Wait + Clock + Sync, G: Gate + Sync>(
     stations: Vec<Station<'_>>,
     handed: Vec<(ReplicaId, Bytes)>,
     until: Until,
-) -> Result<(usize, String), Fault> {
+) -> Result<(usize, [u64; 4]), Fault> {
     let worked = work_all(rt, stage, stations.as_slice(), handed, until, &mut onlooker);
     let steps = close_all(stations, worked)?;
-    let executed = seen_anew(stage.alloc, &mut onlooker)?;
-    Ok((steps, executed))
+    let mut another = onlooker.another()?;
+    Ok((steps, another.seen()))
 }
 
 /// What `look_on` tells of new replicas.
@@ -276,7 +275,7 @@ fn run_at<R: Threads + Wait + Clock + Sync, G: Gate + Sync>(
     replicas: Range<u8>,
     handed: Vec<(ReplicaId, Bytes)>,
     until: Until,
-) -> Result<(usize, String), Fault> {
+) -> Result<(usize, [u64; 4]), Fault> {
     let (marks, mut eyes) = Marks::new(stage.alloc, stage.config.n())?;
     let Some(eye) = eyes.pop() else {
         return Err(Fault::NotAll);

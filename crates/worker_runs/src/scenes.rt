@@ -165,5 +165,6 @@ fn tell_each(alloc: Global, seen: &Seen, told: &Told) -> Result<String> {
 
 /// What came of a request for all replicas.
 fn tell_executed(alloc: Global, told: &Told) -> Result<String> {
-    Ok(format!(in alloc; "one set: a new eye reads{}", told.executed)?)
+    let [first, second, third, fourth] = told.executed;
+    Ok(format!(in alloc; "one set: a new eye reads {first} {second} {third} {fourth}")?)
 }

@@ -52,7 +52,7 @@ fn two_shares(alloc: Global, kept: &mut Kept<'_>) -> Result<Vec<Share>, Fault> {
 }
 
 /// A value with what a call gave; where the call was refused, the value is dropped.
-pub(crate) fn beside<T: Drop, U>(value: T, given: Result<U, Fault>) -> Result<(T, U), Fault> {
+fn beside<T: Drop, U>(value: T, given: Result<U, Fault>) -> Result<(T, U), Fault> {
     match given {
         Ok(given) => Ok((value, given)),
         Err(fault) => Err(fault),
