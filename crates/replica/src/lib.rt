@@ -6,6 +6,7 @@ mod beat;
 mod blocks;
 mod branch;
 mod change;
+mod chronicle;
 mod execution;
 mod fetch;
 mod offer;
@@ -18,5 +19,6 @@ mod stored;
 mod vote;
 
 pub use admission::Input;
+pub use chronicle::{ChronicleView, CountedVotes, StepView};
 pub use replica::Replica;
 pub use signed_frames::{Out, Sending, To};

@@ -23,6 +23,7 @@ use crate::announce::{decide_new_view, decide_timeout};
 use crate::beat::{decide_beat, leads};
 use crate::blocks::decide_block;
 use crate::change::Change;
+use crate::chronicle::ChronicleView;
 use crate::execution::execute;
 use crate::fetch::decide_fetch;
 use crate::offer::Offer;
@@ -228,11 +229,20 @@ impl Replica {
         self.state.count()
     }
 
-    /// Says that the chronicle is kept as an audit wants it, and does nothing else.
+    /// Says that it is one of the replicas of its sizes, and that its chronicle is kept as an audit
+    /// wants it, and does nothing else.
     pub fn holds(&self)
-        ensures { IsLawfullyKept self.now.keys.sizes self.now.replica.chronicle }
+        ensures number { self.now.keys.party < replicas self.now.keys.sizes }
+        ensures kept { IsLawfullyKept self.now.keys.sizes self.now.replica.chronicle }
     {
         let _steps = self.state.count();
+    }
+
+    /// The steps that stand.
+    pub fn chronicle(&self) -> ChronicleView<'_>
+        ensures { result ≡ self.now.replica.chronicle }
+    {
+        self.state.chronicle()
     }
 
     /// What it executed, oldest first.

@@ -2,10 +2,12 @@
 
 ghost use Rattle.std.specs.Prelude.{◌≡◌, length, IfOk, OnOk, OnErr};
 ghost use Rattle.std.specs.Option.{unwrap_or};
+ghost use Rattle.definitions.specs.Chronicles.{stored_blocks};
 ghost use Rattle.definitions.specs.Trees.{Stored};
 ghost use Rattle.replica.specs.Changes.{changed, grown, collected, pended, left_above, MayGrow, Fits};
 
 use crate::change::{Change, Growth};
+use crate::chronicle::ChronicleView;
 use crate::stored::StoredStep;
 use block_tree::Tree;
 use frames_view::CertificateBuf;
@@ -131,6 +133,14 @@ impl State {
         ensures { result ≡ length self.now.variables.chronicle }
     {
         self.steps.as_slice().len()
+    }
+
+    /// The steps that stand, where each block of the tree was taken by one of them.
+    pub(crate) fn chronicle(&self) -> ChronicleView<'_>
+        requires { stored_blocks self.now.variables.chronicle ≡ self.now.variables.stored }
+        ensures { result ≡ self.now.variables.chronicle }
+    {
+        ChronicleView::new(&self.tree, &self.steps)
     }
 
     /// Makes a change. Its memory is taken first: where that is refused, nothing changed.
