@@ -1,0 +1,10 @@
+pub mod Lists
+pub mod Numbers
+pub mod Agreeing
+pub mod ByNumber
+pub mod Oldest
+pub mod Moves
+pub mod Missing
+pub mod CoreParts
+pub mod Colliding
+pub mod Held

@@ -1,0 +1,4 @@
+pub mod Judged
+pub mod Verdicts
+pub mod Fronts
+pub mod Cores

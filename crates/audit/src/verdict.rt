@@ -1,0 +1,35 @@
+//! What an audit answers.
+
+use ids::{Digest, ReplicaId};
+
+/// Where a core stands: it is that of genesis, or of the block that a replica admitted in a step, counted
+/// from 0, the oldest.
+#[derive(Clone, Copy, Debug)]
+pub enum CorePlace {
+    Genesis,
+    Step { replica: ReplicaId, step: usize },
+}
+
+/// Why histories fork.
+#[derive(Clone, Copy, Debug)]
+pub enum Reason {
+    /// The first step of the receiver behind its front counts the voter's vote for the block of this
+    /// digest, and within its own front the voter gave none.
+    Vote {
+        receiver: ReplicaId,
+        voter: ReplicaId,
+        digest: Digest,
+    },
+    /// Two unequal cores have one digest.
+    Collision {
+        first: CorePlace,
+        second: CorePlace,
+    },
+}
+
+/// Whether the histories agree, and why where they don't.
+#[derive(Clone, Copy, Debug)]
+pub enum Verdict {
+    Agree,
+    Fork(Reason),
+}
