@@ -26,6 +26,17 @@ class Answer:
     text: bytes
 
 
+@dataclass(frozen=True)
+class Step:
+    """What stands of an input; of a block as it came: its core, the digest of what it justifies, the voters
+    that were counted for that, whether the block was new, and whether it was voted for."""
+    core: Core = None
+    justified: bytes = b""
+    counted: tuple = ()
+    new: bool = False
+    voted: bool = False
+
+
 class Executor:
     """The history, and each client's last answer. A command is fresh where its number exceeds its client's
     earlier ones in the history; only fresh ones are applied and answered."""
@@ -89,7 +100,9 @@ class Replica:
         self.pending = {}           # (client, seq) -> command, in order of arrival
         self.votes = {}             # digest -> {voter: vote}
         self.executor = Executor()
+        self.chronicle = []         # the steps that stand
         self.stopped = False
+        self.came = None            # what the step under way brings
 
     @property
     def history(self):
@@ -117,24 +130,30 @@ class Replica:
     def _step(self, step, *given):
         if self.stopped:
             raise Refusal(Fault.STOPPED)
+        self.came = Step()
         try:
-            return step(*given)
+            out = step(*given)
         except Refusal as refusal:
             self.stopped = refusal.fault in (Fault.FULL, Fault.CONFLICT)
             raise
+        self.chronicle.append(self.came)
+        return out
 
     def _on_proposal(self, checked):
         sender = checked.frame.view % self.config.n
         block, new = self._place(checked, sender)
         decided = self._decided_by(block) if new else None
         out = []
-        if checked.frame.view == self.pacemaker.view and self._may_vote(block):
+        voted = checked.frame.view == self.pacemaker.view and self._may_vote(block)
+        if voted:
             self.voted_height = block.height
             out.append((sender, self._vote(block.digest)))
+        self.came = self._step_with(checked, new, voted)
         return out + (self._take(block, decided) if new else [])
 
     def _on_block(self, checked):
         block, new = self._place(checked, checked.frame.sender)
+        self.came = self._step_with(checked, new, False)
         return self._take(block, self._decided_by(block)) if new else []
 
     def _on_vote(self, checked):
@@ -187,6 +206,9 @@ class Replica:
         return [(ALL, self._proposal(*self.own_proposal))]
 
     # ---- rules
+
+    def _step_with(self, checked, new, voted):
+        return Step(checked.frame.core, checked.frame.cert.digest, checked.counted, new, voted)
 
     def _unknown(self, sender, digest):
         return Refusal(Fault.UNKNOWN_PARENT, None if sender == self.me else (sender, digest))
