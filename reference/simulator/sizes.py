@@ -28,6 +28,7 @@ class Fault(IntEnum):
     NO_SUCH_PARTY = 41
     NOT_A_REQUEST = 42
     TOO_MANY_FAULTY = 43
+    TOO_FEW = 44
 
 
 class Refusal(Exception):
