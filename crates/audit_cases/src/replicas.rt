@@ -1,0 +1,153 @@
+//! The replicas of a line.
+
+ghost use Rattle.std.specs.Prelude.{◌<◌, IsTrue};
+ghost use Rattle.ids.specs.Sizes.{replicas};
+ghost use Rattle.admission.specs.Inputs.{is_addressed};
+
+use admission::admit;
+use ids::{Config, Fault, PartyId, ReplicaId};
+use replica::{Input, Replica};
+use simulated_keys::keyring_of;
+use std::alloc::Global;
+
+/// The sizes that a line begins with.
+#[derive(Clone, Copy)]
+pub(crate) struct Sizes {
+    pub(crate) faults: u8,
+    pub(crate) clients: u8,
+}
+
+/// A number of a line.
+pub(crate) fn number(digits: &str) -> Result<u8, Fault> {
+    digits.parse().ok().ok_or(Fault::BadFields)
+}
+
+/// What is brought to a replica.
+#[derive(Drop)]
+enum Brought {
+    Beat,
+    Timeout,
+    Frame(Vec<u8>),
+}
+
+/// What the words of a replica bring.
+fn brought_by(alloc: Global, words: &str) -> Result<Vec<Brought>, Fault> {
+    let mut all = Vec::new(alloc);
+    for word in words.split(',') {
+        let brought = match word {
+            "" => continue,
+            "beat" => Brought::Beat,
+            "timeout" => Brought::Timeout,
+            _ => Brought::Frame(hex::decode(alloc, word).ok().ok_or(Fault::BadFields)?),
+        };
+        all.push(brought)?;
+    }
+    Ok(all)
+}
+
+/// Steps a replica. A refusal is passed over, but for one of memory.
+fn step(replica: &mut Replica, input: Input<'_>) -> Result<(), Fault>
+    requires { IsTrue (is_addressed replica.old.keys input) }
+{
+    match replica.step(input) {
+        Err(Fault::Memory) => Err(Fault::Memory),
+        _ => Ok(()),
+    }
+}
+
+/// Brings the bytes of a frame, checked with the keys of the replica.
+fn receive(alloc: Global, replica: &mut Replica, bytes: &[u8]) -> Result<(), Fault> {
+    let (config, own) = (replica.config(), replica.number());
+    if own.0 >= config.n() {
+        return Err(Fault::NoSuchParty);
+    }
+    let ring = keyring_of(alloc, config, PartyId::from(own))?;
+    match admit(&ring, &config, bytes) {
+        Ok(input) => step(replica, input),
+        Err(_) => Ok(()),
+    }
+}
+
+/// Brings all that is brought to a replica.
+fn bring(alloc: Global, replica: &mut Replica, all: &[Brought]) -> Result<(), Fault> {
+    for brought in all {
+        match brought {
+            Brought::Beat => step(replica, Input::Beat)?,
+            Brought::Timeout => step(replica, Input::Timeout)?,
+            Brought::Frame(bytes) => receive(alloc, replica, bytes)?,
+        }
+    }
+    Ok(())
+}
+
+/// A replica that has made no step.
+fn first(alloc: Global, config: Config, own: ReplicaId) -> Result<Replica, Fault>
+    requires { own < replicas config }
+{
+    let ring = keyring_of(alloc, config, PartyId::from(own))?;
+    Replica::new(alloc, config, own, ring)
+}
+
+/// The replica of a field, before its inputs come.
+fn named(alloc: Global, sizes: Sizes, name: &str) -> Result<Replica, Fault> {
+    let (own, clients) = match name.split_once('@') {
+        Some((own, clients)) => (own, number(clients)?),
+        None => (name, sizes.clients),
+    };
+    let config = Config::new(sizes.faults, clients)?;
+    let own = number(own)?;
+    if own >= config.n() {
+        return Err(Fault::NoSuchParty);
+    }
+    first(alloc, config, ReplicaId(own))
+}
+
+/// A value with what a call gave; where the call was refused, the value is dropped.
+fn beside<T: Drop>(value: T, given: Result<(), Fault>) -> Result<T, Fault> {
+    match given {
+        Ok(()) => Ok(value),
+        Err(fault) => Err(fault),
+    }
+}
+
+/// The replica of a field.
+fn replica_of(alloc: Global, sizes: Sizes, field: &str) -> Result<Replica, Fault> {
+    let (name, words) = field.split_once(',').unwrap_or((field, ""));
+    let all = brought_by(alloc, words)?;
+    let mut replica = named(alloc, sizes, name)?;
+    let brought = bring(alloc, &mut replica, &all);
+    beside(replica, brought)
+}
+
+/// Appends the replicas of fields.
+fn push_all(
+    alloc: Global,
+    sizes: Sizes,
+    fields: &str,
+    replicas: &mut Vec<Replica>,
+) -> Result<(), Fault> {
+    for field in fields.split_whitespace() {
+        replicas.push(replica_of(alloc, sizes, field)?)?;
+    }
+    Ok(())
+}
+
+/// The replicas of fields.
+pub(crate) fn replicas_of(
+    alloc: Global,
+    sizes: Sizes,
+    fields: &str,
+) -> Result<Vec<Replica>, Fault> {
+    let mut replicas = Vec::new(alloc);
+    let pushed = push_all(alloc, sizes, fields, &mut replicas);
+    beside(replicas, pushed)
+}
+
+/// References to replicas.
+pub(crate) fn lent<'a>(alloc: Global, replicas: &'a [Replica]) -> Result<Vec<&'a Replica>, Fault> {
+    let mut lent = Vec::new(alloc);
+    for replica in replicas {
+        lent.push(replica)?;
+    }
+    Ok(lent)
+}

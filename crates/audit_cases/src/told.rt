@@ -1,0 +1,57 @@
+//! What an audit answers, in words.
+
+use crate::reasons::reason_of;
+use audit::{CorePlace, Reason, Verdict, check_reason, judge};
+use ids::Fault;
+use replica::Replica;
+
+fn tell_place(place: &CorePlace, text: &mut String) -> Result<(), Fault> {
+    match place {
+        CorePlace::Genesis => text.push_str(" genesis")?,
+        CorePlace::Step { replica, step } => write!(text, " {}/{step}", replica.0)?,
+    }
+    Ok(())
+}
+
+fn tell_reason(reason: &Reason, text: &mut String) -> Result<(), Fault> {
+    match reason {
+        Reason::Vote {
+            receiver,
+            voter,
+            digest,
+        } => write!(text, "fork vote {} {} {digest}", receiver.0, voter.0)?,
+        Reason::Collision { first, second } => {
+            text.push_str("fork collision")?;
+            tell_place(first, text)?;
+            tell_place(second, text)?;
+        }
+    }
+    Ok(())
+}
+
+/// Whether a reason holds.
+fn tell_check(replicas: &[&Replica], reason: &Reason, text: &mut String) -> Result<(), Fault> {
+    write!(text, " {}", check_reason(replicas, reason))?;
+    Ok(())
+}
+
+fn tell_verdict(replicas: &[&Replica], text: &mut String) -> Result<(), Fault> {
+    match judge(replicas) {
+        Ok(Verdict::Agree) => text.push_str("agree")?,
+        Ok(Verdict::Fork(reason)) => {
+            tell_reason(&reason, text)?;
+            tell_check(replicas, &reason, text)?;
+        }
+        Err(fault) => write!(text, "{}", fault.number())?,
+    }
+    Ok(())
+}
+
+/// Tells what the audit of replicas answers, and which of the reasons in question hold.
+pub(crate) fn tell_all(replicas: &[&Replica], asked: &str, text: &mut String) -> Result<(), Fault> {
+    tell_verdict(replicas, text)?;
+    for field in asked.split_whitespace() {
+        tell_check(replicas, &reason_of(field)?, text)?;
+    }
+    Ok(())
+}
