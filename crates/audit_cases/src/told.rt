@@ -47,11 +47,19 @@ fn tell_verdict(replicas: &[&Replica], text: &mut String) -> Result<(), Fault> {
     Ok(())
 }
 
+/// Tells whether the reason of a field holds.
+fn tell_asked(replicas: &[&Replica], field: &str, text: &mut String) -> Result<(), Fault> {
+    match reason_of(field) {
+        Ok(reason) => tell_check(replicas, &reason, text),
+        Err(fault) => Err(fault),
+    }
+}
+
 /// Tells what the audit of replicas answers, and which of the reasons in question hold.
 pub(crate) fn tell_all(replicas: &[&Replica], asked: &str, text: &mut String) -> Result<(), Fault> {
     tell_verdict(replicas, text)?;
     for field in asked.split_whitespace() {
-        tell_check(replicas, &reason_of(field)?, text)?;
+        tell_asked(replicas, field, text)?;
     }
     Ok(())
 }
