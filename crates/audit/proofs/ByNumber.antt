@@ -1,5 +1,6 @@
 -- Judged replicas by their numbers.
-use Rattle.std.proofs.Common.{ℕ, zero, suc, ◌≡◌, ◌<◌, length, get_or, arith, Bool, true, false, cond, List, [], ◌∷◌, refl, sym, ap, subst, ◌∙◌, inl, inr}
+use Rattle.std.proofs.Common.{ℕ, zero, suc, ◌≡◌, ◌<◌, length, get_or, arith, Bool, true, false, cond, List}
+use Rattle.std.proofs.Common.{[], ◌∷◌, refl, sym, ap, subst, ◌∙◌, inl, inr}
 use Rattle.std.proofs.Common.{Option, None, Some, find}
 use Rattle.std.specs.Prelude.{All, MatchOption, ◌==◌}
 use Rattle.std.specs.Borrow.{Bor}
@@ -27,7 +28,8 @@ found-step x rest n false e h = later (find (λ r. r.now.keys.party == n) rest) 
   where
     later : (o : Option (Bor Held)) → IsFound rest n o → IsFound (x ∷ rest) n o
     later None k = rw e k
-    later (Some r) k = (or_right (x.now.keys.party == n) (is_judged (judged rest) n) k.0, cond-false _ _ _ e ∙ k.1)
+    later (Some r) k =
+        (or_right (x.now.keys.party == n) (is_judged (judged rest) n) k.0, cond-false _ _ _ e ∙ k.1)
 
 pub found : (rs : List (Bor Held)) (n : ℕ) → IsFound rs n (find (λ r. r.now.keys.party == n) rs)
 unfolding is_judged

@@ -100,8 +100,9 @@ pub none-known : (rs : List (Bor Held)) (a : Core) → (Collide a genesis_core �
 none-known rs a g h b k c =
     elim (known-either rs b k) [
       | inl e ↦ g (subst (Collide a) e c)
-      | inr r ↦ all-among (λ (x : Bor Held). (d : Core) → Stores x.now.replica.chronicle d → Collide a d → ⊥) rs
-          h r.0 r.1 b r.2 c
+      | inr r ↦
+          all-among (λ (x : Bor Held). (d : Core) → Stores x.now.replica.chronicle d → Collide a d → ⊥)
+          rs h r.0 r.1 b r.2 c
     ]
 
 -- no two known cores collide

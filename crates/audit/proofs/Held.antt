@@ -36,9 +36,13 @@ below rs sizes same h i n =
 pub are-judged : (rs : List (Bor Held)) (e : AreEnough rs) → All (λ r. IsHeld r.now) rs
     → AreJudged e.sizes (judged rs)
 are-judged rs e h = record {
-  enough = (let n = length-map rs (λ (x : Bor Held). member_of x.now) in let q = e.enough in omega (arith, n, q));
+  enough = (
+      let n = length-map rs (λ (x : Bor Held). member_of x.now) in
+      let q = e.enough in omega (arith, n, q)
+      );
   distinct = e.distinct;
-  below = AllByRecursion-from (λ (i : ℕ). i < replicas e.sizes) (numbers (judged rs)) (below rs e.sizes e.same h);
+  below = AllByRecursion-from (λ (i : ℕ). i < replicas e.sizes) (numbers (judged rs))
+      (below rs e.sizes e.same h);
   kept = λ m n apart.
       let r = Among-map (λ (x : Bor Held). member_of x.now) rs m n in
       subst (λ (x : Member). IsLawfullyKept e.sizes x.replica.chronicle) (sym r.2)

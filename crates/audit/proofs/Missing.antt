@@ -1,5 +1,6 @@
 -- Votes that are missing at the fronts.
-use Rattle.std.proofs.Common.{ℕ, ◌≡◌, Bool, true, false, List, [], refl, sym, ap, subst, ◌∙◌, inl, inr, Option, None}
+use Rattle.std.proofs.Common.{ℕ, ◌≡◌, Bool, true, false, List, [], refl, sym, ap, subst, ◌∙◌, inl, inr}
+use Rattle.std.proofs.Common.{Option, None}
 use Rattle.std.proofs.Common.{Some, true≢false, not}
 use Rattle.std.specs.Prelude.{All, MatchOption}
 use Rattle.std.specs.Prelude.{◌==◌}

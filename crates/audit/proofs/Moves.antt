@@ -5,7 +5,8 @@ use Rattle.std.proofs.Common.{sym, ap, subst, ◌∙◌, arith, inl, inr, None, 
 use Rattle.std.specs.Prelude.{All}
 use Rattle.std.specs.Borrow.{Bor}
 use Rattle.std.proofs.lemmas.Bool.{cases_Bool, cases_lt, cases_eq}
-use Rattle.std.proofs.lemmas.List.{get_or-replicate, get_or-set_same, get_or-set_other, get_or_past, length-replicate}
+use Rattle.std.proofs.lemmas.List.{get_or-replicate, get_or-set_same, get_or-set_other, get_or_past}
+use Rattle.std.proofs.lemmas.List.{length-replicate}
 use Rattle.std.proofs.lemmas.List.{length-set}
 use Rattle.definitions.specs.Chronicles.{Chronicle}
 use Rattle.definitions.specs.Audit.{Judged, Cut, is_judged, chronicle_of, step_after, may_move, AreFronts}
@@ -59,7 +60,8 @@ start rs = record {
     ]
 
 -- one step more of u
-moved : (row : List ℕ) (u : ℕ) → u < length row → IsMoved u (cut_of row) (cut_of (set row u (get_or row u 0 + 1)))
+moved : (row : List ℕ) (u : ℕ) → u < length row
+    → IsMoved u (cut_of row) (cut_of (set row u (get_or row u 0 + 1)))
 moved row u l = record {
   own = get_or-set_same row u (get_or row u 0 + 1) 0 l ∙ add-one (get_or row u 0);
   others = λ i n. get_or-set_other row u i (get_or row u 0 + 1) 0 (λ e. n (sym e));
@@ -68,7 +70,8 @@ moved row u l = record {
 pub next : (rs : List (Bor Held)) (row : List ℕ) (u : ℕ) → IsCounted rs row → u < MOST_REPLICAS
     → may_move (judged rs) (cut_of row) u ≡ true → IsCounted rs (set row u (get_or row u 0 + 1))
 next rs row u h l m = record {
-  reached = (moving-finds_the_fronts (judged rs)).moved (cut_of row) (cut_of (set row u (get_or row u 0 + 1))) u
+  reached = (moving-finds_the_fronts (judged rs)).moved (cut_of row)
+      (cut_of (set row u (get_or row u 0 + 1))) u
       h.reached m (moved row u (let s = h.sized in omega (arith, s, l)));
   sized = length-set row u (get_or row u 0 + 1) ∙ h.sized;
 }

@@ -1,14 +1,13 @@
 -- The steps that are lent of a replica's chronicle.
-use Rattle.std.proofs.Common.{ℕ, zero, suc, ◌≡◌, ◌<◌, ◌+◌, Bool, true, false, cond, List, [], ◌∷◌, ◌++◌, length, drop}
-use Rattle.std.proofs.Common.{refl, sym, ap, subst, ◌∙◌, arith, reverse}
+use Rattle.std.proofs.Common.{ℕ, zero, suc, ◌≡◌, ◌<◌, ◌+◌, Bool, true, false, cond, List, [], ◌∷◌, ◌++◌}
+use Rattle.std.proofs.Common.{length, drop}
+use Rattle.std.proofs.Common.{refl, sym, ap, ◌∙◌, arith, reverse}
 use Rattle.std.proofs.lemmas.Bool.{cond-true, cond-false}
 use Rattle.std.proofs.lemmas.List.{drop-drop, reverse-append}
-use Rattle.definitions.specs.Bytes.{Bytes}
-use Rattle.definitions.specs.Frames.{Core}
 use Rattle.definitions.specs.Branches.{Branch}
-use Rattle.definitions.specs.Digests.{digest, digest_of, core_of, core_over}
+use Rattle.definitions.specs.Digests.{digest, digest_of, core_of}
 use Rattle.definitions.specs.Trees.{Stored}
-use Rattle.definitions.specs.Chronicles.{taken_blocks, stored_blocks}
+use Rattle.definitions.specs.Chronicles.{taken_blocks}
 use Rattle.block_tree.specs.declared.node.Node.{Node}
 use Rattle.block_tree.specs.Nodes.{IsNodeOf}
 use Rattle.replica.specs.declared.stored.StoredStep.{StoredStep}

@@ -22,7 +22,8 @@ loop-step-preserved-else-collides_with c =
     let Wanted = λ (b : Core). Collide (known c.args.core.now) b in (
       tt,
       tt,
-      left-less Wanted c.args.chronicle c.loop-step.earlier c.next.new.self c.in-Some.step c.in-Some.ensures.steps
+      left-less Wanted c.args.chronicle c.loop-step.earlier c.next.new.self c.in-Some.step
+          c.in-Some.ensures.steps
           (only-core Wanted c.in-Some.step (core_of c.in-Some-core.other) c.in-Some-core.ensures
           (λ w. true≢false (sym (c.collides_with.ensures.1 w) ∙ c.if-collides_with.false)))
           c.loop-step.invariant.2,
@@ -33,6 +34,7 @@ loop-step-preserved c =
     let Wanted = λ (b : Core). Collide (known c.args.core.now) b in (
       tt,
       tt,
-      left-less Wanted c.args.chronicle c.loop-step.earlier c.next.new.self c.in-Some.step c.in-Some.ensures.steps
+      left-less Wanted c.args.chronicle c.loop-step.earlier c.next.new.self c.in-Some.step
+          c.in-Some.ensures.steps
           (no-core Wanted c.in-Some.step c.in_default-core.ensures) c.loop-step.invariant.2,
     )

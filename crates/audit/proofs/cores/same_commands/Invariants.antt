@@ -5,4 +5,5 @@ use Rattle.audit.proofs.cores.same_commands.Given as goal
 
 abbrev pub invariant-loop-command : goal.invariant-loop-command
 invariant-loop-command l =
-    (commands_left l.command-iterator ≡ commands_left l.others) ↔ (commands_left l.fn.a ≡ commands_left l.fn.b)
+    (commands_left l.command-iterator ≡ commands_left l.others)
+    ↔ (commands_left l.fn.a ≡ commands_left l.fn.b)

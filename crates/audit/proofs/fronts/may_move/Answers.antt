@@ -8,9 +8,11 @@ pub returns-in-Some-clause-moves : goal.returns-in-Some-clause-moves
 returns-in-Some-clause-moves c =
     let ks = judged c.args.replicas.now in
     let k = cut_of c.args.fronts.now in
-    none-missing ks k c.in-Some.step c.missing_vote.result c.missing_vote.ensures c.is_none.result c.is_none.ensures
+    none-missing ks k c.in-Some.step c.missing_vote.result c.missing_vote.ensures c.is_none.result
+    c.is_none.ensures
     ∙ sym (moves ks k c.args.number c.in-Some.step c.in-Some.ensures.step)
 
 pub returns-in-None-clause-moves : goal.returns-in-None-clause-moves
 returns-in-None-clause-moves c =
-    sym (moves-not (judged c.args.replicas.now) (cut_of c.args.fronts.now) c.args.number c.in-None.ensures.step)
+    sym (moves-not (judged c.args.replicas.now) (cut_of c.args.fronts.now) c.args.number
+    c.in-None.ensures.step)

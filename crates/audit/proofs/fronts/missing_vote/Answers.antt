@@ -10,5 +10,5 @@ returns-in_default c =
 pub returns-in_err-voter : goal.returns-in_err-voter
 returns-in_err-voter c =
     rw c.from_residual.ensures
-    (all-backed (judged c.args.replicas.now) (cut_of c.args.fronts.now) c.args.step.now c.in-Some.counted.block
-    c.in-Some.counted.voters.now c.in-Some.ensures.0 c.in-Some.ensures.1 c.in_err-voter.ensures)
+    (all-backed (judged c.args.replicas.now) (cut_of c.args.fronts.now) c.args.step.now
+    c.in-Some.counted.block c.in-Some.counted.voters.now c.in-Some.ensures.0 c.in-Some.ensures.1 c.in_err-voter.ensures)

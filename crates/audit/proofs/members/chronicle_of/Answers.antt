@@ -4,7 +4,8 @@ use Rattle.audit.proofs.members.chronicle_of.Goals as goal
 
 pub returns-in_err-replica : goal.returns-in_err-replica
 returns-in_err-replica c =
-    rw c.from_residual.ensures (subst (IsFound c.args.replicas.now c.args.number) (sym c.in_err-replica.ensures)
+    rw c.from_residual.ensures
+    (subst (IsFound c.args.replicas.now c.args.number) (sym c.in_err-replica.ensures)
     (found c.args.replicas.now c.args.number))
 
 pub returns : goal.returns

@@ -21,5 +21,6 @@ returns-else-contains c =
     let v = c.args.voter in
     let own = c.in-Some.counted in (
       (λ t. absurd (true≢false (sym t ∙ c.if-contains.false))),
-      (λ p. c.contains.ensures.value ∙ among-to v own.voters.now (subst (Among v) (sym c.in-Some.ensures.0) p.0)),
+      (λ p. c.contains.ensures.value
+          ∙ among-to v own.voters.now (subst (Among v) (sym c.in-Some.ensures.0) p.0)),
     )

@@ -6,5 +6,5 @@ use Rattle.audit.proofs.unbacked.unbacked_of.Goals as goal
 
 pub returns-in_err-voter : goal.returns-in_err-voter
 returns-in_err-voter c =
-    absurd (not-behind (judged c.args.replicas.now) (cut_of c.args.fronts.now) c.args.receiver c.in_ok-step.step
-    c.requires (sym c.in_ok-step.ensures.step) c.in_err-voter.ensures)
+    absurd (not-behind (judged c.args.replicas.now) (cut_of c.args.fronts.now) c.args.receiver
+    c.in_ok-step.step c.requires (sym c.in_ok-step.ensures.step) c.in_err-voter.ensures)

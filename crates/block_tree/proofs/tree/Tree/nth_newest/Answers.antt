@@ -1,7 +1,6 @@
-use Rattle.std.proofs.Common.{◌≡◌, ◌-◌, ◌<◌, length, drop, get_or, reverse, ap, sym, subst, ◌∙◌, arith}
+use Rattle.std.proofs.Common.{ℕ, ◌≡◌, ◌-◌, ◌<◌, length, drop, get_or, reverse, ap, sym, ◌∙◌, arith}
 use Rattle.std.proofs.lemmas.List.{get_or-reverse, length-reverse}
-use Rattle.definitions.specs.Trees.{Stored, TreeState}
-use Rattle.block_tree.specs.Nodes.{all_stored_as}
+use Rattle.definitions.specs.Trees.{TreeState}
 use Rattle.block_tree.proofs.Kept.{stored-count}
 use Rattle.block_tree.proofs.Newest.{newest-of}
 use Rattle.block_tree.proofs.tree.Tree.nth_newest.Goals as goal
@@ -35,5 +34,6 @@ returns c s older e =
     omega (arith, c.self.inside.nodes.ok.0) in
     newest-of c.args.newer (reverse items) c.self.invariant.kept.nodes x
     (omega (arith, here, length-reverse items))
-    (c.index.ensures ∙ ap (λ (k : _). get_or items k x) place ∙ sym (get_or-reverse items c.args.newer x here))
+    (c.index.ensures ∙ ap (λ (k : ℕ). get_or items k x) place
+    ∙ sym (get_or-reverse items c.args.newer x here))
     s older (ap (λ (t : TreeState). drop c.args.newer t.stored) c.self.view_is ∙ e)

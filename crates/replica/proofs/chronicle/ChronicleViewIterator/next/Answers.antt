@@ -1,7 +1,7 @@
-use Rattle.std.proofs.Common.{ℕ, ◌≡◌, ◌+◌, ◌∷◌, List, [], length, reverse, drop, sym, ap, subst, ◌∙◌, arith}
+use Rattle.std.proofs.Common.{◌≡◌, ◌+◌, ◌∷◌, [], length, reverse, drop, sym, ap, ◌∙◌, arith}
 use Rattle.definitions.specs.Chronicles.{Chronicle}
 use Rattle.block_tree.proofs.Numbers.{blocks-count}
-use Rattle.replica.specs.Replay.{taken_new, step_of, replay}
+use Rattle.replica.specs.Replay.{step_of, replay}
 use Rattle.replica.proofs.Lent.{none-left, replay-last, counted-last}
 use Rattle.replica.proofs.chronicle.ChronicleViewIterator.next.Goals as goal
 
@@ -9,7 +9,8 @@ pub returns-in_err-step-clause-steps : goal.returns-in_err-step-clause-steps
 returns-in_err-step-clause-steps c =
     let view = c.self.inside in
     let none : c.args.self.now ≡ [] =
-    sym c.self.view_is ∙ none-left view.steps.now (drop view.newer view.tree.now.stored) c.in_err-step.ensures.cases
+    sym c.self.view_is
+    ∙ none-left view.steps.now (drop view.newer view.tree.now.stored) c.in_err-step.ensures.cases
     in rw c.from_residual.ensures (none, none)
 
 pub overflow_add-self : goal.overflow_add-self

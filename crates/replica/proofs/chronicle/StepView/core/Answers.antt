@@ -1,4 +1,4 @@
-use Rattle.std.proofs.Common.{◌≡◌, ◌<◌, true, Some, drop, length, sym, ap, ◌∙◌}
+use Rattle.std.proofs.Common.{◌<◌, Some, drop, length, sym, ap, ◌∙◌}
 use Rattle.definitions.specs.Frames.{Core}
 use Rattle.definitions.specs.Chronicles.{Step}
 use Rattle.definitions.specs.Audit.{core_in}

@@ -1,7 +1,5 @@
-use Rattle.std.proofs.Common.{◌≡◌, ◌<◌, List, ℕ, true, drop, length, sym, ap, ◌∙◌}
-use Rattle.definitions.specs.Bytes.{Bytes}
+use Rattle.std.proofs.Common.{◌<◌, drop, length, sym, ap, ◌∙◌}
 use Rattle.definitions.specs.Frames.{Certificate}
-use Rattle.definitions.specs.Chronicles.{Step}
 use Rattle.definitions.specs.Audit.{counted_by, counted_for}
 use Rattle.replica.specs.declared.stored.StoredStep.{StoredStep}
 use Rattle.replica.specs.Entries.{NewEntry}

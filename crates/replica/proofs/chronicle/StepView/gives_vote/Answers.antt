@@ -1,7 +1,6 @@
-use Rattle.std.proofs.Common.{◌≡◌, ◌<◌, ◌&&◌, Bool, true, drop, length, sym, ap, ◌∙◌}
+use Rattle.std.proofs.Common.{◌≡◌, ◌<◌, ◌&&◌, Bool, drop, length, sym, ap, ◌∙◌}
 use Rattle.std.specs.Str.{bytes_eq}
 use Rattle.definitions.specs.Bytes.{Bytes}
-use Rattle.definitions.specs.Chronicles.{Step}
 use Rattle.definitions.specs.Digests.{digest, core_of}
 use Rattle.definitions.specs.Audit.{gives_vote}
 use Rattle.replica.specs.declared.stored.StoredStep.{StoredStep}
