@@ -3,9 +3,10 @@
 #![tactic(auto)]
 
 mod desk;
+mod ending;
 mod link;
 mod lying;
 mod running;
 mod stations;
 
-pub use running::run;
+pub use running::{Ended, run};

@@ -3,7 +3,9 @@
 ghost use Rattle.std.specs.Prelude.{◌≡◌, IfOk};
 
 use crate::desk::{Desk, desks};
+use crate::ending::judge_left;
 use crate::stations::{Crew, Station, man, stations, watch};
+use audit::Verdict;
 use fabric::{Ends, Links};
 use ids::{Fault, ReplicaId};
 use key_file::PairKeys;
@@ -69,8 +71,17 @@ fn serve_at<R: Threads + Wait + Clock + Sync + Send + AllocGlobal + Log + Clone 
     }
 }
 
+/// How a deployment ended.
+#[derive(Clone, Copy, Debug)]
+pub struct Ended {
+    /// How many connections were served.
+    pub served: u64,
+    /// What the audit says of the replicas, without replica 0 where that one was to lie.
+    pub verdict: Verdict,
+}
+
 /// Runs replicas with these keys, of which replica 0 may lie, and serves so many connections that
-/// come to the listener. Answers how many were served.
+/// come to the listener. When all threads have ended, the replicas are judged.
 ///
 /// `AcceptFailed` where accepting failed, `Memory` where memory or a thread was refused before the
 /// first connection.
@@ -80,8 +91,8 @@ pub fn run<R: Threads + Wait + Clock + Sync + Send + AllocGlobal + Log + Clone +
     liar: Option<Liar>,
     listener: &TcpListener,
     most: u64,
-) -> Result<u64, Fault>
-    ensures { IfOk result (λ served. served ≡ most) }
+) -> Result<Ended, Fault>
+    ensures { IfOk result (λ ended. ended.served ≡ most) }
 {
     let config = keys.config();
     let (links, ends) = Links::new(rt.alloc(), config)?;
@@ -93,7 +104,7 @@ pub fn run<R: Threads + Wait + Clock + Sync + Send + AllocGlobal + Log + Clone +
     let (stations, crews) = stations(rt.alloc(), keys, &marks, eyes, replicas, liar)?;
     let links = Arc::new(rt.alloc(), links)?;
     let seats = desks(rt, &links, keys, clients)?;
-    serve_at(
+    let served = serve_at(
         rt,
         stations.as_slice(),
         crews,
@@ -101,5 +112,7 @@ pub fn run<R: Threads + Wait + Clock + Sync + Send + AllocGlobal + Log + Clone +
         &seats,
         listener,
         most,
-    )
+    )?;
+    let verdict = judge_left(rt.alloc(), stations, usize::from(liar.is_some()))?;
+    Ok(Ended { served, verdict })
 }

@@ -48,6 +48,13 @@ pub(crate) struct Crew {
     pub(crate) two: Worker,
 }
 
+impl<'a> Station<'a> {
+    /// The replica, out of its lock.
+    pub(crate) fn into_kept(self) -> Kept<'a> {
+        self.locked.into_inner()
+    }
+}
+
 impl<'a> Watched for Station<'a> {
     fn pulse<R: Wait>(&self, rt: &R) -> Pulse {
         let kept = self.locked.lock(rt);

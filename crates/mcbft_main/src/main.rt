@@ -10,8 +10,10 @@ mod serving;
 use crate::faults::MainFault;
 use crate::options::{Options, matches_of};
 use crate::serving::serve;
+use audit::Verdict;
 use clap::Error;
 use clap::error::ErrorKind;
+use deployment::Ended;
 use ids::Fault;
 use std::process::ExitCode;
 use std::{env, io};
@@ -31,6 +33,14 @@ fn fail(rt: &HostRuntime, fault: MainFault) -> io::Result<ExitCode> {
     Ok(ExitCode::FAILURE)
 }
 
+/// What an audit says, in a word.
+fn word_of(verdict: &Verdict) -> &'static str {
+    match verdict {
+        Verdict::Agree => "agree",
+        Verdict::Fork(_) => "fork",
+    }
+}
+
 fn main(rt: HostRuntime) -> io::Result<ExitCode> {
     let words: Vec<String> = env::args(&rt)?.collect(rt.alloc())?;
     let matches = match matches_of(rt.alloc(), &words) {
@@ -41,8 +51,9 @@ fn main(rt: HostRuntime) -> io::Result<ExitCode> {
         return fail(&rt, MainFault::Fault(Fault::BadSize));
     };
     match serve(&rt, &options) {
-        Ok(served) => {
+        Ok(Ended { served, verdict }) => {
             println!(rt; "served {served} connections")?;
+            println!(rt; "audit {}", word_of(&verdict))?;
             Ok(ExitCode::SUCCESS)
         }
         Err(fault) => fail(&rt, fault),

@@ -2,7 +2,7 @@
 
 use crate::faults::MainFault;
 use crate::options::Options;
-use deployment::run;
+use deployment::{Ended, run};
 use ids::{Config, Fault};
 use key_file::PairKeys;
 use log::Log;
@@ -14,8 +14,8 @@ use std::sync::Wait;
 use std::thread::Threads;
 use std::time::Clock;
 
-/// Serves as the options ask, and answers how many connections were served.
-pub(crate) fn serve<R>(rt: &R, options: &Options<'_>) -> Result<u64, MainFault>
+/// Serves as the options ask, to the end.
+pub(crate) fn serve<R>(rt: &R, options: &Options<'_>) -> Result<Ended, MainFault>
 where
     R: Threads + Wait + Clock + Sync + Send + Clone + Drop + AllocGlobal + Log + Files + Print,
     R: Net<Listener = TcpListener, Stream = TcpStream>,

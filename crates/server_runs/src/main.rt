@@ -110,7 +110,7 @@ fn main(rt: HostRuntime) -> Result<()> {
             println!(rt; "{:?}", text.as_str())?;
         }
         match served {
-            Ok(served) => println!(rt; "served {served}")?,
+            Ok(ended) => println!(rt; "served {}, audit {:?}", ended.served, ended.verdict)?,
             Err(fault) => bail!("fault {}", fault.number()),
         }
     }
