@@ -19,7 +19,7 @@ use Rattle.audit.specs.Cores.{Stores, Collide}
 use Rattle.audit.proofs.ByNumber.{all-among}
 
 -- a stored core is that of the newest step, or of an earlier one
-pub stores-either : (s : Step) (earlier : Chronicle) (b : Core) → Stores (s ∷ earlier) b
+stores-either : (s : Step) (earlier : Chronicle) (b : Core) → Stores (s ∷ earlier) b
     → (core_in (Some s) ≡ Some b) ⊎ Stores earlier b
 unfolding core_in
 stores-either s earlier b (a, inl e, is) =
@@ -30,11 +30,6 @@ stores-either s earlier b (a, inr m, is) = inr (a, m, is)
 pub record IsLeft (Wanted : Core → Type 0) (whole left : Chronicle) : Type 0 where
   pub begins : IsBeginning left whole
   pub rest : (b : Core) → Stores whole b → Wanted b → Stores left b
-
--- all at first
-pub left-all : (Wanted : Core → Type 0) (whole left : Chronicle) → left ≡ whole → IsLeft Wanted whole left
-left-all Wanted whole left e =
-    subst (IsLeft Wanted whole) (sym e) (record { begins = ([], refl); rest = λ b s w. s })
 
 -- one less, where the newest step's core isn't looked for
 pub left-less : (Wanted : Core → Type 0) (whole left earlier : Chronicle) (s : Step) → left ≡ s ∷ earlier
@@ -85,7 +80,7 @@ own-place rs d r m k b e =
     ap (λ (c : Chronicle). core_in (step_after k c)) (chronicle-own (judged rs) d (member_of r) m) ∙ e
 
 -- a known core is genesis's, or a replica stored it
-pub known-either : (rs : List (Bor Held)) (b : Core) → KnownTo (judged rs) b
+known-either : (rs : List (Bor Held)) (b : Core) → KnownTo (judged rs) b
     → (b ≡ genesis_core) ⊎ ((r : Bor Held) × Among r rs × Stores r.now.replica.chronicle b)
 known-either rs b (inl e) = inl e
 known-either rs b (inr (m, n, inl e)) = inl e

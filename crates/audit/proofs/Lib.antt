@@ -5,6 +5,5 @@ pub mod ByNumber
 pub mod Oldest
 pub mod Moves
 pub mod Missing
-pub mod CoreParts
 pub mod Colliding
 pub mod Held

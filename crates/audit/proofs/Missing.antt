@@ -1,18 +1,16 @@
 -- Votes that are missing at the fronts.
 use Rattle.std.proofs.Common.{ℕ, ◌≡◌, Bool, true, false, List, [], refl, sym, ap, subst, ◌∙◌, inl, inr}
-use Rattle.std.proofs.Common.{Option, None}
-use Rattle.std.proofs.Common.{Some, true≢false, not}
-use Rattle.std.specs.Prelude.{All, MatchOption}
-use Rattle.std.specs.Prelude.{◌==◌}
+use Rattle.std.proofs.Common.{Option, None, Some, true≢false, not}
+use Rattle.std.specs.Prelude.{◌==◌, All, MatchOption}
 use Rattle.std.specs.Option.{is_some}
 use Rattle.std.specs.Borrow.{Bor}
 use Rattle.std.specs.List.{list_all, list_any}
-use Rattle.std.proofs.lemmas.Bool.{cases_Bool, or_parts, not-false, eqb-true, eq-eqb}
+use Rattle.std.proofs.lemmas.Bool.{cases_Bool, eqb-true, eq-eqb}
 use Rattle.definitions.specs.Bytes.{Bytes}
 use Rattle.definitions.specs.Lists.{Among}
 use Rattle.definitions.specs.Chronicles.{Step}
 use Rattle.definitions.specs.Audit.{Judged, Cut, is_judged, chronicle_of, counted_by, counted_for, step_after}
-use Rattle.definitions.specs.Audit.{has_vote, is_backed, may_move, AreFronts, IsUnbacked}
+use Rattle.definitions.specs.Audit.{is_backed, may_move, AreFronts, IsUnbacked}
 use Rattle.audit_ground.specs.Law.{NoneUnbacked}
 use Rattle.definitions.proofs.Lists.{all-passes}
 use Rattle.audit_ground.proofs.Lists.{any-found, any-from}
@@ -23,29 +21,6 @@ use Rattle.audit.specs.Fronts.{vote_stands}
 use Rattle.audit.proofs.ByNumber.{all-among, by-number}
 use Rattle.audit.proofs.Moves.{no-steps}
 
--- a vote that doesn't stand is a judged replica's
-pub missing-parts : (ks : Judged) (k : Cut) (d : Bytes) (v : ℕ) → vote_stands ks k d v ≡ false
-    → (is_judged ks v ≡ true) × (has_vote ks k d v ≡ false)
-missing-parts ks k d v h =
-    let p = or_parts (not (is_judged ks v)) (has_vote ks k d v) h in (not-false (is_judged ks v) p.0, p.1)
-
--- so it is unbacked, where the step behind a front counts it
-pub unbacked-here : (ks : Judged) (k : Cut) (u v : ℕ) (d : Bytes) (s : Step) → AreFronts ks k
-    → step_after (k u) (chronicle_of ks u) ≡ Some s → Among v (counted_by s) → counted_for s ≡ d
-    → vote_stands ks k d v ≡ false → IsUnbacked ks u v d
-unbacked-here ks k u v d s f behind counted is h =
-    let p = missing-parts ks k d v h in
-    record {
-      fronts = k;
-      are_fronts = f;
-      step = s;
-      behind = behind;
-      counted = counted;
-      digest = is;
-      judged = p.0;
-      missing = p.1;
-    }
-
 -- a step behind a front isn't backed
 pub not-behind : (ks : Judged) (k : Cut) (u : ℕ) (s : Step) → AreFronts ks k
     → step_after (k u) (chronicle_of ks u) ≡ Some s → is_backed ks k s ≡ true → ⊥
@@ -55,7 +30,7 @@ none_some : {A : Type 0} {x : A} → None ≡ Some x → ⊥
 none_some e = cc
 
 -- where nothing is behind a front, it has no unbacked vote
-pub none-of : (ks : Judged) (k : Cut) (u v : ℕ) (d : Bytes) → AreFronts ks k
+none-of : (ks : Judged) (k : Cut) (u v : ℕ) (d : Bytes) → AreFronts ks k
     → step_after (k u) (chronicle_of ks u) ≡ None → IsUnbacked ks u v d → ⊥
 none-of ks k u v d f none r =
     let s = unbacked-votes_are_seen ks k u v d f r in none_some (sym none ∙ s.1)
@@ -75,7 +50,7 @@ none-unbacked rs k f h u v d =
     ])
 
 -- one vote that doesn't stand is enough
-pub lacking : (ks : Judged) (k : Cut) (s : Step) (v : ℕ) (d : Bytes) → Among v (counted_by s)
+lacking : (ks : Judged) (k : Cut) (s : Step) (v : ℕ) (d : Bytes) → Among v (counted_by s)
     → counted_for s ≡ d → vote_stands ks k d v ≡ false → is_backed ks k s ≡ false
 unfolding is_backed
 lacking ks k s v d m e h =

@@ -14,7 +14,7 @@ abbrev IsOnes : ℕ → List (Bor Held) → Type 0
 IsOnes n rs = Any (λ r. r.now.keys.party ≡ n) rs
 
 -- a number of theirs is one's
-pub one-from_number : (rs : List (Bor Held)) (n : ℕ) → Among n (numbers (judged rs)) → IsOnes n rs
+one-from_number : (rs : List (Bor Held)) (n : ℕ) → Among n (numbers (judged rs)) → IsOnes n rs
 one-from_number [] n m = absurd m
 one-from_number (r ∷ rs) n (inl e) = (0, r, omega arith, refl, sym e)
 one-from_number (r ∷ rs) n (inr m) = let a = one-from_number rs n m in (suc a.0, a.1, omega arith, a.3, a.4)
@@ -27,7 +27,7 @@ number-at (x ∷ rs) n zero r l e p = inl (sym p ∙ ap (λ (y : Bor Held). y.no
 number-at (x ∷ rs) n (suc k) r l e p = inr (number-at rs n k r (omega arith) e p)
 
 -- and back
-pub number-from_one : (rs : List (Bor Held)) (n : ℕ) → IsOnes n rs → Among n (numbers (judged rs))
+number-from_one : (rs : List (Bor Held)) (n : ℕ) → IsOnes n rs → Among n (numbers (judged rs))
 number-from_one rs n a = number-at rs n a.0 a.1 a.2 a.3 a.4
 
 -- a replica at a place and those behind it

@@ -15,7 +15,7 @@ beginning-all k [] l = refl
 beginning-all k (x ∷ older) l = cond-true _ _ _ (lt-ltb (length older) k (omega arith))
 
 -- where there are more, the newest isn't among them
-pub beginning-less : {A : Type 0} (k : ℕ) (xs older : List A) (x : A) → k < length xs → xs ≡ x ∷ older
+beginning-less : {A : Type 0} (k : ℕ) (xs older : List A) (x : A) → k < length xs → xs ≡ x ∷ older
     → beginning k older ≡ beginning k xs
 beginning-less {A} k xs older x l e =
     let n = ap (λ (ys : List A). length ys) e in
