@@ -59,13 +59,13 @@ pub(crate) fn proposal(alloc: Global, config: Config) -> Result<Bytes> {
     Ok(Bytes::from_vec(frame)?)
 }
 
-/// Client 0's first request: it sets an item.
-pub(crate) fn set(alloc: Global, config: Config) -> Result<Bytes> {
+/// Client 0's request of this number: it sets an item.
+pub(crate) fn set(alloc: Global, config: Config, number: u64) -> Result<Bytes> {
     let Some(payload) = Payload::new(b"set a 0 0 1\r\nx\r\n") else {
         bail!("no payload of a request");
     };
     let keyring = keyring_of(alloc, config, ClientId(0).into())?;
-    let frame = request_frame(alloc, &keyring, Seq(1), &payload)?;
+    let frame = request_frame(alloc, &keyring, Seq(number), &payload)?;
     Ok(Bytes::from_vec(frame)?)
 }
 

@@ -27,7 +27,7 @@ pub(crate) enum Scene {
     TwoCalls,
     /// One proposal, brought twice to one replica.
     OneVote,
-    /// A thousand questions to replica 1, whose stand-in answers one of them with a frame to all, one
+    /// A thousand requests for replica 1, whose stand-in answers one of them with a frame to all, one
     /// to replica 2, and one to client 0.
     EachOnce,
     /// One request for all replicas, which each of them executes.
@@ -58,6 +58,15 @@ fn questions_and_spoilt(alloc: Global, config: Config) -> Result<Vec<(ReplicaId,
     Ok(handed)
 }
 
+/// A thousand requests of client 0 for replica 1, which leads no view.
+fn requests(alloc: Global, config: Config) -> Result<Vec<(ReplicaId, Bytes)>> {
+    let mut handed = Vec::new(alloc);
+    for number in 1..1001 {
+        handed.push((ReplicaId(1), frames::set(alloc, config, number)?))?;
+    }
+    Ok(handed)
+}
+
 /// The same frame for each of these replicas.
 fn to_each(alloc: Global, replicas: &[u8], frame: Bytes) -> Result<Vec<(ReplicaId, Bytes)>> {
     let mut handed = Vec::new(alloc);
@@ -74,8 +83,8 @@ impl Scene {
             Scene::TwoTurns => questions_and_spoilt(alloc, config),
             Scene::TwoCalls => questions(alloc, config, ReplicaId(0), 1..3),
             Scene::OneVote => to_each(alloc, &[1, 1], frames::proposal(alloc, config)?),
-            Scene::EachOnce => questions(alloc, config, ReplicaId(1), 0..1000),
-            Scene::OneSet => to_each(alloc, &[0, 1, 2, 3], frames::set(alloc, config)?),
+            Scene::EachOnce => requests(alloc, config),
+            Scene::OneSet => to_each(alloc, &[0, 1, 2, 3], frames::set(alloc, config, 1)?),
         }
     }
 
@@ -152,11 +161,11 @@ fn tell_votes(alloc: Global, told: &Told) -> Result<String> {
     )?)
 }
 
-/// What came of a thousand questions.
+/// What came of a thousand requests.
 fn tell_each(alloc: Global, seen: &Seen, told: &Told) -> Result<String> {
     let (announced, voted) = (seen.announced(alloc)?, seen.voted(alloc)?);
     Ok(format!(in alloc;
-        "of 1000 questions {} came once; announcements{announced}, votes{voted}, replies {}, others {}",
+        "of 1000 requests {} came once; announcements{announced}, votes{voted}, replies {}, others {}",
         seen.came_once(),
         told.replies,
         told.left

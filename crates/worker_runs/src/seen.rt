@@ -8,7 +8,7 @@ use std::sync::atomic::AtomicU64;
 use std::sync::atomic::Ordering::SeqCst;
 use std::sync::{Mutex, Wait};
 
-/// The question that is answered with more frames.
+/// The number of what is answered with more frames.
 const ANSWERED: usize = 500;
 
 /// What came to the stand-ins, counted by all threads.
@@ -16,15 +16,15 @@ const ANSWERED: usize = 500;
 pub(crate) struct Seen {
     /// How many inputs were brought.
     inputs: AtomicU64,
-    /// How often each question came, by number.
-    questions: Vec<AtomicU64>,
+    /// How often each question or request came, by number.
+    asked: Vec<AtomicU64>,
     /// How many announcements and votes came, by number of replica.
     announced: Vec<AtomicU64>,
     voted: Vec<AtomicU64>,
     /// Whether the call for question 1 waits for that for question 2.
     waits: bool,
     meeting: Meeting,
-    /// What one question is answered with.
+    /// What is asked under one number is answered with these.
     answers: Mutex<Option<Vec<Sending>>>,
 }
 
@@ -55,14 +55,14 @@ fn listed(alloc: Global, counters: &[AtomicU64]) -> Result<String, Fault> {
 }
 
 impl Seen {
-    /// One question is answered with these frames.
+    /// What is asked under one number is answered with these frames.
     pub(crate) fn new(alloc: Global, waits: bool, answers: Vec<Sending>) -> Result<Seen, Fault> {
-        let questions = counters(alloc, 1000)?;
+        let asked = counters(alloc, 1001)?;
         let announced = counters(alloc, 4)?;
         let voted = counters(alloc, 4)?;
         Ok(Seen {
             inputs: AtomicU64::new(0),
-            questions,
+            asked,
             announced,
             voted,
             waits,
@@ -71,16 +71,19 @@ impl Seen {
         })
     }
 
-    /// The number of a question: the first bytes of the digest that it asks for.
+    /// The number of what is asked: a request's own, and of a question the first bytes of the digest.
     fn number_of(input: &Input<'_>) -> Option<usize> {
-        let Input::Fetch(asked) = input else {
-            return None;
-        };
-        let [high, low, ..] = *asked.view().digest();
-        Some(usize::from(u16::from_be_bytes([high, low])))
+        match input {
+            Input::Request(asked) => Some(asked.view().seq().0 as usize),
+            Input::Fetch(asked) => {
+                let [high, low, ..] = *asked.view().digest();
+                Some(usize::from(u16::from_be_bytes([high, low])))
+            }
+            _ => None,
+        }
     }
 
-    /// Counts an input at a replica, and answers which question it is.
+    /// Counts an input at a replica, and answers the number of what it asks.
     pub(crate) fn note(&self, replica: ReplicaId, input: &Input<'_>) -> Option<usize> {
         match input {
             Input::NewView(_) => count(&self.announced, usize::from(replica.0)),
@@ -88,7 +91,7 @@ impl Seen {
             _ => {}
         }
         let number = Seen::number_of(input)?;
-        count(&self.questions, number);
+        count(&self.asked, number);
         Some(number)
     }
 
@@ -127,9 +130,9 @@ impl Seen {
         self.meeting.has_met()
     }
 
-    /// How many questions came once.
+    /// How many numbers came once.
     pub(crate) fn came_once(&self) -> usize {
-        self.questions
+        self.asked
             .iter()
             .filter(|count| count.load(SeqCst) == 1)
             .count()
