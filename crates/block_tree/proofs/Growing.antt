@@ -34,7 +34,7 @@ module _ (most : ℕ) (n : Node) (t : List Branch) where
   branch_found parent e = ap (λ (o : Option Branch). elim o [ Some b ↦ b | None ↦ [] ]) e
 
   node_from : (b parent : Branch) → n.digest ≡ digest n.core → n.core.justify_height < n.core.height
-      → AreLinks t (block_in n.core t) n.links → IsGrowth most n.core n.certificate t b parent → IsNode n t
+      → AreLinks t (block_in n.core t) n.links → IsGrowth 0 most n.core n.certificate t b parent → IsNode n t
   node_from b parent named below links g =
       let same = branch_found parent g.parent_found in
       record {
@@ -42,6 +42,7 @@ module _ (most : ℕ) (n : Node) (t : List Branch) where
         new = g.new;
         parent = g.parent_found ∙ ap (λ (x : Branch). Some x) (sym same);
         height = g.height ∙ ap (λ (x : Branch). suc (length x)) (sym same);
+        low = (let low = g.low in let height = g.height in omega (arith, low, height));
         justify = below;
         links = links;
       }
@@ -84,27 +85,27 @@ added-stored items n = ap all_stored_as (reverse-last items n)
 
 module _ (most : ℕ) (n : Node) (t : List Branch) (named : n.digest ≡ digest n.core)
     (below : n.core.justify_height < n.core.height) (links : AreLinks t (block_in n.core t) n.links)
-    (answer : Ok Grows ≡ place_of (placing most n.core n.certificate t)) where
-  at : (b : Branch) × (placing most n.core n.certificate t ≡ grows b)
+    (answer : Ok Grows ≡ place_of (placing 0 most n.core n.certificate t)) where
+  at : (b : Branch) × (placing 0 most n.core n.certificate t ≡ grows b)
   at = is_growth _ answer
 
-  grown : (parent : Branch) × IsGrowth most n.core n.certificate t at.0 parent
-  grown = subst (IsPlaced most n.core n.certificate t) at.1 (placed most n.core n.certificate t)
+  grown : (parent : Branch) × IsGrowth 0 most n.core n.certificate t at.0 parent
+  grown = subst (IsPlaced 0 most n.core n.certificate t) at.1 (placed 0 most n.core n.certificate t)
 
   pub growth-node : IsNode n t
   growth-node = node_from most n t at.0 grown.0 named below links grown.1
 
 pub growth-parent : (most : ℕ) (core : Core) (q : Certificate) (t : List Branch)
-    → Ok Grows ≡ place_of (placing most core q t) → IsSome (find_in core.parent t)
+    → Ok Grows ≡ place_of (placing 0 most core q t) → IsSome (find_in core.parent t)
 growth-parent most core q t answer =
-    let at = is_growth (placing most core q t) answer in
-    let g = subst (IsPlaced most core q t) at.1 (placed most core q t) in
+    let at = is_growth (placing 0 most core q t) answer in
+    let g = subst (IsPlaced 0 most core q t) at.1 (placed 0 most core q t) in
     subst IsSome (sym g.1.parent_found) refl
 
 pub growth-room : (most : ℕ) (core : Core) (q : Certificate) (t : List Branch)
-    → Ok Grows ≡ place_of (placing most core q t) → length t < most
+    → Ok Grows ≡ place_of (placing 0 most core q t) → length t < most
 growth-room most core q t answer =
-    let at = is_growth (placing most core q t) answer in
-    let g = subst (IsPlaced most core q t) at.1 (placed most core q t) in
+    let at = is_growth (placing 0 most core q t) answer in
+    let g = subst (IsPlaced 0 most core q t) at.1 (placed 0 most core q t) in
     let room = g.1.room in
     room

@@ -22,13 +22,13 @@ Once (s ∷ older) = (Among s.branch (blocks older) → ⊥) × Once older
 
 -- what holds of what a tree keeps
 pub record IsSound (t : TreeState) : Type 0 where
-  pub tree : IsTree (blocks t.stored)
+  pub tree : IsTree 0 (blocks t.stored)
   pub once : Once t.stored
   pub heights : (x : Branch) → Among x (blocks t.stored) → length x < length (blocks t.stored)
   pub room : length (blocks t.stored) ≤ t.most
   pub limit : t.most ≤ MOST_BLOCKS
 
-genesis_tree : IsTree ([] ∷ [])
+genesis_tree : IsTree 0 ([] ∷ [])
 genesis_tree = record {
   branches = λ x m. elim m [ inl e ↦ subst IsBranch (sym e) tt | inr n ↦ absurd n ];
   one = λ x y m n d. elim m [ inl e ↦ elim n [ inl k ↦ e ∙ sym k | inr k ↦ absurd k ] | inr k ↦ absurd k ];
@@ -41,7 +41,7 @@ some_certificate : Branch → Certificate
 some_certificate b = record { digest = digest_of (just1 b); votes = [] }
 
 growth : (n : Node) (t : List Branch) → IsNode n t
-    → IsGrowth (suc (length t)) n.core (some_certificate (block_in n.core t)) t (block_in n.core t)
+    → IsGrowth 0 (suc (length t)) n.core (some_certificate (block_in n.core t)) t (block_in n.core t)
     (branch_in n.core.parent t)
 unfolding some_certificate
 growth n t h = record {
@@ -51,14 +51,16 @@ growth n t h = record {
   height = h.height;
   justified = refl;
   room = omega arith;
+  low = (let low = h.low in let height = h.height in omega (arith, low, height));
+  above = omega arith;
 }
 
-pub nodes-tree : (ns : List Node) → AreNodes ns → IsTree (blocks (all_stored_as ns))
+pub nodes-tree : (ns : List Node) → AreNodes ns → IsTree 0 (blocks (all_stored_as ns))
 unfolding all_stored_as
 nodes-tree [] h = genesis_tree
 nodes-tree (n ∷ older) h =
     let t = blocks (all_stored_as older) in
-    growth-tree (suc (length t)) n.core (some_certificate (block_in n.core t)) t (block_in n.core t)
+    growth-tree 0 (suc (length t)) n.core (some_certificate (block_in n.core t)) t (block_in n.core t)
     (branch_in n.core.parent t) (nodes-tree older h.1) h.0.justify (growth n t h.0)
 
 pub nodes-once : (ns : List Node) → AreNodes ns → Once (all_stored_as ns)
@@ -66,7 +68,7 @@ unfolding all_stored_as
 nodes-once [] h = tt
 nodes-once (n ∷ older) h =
     let t = blocks (all_stored_as older) in (
-      growth-new (suc (length t)) n.core (some_certificate (block_in n.core t)) t (block_in n.core t)
+      growth-new 0 (suc (length t)) n.core (some_certificate (block_in n.core t)) t (block_in n.core t)
           (branch_in n.core.parent t) (growth n t h.0),
       nodes-once older h.1,
     )

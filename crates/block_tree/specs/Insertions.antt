@@ -64,4 +64,4 @@ InsertedAt old core q clear result new (unfit n) = (result ≡ Err n) × (new �
 -- what an insertion answers and leaves: a block that may stand does afterwards, unless memory is refused
 abbrev pub Inserted : TreeState → Core → Certificate → Bool → Result Bytes Fault → TreeState → Type 0
 Inserted old core q clear result new =
-    InsertedAt old core q clear result new (placing old.most core q (blocks old.stored))
+    InsertedAt old core q clear result new (placing 0 old.most core q (blocks old.stored))

@@ -37,7 +37,7 @@ impl Tree {
         clear: bool,
     ) -> Result<Plan, Fault>
         ensures { IsPlanned self.now (core_of core.now) (certificate_of certificate.now) clear result
-            (placing self.now.most (core_of core.now) (certificate_of certificate.now)
+            (placing 0 self.now.most (core_of core.now) (certificate_of certificate.now)
             (blocks self.now.stored)) }
     {
         let digest = core.digest();

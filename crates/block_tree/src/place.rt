@@ -1,7 +1,7 @@
 //! What a block comes to in the tree.
 
-ghost use Rattle.ids.specs.declared.limits.TheConstants.{MOST_OF_HEIGHT};
-ghost use Rattle.std.specs.Prelude.{◌≡◌, ◌<◌, ◌==◌, ◌∷◌, not, nat_lt, length, Some, count_by};
+ghost use Rattle.ids.specs.declared.limits.TheConstants.{MOST_OF_HEIGHT, HEIGHT_LIMIT};
+ghost use Rattle.std.specs.Prelude.{◌≡◌, ◌<◌, ◌==◌, ◌&&◌, ◌∷◌, not, nat_lt, length, Some, count_by};
 ghost use Rattle.definitions.specs.Branches.{Branch};
 ghost use Rattle.definitions.specs.Digests.{digest as digest_of_core};
 ghost use Rattle.definitions.specs.Trees.{blocks, find_in, block_of, justifies, placing, placing_over};
@@ -11,7 +11,7 @@ ghost use Rattle.block_tree.specs.Insertions.{place_of};
 use crate::node::is_same;
 use crate::tree::Tree;
 use frames_view::{CertificateView, CoreView};
-use ids::{Digest, Fault, Height, MOST_OF_HEIGHT};
+use ids::{Digest, Fault, HEIGHT_LIMIT, Height, MOST_OF_HEIGHT};
 
 /// Where a block stands that isn't refused.
 #[derive(Clone, Copy, Drop)]
@@ -33,7 +33,7 @@ impl Tree {
     ) -> Result<Place, Fault>
         requires { digest.now ≡ digest_of_core (core_of core.now) }
         ensures { result
-            ≡ place_of (placing self.now.most (core_of core.now) (certificate_of certificate.now)
+            ≡ place_of (placing 0 self.now.most (core_of core.now) (certificate_of certificate.now)
             (blocks self.now.stored)) }
     {
         match self.justified(digest) {
@@ -48,7 +48,7 @@ impl Tree {
     /// What a block comes to that doesn't stand in the tree.
     fn placing_over(&self, core: &CoreView, certificate: &CertificateView) -> Result<Place, Fault>
         ensures { result
-            ≡ place_of (placing_over self.now.most (core_of core.now) (certificate_of certificate.now)
+            ≡ place_of (placing_over 0 self.now.most (core_of core.now) (certificate_of certificate.now)
             (blocks self.now.stored)) }
     {
         let Some(parent) = self.height(&Digest(*core.parent())) else {
@@ -64,7 +64,7 @@ impl Tree {
         if self.is_crowded(height) {
             return Err(Fault::Crowded);
         }
-        if self.is_full() {
+        if self.is_full(height) {
             return Err(Fault::Full);
         }
         Ok(Place::Grows)
@@ -92,10 +92,11 @@ impl Tree {
         self.counts.of(height) >= MOST_OF_HEIGHT
     }
 
-    /// Whether as many blocks stand in the tree as may.
-    fn is_full(&self) -> bool
-        ensures { result ≡ not (nat_lt (length (blocks self.now.stored)) self.now.most) }
+    /// Whether as many blocks stand in the tree as may, or no block may have this height.
+    fn is_full(&self, height: Height) -> bool
+        ensures { result ≡ not (nat_lt (length (blocks self.now.stored)) self.now.most
+            && nat_lt height HEIGHT_LIMIT) }
     {
-        self.len() >= self.most
+        self.len() >= self.most || height.0 >= HEIGHT_LIMIT
     }
 }

@@ -111,6 +111,33 @@ Among-kept {A} p (y ∷ xs) x (inl e) h =
     subst (λ (l : List A). Among x l) (sym (cond-true _ _ _ (sym (ap p e) ∙ h))) (inl e)
 Among-kept p (y ∷ xs) x (inr m) h = Among-kept-step y (filter p xs) x (p y) (Among-kept p xs x m h)
 
+Among-filter-step : {A : Type 0} (p : A → Bool) (y : A) (ys : List A) (x : A)
+    → (Among x (filter p ys) → Among x ys × (p x ≡ true)) → (t : Bool) → p y ≡ t
+    → Among x (cond t (y ∷ filter p ys) (filter p ys)) → Among x (y ∷ ys) × (p x ≡ true)
+Among-filter-step p y ys x rest true e (inl i) = (inl i, ap p i ∙ e)
+Among-filter-step p y ys x rest true e (inr m) = let r = rest m in (inr r.0, r.1)
+Among-filter-step p y ys x rest false e m = let r = rest m in (inr r.0, r.1)
+
+-- what was kept stood there, and passes
+pub Among-filter : {A : Type 0} (p : A → Bool) (xs : List A) (x : A) → Among x (filter p xs)
+    → Among x xs × (p x ≡ true)
+Among-filter p [] x m = absurd m
+Among-filter p (y ∷ ys) x m = Among-filter-step p y ys x (Among-filter p ys x) (p y) refl m
+
+filter-fewer-step : (t u : Bool) → (t ≡ true → u ≡ true) → {A : Type 0} (x : A) (xs ys : List A)
+    → length xs ≤ length ys → length (cond t (x ∷ xs) xs) ≤ length (cond u (x ∷ ys) ys)
+filter-fewer-step true true f x xs ys l = omega (arith, l)
+filter-fewer-step true false f x xs ys l = absurd (true≢false (sym (f refl)))
+filter-fewer-step false true f x xs ys l = omega (arith, l)
+filter-fewer-step false false f x xs ys l = l
+
+-- a harder test keeps no more
+pub filter-fewer : {A : Type 0} (p q : A → Bool) → ((x : A) → p x ≡ true → q x ≡ true) → (xs : List A)
+    → length (filter p xs) ≤ length (filter q xs)
+filter-fewer p q f [] = omega arith
+filter-fewer p q f (x ∷ xs) =
+    filter-fewer-step (p x) (q x) (f x) x (filter p xs) (filter q xs) (filter-fewer p q f xs)
+
 pub all-passes : {A : Type 0} (p : A → Bool) (xs : List A) (x : A) → list_all p xs ≡ true → Among x xs
     → p x ≡ true
 all-passes p [] x h m = absurd m

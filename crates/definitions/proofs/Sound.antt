@@ -19,7 +19,7 @@ use Rattle.ids.specs.Sizes.{Sizes, replicas, quorum}
 use Rattle.definitions.specs.Digests.{digest, digest_of}
 use Rattle.definitions.specs.Trees.{block_of, is_clear, clear_above, Placing, Placing.stands, Placing.grows}
 use Rattle.definitions.specs.Trees.{Placing.lacks_parent, Placing.unfit, placing, IsTree}
-use Rattle.definitions.proofs.Trees.{same_bytes, found-in, unfit-calm, IsPlaced, placed, tree-below}
+use Rattle.definitions.proofs.Trees.{same_bytes, found-in, unfit-calm, IsPlaced, placed, whole-below}
 use Rattle.definitions.proofs.Trees.{growth-tree, growth-new, grown-heights}
 use Rattle.definitions.specs.Chronicles.{Admitted, Step, Step.took_block, Step.noted, Note.got_vote}
 use Rattle.definitions.specs.Chronicles.{Note.got_new_view, Note.got_request, Note.timed_out, Note.beat}
@@ -56,7 +56,7 @@ first-sound s = record {
   is_tree = record {
     branches = λ x m. subst IsBranch (sym (only-genesis x m)) tt;
     one = λ x y m n e. only-genesis x m ∙ sym (only-genesis y n);
-    parents = λ b parent m. absurd (nothing-above b parent (only-genesis (b ∷ parent) m));
+    parents = λ b parent m l. absurd (nothing-above b parent (only-genesis (b ∷ parent) m));
     genesis = inl refl;
   };
   lawful = tt;
@@ -161,7 +161,7 @@ OnStands P (refusing n) = n ≡ fault.Conflict → ⊥
 
 -- what a good certificate of the justified block gives
 certified : (sizes : Sizes) (core : Core) (q : Certificate) (f : Findings) (j : Branch) (t : List Branch)
-    → IsTree t → Among j t → IsChecked sizes core q f → q.digest ≡ digest_of j
+    → IsTree 0 t → Among j t → IsChecked sizes core q f → q.digest ≡ digest_of j
     → (AreDistinct f.counted × AllByRecursion (λ v. v < replicas sizes) f.counted
     × (quorum sizes ≤ length f.counted)) ⊎ (j ≡ [])
 unfolding digest_of
@@ -173,7 +173,7 @@ certified sizes core q f j t tr m ch e =
 
 -- a new block that passes the tests
 new-step : (self : Identity) (w : Option ℕ) (parent : Branch) (core : Core) (q : Certificate) (f : Findings)
-    (c : Chronicle) → IsSound self.sizes c → IsTree ((block_of core ∷ parent) ∷ tree c)
+    (c : Chronicle) → IsSound self.sizes c → IsTree 0 ((block_of core ∷ parent) ∷ tree c)
     → (Among (block_of core ∷ parent) (tree c) → ⊥) → Among parent (tree c) → IsChecked self.sizes core q f
     → q.digest ≡ digest_of (just1 (block_of core ∷ parent)) → length (tree c) < MOST_BLOCKS →
     OnStands (λ st. IsSound self.sizes (st ∷ c))
@@ -189,7 +189,7 @@ new-step self w parent core q f c so tr fresh m ch e room = record {
         new = fresh;
         parent = (block_of core, parent, refl, (tr.branches _ (inl refl)).0, m);
         certified = certified self.sizes core q f (just1 (block_of core ∷ parent)) _ tr
-            (tree-below _ tr (block_of core ∷ parent) _ (inl refl) (just1-extends _)) ch e;
+            (whole-below _ tr (block_of core ∷ parent) _ (inl refl) (just1-extends _)) ch e;
       },
     ),
     so.lawful,
@@ -209,7 +209,7 @@ found d c b e = found-in d (tree c) b e
 
 placed-sound : (self : Identity) (w : Option ℕ) (sender : ℕ) (core : Core) (q : Certificate) (f : Findings)
     (c : Chronicle) → IsChecked self.sizes core q f → IsSound self.sizes c → (p : Placing)
-    → IsPlaced MOST_BLOCKS core q (tree c) p → Keeps self c (on_placing self w sender core q f c p)
+    → IsPlaced 0 MOST_BLOCKS core q (tree c) p → Keeps self c (on_placing self w sender core q f c p)
 unfolding on_placing admitted tree stored_blocks taken_blocks
 placed-sound self w sender core q f c ch so (stands b) h =
     let m = (found-in (digest core) (tree c) b h.0).0 in
@@ -230,9 +230,9 @@ placed-sound self w sender core q f c ch so (grows b) (parent, g) =
     subst (λ (x : Branch). OnStands (λ st. IsSound self.sizes (st ∷ c))
     (take_block self w (admitted x core q f true) c)) (sym g.is)
     (new-step self w parent core q f c so
-    (subst (λ (x : Branch). IsTree (x ∷ tree c)) g.is
-    (growth-tree MOST_BLOCKS core q (tree c) b parent so.is_tree ch.below g))
-    (subst (λ (x : Branch). Among x (tree c) → ⊥) g.is (growth-new MOST_BLOCKS core q (tree c) b parent g))
+    (subst (λ (x : Branch). IsTree 0 (x ∷ tree c)) g.is
+    (growth-tree 0 MOST_BLOCKS core q (tree c) b parent so.is_tree ch.below g))
+    (subst (λ (x : Branch). Among x (tree c) → ⊥) g.is (growth-new 0 MOST_BLOCKS core q (tree c) b parent g))
     (found-in core.parent (tree c) parent g.parent_found).0 ch g.justified g.room)
 placed-sound self w sender core q f c ch so lacks_parent h = tt
 placed-sound self w sender core q f c ch so (unfit n) h = unfit-calm n h
@@ -241,14 +241,14 @@ block-sound : (self : Identity) (w : Option ℕ) (sender : ℕ) (core : Core) (q
     (c : Chronicle) → IsChecked self.sizes core q f → IsSound self.sizes c
     → Keeps self c (on_block self w sender core q f c)
 block-sound self w sender core q f c ch so =
-    placed-sound self w sender core q f c ch so (placing MOST_BLOCKS core q (tree c))
-    (placed MOST_BLOCKS core q (tree c))
+    placed-sound self w sender core q f c ch so (placing 0 MOST_BLOCKS core q (tree c))
+    (placed 0 MOST_BLOCKS core q (tree c))
 
 -- a step that takes no block
 other-sound : (need : Sizes) (c : Chronicle) (st : Step) → tree (st ∷ c) ≡ tree c → IsLawfulStep need st c
     → AreKnown (st ∷ c) → IsSound need c → IsSound need (st ∷ c)
 other-sound need c st e l k so = record {
-  is_tree = subst IsTree (sym e) so.is_tree;
+  is_tree = subst (IsTree 0) (sym e) so.is_tree;
   lawful = (l, so.lawful);
   known = k;
   bounded = subst (λ (t : List Branch). length t ≤ MOST_BLOCKS) (sym e) so.bounded;

@@ -1,21 +1,22 @@
 -- What the tests on a block's place in a tree establish, and that a tree stays one.
-use Rattle.ids.specs.declared.limits.TheConstants.{MOST_OF_HEIGHT}
+use Rattle.ids.specs.declared.limits.TheConstants.{MOST_OF_HEIGHT, HEIGHT_LIMIT}
 use Rattle.ids.specs.declared.fault.Fault.{Fault}
 use Rattle.ids.specs.declared.fault.Fault.TheVariants as fault
-use Rattle.std.proofs.Common.{ℕ, suc, ◌≡◌, ◌<◌, ◌==◌, not, true, List, [], ◌∷◌, ◌++◌, length, refl, sym, ap}
-use Rattle.std.proofs.Common.{subst, ◌∙◌, arith, ◌⊎◌, inl, inr, Option, Some, None, nat_lt, count_by}
-use Rattle.std.proofs.Common.{bytes_eq}
-use Rattle.std.proofs.lemmas.Bool.{cond_both, not-false, eqb-true, ltb-true}
+use Rattle.std.proofs.Common.{ℕ, suc, ◌≡◌, ◌<◌, ◌≤◌, ◌+◌, ◌==◌, ◌&&◌, not, true, List, [], ◌∷◌, ◌++◌}
+use Rattle.std.proofs.Common.{length, refl, sym, ap, subst, ◌∙◌, arith, ◌⊎◌, inl, inr, Option, Some, None}
+use Rattle.std.proofs.Common.{nat_lt, count_by, bytes_eq}
+use Rattle.std.proofs.lemmas.Bool.{cond_both, not-false, eqb-true, ltb-true, ltb-false, and_parts}
 use lib.Pointwise.{bytes_decides}
 use Rattle.definitions.proofs.Lists.{find_some, find_none}
 use Rattle.definitions.specs.Lists.{Among}
 use Rattle.definitions.specs.Frames.{Core, Certificate}
-use Rattle.definitions.specs.Branches.{Block, Branch, just1, Extends, IsBranch}
+use Rattle.definitions.specs.Branches.{Block, Branch, justify_height, just1, Extends, IsBranch}
+use Rattle.definitions.proofs.Branches.{length-extends}
 use Rattle.definitions.specs.Bytes.{Bytes}
 use Rattle.definitions.specs.Digests.{digest, core_over, digest_of, core_of}
 use Rattle.definitions.specs.Trees.{find_in, block_of, justifies, Placing, Placing.stands, Placing.grows}
 use Rattle.definitions.specs.Trees.{Placing.lacks_parent, Placing.unfit, placing_known, placing_new}
-use Rattle.definitions.specs.Trees.{placing, IsTree}
+use Rattle.definitions.specs.Trees.{placing_over, placing, IsTree}
 
 pub same_bytes : (a b : Bytes) → bytes_eq a b ≡ true → a ≡ b
 same_bytes a b h = (bytes_decides a b).0 h
@@ -35,8 +36,9 @@ not-found d t b e m k =
     find_none (λ (x : Branch). bytes_eq (digest_of x) d) t b e m ((bytes_decides (digest_of b) d).1 k)
 
 -- in a tree each block is found by its digest
-pub found-itself : (t : List Branch) → IsTree t → (b : Branch) → Among b t → find_in (digest_of b) t ≡ Some b
-found-itself t tr b m = go (find_in (digest_of b) t) refl
+pub found-itself : (h : ℕ) (t : List Branch) → IsTree h t → (b : Branch) → Among b t
+    → find_in (digest_of b) t ≡ Some b
+found-itself h t tr b m = go (find_in (digest_of b) t) refl
   where
     go : (o : Option Branch) → find_in (digest_of b) t ≡ o → o ≡ Some b
     go None e = absurd (not-found (digest_of b) t b e m refl)
@@ -69,7 +71,8 @@ core-known core parent ep eh =
 -- ---- the tests
 
 -- what was found of a block that may stand over its parent
-pub record IsGrowth (most : ℕ) (core : Core) (q : Certificate) (t : List Branch) (b parent : Branch) :
+pub record IsGrowth (horizon most : ℕ) (core : Core) (q : Certificate) (t : List Branch)
+    (b parent : Branch) :
     Type 0 where
   pub is : b ≡ block_of core ∷ parent
   pub parent_found : find_in core.parent t ≡ Some parent
@@ -77,41 +80,51 @@ pub record IsGrowth (most : ℕ) (core : Core) (q : Certificate) (t : List Branc
   pub height : core.height ≡ suc (length parent)
   pub justified : q.digest ≡ digest_of (just1 (block_of core ∷ parent))
   pub room : length t < most
+  pub low : length (block_of core ∷ parent) < HEIGHT_LIMIT
+  pub above : horizon ≤ core.justify_height
 
--- the refusals of a block whose parent stands in the tree
+-- the refusals of a block
 abbrev pub IsUnfit : Fault → Type 0
-IsUnfit n = (n ≡ fault.WrongJustify) ⊎ ((n ≡ fault.BadHeight) ⊎ ((n ≡ fault.Crowded) ⊎ (n ≡ fault.Full)))
+IsUnfit n =
+    (n ≡ fault.WrongJustify)
+    ⊎ ((n ≡ fault.BadHeight) ⊎ ((n ≡ fault.Crowded) ⊎ ((n ≡ fault.Full) ⊎ (n ≡ fault.Pruned))))
 
 -- no conflict is among them
 pub unfit-calm : (n : Fault) → IsUnfit n → n ≡ fault.Conflict → ⊥
 unfit-calm n (inl e) k = cc
 unfit-calm n (inr (inl e)) k = cc
 unfit-calm n (inr (inr (inl e))) k = cc
-unfit-calm n (inr (inr (inr e))) k = cc
+unfit-calm n (inr (inr (inr (inl e)))) k = cc
+unfit-calm n (inr (inr (inr (inr e)))) k = cc
 
 -- what the tests establish
-abbrev pub IsPlaced : ℕ → Core → Certificate → List Branch → Placing → Type 0
-IsPlaced most core q t (stands b) = (find_in (digest core) t ≡ Some b) × (q.digest ≡ digest_of (just1 b))
-IsPlaced most core q t (grows b) = (parent : Branch) × IsGrowth most core q t b parent
-IsPlaced most core q t lacks_parent = find_in core.parent t ≡ None
-IsPlaced most core q t (unfit n) = IsUnfit n
+abbrev pub IsPlaced : (horizon most : ℕ) → Core → Certificate → List Branch → Placing → Type 0
+IsPlaced horizon most core q t (stands b) =
+    (find_in (digest core) t ≡ Some b) × (q.digest ≡ digest_of (just1 b)) × (horizon ≤ justify_height b)
+IsPlaced horizon most core q t (grows b) = (parent : Branch) × IsGrowth horizon most core q t b parent
+IsPlaced horizon most core q t lacks_parent = find_in core.parent t ≡ None
+IsPlaced horizon most core q t (unfit n) = IsUnfit n
 
-placed-known : (most : ℕ) (core : Core) (q : Certificate) (t : List Branch) (b : Branch)
-    → find_in (digest core) t ≡ Some b → IsPlaced most core q t (placing_known b q)
+placed-known : (horizon most : ℕ) (core : Core) (q : Certificate) (t : List Branch) (b : Branch)
+    → find_in (digest core) t ≡ Some b → IsPlaced horizon most core q t (placing_known horizon b q)
 unfolding placing_known
-placed-known most core q t b e =
-    cond_both (justifies q b) _ _ (IsPlaced most core q t) (λ j. (e, same_bytes _ _ j)) (λ j. inl refl)
+placed-known horizon most core q t b e =
+    cond_both (nat_lt (justify_height b) horizon) _ _ (IsPlaced horizon most core q t)
+    (λ l. inr (inr (inr (inr refl)))) (λ l.
+    cond_both (justifies q b) _ _ (IsPlaced horizon most core q t)
+    (λ j. (e, same_bytes _ _ j, ltb-false (justify_height b) horizon l)) (λ j. inl refl))
 
-placed-new : (most : ℕ) (core : Core) (q : Certificate) (t : List Branch) (parent : Branch)
-    → find_in core.parent t ≡ Some parent → find_in (digest core) t ≡ None
-    → IsPlaced most core q t (placing_new most parent core q t)
+placed-new : (horizon most : ℕ) (core : Core) (q : Certificate) (t : List Branch) (parent : Branch)
+    → find_in core.parent t ≡ Some parent → find_in (digest core) t ≡ None → horizon ≤ core.justify_height
+    → IsPlaced horizon most core q t (placing_new most parent core q t)
 unfolding placing_new
-placed-new most core q t parent found none =
+placed-new horizon most core q t parent found none above =
     cond_both (not (core.height == suc (length parent))) _ _ P (λ e. inr (inl refl)) (λ h.
     cond_both (not (justifies q (block_of core ∷ parent))) _ _ P (λ e. inl refl) (λ j.
     cond_both (not (nat_lt (count_by (λ x. length x == suc (length parent)) t) MOST_OF_HEIGHT)) _ _ P
     (λ e. inr (inr (inl refl))) (λ r.
-    cond_both (not (nat_lt (length t) most)) _ _ P (λ e. inr (inr (inr refl))) (λ f. (
+    cond_both (not (nat_lt (length t) most && nat_lt (suc (length parent)) HEIGHT_LIMIT)) _ _ P
+    (λ e. inr (inr (inr (inl refl)))) (λ f. (
       parent,
       record {
         is = refl;
@@ -119,51 +132,63 @@ placed-new most core q t parent found none =
         new = none;
         height = eqb-true core.height (suc (length parent)) (not-false _ h);
         justified = same_bytes _ _ (not-false _ j);
-        room = ltb-true _ _ (not-false _ f);
+        room = ltb-true _ _ (and_parts _ _ (not-false _ f)).0;
+        low = ltb-true _ _ (and_parts _ _ (not-false _ f)).1;
+        above = above;
       },
     )))))
   where
     P : Placing → Type 0
-    P = IsPlaced most core q t
+    P = IsPlaced horizon most core q t
 
 -- the place of a block is what the tests establish
-pub placed : (most : ℕ) (core : Core) (q : Certificate) (t : List Branch)
-    → IsPlaced most core q t (placing most core q t)
+pub placed : (horizon most : ℕ) (core : Core) (q : Certificate) (t : List Branch)
+    → IsPlaced horizon most core q t (placing horizon most core q t)
 unfolding placing
-placed most core q t = known (find_in (digest core) t) refl
+placed horizon most core q t = known (find_in (digest core) t) refl
   where
-    over : find_in (digest core) t ≡ None → (o : Option Branch) → find_in core.parent t ≡ o
-        → IsPlaced most core q t
+    over : find_in (digest core) t ≡ None → horizon ≤ core.justify_height → (o : Option Branch)
+        → find_in core.parent t ≡ o
+        → IsPlaced horizon most core q t
         (elim o [ Some parent ↦ placing_new most parent core q t | None ↦ lacks_parent ])
-    over n None e = e
-    over n (Some parent) e = placed-new most core q t parent e n
+    over n l None e = e
+    over n l (Some parent) e = placed-new horizon most core q t parent e n l
 
     known : (o : Option Branch) → find_in (digest core) t ≡ o
-        → IsPlaced most core q t (elim o [
-          | Some b ↦ placing_known b q
-          | None ↦ elim (find_in core.parent t)
-              [ Some parent ↦ placing_new most parent core q t | None ↦ lacks_parent ]
+        → IsPlaced horizon most core q t (elim o [
+          | Some b ↦ placing_known horizon b q
+          | None ↦ placing_over horizon most core q t
         ])
-    known (Some b) e = placed-known most core q t b e
-    known None e = over e (find_in core.parent t) refl
+    known (Some b) e = placed-known horizon most core q t b e
+    known None e =
+        cond_both (nat_lt core.justify_height horizon) _ _ (IsPlaced horizon most core q t)
+        (λ l. inr (inr (inr (inr refl))))
+        (λ l. over e (ltb-false core.justify_height horizon l) (find_in core.parent t) refl)
 
 -- ---- a tree stays one
 
--- all below a block of the tree stands in it
-pub tree-below : (t : List Branch) → IsTree t → (b x : Branch) → Among b t → Extends b x → Among x t
-tree-below t tr b x m ([], e) = subst (λ (y : Branch). Among y t) (sym e) m
-tree-below t tr [] x m (c ∷ added, e) = absurd (nil (sym e))
+-- all below a block of the tree that is in reach stands in it
+pub tree-below : (h : ℕ) (t : List Branch) → IsTree h t → (b x : Branch) → Among b t → Extends b x
+    → h ≤ length x + 2 → Among x t
+tree-below h t tr b x m ([], e) l = subst (λ (y : Branch). Among y t) (sym e) m
+tree-below h t tr [] x m (c ∷ added, e) l = absurd (nil (sym e))
   where
     nil : [] ≡ c ∷ (added ++ x) → ⊥
-    nil h = cc
-tree-below t tr (b ∷ parent) x m (c ∷ added, e) =
-    tree-below t tr parent x (tr.parents b parent m) (added, (cc))
+    nil k = cc
+tree-below h t tr (b ∷ parent) x m (c ∷ added, e) l =
+    let on : Extends parent x = (added, (cc)) in
+    let k = length-extends parent x on in
+    tree-below h t tr parent x (tr.parents b parent m (omega (arith, k, l))) on l
+
+-- of a tree that was never pruned, all
+pub whole-below : (t : List Branch) → IsTree 0 t → (b x : Branch) → Among b t → Extends b x → Among x t
+whole-below t tr b x m on = tree-below 0 t tr b x m on (omega arith)
 
 -- a block that is put on its parent keeps the tree one
-grown : (t : List Branch) (b : Block) (parent : Branch) → IsTree t → Among parent t
+grown : (h : ℕ) (t : List Branch) (b : Block) (parent : Branch) → IsTree h t → Among parent t
     → b.justify < suc (length parent)
-    → ((x : Branch) → Among x t → digest_of x ≡ digest_of (b ∷ parent) → ⊥) → IsTree ((b ∷ parent) ∷ t)
-grown t b parent tr m below fresh = record {
+    → ((x : Branch) → Among x t → digest_of x ≡ digest_of (b ∷ parent) → ⊥) → IsTree h ((b ∷ parent) ∷ t)
+grown h t b parent tr m below fresh = record {
   branches = branches;
   one = one;
   parents = parents;
@@ -181,29 +206,31 @@ grown t b parent tr m below fresh = record {
     one x y (inr e) (inl k) d = absurd (fresh x e (d ∙ ap digest_of k))
     one x y (inr e) (inr k) d = tr.one x y e k d
 
-    parents : (a : Block) (p : Branch) → Among (a ∷ p) ((b ∷ parent) ∷ t) → Among p ((b ∷ parent) ∷ t)
-    parents a p (inl e) = let k : p ≡ parent = cc in inr (subst (λ (y : Branch). Among y t) (sym k) m)
-    parents a p (inr k) = inr (tr.parents a p k)
+    parents : (a : Block) (p : Branch) → Among (a ∷ p) ((b ∷ parent) ∷ t) → h ≤ length p + 2
+        → Among p ((b ∷ parent) ∷ t)
+    parents a p (inl e) l = let k : p ≡ parent = cc in inr (subst (λ (y : Branch). Among y t) (sym k) m)
+    parents a p (inr k) l = inr (tr.parents a p k l)
 
 -- a block that the tests let stand keeps the tree one
-pub growth-tree : (most : ℕ) (core : Core) (q : Certificate) (t : List Branch) (b parent : Branch)
-    → IsTree t → core.justify_height < core.height → IsGrowth most core q t b parent → IsTree (b ∷ t)
-growth-tree most core q t b parent tr below g =
+pub growth-tree : (horizon most : ℕ) (core : Core) (q : Certificate) (t : List Branch) (b parent : Branch)
+    → IsTree horizon t → core.justify_height < core.height → IsGrowth horizon most core q t b parent
+    → IsTree horizon (b ∷ t)
+growth-tree horizon most core q t b parent tr below g =
     let ep = sym (found-in core.parent t parent g.parent_found).1 in
     let of : digest_of (block_of core ∷ parent) ≡ digest core = digest-core core parent ep g.height in
-    subst (λ (x : Branch). IsTree (x ∷ t)) (sym g.is)
-    (grown t (block_of core) parent tr (found-in core.parent t parent g.parent_found).0
+    subst (λ (x : Branch). IsTree horizon (x ∷ t)) (sym g.is)
+    (grown horizon t (block_of core) parent tr (found-in core.parent t parent g.parent_found).0
     (subst (λ (h : ℕ). core.justify_height < h) g.height below)
     (λ x k d. not-found (digest core) t x g.new k (d ∙ of)))
 
 -- and was none of it
-pub growth-new : (most : ℕ) (core : Core) (q : Certificate) (t : List Branch) (b parent : Branch)
-    → IsGrowth most core q t b parent → Among b t → ⊥
-growth-new most core q t b parent g k =
+pub growth-new : (horizon most : ℕ) (core : Core) (q : Certificate) (t : List Branch) (b parent : Branch)
+    → IsGrowth horizon most core q t b parent → Among b t → ⊥
+growth-new horizon most core q t b parent g k =
     let ep = sym (found-in core.parent t parent g.parent_found).1 in
     not-found (digest core) t b g.new k (ap digest_of g.is ∙ digest-core core parent ep g.height)
 
--- each height of such a tree is below the number of its blocks
+-- each height of a tree that was never pruned is below the number of its blocks
 pub grown-heights : (t : List Branch) (b : Block) (parent : Branch) → Among parent t
     → ((x : Branch) → Among x t → length x < length t) → (x : Branch) → Among x ((b ∷ parent) ∷ t)
     → length x < length ((b ∷ parent) ∷ t)

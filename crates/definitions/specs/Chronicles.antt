@@ -153,7 +153,7 @@ AreKnown (s ∷ earlier) = AreKnown earlier
 -- known ones, and these are a tree of at most so many as a tree may have, in which each height is below their
 -- number.
 pub record IsSound (sizes : Sizes) (c : Chronicle) : Type 0 where
-  pub is_tree : IsTree (tree c)
+  pub is_tree : IsTree 0 (tree c)
   pub lawful : IsLawful sizes c
   pub known : AreKnown c
   pub bounded : length (tree c) ≤ MOST_BLOCKS

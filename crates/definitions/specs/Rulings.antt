@@ -70,7 +70,7 @@ on_placing self w sender core q found c (unfit n) = refusing n
 -- a block with its certificate, as a proposal of this view or on its own
 abbrev pub on_block : Identity → Option ℕ → ℕ → Core → Certificate → Findings → Chronicle → Ruling
 on_block self w sender core q found c =
-    on_placing self w sender core q found c (placing MOST_BLOCKS core q (tree c))
+    on_placing self w sender core q found c (placing 0 MOST_BLOCKS core q (tree c))
 
 -- a request, where there is room for it
 unfoldable pub on_request : Command → Chronicle → Ruling

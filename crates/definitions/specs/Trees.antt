@@ -1,16 +1,16 @@
--- Trees of blocks, as a replica keeps them: whole branches, newest first, with genesis at the end. What a
--- further block comes to there is this project's own list of tests (of HotStuff, PODC 2019, the tree of
--- nodes).
+-- Trees of blocks, as a replica keeps them: whole branches, newest first, with genesis at the end. What was
+-- pruned stands there no more. What a further block comes to there is this project's own list of tests (of
+-- HotStuff, PODC 2019, the tree of nodes).
 use Rattle.ids.specs.declared.fault.Fault.{Fault}
 use Rattle.ids.specs.declared.fault.Fault.TheVariants as fault
-use Rattle.ids.specs.declared.limits.TheConstants.{MOST_OF_HEIGHT}
-use Rattle.std.specs.Prelude.{suc, ◌&&◌, true, ℕ, ◌≡◌, ◌==◌, not, Bool, List, [], ◌∷◌, ◌++◌, map, length}
-use Rattle.std.specs.Prelude.{if◌then◌else◌, nat_lt, Option, Some, None, find, count_by}
+use Rattle.ids.specs.declared.limits.TheConstants.{MOST_OF_HEIGHT, HEIGHT_LIMIT}
+use Rattle.std.specs.Prelude.{suc, ◌&&◌, true, ℕ, ◌≡◌, ◌==◌, ◌+◌, ◌≤◌, not, Bool, List, [], ◌∷◌, ◌++◌}
+use Rattle.std.specs.Prelude.{map, length, if◌then◌else◌, nat_lt, nat_le, Option, Some, None, find, count_by}
 use Rattle.std.specs.List.{list_any}
 use Rattle.std.specs.Str.{bytes_eq}
 use Rattle.definitions.specs.Lists.{Among}
 use Rattle.definitions.specs.Frames.{Core, Certificate}
-use Rattle.definitions.specs.Branches.{Block, Branch, branch_eq, just1, IsBranch}
+use Rattle.definitions.specs.Branches.{Block, Branch, branch_eq, justify_height, just1, IsBranch}
 use Rattle.definitions.specs.Bytes.{Bytes}
 use Rattle.definitions.specs.Digests.{digest, digest_of}
 
@@ -28,6 +28,11 @@ pub record TreeState : Type 0 where
 -- the branches of the stored blocks, and genesis
 abbrev pub blocks : List Stored → List Branch
 blocks stored = map (λ s. s.branch) stored ++ [] ∷ []
+
+-- A block stands in the tree until it is more than two below the horizon. No block may justify one below the
+-- horizon, so that three blocks in direct succession are seen whole.
+abbrev pub is_in_reach : ℕ → Branch → Bool
+is_in_reach horizon b = nat_le horizon (length b + 2)
 
 -- the block of this digest
 abbrev pub find_in : Bytes → List Branch → Option Branch
@@ -61,8 +66,10 @@ pub data Placing : Type 0 where
   unfit : Fault → Placing
 
 -- a block that stands in the tree
-unfoldable pub placing_known : Branch → Certificate → Placing
-placing_known b q = if justifies q b then stands b else unfit fault.WrongJustify
+unfoldable pub placing_known : ℕ → Branch → Certificate → Placing
+placing_known horizon b q =
+    if nat_lt (justify_height b) horizon then unfit fault.Pruned
+    else (if justifies q b then stands b else unfit fault.WrongJustify)
 
 -- a new block whose parent stands in the tree
 unfoldable pub placing_new : ℕ → Branch → Core → Certificate → List Branch → Placing
@@ -71,23 +78,27 @@ placing_new most parent core q tree =
     if not (core.height == length b) then unfit fault.BadHeight
     else (if not (justifies q b) then unfit fault.WrongJustify
     else (if not (nat_lt (count_by (λ x. length x == length b) tree) MOST_OF_HEIGHT) then unfit fault.Crowded
-    else (if not (nat_lt (length tree) most) then unfit fault.Full
+    else (if not (nat_lt (length tree) most && nat_lt (length b) HEIGHT_LIMIT) then unfit fault.Full
     else grows b)))
 
 -- a block that doesn't stand in the tree
-abbrev pub placing_over : ℕ → Core → Certificate → List Branch → Placing
-placing_over most core q tree =
-    elim (find_in core.parent tree)
+abbrev pub placing_over : (horizon most : ℕ) → Core → Certificate → List Branch → Placing
+placing_over horizon most core q tree =
+    if nat_lt core.justify_height horizon then unfit fault.Pruned
+    else elim (find_in core.parent tree)
     [ Some parent ↦ placing_new most parent core q tree | None ↦ lacks_parent ]
 
--- a block with its certificate, in a tree of at most so many blocks
-unfoldable pub placing : ℕ → Core → Certificate → List Branch → Placing
-placing most core q tree =
-    elim (find_in (digest core) tree) [ Some b ↦ placing_known b q | None ↦ placing_over most core q tree ]
+-- a block with its certificate, in a tree of at most so many blocks that is pruned below this horizon
+unfoldable pub placing : (horizon most : ℕ) → Core → Certificate → List Branch → Placing
+placing horizon most core q tree = elim (find_in (digest core) tree) [
+  | Some b ↦ placing_known horizon b q
+  | None ↦ placing_over horizon most core q tree
+]
 
--- one branch a digest, each with all below it, and genesis
-pub record IsTree (t : List Branch) : Type 0 where
+-- one branch a digest, each with all below it that is in reach, and genesis
+pub record IsTree (horizon : ℕ) (t : List Branch) : Type 0 where
   pub branches : (x : Branch) → Among x t → IsBranch x
   pub one : (x y : Branch) → Among x t → Among y t → digest_of x ≡ digest_of y → x ≡ y
-  pub parents : (b : Block) (parent : Branch) → Among (b ∷ parent) t → Among parent t
+  pub parents : (b : Block) (parent : Branch) → Among (b ∷ parent) t → horizon ≤ length parent + 2
+      → Among parent t
   pub genesis : Among [] t

@@ -8,7 +8,7 @@ use Rattle.ids.specs.declared.fault.Fault.TheVariants.{PoolFull, Full, Conflict,
 use Rattle.ids.specs.declared.fault.Fault.TheVariants.{WrongSeq, Doubled, Busy, Spent, NoSuchFrame}
 use Rattle.ids.specs.declared.fault.Fault.TheVariants.{NoSuchParty, NotARequest, TooManyFaulty, TooFew}
 use Rattle.ids.specs.declared.fault.Fault.TheVariants.{NotAll, BadKeys, ReadFailed, WriteFailed}
-use Rattle.ids.specs.declared.fault.Fault.TheVariants.{AcceptFailed}
+use Rattle.ids.specs.declared.fault.Fault.TheVariants.{AcceptFailed, Pruned}
 use Rattle.ids.specs.declared.kind.Kind.{Kind}
 use Rattle.ids.specs.declared.kind.Kind.TheVariants.{Request, Proposal, Vote, NewView, Reply, Fetch, Block}
 use Rattle.ids.specs.declared.line_fault.LineFault.{LineFault}
@@ -34,6 +34,7 @@ fault_number Full = 17
 fault_number Conflict = 18
 fault_number Memory = 19
 fault_number Stopped = 20
+fault_number Pruned = 21
 fault_number NotMine = 30
 fault_number WrongSeq = 31
 fault_number Doubled = 32

@@ -62,6 +62,9 @@ pub enum Fault {
     /// The replica stopped before.
     #[error("replica has stopped")]
     Stopped = 20,
+    /// A block justifies one below the horizon.
+    #[error("block below the horizon")]
+    Pruned = 21,
     /// A frame or an input is for another party, or of a kind that this party doesn't take.
     #[error("not for this party")]
     NotMine = 30,

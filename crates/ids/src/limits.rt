@@ -13,6 +13,9 @@ pub const MOST_OF_HEIGHT: usize = 64;
 /// The most blocks of a tree, genesis counted.
 pub const MOST_BLOCKS: usize = 1_048_576;
 
+/// No block is as high as this, 2^58: so the places of commands, sixteen a block, fit into eight bytes.
+pub const HEIGHT_LIMIT: u64 = 288_230_376_151_711_744;
+
 /// The most requests that wait for a block.
 pub const MOST_PENDING: usize = 4096;
 

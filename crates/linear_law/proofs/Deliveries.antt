@@ -277,7 +277,7 @@ module _ (sent : List Sent) where
 
   placed-made : (self : Identity) (w : Option ℕ) (sender : ℕ) (core : Core) (q : Certificate) (f : Findings)
       (c : Chronicle) → CommandsSent sent core.commands → VotesSent sent q → (p : Placing)
-      → IsPlaced MOST_BLOCKS core q (tree c) p → AllMade (on_placing self w sender core q f c p)
+      → IsPlaced 0 MOST_BLOCKS core q (tree c) p → AllMade (on_placing self w sender core q f c p)
   unfolding on_placing admitted AllMade
   placed-made self w sender core q f c hk hq (stands b) h = (λ n. absurd (true≢false (sym n)), hq)
   placed-made self w sender core q f c hk hq (grows b) (parent, t) =
@@ -311,11 +311,11 @@ module _ (sent : List Sent) where
   ruling-made : (self : Identity) (i : Input) (c : Chronicle) → IsMadeInput sent i → AllMade (ruling self i c)
   unfolding ruling AllMade
   ruling-made self (proposal_in w core q f) c h =
-      placed-made self _ _ core q f c h.0 h.1 (placing MOST_BLOCKS core q (tree c))
-      (placed MOST_BLOCKS core q (tree c))
+      placed-made self _ _ core q f c h.0 h.1 (placing 0 MOST_BLOCKS core q (tree c))
+      (placed 0 MOST_BLOCKS core q (tree c))
   ruling-made self (block_in sender core q f) c h =
-      placed-made self _ _ core q f c h.0 h.1 (placing MOST_BLOCKS core q (tree c))
-      (placed MOST_BLOCKS core q (tree c))
+      placed-made self _ _ core q f c h.0 h.1 (placing 0 MOST_BLOCKS core q (tree c))
+      (placed 0 MOST_BLOCKS core q (tree c))
   ruling-made self (vote_in d b) c h = vote-made d b c h _ refl
   ruling-made self (new_view_in w r q) c h = view-made w r q _ h
   ruling-made self (request_in r) c h = request-made r c h

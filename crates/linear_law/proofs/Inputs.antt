@@ -60,7 +60,7 @@ AllStanding P (refusing n) = ⊤
 
 placed-from : (self : Identity) (i : Input) (w : Option ℕ) (sender : ℕ) (core : Core) (q : Certificate)
     (f : Findings) (c : Chronicle) → Carries i core q f → (p : Placing)
-    → IsPlaced MOST_BLOCKS core q (tree c) p
+    → IsPlaced 0 MOST_BLOCKS core q (tree c) p
     → AllStanding (FromInput i) (on_placing self w sender core q f c p)
 unfolding on_placing admitted
 placed-from self i w sender core q f c ca (stands b) h = (
@@ -97,8 +97,8 @@ block-from : (self : Identity) (i : Input) (w : Option ℕ) (sender : ℕ) (core
     (f : Findings) (c : Chronicle) → Carries i core q f
     → AllStanding (FromInput i) (on_block self w sender core q f c)
 block-from self i w sender core q f c ca =
-    placed-from self i w sender core q f c ca (placing MOST_BLOCKS core q (tree c))
-    (placed MOST_BLOCKS core q (tree c))
+    placed-from self i w sender core q f c ca (placing 0 MOST_BLOCKS core q (tree c))
+    (placed 0 MOST_BLOCKS core q (tree c))
 
 vote-from : (self : Identity) (i : Input) (o : Option Branch) (b : Vote) (d : Bytes)
     → AllStanding (FromInput i) (with_block o b.voter d (λ x. due (noted (got_vote b.voter b.vector x))))

@@ -116,7 +116,7 @@ arises-read w e i (inr (inr t)) = subst (IsReadInput (self_of w (party_of e))) (
 -- ---- rulings
 
 -- a block of the tree with genesis's digest is genesis
-genesis-only : (c : Chronicle) (b : Branch) → IsTree (tree c) → Among b (tree c)
+genesis-only : (c : Chronicle) (b : Branch) → IsTree 0 (tree c) → Among b (tree c)
     → is_genesis (digest_of b) ≡ true → b ≡ []
 unfolding digest_of
 genesis-only c b tr m h = tr.one b [] m tr.genesis (same_bytes _ _ h)
@@ -124,7 +124,7 @@ genesis-only c b tr m h = tr.one b [] m tr.genesis (same_bytes _ _ h)
 -- a block with its certificate
 placed-stored : (self : Identity) (w : Option ℕ) (sender : ℕ) (core : Core) (q : Certificate) (f : Findings)
     (c : Chronicle) → IsCore self.sizes core → IsCertificate self.sizes q → is_good self q ≡ true
-    → (p : Placing) → IsPlaced MOST_BLOCKS core q (tree c) p
+    → (p : Placing) → IsPlaced 0 MOST_BLOCKS core q (tree c) p
     → IsStoredRuling self c (on_placing self w sender core q f c p)
 unfolding on_placing admitted
 placed-stored self w sender core q f c hk hq g (stands b) h =
@@ -151,8 +151,8 @@ block-stored : (self : Identity) (w : Option ℕ) (sender : ℕ) (core : Core) (
     (c : Chronicle) → IsCore self.sizes core → IsCertificate self.sizes q → is_good self q ≡ true
     → IsStoredRuling self c (on_block self w sender core q f c)
 block-stored self w sender core q f c hk hq g =
-    placed-stored self w sender core q f c hk hq g (placing MOST_BLOCKS core q (tree c))
-    (placed MOST_BLOCKS core q (tree c))
+    placed-stored self w sender core q f c hk hq g (placing 0 MOST_BLOCKS core q (tree c))
+    (placed 0 MOST_BLOCKS core q (tree c))
 
 -- a vote
 vote-stored : (self : Identity) (b : Vote) (d : Bytes) (c : Chronicle) → IsSound self.sizes c → IsDigest d

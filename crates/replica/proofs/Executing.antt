@@ -21,7 +21,7 @@ use Rattle.definitions.specs.Histories.{Entry, entry_of, History, history_of, An
 use Rattle.definitions.specs.Histories.{answer_in}
 use Rattle.definitions.specs.Keyrings.{Keys}
 use Rattle.definitions.proofs.Lists.{beginning-begins, length-beginning, IsBeginning-beginning}
-use Rattle.definitions.proofs.Trees.{found-in, found-itself, tree-below}
+use Rattle.definitions.proofs.Trees.{found-in, found-itself, whole-below}
 use Rattle.definitions.proofs.Histories.{history_of-grows}
 use Rattle.block_tree.specs.Finding.{stored_in, at_height}
 use Rattle.block_tree.proofs.Found.{block_from, blocks-found}
@@ -256,11 +256,11 @@ stored-commands d all y e l = by (stored_in d all) (sym (blocks-found d all) ∙
 module _ (sizes : Sizes) (c : Chronicle) (so : IsSound sizes c) (x : Branch) (m : Among x (tree c)) where
   found : (y : Branch) → Among y (tree c) → find_in (digest_of y) (blocks (stored_blocks c)) ≡ Some y
   unfolding tree
-  found y k = found-itself (tree c) so.is_tree y k
+  found y k = found-itself 0 (tree c) so.is_tree y k
 
   -- its branch stands in the tree
   below : (h : ℕ) → Among (beginning h x) (tree c)
-  below h = tree-below (tree c) so.is_tree x (beginning h x) m (beginning-begins h x)
+  below h = whole-below (tree c) so.is_tree x (beginning h x) m (beginning-begins h x)
 
   pub commands-are : (h : ℕ) → 1 ≤ h → h ≤ length x
       → commands_at (digest_of x) h (stored_blocks c) ≡ (core_of (beginning h x)).commands

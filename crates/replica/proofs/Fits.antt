@@ -42,7 +42,7 @@ fits-new-view keys s n result h = by result (find_in n.certificate.digest (block
 pub fits-block : (keys : Keys) (s : StateParts) (o : Offered) (result : Result Change Fault)
     → IsDecided keys s o result → IfOk result (λ d. Fits s d)
 fits-block keys s o result h =
-    by result (placing s.variables.most o.core o.certificate (blocks s.variables.stored)) h
+    by result (placing 0 s.variables.most o.core o.certificate (blocks s.variables.stored)) h
   where
     by : (r : Result Change Fault) (p : Placing) → IsDecidedAt keys s o r p → IfOk r (λ d. Fits s d)
     by (Ok d) (stands b) h = subst (Fits s) (sym h) (record { growth = tt; step = refl })

@@ -33,7 +33,7 @@ Stores c (noted n) = ⊤
 
 placed-stored : (self : Identity) (w : Option ℕ) (sender : ℕ) (core : Core) (q : Certificate) (f : Findings)
     (c : Chronicle) (p : Placing)
-    → IsPlaced MOST_BLOCKS core q (tree c) p → AllStanding (Stores c) (on_placing self w sender core q f c p)
+    → IsPlaced 0 MOST_BLOCKS core q (tree c) p → AllStanding (Stores c) (on_placing self w sender core q f c p)
 unfolding on_placing admitted tree stored_blocks taken_blocks
 placed-stored self w sender core q f c (stands b) h =
     let found = found-in (digest core) (tree c) b h.0 in
@@ -53,8 +53,8 @@ block-stored : (self : Identity) (w : Option ℕ) (sender : ℕ) (core : Core) (
     (c : Chronicle)
     → AllStanding (Stores c) (on_block self w sender core q f c)
 block-stored self w sender core q f c =
-    placed-stored self w sender core q f c (placing MOST_BLOCKS core q (tree c))
-    (placed MOST_BLOCKS core q (tree c))
+    placed-stored self w sender core q f c (placing 0 MOST_BLOCKS core q (tree c))
+    (placed 0 MOST_BLOCKS core q (tree c))
 
 noted-stored : (c : Chronicle) (o : Option Branch) (sender : ℕ) (d : Bytes) (note : Branch → Note)
     → AllStanding (Stores c) (with_block o sender d (λ x. due (noted (note x))))

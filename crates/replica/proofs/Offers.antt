@@ -137,13 +137,13 @@ module _ (keys : Keys) (c : Chronicle) (kept : StateParts) (o : Offered)
   -- ---- a new block
 
   module _ (b : Branch) (below : o.core.justify_height < o.core.height)
-      (grows-to : placing MOST_BLOCKS o.core o.certificate (tree c) ≡ grows b) where
+      (grows-to : placing 0 MOST_BLOCKS o.core o.certificate (tree c) ≡ grows b) where
     abbrev new : Admitted
     new = taken true b
 
-    growth : (parent : Branch) × IsGrowth MOST_BLOCKS o.core o.certificate (tree c) b parent
-    growth = subst (IsPlaced MOST_BLOCKS o.core o.certificate (tree c)) grows-to
-        (placed MOST_BLOCKS o.core o.certificate (tree c))
+    growth : (parent : Branch) × IsGrowth 0 MOST_BLOCKS o.core o.certificate (tree c) b parent
+    growth = subst (IsPlaced 0 MOST_BLOCKS o.core o.certificate (tree c)) grows-to
+        (placed 0 MOST_BLOCKS o.core o.certificate (tree c))
 
     voted-new : (w : Option ℕ)
         → (is_for (view keys.sizes c) w && may_vote_over v.rules (candidate_of o.core o.found.clear)
@@ -214,11 +214,12 @@ module _ (keys : Keys) (c : Chronicle) (kept : StateParts) (o : Offered)
   unfit-stops n (inl e) = rw e refl
   unfit-stops n (inr (inl e)) = rw e refl
   unfit-stops n (inr (inr (inl e))) = rw e refl
-  unfit-stops n (inr (inr (inr e))) = rw e refl
+  unfit-stops n (inr (inr (inr (inl e)))) = rw e refl
+  unfit-stops n (inr (inr (inr (inr e)))) = rw e refl
 
   place-by : (sender : ℕ) (result : Result Change Fault) → o.core.justify_height < o.core.height
-      → (p : Placing) → placing MOST_BLOCKS o.core o.certificate (tree c) ≡ p
-      → IsPlaced MOST_BLOCKS o.core o.certificate (tree c) p → let v =
+      → (p : Placing) → placing 0 MOST_BLOCKS o.core o.certificate (tree c) ≡ p
+      → IsPlaced 0 MOST_BLOCKS o.core o.certificate (tree c) p → let v =
       on_placing (identity_of keys) o.view sender o.core o.certificate o.found c p in Keeps (identity_of keys) c v
       → IsDecidedAt keys s o result p → Follows keys v c (answer result) (after result s)
   unfolding on_placing admitted conflicts raised
@@ -255,8 +256,8 @@ block-decided keys c s o sender result h is below so = where-kept keys c s
     (λ x. IsDecided keys x o result
     → Follows keys (on_block (identity_of keys) o.view sender o.core o.certificate o.found c) c
     (answer result) (after result x)) is
-    (λ k. place-by keys c s o k sender result below (placing MOST_BLOCKS o.core o.certificate (tree c)) refl
-    (placed MOST_BLOCKS o.core o.certificate (tree c)) so) h
+    (λ k. place-by keys c s o k sender result below (placing 0 MOST_BLOCKS o.core o.certificate (tree c)) refl
+    (placed 0 MOST_BLOCKS o.core o.certificate (tree c)) so) h
 
 -- ---- from what was planned
 

@@ -29,10 +29,10 @@ history-is-of : (c : Chronicle) → history_of (executed c) ≡ history c
 unfolding history
 history-is-of c = refl
 
-found-stored : (c : Chronicle) → IsTree (tree c) → (y : Branch) → Among y (tree c)
+found-stored : (c : Chronicle) → IsTree 0 (tree c) → (y : Branch) → Among y (tree c)
     → find_in (digest_of y) (blocks (stored_blocks c)) ≡ Some y
 unfolding tree
-found-stored c tr y m = found-itself (tree c) tr y m
+found-stored c tr y m = found-itself 0 (tree c) tr y m
 
 -- the requests that wait and don't stand on the branch of the tree's block that has the leaf's digest
 module _ (keys : Keys) (c : Chronicle) (so : IsSound keys.sizes c) (x : Branch)

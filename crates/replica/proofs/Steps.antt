@@ -118,7 +118,7 @@ quiet (Block n) kept waits e = (refl, refl)
 
 -- the collected votes after a step that brings none, by what is raised
 left-above-is : (s : Sizes) (st : Step) (c : Chronicle) (kept : List (Bytes × Entry)) (r : Option High)
-    → BringsNoVote st → IsTree (tree (st ∷ c)) → IsVotesOf s c kept
+    → BringsNoVote st → IsTree 0 (tree (st ∷ c)) → IsVotesOf s c kept
     → unwrap_or r (high_of (qc_high s c)) ≡ high_of (qc_high s (st ∷ c))
     → IsVotesOf s (st ∷ c) (left_above r kept)
 left-above-is s st c kept None b tr is e =
@@ -130,7 +130,7 @@ left-above-is s st c kept (Some r) b tr is e =
     subst (λ (n : ℕ). IsVotesOf s (st ∷ c) (kept_above n kept)) (sym h) (followed-else s c kept st b tr is)
 
 pub votes-else : (keys : Keys) (st : Step) (c : Chronicle) (d : Change) (s : StateParts) → BringsNoVote st
-    → collected d.growth s.votes.kept ≡ s.votes.kept → IsTree (tree (st ∷ c))
+    → collected d.growth s.votes.kept ≡ s.votes.kept → IsTree 0 (tree (st ∷ c))
     → IsVotesOf keys.sizes c s.votes.kept → IsStep keys c st s.pace d
     → IsVotesOf keys.sizes (st ∷ c) (votes_after d s.votes.kept)
 votes-else keys st c d s b q tr is x =

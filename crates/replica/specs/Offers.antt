@@ -131,4 +131,4 @@ IsDecidedAt keys s o result (unfit n) = result ≡ Err n
 
 abbrev pub IsDecided : Keys → StateParts → Offered → Result Change Fault → Type 0
 IsDecided keys s o result =
-    IsDecidedAt keys s o result (placing s.variables.most o.core o.certificate (blocks s.variables.stored))
+    IsDecidedAt keys s o result (placing 0 s.variables.most o.core o.certificate (blocks s.variables.stored))

@@ -9,7 +9,7 @@ use Rattle.definitions.specs.Digests.{digest_of}
 use Rattle.definitions.specs.Trees.{Stored, blocks, find_in, IsTree}
 use Rattle.definitions.specs.Chronicles.{Chronicle, decides, decides_against, executed}
 use Rattle.definitions.proofs.Branches.{just1-extends, just2-is, just3-is, just3-below, justify_height-just1}
-use Rattle.definitions.proofs.Trees.{found-in, found-itself, tree-below}
+use Rattle.definitions.proofs.Trees.{found-in, found-itself, whole-below}
 use Rattle.replica_rules.specs.declared.block_ref.BlockRef.{BlockRef}
 use Rattle.replica_rules.specs.declared.chain.Chain.{Chain}
 use Rattle.replica_rules.specs.Ruled.{ref_of}
@@ -26,7 +26,7 @@ chain_of b = record { first = ref_of (just1 b); second = ref_of (just2 b); third
 abbrev pub executed_with : Branch → Branch → Branch
 executed_with e b = if decides b then (if nat_lt (length e) (length (just3 b)) then just3 b else e) else e
 
-module _ (all : List Stored) (tr : IsTree (blocks all)) where
+module _ (all : List Stored) (tr : IsTree 0 (blocks all)) where
   pub justified-found : (d : Bytes) (b : Branch) → find_in d (blocks all) ≡ Some b
       → justified_in d all ≡ Some (ref_of (just1 b))
   justified-found d b f =
@@ -37,7 +37,7 @@ module _ (all : List Stored) (tr : IsTree (blocks all)) where
   -- of a block that stands there by its own digest
   justified_itself : (b : Branch) → Among b (blocks all)
       → justified_in (digest_of b) all ≡ Some (ref_of (just1 b))
-  justified_itself b m = justified-found (digest_of b) b (found-itself (blocks all) tr b m)
+  justified_itself b m = justified-found (digest_of b) b (found-itself 0 (blocks all) tr b m)
 
   pub chain-found : (b : Branch) → Among (just1 b) (blocks all)
       → chain_in (ref_of (just1 b)) all ≡ Some (chain_of b)
@@ -45,7 +45,7 @@ module _ (all : List Stored) (tr : IsTree (blocks all)) where
       let two : justified_in (digest_of (just1 b)) all ≡ Some (ref_of (just2 b)) =
       justified_itself (just1 b) m ∙ ap (λ (x : Branch). Some (ref_of x)) (just2-is b) in
       let among : Among (just1 (just1 b)) (blocks all) =
-      tree-below (blocks all) tr (just1 b) (just1 (just1 b)) m (just1-extends (just1 b)) in
+      whole-below (blocks all) tr (just1 b) (just1 (just1 b)) m (just1-extends (just1 b)) in
       let among2 : Among (just2 b) (blocks all) =
       subst (λ (x : Branch). Among x (blocks all)) (just2-is b) among in
       let three : justified_in (digest_of (just2 b)) all ≡ Some (ref_of (just3 b)) =
@@ -56,18 +56,18 @@ module _ (all : List Stored) (tr : IsTree (blocks all)) where
       three
 
   pub third-among : (b : Branch) → Among (just1 b) (blocks all) → Among (just3 b) (blocks all)
-  third-among b m = tree-below (blocks all) tr (just1 b) (just3 b) m (just3-below b)
+  third-among b m = whole-below (blocks all) tr (just1 b) (just3 b) m (just3-below b)
 
 pub decisive-is : (b : Branch) → is_decisive (chain_of b) ≡ decides b
 unfolding decides
 decisive-is b = refl
 
 -- what the block of a digest decides
-pub decided-found : (all : List Stored) (d : Bytes) (b : Branch) → IsTree (blocks all)
+pub decided-found : (all : List Stored) (d : Bytes) (b : Branch) → IsTree 0 (blocks all)
     → find_in d (blocks all) ≡ Some b
     → decided_in d all ≡ (if decides b then Some (digest_of (just3 b)) else None)
 decided-found all d b tr f =
-    let among = tree-below (blocks all) tr b (just1 b) (found-in d (blocks all) b f).0 (just1-extends b) in
+    let among = whole-below (blocks all) tr b (just1 b) (found-in d (blocks all) b f).0 (just1-extends b) in
     ap (option_and_then (λ (first : BlockRef). option_and_then decided_with (chain_in first all)))
     (justified-found all tr d b f)
     ∙ ap (option_and_then decided_with) (chain-found all tr b among)
@@ -78,7 +78,7 @@ pub against-found : (all : List Stored) (c : Chronicle) (b : Branch) → Holds a
     → Among (just1 b) (blocks all)
     → decides_against_in (ref_of (executed c)) (chain_of b) all ≡ decides_against (executed c) b
 against-found all c b h m =
-    let third = found-itself (blocks all) h.is_tree (just3 b) (third-among all h.is_tree b m) in
+    let third = found-itself 0 (blocks all) h.is_tree (just3 b) (third-among all h.is_tree b m) in
     let last = executed-found all c h in
     let up =
     extends-found (digest_of (just3 b)) (digest_of (executed c)) (blocks all) (just3 b) (executed c) third

@@ -13,7 +13,7 @@ use Rattle.block_tree.specs.Finding.{extends_in, clear_above_in}
 
 -- what is stored makes a tree, in which lock and last executed block stand
 pub record Holds (all : List Stored) (c : Chronicle) : Type 0 where
-  pub is_tree : IsTree (blocks all)
+  pub is_tree : IsTree 0 (blocks all)
   pub lock : Among (lock c) (blocks all)
   pub executed : Among (executed c) (blocks all)
 
@@ -28,11 +28,11 @@ sound-holds sizes c s = record {
 
 pub lock-found : (all : List Stored) (c : Chronicle) → Holds all c
     → find_in (digest_of (lock c)) (blocks all) ≡ Some (lock c)
-lock-found all c h = found-itself (blocks all) h.is_tree (lock c) h.lock
+lock-found all c h = found-itself 0 (blocks all) h.is_tree (lock c) h.lock
 
 pub executed-found : (all : List Stored) (c : Chronicle) → Holds all c
     → find_in (digest_of (executed c)) (blocks all) ≡ Some (executed c)
-executed-found all c h = found-itself (blocks all) h.is_tree (executed c) h.executed
+executed-found all c h = found-itself 0 (blocks all) h.is_tree (executed c) h.executed
 
 -- where both stand in the tree, their branches decide
 pub extends-found : (a b : Bytes) (t : List Branch) (x y : Branch) → find_in a t ≡ Some x

@@ -53,14 +53,14 @@ module _ (all : List Stored) (c : Chronicle) (h : Holds all c) where
 
   -- a new block over its parent
   pub may-vote-grown : (most : ℕ) (core : Core) (q s : Certificate) (clear : Bool) (b parent : Branch)
-      → core.justify_height < core.height → IsGrowth most core q (blocks all) b parent
+      → core.justify_height < core.height → IsGrowth 0 most core q (blocks all) b parent
       → may_vote_over (ruled_by c) (candidate_of core clear) all
       ≡ (is_safe b c && clear_above (justify_height b) b
       (record { branch = b; certificate = s; clear = clear } ∷ all))
   unfolding is_safe justify_height
   may-vote-grown most core q s clear b parent below g =
       let new : Among (block_of core ∷ parent) (blocks all) → ⊥ =
-      subst (λ (x : Branch). Among x (blocks all) → ⊥) g.is (growth-new most core q (blocks all) b parent g)
+      subst (λ (x : Branch). Among x (blocks all) → ⊥) g.is (growth-new 0 most core q (blocks all) b parent g)
       in
       let other : lock c ≡ block_of core ∷ parent → ⊥ =
       λ e. new (subst (λ (x : Branch). Among x (blocks all)) e h.lock) in
@@ -97,7 +97,7 @@ may-vote-known sizes c d b s f = may-vote-found (stored_blocks c) c (sound-holds
 -- a block that may stand there, with any certificate
 pub may-vote-new : (sizes : Sizes) (c : Chronicle) (core : Core) (q : Certificate) (a : Admitted)
     → IsSound sizes c → core.justify_height < core.height
-    → placing MOST_BLOCKS core q (tree c) ≡ grows a.branch
+    → placing 0 MOST_BLOCKS core q (tree c) ≡ grows a.branch
     → may_vote_over (ruled_by c) (candidate_of core a.clear) (stored_blocks c)
     ≡ (is_safe a.branch c && clear_above (justify_height a.branch) a.branch
     (stored_block a ∷ stored_blocks c))
@@ -131,7 +131,7 @@ votes-known sizes w c d a s n f =
 
 pub votes-new : (sizes : Sizes) (w : ℕ) (c : Chronicle) (core : Core) (q : Certificate) (a : Admitted)
     → IsSound sizes c → core.justify_height < core.height → a.new ≡ true
-    → placing MOST_BLOCKS core q (tree c) ≡ grows a.branch
+    → placing 0 MOST_BLOCKS core q (tree c) ≡ grows a.branch
     → votes_for sizes (Some w) a c
     ≡ ((w == view sizes c) && may_vote_over (ruled_by c) (candidate_of core a.clear) (stored_blocks c))
 unfolding votes_for

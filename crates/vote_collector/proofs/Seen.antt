@@ -126,7 +126,7 @@ module _ (s : Sizes) (st : Step) (c : Chronicle) (kept : Seen) (of : IsVotesIn s
         higher = omega (arith, both.1, w.its_height);
       }
 
-  module _ (tr : IsTree (tree (st ∷ c))) (x : Branch) (above : certified s (st ∷ c) < length x) where
+  module _ (tr : IsTree 0 (tree (st ∷ c))) (x : Branch) (above : certified s (st ∷ c) < length x) where
     -- the votes for a higher block stay
     votes-stay : Among x (tree (st ∷ c))
         → votes_at (digest_of x) (seen_above (certified s (st ∷ c)) kept) ≡ votes_at (digest_of x) kept
@@ -183,7 +183,7 @@ votes-silent s d (noted timed_out) c h = refl
 votes-silent s d (noted beat) c h = refl
 
 pub seen-else : (s : Sizes) (c : Chronicle) (kept : Seen) (st : Step) → BringsNoVote st
-    → IsTree (tree (st ∷ c)) → IsVotesIn s c kept
+    → IsTree 0 (tree (st ∷ c)) → IsVotesIn s c kept
     → IsVotesIn s (st ∷ c) (seen_above (certified s (st ∷ c)) kept)
 seen-else s c kept st silent tr of = record {
   above = λ x m l. above x m l;
@@ -217,7 +217,7 @@ pub tree-noted : (n : Note) (c : Chronicle) → tree (noted n ∷ c) ≡ tree c
 unfolding tree stored_blocks taken_blocks
 tree-noted n c = refl
 
-module _ (s : Sizes) (c : Chronicle) (kept : Seen) (b : Branch) (vote : Vote) (tr : IsTree (tree c))
+module _ (s : Sizes) (c : Chronicle) (kept : Seen) (b : Branch) (vote : Vote) (tr : IsTree 0 (tree c))
     (m : Among b (tree c)) (of : IsVotesIn s c kept) where
   -- the step
   abbrev pub it : Step
@@ -252,7 +252,7 @@ module _ (s : Sizes) (c : Chronicle) (kept : Seen) (b : Branch) (vote : Vote) (t
               (its_votes (let h = ap (λ (z : Branch). length z) same in omega (arith, h, l)))
           go false e =
               above-next s it c kept of
-              (subst IsTree (sym (tree-noted (got_vote vote.voter vote.vector b) c)) tr) x l new
+              (subst (IsTree 0) (sym (tree-noted (got_vote vote.voter vote.vector b) c)) tr) x l new
               (subst (λ (t : List Branch). Among x t) (tree-noted (got_vote vote.voter vote.vector b) c) k)
               (others (digest_of x) e) (votes-other s c vote.voter vote.vector b (digest_of x) e)
 
@@ -320,8 +320,8 @@ module _ (s : Sizes) (c : Chronicle) (kept : Seen) (b : Branch) (vote : Vote) (t
     says a e = subst (Says (quorum s) vote.voter (votes_at (digest_of b) kept)) e
         (judged-says (quorum s) vote.voter (votes_at (digest_of b) kept))
 
-    now_tree : IsTree (tree (it ∷ c))
-    now_tree = subst IsTree (sym (tree-noted (got_vote vote.voter vote.vector b) c)) tr
+    now_tree : IsTree 0 (tree (it ∷ c))
+    now_tree = subst (IsTree 0) (sym (tree-noted (got_vote vote.voter vote.vector b) c)) tr
 
     pub doubled-vote : judged (quorum s) vote.voter (votes_at (digest_of b) kept) ≡ Doubled
         → IsLeft s (it ∷ c) kept (qc_high s c)

@@ -63,7 +63,7 @@ module _ (s : Sizes) (st : Step) (c : Chronicle) (kept : VotesByDigest) (of : Is
       ap (λ (q : Justified). length q.block) stays in omega (arith, h, w.higher, w.its_height))) kept
       of.alone
 
-  one-height : IsTree (tree (st ∷ c)) → (x y : Bytes × Entry) → OfBlock s c x → OfBlock s c y → x.0 ≡ y.0
+  one-height : IsTree 0 (tree (st ∷ c)) → (x y : Bytes × Entry) → OfBlock s c x → OfBlock s c y → x.0 ≡ y.0
       → x.1.height ≡ y.1.height
   one-height tr x y v w e =
       v.its_height
@@ -71,7 +71,7 @@ module _ (s : Sizes) (st : Step) (c : Chronicle) (kept : VotesByDigest) (of : Is
       (tree-grows st c w.block w.among) (v.its_digest ∙ e ∙ sym w.its_digest)) ∙ sym w.its_height
 
   -- dropping, up to a height that no higher block has
-  dropped : IsTree (tree (st ∷ c)) → (height : ℕ) → certified s (st ∷ c) ≡ height
+  dropped : IsTree 0 (tree (st ∷ c)) → (height : ℕ) → certified s (st ∷ c) ≡ height
       → IsVotesIn s (st ∷ c) (seen_above height (seen kept)) → IsVotesOf s (st ∷ c) (kept_above height kept)
   dropped tr height is w =
       back s (st ∷ c) (kept_above height kept) (seen_above height (seen kept))
@@ -84,7 +84,7 @@ followed-else s c kept st silent tr of =
     dropped s st c kept of tr (certified s (st ∷ c)) refl
     (seen-else s c (seen kept) st silent tr (into s c kept of))
 
-module _ (s : Sizes) (c : Chronicle) (kept : VotesByDigest) (b : Branch) (vote : Vote) (tr : IsTree (tree c))
+module _ (s : Sizes) (c : Chronicle) (kept : VotesByDigest) (b : Branch) (vote : Vote) (tr : IsTree 0 (tree c))
     (m : Among b (tree c)) (of : IsVotesOf s c kept) where
   abbrev step : Step
   step = noted (got_vote vote.voter vote.vector b)
@@ -110,7 +110,7 @@ module _ (s : Sizes) (c : Chronicle) (kept : VotesByDigest) (b : Branch) (vote :
       → Leaves s (step ∷ c) (kept_above (length b) kept)
       (record { block = b; certificate = made_with (digest_of b) vote kept })
   fewer l = (
-    dropped s step c kept of (subst IsTree (sym (tree-noted (got_vote vote.voter vote.vector b) c)) tr)
+    dropped s step c kept of (subst (IsTree 0) (sym (tree-noted (got_vote vote.voter vote.vector b) c)) tr)
         (length b) (ap (λ (q : Justified). length q.block) l.1) l.0,
     l.1,
   )

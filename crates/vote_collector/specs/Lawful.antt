@@ -51,12 +51,12 @@ BeginsEmpty s = IsVotesOf s [] []
 -- a vote for a block of the tree
 abbrev pub IsFollowedAtVote : Sizes → Chronicle → VotesByDigest → Type 0
 IsFollowedAtVote s c kept =
-    (d : Bytes) (b : Branch) (vote : Vote) → IsTree (tree c) → find_in d (tree c) ≡ Some b
+    (d : Bytes) (b : Branch) (vote : Vote) → IsTree 0 (tree c) → find_in d (tree c) ≡ Some b
     → IsVotesOf s c kept → FollowsVote s c kept d b vote
 
 -- any other step: the votes for blocks of at most the height of the highest certificate then may go
 abbrev pub IsFollowedElse : Sizes → Chronicle → VotesByDigest → Type 0
-IsFollowedElse s c kept = (st : Step) → BringsNoVote st → IsTree (tree (st ∷ c)) → IsVotesOf s c kept
+IsFollowedElse s c kept = (st : Step) → BringsNoVote st → IsTree 0 (tree (st ∷ c)) → IsVotesOf s c kept
     → IsVotesOf s (st ∷ c) (kept_above (certified s (st ∷ c)) kept)
 
 -- where that height stays, none are so low

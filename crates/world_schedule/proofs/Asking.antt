@@ -95,14 +95,15 @@ step-right lack self m i r h = by r.standing
 
 -- a block that doesn't fit is refused for something else than its parent
 unfit-other : (core : Core) (q : Certificate) (c : Chronicle) (n : Fault)
-    → IsPlaced MOST_BLOCKS core q (tree c) (unfit n) → n ≡ fault.UnknownParent → ⊥
+    → IsPlaced 0 MOST_BLOCKS core q (tree c) (unfit n) → n ≡ fault.UnknownParent → ⊥
 unfit-other core q c n (inl e) k = cc
 unfit-other core q c n (inr (inl e)) k = cc
 unfit-other core q c n (inr (inr (inl e))) k = cc
-unfit-other core q c n (inr (inr (inr e))) k = cc
+unfit-other core q c n (inr (inr (inr (inl e)))) k = cc
+unfit-other core q c n (inr (inr (inr (inr e)))) k = cc
 
 placed-right : (self : Identity) (w : Option ℕ) (sender : ℕ) (core : Core) (q : Certificate) (f : Findings)
-    (c : Chronicle) (p : Placing) → IsPlaced MOST_BLOCKS core q (tree c) p
+    (c : Chronicle) (p : Placing) → IsPlaced 0 MOST_BLOCKS core q (tree c) p
     → RulesRightly (Some (sender, core.parent)) (on_placing self w sender core q f c p)
 unfolding on_placing
 placed-right self w sender core q f c (stands b) h = tt
@@ -113,8 +114,8 @@ placed-right self w sender core q f c (unfit n) h = unfit-other core q c n h
 block-right : (self : Identity) (w : Option ℕ) (sender : ℕ) (core : Core) (q : Certificate) (f : Findings)
     (c : Chronicle) → RulesRightly (Some (sender, core.parent)) (on_block self w sender core q f c)
 block-right self w sender core q f c =
-    placed-right self w sender core q f c (placing MOST_BLOCKS core q (tree c))
-    (placed MOST_BLOCKS core q (tree c))
+    placed-right self w sender core q f c (placing 0 MOST_BLOCKS core q (tree c))
+    (placed 0 MOST_BLOCKS core q (tree c))
 
 found-right : (o : Option Branch) (sender : ℕ) (d : Bytes) (follows : Branch → Step)
     → RulesRightly (Some (sender, d)) (with_block o sender d (λ b. due (follows b)))

@@ -16,7 +16,7 @@ use Rattle.replica.proofs.blocks.decide_block.Goals as goal
 -- what was planned, of the tree and what came
 abbrev IsPlannedFor : TreeState → Offered → Plan → Type 0
 IsPlannedFor t o p = IsPlanned t o.core o.certificate o.found.clear (Ok p)
-    (placing t.most o.core o.certificate (blocks t.stored))
+    (placing 0 t.most o.core o.certificate (blocks t.stored))
 
 pub returns-in_err-rules-in-Grows : goal.returns-in_err-rules-in-Grows
 returns-in_err-rules-in-Grows c =

@@ -36,6 +36,6 @@ returns-in_ok-node-in-Grows c =
         room = growth-room t.most core q (blocks t.stored) answer;
       };
     } in
-    planned-grows t core q c.args.clear c.in_ok-node-in-Grows.node (placing t.most core q (blocks t.stored))
+    planned-grows t core q c.args.clear c.in_ok-node-in-Grows.node (placing 0 t.most core q (blocks t.stored))
     answer
     (subst (IsNodeFor t core q c.args.clear) (sym c.in_ok-node-in-Grows.ensures.copied) is)
