@@ -14,6 +14,7 @@ pub mod RequestTexts
 pub mod ItemLaws
 pub mod Certificates
 pub mod ReplyTexts
+pub mod Windows
 pub mod Sound
 pub mod Held
 pub mod Checks

@@ -5,7 +5,7 @@ use Rattle.ids.specs.declared.fault.Fault.{Fault}
 use Rattle.ids.specs.declared.fault.Fault.TheVariants as fault
 use Rattle.ids.specs.declared.limits.TheConstants.{MOST_OF_HEIGHT, HEIGHT_LIMIT}
 use Rattle.std.specs.Prelude.{suc, ◌&&◌, true, ℕ, ◌≡◌, ◌==◌, ◌+◌, ◌≤◌, not, Bool, List, [], ◌∷◌, ◌++◌}
-use Rattle.std.specs.Prelude.{map, length, if◌then◌else◌, nat_lt, nat_le, Option, Some, None, find, count_by}
+use Rattle.std.specs.Prelude.{map, length, if◌then◌else◌, nat_lt, nat_le, Option, Some, None, find, filter, count_by}
 use Rattle.std.specs.List.{list_any}
 use Rattle.std.specs.Str.{bytes_eq}
 use Rattle.definitions.specs.Lists.{Among}
@@ -33,6 +33,10 @@ blocks stored = map (λ s. s.branch) stored ++ [] ∷ []
 -- horizon, so that three blocks in direct succession are seen whole.
 abbrev pub is_in_reach : ℕ → Branch → Bool
 is_in_reach horizon b = nat_le horizon (length b + 2)
+
+-- what still stands of these blocks
+abbrev pub standing : ℕ → List Stored → List Stored
+standing horizon stored = filter (λ s. is_in_reach horizon s.branch) stored
 
 -- the block of this digest
 abbrev pub find_in : Bytes → List Branch → Option Branch

@@ -3,3 +3,4 @@ pub mod LineSteps
 mod SmallRun
 mod OneReplica
 mod Rounds
+mod PrunedTree

@@ -8,3 +8,4 @@ pub mod Rounds
 pub mod Runs
 pub mod Tags
 pub mod Views
+pub mod Windows

@@ -11,3 +11,4 @@ pub mod replicas;
 pub mod runs;
 pub mod tags;
 pub mod views;
+pub mod windows;
