@@ -1,6 +1,6 @@
 -- The chain below a block that stands in a tree, and what it decides.
-use Rattle.std.proofs.Common.{◌≡◌, ◌&&◌, not, Bool, true, false, List, length, cond, if◌then◌else◌, refl}
-use Rattle.std.proofs.Common.{sym, ap, subst, ◌∙◌, Some, None, option_map, nat_lt}
+use Rattle.std.proofs.Common.{◌≡◌, ◌==◌, ◌&&◌, suc, not, Bool, true, false, List, length, cond, if◌then◌else◌, refl}
+use Rattle.std.proofs.Common.{sym, ap, subst, ◌∙◌, Option, Some, None, option_map, nat_lt}
 use Rattle.std.specs.Option.{option_and_then}
 use Rattle.definitions.specs.Bytes.{Bytes}
 use Rattle.definitions.specs.Lists.{Among}
@@ -13,18 +13,31 @@ use Rattle.definitions.proofs.Trees.{found-in, found-itself, whole-below}
 use Rattle.replica_rules.specs.declared.block_ref.BlockRef.{BlockRef}
 use Rattle.replica_rules.specs.declared.chain.Chain.{Chain}
 use Rattle.replica_rules.specs.Ruled.{ref_of}
-use Rattle.replica_rules.specs.Chains.{justified_by, justified_in, chain_over, chain_in, is_decisive}
-use Rattle.replica_rules.specs.Chains.{higher_of, decides_against_in, executed_after, decided_with}
-use Rattle.replica_rules.specs.Chains.{decided_in}
+use Rattle.replica_rules.specs.Chains.{justified_by, justified_in, third_in, chain_over, chain_in}
+use Rattle.replica_rules.specs.Chains.{is_decisive, higher_of, conflict_in, decides_against_in, executed_after}
+use Rattle.replica_rules.specs.Chains.{decided_with, decided_in}
 use Rattle.replica_rules.proofs.Held.{Holds, executed-found, extends-found}
+
+-- the same where the second block is the next one below the first, or isn't
+abbrev chain_by : Branch → Bool → Chain
+chain_by b t = record {
+  first = ref_of (just1 b);
+  second = ref_of (just2 b);
+  third = if t then ref_of (just3 b) else ref_of (just2 b);
+}
 
 -- the chain below a block
 abbrev pub chain_of : Branch → Chain
-chain_of b = record { first = ref_of (just1 b); second = ref_of (just2 b); third = ref_of (just3 b) }
+chain_of b = chain_by b (length (just1 b) == suc (length (just2 b)))
 
 -- the last executed block after b was taken, where it doesn't decide against it
 abbrev pub executed_with : Branch → Branch → Branch
 executed_with e b = if decides b then (if nat_lt (length e) (length (just3 b)) then just3 b else e) else e
+
+third_by : (t : Bool) (x y : BlockRef) {o : Option BlockRef} → o ≡ Some x
+    → cond t o (Some y) ≡ Some (cond t x y)
+third_by true x y e = e
+third_by false x y e = refl
 
 module _ (all : List Stored) (tr : IsTree 0 (blocks all)) where
   pub justified-found : (d : Bytes) (b : Branch) → find_in d (blocks all) ≡ Some b
@@ -50,17 +63,37 @@ module _ (all : List Stored) (tr : IsTree 0 (blocks all)) where
       subst (λ (x : Branch). Among x (blocks all)) (just2-is b) among in
       let three : justified_in (digest_of (just2 b)) all ≡ Some (ref_of (just3 b)) =
       justified_itself (just2 b) among2 ∙ ap (λ (x : Branch). Some (ref_of x)) (just3-is b) in
+      let asked : third_in (length (just1 b)) (ref_of (just2 b)) all ≡ Some (chain_of b).third =
+      third_by (length (just1 b) == suc (length (just2 b))) _ _ three in
       ap (option_and_then (chain_over (ref_of (just1 b)) all)) two
       ∙ ap (option_map (λ (third : BlockRef).
       record { first = ref_of (just1 b); second = ref_of (just2 b); third = third }))
-      three
+      asked
 
   pub third-among : (b : Branch) → Among (just1 b) (blocks all) → Among (just3 b) (blocks all)
   third-among b m = whole-below (blocks all) tr (just1 b) (just3 b) m (just3-below b)
 
-pub decisive-is : (b : Branch) → is_decisive (chain_of b) ≡ decides b
+and_false : (x y : Bool) → y ≡ false → (x && y) ≡ false
+and_false true y e = e
+and_false false y e = refl
+
+-- what hangs on a chain that decides is as it is where the third block was asked for
+decided_by : {A : Type 0} (f : Bool → BlockRef → A) (b : Branch)
+    → ((x y : BlockRef) → f false x ≡ f false y) → (t : Bool)
+    → (length (just1 b) == suc (length (just2 b))) ≡ t
+    → f (is_decisive (chain_by b t)) (chain_by b t).third ≡ f (decides b) (ref_of (just3 b))
 unfolding decides
-decisive-is b = refl
+decided_by f b same true e = refl
+decided_by f b same false e =
+    let here : is_decisive (chain_by b false) ≡ false = and_false _ _ e in
+    let none : ((length (just2 b) == suc (length (just3 b))) && (length (just1 b) == suc (length (just2 b))))
+    ≡ false = and_false _ _ e in
+    ap (λ (d : Bool). f d (ref_of (just2 b))) here
+    ∙ (same (ref_of (just2 b)) (ref_of (just3 b)) ∙ ap (λ (d : Bool). f d (ref_of (just3 b))) (sym none))
+
+pub decided-is : {A : Type 0} (f : Bool → BlockRef → A) (b : Branch) → ((x y : BlockRef) → f false x ≡ f false y)
+    → f (is_decisive (chain_of b)) (chain_of b).third ≡ f (decides b) (ref_of (just3 b))
+decided-is f b same = decided_by f b same (length (just1 b) == suc (length (just2 b))) refl
 
 -- what the block of a digest decides
 pub decided-found : (all : List Stored) (d : Bytes) (b : Branch) → IsTree 0 (blocks all)
@@ -71,7 +104,7 @@ decided-found all d b tr f =
     ap (option_and_then (λ (first : BlockRef). option_and_then decided_with (chain_in first all)))
     (justified-found all tr d b f)
     ∙ ap (option_and_then decided_with) (chain-found all tr b among)
-    ∙ ap (λ (t : Bool). cond t (Some (digest_of (just3 b))) None) (decisive-is b)
+    ∙ decided-is (λ t x. cond t (Some x.digest) None) b (λ x y. refl)
 
 -- it decides against the last executed block where its branch does
 pub against-found : (all : List Stored) (c : Chronicle) (b : Branch) → Holds all c
@@ -86,7 +119,8 @@ against-found all c b h m =
     let down =
     extends-found (digest_of (executed c)) (digest_of (just3 b)) (blocks all) (executed c) (just3 b) last
     third in
-    λ i. decisive-is b i && (not (up i) && not (down i))
+    decided-is (λ t x. t && conflict_in x.digest (digest_of (executed c)) (blocks all)) b (λ x y. refl)
+    ∙ (λ i. decides b && (not (up i) && not (down i)))
 
 pub higher-ref : (x y : Branch) (t : Bool) → cond t (ref_of y) (ref_of x) ≡ ref_of (cond t y x)
 higher-ref x y true = refl
@@ -100,5 +134,5 @@ executed_by e b false = refl
 
 pub executed-after : (e b : Branch) → executed_after (ref_of e) (chain_of b) ≡ ref_of (executed_with e b)
 executed-after e b =
-    ap (λ (t : Bool). cond t (higher_of (ref_of e) (ref_of (just3 b))) (ref_of e)) (decisive-is b)
+    decided-is (λ t x. cond t (higher_of (ref_of e) x) (ref_of e)) b (λ x y. refl)
     ∙ executed_by e b (decides b)
