@@ -84,7 +84,8 @@ module _ (t : TreeState) (core : Core) (q : Certificate) (clear : Bool) where
       (record { most = t.most; stored = stored_as n (blocks t.stored) ∷ t.stored }) p
   inserted-grown n (stands b) e h = absurd (cc)
   inserted-grown n (grows b) e h =
-      let g = subst (IsPlaced 0 t.most core q (blocks t.stored)) e (placed 0 t.most core q (blocks t.stored)) in
+      let g =
+      subst (IsPlaced 0 t.most core q (blocks t.stored)) e (placed 0 t.most core q (blocks t.stored)) in
       let same : block_in core (blocks t.stored) ≡ b =
       ap (λ (o : Option Branch). block_of core ∷ elim o [ Some b ↦ b | None ↦ [] ]) g.1.parent_found
       ∙ sym g.1.is in

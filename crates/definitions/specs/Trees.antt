@@ -5,7 +5,8 @@ use Rattle.ids.specs.declared.fault.Fault.{Fault}
 use Rattle.ids.specs.declared.fault.Fault.TheVariants as fault
 use Rattle.ids.specs.declared.limits.TheConstants.{MOST_OF_HEIGHT, HEIGHT_LIMIT}
 use Rattle.std.specs.Prelude.{suc, ◌&&◌, true, ℕ, ◌≡◌, ◌==◌, ◌+◌, ◌≤◌, not, Bool, List, [], ◌∷◌, ◌++◌}
-use Rattle.std.specs.Prelude.{map, length, if◌then◌else◌, nat_lt, nat_le, Option, Some, None, find, filter, count_by}
+use Rattle.std.specs.Prelude.{map, length, if◌then◌else◌, nat_lt, nat_le, Option, Some, None, find, filter}
+use Rattle.std.specs.Prelude.{count_by}
 use Rattle.std.specs.List.{list_any}
 use Rattle.std.specs.Str.{bytes_eq}
 use Rattle.definitions.specs.Lists.{Among}

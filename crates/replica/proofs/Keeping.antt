@@ -33,7 +33,8 @@ Stores c (noted n) = ⊤
 
 placed-stored : (self : Identity) (w : Option ℕ) (sender : ℕ) (core : Core) (q : Certificate) (f : Findings)
     (c : Chronicle) (p : Placing)
-    → IsPlaced 0 MOST_BLOCKS core q (tree c) p → AllStanding (Stores c) (on_placing self w sender core q f c p)
+    → IsPlaced 0 MOST_BLOCKS core q (tree c) p
+    → AllStanding (Stores c) (on_placing self w sender core q f c p)
 unfolding on_placing admitted tree stored_blocks taken_blocks
 placed-stored self w sender core q f c (stands b) h =
     let found = found-in (digest core) (tree c) b h.0 in

@@ -1,6 +1,6 @@
 -- The chain below a block that stands in a tree, and what it decides.
-use Rattle.std.proofs.Common.{◌≡◌, ◌==◌, ◌&&◌, suc, not, Bool, true, false, List, length, cond, if◌then◌else◌, refl}
-use Rattle.std.proofs.Common.{sym, ap, subst, ◌∙◌, Option, Some, None, option_map, nat_lt}
+use Rattle.std.proofs.Common.{◌≡◌, ◌==◌, ◌&&◌, suc, not, Bool, true, false, List, length, cond}
+use Rattle.std.proofs.Common.{if◌then◌else◌, refl, sym, ap, subst, ◌∙◌, Option, Some, None, option_map, nat_lt}
 use Rattle.std.specs.Option.{option_and_then}
 use Rattle.definitions.specs.Bytes.{Bytes}
 use Rattle.definitions.specs.Lists.{Among}
@@ -14,8 +14,8 @@ use Rattle.replica_rules.specs.declared.block_ref.BlockRef.{BlockRef}
 use Rattle.replica_rules.specs.declared.chain.Chain.{Chain}
 use Rattle.replica_rules.specs.Ruled.{ref_of}
 use Rattle.replica_rules.specs.Chains.{justified_by, justified_in, third_in, chain_over, chain_in}
-use Rattle.replica_rules.specs.Chains.{is_decisive, higher_of, conflict_in, decides_against_in, executed_after}
-use Rattle.replica_rules.specs.Chains.{decided_with, decided_in}
+use Rattle.replica_rules.specs.Chains.{is_decisive, higher_of, conflict_in, decides_against_in}
+use Rattle.replica_rules.specs.Chains.{executed_after, decided_with, decided_in}
 use Rattle.replica_rules.proofs.Held.{Holds, executed-found, extends-found}
 
 -- the same where the second block is the next one below the first, or isn't
@@ -91,7 +91,8 @@ decided_by f b same false e =
     ap (λ (d : Bool). f d (ref_of (just2 b))) here
     ∙ (same (ref_of (just2 b)) (ref_of (just3 b)) ∙ ap (λ (d : Bool). f d (ref_of (just3 b))) (sym none))
 
-pub decided-is : {A : Type 0} (f : Bool → BlockRef → A) (b : Branch) → ((x y : BlockRef) → f false x ≡ f false y)
+pub decided-is : {A : Type 0} (f : Bool → BlockRef → A) (b : Branch)
+    → ((x y : BlockRef) → f false x ≡ f false y)
     → f (is_decisive (chain_of b)) (chain_of b).third ≡ f (decides b) (ref_of (just3 b))
 decided-is f b same = decided_by f b same (length (just1 b) == suc (length (just2 b))) refl
 

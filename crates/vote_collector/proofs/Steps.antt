@@ -84,8 +84,8 @@ followed-else s c kept st silent tr of =
     dropped s st c kept of tr (certified s (st ∷ c)) refl
     (seen-else s c (seen kept) st silent tr (into s c kept of))
 
-module _ (s : Sizes) (c : Chronicle) (kept : VotesByDigest) (b : Branch) (vote : Vote) (tr : IsTree 0 (tree c))
-    (m : Among b (tree c)) (of : IsVotesOf s c kept) where
+module _ (s : Sizes) (c : Chronicle) (kept : VotesByDigest) (b : Branch) (vote : Vote)
+    (tr : IsTree 0 (tree c)) (m : Among b (tree c)) (of : IsVotesOf s c kept) where
   abbrev step : Step
   step = noted (got_vote vote.voter vote.vector b)
 

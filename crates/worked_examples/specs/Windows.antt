@@ -48,16 +48,16 @@ abbrev pub JustifiesTheHorizon : Type 0
 JustifiesTheHorizon =
     (place_at 4 (chain 5) ≡ stands (chain 5)) × (place_at 4 (on 4 (chain 7)) ≡ grows (on 4 (chain 7)))
 
--- A block that justifies one below it is refused: the first one, which stands no more; the fourth, which does,
--- also with a certificate for another block; and a new one.
+-- A block that justifies one below it is refused: the first one, which stands no more; the fourth, which
+-- does, also with a certificate for another block; and a new one.
 abbrev pub JustifiesBelow : Type 0
 JustifiesBelow =
     (place_at 4 (chain 1) ≡ unfit fault.Pruned) × (place_at 4 (chain 4) ≡ unfit fault.Pruned)
     × (place_with 4 (chain 4) (certificate_for []) ≡ unfit fault.Pruned)
     × (place_at 4 (on 3 (chain 7)) ≡ unfit fault.Pruned)
 
--- Of a block that justifies none below it the other tests decide: a block that stands has another certificate;
--- the parent of a new one is pruned.
+-- Of a block that justifies none below it the other tests decide: a block that stands has another
+-- certificate; the parent of a new one is pruned.
 abbrev pub OtherTests : Type 0
 OtherTests =
     (place_with 4 (chain 5) (certificate_for []) ≡ unfit fault.WrongJustify)
