@@ -24,11 +24,11 @@ use crate::replicas::{Sizes, lent, number, replicas_of};
 use crate::told::tell_all;
 use anyhow::Result;
 use ids::Fault;
-use replica::Replica;
+use replica::Archived;
 use std::alloc::Global;
 
 /// What an audit of replicas answers.
-fn answer(alloc: Global, replicas: &[Replica], asked: &str) -> Result<String, Fault> {
+fn answer(alloc: Global, replicas: &[Archived], asked: &str) -> Result<String, Fault> {
     let mut text = String::new(alloc);
     tell_all(&lent(alloc, replicas)?, asked, &mut text)?;
     Ok(text)

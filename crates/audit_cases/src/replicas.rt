@@ -6,7 +6,7 @@ ghost use Rattle.admission.specs.Inputs.{is_addressed};
 
 use admission::admit;
 use ids::{Config, Fault, PartyId, ReplicaId};
-use replica::{Input, Replica};
+use replica::{Archived, Input};
 use simulated_keys::keyring_of;
 use std::alloc::Global;
 
@@ -46,7 +46,7 @@ fn brought_by(alloc: Global, words: &str) -> Result<Vec<Brought>, Fault> {
 }
 
 /// Steps a replica. A refusal is passed over, but for one of memory.
-fn step(replica: &mut Replica, input: Input<'_>) -> Result<(), Fault>
+fn step(replica: &mut Archived, input: Input<'_>) -> Result<(), Fault>
     requires { IsTrue (is_addressed replica.old.keys input) }
 {
     match replica.step(input) {
@@ -56,7 +56,7 @@ fn step(replica: &mut Replica, input: Input<'_>) -> Result<(), Fault>
 }
 
 /// Brings the bytes of a frame, checked with the keys of the replica.
-fn receive(alloc: Global, replica: &mut Replica, bytes: &[u8]) -> Result<(), Fault> {
+fn receive(alloc: Global, replica: &mut Archived, bytes: &[u8]) -> Result<(), Fault> {
     let (config, own) = (replica.config(), replica.number());
     if own.0 >= config.n() {
         return Err(Fault::NoSuchParty);
@@ -69,7 +69,7 @@ fn receive(alloc: Global, replica: &mut Replica, bytes: &[u8]) -> Result<(), Fau
 }
 
 /// Brings all that is brought to a replica.
-fn bring(alloc: Global, replica: &mut Replica, all: &[Brought]) -> Result<(), Fault> {
+fn bring(alloc: Global, replica: &mut Archived, all: &[Brought]) -> Result<(), Fault> {
     for brought in all {
         match brought {
             Brought::Beat => step(replica, Input::Beat)?,
@@ -81,15 +81,15 @@ fn bring(alloc: Global, replica: &mut Replica, all: &[Brought]) -> Result<(), Fa
 }
 
 /// A replica that has made no step.
-fn first(alloc: Global, config: Config, own: ReplicaId) -> Result<Replica, Fault>
+fn first(alloc: Global, config: Config, own: ReplicaId) -> Result<Archived, Fault>
     requires { own < replicas config }
 {
     let ring = keyring_of(alloc, config, PartyId::from(own))?;
-    Replica::new(alloc, config, own, ring)
+    Archived::new(alloc, config, own, ring)
 }
 
 /// The replica of a field, before its inputs come.
-fn named(alloc: Global, sizes: Sizes, name: &str) -> Result<Replica, Fault> {
+fn named(alloc: Global, sizes: Sizes, name: &str) -> Result<Archived, Fault> {
     let (own, clients) = match name.split_once('@') {
         Some((own, clients)) => (own, number(clients)?),
         None => (name, sizes.clients),
@@ -111,7 +111,7 @@ fn beside<T: Drop>(value: T, given: Result<(), Fault>) -> Result<T, Fault> {
 }
 
 /// The replica of a field.
-fn replica_of(alloc: Global, sizes: Sizes, field: &str) -> Result<Replica, Fault> {
+fn replica_of(alloc: Global, sizes: Sizes, field: &str) -> Result<Archived, Fault> {
     let (name, words) = field.split_once(',').unwrap_or((field, ""));
     let all = brought_by(alloc, words)?;
     let mut replica = named(alloc, sizes, name)?;
@@ -124,7 +124,7 @@ fn push_all(
     alloc: Global,
     sizes: Sizes,
     fields: &str,
-    replicas: &mut Vec<Replica>,
+    replicas: &mut Vec<Archived>,
 ) -> Result<(), Fault> {
     for field in fields.split_whitespace() {
         replicas.push(replica_of(alloc, sizes, field)?)?;
@@ -137,14 +137,17 @@ pub(crate) fn replicas_of(
     alloc: Global,
     sizes: Sizes,
     fields: &str,
-) -> Result<Vec<Replica>, Fault> {
+) -> Result<Vec<Archived>, Fault> {
     let mut replicas = Vec::new(alloc);
     let pushed = push_all(alloc, sizes, fields, &mut replicas);
     beside(replicas, pushed)
 }
 
 /// References to replicas.
-pub(crate) fn lent<'a>(alloc: Global, replicas: &'a [Replica]) -> Result<Vec<&'a Replica>, Fault> {
+pub(crate) fn lent<'a>(
+    alloc: Global,
+    replicas: &'a [Archived],
+) -> Result<Vec<&'a Archived>, Fault> {
     let mut lent = Vec::new(alloc);
     for replica in replicas {
         lent.push(replica)?;

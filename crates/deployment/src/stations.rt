@@ -15,7 +15,7 @@ use key_file::PairKeys;
 use liars::Liar;
 use locked_replica::{Kept, Locked, Share};
 use marks::{Eye, Marks};
-use replica::Replica;
+use replica::Archived;
 use std::alloc::Global;
 use std::sync::atomic::AtomicBool;
 use std::sync::{Mutex, Wait};
@@ -166,7 +166,7 @@ fn new_kept<'a>(
     requires eye { eye ≡ first_eye marks.now number }
 {
     let keyring = keys.keyring(alloc, number.into())?;
-    let replica = Replica::new(alloc, keys.config(), number, keyring)?;
+    let replica = Archived::new(alloc, keys.config(), number, keyring)?;
     Ok(Kept::new(alloc, replica, eye, marks))
 }
 

@@ -20,7 +20,7 @@ mod pending;
 
 use crate::pending::{ask, bytes_of, client, drop_executed, fill, key_of, pick};
 use anyhow::Result;
-use executor::{Answer, Executor};
+use executor::{Answer, Entries, Executor};
 use frames_view::{CommandView, Commands, Frame, read};
 use ids::{Config, Fault};
 use mempool::Mempool;
@@ -38,14 +38,17 @@ fn answer_text(alloc: Global, answer: &Answer) -> Result<String, Fault> {
     )?)
 }
 
+/// An executor, and what it executed.
+#[derive(Drop)]
+struct Run {
+    executor: Executor,
+    entries: Entries,
+}
+
 /// Executes the commands of a block, and tells the answers.
-fn tell_block(
-    alloc: Global,
-    executor: &mut Executor,
-    commands: Commands<'_>,
-) -> Result<String, Fault> {
+fn tell_block(alloc: Global, run: &mut Run, commands: Commands<'_>) -> Result<String, Fault> {
     let mut told = String::new(alloc);
-    let answers = executor.run_block(commands)?;
+    let answers = run.executor.run_block(commands, &mut run.entries)?;
     for answer in &answers {
         told.push_str("; ")?;
         told.push_str(&answer_text(alloc, answer)?)?;
@@ -54,27 +57,18 @@ fn tell_block(
 }
 
 /// Executes a command, and tells the answer.
-fn tell_command(
-    alloc: Global,
-    executor: &mut Executor,
-    command: &CommandView<'_>,
-) -> Result<String, Fault> {
-    match executor.run(command)? {
+fn tell_command(alloc: Global, run: &mut Run, command: &CommandView<'_>) -> Result<String, Fault> {
+    match run.executor.run(command, &mut run.entries)? {
         Some(answer) => Ok(format!(in alloc; "; {}", answer_text(alloc, &answer)?)?),
         None => Ok(String::new(alloc)),
     }
 }
 
 /// Executes what a frame brings, and tells the answers.
-fn execute(
-    alloc: Global,
-    config: &Config,
-    executor: &mut Executor,
-    bytes: &[u8],
-) -> Result<String, Fault> {
+fn execute(alloc: Global, config: &Config, run: &mut Run, bytes: &[u8]) -> Result<String, Fault> {
     match read(config, bytes) {
-        Ok(Frame::Block(frame)) => tell_block(alloc, executor, frame.core().commands()),
-        Ok(Frame::Request(command)) => tell_command(alloc, executor, &command),
+        Ok(Frame::Block(frame)) => tell_block(alloc, run, frame.core().commands()),
+        Ok(Frame::Request(command)) => tell_command(alloc, run, &command),
         _ => Err(Fault::NotMine),
     }
 }
@@ -83,12 +77,12 @@ fn execute(
 fn tell_frame(
     alloc: Global,
     config: &Config,
-    executor: &mut Executor,
+    run: &mut Run,
     digits: &str,
 ) -> Result<String, Fault> {
     let bytes = bytes_of(alloc, digits)?;
-    let told = execute(alloc, config, executor, &bytes)?;
-    Ok(format!(in alloc; "{}{told}", executor.len())?)
+    let told = execute(alloc, config, run, &bytes)?;
+    Ok(format!(in alloc; "{}{told}", run.executor.len())?)
 }
 
 /// The answer that is kept for a client's number.
@@ -101,15 +95,15 @@ fn tell_reply(alloc: Global, executor: &Executor, words: &str) -> Result<String,
 }
 
 /// How many entries there are, and a digest of them.
-fn tell_history(alloc: Global, executor: &Executor) -> Result<String, Fault> {
+fn tell_history(alloc: Global, run: &Run) -> Result<String, Fault> {
     let mut told = Sha256::new();
-    for entry in executor.history() {
+    for entry in &run.entries {
         let payload = hex::encode(alloc, entry.payload())?;
         let line = format!(in alloc; "{} {} {payload}\n", entry.client(), entry.seq())?;
         told.update(&line);
     }
     let digest = hex::encode(alloc, &told.finalize()[..16])?;
-    Ok(format!(in alloc; "{} {digest}", executor.len())?)
+    Ok(format!(in alloc; "{} {digest}", run.executor.len())?)
 }
 
 /// A client's last number.
@@ -118,17 +112,20 @@ fn tell_last(alloc: Global, executor: &Executor, digits: &str) -> Result<String,
     Ok(format!(in alloc; "{last}")?)
 }
 
-/// The executor and the pending requests.
+/// What is executed, and the pending requests.
 #[derive(Drop)]
 struct Parts {
-    executor: Executor,
+    run: Run,
     pool: Mempool,
 }
 
 impl Parts {
     fn new(alloc: Global) -> Result<Parts, Fault> {
         Ok(Parts {
-            executor: Executor::new(alloc)?,
+            run: Run {
+                executor: Executor::new(alloc)?,
+                entries: Entries::new(alloc),
+            },
             pool: Mempool::new(alloc),
         })
     }
@@ -154,12 +151,12 @@ fn tell_pending(
 /// What is told of a line.
 fn tell(alloc: Global, config: &Config, parts: &mut Parts, line: &str) -> Result<String, Fault> {
     let (word, rest) = line.split_once(' ').unwrap_or((line, ""));
-    let executor = &mut parts.executor;
+    let run = &mut parts.run;
     match word {
-        "block" | "request" => tell_frame(alloc, config, executor, rest),
-        "reply" => tell_reply(alloc, executor, rest),
-        "last" => tell_last(alloc, executor, rest),
-        "history" => tell_history(alloc, executor),
+        "block" | "request" => tell_frame(alloc, config, run, rest),
+        "reply" => tell_reply(alloc, &run.executor, rest),
+        "last" => tell_last(alloc, &run.executor, rest),
+        "history" => tell_history(alloc, run),
         "new" => {
             *parts = Parts::new(alloc)?;
             Ok(String::from_str(alloc, "new")?)

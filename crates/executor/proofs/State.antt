@@ -1,9 +1,8 @@
 -- The state of an executor after one more entry.
 use Rattle.ids.specs.declared.limits.TheConstants.{MOST_KEYS}
 use Rattle.std.proofs.Common.{ℕ, zero, ◌≡◌, ◌≢◌, ◌==◌, Bool, true, false, List, [], ◌∷◌, ◌++◌, cond, refl}
-use Rattle.std.proofs.Common.{sym, ap, ◌∙◌, Option, Some, None, reverse, length, suc}
+use Rattle.std.proofs.Common.{sym, ap, ◌∙◌, Option, Some, None, length, suc}
 use Rattle.std.proofs.lemmas.Bool.{cond-true, cond-false, eqb-true, eqb-false}
-use Rattle.std.proofs.lemmas.List.{reverse-append}
 use Rattle.cache.specs.Bounded.{Bounded}
 use Rattle.definitions.specs.Replies.{reply_text}
 use Rattle.definitions.specs.Cache.{Cache, empty_cache, apply_payload}
@@ -12,10 +11,6 @@ use Rattle.definitions.specs.Histories.{answer_to, if_numbered, cache_after}
 use Rattle.executor.specs.Rows.{row, numbered_after, number_in}
 use Rattle.executor.specs.State.{IsStateOf, answer_at}
 use Rattle.executor.proofs.Told.{fresh-is, number-is, first-answer, stale-answer, fresh-answer, others-answer}
-
--- oldest first, one more stands at the end
-pub entered : (es : List Entry) (e : Entry) → reverse (es ++ e ∷ []) ≡ e ∷ reverse es
-entered es e = reverse-append es (e ∷ [])
 
 -- a row more that nothing stands in
 pub rows-more : (rows : List (Option Answer)) → ((client : ℕ) → row rows client ≡ None) → (client : ℕ)

@@ -16,9 +16,9 @@ const MOST_CHANGED: usize = 22;
 
 /// The text of one reply, to be told now and to be kept.
 #[derive(Drop)]
-pub(crate) struct Texts {
-    pub(crate) told: Vec<u8>,
-    pub(crate) kept: Vec<u8>,
+pub struct ReplyTexts {
+    pub told: Vec<u8>,
+    pub kept: Vec<u8>,
 }
 
 /// Does what a payload asks; one that isn't a canonical request leaves the cache.
@@ -41,7 +41,7 @@ fn reply_to(cache: &mut Cache, payload: &[u8]) -> Result<Reply, Fault>
 /// Does what a payload asks, and gives the text of the reply.
 ///
 /// The room for each text that comes with a change is made first; a longer one comes with no change.
-pub(crate) fn apply(alloc: Global, cache: &mut Cache, payload: &[u8]) -> Result<Texts, Fault>
+pub(crate) fn apply(alloc: Global, cache: &mut Cache, payload: &[u8]) -> Result<ReplyTexts, Fault>
     ensures left { OnOk result (
         let outcome = apply_payload cache.old.most cache.old.cache payload.now in
         cache.new ≡ record cache.old { cache = outcome.0 }) }
@@ -57,5 +57,5 @@ pub(crate) fn apply(alloc: Global, cache: &mut Cache, payload: &[u8]) -> Result<
     let reply = reply_to(cache, payload)?;
     write_reply(&reply, &mut told)?;
     append(&mut kept, &[told.as_slice()])?;
-    Ok(Texts { told, kept })
+    Ok(ReplyTexts { told, kept })
 }

@@ -6,7 +6,7 @@ ghost use Rattle.definitions.specs.Cache.{apply_payload};
 ghost use Rattle.definitions.specs.Replies.{reply_text};
 ghost use Rattle.executor.specs.Payloads.{entry_in, entries_in, LiesIn, AreRowsOf};
 
-use crate::apply::{Texts, apply};
+use crate::apply::{ReplyTexts, apply};
 use crate::entry::Entry;
 use appending::put;
 use cache::Cache;
@@ -147,7 +147,7 @@ impl Entries {
         alloc: Global,
         cache: &mut Cache,
         entry: &Entry<'_>,
-    ) -> Result<Texts, Fault>
+    ) -> Result<ReplyTexts, Fault>
         ensures entered { OnOk result (self.new ≡ self.old ++ entry.now ∷ []) }
         ensures left { OnOk result (
             let outcome = apply_payload cache.old.most cache.old.cache entry.now.payload in

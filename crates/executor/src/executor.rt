@@ -1,15 +1,16 @@
 //! The execution of decided commands.
 
 ghost use Rattle.std.specs.Prelude.{◌≡◌, ◌==◌, ◌<◌, ℕ, vec_len, vec_capacity, option_to_list, true, false};
-ghost use Rattle.std.specs.Prelude.{[], ◌∷◌, ◌++◌, take, length, reverse, option_map, IfOk, OnOk, OnErr};
+ghost use Rattle.std.specs.Prelude.{[], ◌∷◌, ◌++◌, take, length, option_map, IfOk, OnOk, OnErr};
 ghost use Rattle.definitions.specs.Histories.{entry_of, is_fresh, last_seq, answer_in, answer_to};
 ghost use Rattle.frames_view.specs.Views.{command_of, commands_left};
 ghost use Rattle.executor.specs.State.{answer_at, with_commands, new_answers};
 
 use crate::answer::Answer;
 use crate::clients::Clients;
-use crate::entries::Entries;
 use crate::entry::Entry;
+use crate::executed::Executed;
+use crate::ledger::Ledger;
 use cache::Cache;
 use frames_view::{CommandView, Commands};
 use ids::{ClientId, Fault, MOST_KEYS, Place, Seq};
@@ -22,19 +23,18 @@ pub struct Executor {
     alloc: Global,
     cache: Cache,
     clients: Clients,
-    entries: Entries,
+    history: Executed,
 }
 
 impl Model for Executor {
-    ghost use Rattle.std.specs.Prelude.{reverse};
     ghost use Rattle.definitions.specs.Histories.{History};
     ghost use Rattle.executor.specs.State.{IsStateOf};
 
     ghost Value = { History };
 
-    ghost view = { λ x. reverse x.entries };
+    ghost view = { λ x. x.history };
 
-    ghost invariant = { λ x. IsStateOf (reverse x.entries) x.cache x.clients };
+    ghost invariant = { λ x. IsStateOf x.history x.cache x.clients };
 }
 
 /// Puts an answer last, where there is one.
@@ -57,7 +57,7 @@ impl Executor {
             alloc,
             cache: Cache::new(alloc, MOST_KEYS),
             clients: Clients::new(alloc)?,
-            entries: Entries::new(alloc),
+            history: Executed::new(),
         })
     }
 
@@ -65,21 +65,14 @@ impl Executor {
     pub fn len(&self) -> usize
         ensures { result ≡ length self.now }
     {
-        self.entries.len()
+        self.history.len()
     }
 
     /// Whether none was executed.
     pub fn is_empty(&self) -> bool
         ensures { result ≡ (length self.now == 0) }
     {
-        self.entries.is_empty()
-    }
-
-    /// What was executed, oldest first.
-    pub fn history(&self) -> &Entries
-        ensures { reverse result.now ≡ self.now }
-    {
-        &self.entries
+        self.history.len() == 0
     }
 
     /// The greatest number of a client's commands; 0 where it has none.
@@ -102,45 +95,56 @@ impl Executor {
     }
 
     /// Enters a command that is not fresh.
-    fn enter(&mut self, entry: &Entry<'_>) -> Result<(), Fault>
+    fn enter<L: Ledger>(&mut self, entry: &Entry<'_>, ledger: &mut L) -> Result<(), Fault>
         requires { is_fresh entry.now self.old ≡ false }
         ensures entered { OnOk result (self.new ≡ entry.now ∷ self.old) }
+        ensures written { L.holds ledger.old self.old → L.holds ledger.new self.new }
         ensures unchanged { OnErr result (self.new ≡ self.old) }
         ensures memory { OnErr result (result ≡ Err Fault.Memory) }
     {
-        self.entries.push(entry)?;
+        self.history.room()?;
+        ledger.push(entry)?;
+        self.history.put(entry);
         Ok(())
     }
 
     /// Executes a fresh command.
-    fn execute(&mut self, entry: &Entry<'_>) -> Result<Answer, Fault>
+    fn execute<L: Ledger>(&mut self, entry: &Entry<'_>, ledger: &mut L) -> Result<Answer, Fault>
         requires { is_fresh entry.now self.old ≡ true }
         ensures executed { OnOk result (self.new ≡ entry.now ∷ self.old) }
+        ensures written { L.holds ledger.old self.old → L.holds ledger.new self.new }
         ensures answered { IfOk result (λ a. a ≡ answer_in entry.now self.old) }
         ensures unchanged { OnErr result (self.new ≡ self.old) }
         ensures memory { OnErr result (result ≡ Err Fault.Memory) }
     {
-        let texts = self
-            .entries
-            .push_applied(self.alloc, &mut self.cache, entry)?;
-        let place = Place(self.entries.len() as u64);
+        self.history.room()?;
+        let texts = ledger.push_applied(self.alloc, &mut self.cache, entry)?;
+        self.history.put(entry);
+        let place = Place(self.history.len() as u64);
         let answer = Answer::to(entry, place, texts.told);
         self.clients.set(Answer::to(entry, place, texts.kept));
         Ok(answer)
     }
 
     /// Executes one command: it stands last in the history, and where it is fresh it is applied and answered.
-    pub fn run(&mut self, command: &CommandView<'_>) -> Result<Option<Answer>, Fault>
+    ///
+    /// It is written down in the ledger too. Where that takes memory, it is taken before anything changes.
+    pub fn run<L: Ledger>(
+        &mut self,
+        command: &CommandView<'_>,
+        ledger: &mut L,
+    ) -> Result<Option<Answer>, Fault>
         ensures executed { OnOk result (self.new ≡ entry_of (command_of command.now) ∷ self.old) }
+        ensures written { L.holds ledger.old self.old → L.holds ledger.new self.new }
         ensures answered { IfOk result (λ a. a ≡ answer_at (entry_of (command_of command.now)) self.old) }
         ensures unchanged { OnErr result (self.new ≡ self.old) }
         ensures memory { OnErr result (result ≡ Err Fault.Memory) }
     {
         let entry = Entry::of(command);
         if self.clients.is_after(entry.client(), entry.seq()) {
-            Ok(Some(self.execute(&entry)?))
+            Ok(Some(self.execute(&entry, ledger)?))
         } else {
-            self.enter(&entry)?;
+            self.enter(&entry, ledger)?;
             Ok(None)
         }
     }
@@ -148,8 +152,13 @@ impl Executor {
     /// Executes the commands of a block in their order, and gives the answers to those that are fresh.
     ///
     /// Where memory is refused, the commands before that one stand.
-    pub fn run_block(&mut self, commands: Commands<'_>) -> Result<Vec<Answer>, Fault>
+    pub fn run_block<L: Ledger>(
+        &mut self,
+        commands: Commands<'_>,
+        ledger: &mut L,
+    ) -> Result<Vec<Answer>, Fault>
         ensures executed { OnOk result (self.new ≡ with_commands (commands_left commands.entry) self.old) }
+        ensures written { L.holds ledger.old self.old → L.holds ledger.new self.new }
         ensures answered { IfOk result (λ v. v.items ≡ new_answers self.old self.new) }
         ensures cut { OnErr result (
             let all = commands_left commands.entry in
@@ -159,7 +168,7 @@ impl Executor {
         let mut answers = Vec::new(self.alloc);
         for command in commands {
             answers.reserve(1)?;
-            let answer = self.run(&command)?;
+            let answer = self.run(&command, ledger)?;
             put(&mut answers, answer);
         }
         Ok(answers)

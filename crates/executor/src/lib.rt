@@ -6,9 +6,13 @@ mod apply;
 mod clients;
 mod entries;
 mod entry;
+mod executed;
 mod executor;
+mod ledger;
 
 pub use answer::Answer;
+pub use apply::ReplyTexts;
 pub use entries::{Entries, EntryIter};
 pub use entry::Entry;
 pub use executor::Executor;
+pub use ledger::{Ledger, NoLedger};

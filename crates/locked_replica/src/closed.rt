@@ -2,13 +2,13 @@
 
 use crate::kept::Kept;
 use marks::Eye;
-use replica::Replica;
+use replica::Archived;
 use turns::Share;
 
 /// A replica whose shares have all come back, and the eye that owns its mark.
 #[derive(Drop)]
 pub struct Closed {
-    pub replica: Replica,
+    pub replica: Archived,
     pub eye: Eye,
 }
 

@@ -17,7 +17,7 @@ use crate::once::each_once;
 use certificates::{Authenticated, Checked};
 use ids::{Fault, PartyId, ReplicaId};
 use marks::{Eye, Marks};
-use replica::{Input, Out, Replica};
+use replica::{Archived, Input, Out};
 use std::alloc::Global;
 use std::marker::Model;
 use std::sync::Mutex;
@@ -28,7 +28,7 @@ use turns::Share;
 /// The counts add up to the steps that stand, and the mark says how many commands were executed.
 #[derive(Drop)]
 pub struct Kept<'a> {
-    replica: Replica,
+    replica: Archived,
     shares: Vec<usize>,
     eye: Eye,
     marks: &'a Marks,
@@ -56,7 +56,7 @@ impl<'a> Model for Kept<'a> {
 }
 
 /// How many commands a replica has executed, as its mark is to say.
-fn executed(replica: &Replica) -> u64
+fn executed(replica: &Archived) -> u64
     ensures { result ≡ mark_of replica.now.replica }
 {
     replica.history().len() as u64
@@ -65,7 +65,7 @@ fn executed(replica: &Replica) -> u64
 impl<'a> Kept<'a> {
     /// Keeps a replica that has made no step, and the eye that owns its mark. No share is made of it yet.
     #[tactic(auto, using(crate::proofs::Growth::mark_first))]
-    pub fn new(alloc: Global, replica: Replica, eye: Eye, marks: &'a Marks) -> Kept<'a>
+    pub fn new(alloc: Global, replica: Archived, eye: Eye, marks: &'a Marks) -> Kept<'a>
         requires no_step { replica.replica.chronicle ≡ [] }
         requires from { eye.marks ≡ marks.now }
         requires owner { (replica.keys.party < marks.now.words) × IsOwnerOf replica.keys.party eye.sight }
@@ -98,7 +98,7 @@ impl<'a> Kept<'a> {
     }
 
     /// The replica.
-    pub fn replica(&self) -> &Replica
+    pub fn replica(&self) -> &Archived
         ensures { result.now ≡ record { keys = self.now.keys; replica = self.now.replica } }
     {
         &self.replica

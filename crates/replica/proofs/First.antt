@@ -1,6 +1,6 @@
 -- A replica that has made no step.
 use Rattle.ids.specs.declared.limits.TheConstants.{MOST_BLOCKS}
-use Rattle.std.proofs.Common.{List, ◌≡◌, [], sym, ap, subst, None}
+use Rattle.std.proofs.Common.{List, ◌≡◌, [], refl, sym, ap, subst, None}
 use Rattle.definitions.specs.Frames.{genesis_core}
 use Rattle.definitions.specs.Keyrings.{Keys}
 use Rattle.definitions.specs.Digests.{digest}
@@ -61,3 +61,7 @@ first-whole keys s h is e =
       fit = λ x m. subst (AllKnown (IsCore keys.sizes)) (sym (only-genesis x m)) tt;
       stored = λ a m. absurd m;
     }
+
+pub first-history : held_history (record { chronicle = []; standing = running }) ≡ []
+unfolding held_history history history_of executed decided highest decided_by tree stored_blocks taken_blocks
+first-history = refl

@@ -1,6 +1,7 @@
 pub mod Steps
 pub mod Entries
 pub mod Replay
+pub mod Logs
 pub mod Kept
 pub mod Changes
 pub mod StepsTo

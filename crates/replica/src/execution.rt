@@ -16,7 +16,7 @@ use crate::branch::block_at;
 use crate::state::State;
 use authenticators::Keyring;
 use block_tree::{Node, Tree};
-use executor::{Answer, Executor};
+use executor::{Answer, Executor, Ledger};
 use frame_writers::ReplyText;
 use frames_view::Commands;
 use ids::{Digest, Fault, Height, Kind};
@@ -94,10 +94,11 @@ fn forget(pool: &mut Mempool, commands: Commands<'_>)
     }
 }
 
-/// Executes the commands of a block, which wait no more then, and sends the replies. Where memory
-/// is refused, some of them were executed.
-fn execute_block(
+/// Executes the commands of a block, which wait no more then, writes them down, and sends the replies.
+/// Where memory is refused, some of them were executed.
+fn execute_block<L: Ledger>(
     executor: &mut Executor,
+    ledger: &mut L,
     pool: &mut Mempool,
     alloc: Global,
     keyring: &Keyring,
@@ -106,21 +107,23 @@ fn execute_block(
 ) -> Result<(), Fault>
     requires { keyring.now.party < replicas keyring.now.sizes }
     ensures executed { OnOk result (executor.new ≡ with_commands block.now.core.commands executor.old) }
+    ensures written { L.holds ledger.old executor.old → L.holds ledger.new executor.new }
     ensures left { OnOk result
         (pool.new ≡ left_after (reverse (map entry_of block.now.core.commands)) pool.old) }
     ensures told { OnOk result
         (out.new ≡ out.old ++ told keyring.now (new_answers executor.old executor.new)) }
     ensures cut { OnErr result (IsCutIn block.now.core.commands executor.old executor.new pool.old pool.new) }
 {
-    let answers = executor.run_block(block.core().commands())?;
+    let answers = executor.run_block(block.core().commands(), ledger)?;
     forget(pool, block.core().commands());
     tell(alloc, keyring, &answers, out)
 }
 
 /// Executes the blocks of a branch above one height up to another, lowest first. Where memory is
 /// refused, some of their commands were executed.
-fn execute_between(
+fn execute_between<L: Ledger>(
     executor: &mut Executor,
+    ledger: &mut L,
     pool: &mut Mempool,
     tree: &Tree,
     tip: &Digest,
@@ -133,6 +136,7 @@ fn execute_between(
     requires { keyring.now.party < replicas keyring.now.sizes }
     ensures executed { OnOk result
         (executor.new ≡ history_above tip.now tree.now.stored from (to - from) executor.old) }
+    ensures written { L.holds ledger.old executor.old → L.holds ledger.new executor.new }
     ensures left { OnOk result
         (pool.new ≡ left_after (history_above tip.now tree.now.stored from (to - from) []) pool.old) }
     ensures told { OnOk result
@@ -142,7 +146,7 @@ fn execute_between(
 {
     for height in from..to {
         if let Some(block) = block_at(tree, tip, Height(height + 1)) {
-            execute_block(executor, pool, alloc, keyring, block, out)?;
+            execute_block(executor, ledger, pool, alloc, keyring, block, out)?;
         }
     }
     Ok(())
@@ -150,11 +154,12 @@ fn execute_between(
 
 /// Executes what was decided above a height, lowest first. Where memory is refused, some of the
 /// commands were executed.
-pub(crate) fn execute(
+pub(crate) fn execute<L: Ledger>(
     state: &mut State,
     keyring: &Keyring,
     from: Height,
     executor: &mut Executor,
+    ledger: &mut L,
     out: &mut Out,
 ) -> Result<(), Fault>
     requires { keyring.now.party < replicas keyring.now.sizes }
@@ -163,6 +168,7 @@ pub(crate) fn execute(
         let last = state.old.variables.rules.executed in
         executor.new
         ≡ history_above last.digest state.old.variables.stored from (last.height - from) executor.old) }
+    ensures written { L.holds ledger.old executor.old → L.holds ledger.new executor.new }
     ensures left { OnOk result (
         let last = state.old.variables.rules.executed in
         state.new.pending
@@ -178,6 +184,7 @@ pub(crate) fn execute(
     let last = state.rules.executed();
     execute_between(
         executor,
+        ledger,
         &mut state.pool,
         &state.tree,
         &last.digest,

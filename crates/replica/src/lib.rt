@@ -2,6 +2,7 @@
 #![tactic(auto)]
 
 mod announce;
+mod archived;
 mod beat;
 mod blocks;
 mod branch;
@@ -15,10 +16,13 @@ mod replica;
 mod request;
 mod standing;
 mod state;
+mod step_log;
 mod stored;
+mod telling;
 mod vote;
 
 pub use admission::Input;
+pub use archived::Archived;
 pub use chronicle::{ChronicleView, CountedVotes, StepView};
 pub use replica::Replica;
 pub use signed_frames::{Out, Sending, To};

@@ -4,7 +4,7 @@ ghost use Rattle.std.specs.Prelude.{◌≡◌, ◌<◌, ◌&&◌, ◌⊎◌, [],
 ghost use Rattle.ids.specs.Sizes.{replicas};
 ghost use Rattle.audit_ground.specs.Law.{IsLawfullyKept};
 ghost use Rattle.definitions.specs.Checks.{identity_of};
-ghost use Rattle.definitions.specs.Chronicles.{Chronicle, IsLawful};
+ghost use Rattle.definitions.specs.Chronicles.{Chronicle, IsLawful, stored_blocks};
 ghost use Rattle.definitions.specs.Frames.{spelling};
 ghost use Rattle.definitions.specs.Replicas.{running, held_history, held_pending};
 ghost use Rattle.definitions.specs.Sendings.{fetch_frame};
@@ -18,6 +18,8 @@ ghost use Rattle.replica.specs.StepsTo.{StepsTo, answer, after};
 ghost use Rattle.replica.specs.Advances.{going, IsWholeOf, Advances};
 ghost use Rattle.admission.specs.Inputs.{input_of, is_addressed};
 ghost use Rattle.replica.specs.Inputs.{IsFitInput};
+ghost use Rattle.replica.specs.Logs.{Logs, LogsAll};
+ghost use Rattle.replica.specs.Replay.{replay};
 
 use crate::announce::{decide_new_view, decide_timeout};
 use crate::beat::{decide_beat, leads};
@@ -30,12 +32,15 @@ use crate::offer::Offer;
 use crate::request::decide_request;
 use crate::standing::{Standing, Taken};
 use crate::state::{High, State};
+use crate::step_log::{NoLog, StepLog};
+use crate::stored::StoredStep;
 use crate::vote::decide_vote;
 use admission::Input;
 use authenticators::Keyring;
 use block_tree::Tree;
-use executor::{Entries, Executor};
+use executor::{Executor, Ledger, NoLedger};
 use frames_view::{CertificateBuf, genesis_digest};
+use ghost_list::GhostList;
 use ids::{Config, Digest, Fault, MOST_BLOCKS, ReplicaId, View};
 use mempool::Mempool;
 use pacemaker::Pacemaker;
@@ -116,19 +121,20 @@ fn decide(
         Input::Fetch(asked) => decide_fetch(state, keyring, asked.view()),
         Input::Timeout => decide_timeout(state, keyring),
         Input::Beat => {
-            // Fewer steps stand than fit any memory.
-            let _steps = &state.steps;
+            // Few steps stand.
+            let _count = state.count;
             decide_beat(state, keyring)
         }
     }
 }
 
 /// Takes an input of a replica that goes on, and executes nothing yet.
-fn take(
+fn take<S: StepLog>(
     state: &mut State,
     keyring: &Keyring,
     executor: &Executor,
     input: Input<'_>,
+    log: &mut S,
 ) -> Result<Out, Fault>
     requires own { IsTrue (is_addressed keyring.now input) }
     requires replica { keyring.now.party < replicas keyring.now.sizes }
@@ -137,24 +143,36 @@ fn take(
     ensures steps { (c : Chronicle) → IsWholeOf keyring.now (going c) state.old executor.now
         → StepsTo keyring.now (input_of input.entry) c result state.new }
     ensures fit { IsFitInput keyring.now.sizes (input_of input.entry) }
+    ensures logged { Logs (S.holds log.old) state.old.variables.stored state.old.variables.chronicle
+        → Logs (S.holds log.new) state.new.variables.stored state.new.variables.chronicle }
 {
     let change = decide(state, keyring, executor, input)?;
-    state.commit(change)
+    state.commit(change, log)
 }
 
 /// Takes an input of a replica that goes on, and executes what it decides.
-fn advance(state: &mut State, executor: &mut Executor, keyring: &Keyring, input: Input<'_>) -> Taken
+fn advance<S: StepLog, L: Ledger>(
+    state: &mut State,
+    executor: &mut Executor,
+    keyring: &Keyring,
+    input: Input<'_>,
+    log: &mut S,
+    ledger: &mut L,
+) -> Taken
     requires own { IsTrue (is_addressed keyring.now input) }
     requires replica { keyring.now.party < replicas keyring.now.sizes }
     requires sizes { state.old.pace.sizes ≡ keyring.now.sizes }
     requires votes { state.old.votes.sizes ≡ keyring.now.sizes }
-    ensures { (c : Chronicle) → IsWholeOf keyring.now (going c) state.old executor.old
+    ensures advances { (c : Chronicle) → IsWholeOf keyring.now (going c) state.old executor.old
         → Advances keyring.now (input_of input.entry) c result state.new executor.new }
+    ensures logged { Logs (S.holds log.old) state.old.variables.stored state.old.variables.chronicle
+        → Logs (S.holds log.new) state.new.variables.stored state.new.variables.chronicle }
+    ensures written { L.holds ledger.old executor.old → L.holds ledger.new executor.new }
 {
     let from = state.rules.executed().height;
-    match take(state, keyring, executor, input) {
+    match take(state, keyring, executor, input, log) {
         Err(fault) => Taken::Refused(fault),
-        Ok(mut out) => match execute(state, keyring, from, executor, &mut out) {
+        Ok(mut out) => match execute(state, keyring, from, executor, ledger, &mut out) {
             Ok(()) => Taken::Sends(out),
             Err(_) => Taken::CutShort,
         },
@@ -179,7 +197,8 @@ fn first_state(alloc: Global, config: Config) -> State
         pace: Pacemaker::new(config),
         votes: Collector::new(alloc, config),
         pool: Mempool::new(alloc),
-        steps: Vec::new(alloc),
+        count: 0,
+        chronicle: GhostList::new(),
     }
 }
 
@@ -238,18 +257,20 @@ impl Replica {
         let _steps = self.state.count();
     }
 
-    /// The steps that stand.
-    pub fn chronicle(&self) -> ChronicleView<'_>
-        ensures { result ≡ self.now.replica.chronicle }
+    /// The steps that stand, where these make its chronicle. Oldest first.
+    pub(crate) fn chronicle<'a>(&'a self, steps: &'a [StoredStep]) -> ChronicleView<'a>
+        requires { replay (reverse steps.now) (stored_blocks self.now.replica.chronicle)
+            ≡ self.now.replica.chronicle }
+        ensures { result ≡ self.entry.now.replica.chronicle }
     {
-        self.state.chronicle()
+        self.state.chronicle(steps)
     }
 
-    /// What it executed, oldest first.
-    pub fn history(&self) -> &Entries
-        ensures { reverse result.now ≡ held_history self.now.replica }
+    /// How many commands it executed.
+    pub fn executed(&self) -> usize
+        ensures { result ≡ length (held_history self.now.replica) }
     {
-        self.executor.history()
+        self.executor.len()
     }
 
     /// How many requests wait.
@@ -313,10 +334,38 @@ impl Replica {
         ensures grows { (length self.new.replica.chronicle ≡ length self.old.replica.chronicle)
             ⊎ (length self.new.replica.chronicle ≡ suc (length self.old.replica.chronicle)) }
     {
+        self.step_into(input, &mut NoLog, &mut NoLedger)
+    }
+
+    /// The same, and what comes to stand is written down. Memory for that is taken before it stands.
+    pub(crate) fn step_into<S: StepLog, L: Ledger>(
+        &mut self,
+        input: Input<'_>,
+        log: &mut S,
+        ledger: &mut L,
+    ) -> Result<Out, Fault>
+        requires { IsTrue (is_addressed self.old.keys input) }
+        ensures stepped { Stepped (identity_of self.old.keys) (input_of input.entry) self.old.replica result
+            self.new.replica }
+        ensures keys { self.new.keys ≡ self.old.keys }
+        ensures grows { (length self.new.replica.chronicle ≡ length self.old.replica.chronicle)
+            ⊎ (length self.new.replica.chronicle ≡ suc (length self.old.replica.chronicle)) }
+        ensures logged { LogsAll (S.holds log.old) self.old.replica
+            → LogsAll (S.holds log.new) self.new.replica }
+        ensures written { L.holds ledger.old (held_history self.old.replica)
+            → L.holds ledger.new (held_history self.new.replica) }
+    {
         if !self.standing.is_running() {
             return Err(Fault::Stopped);
         }
-        let taken = advance(&mut self.state, &mut self.executor, &self.keyring, input);
+        let taken = advance(
+            &mut self.state,
+            &mut self.executor,
+            &self.keyring,
+            input,
+            log,
+            ledger,
+        );
         self.standing = taken.standing();
         taken.into_answer()
     }

@@ -1,16 +1,21 @@
 //! What a replica keeps beside its keys.
 
-ghost use Rattle.std.specs.Prelude.{◌≡◌, length, IfOk, OnOk, OnErr};
+ghost use Rattle.std.specs.Prelude.{◌≡◌, length, reverse, IfOk, OnOk, OnErr};
 ghost use Rattle.std.specs.Option.{unwrap_or};
 ghost use Rattle.definitions.specs.Chronicles.{stored_blocks};
 ghost use Rattle.definitions.specs.Trees.{Stored};
 ghost use Rattle.replica.specs.Changes.{changed, grown, collected, pended, left_above, MayGrow, Fits};
+ghost use Rattle.replica.specs.Logs.{Logs};
+ghost use Rattle.replica.specs.Replay.{replay};
 
 use crate::change::{Change, Growth};
 use crate::chronicle::ChronicleView;
+use crate::step_log::StepLog;
 use crate::stored::StoredStep;
+use crate::telling::{AStep, Newest};
 use block_tree::Tree;
 use frames_view::CertificateBuf;
+use ghost_list::GhostList;
 use ids::Fault;
 use mempool::Mempool;
 use pacemaker::Pacemaker;
@@ -42,6 +47,9 @@ impl Model for OwnProposal {
     ghost view = { λ p. record { core = p.core.items; certificate = p.certificate.items } };
 }
 
+/// As many steps may stand. A replica that makes a million in a second makes so many in 146,000 years.
+const MOST_STEPS: usize = 1 << 62;
+
 /// The running variables of a replica, and its chronicle.
 #[derive(Drop)]
 pub(crate) struct State {
@@ -57,20 +65,21 @@ pub(crate) struct State {
     pub(crate) votes: Collector,
     /// The requests that wait.
     pub(crate) pool: Mempool,
-    /// The steps that stand, oldest first.
-    pub(crate) steps: Vec<StoredStep>,
+    /// How many steps stand.
+    pub(crate) count: usize,
+    /// Which they are, newest first. It exists in proofs alone.
+    pub(crate) chronicle: GhostList<AStep>,
 }
 
 impl Model for State {
-    ghost use Rattle.std.specs.Prelude.{reverse};
+    ghost use Rattle.std.specs.Prelude.{◌≡◌, ◌≤◌, ◌^◌, length};
     ghost use Rattle.replica.specs.Kept.{StateParts};
-    ghost use Rattle.replica.specs.Replay.{replay};
 
     ghost Value = { StateParts };
 
     ghost view = { λ s. record {
       variables = record {
-        chronicle = replay (reverse s.steps.items) s.tree.stored;
+        chronicle = s.chronicle.items;
         most = s.tree.most;
         stored = s.tree.stored;
         rules = s.rules;
@@ -82,6 +91,8 @@ impl Model for State {
       votes = s.votes;
       pending = s.pool;
     } };
+
+    ghost invariant = { λ s. (s.count ≡ length s.chronicle.items) × (s.count ≤ 2 ^ 62) };
 }
 
 /// What is added takes its place. Its memory is taken first.
@@ -132,22 +143,26 @@ impl State {
     pub(crate) fn count(&self) -> usize
         ensures { result ≡ length self.now.variables.chronicle }
     {
-        self.steps.as_slice().len()
+        self.count
     }
 
-    /// The steps that stand, where each block of the tree was taken by one of them.
-    pub(crate) fn chronicle(&self) -> ChronicleView<'_>
-        requires { stored_blocks self.now.variables.chronicle ≡ self.now.variables.stored }
-        ensures { result ≡ self.now.variables.chronicle }
+    /// The steps that stand, where each block of the tree was taken by one of these. Oldest first.
+    pub(crate) fn chronicle<'a>(&'a self, steps: &'a [StoredStep]) -> ChronicleView<'a>
+        requires steps { replay (reverse steps.now) self.now.variables.stored ≡ self.now.variables.chronicle }
+        requires blocks { stored_blocks self.now.variables.chronicle ≡ self.now.variables.stored }
+        ensures { result ≡ self.entry.now.variables.chronicle }
     {
-        ChronicleView::new(&self.tree, &self.steps)
+        ChronicleView::new(&self.tree, steps)
     }
 
-    /// Makes a change. Its memory is taken first: where that is refused, nothing changed.
-    pub(crate) fn commit(&mut self, change: Change) -> Result<Out, Fault>
+    /// Makes a change, and writes its step down. The memory is taken first: where that is refused,
+    /// nothing changed.
+    pub(crate) fn commit<S: StepLog>(&mut self, change: Change, log: &mut S) -> Result<Out, Fault>
         requires { Fits self.old change }
         ensures made { OnOk result (self.new ≡ changed change self.old) }
         ensures out { IfOk result (λ out. out ≡ change.out) }
+        ensures logged { Logs (S.holds log.old) self.old.variables.stored self.old.variables.chronicle
+            → Logs (S.holds log.new) self.new.variables.stored self.new.variables.chronicle }
         ensures unchanged { OnErr result (self.new ≡ self.old) }
         ensures memory { OnErr result (result ≡ Err Fault.Memory) }
     {
@@ -161,9 +176,17 @@ impl State {
             own,
             pace,
         } = change;
-        self.steps.reserve(1)?;
+        if self.count == MOST_STEPS {
+            return Err(Fault::Memory);
+        }
+        log.reserve()?;
         grow(&mut self.tree, &mut self.votes, &mut self.pool, growth)?;
-        self.steps.push(step).unwrap();
+        self.chronicle = self.chronicle.with(&Newest {
+            step: &step,
+            tree: &self.tree,
+        });
+        self.count += 1;
+        log.push(step);
         self.rules = rules;
         self.leaf = leaf;
         forget(&mut self.votes, &high);

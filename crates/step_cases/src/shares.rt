@@ -11,7 +11,7 @@ ghost use Rattle.ids.specs.Sizes.{replicas};
 use ids::{Config, Fault, PartyId, ReplicaId};
 use locked_replica::{Kept, NotAll, Share};
 use marks::{Eye, Marks};
-use replica::Replica;
+use replica::Archived;
 use simulated_keys::keyring_of;
 use std::alloc::Global;
 
@@ -38,7 +38,7 @@ fn kept_of<'a>(
     requires words { marks.now.words ≡ replicas config }
 {
     let keys = keyring_of(alloc, config, PartyId::from(number))?;
-    let replica = Replica::new(alloc, config, number, keys)?;
+    let replica = Archived::new(alloc, config, number, keys)?;
     let eye = eye_of(marks, eyes, number);
     Ok(Kept::new(alloc, replica, eye, marks))
 }

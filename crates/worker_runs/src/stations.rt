@@ -9,7 +9,7 @@ use fabric::WaitingRoom;
 use ids::{Config, Fault, ReplicaId};
 use locked_replica::{Kept, Locked, Share};
 use marks::{Eye, Marks};
-use replica::Replica;
+use replica::Archived;
 use simulated_keys::keyring_of;
 use std::alloc::Global;
 use std::ops::Range;
@@ -38,7 +38,7 @@ fn new_kept<'a>(
     requires number { (number < replicas config) × (number < marks.now.words) }
 {
     let keyring = keyring_of(alloc, config, number.into())?;
-    let replica = Replica::new(alloc, config, number, keyring)?;
+    let replica = Archived::new(alloc, config, number, keyring)?;
     Ok(Kept::new(alloc, replica, eye, marks))
 }
 

@@ -6,7 +6,7 @@ ghost use Rattle.definitions.specs.Replicas.{held_history};
 use client_accept::Receipt;
 use executor::Entries;
 use ids::{ClientId, Fault, Kind, ReplicaId};
-use replica::{Replica, To};
+use replica::{Archived, To};
 use std::marker::Model;
 
 /// A frame of the record: in which event it was sent, counted from 1, where it goes, of what kind it
@@ -30,7 +30,7 @@ pub struct Accepted {
 /// What one replica executed.
 #[derive(Drop)]
 pub struct History {
-    replica: Replica,
+    replica: Archived,
 }
 
 impl Model for History {
@@ -44,7 +44,7 @@ impl Model for History {
 
 impl History {
     /// What this replica executed.
-    pub(crate) fn of(replica: Replica) -> History
+    pub(crate) fn of(replica: Archived) -> History
         ensures { result ≡ record { replica = replica.keys.party; history = held_history replica.replica } }
     {
         History { replica }

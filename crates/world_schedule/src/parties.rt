@@ -21,23 +21,23 @@ use crate::world::World;
 use crate::{client, replica_turn};
 use client_accept::Session;
 use ids::{ClientId, Fault, PartyId, ReplicaId};
-use replica::Replica;
+use replica::Archived;
 
 /// All replicas and clients, also the faulty ones, which no event changes.
 #[derive(Drop)]
 pub(crate) struct Parties {
-    pub(crate) replicas: Vec<Replica>,
+    pub(crate) replicas: Vec<Archived>,
     pub(crate) sessions: Vec<Session>,
 }
 
 /// A replica that has made no step.
-fn new_replica(world: &World, number: ReplicaId) -> Result<Replica, Fault>
+fn new_replica(world: &World, number: ReplicaId) -> Result<Archived, Fault>
     requires { number < replicas world.now.sizes }
     ensures made { IfOk result (IsNewReplica world.now number) }
     ensures memory { OnErr result (result ≡ Err Fault.Memory) }
 {
     let keyring = world.keyring(number.into()).duplicate(world.alloc())?;
-    Replica::new(world.alloc(), world.config(), number, keyring)
+    Archived::new(world.alloc(), world.config(), number, keyring)
 }
 
 /// The session of a client that has sent nothing.
@@ -52,7 +52,7 @@ fn new_session(world: &World, client: ClientId) -> Result<Session, Fault>
 
 /// Replicas that have made no step.
 #[tactic(auto, using(crate::proofs::Seated::one_more, crate::proofs::Seated::none_below))]
-fn new_replicas(world: &World) -> Result<Vec<Replica>, Fault>
+fn new_replicas(world: &World) -> Result<Vec<Archived>, Fault>
     ensures made { IfOk result
         (λ rs. EachBelow (IsNewReplica world.now) (replicas world.now.sizes) rs.items) }
     ensures memory { OnErr result (result ≡ Err Fault.Memory) }
@@ -80,7 +80,7 @@ fn new_sessions(world: &World) -> Result<Vec<Session>, Fault>
 }
 
 /// Keeps the history of a correct replica.
-fn keep_correct(world: &World, histories: &mut Vec<History>, replica: Replica) -> Result<(), Fault>
+fn keep_correct(world: &World, histories: &mut Vec<History>, replica: Archived) -> Result<(), Fault>
     ensures kept { OnOk result
         (histories.new.items ≡ histories.old.items ++ told_by world.now (replica ∷ [])) }
     ensures memory { OnErr result (result ≡ Err Fault.Memory) }
@@ -94,7 +94,7 @@ fn keep_correct(world: &World, histories: &mut Vec<History>, replica: Replica) -
 
 /// The histories of the correct ones.
 #[tactic(auto, using(crate::proofs::Telling::told_append))]
-fn correct_histories(world: &World, replicas: Vec<Replica>) -> Result<Vec<History>, Fault>
+fn correct_histories(world: &World, replicas: Vec<Archived>) -> Result<Vec<History>, Fault>
     ensures made { IfOk result (λ hs. hs.items ≡ told_by world.now replicas.items) }
     ensures memory { OnErr result (result ≡ Err Fault.Memory) }
 {

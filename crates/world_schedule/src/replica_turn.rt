@@ -15,11 +15,11 @@ use crate::effect::Effect;
 use admission::{admit, missing};
 use authenticators::Keyring;
 use ids::{Fault, Kind};
-use replica::{Input, Out, Replica, Sending, To};
+use replica::{Archived, Input, Out, Sending, To};
 use std::alloc::Global;
 
 /// Brings bytes to a replica, checked with its keys.
-fn take(replica: &mut Replica, keyring: &Keyring, bytes: &[u8]) -> Result<Out, Fault>
+fn take(replica: &mut Archived, keyring: &Keyring, bytes: &[u8]) -> Result<Out, Fault>
     requires same { SameReplica replica.old.keys keyring.now }
     requires number { keyring.now.party < replicas keyring.now.sizes }
     ensures keys { replica.new.keys ≡ replica.old.keys }
@@ -36,7 +36,7 @@ fn take(replica: &mut Replica, keyring: &Keyring, bytes: &[u8]) -> Result<Out, F
 /// missing, to the frame's sender. It is left out where that is the replica itself, or where memory
 /// for it is refused.
 #[tactic(auto, unfolding(definitions::specs::Sendings::fetch_frame))]
-fn ask(alloc: Global, replica: &Replica, bytes: &[u8]) -> Result<Effect, Fault>
+fn ask(alloc: Global, replica: &Archived, bytes: &[u8]) -> Result<Effect, Fault>
     ensures asked { IfOk result (λ e. Asks (identity_of replica.now.keys) bytes.now e) }
     ensures memory { OnErr result (result ≡ Err Fault.Memory) }
 {
@@ -68,7 +68,7 @@ fn is_lack(fault: Fault) -> bool
 }
 
 /// The effect of a refusal of bytes.
-fn refuse(alloc: Global, replica: &Replica, bytes: &[u8], fault: Fault) -> Result<Effect, Fault>
+fn refuse(alloc: Global, replica: &Archived, bytes: &[u8], fault: Fault) -> Result<Effect, Fault>
     ensures refused { IfOk result (λ e. Refuses (identity_of replica.now.keys) bytes.now fault e) }
     ensures memory { OnErr result (result ≡ Err Fault.Memory) }
 {
@@ -81,7 +81,7 @@ fn refuse(alloc: Global, replica: &Replica, bytes: &[u8], fault: Fault) -> Resul
 /// Brings bytes to a replica.
 pub(crate) fn receive(
     alloc: Global,
-    replica: &mut Replica,
+    replica: &mut Archived,
     keyring: &Keyring,
     bytes: &[u8],
 ) -> Result<Effect, Fault>
@@ -100,7 +100,7 @@ pub(crate) fn receive(
 }
 
 /// Tells a replica that its view has lasted too long.
-pub(crate) fn timeout(alloc: Global, replica: &mut Replica) -> Effect
+pub(crate) fn timeout(alloc: Global, replica: &mut Archived) -> Effect
     ensures keys { replica.new.keys ≡ replica.old.keys }
     ensures ticked { Ticks (identity_of replica.old.keys) timeout_in replica.old.replica replica.new.replica
         result }
@@ -112,7 +112,7 @@ pub(crate) fn timeout(alloc: Global, replica: &mut Replica) -> Effect
 }
 
 /// Tells a replica to propose, if it leads.
-pub(crate) fn beat(alloc: Global, replica: &mut Replica) -> Effect
+pub(crate) fn beat(alloc: Global, replica: &mut Archived) -> Effect
     ensures keys { replica.new.keys ≡ replica.old.keys }
     ensures ticked { Ticks (identity_of replica.old.keys) beat_in replica.old.replica replica.new.replica
         result }

@@ -11,14 +11,15 @@ use Rattle.replica.proofs.execution.execute_between.Goals as goal
 use Rattle.replica.proofs.execution.execute_between.Goals.{in-Some+in_ok-execute_block, in_default}
 
 pub loop-height-init : goal.loop-height-init
-loop-height-init c = (
+loop-height-init g c = (
   begins-up c.args.keyring.now c.args.tip.now c.args.tree.now.stored c.args.from c.args.executor.now
       c.args.pool.now c.args.out.now,
   λ l. refl,
+  λ k. k,
 )
 
 pub returns-in_err-execute_block-clause-cut : goal.returns-in_err-execute_block-clause-cut
-returns-in_err-execute_block-clause-cut c =
+returns-in_err-execute_block-clause-cut g c =
     let all = c.args.tree.now.stored in
     let tip = c.args.tip.now in
     let h : ℕ = c.loop-height.height in
@@ -35,7 +36,7 @@ returns-in_err-execute_block-clause-cut c =
     c.in_err-execute_block.ensures.cut)
 
 pub loop-height-preserved : goal.loop-height-preserved
-loop-height-preserved c =
+loop-height-preserved g c =
     let keys = c.args.keyring.now in
     let all = c.args.tree.now.stored in
     let tip = c.args.tip.now in
@@ -69,17 +70,23 @@ loop-height-preserved c =
             (sym c.block_at.ensures ∙ ap (option_map (λ n. n.now.core)) w.in_default.is))))
       ],
       λ l. let t = c.loop-height-test.true in let f = c.loop-height.invariant.0.low in omega (arith, l, t, f),
+      elim c.match-block_at.branch [
+        | in-Some+in_ok-execute_block w ↦
+            rw (w.executor-is, w.ledger-is)
+            (λ k. w.in_ok-execute_block.ensures.written (c.loop-height.invariant.2 k))
+        | in_default w ↦ rw (w.executor-is, w.ledger-is) c.loop-height.invariant.2
+      ],
     )
 
 pub returns-clause-executed : goal.returns-clause-executed
-returns-clause-executed c =
+returns-clause-executed g c =
     c.loop-height.invariant.0.now_is
     ∙ ap (λ (n : ℕ). history_above c.args.tip.now c.args.tree.now.stored c.args.from n c.args.executor.now)
     (all-heights c.args.from c.args.to c.loop-height.height c.loop-height.invariant.1
     c.loop-height-test.false c.loop-height.auto.height-end)
 
 pub returns-clause-left : goal.returns-clause-left
-returns-clause-left c =
+returns-clause-left g c =
     c.loop-height.invariant.0.left_are
     ∙ ap (λ (n : ℕ). left_after (history_above c.args.tip.now c.args.tree.now.stored c.args.from n [])
     c.args.pool.now)
@@ -87,6 +94,6 @@ returns-clause-left c =
     c.loop-height-test.false c.loop-height.auto.height-end)
 
 pub returns-clause-told : goal.returns-clause-told
-returns-clause-told c = told-up c.args.keyring.now c.args.tip.now c.args.tree.now.stored c.args.from
+returns-clause-told g c = told-up c.args.keyring.now c.args.tip.now c.args.tree.now.stored c.args.from
     c.args.executor.now c.args.pool.now c.args.out.now c.loop-height.height c.loop-height.executor
     c.loop-height.pool c.loop-height.out c.loop-height.invariant.0

@@ -3,6 +3,7 @@ use Rattle.replica.proofs.Executing.{IsUpTo}
 use Rattle.replica.proofs.execution.execute_between.Given as goal
 
 abbrev pub invariant-loop-height : goal.invariant-loop-height
-invariant-loop-height l =
+invariant-loop-height g l =
     IsUpTo l.keyring l.tip l.tree.stored l.from l.height l.initial.executor l.executor l.initial.pool l.pool
     l.initial.out l.out × (l.to < l.from → l.height ≡ l.from)
+    × (g.L.Ledger.holds l.initial.ledger l.initial.executor → g.L.Ledger.holds l.ledger l.executor)

@@ -8,7 +8,7 @@ use Rattle.replica.proofs.Executing.{some-told, on-err}
 use Rattle.replica.proofs.execution.execute_block.Goals as goal
 
 pub returns-clause-cut : goal.returns-clause-cut
-returns-clause-cut c =
+returns-clause-cut g c =
     let all : List Command = c.args.block.now.core.commands in
     let cs = c.commands.ensures.value ∙ ap (λ (k : Core). k.commands) c.core.ensures in
     let again = c.commands-2.ensures.value ∙ ap (λ (k : Core). k.commands) c.core-2.ensures in

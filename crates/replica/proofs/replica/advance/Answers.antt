@@ -1,4 +1,4 @@
-use Rattle.std.proofs.Common.{◌≡◌, ◌-◌, ℕ, List, [], length, ap, ◌∙◌, subst}
+use Rattle.std.proofs.Common.{◌≡◌, ◌-◌, ℕ, List, [], length, ap, sym, ◌∙◌, subst}
 use Rattle.definitions.specs.Chronicles.{executed}
 use Rattle.replica_rules.specs.declared.block_ref.BlockRef.{BlockRef}
 use Rattle.replica.specs.Kept.{Variables, StateParts, waiting}
@@ -6,17 +6,18 @@ use Rattle.definitions.specs.Frames.{Command}
 use Rattle.mempool.specs.Pool.{left_after}
 use Rattle.admission.specs.Inputs.{input_of}
 use Rattle.replica.specs.Execution.{history_above, IsCut}
+use Rattle.replica.proofs.Logging.{LogsOf}
 use Rattle.replica.proofs.Advancing.{history-going, sends-all, stops-short, refuses}
 use Rattle.replica.proofs.replica.advance.Goals as goal
 
-pub returns-in-Err : goal.returns-in-Err
-returns-in-Err c c' o =
+pub returns-in-Err-clause-advances : goal.returns-in-Err-clause-advances
+returns-in-Err-clause-advances g c c' o =
     refuses c.args.keyring.now (input_of c.args.input) c' c.args.executor.now
     (history-going c.args.keyring.now c' c.args.state.now c.args.executor.now o) o.fit o.stored
     c.in-Err.ensures.fit c.in-Err.fault c.take.new.state (c.in-Err.ensures.steps c' o)
 
-pub returns-in-Ok-execute : goal.returns-in-Ok-execute
-returns-in-Ok-execute c c' o =
+pub returns-in-Ok-execute-clause-advances : goal.returns-in-Ok-execute-clause-advances
+returns-in-Ok-execute-clause-advances g c c' o =
     let last : BlockRef = c.take.new.state.variables.rules.executed in
     let from : c.executed-from.result.height ≡ length (executed c') =
     ap (λ (b : BlockRef). b.height) (c.executed-from.ensures
@@ -37,8 +38,8 @@ returns-in-Ok-execute c c' o =
     ∙ ap (λ (l : List Command). waiting l c.take.new.state) c.in-Ok-execute.ensures.left))
     c.in-Ok-execute.ensures.told
 
-pub returns-in-Err-execute : goal.returns-in-Err-execute
-returns-in-Err-execute c c' o =
+pub returns-in-Err-execute-clause-advances : goal.returns-in-Err-execute-clause-advances
+returns-in-Err-execute-clause-advances g c c' o =
     let last : BlockRef = c.take.new.state.variables.rules.executed in
     let from : c.executed-from.result.height ≡ length (executed c') =
     ap (λ (b : BlockRef). b.height) (c.executed-from.ensures
@@ -52,3 +53,11 @@ returns-in-Err-execute c c' o =
     (subst (λ (n : ℕ). IsCut last.digest c.take.new.state.variables.stored n last.height c.args.executor.now
     c.execute.new.executor c.take.new.state.pending c.execute.new.state.pending) from
     c.in-Err-execute.ensures.cut)
+
+pub returns-in-Ok-execute-clause-logged : goal.returns-in-Ok-execute-clause-logged
+returns-in-Ok-execute-clause-logged g c l =
+    subst (LogsOf (g.S.StepLog.holds c.take.new.log)) (sym c.execute.ensures.rest) (c.in-Ok.ensures.logged l)
+
+pub returns-in-Err-execute-clause-logged : goal.returns-in-Err-execute-clause-logged
+returns-in-Err-execute-clause-logged g c l =
+    subst (LogsOf (g.S.StepLog.holds c.take.new.log)) (sym c.execute.ensures.rest) (c.in-Ok.ensures.logged l)

@@ -1,5 +1,4 @@
-use Rattle.std.proofs.Common.{◌≡◌, ◌<◌, true, ◌^◌, IfOk, length, reverse, ap, ◌∙◌, subst, arith}
-use Rattle.std.proofs.lemmas.List.{length-reverse}
+use Rattle.std.proofs.Common.{◌≡◌, ◌<◌, true, ◌^◌, IfOk, length, ap, ◌∙◌, subst, arith}
 use Rattle.ids.specs.Sizes.{Sizes, leader}
 use Rattle.definitions.specs.FrameLimits.{IsCore}
 use Rattle.definitions.specs.Rulings.{ruling}
@@ -16,7 +15,6 @@ use Rattle.replica.specs.Inputs.{proposal_offered, block_offered, announced_by, 
 use Rattle.replica.specs.Offers.{Offered, IsDecided}
 use Rattle.replica.specs.Announcements.{IsNewView}
 use Rattle.replica.specs.Fetches.{fetch_change}
-use Rattle.replica.proofs.Replaying.{length-replay}
 use Rattle.replica.proofs.Beats.{beat-decided}
 use Rattle.replica.proofs.Offers.{block-decided}
 use Rattle.replica.proofs.Announcements.{timeout-decided, new-view-decided}
@@ -92,14 +90,10 @@ returns-in-Timeout-clause-decided c c' w =
 pub returns-in-Beat-clause-decided : goal.returns-in-Beat-clause-decided
 returns-in-Beat-clause-decided c c' w =
     let o = state-going c.args.keyring.now c' c.args.state.now c.args.executor.now w in
-    let items = c.state.inside.steps.items in
     let chronicle =
-    ap (λ (k : StateParts). length k.variables.chronicle) c.state.view_is
+    c.state.invariant.0 ∙ ap (λ (k : StateParts). length k.variables.chronicle) c.state.view_is
     ∙ ap (λ (v : Variables). length v.chronicle) o.same in
-    let few : length c' < 2 ^ 63 =
-    (let n =
-    length-replay (reverse items) c.state.inside.tree.stored in let r =
-    length-reverse items in let k = c.state.inside.steps.ok.0 in omega (arith, chronicle, n, r, k)) in
+    let few : length c' < 2 ^ 63 = (let k = c.state.invariant.1 in omega (arith, chronicle, k)) in
     rw c.in-Beat.is (beat-decided c.args.keyring.now c' c.args.state.now c.decide_beat.result few
     c.decide_beat.ensures.made c.decide_beat.ensures.memory o)
 

@@ -1,16 +1,14 @@
-use Rattle.std.proofs.Common.{List, ℕ, [], reverse, None, ap, sym, ◌∙◌}
+use Rattle.std.proofs.Common.{List, ℕ, [], None, ap, sym, ◌∙◌}
 use Rattle.ids.specs.Sizes.{Sizes}
 use Rattle.vote_collector.specs.Collecting.{Collected}
-use Rattle.replica.specs.Replay.{replay}
 use Rattle.replica.proofs.First.{first}
 use Rattle.replica.proofs.replica.first_state.Goals as goal
 
 pub returns : goal.returns
-unfolding replay
 returns c keys e =
     first keys _
     (λ i. record {
-      chronicle = replay (reverse (c.new-6.ensures.items i)) (c.new.ensures i).stored;
+      chronicle = c.new-6.ensures i;
       most = (c.new.ensures i).most;
       stored = (c.new.ensures i).stored;
       rules = c.new-2.ensures i;

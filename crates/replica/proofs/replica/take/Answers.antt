@@ -6,7 +6,7 @@ use Rattle.replica.proofs.Advancing.{state-going}
 use Rattle.replica.proofs.replica.take.Goals as goal
 
 pub returns-clause-steps : goal.returns-clause-steps
-returns-clause-steps c c' o =
+returns-clause-steps g c c' o =
     let keys = c.args.keyring.now in
     let d = c.in_ok-change.change in
     committed keys (ruling (identity_of keys) (input_of c.args.input) c') c' d c.args.state.now

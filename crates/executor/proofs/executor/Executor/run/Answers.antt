@@ -18,15 +18,15 @@ tested e h value cache rows client seq t b s i j k l m =
     ∙ sym l ∙ m
 
 pub execute-requires : goal.execute-requires
-execute-requires c = tested c.of-entry.result _ c.args.self.now _ _ _ _ _ true c.self.invariant
+execute-requires g c = tested c.of-entry.result _ c.args.self.now _ _ _ _ _ true c.self.invariant
     c.self.view_is c.client.ensures c.seq.ensures c.is_after.ensures c.if-is_after.true
 
 pub enter-requires : goal.enter-requires
-enter-requires c = tested c.of-entry.result _ c.args.self.now _ _ _ _ _ false c.self.invariant
+enter-requires g c = tested c.of-entry.result _ c.args.self.now _ _ _ _ _ false c.self.invariant
     c.self.view_is c.client.ensures c.seq.ensures c.is_after.ensures c.if-is_after.false
 
 pub returns-in_ok-execute-clause-answered : goal.returns-in_ok-execute-clause-answered
-returns-in_ok-execute-clause-answered c =
+returns-in_ok-execute-clause-answered g c =
     ap (λ (a : Answer). Some a) c.in_ok-execute.ensures.answered
     ∙ answered-fresh c.of-entry.result c.args.self.now
     (tested c.of-entry.result _ c.args.self.now _ _ _ _ _ true c.self.invariant c.self.view_is
@@ -34,7 +34,7 @@ returns-in_ok-execute-clause-answered c =
     ∙ ap (λ (e : Entry). answer_at e c.args.self.now) c.of-entry.ensures
 
 pub returns-in_ok-enter-clause-answered : goal.returns-in_ok-enter-clause-answered
-returns-in_ok-enter-clause-answered c =
+returns-in_ok-enter-clause-answered g c =
     answered-stale c.of-entry.result c.args.self.now
     (tested c.of-entry.result _ c.args.self.now _ _ _ _ _ false c.self.invariant c.self.view_is
     c.client.ensures c.seq.ensures c.is_after.ensures c.if-is_after.false)

@@ -6,25 +6,29 @@ use Rattle.executor.proofs.Blocks.{run-starts, run-goes_on, run-stops}
 use Rattle.executor.proofs.executor.Executor.run_block.Goals as goal
 
 pub loop-command-init : goal.loop-command-init
-loop-command-init c =
-    rw c.into_iter-command-iterator.ensures.into_iter_gives
-    (run-starts (commands_left c.args.commands) c.args.self.now c.new-answers.result.items
-    c.new-answers.ensures.items)
+loop-command-init g c =
+    rw c.into_iter-command-iterator.ensures.into_iter_gives (
+      run-starts (commands_left c.args.commands) c.args.self.now c.new-answers.result.items
+          c.new-answers.ensures.items,
+      λ k. k,
+    )
 
 pub returns-in_err-reserve-clause-cut : goal.returns-in_err-reserve-clause-cut
-returns-in_err-reserve-clause-cut c =
-    on_err _ (run-stops _ _ _ _ _ _ _ _ c.loop-command.invariant c.in-Some.ensures.steps refl)
+returns-in_err-reserve-clause-cut g c =
+    on_err _ (run-stops _ _ _ _ _ _ _ _ c.loop-command.invariant.0 c.in-Some.ensures.steps refl)
 
 pub returns-in_err-answer-clause-cut : goal.returns-in_err-answer-clause-cut
-returns-in_err-answer-clause-cut c =
-    on_err _ (run-stops _ _ _ _ _ _ _ _ c.loop-command.invariant c.in-Some.ensures.steps
+returns-in_err-answer-clause-cut g c =
+    on_err _ (run-stops _ _ _ _ _ _ _ _ c.loop-command.invariant.0 c.in-Some.ensures.steps
     c.in_err-answer.ensures.unchanged)
 
 pub loop-command-preserved : goal.loop-command-preserved
-loop-command-preserved c =
-    run-goes_on _ _ _ _ _ _ _ _ (command_of c.in-Some.command) c.loop-command.invariant
-    c.in-Some.ensures.steps c.in_ok-answer.ensures.executed
-    (c.put.ensures
-    ∙ ap (λ (l : List Answer). l ++ option_to_list c.in_ok-answer.answer) c.in_ok-reserve.ensures.items
-    ∙ ap (λ (o : Option Answer). c.loop-command.answers.items ++ option_to_list o)
-    c.in_ok-answer.ensures.answered)
+loop-command-preserved g c = (
+  run-goes_on _ _ _ _ _ _ _ _ (command_of c.in-Some.command) c.loop-command.invariant.0
+      c.in-Some.ensures.steps c.in_ok-answer.ensures.executed
+      (c.put.ensures
+      ∙ ap (λ (l : List Answer). l ++ option_to_list c.in_ok-answer.answer) c.in_ok-reserve.ensures.items
+      ∙ ap (λ (o : Option Answer). c.loop-command.answers.items ++ option_to_list o)
+      c.in_ok-answer.ensures.answered),
+  λ k. c.in_ok-answer.ensures.written (c.loop-command.invariant.1 k),
+)

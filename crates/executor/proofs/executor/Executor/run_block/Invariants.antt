@@ -3,5 +3,6 @@ use Rattle.executor.proofs.Blocks.{IsRun}
 use Rattle.executor.proofs.executor.Executor.run_block.Given as goal
 
 abbrev pub invariant-loop-command : goal.invariant-loop-command
-invariant-loop-command l =
+invariant-loop-command g l =
     IsRun (commands_left l.fn.commands) (commands_left l.command-iterator) l.fn.self l.self l.answers.items
+    × (g.L.Ledger.holds l.initial.ledger l.fn.self → g.L.Ledger.holds l.ledger l.self)

@@ -1,27 +1,20 @@
-use Rattle.std.proofs.Common.{List, ◌∷◌, ◌++◌, [], ap, ◌∙◌, reverse}
+use Rattle.std.proofs.Common.{◌∷◌, ap, sym, subst, ◌∙◌}
 use Rattle.std.specs.Option.{option_or}
-use Rattle.definitions.specs.Trees.{Stored}
-use Rattle.replica.specs.declared.stored.StoredStep.{StoredStep}
-use Rattle.replica.specs.Replay.{step_of, replay}
+use Rattle.definitions.specs.Trees.{TreeState}
+use Rattle.replica.specs.Replay.{step_of}
 use Rattle.vote_collector.specs.Collecting.{Collected}
 use Rattle.replica.specs.Kept.{StateParts}
-use Rattle.replica.specs.Changes.{grown, left_above, changed}
-use Rattle.replica.proofs.Replaying.{replay-push, before-grown}
+use Rattle.replica.specs.Changes.{left_above, changed}
+use Rattle.replica.proofs.Logging.{LogsOf, logged-still, logged-one}
 use Rattle.replica.proofs.state.State.commit.Goals as goal
 
 pub returns-clause-made : goal.returns-clause-made
-returns-clause-made c =
+returns-clause-made g c =
     let old = c.self.inside in
     let d = c.args.change in
-    let items =
-    rw c.unwrap.ensures at c.push.ensures.items
-    ∙ ap (λ (xs : List StoredStep). xs ++ d.step ∷ []) c.reserve.ensures.items in
     let tree = c.in_ok-grow.ensures.grown in
-    let more : List Stored = grown d.growth old.tree.stored in
     let chronicle =
-    (λ i. replay (reverse (items i)) (tree i).stored) ∙ replay-push old.steps.items d.step more
-    ∙ ap (λ (l : List Stored). step_of d.step more ∷ replay (reverse old.steps.items) l)
-    (before-grown d.step d.growth old.tree.stored c.requires.step) in
+    c.with-self-inside.ensures ∙ ap (λ (t : TreeState). step_of d.step t.stored ∷ old.chronicle.items) tree in
     let votes =
     c.forget.ensures
     ∙ ap (λ (v : Collected). record v { kept = left_above d.high v.kept })
@@ -40,3 +33,15 @@ returns-clause-made c =
       votes = votes i;
       pending = c.in_ok-grow.ensures.pended i;
     }) ∙ ap (λ (k : StateParts). changed d k) c.self.view_is
+
+pub returns-clause-logged : goal.returns-clause-logged
+returns-clause-logged g c l =
+    let new = g.S.StepLog.holds c.push.new.self in
+    subst (LogsOf new) (sym (returns-clause-made g c))
+    (logged-one (g.S.StepLog.holds c.args.log.now) new c.args.change c.args.self.now c.requires
+    (λ xs h. c.push.ensures xs (c.reserve.ensures.same xs h)) l)
+
+pub returns-in_err-reserve-clause-logged : goal.returns-in_err-reserve-clause-logged
+returns-in_err-reserve-clause-logged g c l =
+    logged-still (g.S.StepLog.holds c.args.log.now) (g.S.StepLog.holds c.reserve.new.self) c.args.self.now
+    c.reserve.ensures.same l

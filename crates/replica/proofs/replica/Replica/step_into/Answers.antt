@@ -1,4 +1,4 @@
-use Rattle.std.proofs.Common.{◌≡◌, ◌⊎◌, List, length, suc, sym, ap, ◌∙◌, subst, Result}
+use Rattle.std.proofs.Common.{◌≡◌, refl, ◌⊎◌, List, length, suc, sym, ap, ◌∙◌, subst, Result}
 use Rattle.ids.specs.declared.fault.Fault.{Fault}
 use Rattle.definitions.specs.Checks.{identity_of}
 use Rattle.definitions.specs.Keyrings.{Keys}
@@ -6,13 +6,17 @@ use Rattle.definitions.specs.Chronicles.{Chronicle}
 use Rattle.definitions.specs.Replicas.{Replica}
 use Rattle.signed_frames.specs.Outs.{SentBytes}
 use Rattle.replica.specs.Steps.{Held, Stepped, standing_of}
+use Rattle.definitions.specs.Chronicles.{stored_blocks}
+use Rattle.definitions.specs.Replicas.{held_history}
+use Rattle.replica.specs.Kept.{Variables}
 use Rattle.replica.specs.Advances.{IsWholeOf}
+use Rattle.replica.proofs.Logging.{logs-at}
 use Rattle.admission.specs.Inputs.{input_of}
 use Rattle.replica.proofs.Whole.{goes-on, kept-from, stepped-from, stepped-not, grows-from}
-use Rattle.replica.proofs.replica.Replica.step.Goals as goal
+use Rattle.replica.proofs.replica.Replica.step_into.Goals as goal
 
 pub returns-then-not-is_running-clause-stepped : goal.returns-then-not-is_running-clause-stepped
-returns-then-not-is_running-clause-stepped c =
+returns-then-not-is_running-clause-stepped g c =
     let r = c.self.inside in
     stepped-not c.args.self.now.keys (input_of c.args.input) c.args.self.now.replica
     r.state.variables.chronicle r.standing (length r.executor)
@@ -20,11 +24,11 @@ returns-then-not-is_running-clause-stepped c =
     (sym c.if-not-is_running.ensures)
 
 pub invariant_of-self : goal.invariant_of-self
-invariant_of-self c =
+invariant_of-self g c =
     let r = c.self.inside in
     let c' = r.state.variables.chronicle in
     let on = goes-on c' r.standing (length r.executor) (sym c.if-not-is_running.ensures) in
-    let t = c.advance-taken.ensures c'
+    let t = c.advance-taken.ensures.advances c'
     (subst (λ (x : Replica). IsWholeOf r.keyring x r.state r.executor) on c.self.invariant.0) in (
       kept-from r.keyring (input_of c.args.input) c' c.advance-taken.result c.advance-taken.new.state
           c.advance-taken.new.executor _ t
@@ -33,7 +37,7 @@ invariant_of-self c =
     )
 
 pub returns-clause-stepped : goal.returns-clause-stepped
-returns-clause-stepped c =
+returns-clause-stepped g c =
     let r = c.self.inside in
     let c' = r.state.variables.chronicle in
     let new : Replica = record {
@@ -41,7 +45,7 @@ returns-clause-stepped c =
       standing = standing_of c.standing-self-inside.result (length c.advance-taken.new.executor);
     } in
     let on = goes-on c' r.standing (length r.executor) (sym c.if-not-is_running.ensures) in
-    let t = c.advance-taken.ensures c'
+    let t = c.advance-taken.ensures.advances c'
     (subst (λ (x : Replica). IsWholeOf r.keyring x r.state r.executor) on c.self.invariant.0) in
     let step = stepped-from r.keyring (input_of c.args.input) c.args.self.now.replica c'
     c.advance-taken.result c.advance-taken.new.state c.advance-taken.new.executor _
@@ -53,14 +57,35 @@ returns-clause-stepped c =
     c.args.self.now.replica x new) (sym c.into_answer.ensures) step)
 
 pub returns-clause-grows : goal.returns-clause-grows
-returns-clause-grows c =
+returns-clause-grows g c =
     let r = c.self.inside in
     let c' = r.state.variables.chronicle in
     let on = goes-on c' r.standing (length r.executor) (sym c.if-not-is_running.ensures) in
-    let t = c.advance-taken.ensures c'
+    let t = c.advance-taken.ensures.advances c'
     (subst (λ (x : Replica). IsWholeOf r.keyring x r.state r.executor) on c.self.invariant.0) in
     subst (λ (x : Chronicle). (length c.advance-taken.new.state.variables.chronicle ≡ length x)
     ⊎ (length c.advance-taken.new.state.variables.chronicle ≡ suc (length x)))
     (ap (λ (h : Held). h.replica.chronicle) c.self.view_is)
     (grows-from r.keyring (input_of c.args.input) c' c.advance-taken.result c.advance-taken.new.state
     c.advance-taken.new.executor t)
+
+pub returns-clause-logged : goal.returns-clause-logged
+returns-clause-logged g c l =
+    let r = c.self.inside in
+    let new = c.advance-taken.new.state.variables in
+    let same = ap (λ (h : Held). h.replica.chronicle) c.self.view_is in
+    let old = logs-at (g.S.StepLog.holds c.args.log.now) (stored_blocks c.args.self.now.replica.chronicle)
+    r.state.variables.stored c.args.self.now.replica.chronicle r.state.variables.chronicle
+    (ap stored_blocks (sym same) ∙ sym (ap (λ (v : Variables). v.stored) c.self.invariant.0.state.same))
+    (sym same) l in
+    logs-at (g.S.StepLog.holds c.advance-taken.new.log) new.stored (stored_blocks new.chronicle)
+    new.chronicle new.chronicle
+    (ap (λ (v : Variables). v.stored) (invariant_of-self g c).0.state.same) refl
+    (c.advance-taken.ensures.logged old)
+
+pub returns-clause-written : goal.returns-clause-written
+returns-clause-written g c k =
+    subst (g.L.Ledger.holds c.advance-taken.new.ledger) (invariant_of-self g c).0.history
+    (c.advance-taken.ensures.written
+    (subst (g.L.Ledger.holds c.args.ledger.now)
+    (sym (c.self.invariant.0.history ∙ ap (λ (h : Held). held_history h.replica) c.self.view_is)) k))

@@ -1,0 +1,39 @@
+-- Steps that are written down.
+use Rattle.std.proofs.Common.{◌≡◌, List, ◌∷◌, sym, ap, ◌∙◌}
+use Rattle.definitions.specs.Trees.{Stored}
+use Rattle.definitions.specs.Chronicles.{Chronicle}
+use Rattle.replica.specs.declared.stored.StoredStep.{StoredStep}
+use Rattle.replica.specs.declared.change.Change.{Change}
+use Rattle.replica.specs.Replay.{step_of, replay}
+use Rattle.replica.specs.Kept.{StateParts}
+use Rattle.replica.specs.Changes.{grown, Fits, changed}
+use Rattle.replica.specs.Logs.{Logs}
+use Rattle.replica.proofs.Replaying.{before-grown}
+
+-- the log of a state
+abbrev pub LogsOf : (List StoredStep → Type 0) → StateParts → Type 0
+LogsOf holds s = Logs holds s.variables.stored s.variables.chronicle
+
+-- another log holds the same steps
+pub logged-still : (old new : List StoredStep → Type 0) (s : StateParts)
+    → ((xs : List StoredStep) → old xs → new xs) → LogsOf old s → LogsOf new s
+logged-still old new s h l = record { steps = l.steps; held = h l.steps l.held; replayed = l.replayed }
+
+-- one step more is written down
+pub logged-one : (old new : List StoredStep → Type 0) (d : Change) (s : StateParts) → Fits s d
+    → ((xs : List StoredStep) → old xs → new (d.step ∷ xs)) → LogsOf old s → LogsOf new (changed d s)
+unfolding replay
+logged-one old new d s fits h l = record {
+  steps = d.step ∷ l.steps;
+  held = h l.steps l.held;
+  replayed =
+      ap (λ (x : List Stored). step_of d.step (grown d.growth s.variables.stored) ∷ replay l.steps x)
+      (before-grown d.step d.growth s.variables.stored fits.step)
+      ∙ ap (λ (x : Chronicle). step_of d.step (grown d.growth s.variables.stored) ∷ x) l.replayed;
+}
+
+-- the same blocks, and the same chronicle
+pub logs-at : (holds : List StoredStep → Type 0) (stored others : List Stored) (c d : Chronicle)
+    → stored ≡ others → c ≡ d → Logs holds stored c → Logs holds others d
+logs-at holds stored others c d e k l =
+    record { steps = l.steps; held = l.held; replayed = ap (replay l.steps) (sym e) ∙ l.replayed ∙ k }
