@@ -13,8 +13,13 @@
 //! or `ok` and the frames that go out, each with its length, where it goes, and the first 8 bytes
 //! of its SHA-256 digest. At the end stand the count of each share, in brackets, and what closing
 //! answers as `shares` tells it.
+//!
+//! Where `alone` stands for SHARES, the inputs come to a replica that keeps no past and has no shares. Then
+//! an input is `beat`, `timeout` or `CHECKER:BYTES`, and at the end stand how many steps it made and how
+//! many commands it executed.
 #![tactic(auto)]
 
+mod bare;
 mod shares;
 mod stepped;
 mod told;
@@ -30,16 +35,20 @@ fn steps(
     alloc: Global,
     config: Config,
     replica: u8,
-    shares: u8,
+    shares: &str,
     inputs: &str,
 ) -> Result<String, Fault> {
     if replica >= config.n() {
         return Err(Fault::NoSuchParty);
     }
-    let (marks, eyes) = Marks::new(alloc, config.n())?;
     let own = ReplicaId(replica);
-    let stepped = Stepped::new(alloc, config, own, shares, &marks, eyes)?;
     let mut text = String::new(alloc);
+    if shares == "alone" {
+        bare::run(alloc, config, own, inputs, &mut text)?;
+        return Ok(text);
+    }
+    let (marks, eyes) = Marks::new(alloc, config.n())?;
+    let stepped = Stepped::new(alloc, config, own, number(shares)?, &marks, eyes)?;
     stepped.run(alloc, inputs, &mut text)?;
     Ok(text)
 }
@@ -50,7 +59,7 @@ fn tell(alloc: Global, input: &str) -> Result<String, Fault> {
     let faults = number(fields.next().unwrap_or(""))?;
     let clients = number(fields.next().unwrap_or(""))?;
     let replica = number(fields.next().unwrap_or(""))?;
-    let shares = number(fields.next().unwrap_or(""))?;
+    let shares = fields.next().unwrap_or("");
     let config = Config::new(faults, clients)?;
     steps(alloc, config, replica, shares, fields.next().unwrap_or(""))
 }
