@@ -1,1 +1,5 @@
-pub mod Hearings
+pub mod Traffic
+pub mod Hearing
+pub mod Waiting
+pub mod Tries
+pub mod Submitting

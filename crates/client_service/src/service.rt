@@ -1,7 +1,8 @@
-ghost use Rattle.std.specs.Prelude.{◌≡◌, [], OnOk, OnErr, None, Some};
+ghost use Rattle.std.specs.Prelude.{◌≡◌, ◌-◌, ◌<◌, min, None, true, if◌then◌else◌};
 ghost use Rattle.std.specs.Result.{result_ok};
 ghost use Rattle.definitions.specs.Keyrings.{client_at};
-ghost use Rattle.client_service.specs.Calls.{AsksOn, IsAsked};
+ghost use Rattle.client_service.specs.Links.{Passes, Hears, came, sent};
+ghost use Rattle.client_service.specs.Calls.{Listens, Asks, IsAsked, LooksAndAsks};
 
 use crate::link::Link;
 use client_accept::{Receipt, Session};
@@ -14,6 +15,21 @@ use std::alloc::Global;
 /// How often a request is sent to all replicas before the service gives it up.
 pub const TRIES: u32 = 30;
 
+/// How often it is still sent when the link was found closed.
+const LATE_TRIES: u32 = 2;
+
+/// How many tries are left after one more, and as the link was found then.
+fn tries_left(left: u32, is_open: bool) -> u32
+    requires { 0 < left }
+    ensures { result ≡ (if is_open then left - 1 else min (left - 1) 2) }
+{
+    if is_open {
+        left - 1
+    } else {
+        (left - 1).min(LATE_TRIES)
+    }
+}
+
 /// Answers requests by what f + 1 replicas tell, as one client.
 #[derive(Drop)]
 pub struct ClientService<L> {
@@ -25,7 +41,8 @@ pub struct ClientService<L> {
 impl<L: Link> ClientService<L> {
     /// The service of this session over a link of its client.
     pub fn new(alloc: Global, session: Session, link: L) -> ClientService<L>
-        ensures { result.session ≡ session }
+        ensures session { result.session ≡ session }
+        ensures link { result.link ≡ link }
     {
         ClientService {
             alloc,
@@ -51,7 +68,9 @@ impl<L: Link> ClientService<L> {
 
     /// Sends the outstanding request to all replicas.
     fn send(&mut self)
-        ensures { self.new.session ≡ self.old.session }
+        requires { self.old.session.session.waiting ≡ true }
+        ensures { Passes L.carries (self.old.session, self.old.link) (sent self.old.session.frame) None
+            (self.new.session, self.new.link) }
     {
         if let Some(frame) = self.session.outstanding() {
             self.link.send(frame);
@@ -61,10 +80,14 @@ impl<L: Link> ClientService<L> {
     /// Takes bytes that came for this client. The receipt, where they are the reply that gives it;
     /// others count, or are passed over.
     fn hear(&mut self, bytes: &[u8]) -> Option<Receipt>
-        ensures { AsksOn self.old.session result self.new.session }
+        ensures heard { Hears self.old.session (came bytes.now) result self.new.session }
+        ensures link { self.new.link ≡ self.old.link }
     {
         let config = self.session.config();
-        let Ok(Frame::Reply(reply)) = read(&config, bytes) else {
+        let Ok(frame) = read(&config, bytes) else {
+            return None;
+        };
+        let Frame::Reply(reply) = frame else {
             return None;
         };
         match self.session.on_reply(&reply) {
@@ -75,12 +98,13 @@ impl<L: Link> ClientService<L> {
 
     /// Takes what comes until there is a receipt, or nothing came in time.
     fn listen(&mut self) -> Option<Receipt>
-        ensures { AsksOn self.old.session result self.new.session }
+        ensures { Listens L.carries (self.old.session, self.old.link) result
+            (self.new.session, self.new.link) }
     {
-        for _ in 0..u64::MAX {
+        for _heard in 0..u64::MAX {
             let mut frame = Vec::new(self.alloc);
             if !self.link.receive(&mut frame) {
-                break;
+                return None;
             }
             if let Some(receipt) = self.hear(frame.as_slice()) {
                 return Some(receipt);
@@ -90,22 +114,27 @@ impl<L: Link> ClientService<L> {
     }
 
     /// Sends the outstanding request to all replicas until there is a receipt. `Busy` where there
-    /// is none after all tries.
+    /// is none after all tries, or after two more when the link was found closed.
     fn ask(&mut self) -> Result<Receipt, Fault>
-        ensures { AsksOn self.old.session (result_ok result) self.new.session }
+        requires { self.old.session.session.waiting ≡ true }
+        ensures { Asks L.carries (self.old.session, self.old.link) (result_ok result)
+            (self.new.session, self.new.link) }
     {
-        for _ in 0..TRIES {
+        let mut left = TRIES;
+        while left > 0 {
             self.send();
             if let Some(receipt) = self.listen() {
                 return Ok(receipt);
             }
+            left = tries_left(left, self.link.is_open());
         }
         Err(Fault::Busy)
     }
 
     /// Submits the request of this payload, and asks for its receipt.
-    fn answer(&mut self, payload: &[u8]) -> Result<Receipt, Fault>
-        ensures { IsAsked self.old.session payload.now (result_ok result) self.new.session }
+    fn submit_and_ask(&mut self, payload: &[u8]) -> Result<Receipt, Fault>
+        ensures { IsAsked L.carries (self.old.session, self.old.link) payload.now (result_ok result)
+            (self.new.session, self.new.link) }
     {
         let Some(request) = read_canonical(payload) else {
             return Err(Fault::NotARequest);
@@ -115,16 +144,30 @@ impl<L: Link> ClientService<L> {
             Err(fault) => Err(fault),
         }
     }
+
+    /// Asks for the receipt of this payload's request. `Stopped` where the link is closed: nothing
+    /// is submitted then.
+    fn answer(&mut self, payload: &[u8]) -> Result<Receipt, Fault>
+        ensures { LooksAndAsks L.carries (self.old.session, self.old.link) payload.now (result_ok result)
+            (self.new.session, self.new.link) }
+    {
+        if !self.link.is_open() {
+            return Err(Fault::Stopped);
+        }
+        self.submit_and_ask(payload)
+    }
 }
 
 impl<L: Link> Service for ClientService<L> {
     ghost use Rattle.client_service.specs.Calls.{IsCall};
 
-    ghost answers = { λ old payload answer new. IsCall old.session payload answer new.session };
+    ghost answers = { λ old payload answer new.
+        IsCall L.carries (old.session, old.link) payload answer (new.session, new.link) };
 
     /// Puts the text of the request's receipt into `text`. It refuses where the payload is no
     /// request, where one is outstanding, where memory is refused, and, with `Busy`, where there is
-    /// no receipt after all tries.
+    /// no receipt after all tries. Where the link is closed it refuses at once, with `Stopped`, and
+    /// nothing is outstanding that wasn't before.
     fn call(&mut self, payload: &[u8], text: &mut Vec<u8>) -> Result<(), Fault> {
         let receipt = self.answer(payload)?;
         text.extend_from_slice(&receipt.text)?;

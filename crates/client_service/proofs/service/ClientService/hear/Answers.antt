@@ -1,9 +1,11 @@
-use Rattle.client_service.proofs.Hearings.{asks_one, asks_last}
+use Rattle.std.proofs.Common.{refl}
+use Rattle.client_service.proofs.Hearing.{other_passed}
 use Rattle.client_service.proofs.service.ClientService.hear.Goals as goal
 
-pub returns-in-Ok : goal.returns-in-Ok
-returns-in-Ok g c = asks_last c.args.self.now.session c.on_reply.new.self _ _ c.in-Ok.receipt
-    c.in-Ok.ensures.state c.in-Ok.ensures.answer
-
-pub returns-in-Err : goal.returns-in-Err
-returns-in-Err g c = asks_one c.args.self.now.session c.on_reply.new.self _ _ c.in-Err.ensures.state
+pub returns-in_default-frame : goal.returns-in_default-frame
+returns-in_default-frame g c = record {
+  heard =
+      other_passed c.args.self.now.session c.args.bytes.now c.config-config.result c.in-Ok.frame
+      c.in_default-frame.not-Reply c.config-config.ensures c.in-Ok.ensures.value;
+  link = refl;
+}
