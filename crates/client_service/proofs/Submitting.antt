@@ -74,7 +74,8 @@ pub begun_waits : (old begun : Held) (m : MemorySupply) (payload : Bytes) (bytes
     → IsSubmitted (submission (client_of old.keys) m payload old.session).1 (Ok bytes)
     → begun.session.waiting ≡ true
 begun_waits old begun m payload bytes state answer =
-    ap (λ s. s.session.waiting) state ∙ submitted_waits (client_of old.keys) m payload old.session bytes answer
+    ap (λ s. s.session.waiting) state
+    ∙ submitted_waits (client_of old.keys) m payload old.session bytes answer
 
 pub submitted_for : (old begun : Held) (m : MemorySupply) (payload : Bytes) (request : Asked)
     (bytes : Vec ℕ Global) → Some request ≡ request_of payload

@@ -5,7 +5,8 @@ use Rattle.client_accept.specs.Sessions.{Held}
 use Rattle.client_service.specs.Links.{Traffic}
 use Rattle.client_service.specs.Links.{Passes, Goes}
 
-pub goes_both : {L : Type 0} (carries : L → Traffic → L → Type 0) (ts us : List Traffic) (old mid new : Held × L)
+pub goes_both : {L : Type 0} (carries : L → Traffic → L → Type 0) (ts us : List Traffic)
+    (old mid new : Held × L)
     → Goes carries old ts mid → Goes carries mid us new → Goes carries old (ts ++ us) new
 goes_both carries [] us old mid new first second = subst (λ x. Goes carries x us new) first second
 goes_both carries (t ∷ ts) us old mid new (between, passes, first) second =

@@ -19,7 +19,8 @@ quiet_by : (b : Bool) → b ≡ false → (if b then [] else silent ∷ []) ≡ 
 quiet_by true e = absurd cc
 quiet_by false e = refl
 
-map_more : (heard : List Bytes) (bytes : Bytes) → map came (heard ++ bytes ∷ []) ≡ map came heard ++ came bytes ∷ []
+map_more : (heard : List Bytes) (bytes : Bytes)
+    → map came (heard ++ bytes ∷ []) ≡ map came heard ++ came bytes ∷ []
 map_more [] bytes = refl
 map_more (h ∷ heard) bytes = ap (λ ts. came h ∷ ts) (map_more heard bytes)
 
@@ -34,21 +35,6 @@ listened_out carries old mid new heard few goes waits same = (
       (goes_both carries (map came heard) (silent ∷ []) old mid new goes
       (goes_one carries silent mid new (waits, (refl, same)))),
 )
-
--- so much came that nobody can count it
-pub listened_long : {L : Type 0} (carries : L → Traffic → L → Type 0) (old new : Held × L) (heard : List Bytes)
-    → (length heard == (2 ^ 64 - 1)) ≡ true → Goes carries old (map came heard) new
-    → Listens carries old None new
-listened_long carries old new heard many goes = (
-  heard,
-  subst (λ (ts : List Traffic). Goes carries old ts new)
-      (sym (ap (λ (ts : List Traffic). map came heard ++ ts) (none_by (length heard == (2 ^ 64 - 1)) many)
-      ∙ append-nil (map came heard))) goes,
-)
-  where
-    none_by : (b : Bool) → b ≡ true → (if b then [] else silent ∷ []) ≡ []
-    none_by true e = refl
-    none_by false e = absurd cc
 
 -- one more came, and gave no receipt
 pub heard_more : {L : Type 0} (carries : L → Traffic → L → Type 0) (old mid new : Held × L) (n : ℕ)
@@ -82,11 +68,12 @@ tried carries old mid asked new tries frame open_now before sends (heard, goes) 
           (goes_both carries (map came heard ++ ended_by heard) (looked open_now ∷ []) asked new new goes
           (goes_one carries (looked open_now) new new (looks, (refl, refl)))),
     ) in
-    let all = goes_both carries (flat_map (try_traffic frame) tries) (try_traffic frame last) old mid new before
-    one in
+    let all =
+    goes_both carries (flat_map (try_traffic frame) tries) (try_traffic frame last) old mid new before one in
     subst (λ (ts : List Traffic). Goes carries old ts new)
     (sym (flat_map-append (try_traffic frame) tries (last ∷ [])
-    ∙ ap (λ (ts : List Traffic). flat_map (try_traffic frame) tries ++ ts) (append-nil (try_traffic frame last))))
+    ∙ ap (λ (ts : List Traffic). flat_map (try_traffic frame) tries ++ ts)
+    (append-nil (try_traffic frame last))))
     all
 
 -- so many tries are left

@@ -6,7 +6,8 @@ use Rattle.definitions.specs.Frames.{Frame}
 use Rattle.definitions.specs.Frames as frame
 use Rattle.definitions.specs.Replicas.{MemorySupply}
 use Rattle.definitions.specs.Tally.{Told}
-use Rattle.definitions.specs.Sessions.{Client, Session, Receipt, Heard, not_counted, gives_receipt, only_counts}
+use Rattle.definitions.specs.Sessions.{Client, Session, Receipt, Heard, not_counted, gives_receipt}
+use Rattle.definitions.specs.Sessions.{only_counts}
 use Rattle.definitions.specs.Sessions.{count_reply, on_reply}
 use Rattle.signed_frames.specs.Clients.{client_of}
 use Rattle.client_accept.specs.Sessions.{Held}
@@ -71,7 +72,8 @@ keeps_heard old new None (none, same) = keeps_same old new same
 keeps_heard old new (Some f) (m, none, is) = record {
   keys = ap (λ s. s.keys) is;
   frame = ap (λ s. s.frame) is;
-  waits = λ waits. ap (λ s. s.session.waiting) is ∙ frame_waits (client_of old.keys) m f old.session waits none;
+  waits = λ waits.
+      ap (λ s. s.session.waiting) is ∙ frame_waits (client_of old.keys) m f old.session waits none;
 }
 
 keeps_one : (old new : Held) (t : Traffic) → Hears old t None new → Keeps old new

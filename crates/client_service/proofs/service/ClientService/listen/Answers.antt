@@ -25,5 +25,7 @@ loop-heard-preserved g c =
     heard_more g.L.Link.carries (c.args.self.now.session, c.args.self.now.link)
     (c.loop-heard.self.session, c.loop-heard.self.link) (c.hear.new.self.session, c.hear.new.self.link)
     c.loop-heard._heard c.loop-heard.invariant.0 c.as_slice.result.now c.loop-heard.invariant.1
-    c.loop-heard.invariant.2
-    (rw c.hear.ensures.link (rw c.as_slice.ensures.value c.if-not-receive.ensures), c.in_default.ensures.heard)
+    c.loop-heard.invariant.2 (
+      rw c.hear.ensures.link (rw c.as_slice.ensures.value c.if-not-receive.ensures),
+      c.in_default.ensures.heard,
+    )

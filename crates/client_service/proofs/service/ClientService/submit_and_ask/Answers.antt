@@ -19,7 +19,8 @@ ask-requires g c =
 pub returns-in-Ok : goal.returns-in-Ok
 returns-in-Ok g c =
     asked g.L.Link.carries (c.args.self.now.session, c.args.self.now.link)
-    (c.ask.new.self.session, c.ask.new.self.link) c.submit.new.self c.args.payload.now (result_ok c.ask.result)
+    (c.ask.new.self.session, c.ask.new.self.link) c.submit.new.self c.args.payload.now
+    (result_ok c.ask.result)
     (submitted_for c.args.self.now.session c.submit.new.self _ c.args.payload.now
     (asked_of c.in-Some.request) _ c.in-Some.ensures.value c.in-Ok.ensures.state c.in-Ok.ensures.answer)
     c.ask.ensures
