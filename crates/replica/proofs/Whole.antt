@@ -84,7 +84,7 @@ pub stepped-not : (keys : Keys) (i : Input) (old : Replica) (c : Chronicle) (m :
     → Stepped (identity_of keys) i old (Err fault.Stopped) old
 unfolding step
 stepped-not keys i old c Running held e n = absurd (true≢false n)
-stepped-not keys i old c Stopped held e n =
+stepped-not keys i old c (Stopped why) held e n =
     subst (λ (x : Replica). Stepped (identity_of keys) i x (Err fault.Stopped) x) (sym e)
     (record { memory = ample; state = refl; answer = refl })
 stepped-not keys i old c CutShort held e n =
@@ -97,5 +97,5 @@ at c m = record { chronicle = c; standing = m }
 pub goes-on : (c : Chronicle) (m : mark.Standing) (held : ℕ) → is_running m ≡ true
     → at c (standing_of m held) ≡ at c running
 goes-on c Running held e = refl
-goes-on c Stopped held e = absurd (true≢false (sym e))
+goes-on c (Stopped why) held e = absurd (true≢false (sym e))
 goes-on c CutShort held e = absurd (true≢false (sym e))

@@ -80,6 +80,13 @@ impl Archived {
         })
     }
 
+    /// The replica, without its archive.
+    pub fn replica(&self) -> &Replica
+        ensures { result.now ≡ self.now }
+    {
+        &self.replica
+    }
+
     /// The steps that stand.
     pub fn chronicle(&self) -> ChronicleView<'_>
         ensures { result ≡ self.now.replica.chronicle }

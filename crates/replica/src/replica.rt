@@ -1,10 +1,11 @@
 //! One replica.
 
 ghost use Rattle.std.specs.Prelude.{◌≡◌, ◌<◌, ◌&&◌, ◌⊎◌, [], length, reverse, suc, IsTrue, IfOk, OnErr};
+ghost use Rattle.std.specs.Prelude.{◌↔◌, IsNone};
 ghost use Rattle.ids.specs.Sizes.{replicas};
 ghost use Rattle.audit_ground.specs.Law.{IsLawfullyKept};
 ghost use Rattle.definitions.specs.Checks.{identity_of};
-ghost use Rattle.definitions.specs.Chronicles.{Chronicle, IsLawful, stored_blocks};
+ghost use Rattle.definitions.specs.Chronicles.{Chronicle, IsLawful, executed, stored_blocks, tree};
 ghost use Rattle.definitions.specs.Frames.{spelling};
 ghost use Rattle.definitions.specs.Replicas.{running, held_history, held_pending};
 ghost use Rattle.definitions.specs.Sendings.{fetch_frame};
@@ -41,7 +42,7 @@ use block_tree::Tree;
 use executor::{Executor, Ledger, NoLedger};
 use frames_view::{CertificateBuf, genesis_digest};
 use ghost_list::GhostList;
-use ids::{Config, Digest, Fault, MOST_BLOCKS, ReplicaId, View};
+use ids::{Config, Digest, Fault, Height, MOST_BLOCKS, ReplicaId, View};
 use mempool::Mempool;
 use pacemaker::Pacemaker;
 use replica_rules::{BlockRef, Rules};
@@ -298,6 +299,28 @@ impl Replica {
         let (leaf, high) = (&self.state.leaf, &self.state.high.block);
         let is_idle = leaf.digest == high.digest;
         self.wants_beat() && (is_idle || leaf.height < self.state.rules.vheight())
+    }
+
+    /// Why it stopped: the refusal after which it takes no further input. None while it goes on.
+    pub fn stopped(&self) -> Option<Fault>
+        ensures { IsNone result ↔ (self.now.replica.standing ≡ running) }
+    {
+        self.standing.stopped()
+    }
+
+    /// The height of the last block that was decided.
+    pub fn height(&self) -> Height
+        ensures { result ≡ length (executed self.now.replica.chronicle) }
+    {
+        self.state.rules.executed().height
+    }
+
+    /// How many blocks it holds, genesis included.
+    #[tactic(auto, unfolding(definitions::specs::Chronicles::tree))]
+    pub fn blocks(&self) -> usize
+        ensures { result ≡ length (tree self.now.replica.chronicle) }
+    {
+        self.state.tree.len()
     }
 
     /// The view that it is in.

@@ -1,6 +1,6 @@
 //! Whether a replica goes on.
 
-ghost use Rattle.std.specs.Prelude.{◌≡◌, ℕ};
+ghost use Rattle.std.specs.Prelude.{◌≡◌, ◌↔◌, ℕ, IsNone, IsTrue};
 ghost use Rattle.replica.specs.Steps.{is_running, standing_of};
 ghost use Rattle.replica.specs.StepsTo.{halts};
 ghost use Rattle.replica.specs.Advances.{answer_of, standing_after};
@@ -12,7 +12,8 @@ use signed_frames::Out;
 #[derive(Clone, Copy)]
 pub(crate) enum Standing {
     Running,
-    Stopped,
+    /// This refusal stopped it.
+    Stopped(Fault),
     /// Memory was refused while the last step was executed. Some of its commands stand, and the others don't.
     CutShort,
 }
@@ -23,6 +24,17 @@ impl Standing {
         ensures { result ≡ is_running self }
     {
         matches!(self, Standing::Running)
+    }
+
+    /// Why it takes none. None while it does.
+    pub(crate) fn stopped(self) -> Option<Fault>
+        ensures { IsNone result ↔ IsTrue (is_running self) }
+    {
+        match self {
+            Standing::Running => None,
+            Standing::Stopped(fault) => Some(fault),
+            Standing::CutShort => Some(Fault::Memory),
+        }
     }
 }
 
@@ -51,7 +63,7 @@ impl Taken {
     {
         match self {
             Taken::Sends(_) => Standing::Running,
-            Taken::Refused(fault) if halts(*fault) => Standing::Stopped,
+            Taken::Refused(fault) if halts(*fault) => Standing::Stopped(*fault),
             Taken::Refused(_) => Standing::Running,
             Taken::CutShort => Standing::CutShort,
         }
