@@ -5,6 +5,10 @@ use Rattle.clock.specs.declared.watch.Pulse.{Pulse}
 use Rattle.clock.specs.declared.watch.Due.{Due}
 use Rattle.clock.specs.declared.watch.Watch.{Watch}
 
+-- nothing was seen yet: view 0, nothing executed, and a pause of 20 milliseconds
+abbrev pub unseen : Watch
+unseen = record { view = 0; executed = 0; since = 0; asked = 0; pause = 20 }
+
 -- its view or its history changed since it was looked at last
 abbrev pub moved : Watch → Pulse → Bool
 moved w p = not ((p.view == w.view) && (p.executed == w.executed))

@@ -2,7 +2,7 @@
 
 use crate::watch::{Due, Pulse, Watch};
 use fabric::Links;
-use ids::ReplicaId;
+use ids::{Fault, ReplicaId};
 use std::sync::Wait;
 use std::sync::atomic::AtomicBool;
 use std::sync::atomic::Ordering::SeqCst;
@@ -29,13 +29,15 @@ fn millis_since<R: Clock>(rt: &R, start: Option<Instant>) -> u64 {
 
 /// Looks at a replica each 20 milliseconds until it is told to stop, and hands in beats and
 /// timeouts at its link. What the link doesn't take is lost, and due again soon.
+///
+/// It ends where the replica has stopped, too, and tells why; where it was told to stop, it tells nothing.
 pub fn keep_time<R: Wait + Clock, W: Watched>(
     rt: &R,
     links: &Links,
     number: ReplicaId,
     replica: &W,
     stop: &AtomicBool,
-) {
+) -> Option<Fault> {
     let start = Instant::now(rt).ok();
     let mut watch = Watch::new();
     for _ in rt.forever() {
@@ -43,9 +45,14 @@ pub fn keep_time<R: Wait + Clock, W: Watched>(
             break;
         }
         thread::sleep(rt, Duration::from_millis(PAUSE_MILLIS));
-        let due = watch.look(millis_since(rt, start), replica.pulse(rt));
+        let pulse = replica.pulse(rt);
+        if pulse.stopped.is_some() {
+            return pulse.stopped;
+        }
+        let due = watch.look(millis_since(rt, start), pulse);
         hand_in(rt, links, number, due);
     }
+    None
 }
 
 /// Hands in what is due to a replica.

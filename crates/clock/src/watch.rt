@@ -1,9 +1,9 @@
 //! What is due to one replica.
 
 ghost use Rattle.std.specs.Prelude.{◌≡◌, if◌then◌else◌};
-ghost use Rattle.clock.specs.Watching.{due_of, is_late, is_overdue, looked, moved, pause_after, rests};
+ghost use Rattle.clock.specs.Watching.{due_of, is_late, is_overdue, looked, moved, pause_after, rests, unseen};
 
-use ids::View;
+use ids::{Fault, View};
 
 /// For how many milliseconds a proposal may wait for votes, at first and at least, before a beat on
 /// top of it.
@@ -22,6 +22,8 @@ pub struct Pulse {
     pub view: View,
     /// How many commands it has executed.
     pub executed: u64,
+    /// Why it stopped. None while it goes on.
+    pub stopped: Option<Fault>,
 }
 
 /// What is due to a replica.
@@ -68,7 +70,9 @@ fn pause_after(pause: u64, moved: bool, overdue: bool) -> u64
 
 impl Watch {
     /// Nothing was seen yet.
-    pub fn new() -> Watch {
+    pub fn new() -> Watch
+        ensures { result ≡ unseen }
+    {
         Watch {
             view: View(0),
             executed: 0,

@@ -63,6 +63,8 @@ pub struct Links {
     config: Config,
     replicas: Vec<ReplicaLink>,
     clients: Vec<Sender<Bytes>>,
+    /// How many frames couldn't be handed in.
+    lost: AtomicU64,
 }
 
 impl Model for Links {
@@ -152,6 +154,7 @@ impl Links {
             config,
             replicas,
             clients,
+            lost: AtomicU64::new(0),
         };
         let ends = Ends {
             replicas: replica_ends,
@@ -165,6 +168,16 @@ impl Links {
         ensures { result ≡ self.now }
     {
         self.config
+    }
+
+    /// How many frames were to be sent and are lost, for want of memory. One that is for all counts once.
+    pub fn lost(&self) -> u64 {
+        self.lost.load(SeqCst)
+    }
+
+    /// A frame that was to be sent is lost.
+    pub(crate) fn lose(&self) {
+        self.lost.fetch_add(1, SeqCst);
     }
 
     /// Hands in a parcel at a replica's link.

@@ -40,13 +40,17 @@ impl Outgoing for Links {
     fn send<R: Wait>(&self, rt: &R, sending: Sending) {
         let Sending { to, frame, .. } = sending;
         let Ok(bytes) = Bytes::from_vec(frame) else {
+            self.lose();
             return;
         };
-        let _sent = match to {
+        let sent = match to {
             To::All => self.to_all(rt, bytes),
             To::Replica(replica) => self.to_replica(rt, replica, bytes),
             To::Client(client) => self.to_client(rt, client, bytes),
         };
+        if sent.is_err() {
+            self.lose();
+        }
     }
 }
 
