@@ -1,5 +1,6 @@
 //! One connection, from its first byte to its last.
 
+use crate::line::Line;
 use crate::seats::{Seat, Seats, Taken};
 use connection::{Counted, serve};
 use log::{Log, warn};
@@ -20,15 +21,14 @@ pub(crate) fn attend<R: Wait + AllocGlobal + Log, S: Seat + Drop>(
     seats: &Seats<S>,
     mut taken: Taken<S>,
 ) {
-    let mut reader = Counted::new(&stream);
-    let mut writer = Counted::new(&stream);
+    let mut reader = Counted::new(Line::new(&stream, seats));
+    let mut writer = Counted::new(Line::new(&stream, seats));
     let _end = serve(rt.alloc(), &mut reader, &mut writer, &mut taken.seat);
     if taken.seat.is_lost() {
         let number = taken.number;
         warn!(rt; "client {number} is out of use: its last request has no receipt");
-    } else {
-        seats.give_back(rt, taken);
     }
+    seats.leave(rt, taken);
     close(&stream);
 }
 

@@ -4,7 +4,8 @@
 
 mod accepting;
 mod attending;
+mod line;
 mod seats;
 
-pub use accepting::front;
+pub use accepting::{Closer, front};
 pub use seats::{Seat, Seats};
