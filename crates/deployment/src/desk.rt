@@ -1,6 +1,7 @@
 //! The seats of a front: one client each.
 
 use crate::link::ClientLink;
+use crate::roll::Roll;
 use bytes::Bytes;
 use client_accept::Session;
 use client_service::ClientService;
@@ -19,6 +20,7 @@ pub(crate) type Desk<R> = ClientService<ClientLink<R>>;
 pub(crate) fn desks<R: Wait + Clock + AllocGlobal + Clone + Drop>(
     rt: &R,
     links: &Arc<Links>,
+    roll: &Arc<Roll>,
     keys: &PairKeys,
     ends: Vec<Receiver<Bytes>>,
 ) -> Result<Seats<Desk<R>>, Fault> {
@@ -32,7 +34,8 @@ pub(crate) fn desks<R: Wait + Clock + AllocGlobal + Clone + Drop>(
         let client = ClientId(number);
         let keyring = keys.keyring(alloc, client.into())?;
         let session = Session::new(alloc, config, client, keyring);
-        let link = ClientLink::new(rt.clone()?, Arc::try_clone(links)?, frames);
+        let (links, roll) = (Arc::try_clone(links)?, Arc::try_clone(roll)?);
+        let link = ClientLink::new(rt.clone()?, links, roll, frames);
         desks.push(ClientService::new(alloc, session, link))?;
     }
     Seats::new(alloc, desks)

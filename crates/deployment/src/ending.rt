@@ -1,40 +1,48 @@
 //! What is said of the replicas of a deployment at its end.
 
+ghost use Rattle.std.specs.Prelude.{◌≡◌, IfOk, OnErr, Err};
+ghost use Rattle.ids.specs.declared.fault.Fault.TheVariants.{TooFew};
+ghost use Rattle.deployment.specs.Ends.{IsOfAudit};
+
 use crate::stations::Station;
 use audit::{Verdict, judge};
-use ids::Fault;
+use ids::{Fault, MOST_REPLICAS};
 use locked_replica::Kept;
-use std::alloc::Global;
 
-/// The replicas of stations at which nobody works any more, by rising number, without the first so many.
-fn left<'a>(
-    alloc: Global,
-    stations: Vec<Station<'a>>,
-    skipped: usize,
-) -> Result<Vec<Kept<'a>>, Fault> {
-    let mut left = Vec::new(alloc);
-    for station in stations.into_iter().skip(skipped) {
-        left.push(station.into_kept())?;
-    }
-    Ok(left)
-}
+/// Room for the replicas of all stations, taken before a thread begins.
+pub(crate) type Room<'a> = Vec<Kept<'a>>;
 
-/// What the audit of kept replicas says.
-fn judge_kept(alloc: Global, kept: &[Kept<'_>]) -> Result<Verdict, Fault> {
-    let mut replicas = Vec::new(alloc);
-    for one in kept {
-        replicas.push(one.replica())?;
+/// What the audit of kept replicas says. It takes no memory. `TooFew` where it can't judge them.
+fn judge_kept(kept: &[Kept<'_>]) -> Result<Verdict, Fault>
+    ensures verdict { IfOk result IsOfAudit }
+    ensures few { OnErr result (result ≡ Err TooFew) }
+{
+    let Some(first) = kept.first() else {
+        return Err(Fault::TooFew);
+    };
+    let mut row = [first.replica(); MOST_REPLICAS];
+    for (place, one) in row.iter_mut().zip(kept) {
+        *place = one.replica();
     }
-    judge(&replicas)
+    let count = kept.len().min(MOST_REPLICAS);
+    judge(&row[..count])
 }
 
 /// What the audit says of the replicas of stations at which nobody works any more, without the first so
-/// many.
-pub(crate) fn judge_left(
-    alloc: Global,
-    stations: Vec<Station<'_>>,
+/// many. `TooFew` where it can't judge them.
+pub(crate) fn judge_left<'a>(
+    stations: Vec<Station<'a>>,
     skipped: usize,
-) -> Result<Verdict, Fault> {
-    let kept = left(alloc, stations, skipped)?;
-    judge_kept(alloc, &kept)
+    room: Room<'a>,
+) -> Result<Verdict, Fault>
+    ensures verdict { IfOk result IsOfAudit }
+    ensures few { OnErr result (result ≡ Err TooFew) }
+{
+    let mut kept = room;
+    for station in stations.into_iter().skip(skipped) {
+        if kept.len() < kept.capacity() {
+            kept.push_reserved(station.into_kept());
+        }
+    }
+    judge_kept(&kept)
 }

@@ -6,7 +6,9 @@ mod desk;
 mod ending;
 mod link;
 mod lying;
+mod roll;
 mod running;
 mod stations;
+mod watching;
 
-pub use running::{Ended, run};
+pub use running::{Ended, Terms, run};

@@ -2,6 +2,7 @@
 
 ghost use Rattle.std.specs.Prelude.{⊤};
 
+use crate::roll::Roll;
 use bytes::Bytes;
 use client_service::Link;
 use crossbeam_channel::Receiver;
@@ -17,6 +18,7 @@ const PATIENCE_MILLIS: u64 = 1000;
 pub(crate) struct ClientLink<R: Wait + Clock + AllocGlobal> {
     rt: R,
     links: Arc<Links>,
+    roll: Arc<Roll>,
     frames: Receiver<Bytes>,
     /// Until when the client waits. None before its first request, and where the clock can't be read.
     until: Option<Instant>,
@@ -24,10 +26,16 @@ pub(crate) struct ClientLink<R: Wait + Clock + AllocGlobal> {
 
 impl<R: Wait + Clock + AllocGlobal> ClientLink<R> {
     /// A link on which nothing was sent.
-    pub(crate) fn new(rt: R, links: Arc<Links>, frames: Receiver<Bytes>) -> ClientLink<R> {
+    pub(crate) fn new(
+        rt: R,
+        links: Arc<Links>,
+        roll: Arc<Roll>,
+        frames: Receiver<Bytes>,
+    ) -> ClientLink<R> {
         ClientLink {
             rt,
             links,
+            roll,
             frames,
             until: None,
         }
@@ -39,7 +47,7 @@ impl<R: Wait + Clock + AllocGlobal> Link for ClientLink<R> {
     ghost carries = { λ before traffic after. ⊤ };
 
     fn is_open(&self) -> bool {
-        true
+        self.roll.is_open()
     }
 
     fn send(&mut self, frame: &[u8]) {

@@ -1,16 +1,19 @@
 //! From keys to a running deployment, and to its end.
 
 ghost use Rattle.std.specs.Prelude.{◌≡◌, IfOk};
+ghost use Rattle.deployment.specs.Ends.{IsOfAudit};
 
 use crate::desk::{Desk, desks};
 use crate::ending::judge_left;
+use crate::roll::Roll;
 use crate::stations::{Crew, Station, man, stations, watch};
+use crate::watching::Board;
 use audit::Verdict;
 use fabric::{Ends, Links};
 use ids::{Fault, ReplicaId};
 use key_file::PairKeys;
 use liars::Liar;
-use log::Log;
+use log::{Log, warn};
 use marks::Marks;
 use std::net::TcpListener;
 use std::sync::atomic::AtomicBool;
@@ -19,7 +22,28 @@ use std::sync::{Arc, Wait};
 use std::thread;
 use std::thread::Threads;
 use std::time::Clock;
-use tcp_front::{Seats, front};
+use tcp_front::{Closer, Seats, front};
+
+/// How a deployment is to run.
+#[derive(Clone, Copy, Debug)]
+pub struct Terms {
+    /// How replica 0 lies, if it is to.
+    pub liar: Option<Liar>,
+    /// How many connections are served.
+    pub most: u64,
+    /// Each how many seconds a line is logged that tells how it goes. None for no lines.
+    pub watch: Option<u64>,
+}
+
+/// How a deployment ended.
+#[derive(Clone, Copy, Debug)]
+pub struct Ended {
+    /// How many connections were served; or why not so many as were to be: `AcceptFailed`, the refusal
+    /// that stopped more than f replicas, or `Memory` where not all threads could be had.
+    pub served: Result<u64, Fault>,
+    /// What the audit says of the replicas, without replica 0 where that one was to lie.
+    pub verdict: Verdict,
+}
 
 /// Tells the workers of all replicas to end.
 fn stop_all<R: Wait>(rt: &R, links: &Links) {
@@ -33,31 +57,67 @@ fn stop_all<R: Wait>(rt: &R, links: &Links) {
     }
 }
 
+/// What the clock of a station needs, besides: what all threads share.
+#[derive(Drop)]
+struct Bell<'a, S> {
+    links: &'a Links,
+    roll: &'a Roll,
+    seats: &'a Seats<S>,
+    closer: &'a Closer,
+}
+
+impl<'a, S: Drop> Bell<'a, S> {
+    /// Gives a station its beats and timeouts until it is told to stop. Where its replica stops, that is
+    /// told; and where no request can be answered any more, the front is closed.
+    fn keep<R: Wait + Clock + Log>(&self, rt: &R, station: &Station<'_>, stop: &AtomicBool) {
+        let Some(fault) = watch(rt, station, self.links, stop) else {
+            return;
+        };
+        self.roll.strike(rt, fault);
+        let (number, n) = (station.number().0, self.links.config().n());
+        let going = self.roll.going(rt);
+        warn!(rt; "replica {number} stopped: {fault}; {going} of {n} go on");
+        if !self.roll.is_open() {
+            self.closer.close(self.seats);
+        }
+    }
+}
+
 /// Mans the stations, and serves so many connections. All threads have ended when it returns.
 fn serve_at<R: Threads + Wait + Clock + Sync + Send + AllocGlobal + Log + Clone + Drop>(
     rt: &R,
     stations: &[Station<'_>],
     crews: Vec<Crew>,
-    links: &Links,
-    seats: &Seats<Desk<R>>,
+    bell: &Bell<'_, Desk<R>>,
     listener: &TcpListener,
-    most: u64,
+    terms: Terms,
 ) -> Result<u64, Fault>
-    ensures { IfOk result (λ served. served ≡ most) }
+    ensures { IfOk result (λ served. served ≡ terms.most) }
 {
     let stop = AtomicBool::new(false);
     let stop = &stop;
+    let (links, roll, seats) = (bell.links, bell.roll, bell.seats);
+    let board = &Board {
+        stations,
+        links,
+        roll,
+        seats,
+    };
     let served = thread::scope(thread::scope_env(), rt, |scope| {
         let mut is_manned = true;
         for (station, crew) in stations.iter().zip(crews) {
             let Crew { one, two } = crew;
             let one = scope.spawn(move || man(rt, station, links, one));
             let two = scope.spawn(move || man(rt, station, links, two));
-            let timed = scope.spawn(move || watch(rt, station, links, stop));
+            let timed = scope.spawn(move || bell.keep(rt, station, stop));
             is_manned = is_manned && one.is_ok() && two.is_ok() && timed.is_ok();
         }
+        if let Some(seconds) = terms.watch {
+            let told = scope.spawn(move || board.tell_each(rt, seconds, stop));
+            is_manned = is_manned && told.is_ok();
+        }
         let served = if is_manned {
-            front(rt, listener, seats, most)
+            front(rt, listener, seats, terms.most)
         } else {
             Err(Fault::Memory)
         };
@@ -66,53 +126,47 @@ fn serve_at<R: Threads + Wait + Clock + Sync + Send + AllocGlobal + Log + Clone 
         served
     });
     match served {
-        Ok(_) => Ok(most),
-        Err(fault) => Err(fault),
+        Ok(_) => Ok(terms.most),
+        Err(fault) => Err(roll.cause(rt).unwrap_or(fault)),
     }
 }
 
-/// How a deployment ended.
-#[derive(Clone, Copy, Debug)]
-pub struct Ended {
-    /// How many connections were served.
-    pub served: u64,
-    /// What the audit says of the replicas, without replica 0 where that one was to lie.
-    pub verdict: Verdict,
-}
-
-/// Runs replicas with these keys, of which replica 0 may lie, and serves so many connections that
-/// come to the listener. When all threads have ended, the replicas are judged.
+/// Runs replicas with these keys, and serves as many connections as the terms say that come to the
+/// listener. When all threads have ended, the replicas are judged.
 ///
-/// `AcceptFailed` where accepting failed, `Memory` where memory or a thread was refused before the
-/// first connection.
+/// It ends early where accepting fails, and where more than f replicas have stopped, so that no request can
+/// be answered any more: services refuse at once then, requests that are out get two seconds, and no
+/// connection is accepted. `Memory` where memory was refused before a thread began, `AcceptFailed`
+/// where the listener can't be had twice.
 pub fn run<R: Threads + Wait + Clock + Sync + Send + AllocGlobal + Log + Clone + Drop>(
     rt: &R,
     keys: &PairKeys,
-    liar: Option<Liar>,
     listener: &TcpListener,
-    most: u64,
+    terms: Terms,
 ) -> Result<Ended, Fault>
-    ensures { IfOk result (λ ended. ended.served ≡ most) }
+    ensures served { IfOk result (λ ended. IfOk ended.served (λ served. served ≡ terms.most)) }
+    ensures verdict { IfOk result (λ ended. IsOfAudit ended.verdict) }
 {
-    let config = keys.config();
-    let (links, ends) = Links::new(rt.alloc(), config)?;
+    let (alloc, config, liar) = (rt.alloc(), keys.config(), terms.liar);
+    let closer = Closer::new(listener)?;
+    let (links, ends) = Links::new(alloc, config)?;
     let Ends { replicas, clients } = ends;
-    let (marks, mut eyes) = Marks::new(rt.alloc(), config.n())?;
+    let (marks, mut eyes) = Marks::new(alloc, config.n())?;
     let Some(_watcher) = eyes.pop() else {
         return Err(Fault::NotAll);
     };
-    let (stations, crews) = stations(rt.alloc(), keys, &marks, eyes, replicas, liar)?;
-    let links = Arc::new(rt.alloc(), links)?;
-    let seats = desks(rt, &links, keys, clients)?;
-    let served = serve_at(
-        rt,
-        stations.as_slice(),
-        crews,
-        &links,
-        &seats,
-        listener,
-        most,
-    )?;
-    let verdict = judge_left(rt.alloc(), stations, usize::from(liar.is_some()))?;
+    let roll = Arc::new(alloc, Roll::new(config))?;
+    let (stations, crews) = stations(alloc, keys, &marks, eyes, replicas, liar)?;
+    let links = Arc::new(alloc, links)?;
+    let room = Vec::with_capacity(alloc, usize::from(config.n()))?;
+    let seats = desks(rt, &links, &roll, keys, clients)?;
+    let bell = Bell {
+        links: &links,
+        roll: &roll,
+        seats: &seats,
+        closer: &closer,
+    };
+    let served = serve_at(rt, stations.as_slice(), crews, &bell, listener, terms);
+    let verdict = judge_left(stations, usize::from(liar.is_some()), room)?;
     Ok(Ended { served, verdict })
 }

@@ -6,6 +6,7 @@ ghost use Rattle.ids.specs.Sizes.{replicas};
 ghost use Rattle.marks.specs.Eyes.{first_eye};
 
 use crate::lying::{LyingOut, Tongue};
+use crate::watching::Progress;
 use authenticators::Keyring;
 use clock::{Pulse, Watched, keep_time};
 use crossbeam_channel::Receiver;
@@ -49,22 +50,41 @@ pub(crate) struct Crew {
 }
 
 impl<'a> Station<'a> {
+    /// Which replica stands here.
+    pub(crate) fn number(&self) -> ReplicaId {
+        self.number
+    }
+
     /// The replica, out of its lock.
     pub(crate) fn into_kept(self) -> Kept<'a> {
         self.locked.into_inner()
+    }
+
+    /// How far the replica is.
+    pub(crate) fn progress<R: Wait>(&self, rt: &R) -> Progress {
+        let kept = self.locked.lock(rt);
+        let replica = kept.replica().replica();
+        Progress {
+            executed: replica.executed() as u64,
+            height: replica.height(),
+            blocks: replica.blocks(),
+            pending: replica.pending(),
+            view: replica.view(),
+        }
     }
 }
 
 impl<'a> Watched for Station<'a> {
     fn pulse<R: Wait>(&self, rt: &R) -> Pulse {
         let kept = self.locked.lock(rt);
-        let replica = kept.replica();
+        let replica = kept.replica().replica();
         Pulse {
             wants_beat: replica.wants_beat(),
             wants_beat_now: replica.wants_beat_now(),
             is_pending: replica.pending() > 0,
             view: replica.view(),
-            executed: replica.history().len() as u64,
+            executed: replica.executed() as u64,
+            stopped: replica.stopped(),
         }
     }
 }
@@ -103,14 +123,15 @@ pub(crate) fn man<R: Wait + AllocGlobal>(
     };
 }
 
-/// Gives a station its beats and timeouts until it is told to stop.
+/// Gives a station its beats and timeouts until it is told to stop, or the replica has stopped: then it
+/// answers why.
 pub(crate) fn watch<R: Wait + Clock>(
     rt: &R,
     station: &Station<'_>,
     links: &Links,
     stop: &AtomicBool,
-) {
-    keep_time(rt, links, station.number, station, stop);
+) -> Option<Fault> {
+    keep_time(rt, links, station.number, station, stop)
 }
 
 /// What a replica lies with.

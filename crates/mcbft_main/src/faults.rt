@@ -18,15 +18,32 @@ pub(crate) enum MainFault {
 
 impl From<Fault> for MainFault {
     fn from(fault: Fault) -> MainFault {
-        MainFault::Fault(fault)
+        match fault {
+            Fault::AcceptFailed => MainFault::CannotListen,
+            _ => MainFault::Fault(fault),
+        }
     }
 }
 
-impl From<KeyFileFault> for MainFault {
-    fn from(fault: KeyFileFault) -> MainFault {
-        match fault {
-            KeyFileFault::NotOne => MainFault::BadKeys,
-            KeyFileFault::Memory => MainFault::Fault(Fault::Memory),
+impl MainFault {
+    /// What is wrong in words, and what can be done.
+    pub(crate) fn advice(self) -> &'static str {
+        match self {
+            MainFault::CannotReadKeys =>
+                "no such file, or not yours to read; bin/make-keys F C > FILE writes one",
+            MainFault::BadKeys =>
+                "not a key file for these --faults and --clients; bin/make-keys F C > FILE",
+            MainFault::CannotListen =>
+                "the port is taken or not allowed, or no more files may be open (ulimit -n)",
+            MainFault::Fault(Fault::BadSize) =>
+                "sizes out of their limits: --faults is 1 to 4, --clients 1 to 64",
+            MainFault::Fault(Fault::Full) =>
+                "more than F replicas hold 1,048,576 blocks; start again, with an empty cache",
+            MainFault::Fault(Fault::Memory) =>
+                "out of memory; start again, with more of it and an empty cache",
+            MainFault::Fault(Fault::Conflict) =>
+                "decided blocks conflict: more than F replicas are faulty",
+            MainFault::Fault(_) => "not expected here; crates/ids/src/fault.rt names all refusals",
         }
     }
 }

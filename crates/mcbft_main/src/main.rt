@@ -27,9 +27,10 @@ fn tell(rt: &HostRuntime, error: &Error) -> io::Result<ExitCode> {
     Ok(ExitCode::from(error.exit_code() as u8))
 }
 
-/// Tells why nothing more is served.
+/// Tells why nothing more is served, and on a line of its own what to do.
 fn fail(rt: &HostRuntime, fault: MainFault) -> io::Result<ExitCode> {
     eprintln!(rt; "mcbft: {fault}")?;
+    eprintln!(rt; "mcbft: {}", fault.advice())?;
     Ok(ExitCode::FAILURE)
 }
 
@@ -38,6 +39,18 @@ fn word_of(verdict: &Verdict) -> &'static str {
     match verdict {
         Verdict::Agree => "agree",
         Verdict::Fork(_) => "fork",
+    }
+}
+
+/// Tells how it ended.
+fn end(rt: &HostRuntime, ended: &Ended) -> io::Result<ExitCode> {
+    if let Ok(served) = ended.served {
+        println!(rt; "served {served} connections")?;
+    }
+    println!(rt; "audit {}", word_of(&ended.verdict))?;
+    match ended.served {
+        Ok(_) => Ok(ExitCode::SUCCESS),
+        Err(fault) => fail(rt, MainFault::from(fault)),
     }
 }
 
@@ -51,11 +64,7 @@ fn main(rt: HostRuntime) -> io::Result<ExitCode> {
         return fail(&rt, MainFault::Fault(Fault::BadSize));
     };
     match serve(&rt, &options) {
-        Ok(Ended { served, verdict }) => {
-            println!(rt; "served {served} connections")?;
-            println!(rt; "audit {}", word_of(&verdict))?;
-            Ok(ExitCode::SUCCESS)
-        }
+        Ok(ended) => end(&rt, &ended),
         Err(fault) => fail(&rt, fault),
     }
 }

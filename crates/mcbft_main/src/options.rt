@@ -1,11 +1,17 @@
 //! The command line.
 
 use clap::{Arg, ArgMatches, Command, Error, value_parser};
+use deployment::Terms;
 use liars::Liar;
 use std::alloc::Global;
 
 /// What stands behind the options in `--help`.
 const EXAMPLE: &str = "\
+Limits: keys of 250 bytes, data of 4,096, requests of a line of 4,096 bytes, 16 keys in a get, 65,536 keys
+in all. It listens on 127.0.0.1 alone, keeps all in memory, and a restart empties it. A replica keeps
+1,048,576 blocks, which is some hundred thousand commands of one connection, and more of many.
+docs/OPERATING.md tells what comes then.
+
 Example, with f = 1 and 8 clients:
   bin/make-keys 1 8 > keys
   mcbft --keys keys --port 11211
@@ -19,6 +25,7 @@ const LIARS: [&str; 3] = ["mute", "two-faced", "bad-reply"];
 pub(crate) fn matches_of(alloc: Global, words: &[String]) -> Result<ArgMatches<'_>, Error> {
     let command = Command::new(alloc, "mcbft")
         .bin_name("mcbft")?
+        .version("0.1.0")
         .about("Serves memcached's text protocol from replicas, some of which may lie")
         .after_help(EXAMPLE)
         .arg(keys_arg(alloc))?
@@ -26,7 +33,8 @@ pub(crate) fn matches_of(alloc: Global, words: &[String]) -> Result<ArgMatches<'
         .arg(clients_arg(alloc))?
         .arg(port_arg(alloc))?
         .arg(liar_arg(alloc))?
-        .arg(serve_arg(alloc))?;
+        .arg(serve_arg(alloc))?
+        .arg(watch_arg(alloc))?;
     command.try_get_matches_from(words)
 }
 
@@ -35,7 +43,7 @@ fn keys_arg(alloc: Global) -> Arg<'static> {
         .long("keys")
         .value_name("FILE")
         .required(true)
-        .help("The key file")
+        .help("The key file, which bin/make-keys F C writes")
 }
 
 fn faults_arg(alloc: Global) -> Arg<'static> {
@@ -44,7 +52,7 @@ fn faults_arg(alloc: Global) -> Arg<'static> {
         .value_name("F")
         .value_parser(value_parser!(u8))
         .default_value("1")
-        .help("How many faulty replicas are tolerated, of 3 F + 1")
+        .help("How many faulty replicas are tolerated, of 3 F + 1: 1 to 4")
 }
 
 fn clients_arg(alloc: Global) -> Arg<'static> {
@@ -53,7 +61,7 @@ fn clients_arg(alloc: Global) -> Arg<'static> {
         .value_name("C")
         .value_parser(value_parser!(u8))
         .default_value("8")
-        .help("How many connections are served at once")
+        .help("How many connections are served at once: 1 to 64")
 }
 
 fn port_arg(alloc: Global) -> Arg<'static> {
@@ -82,6 +90,15 @@ fn serve_arg(alloc: Global) -> Arg<'static> {
         .help("Ends after N connections; 0 to go on")
 }
 
+fn watch_arg(alloc: Global) -> Arg<'static> {
+    Arg::new(alloc, "watch")
+        .long("watch")
+        .value_name("SECONDS")
+        .value_parser(value_parser!(u32))
+        .default_value("0")
+        .help("Tells each so many seconds how it goes; 0 for never")
+}
+
 /// What the words ask for.
 #[derive(Clone, Copy)]
 pub(crate) struct Options<'a> {
@@ -89,22 +106,28 @@ pub(crate) struct Options<'a> {
     pub(crate) faults: u8,
     pub(crate) clients: u8,
     pub(crate) port: u16,
-    pub(crate) liar: Option<Liar>,
-    /// How many connections are served.
-    pub(crate) most: u64,
+    pub(crate) terms: Terms,
 }
 
 impl<'a> Options<'a> {
     /// The options that were read. All have a value, or a default.
     pub(crate) fn read(matches: &ArgMatches<'a>) -> Option<Options<'a>> {
         let most: u64 = matches.get_one("serve")?;
+        let watch: u32 = matches.get_one("watch")?;
         Some(Options {
             keys: matches.get_str("keys")?,
             faults: matches.get_one("faults")?,
             clients: matches.get_one("clients")?,
             port: matches.get_one("port")?,
-            liar: matches.get_str("liar").and_then(liar_of),
-            most: if most == 0 { u64::MAX } else { most },
+            terms: Terms {
+                liar: matches.get_str("liar").and_then(liar_of),
+                most: if most == 0 { u64::MAX } else { most },
+                watch: if watch == 0 {
+                    None
+                } else {
+                    Some(u64::from(watch))
+                },
+            },
         })
     }
 }

@@ -36,5 +36,5 @@ where
         return Err(MainFault::CannotListen);
     };
     let _ = println!(rt; "listening on {at}");
-    Ok(run(rt, &keys, options.liar, &listener, options.most)?)
+    Ok(run(rt, &keys, &listener, options.terms)?)
 }

@@ -2,8 +2,8 @@
 //! is printed.
 #![tactic(auto)]
 
-use anyhow::{Result, bail};
-use deployment::run;
+use anyhow::Result;
+use deployment::{Terms, run};
 use ids::Config;
 use key_file::PairKeys;
 use liars::Liar;
@@ -101,18 +101,21 @@ fn main(rt: HostRuntime) -> Result<()> {
         println!(rt; "{liar:?}")?;
         let listener = TcpListener::bind(&rt, "127.0.0.1:0")?;
         let at = listener.local_addr()?;
-        let (served, read) = join(
+        let terms = Terms {
+            liar,
+            most: CONNECTIONS,
+            watch: None,
+        };
+        let (ended, read) = join(
             &rt,
-            || run(&rt, &keys, liar, &listener, CONNECTIONS),
+            || run(&rt, &keys, &listener, terms),
             || clients(&rt, at),
         );
         for text in &read? {
             println!(rt; "{:?}", text.as_str())?;
         }
-        match served {
-            Ok(ended) => println!(rt; "served {}, audit {:?}", ended.served, ended.verdict)?,
-            Err(fault) => bail!("fault {}", fault.number()),
-        }
+        let ended = ended?;
+        println!(rt; "served {}, audit {:?}", ended.served?, ended.verdict)?;
     }
     Ok(())
 }

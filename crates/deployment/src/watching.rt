@@ -1,0 +1,102 @@
+//! What is told of a running deployment, each so many seconds.
+
+use crate::roll::Roll;
+use crate::stations::Station;
+use fabric::Links;
+use ids::{Height, View};
+use log::{Log, info};
+use std::sync::Wait;
+use std::sync::atomic::AtomicBool;
+use std::sync::atomic::Ordering::SeqCst;
+use std::thread;
+use std::time::{Clock, Duration};
+use tcp_front::Seats;
+
+/// For how many milliseconds the thread that tells it doesn't look whether it is to end.
+const PAUSE_MILLIS: u64 = 100;
+
+/// How far a replica is.
+#[derive(Clone, Copy)]
+pub(crate) struct Progress {
+    pub(crate) executed: u64,
+    pub(crate) height: Height,
+    pub(crate) blocks: usize,
+    pub(crate) pending: usize,
+    pub(crate) view: View,
+}
+
+impl Progress {
+    /// Nothing was done.
+    fn none() -> Progress {
+        Progress {
+            executed: 0,
+            height: Height(0),
+            blocks: 0,
+            pending: 0,
+            view: View(0),
+        }
+    }
+
+    /// Of each number the greater.
+    fn max(self, other: Progress) -> Progress {
+        Progress {
+            executed: self.executed.max(other.executed),
+            height: Height(self.height.0.max(other.height.0)),
+            blocks: self.blocks.max(other.blocks),
+            pending: self.pending.max(other.pending),
+            view: View(self.view.0.max(other.view.0)),
+        }
+    }
+}
+
+/// How far the foremost replicas are.
+fn foremost<R: Wait>(rt: &R, stations: &[Station<'_>]) -> Progress {
+    let mut foremost = Progress::none();
+    for station in stations {
+        foremost = foremost.max(station.progress(rt));
+    }
+    foremost
+}
+
+/// What a line is told of.
+#[derive(Drop)]
+pub(crate) struct Board<'a, 's, S> {
+    pub(crate) stations: &'a [Station<'s>],
+    pub(crate) links: &'a Links,
+    pub(crate) roll: &'a Roll,
+    pub(crate) seats: &'a Seats<S>,
+}
+
+impl<'a, 's, S: Drop> Board<'a, 's, S> {
+    /// Tells one line. So many commands were executed at the last one, so many seconds ago. How many are now.
+    fn tell<R: Wait + Log>(&self, rt: &R, before: u64, seconds: u64) -> u64 {
+        let config = self.links.config();
+        let now = foremost(rt, self.stations);
+        let rate = now.executed.saturating_sub(before) / seconds.max(1);
+        let (executed, height, blocks) = (now.executed, now.height.0, now.blocks);
+        let (view, leader, pending) = (now.view.0, config.leader(now.view).0, now.pending);
+        let (open, lost) = (self.seats.taken(), self.links.lost());
+        let (going, n) = (self.roll.going(rt), config.n());
+        info!(rt; "{executed} commands, {rate} a second; {open} connections; view {view}, leader r{leader}; \
+            height {height}, {blocks} blocks held; {pending} requests pending; {lost} frames lost; \
+            {going} of {n} replicas go on");
+        now.executed
+    }
+
+    /// Tells a line each so many seconds, until it is told to stop.
+    pub(crate) fn tell_each<R: Wait + Clock + Log>(&self, rt: &R, seconds: u64, stop: &AtomicBool) {
+        let pauses = seconds.saturating_mul(1000 / PAUSE_MILLIS);
+        let (mut waited, mut executed) = (0u64, 0);
+        for _ in rt.forever() {
+            if stop.load(SeqCst) {
+                break;
+            }
+            thread::sleep(rt, Duration::from_millis(PAUSE_MILLIS));
+            waited = waited.saturating_add(1);
+            if waited >= pauses {
+                executed = self.tell(rt, executed, seconds);
+                waited = 0;
+            }
+        }
+    }
+}
