@@ -1,6 +1,9 @@
 //! A front with one seat, and its clients, in one process. What each client reads is printed.
 #![tactic(auto)]
 
+mod silence;
+
+use crate::silence::silent_scene;
 use anyhow::{Result, bail};
 use connection::Service;
 use ids::Fault;
@@ -37,7 +40,7 @@ impl Seat for Lengths {
 }
 
 /// Sends these words, and gives what comes back, to the end or as long as a piece.
-fn ask(alloc: Global, stream: &TcpStream, words: &str) -> Result<String> {
+pub(crate) fn ask(alloc: Global, stream: &TcpStream, words: &str) -> Result<String> {
     (&mut &*stream).write_all(words.as_bytes())?;
     let mut piece = [0; 256];
     let count = (&mut &*stream).read(&mut piece)?;
@@ -80,5 +83,6 @@ fn main(rt: HostRuntime) -> Result<()> {
         Ok(served) => println!(rt; "served {served}")?,
         Err(fault) => bail!("fault {}", fault.number()),
     }
-    Ok(())
+    silent_scene(&rt, true)?;
+    silent_scene(&rt, false)
 }
