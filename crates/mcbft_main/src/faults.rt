@@ -48,6 +48,15 @@ impl MainFault {
     }
 }
 
+impl From<KeyFileFault> for MainFault {
+    fn from(fault: KeyFileFault) -> MainFault {
+        match fault {
+            KeyFileFault::NotOne => MainFault::BadKeys,
+            KeyFileFault::Memory => MainFault::Fault(Fault::Memory),
+        }
+    }
+}
+
 impl fmt::Display for MainFault {
     fn fmt<W: fmt::Write>(&self, f: &mut fmt::Formatter<W>) -> fmt::Result {
         match self {
