@@ -15,7 +15,8 @@ pub mod ItemLaws
 pub mod Certificates
 pub mod ReplyTexts
 pub mod Windows
-pub mod Sound
 pub mod Held
+pub mod Horizons
+pub mod Sound
 pub mod Checks
 pub mod Slices

@@ -1,36 +1,40 @@
 -- Each step that stands keeps a replica's chronicle lawful.
-use Rattle.ids.specs.declared.limits.TheConstants.{MOST_BLOCKS}
+use Rattle.ids.specs.declared.limits.TheConstants.{MOST_BLOCKS, HEIGHT_LIMIT}
 use Rattle.definitions.proofs.Branches.{just1-extends, branch_eq-decides, extends-true, extends-cases}
-use Rattle.definitions.proofs.Branches.{length-extends, justify_height-just1}
+use Rattle.definitions.proofs.Branches.{length-extends, justify_height-just1, length-just1}
 use Rattle.ids.specs.declared.fault.Fault.{Fault}
 use Rattle.ids.specs.declared.fault.Fault.TheVariants as fault
 use Rattle.std.proofs.Common.{ℕ, suc, ◌≡◌, ◌<◌, ◌≤◌, ◌⊎◌, ◌&&◌, not, Bool, true, false, List, [], ◌∷◌}
 use Rattle.std.proofs.Common.{length, cond, refl, sym, ap, subst, ◌∙◌, arith, inl, inr, map, Option, Some}
-use Rattle.std.proofs.Common.{None, true≢false, nat_lt, ◌+◌, min, if◌then◌else◌}
+use Rattle.std.proofs.Common.{None, true≢false, nat_lt, ◌+◌, min, filter, if◌then◌else◌}
 use Rattle.std.specs.Bool.{⊤}
 use Rattle.std.specs.List.{list_any, AllByRecursion}
-use Rattle.std.proofs.lemmas.Bool.{and_parts, or_cases, cond_both, ltb-true, ltb-false, cases_Bool, cond-true}
+use Rattle.std.proofs.lemmas.Bool.{and_parts, and_from, or_cases, or_left, or_right, cond_both, ltb-true}
+use Rattle.std.proofs.lemmas.Bool.{ltb-false, cases_Bool, cond-true, cond-false}
 use lib.Dec.{ltb}
 use Rattle.definitions.specs.Lists.{Among, AreDistinct}
 use Rattle.definitions.specs.Frames.{Command, Core, Vote, Certificate}
-use Rattle.definitions.specs.Branches.{Block, Branch, justify_height, just1, Extends, IsBranch}
+use Rattle.definitions.specs.Branches.{Block, Branch, branch_eq, justify_height, just1, Extends, IsBranch}
 use Rattle.definitions.specs.Bytes.{Bytes}
 use Rattle.ids.specs.Sizes.{Sizes, replicas, quorum}
 use Rattle.definitions.specs.Digests.{digest, digest_of}
-use Rattle.definitions.specs.Trees.{block_of, is_clear, clear_above, Placing, Placing.stands, Placing.grows}
-use Rattle.definitions.specs.Trees.{Placing.lacks_parent, Placing.unfit, placing, IsTree}
-use Rattle.definitions.proofs.Trees.{same_bytes, found-in, unfit-calm, IsPlaced, placed, whole-below}
-use Rattle.definitions.proofs.Trees.{growth-tree, growth-new, grown-heights}
+use Rattle.definitions.specs.Trees.{Stored, blocks, is_in_reach, block_of, is_clear, clear_above, Placing}
+use Rattle.definitions.specs.Trees.{Placing.stands}
+use Rattle.definitions.specs.Trees.{Placing.grows, Placing.lacks_parent, Placing.unfit, placing, IsTree}
+use Rattle.definitions.proofs.Trees.{same_bytes, found-in, unfit-calm, IsPlaced, placed, tree-below}
+use Rattle.definitions.proofs.Trees.{growth-tree, growth-new}
+use Rattle.definitions.proofs.Horizons.{window-tree, tree-window, window-grown, pruned-tree, pruned-fewer}
 use Rattle.definitions.specs.Chronicles.{Admitted, Step, Step.took_block, Step.noted, Note.got_vote}
 use Rattle.definitions.specs.Chronicles.{Note.got_new_view, Note.got_request, Note.timed_out, Note.beat}
-use Rattle.definitions.specs.Chronicles.{Chronicle, taken_blocks, stored_blocks, stored_block, tree, lock}
-use Rattle.definitions.specs.Chronicles.{history, is_safe}
+use Rattle.definitions.specs.Chronicles.{Note.pruned, Chronicle, taken_blocks, stored_blocks, stored_block}
+use Rattle.definitions.specs.Chronicles.{tree, lock, history, horizon, standing_blocks, window, is_safe}
 use Rattle.definitions.specs.Chronicles.{IsLawfulVote, IsLawfulStep, AreKnown, IsSound}
 use Rattle.definitions.specs.Checks.{Identity, Findings, is_genesis}
 use Rattle.definitions.specs.States.{find_block, is_due, pending, is_same_request}
 use Rattle.definitions.specs.Rulings.{Input, Input.proposal_in, Input.block_in, Input.vote_in}
 use Rattle.definitions.specs.Rulings.{Input.new_view_in, Input.request_in, Input.fetch_in, Input.timeout_in}
-use Rattle.definitions.specs.Rulings.{Input.beat_in, Ruling, Ruling.due, Ruling.missing, Ruling.refusing}
+use Rattle.definitions.specs.Rulings.{Input.beat_in, Input.prune_in, Ruling, Ruling.due, Ruling.missing}
+use Rattle.definitions.specs.Rulings.{Ruling.refusing}
 use Rattle.definitions.specs.Rulings.{admitted, votes_for, take_block, on_placing, on_block, on_request}
 use Rattle.definitions.specs.Rulings.{conflicts, with_block, ruling}
 use Rattle.definitions.specs.Sendings.{sendings}
@@ -39,7 +43,7 @@ use Rattle.definitions.specs.Replicas.{MemorySupply.refused_at_once, MemorySuppl
 use Rattle.definitions.specs.Replicas.{Standing}
 use Rattle.definitions.specs.Replicas.{Standing.running, Standing.stopped, Standing.cut_short, Reaction}
 use Rattle.definitions.specs.Replicas.{Reaction.fails, Reaction.sends_out, Reaction.asks_for, stopped_at}
-use Rattle.definitions.specs.Replicas.{stops, executes}
+use Rattle.definitions.specs.Replicas.{executes, stops}
 
 -- ---- the chronicle without steps
 
@@ -51,7 +55,7 @@ nothing-above : (b : Block) (parent : Branch) → b ∷ parent ≡ [] → ⊥
 nothing-above b parent e = cc
 
 pub first-sound : (s : Sizes) → IsSound s []
-unfolding tree stored_blocks taken_blocks
+unfolding tree window standing_blocks stored_blocks taken_blocks
 first-sound s = record {
   is_tree = record {
     branches = λ x m. subst IsBranch (sym (only-genesis x m)) tt;
@@ -109,6 +113,42 @@ clear_above-each height (b ∷ parent) c h x e l =
           (suc (length parent)) f in omega (arith, k, m))
     ]
 
+clear-step : (x : Branch) (s : Stored) (kept all : List Stored)
+    → (is_clear x kept ≡ true → is_clear x all ≡ true) → (t : Bool)
+    → is_clear x (cond t (s ∷ kept) kept) ≡ true → is_clear x (s ∷ all) ≡ true
+unfolding is_clear
+clear-step x s kept all rest true h =
+    let here : Bool = s.clear && branch_eq s.branch x in
+    elim (or_cases here (is_clear x kept) h)
+    [ inl k ↦ or_left here (is_clear x all) k | inr k ↦ or_right here (is_clear x all) (rest k) ]
+clear-step x s kept all rest false h = or_right (s.clear && branch_eq s.branch x) (is_clear x all) (rest h)
+
+-- what is clear among those that were kept is clear among all
+clear-kept : (p : Stored → Bool) (x : Branch) (all : List Stored) → is_clear x (filter p all) ≡ true
+    → is_clear x all ≡ true
+unfolding is_clear
+clear-kept p x [] h = h
+clear-kept p x (s ∷ all) h = clear-step x s (filter p all) all (clear-kept p x all) (p s) h
+
+-- so is a branch
+clear_above-kept : (p : Stored → Bool) (height : ℕ) (b : Branch) (all : List Stored)
+    → clear_above height b (filter p all) ≡ true → clear_above height b all ≡ true
+unfolding clear_above
+clear_above-kept p height [] all h = refl
+clear_above-kept p height (b ∷ parent) all h =
+    elim (cases_Bool (ltb height (suc (length parent)))) [
+      | inl t ↦ (let q = and_parts _ _ (sym (cond-true _ _ _ t) ∙ h) in
+          cond-true _ _ _ t
+          ∙ and_from _ _ (clear-kept p (b ∷ parent) all q.0) (clear_above-kept p height parent all q.1))
+      | inr f ↦ cond-false _ _ _ f
+    ]
+
+clear_above-standing : (height : ℕ) (b : Branch) (c : Chronicle)
+    → clear_above height b (standing_blocks c) ≡ true → clear_above height b (stored_blocks c) ≡ true
+unfolding standing_blocks
+clear_above-standing height b c h =
+    clear_above-kept (λ (s : Stored). is_in_reach (horizon c) s.branch) height b (stored_blocks c) h
+
 -- whether the vote was given changes nothing of what was taken
 abbrev with_vote : Admitted → Bool → Admitted
 with_vote a v = record a { voted = v }
@@ -149,7 +189,8 @@ vote-lawful s (Some w) a c br t h =
             ltb-true _ _ k in let n = justify_height-just1 a.branch br in omega (arith, m, n))
       ];
       clear = λ x e l. taken-voted a _ c x (clear_above-each (justify_height a.branch) a.branch
-          (took_block a ∷ c) p.1 x e (let n = justify_height-just1 a.branch br in omega (arith, l, n)));
+          (took_block a ∷ c) (clear_above-standing (justify_height a.branch) a.branch (took_block a ∷ c) p.1)
+          x e (let n = justify_height-just1 a.branch br in omega (arith, l, n)));
       taken = t;
     }
 
@@ -160,12 +201,12 @@ OnStands P (missing sender d) = ⊤
 OnStands P (refusing n) = n ≡ fault.Conflict → ⊥
 
 -- what a good certificate of the justified block gives
-certified : (sizes : Sizes) (core : Core) (q : Certificate) (f : Findings) (j : Branch) (t : List Branch)
-    → IsTree 0 t → Among j t → IsChecked sizes core q f → q.digest ≡ digest_of j
+certified : (sizes : Sizes) (core : Core) (q : Certificate) (f : Findings) (j : Branch) (h : ℕ)
+    (t : List Branch) → IsTree h t → Among j t → IsChecked sizes core q f → q.digest ≡ digest_of j
     → (AreDistinct f.counted × AllByRecursion (λ v. v < replicas sizes) f.counted
     × (quorum sizes ≤ length f.counted)) ⊎ (j ≡ [])
 unfolding digest_of
-certified sizes core q f j t tr m ch e =
+certified sizes core q f j h t tr m ch e =
     elim ch.good [
       | inl k ↦ inr (tr.one j [] m tr.genesis (sym e ∙ same_bytes _ _ k))
       | inr k ↦ inl (ch.distinct, ch.voters, k)
@@ -173,14 +214,15 @@ certified sizes core q f j t tr m ch e =
 
 -- a new block that passes the tests
 new-step : (self : Identity) (w : Option ℕ) (parent : Branch) (core : Core) (q : Certificate) (f : Findings)
-    (c : Chronicle) → IsSound self.sizes c → IsTree 0 ((block_of core ∷ parent) ∷ tree c)
+    (c : Chronicle) → IsSound self.sizes c → IsTree (horizon c) ((block_of core ∷ parent) ∷ window c)
     → (Among (block_of core ∷ parent) (tree c) → ⊥) → Among parent (tree c) → IsChecked self.sizes core q f
-    → q.digest ≡ digest_of (just1 (block_of core ∷ parent)) → length (tree c) < MOST_BLOCKS →
+    → q.digest ≡ digest_of (just1 (block_of core ∷ parent)) → length (window c) < MOST_BLOCKS
+    → length (block_of core ∷ parent) < HEIGHT_LIMIT → horizon c ≤ core.justify_height →
     OnStands (λ st. IsSound self.sizes (st ∷ c))
     (take_block self w (admitted (block_of core ∷ parent) core q f true) c)
-unfolding admitted tree stored_blocks taken_blocks
-new-step self w parent core q f c so tr fresh m ch e room = record {
-  is_tree = tr;
+unfolding admitted tree window stored_blocks taken_blocks horizon
+new-step self w parent core q f c so tr fresh m ch e room low above = record {
+  is_tree = subst (IsTree (horizon c)) (sym grown) tr;
   lawful = (
     (
       λ v. vote-lawful self.sizes w (admitted (block_of core ∷ parent) core q f true) c
@@ -188,36 +230,56 @@ new-step self w parent core q f c so tr fresh m ch e room = record {
       λ n. record {
         new = fresh;
         parent = (block_of core, parent, refl, (tr.branches _ (inl refl)).0, m);
-        certified = certified self.sizes core q f (just1 (block_of core ∷ parent)) _ tr
-            (whole-below _ tr (block_of core ∷ parent) _ (inl refl) (just1-extends _)) ch e;
+        certified = certified self.sizes core q f (just1 (block_of core ∷ parent)) (horizon c) _ tr
+            (tree-below (horizon c) _ tr (block_of core ∷ parent) _ (inl refl) (just1-extends _)
+            (let k = length-just1 (block_of core) parent branch in omega (arith, k, above))) ch e;
       },
     ),
     so.lawful,
   );
   known = so.known;
-  bounded = (let l = room in omega (arith, l));
-  heights = grown-heights (tree c) (block_of core) parent m so.heights;
+  bounded = subst (λ (t : List Branch). length t ≤ MOST_BLOCKS) (sym grown) (omega (arith, room));
+  heights = heights;
 }
+  where
+    branch : IsBranch (block_of core ∷ parent)
+    branch = tr.branches (block_of core ∷ parent) (inl refl)
+
+    grown : window (took_block (record (admitted (block_of core ∷ parent) core q f true)
+        { voted = votes_for self.sizes w (admitted (block_of core ∷ parent) core q f true) c }) ∷ c)
+        ≡ (block_of core ∷ parent) ∷ window c
+    grown = ap (λ (xs : List Stored). blocks xs)
+        (window-grown _ c refl (let k = branch.0 in omega (arith, k, above)))
+
+    heights : (x : Branch) → Among x ((block_of core ∷ parent) ∷ tree c) → length x < HEIGHT_LIMIT
+    heights x (inl i) = subst (λ (y : Branch). length y < HEIGHT_LIMIT) (sym i) low
+    heights x (inr k) = so.heights x k
 
 abbrev pub Keeps : Identity → Chronicle → Ruling → Type 0
 Keeps self c v = OnStands (λ st. IsSound self.sizes (st ∷ c)) v
 
+pub found-standing : (d : Bytes) (c : Chronicle) (b : Branch) → find_block d c ≡ Some b
+    → Among b (window c) × (digest_of b ≡ d)
+unfolding find_block
+found-standing d c b e = found-in d (window c) b e
+
 pub found : (d : Bytes) (c : Chronicle) (b : Branch) → find_block d c ≡ Some b
     → Among b (tree c) × (digest_of b ≡ d)
-unfolding find_block
-found d c b e = found-in d (tree c) b e
+found d c b e = let r = found-standing d c b e in (window-tree c b r.0, r.1)
 
 placed-sound : (self : Identity) (w : Option ℕ) (sender : ℕ) (core : Core) (q : Certificate) (f : Findings)
     (c : Chronicle) → IsChecked self.sizes core q f → IsSound self.sizes c → (p : Placing)
-    → IsPlaced 0 MOST_BLOCKS core q (tree c) p → Keeps self c (on_placing self w sender core q f c p)
-unfolding on_placing admitted tree stored_blocks taken_blocks
+    → IsPlaced (horizon c) MOST_BLOCKS core q (window c) p
+    → Keeps self c (on_placing self w sender core q f c p)
+unfolding on_placing admitted tree window standing_blocks stored_blocks taken_blocks horizon
 placed-sound self w sender core q f c ch so (stands b) h =
-    let m = (found-in (digest core) (tree c) b h.0).0 in
+    let m = (found-in (digest core) (window c) b h.0).0 in
     record {
       is_tree = so.is_tree;
       lawful = (
         (
-          λ v. vote-lawful self.sizes w (admitted b core q f false) c (so.is_tree.branches b m) m v,
+          λ v. vote-lawful self.sizes w (admitted b core q f false) c (so.is_tree.branches b m)
+              (window-tree c b m) v,
           λ n. absurd (true≢false (sym n)),
         ),
         so.lawful,
@@ -230,10 +292,14 @@ placed-sound self w sender core q f c ch so (grows b) (parent, g) =
     subst (λ (x : Branch). OnStands (λ st. IsSound self.sizes (st ∷ c))
     (take_block self w (admitted x core q f true) c)) (sym g.is)
     (new-step self w parent core q f c so
-    (subst (λ (x : Branch). IsTree 0 (x ∷ tree c)) g.is
-    (growth-tree 0 MOST_BLOCKS core q (tree c) b parent so.is_tree ch.below g))
-    (subst (λ (x : Branch). Among x (tree c) → ⊥) g.is (growth-new 0 MOST_BLOCKS core q (tree c) b parent g))
-    (found-in core.parent (tree c) parent g.parent_found).0 ch g.justified g.room)
+    (subst (λ (x : Branch). IsTree (horizon c) (x ∷ window c)) g.is
+    (growth-tree (horizon c) MOST_BLOCKS core q (window c) b parent so.is_tree ch.below g))
+    (λ k. growth-new (horizon c) MOST_BLOCKS core q (window c) b parent g
+    (subst (λ (x : Branch). Among x (window c)) (sym g.is) (tree-window c (block_of core ∷ parent) k
+    (let above = g.above in let below = ch.below in let height = g.height in
+    omega (arith, above, below, height)))))
+    (window-tree c parent (found-in core.parent (window c) parent g.parent_found).0) ch g.justified g.room
+    g.low g.above)
 placed-sound self w sender core q f c ch so lacks_parent h = tt
 placed-sound self w sender core q f c ch so (unfit n) h = unfit-calm n h
 
@@ -241,57 +307,73 @@ block-sound : (self : Identity) (w : Option ℕ) (sender : ℕ) (core : Core) (q
     (c : Chronicle) → IsChecked self.sizes core q f → IsSound self.sizes c
     → Keeps self c (on_block self w sender core q f c)
 block-sound self w sender core q f c ch so =
-    placed-sound self w sender core q f c ch so (placing 0 MOST_BLOCKS core q (tree c))
-    (placed 0 MOST_BLOCKS core q (tree c))
+    placed-sound self w sender core q f c ch so (placing (horizon c) MOST_BLOCKS core q (window c))
+    (placed (horizon c) MOST_BLOCKS core q (window c))
 
 -- a step that takes no block
-other-sound : (need : Sizes) (c : Chronicle) (st : Step) → tree (st ∷ c) ≡ tree c → IsLawfulStep need st c
+other-sound : (need : Sizes) (c : Chronicle) (st : Step) → tree (st ∷ c) ≡ tree c
+    → horizon (st ∷ c) ≡ horizon c → window (st ∷ c) ≡ window c → IsLawfulStep need st c
     → AreKnown (st ∷ c) → IsSound need c → IsSound need (st ∷ c)
-other-sound need c st e l k so = record {
-  is_tree = subst (IsTree 0) (sym e) so.is_tree;
+other-sound need c st e h w l k so = record {
+  is_tree = subst (λ (t : List Branch). IsTree (horizon (st ∷ c)) t) (sym w)
+      (subst (λ (n : ℕ). IsTree n (window c)) (sym h) so.is_tree);
   lawful = (l, so.lawful);
   known = k;
-  bounded = subst (λ (t : List Branch). length t ≤ MOST_BLOCKS) (sym e) so.bounded;
-  heights = subst (λ (t : List Branch). (x : Branch) → Among x t → length x < length t) (sym e) so.heights;
+  bounded = subst (λ (t : List Branch). length t ≤ MOST_BLOCKS) (sym w) so.bounded;
+  heights = subst (λ (t : List Branch). (x : Branch) → Among x t → length x < HEIGHT_LIMIT) (sym e)
+      so.heights;
+}
+
+-- a pruning
+pruned-sound : (need : Sizes) (c : Chronicle) (height : ℕ) → IsSound need c
+    → IsSound need (noted (pruned height) ∷ c)
+unfolding tree stored_blocks taken_blocks
+pruned-sound need c height so = record {
+  is_tree = pruned-tree height c so.is_tree;
+  lawful = (tt, so.lawful);
+  known = so.known;
+  bounded = (let fewer = pruned-fewer height c in let room = so.bounded in omega (arith, fewer, room));
+  heights = so.heights;
 }
 
 vote-sound : (self : Identity) (b : Vote) (d : Bytes) (c : Chronicle) → IsSound self.sizes c
     → (o : Option Branch) → find_block d c ≡ o
     → Keeps self c (with_block o b.voter d (λ x. due (noted (got_vote b.voter b.vector x))))
-unfolding tree stored_blocks taken_blocks
+unfolding tree window standing_blocks stored_blocks taken_blocks horizon
 vote-sound self b d c so None e = tt
-vote-sound self b d c so (Some x) e = other-sound _ c _ refl tt ((found d c x e).0, so.known) so
+vote-sound self b d c so (Some x) e = other-sound _ c _ refl refl refl tt ((found d c x e).0, so.known) so
 
 new_view-sound : (self : Identity) (w sender : ℕ) (q : Certificate) (c : Chronicle) → IsSound self.sizes c
     → (o : Option Branch) → find_block q.digest c ≡ o
     → Keeps self c (with_block o sender q.digest (λ x. due (noted (got_new_view w sender q x))))
-unfolding tree stored_blocks taken_blocks
+unfolding tree window standing_blocks stored_blocks taken_blocks horizon
 new_view-sound self w sender q c so None e = tt
 new_view-sound self w sender q c so (Some x) e =
-    other-sound _ c _ refl tt ((found q.digest c x e).0, so.known) so
+    other-sound _ c _ refl refl refl tt ((found q.digest c x e).0, so.known) so
 
 request-sound : (self : Identity) (r : Command) (c : Chronicle) → IsSound self.sizes c
     → Keeps self c (on_request r c)
-unfolding tree stored_blocks taken_blocks on_request
+unfolding tree window standing_blocks stored_blocks taken_blocks horizon on_request
 request-sound self r c so =
     cond_both (is_due (history c) r
     && (not (list_any (is_same_request r) (pending c)) && not (nat_lt (length (pending c)) 4096))) _ _ P
-    (λ e k. cc) (λ e. other-sound _ c (noted (got_request r)) refl tt so.known so)
+    (λ e k. cc) (λ e. other-sound _ c (noted (got_request r)) refl refl refl tt so.known so)
   where
     P : Ruling → Type 0
     P = Keeps self c
 
 pub ruling-sound : (self : Identity) (i : Input) (c : Chronicle) → IsCheckedInput self.sizes i
     → IsSound self.sizes c → Keeps self c (ruling self i c)
-unfolding ruling tree stored_blocks taken_blocks
+unfolding ruling tree window standing_blocks stored_blocks taken_blocks horizon
 ruling-sound self (proposal_in w core q f) c ch so = block-sound self _ _ core q f c ch so
 ruling-sound self (block_in sender core q f) c ch so = block-sound self _ _ core q f c ch so
 ruling-sound self (vote_in d b) c ch so = vote-sound self b d c so _ refl
 ruling-sound self (new_view_in w sender q) c ch so = new_view-sound self w sender q c so _ refl
 ruling-sound self (request_in r) c ch so = request-sound self r c so
-ruling-sound self (fetch_in sender d) c ch so = other-sound _ c _ refl tt so.known so
-ruling-sound self timeout_in c ch so = other-sound _ c (noted timed_out) refl tt so.known so
-ruling-sound self beat_in c ch so = other-sound _ c (noted beat) refl tt so.known so
+ruling-sound self (fetch_in sender d) c ch so = other-sound _ c _ refl refl refl tt so.known so
+ruling-sound self timeout_in c ch so = other-sound _ c (noted timed_out) refl refl refl tt so.known so
+ruling-sound self beat_in c ch so = other-sound _ c (noted beat) refl refl refl tt so.known so
+ruling-sound self (prune_in height) c ch so = pruned-sound self.sizes c height so
 
 -- ---- the whole step
 
@@ -341,7 +423,7 @@ step-outcome self m i r ch so = by r.standing refl
         → Outcome self r.chronicle v r (on_ruling self m v r.chronicle)
     when u (due st) k = on_step-outcome self m st r.chronicle r u
     when u (missing sender d) k = lacks sender d u
-    when u (refusing n) k = refused (stops n) n u k
+    when u (refusing n) k = refused (stops n r.chronicle) n u k
 
     by : (st : Standing) → r.standing ≡ st
         → Outcome self r.chronicle (ruling self i r.chronicle) r

@@ -180,10 +180,6 @@ tree-below h t tr (b ∷ parent) x m (c ∷ added, e) l =
     let k = length-extends parent x on in
     tree-below h t tr parent x (tr.parents b parent m (omega (arith, k, l))) on l
 
--- of a tree that was never pruned, all
-pub whole-below : (t : List Branch) → IsTree 0 t → (b x : Branch) → Among b t → Extends b x → Among x t
-whole-below t tr b x m on = tree-below 0 t tr b x m on (omega arith)
-
 -- a block that is put on its parent keeps the tree one
 grown : (h : ℕ) (t : List Branch) (b : Block) (parent : Branch) → IsTree h t → Among parent t
     → b.justify < suc (length parent)
@@ -229,11 +225,3 @@ pub growth-new : (horizon most : ℕ) (core : Core) (q : Certificate) (t : List 
 growth-new horizon most core q t b parent g k =
     let ep = sym (found-in core.parent t parent g.parent_found).1 in
     not-found (digest core) t b g.new k (ap digest_of g.is ∙ digest-core core parent ep g.height)
-
--- each height of a tree that was never pruned is below the number of its blocks
-pub grown-heights : (t : List Branch) (b : Block) (parent : Branch) → Among parent t
-    → ((x : Branch) → Among x t → length x < length t) → (x : Branch) → Among x ((b ∷ parent) ∷ t)
-    → length x < length ((b ∷ parent) ∷ t)
-grown-heights t b parent m h x (inl e) =
-    let k = h parent m in let l = ap (λ (y : Branch). length y) e in omega (arith, k, l)
-grown-heights t b parent m h x (inr n) = let k = h x n in omega (arith, k)

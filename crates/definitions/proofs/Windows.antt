@@ -1,19 +1,20 @@
 -- The window of a tree: what stands of its blocks above a horizon.
-use Rattle.ids.specs.declared.limits.TheConstants.{MOST_BLOCKS, HEIGHT_LIMIT}
-use Rattle.ids.specs.declared.fault.Fault.TheVariants as fault
-use Rattle.std.proofs.Common.{ℕ, suc, ◌≡◌, ◌<◌, ◌≤◌, ◌+◌, ◌⊎◌, ◌&&◌, Bool, true, false, List, [], ◌∷◌}
+use Rattle.std.proofs.Common.{ℕ, suc, ◌≡◌, ◌<◌, ◌≤◌, ◌+◌, ◌⊎◌, Bool, true, false, List, [], ◌∷◌}
 use Rattle.std.proofs.Common.{length, cond, refl, sym, ap, subst, ◌∙◌, arith, inl, inr, map, filter, nat_lt}
-use Rattle.std.proofs.Common.{length-append, Option, Some, None, if◌then◌else◌}
+use Rattle.std.proofs.Common.{length-append, zero, ◌-◌}
 use Rattle.std.proofs.lemmas.List.{length-map}
-use Rattle.std.proofs.lemmas.Bool.{cond-true, cond-false, leb-true, le-leb, lt-ltb, le-ltb, cases_lt}
+use Rattle.std.proofs.lemmas.Bool.{and_parts, eqb-true}
+use Rattle.std.proofs.lemmas.Bool.{cond-true, cond-false, leb-true, le-leb, lt-ltb, le-ltb}
 use Rattle.definitions.proofs.Lists.{Among-after, Among-before, Among-either, Among-filter, Among-kept}
-use Rattle.definitions.proofs.Lists.{Among-map, Among-mapped, filter-fewer}
-use Rattle.definitions.specs.Lists.{Among}
-use Rattle.definitions.specs.Branches.{Block, Branch, justify_height}
-use Rattle.definitions.specs.Frames.{Core, Certificate}
-use Rattle.definitions.specs.Trees.{Stored, blocks, is_in_reach, standing, find_in, block_of, justifies}
-use Rattle.definitions.specs.Trees.{Placing, Placing.stands, Placing.grows, Placing.unfit}
-use Rattle.definitions.specs.Trees.{Placing.lacks_parent, placing_known, placing_new, placing_over, IsTree}
+use Rattle.definitions.proofs.Lists.{Among-map, Among-mapped, filter-fewer, length-beginning}
+use Rattle.definitions.proofs.Lists.{beginning-begins}
+use Rattle.definitions.specs.Lists.{Among, beginning}
+use Rattle.definitions.proofs.Branches.{just1-extends, just2-is, just3-below}
+use Rattle.definitions.proofs.Trees.{tree-below}
+use Rattle.definitions.specs.Branches.{Branch, just1, just2, just3, Extends}
+use Rattle.definitions.specs.Chronicles.{decides}
+use Rattle.definitions.specs.Trees.{Stored, blocks, is_in_reach, standing}
+use Rattle.definitions.specs.Trees.{IsTree}
 
 -- ---- what stands in it
 
@@ -95,7 +96,8 @@ filter_twice : {A : Type 0} (p q : A → Bool) → ((x : A) → q x ≡ true →
 filter_twice p q f [] = refl
 filter_twice p q f (x ∷ xs) = filter_step p q x xs (f x) (filter_twice p q f xs) (p x) refl
 
-reach-lower : (h k : ℕ) → h ≤ k → (s : Stored) → is_in_reach k s.branch ≡ true → is_in_reach h s.branch ≡ true
+pub reach-lower : (h k : ℕ) → h ≤ k → (s : Stored) → is_in_reach k s.branch ≡ true
+    → is_in_reach h s.branch ≡ true
 reach-lower h k le s e =
     le-leb h (length s.branch + 2) (let l = leb-true k (length s.branch + 2) e in omega (arith, l, le))
 
@@ -144,37 +146,81 @@ standing-tree h k xs le tr = record {
   genesis = blocks-genesis (standing k xs);
 }
 
--- ---- a tree that was never pruned
+-- ---- the chain below a block
 
--- Its heights are below the number of its blocks, so the limit of heights refuses nothing there.
-pub never-too-high : (most : ℕ) (t : List Branch) (parent : Branch) → most ≤ MOST_BLOCKS
-    → ((x : Branch) → Among x t → length x < length t) → Among parent t
-    → (nat_lt (length t) most && nat_lt (suc (length parent)) HEIGHT_LIMIT) ≡ nat_lt (length t) most
-never-too-high most t parent limit low m =
-    elim (cases_lt (length t) most) [
-      | inl lt ↦ (
-          let l = low parent m in
-          let fits : suc (length parent) < HEIGHT_LIMIT = omega (arith, l, lt, limit) in
-          ap (λ (b : Bool). nat_lt (length t) most && b) (lt-ltb (suc (length parent)) HEIGHT_LIMIT fits)
-          ∙ and-true (nat_lt (length t) most))
-      | inr le ↦ (
-          let no : nat_lt (length t) most ≡ false = le-ltb (length t) most le in
-          ap (λ (b : Bool). b && nat_lt (suc (length parent)) HEIGHT_LIMIT) no ∙ sym no)
-    ]
-  where
-    and-true : (b : Bool) → (b && true) ≡ b
-    and-true true = refl
-    and-true false = refl
+-- the block that one justifies, the next one where the two are in direct succession, and the third where they
+-- decide it
+pub record IsChainSeen (t : List Branch) (b : Branch) : Type 0 where
+  pub first : Among (just1 b) t
+  pub second : length (just1 b) ≡ suc (length (just2 b)) → Among (just2 b) t
+  pub third : decides b ≡ true → Among (just3 b) t
 
--- Nor does the horizon: it is known where its certificate is for what it justifies,
-pub known-whole : (b : Branch) (q : Certificate)
-    → placing_known 0 b q ≡ (if justifies q b then stands b else unfit fault.WrongJustify)
-unfolding placing_known
-known-whole b q = cond-false _ _ _ (le-ltb (justify_height b) 0 (omega arith))
+-- a block that justifies none below the horizon has it whole
+pub chain-seen : (h : ℕ) (t : List Branch) → IsTree h t → (b : Branch) → Among (just1 b) t
+    → h ≤ length (just1 b) → IsChainSeen t b
+unfolding decides
+chain-seen h t tr b m l = record {
+  first = m;
+  second = λ e. tree-below h t tr (just1 b) (just2 b) m
+      (subst (λ (x : Branch). Extends (just1 b) x) (just2-is b) (just1-extends (just1 b)))
+      (omega (arith, l, e));
+  third = λ d. (
+      let p = and_parts _ _ d in
+      let upper = eqb-true (length (just1 b)) (suc (length (just2 b))) p.1 in
+      let lower = eqb-true (length (just2 b)) (suc (length (just3 b))) p.0 in
+      tree-below h t tr (just1 b) (just3 b) m (just3-below b) (omega (arith, l, upper, lower)));
+}
 
--- and any other one hangs on its parent alone.
-pub over-whole : (most : ℕ) (core : Core) (q : Certificate) (t : List Branch)
-    → placing_over 0 most core q t
-    ≡ elim (find_in core.parent t)
-    [ Some parent ↦ placing_new most parent core q t | None ↦ lacks_parent ]
-over-whole most core q t = cond-false _ _ _ (le-ltb core.justify_height 0 (omega arith))
+-- ---- how far down blocks are in reach
+
+filter_least_step : {A : Type 0} (y : A) (ys xs : List A) (t : Bool) → length ys ≤ length xs
+    → length (cond t (y ∷ ys) ys) ≤ length (y ∷ xs)
+filter_least_step y ys xs true l = omega (arith, l)
+filter_least_step y ys xs false l = omega (arith, l)
+
+filter_least : {A : Type 0} (p : A → Bool) (xs : List A) → length (filter p xs) ≤ length xs
+filter_least p [] = omega arith
+filter_least p (y ∷ xs) = filter_least_step y (filter p xs) xs (p y) (filter_least p xs)
+
+filter_drops_step : {A : Type 0} (y : A) (ys xs : List A) (t : Bool) → length ys < length xs
+    → length (cond t (y ∷ ys) ys) < length (y ∷ xs)
+filter_drops_step y ys xs true l = omega (arith, l)
+filter_drops_step y ys xs false l = omega (arith, l)
+
+-- a filter that drops one of the elements leaves fewer
+filter_drops : {A : Type 0} (p : A → Bool) (xs : List A) (x : A) → Among x xs → p x ≡ false
+    → length (filter p xs) < length xs
+filter_drops p [] x m e = absurd m
+filter_drops {A} p (y ∷ xs) x (inl i) e =
+    let none : filter p (y ∷ xs) ≡ filter p xs = cond-false _ _ _ (sym (ap p i) ∙ e) in
+    let short = ap (λ (l : List A). length l) none in
+    omega (arith, short, filter_least p xs)
+filter_drops p (y ∷ xs) x (inr m) e =
+    filter_drops_step y (filter p xs) xs (p y) (filter_drops p xs x m e)
+
+-- where each of n numbers in a row is that of an element, there are n elements
+pigeons : {A : Type 0} (f : A → ℕ) (n : ℕ) (xs : List A) (a : ℕ)
+    → ((k : ℕ) → a ≤ k → k < a + n → (x : A) × Among x xs × (f x ≡ k)) → n ≤ length xs
+pigeons f zero xs a has = omega arith
+pigeons {A} f (suc n) xs a has =
+    let low : A → Bool = λ x. nat_lt (f x) (a + n) in
+    let top = has (a + n) (omega arith) (omega arith) in
+    let out : low top.0 ≡ false = le-ltb (f top.0) (a + n) (omega (arith, top.2)) in
+    let fewer = filter_drops low xs top.0 top.1 out in
+    let rest = pigeons f n (filter low xs) a (λ k above below.
+    let r = has k above (omega (arith, below)) in
+    (r.0, Among-kept low xs r.0 r.1 (lt-ltb (f r.0) (a + n) (omega (arith, r.2, below))), r.2)) in
+    omega (arith, fewer, rest)
+
+-- the blocks from a height in reach up to one of the tree
+pub reach-few : (h : ℕ) (t : List Branch) → IsTree h t → (x : Branch) → Among x t → (k : ℕ) → h ≤ k + 2
+    → k ≤ length x → length x - k < length t
+reach-few h t tr x m k reach low =
+    let many = pigeons (λ (b : Branch). length b) (length x - k + 1) t k (λ j above below.
+    let same = length-beginning j x (omega (arith, below, low)) in (
+      beginning j x,
+      tree-below h t tr x (beginning j x) m (beginning-begins j x)
+          (omega (arith, same, reach, above)),
+      same,
+    )) in
+    omega (arith, many)

@@ -1,15 +1,15 @@
 -- The chronicle of a replica: the steps that stand, newest first. Here is what it says of blocks: votes,
 -- lock, decisions, and its law (HotStuff, PODC 2019, the safety rules, with this project's clear blocks).
-use Rattle.ids.specs.declared.limits.TheConstants.{MOST_BLOCKS}
-use Rattle.std.specs.Prelude.{ℕ, suc, ◌≡◌, ◌<◌, ◌≤◌, ◌==◌, ◌⊎◌, ◌&&◌, ◌||◌, not, Bool, true, List, [], ◌∷◌}
-use Rattle.std.specs.Prelude.{◌++◌, map, length, if◌then◌else◌, nat_lt, Option, ⊤}
+use Rattle.ids.specs.declared.limits.TheConstants.{MOST_BLOCKS, HEIGHT_LIMIT}
+use Rattle.std.specs.Prelude.{ℕ, suc, ◌≡◌, ◌<◌, ◌≤◌, ◌==◌, ◌⊎◌, ◌&&◌, ◌||◌, not, Bool, true, List, []}
+use Rattle.std.specs.Prelude.{◌∷◌, ◌++◌, map, length, if◌then◌else◌, nat_lt, max, min, Option, ⊤}
 use Rattle.std.specs.List.{AllByRecursion}
 use Rattle.definitions.specs.Lists.{Among, AreDistinct, greatest}
 use Rattle.definitions.specs.Frames.{Command, Core, Certificate}
 use Rattle.definitions.specs.Branches.{Block, Branch, justify_height, just1, just2, just3, Extends, extends}
 use Rattle.definitions.specs.Branches.{highest}
 use Rattle.definitions.specs.Bytes.{Bytes}
-use Rattle.definitions.specs.Trees.{Stored, blocks, IsTree}
+use Rattle.definitions.specs.Trees.{Stored, blocks, standing, IsTree}
 use Rattle.ids.specs.Sizes.{Sizes, replicas, quorum}
 use Rattle.definitions.specs.Histories.{History, history_of}
 
@@ -32,6 +32,7 @@ pub data Note : Type 0 where
   got_fetch : (sender : ℕ) → (block : Option Branch) → Note
   timed_out : Note
   beat : Note
+  pruned : (height : ℕ) → Note
 
 -- what a replica took in and stored
 pub data Step : Type 0 where
@@ -61,11 +62,11 @@ taken_blocks (s ∷ earlier) = taken_blocks earlier
 abbrev pub stored_block : Admitted → Stored
 stored_block a = record { branch = a.branch; certificate = a.certificate; clear = a.clear }
 
--- what stands in the tree
+-- what stood in the tree at any time
 unfoldable pub stored_blocks : Chronicle → List Stored
 stored_blocks c = map stored_block (taken_blocks c)
 
--- the blocks that it knows, with genesis
+-- the blocks that it ever knew, with genesis
 unfoldable pub tree : Chronicle → List Branch
 tree c = blocks (stored_blocks c)
 
@@ -100,6 +101,20 @@ decided c = decided_by (taken_blocks c) ++ [] ∷ []
 -- the last executed block
 unfoldable pub executed : Chronicle → Branch
 executed c = highest (decided c)
+
+-- the horizon: each pruning raises it, to no more than the height of the last executed block
+unfoldable pub horizon : Chronicle → ℕ
+horizon [] = 0
+horizon (noted (pruned height) ∷ earlier) = max (min height (length (executed earlier))) (horizon earlier)
+horizon (s ∷ earlier) = horizon earlier
+
+-- what still stands in the tree
+unfoldable pub standing_blocks : Chronicle → List Stored
+standing_blocks c = standing (horizon c) (stored_blocks c)
+
+-- the blocks that the rules look at, with genesis
+unfoldable pub window : Chronicle → List Branch
+window c = blocks (standing_blocks c)
 
 -- the commands that it executed
 unfoldable pub history : Chronicle → History
@@ -149,12 +164,11 @@ AreKnown (noted (got_vote voter vector b) ∷ earlier) = Among b (tree earlier) 
 AreKnown (noted (got_new_view view sender q b) ∷ earlier) = Among b (tree earlier) × AreKnown earlier
 AreKnown (s ∷ earlier) = AreKnown earlier
 
--- What is kept of a replica's chronicle at these sizes: each step is lawful, what is said of blocks is said of
--- known ones, and these are a tree of at most so many as a tree may have, in which each height is below their
--- number.
+-- What is kept of a replica's chronicle at these sizes: each step is lawful, what is said of blocks is said
+-- of known ones, those of the window are a tree of at most so many as a tree may have, and heights stay low.
 pub record IsSound (sizes : Sizes) (c : Chronicle) : Type 0 where
-  pub is_tree : IsTree 0 (tree c)
+  pub is_tree : IsTree (horizon c) (window c)
   pub lawful : IsLawful sizes c
   pub known : AreKnown c
-  pub bounded : length (tree c) ≤ MOST_BLOCKS
-  pub heights : (x : Branch) → Among x (tree c) → length x < length (tree c)
+  pub bounded : length (window c) ≤ MOST_BLOCKS
+  pub heights : (x : Branch) → Among x (tree c) → length x < HEIGHT_LIMIT

@@ -8,7 +8,7 @@ use Rattle.definitions.specs.Bytes.{Bytes}
 use Rattle.ids.specs.Sizes.{client_party}
 use Rattle.definitions.specs.Keyrings.{client_at}
 use Rattle.definitions.specs.Checks.{Identity}
-use Rattle.definitions.specs.Rulings.{Input, Input.timeout_in, Input.beat_in}
+use Rattle.definitions.specs.Rulings.{Input, Input.timeout_in, Input.beat_in, Input.prune_in}
 use Rattle.definitions.specs.Sendings.{To.to_all, To.to_party, Sending, fetch_frame}
 use Rattle.definitions.specs.Replicas.{MemorySupply, Replica, Reaction, Reaction.sends_out, Reaction.fails}
 use Rattle.definitions.specs.Replicas.{Reaction.asks_for, step}
@@ -16,7 +16,7 @@ use Rattle.definitions.specs.Sessions.{Session, Receipt, Submitted, Submitted.se
 use Rattle.definitions.specs.Sessions.{Submitted.not_sent, Heard, Heard.gives_receipt, Heard.only_counts}
 use Rattle.definitions.specs.Sessions.{Heard.not_counted, is_ample, submission, on_reply}
 use Rattle.definitions.specs.Worlds.{World, Event, Happening, is_replica, self_of, client_of, put, submit}
-use Rattle.definitions.specs.Worlds.{relay, inject, timeout, beat}
+use Rattle.definitions.specs.Worlds.{relay, inject, timeout, beat, prune}
 use Rattle.definitions.specs.Admission.{Checked, passes, rejected, check}
 
 -- ---- one event
@@ -131,6 +131,7 @@ party_of (relay k to) = to
 party_of (inject to bytes read) = to
 party_of (timeout r) = r
 party_of (beat r) = r
+party_of (prune r height) = r
 
 -- the frame of this number in the record
 abbrev pub recorded : World → ℕ → Option Frame
@@ -149,6 +150,7 @@ acts w (relay k to) m = comes to m (recorded w k) w
 acts w (inject to bytes read) m = comes to m read w
 acts w (timeout r) m = steps r m timeout_in w
 acts w (beat r) m = steps r m beat_in w
+acts w (prune r height) m = steps r m (prune_in height) w
 
 -- an event that names a faulty party changes nothing
 unfoldable pub effect : World → Happening → Effect

@@ -1,14 +1,14 @@
 -- The step of a replica. Its state is its chronicle, and whether it goes on.
 use Rattle.ids.specs.declared.fault.Fault.{Fault}
 use Rattle.ids.specs.declared.fault.Fault.TheVariants as fault
-use Rattle.std.specs.Prelude.{ℕ, ◌+◌, Bool, true, false, List, [], ◌∷◌, filter, length, min, if◌then◌else◌}
+use Rattle.std.specs.Prelude.{ℕ, ◌+◌, ◌==◌, Bool, false, List, [], ◌∷◌, filter, length, min, if◌then◌else◌}
 use Rattle.std.specs.Prelude.{nat_lt, nat_le}
 use Rattle.definitions.specs.Lists.{beginning}
 use Rattle.definitions.specs.Frames.{Command}
 use Rattle.definitions.specs.Branches.{Branch}
 use Rattle.definitions.specs.Bytes.{Bytes}
 use Rattle.definitions.specs.Histories.{History, history_of}
-use Rattle.definitions.specs.Chronicles.{Step, Chronicle, executed, history}
+use Rattle.definitions.specs.Chronicles.{Step, Chronicle, executed, horizon, history}
 use Rattle.definitions.specs.Checks.{Identity}
 use Rattle.definitions.specs.States.{is_due, pending}
 use Rattle.definitions.specs.Rulings.{Input, Ruling, ruling, conflicts, Ruling.due, Ruling.missing}
@@ -75,17 +75,17 @@ on_step self (refused_after k) s c =
     )
     else (stopped_at c, fails fault.Memory))
 
--- a full tree stops the replica
-abbrev pub stops : Fault → Bool
-stops fault.Full = true
-stops f = false
+-- A full tree stops a replica that never pruned. One with a horizon goes on: it can prune again.
+abbrev pub stops : Fault → Chronicle → Bool
+stops fault.Full c = horizon c == 0
+stops f c = false
 
 -- what a ruling leaves
 unfoldable pub on_ruling : Identity → MemorySupply → Ruling → Chronicle → Replica × Reaction
 on_ruling self m (due s) c = on_step self m s c
 on_ruling self m (missing sender d) c = (record { chronicle = c; standing = running }, asks_for sender d)
 on_ruling self m (refusing n) c =
-    (record { chronicle = c; standing = if stops n then stopped else running }, fails n)
+    (record { chronicle = c; standing = if stops n c then stopped else running }, fails n)
 
 -- one input of a replica; a stopped one never changes
 unfoldable pub step : Identity → MemorySupply → Input → Replica → Replica × Reaction

@@ -13,8 +13,8 @@ use Rattle.definitions.specs.Trees.{Placing, Placing.stands, Placing.grows, Plac
 use Rattle.definitions.specs.Trees.{Placing.unfit, placing, clear_above}
 use Rattle.definitions.specs.Chronicles.{Admitted, Step, Step.took_block, Step.noted, Note.got_vote}
 use Rattle.definitions.specs.Chronicles.{Note.got_new_view, Note.got_request, Note.got_fetch}
-use Rattle.definitions.specs.Chronicles.{Note.timed_out, Note.beat, Chronicle, stored_blocks, tree}
-use Rattle.definitions.specs.Chronicles.{decides_against, executed, history, is_safe}
+use Rattle.definitions.specs.Chronicles.{Note.timed_out, Note.beat, Note.pruned, Chronicle, decides_against}
+use Rattle.definitions.specs.Chronicles.{executed, history, horizon, standing_blocks, window, is_safe}
 use Rattle.definitions.specs.Checks.{Identity, Findings}
 use Rattle.definitions.specs.States.{view, find_block, is_same_request, is_due, pending}
 
@@ -28,6 +28,7 @@ pub data Input : Type 0 where
   fetch_in : (sender : ℕ) → (block : Bytes) → Input
   timeout_in : Input
   beat_in : Input
+  prune_in : (height : ℕ) → Input
 
 -- The step that is to stand, or a refusal. `missing` names a digest that isn't in the tree, and who sent it.
 pub data Ruling : Type 0 where
@@ -53,7 +54,7 @@ votes_for s None a c = false
 votes_for s (Some w) a c =
     (w == view s c)
     && (is_safe a.branch c
-    && clear_above (justify_height a.branch) a.branch (stored_blocks (took_block a ∷ c)))
+    && clear_above (justify_height a.branch) a.branch (standing_blocks (took_block a ∷ c)))
 
 -- the block is admitted, with or without a vote
 abbrev pub take_block : Identity → Option ℕ → Admitted → Chronicle → Ruling
@@ -70,7 +71,7 @@ on_placing self w sender core q found c (unfit n) = refusing n
 -- a block with its certificate, as a proposal of this view or on its own
 abbrev pub on_block : Identity → Option ℕ → ℕ → Core → Certificate → Findings → Chronicle → Ruling
 on_block self w sender core q found c =
-    on_placing self w sender core q found c (placing 0 MOST_BLOCKS core q (tree c))
+    on_placing self w sender core q found c (placing (horizon c) MOST_BLOCKS core q (window c))
 
 -- a request, where there is room for it
 unfoldable pub on_request : Command → Chronicle → Ruling
@@ -97,6 +98,7 @@ ruling self (request_in r) c = on_request r c
 ruling self (fetch_in sender d) c = due (noted (got_fetch sender (find_block d c)))
 ruling self timeout_in c = due (noted timed_out)
 ruling self beat_in c = due (noted beat)
+ruling self (prune_in height) c = due (noted (pruned height))
 
 -- a step takes a block that decides against what was executed
 unfoldable pub conflicts : Step → Chronicle → Bool

@@ -5,7 +5,7 @@ use Rattle.std.specs.Prelude.{not, Bool, true, List, [], ◌∷◌, length, if�
 use Rattle.std.specs.Prelude.{None, Result, Ok, Err}
 use Rattle.definitions.specs.Canonical.{is_canonical}
 use Rattle.definitions.specs.Worlds.{World, Event, Happening, is_replica, is_party, submit, relay, inject}
-use Rattle.definitions.specs.Worlds.{timeout, beat}
+use Rattle.definitions.specs.Worlds.{timeout, beat, prune}
 use Rattle.definitions.specs.Events.{happens}
 
 -- what the run refuses
@@ -15,6 +15,7 @@ names_party w (relay k to) = is_party w to
 names_party w (inject to bytes read) = is_party w to
 names_party w (timeout r) = is_replica w r
 names_party w (beat r) = is_replica w r
+names_party w (prune r height) = is_replica w r
 
 -- the frame is one of the record
 abbrev pub names_frame : World → Event → Bool

@@ -13,7 +13,8 @@ use Rattle.definitions.specs.Keyrings.{tag_for, vector_for}
 use Rattle.definitions.specs.Histories.{Answer, last_seq, answers, answer_to}
 use Rattle.definitions.specs.Chronicles.{Admitted, Step, Step.took_block, Step.noted, Note.got_vote}
 use Rattle.definitions.specs.Chronicles.{Note.got_new_view, Note.got_request, Note.got_fetch}
-use Rattle.definitions.specs.Chronicles.{Note.timed_out, Note.beat, Chronicle, taken_blocks, history}
+use Rattle.definitions.specs.Chronicles.{Note.timed_out, Note.beat, Note.pruned, Chronicle, taken_blocks}
+use Rattle.definitions.specs.Chronicles.{history}
 use Rattle.definitions.specs.Frames as frame
 use Rattle.definitions.specs.Checks.{Identity}
 use Rattle.definitions.specs.States.{view, Justified, qc_high, me, leads, proposed}
@@ -108,3 +109,4 @@ sendings self (noted (got_fetch to b)) c = supplies self to (as_taken b c)
 sendings self (noted timed_out) c = (to_all, new_view_frame self (noted timed_out ∷ c)) ∷ []
 sendings self (noted beat) c =
     if leads self c then proposes self (view self.sizes c) (proposed self (noted beat ∷ c)) else []
+sendings self (noted (pruned height)) c = []

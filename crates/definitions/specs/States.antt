@@ -6,10 +6,9 @@ use Rattle.std.specs.Prelude.{ℕ, suc, ◌-◌, ◌^◌, ◌==◌, ◌&&◌, no
 use Rattle.std.specs.Prelude.{take, length, min, max, if◌then◌else◌, nat_lt, nat_le, Option, Some, None}
 use Rattle.std.specs.Prelude.{is_some}
 use Rattle.std.specs.List.{list_any}
-use Rattle.std.specs.Str.{bytes_eq}
 use Rattle.definitions.specs.Lists.{greatest, count_below}
 use Rattle.definitions.specs.Frames.{Command, Vote, Certificate, genesis_core}
-use Rattle.definitions.specs.Branches.{Branch, just1}
+use Rattle.definitions.specs.Branches.{Branch, branch_eq, just1}
 use Rattle.definitions.specs.Bytes.{Bytes}
 use Rattle.ids.specs.Sizes.{Sizes, replicas, quorum, leader}
 use Rattle.definitions.specs.Digests.{digest, digest_of}
@@ -17,7 +16,7 @@ use Rattle.definitions.specs.Trees.{find_in}
 use Rattle.definitions.specs.Histories.{History, last_seq, history_of}
 use Rattle.definitions.specs.Chronicles.{Step, Step.took_block, Step.noted, Note.got_vote}
 use Rattle.definitions.specs.Chronicles.{Note.got_new_view, Note.got_request, Note.timed_out, Note.beat}
-use Rattle.definitions.specs.Chronicles.{Chronicle, tree, history}
+use Rattle.definitions.specs.Chronicles.{Chronicle, history, horizon, window}
 use Rattle.definitions.specs.Checks.{Identity}
 
 -- each view that a replica announced, with its number
@@ -45,15 +44,15 @@ view s (noted (got_new_view w sender q b) ∷ earlier) =
 view s (x ∷ earlier) = view s earlier
 
 -- the kept votes for a block, one a voter and at most a quorum, newest first
-unfoldable pub votes : Sizes → Bytes → Chronicle → List Vote
-votes s d [] = []
-votes s d (noted (got_vote voter v b) ∷ earlier) =
-    if bytes_eq (digest_of b) d
-    && (not (list_any (λ x. x.voter == voter) (votes s d earlier))
-    && nat_lt (length (votes s d earlier)) (quorum s))
-    then record { voter = voter; vector = v } ∷ votes s d earlier
-    else votes s d earlier
-votes s d (x ∷ earlier) = votes s d earlier
+unfoldable pub votes : Sizes → Branch → Chronicle → List Vote
+votes s block [] = []
+votes s block (noted (got_vote voter v b) ∷ earlier) =
+    if branch_eq b block
+    && (not (list_any (λ x. x.voter == voter) (votes s block earlier))
+    && nat_lt (length (votes s block earlier)) (quorum s))
+    then record { voter = voter; vector = v } ∷ votes s block earlier
+    else votes s block earlier
+votes s block (x ∷ earlier) = votes s block earlier
 
 -- put before the first of a greater voter
 unfoldable pub insert_vote : Vote → List Vote → List Vote
@@ -76,14 +75,14 @@ raised s (took_block a) earlier =
     if a.new then Some (record { block = just1 a.branch; certificate = a.certificate }) else None
 raised s (noted (got_new_view w sender q b)) earlier = Some (record { block = b; certificate = q })
 raised s (noted (got_vote voter v b)) earlier =
-    if nat_lt (length (votes s (digest_of b) earlier)) (quorum s)
-    && (length (votes s (digest_of b) (noted (got_vote voter v b) ∷ earlier)) == quorum s)
+    if nat_lt (length (votes s b earlier)) (quorum s)
+    && (length (votes s b (noted (got_vote voter v b) ∷ earlier)) == quorum s)
     then Some (record {
       block = b;
       certificate =
           record {
             digest = digest_of b;
-            votes = by_voter (votes s (digest_of b) (noted (got_vote voter v b) ∷ earlier));
+            votes = by_voter (votes s b (noted (got_vote voter v b) ∷ earlier));
           };
     })
     else None
@@ -127,16 +126,17 @@ leads self c = leader self.sizes (view self.sizes c) == me self
 
 -- the block of this digest, as its branch
 unfoldable pub find_block : Bytes → Chronicle → Option Branch
-find_block d c = find_in d (tree c)
+find_block d c = find_in d (window c)
 
 -- whether a block of this digest stands in the tree
 unfoldable pub is_known : Bytes → Chronicle → Bool
 is_known d c = is_some (find_block d c)
 
--- the pending requests that do not stand on the branch, 16 at most
+-- the pending requests that do not stand on the branch above the horizon, 16 at most
 unfoldable pub picks : Chronicle → Branch → List Command
 picks c on = take MOST_COMMANDS (filter
-    (λ r. not (list_any (λ e. (e.client == r.client) && (e.seq == r.seq)) (history_of on))) (pending c))
+    (λ r. not (list_any (λ e. (e.client == r.client) && (e.seq == r.seq))
+    (history_of (take (length on - horizon c) on)))) (pending c))
 
 -- the first, where there is one
 abbrev pub or_else : {A : Type 0} → Option A → A → A

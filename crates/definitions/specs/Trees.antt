@@ -21,9 +21,11 @@ pub record Stored : Type 0 where
   pub certificate : Certificate
   pub clear : Bool
 
--- A tree of at most so many blocks, genesis counted: what stands in it above genesis, newest first.
+-- A tree of at most so many blocks, genesis counted, that was pruned below this horizon: what still stands in
+-- it above genesis, newest first.
 pub record TreeState : Type 0 where
   pub most : ℕ
+  pub horizon : ℕ
   pub stored : List Stored
 
 -- the branches of the stored blocks, and genesis

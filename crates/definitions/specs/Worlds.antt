@@ -36,13 +36,14 @@ pub record World : Type 0 where
   pub now : ℕ  -- the number of the next event, from 1
 
 -- A client submits a payload; a frame of the record comes to a party; any bytes come to a party, which
--- reads them as this frame or as none; a replica's time is out, or its beat comes.
+-- reads them as this frame or as none; a replica's time is out, its beat comes, or it prunes its tree.
 pub data Event : Type 0 where
   submit : (client : ℕ) → (payload : Bytes) → Event
   relay : (frame to : ℕ) → Event
   inject : (to : ℕ) → (bytes : Bytes) → (read : Option Frame) → Event
   timeout : (replica : ℕ) → Event
   beat : (replica : ℕ) → Event
+  prune : (replica height : ℕ) → Event
 
 -- an event, with how its party meets the allocator in it
 abbrev pub Happening : Type 0

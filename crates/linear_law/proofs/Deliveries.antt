@@ -7,11 +7,11 @@ use Rattle.std.proofs.Common.{filter, length, nat_lt, refl, sym, ap, subst, ◌�
 use Rattle.std.proofs.Common.{Option, Some, None, Ok, option_map, slice_get}
 use Rattle.std.specs.Bool.{⊤}
 use Rattle.std.specs.List.{list_any, AllByRecursion}
-use Rattle.std.specs.Str.{bytes_eq}
 use Rattle.std.proofs.lemmas.Bool.{cond_both, and_parts, and_from, eqb-true, not_from_false}
 use Rattle.definitions.specs.Lists.{Among}
 use Rattle.definitions.specs.Bytes.{Bytes}
-use Rattle.definitions.specs.Branches.{Branch}
+use Rattle.definitions.specs.Branches.{Branch, branch_eq}
+use Rattle.definitions.proofs.Branches.{branch_eq-decides}
 use Rattle.definitions.specs.Frames.{Command, Core, Vote, Certificate, Frame, sender_of, content_of}
 use Rattle.definitions.specs.Frames.{kind_of, own_tag}
 use Rattle.ids.specs.Sizes.{Sizes, quorum, client_party}
@@ -19,7 +19,8 @@ use Rattle.definitions.specs.Digests.{digest_of, core_of, core_over}
 use Rattle.definitions.specs.Keyrings.{Keyring}
 use Rattle.definitions.specs.Chronicles.{Admitted, Step, Step.took_block, Step.noted, Note.got_vote}
 use Rattle.definitions.specs.Chronicles.{Note.got_new_view, Note.got_request, Note.got_fetch}
-use Rattle.definitions.specs.Chronicles.{Note.timed_out, Note.beat, Chronicle, taken_blocks, tree, history}
+use Rattle.definitions.specs.Chronicles.{Note.timed_out, Note.beat, Note.pruned, Chronicle, taken_blocks}
+use Rattle.definitions.specs.Chronicles.{history, horizon, window}
 use Rattle.definitions.specs.Checks.{Identity, Findings, vote_verifies, command_verifies}
 use Rattle.definitions.specs.States.{view, Justified, me, leads, leaf, child, known_as, proposed, made_with}
 use Rattle.definitions.specs.States.{raised, higher, qc_high, votes, pending, with_request, is_due}
@@ -28,6 +29,7 @@ use Rattle.definitions.specs.Trees.{Placing, Placing.stands, Placing.grows, Plac
 use Rattle.definitions.specs.Trees.{Placing.unfit, placing}
 use Rattle.definitions.specs.Rulings.{Input, Input.proposal_in, Input.block_in, Input.vote_in}
 use Rattle.definitions.specs.Rulings.{Input.new_view_in, Input.request_in, Input.fetch_in, Input.timeout_in}
+use Rattle.definitions.specs.Rulings.{Input.prune_in}
 use Rattle.definitions.specs.Rulings.{Input.beat_in, Ruling, Ruling.due, Ruling.missing, Ruling.refusing}
 use Rattle.definitions.specs.Rulings.{admitted, on_placing, on_request, with_block, ruling, conflicts}
 use Rattle.definitions.specs.Sendings.{To, To.to_party, Sending, reply_to, vote_frame, block_frame}
@@ -40,7 +42,8 @@ use Rattle.definitions.specs.Replicas.{step}
 use Rattle.definitions.specs.Sessions.{Session, Submitted, is_ample}
 use Rattle.definitions.specs.Admission.{Checked, Checked.passes, Checked.rejected, check}
 use Rattle.definitions.specs.Worlds.{World, Sent, Event, Event.submit, Event.relay, Event.inject}
-use Rattle.definitions.specs.Worlds.{Event.timeout, Event.beat, Happening, is_replica, self_of, client_of}
+use Rattle.definitions.specs.Worlds.{Event.timeout, Event.beat, Event.prune, Happening, is_replica, self_of}
+use Rattle.definitions.specs.Worlds.{client_of}
 use Rattle.definitions.specs.Worlds.{new_world}
 use Rattle.definitions.specs.Events.{Effect, nothing, stepped, told, submitted, out_of, on_checked, hears}
 use Rattle.definitions.specs.Events.{submits, comes, recorded, brought, party_of, acts, effect, happens}
@@ -53,7 +56,7 @@ use Rattle.definitions.proofs.Certificates.{all-filter, all-implied, all-by_vote
 use Rattle.definitions.proofs.Checks.{when-good}
 use Rattle.definitions.proofs.Chronicles.{taken-now}
 use Rattle.definitions.proofs.Sound.{found}
-use Rattle.definitions.proofs.Trees.{same_bytes, found-in, core-known, IsPlaced, placed}
+use Rattle.definitions.proofs.Trees.{found-in, core-known, IsPlaced, placed}
 use Rattle.linear_law.proofs.Inputs.{all-among}
 use Rattle.linear_law.proofs.Effects.{is_member, named}
 use Rattle.linear_law.proofs.Sends.{Sends, Sends.its_vote, Sends.new_reply, Sends.old_reply, Sends.its_view}
@@ -146,6 +149,7 @@ module _ (sent more : List Sent) where
   step-later (noted (got_fetch to b)) h = tt
   step-later (noted timed_out) h = tt
   step-later (noted beat) h = tt
+  step-later (noted (pruned height)) h = tt
 
   made-later : (c : Chronicle) → AreMade sent c → AreMade (sent ++ more) c
   made-later c h = all-implied (IsMade sent) (IsMade (sent ++ more)) step-later c h
@@ -153,22 +157,22 @@ module _ (sent more : List Sent) where
 -- ---- what a chronicle keeps
 
 module _ (sent : List Sent) where
-  votes-made : (s : Sizes) (d : Bytes) (c : Chronicle) → AreMade sent c
-      → AllByRecursion (VoteSent sent d) (votes s d c)
+  votes-made : (s : Sizes) (block : Branch) (c : Chronicle) → AreMade sent c
+      → AllByRecursion (VoteSent sent (digest_of block)) (votes s block c)
   unfolding votes
-  votes-made s d [] h = tt
-  votes-made s d (noted (got_vote voter v b) ∷ c) h =
-      cond_both (bytes_eq (digest_of b) d
-      && (not (list_any (λ x. x.voter == voter) (votes s d c)) && nat_lt (length (votes s d c))
-      (quorum s))) _ _ (AllByRecursion (VoteSent sent d))
+  votes-made s block [] h = tt
+  votes-made s block (noted (got_vote voter v b) ∷ c) h =
+      cond_both (branch_eq b block
+      && (not (list_any (λ x. x.voter == voter) (votes s block c)) && nat_lt (length (votes s block c))
+      (quorum s))) _ _ (AllByRecursion (VoteSent sent (digest_of block)))
       (λ e. (
         subst (λ (y : Bytes). VoteSent sent y (record { voter = voter; vector = v }))
-            (same_bytes _ _ (and_parts _ _ e).0) h.0,
-        votes-made s d c h.1,
+            (ap digest_of ((branch_eq-decides b block).0 (and_parts _ _ e).0)) h.0,
+        votes-made s block c h.1,
       ))
-      (λ e. votes-made s d c h.1)
-  votes-made s d (took_block a ∷ c) h = votes-made s d c h.1
-  votes-made s d (noted n ∷ c) h = votes-made s d c h.1
+      (λ e. votes-made s block c h.1)
+  votes-made s block (took_block a ∷ c) h = votes-made s block c h.1
+  votes-made s block (noted n ∷ c) h = votes-made s block c h.1
 
   abbrev RaisedMade : Option Justified → Type 0
   RaisedMade None = ⊤
@@ -178,17 +182,18 @@ module _ (sent : List Sent) where
   unfolding raised
   raised-made s (took_block a) c h = cond_both a.new _ _ RaisedMade (λ e. h.0.1) (λ e. tt)
   raised-made s (noted (got_vote voter v b)) c h =
-      cond_both (nat_lt (length (votes s (digest_of b) c)) (quorum s)
-      && (length (votes s (digest_of b) (noted (got_vote voter v b) ∷ c)) == quorum s)) _ _ RaisedMade
+      cond_both (nat_lt (length (votes s b c)) (quorum s)
+      && (length (votes s b (noted (got_vote voter v b) ∷ c)) == quorum s)) _ _ RaisedMade
       (λ e. all-by_voter (VoteSent sent (digest_of b))
-      (votes s (digest_of b) (noted (got_vote voter v b) ∷ c))
-      (votes-made s (digest_of b) (noted (got_vote voter v b) ∷ c) h))
+      (votes s b (noted (got_vote voter v b) ∷ c))
+      (votes-made s b (noted (got_vote voter v b) ∷ c) h))
       (λ e. tt)
   raised-made s (noted (got_new_view w r q b)) c h = h.0
   raised-made s (noted (got_request k)) c h = tt
   raised-made s (noted (got_fetch to b)) c h = tt
   raised-made s (noted timed_out) c h = tt
   raised-made s (noted beat) c h = tt
+  raised-made s (noted (pruned height)) c h = tt
 
   higher-made : (o : Option Justified) (q : Justified) → RaisedMade o → VotesSent sent q.certificate
       → VotesSent sent (higher o q).certificate
@@ -277,11 +282,11 @@ module _ (sent : List Sent) where
 
   placed-made : (self : Identity) (w : Option ℕ) (sender : ℕ) (core : Core) (q : Certificate) (f : Findings)
       (c : Chronicle) → CommandsSent sent core.commands → VotesSent sent q → (p : Placing)
-      → IsPlaced 0 MOST_BLOCKS core q (tree c) p → AllMade (on_placing self w sender core q f c p)
+      → IsPlaced (horizon c) MOST_BLOCKS core q (window c) p → AllMade (on_placing self w sender core q f c p)
   unfolding on_placing admitted AllMade
   placed-made self w sender core q f c hk hq (stands b) h = (λ n. absurd (true≢false (sym n)), hq)
   placed-made self w sender core q f c hk hq (grows b) (parent, t) =
-      let ep = sym (found-in core.parent (tree c) parent t.parent_found).1 in (
+      let ep = sym (found-in core.parent (window c) parent t.parent_found).1 in (
         λ n. subst (λ (x : Core). CommandsSent sent x.commands)
             (sym (ap core_of t.is ∙ core-known core parent ep t.height)) hk,
         hq,
@@ -311,17 +316,18 @@ module _ (sent : List Sent) where
   ruling-made : (self : Identity) (i : Input) (c : Chronicle) → IsMadeInput sent i → AllMade (ruling self i c)
   unfolding ruling AllMade
   ruling-made self (proposal_in w core q f) c h =
-      placed-made self _ _ core q f c h.0 h.1 (placing 0 MOST_BLOCKS core q (tree c))
-      (placed 0 MOST_BLOCKS core q (tree c))
+      placed-made self _ _ core q f c h.0 h.1 (placing (horizon c) MOST_BLOCKS core q (window c))
+      (placed (horizon c) MOST_BLOCKS core q (window c))
   ruling-made self (block_in sender core q f) c h =
-      placed-made self _ _ core q f c h.0 h.1 (placing 0 MOST_BLOCKS core q (tree c))
-      (placed 0 MOST_BLOCKS core q (tree c))
+      placed-made self _ _ core q f c h.0 h.1 (placing (horizon c) MOST_BLOCKS core q (window c))
+      (placed (horizon c) MOST_BLOCKS core q (window c))
   ruling-made self (vote_in d b) c h = vote-made d b c h _ refl
   ruling-made self (new_view_in w r q) c h = view-made w r q _ h
   ruling-made self (request_in r) c h = request-made r c h
   ruling-made self (fetch_in r d) c h = tt
   ruling-made self timeout_in c h = tt
   ruling-made self beat_in c h = tt
+  ruling-made self (prune_in height) c h = tt
 
   -- ---- a step
 
@@ -414,7 +420,7 @@ data Moves (w : World) (e : Event) (m : MemorySupply) : Effect → Type 0 where
   still : (f : Effect) → f.replica ≡ w.replica → f.out ≡ [] → Moves w e m f
   taking : (i : Input) → is_member w (party_of e) ≡ true
       → ((f : Frame) × (brought w e ≡ Some f) × (check (self_of w (party_of e)) f ≡ passes i))
-      ⊎ ((i ≡ timeout_in) ⊎ (i ≡ beat_in))
+      ⊎ ((i ≡ timeout_in) ⊎ ((i ≡ beat_in) ⊎ ((height : ℕ) × (i ≡ prune_in height))))
       → Moves w e m (stepped w (party_of e) m (step (self_of w (party_of e)) m i (w.replica (party_of e))))
   asking : (c : ℕ) (payload : Bytes) → e ≡ submit c payload → Moves w e m (submits c m payload w)
 
@@ -451,7 +457,10 @@ acts-moves w (inject to bytes f) m n ok = comes-moves w (inject to bytes f) m ok
 acts-moves w (timeout r) m n ok =
     taking timeout_in (and_from _ _ (named w (timeout r) n) (not_from_false _ ok)) (inr (inl refl))
 acts-moves w (beat r) m n ok =
-    taking beat_in (and_from _ _ (named w (beat r) n) (not_from_false _ ok)) (inr (inr refl))
+    taking beat_in (and_from _ _ (named w (beat r) n) (not_from_false _ ok)) (inr (inr (inl refl)))
+acts-moves w (prune r height) m n ok =
+    taking (prune_in height) (and_from _ _ (named w (prune r height) n) (not_from_false _ ok))
+    (inr (inr (inr (height, refl))))
 
 effect-moves : (w : World) (e : Event) (m : MemorySupply) → refusal w e ≡ None → Moves w e m (effect w (e, m))
 unfolding effect
@@ -483,6 +492,7 @@ brings-sent w (submit c payload) f d b = absurd (none-some f b)
 brings-sent w (inject to bytes read) f d b = absurd d
 brings-sent w (timeout r) f d b = absurd (none-some f b)
 brings-sent w (beat r) f d b = absurd (none-some f b)
+brings-sent w (prune r height) f d b = absurd (none-some f b)
 
 -- what an effect keeps
 record KeepsMade (w : World) (e : Event) (f : Effect) : Type 0 where
@@ -515,13 +525,14 @@ asked-made w e c payload x a i given = record {
 
 input-made : (w : World) (e : Event) (i : Input) → IsPassedOn w → IsDelivered w e
     → ((f : Frame) × (brought w e ≡ Some f) × (check (self_of w (party_of e)) f ≡ passes i))
-    ⊎ ((i ≡ timeout_in) ⊎ (i ≡ beat_in)) → IsMadeInput w.sent i
+    ⊎ ((i ≡ timeout_in) ⊎ ((i ≡ beat_in) ⊎ ((height : ℕ) × (i ≡ prune_in height)))) → IsMadeInput w.sent i
 input-made w e i a d (inl b) =
     let s = brings-sent w e b.0 d b.1 in
     check-made w.sent (self_of w (party_of e)) s.0 b.0 i s.1 s.2
     (subst (λ (f : Frame). (s.0.sender ≡ sender_of w.sizes f) × Passed w.sent f) s.2 (a.sent s.0 s.1)) b.2
 input-made w e i a d (inr (inl t)) = subst (IsMadeInput w.sent) (sym t) tt
-input-made w e i a d (inr (inr t)) = subst (IsMadeInput w.sent) (sym t) tt
+input-made w e i a d (inr (inr (inl t))) = subst (IsMadeInput w.sent) (sym t) tt
+input-made w e i a d (inr (inr (inr t))) = subst (IsMadeInput w.sent) (sym t.1) tt
 
 moves-made : (w : World) (e : Event) (m : MemorySupply) (f : Effect) → IsPassedOn w → IsDelivered w e
     → Moves w e m f → KeepsMade w e f
@@ -685,6 +696,7 @@ delivered-read sizes w (relay k to) d = tt
 delivered-read sizes w (inject to bytes read) d = absurd d
 delivered-read sizes w (timeout r) d = tt
 delivered-read sizes w (beat r) d = tt
+delivered-read sizes w (prune r height) d = tt
 
 all-read : (sizes : Sizes) (hs : List Happening) (w : World) → AllDelivered w hs → AllRead sizes hs
 all-read sizes [] w d = tt

@@ -10,10 +10,10 @@ use Rattle.definitions.specs.Bytes.{Bytes}
 use Rattle.definitions.specs.Frames.{Frame}
 use Rattle.definitions.specs.FrameLimits.{IsFrame}
 use Rattle.definitions.specs.Checks.{Identity}
-use Rattle.definitions.specs.Rulings.{Input, Input.timeout_in, Input.beat_in}
+use Rattle.definitions.specs.Rulings.{Input, Input.timeout_in, Input.beat_in, Input.prune_in}
 use Rattle.definitions.specs.Replicas.{MemorySupply, step}
 use Rattle.definitions.specs.Worlds.{World, Event, Event.submit, Event.relay, Event.inject, Event.timeout}
-use Rattle.definitions.specs.Worlds.{Event.beat, is_replica, is_correct, is_party, self_of}
+use Rattle.definitions.specs.Worlds.{Event.beat, Event.prune, is_replica, is_correct, is_party, self_of}
 use Rattle.definitions.specs.Runs.{refusal, names_party}
 use Rattle.definitions.specs.Events.{Effect, nothing, stepped, on_checked, hears, submits, comes, recorded}
 use Rattle.definitions.specs.Events.{brought, party_of, acts, effect}
@@ -31,7 +31,7 @@ pub record Brings (w : World) (e : Event) (i : Input) : Type 0 where
   pub good : check (self_of w (party_of e)) frame ≡ passes i
 
 abbrev pub Arises : World → Event → Input → Type 0
-Arises w e i = Brings w e i ⊎ ((i ≡ timeout_in) ⊎ (i ≡ beat_in))
+Arises w e i = Brings w e i ⊎ ((i ≡ timeout_in) ⊎ ((i ≡ beat_in) ⊎ ((height : ℕ) × (i ≡ prune_in height))))
 
 pub data Effects (w : World) (e : Event) (m : MemorySupply) : Effect → Type 0 where
   idle : (a : Option Fault) → (a ≡ Some fault.Conflict → ⊥) → Effects w e m (nothing w a)
@@ -133,7 +133,10 @@ acts-effects w (inject to bytes f) m rd n ok =
 acts-effects w (timeout r) m rd n ok =
     step_by timeout_in (and_from _ _ (named w (timeout r) n) (not_from_false _ ok)) (inr (inl refl))
 acts-effects w (beat r) m rd n ok =
-    step_by beat_in (and_from _ _ (named w (beat r) n) (not_from_false _ ok)) (inr (inr refl))
+    step_by beat_in (and_from _ _ (named w (beat r) n) (not_from_false _ ok)) (inr (inr (inl refl)))
+acts-effects w (prune r height) m rd n ok =
+    step_by (prune_in height) (and_from _ _ (named w (prune r height) n) (not_from_false _ ok))
+    (inr (inr (inr (height, refl))))
 
 pub effects : (w : World) (e : Event) (m : MemorySupply) → ComesFramed w e → refusal w e ≡ None
     → Effects w e m (effect w (e, m))

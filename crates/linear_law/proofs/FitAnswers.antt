@@ -47,18 +47,17 @@ module _ (Known : Core → Type 0) (s : Sizes) (cores : (c : Core) → Known c �
   unfolding history
   answers-fit c so known a m =
       let x : Branch = executed c in
-      let t : Among x (tree c) = executed-tree c so.is_tree in
+      let t : Among x (tree c) = executed-tree s c so.lawful in
       let i = answers-entry (history_of x) a m in
       let k = history-command x (known x t) i.entry i.among in
       let client : k.0.client ≡ a.client = sym (ap (λ (e : Entry). e.client) k.2) ∙ i.client in
       let seq : k.0.seq ≡ a.seq = sym (ap (λ (e : Entry). e.seq) k.2) ∙ i.seq in
       let l = history-length Known s cores x (known x t) in
       let h = so.heights x t in
-      let f = so.bounded in
       let q = i.place in
       record {
         client = subst (λ (n : ℕ). n < s.clients) client k.1.client;
         seq = (subst (λ (n : ℕ). 1 ≤ n) seq k.1.seq.0, subst (λ (n : ℕ). n < 2 ^ 64) seq k.1.seq.1);
-        place = (answers-place (history_of x) a m, omega (arith, l, h, f, q));
+        place = (answers-place (history_of x) a m, omega (arith, l, h, q));
         text = answer-text (history_of x) a m;
       }

@@ -126,15 +126,14 @@ answers-fit Known w run cores p mp a m =
     let c : Chronicle = chronicles w p in
     let so : IsSound w.sizes c = run.row.sound p mp in
     let x : Branch = executed c in
-    let t : Among x (tree c) = executed-tree c so.is_tree in
+    let t : Among x (tree c) = executed-tree w.sizes c so.lawful in
     let known : AllKnown Known x = run.row.known p mp x t in
     let i : IsAnswerOf a (history_of x) =
     answers-entry (history_of x) a
     (answers-grow (held_history (w.replica p)) (history c) (held-begins (w.replica p)) a m) in
     let l = history-length Known w.sizes cores x known in
     let h = so.heights x t in
-    let f = so.bounded in
     let q = i.place in (
       subst (λ (n : ℕ). n < 2 ^ 64) i.seq (history-seq Known w.sizes cores x known i.entry i.among),
-      omega (arith, l, h, f, q),
+      omega (arith, l, h, q),
     )

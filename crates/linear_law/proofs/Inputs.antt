@@ -23,13 +23,14 @@ use Rattle.definitions.specs.Bytes.{Bytes}
 use Rattle.ids.specs.Sizes.{client_party}
 use Rattle.definitions.specs.Digests.{digest_of, core_of}
 use Rattle.definitions.specs.Chronicles.{Admitted, Step, Step.took_block, Step.noted, Note.got_vote}
-use Rattle.definitions.specs.Chronicles.{Note.got_new_view, Chronicle, tree, history}
+use Rattle.definitions.specs.Chronicles.{Note.got_new_view, Chronicle, history, horizon, window}
 use Rattle.definitions.specs.Checks.{Identity, Findings, findings, counted_voters, is_good, vote_verifies}
 use Rattle.definitions.specs.Checks.{command_verifies, is_clear_core}
 use Rattle.definitions.specs.States.{is_due, pending, is_same_request}
 use Rattle.definitions.specs.Rulings.{Input, Input.proposal_in, Input.block_in, Input.vote_in}
 use Rattle.definitions.specs.Rulings.{Input.new_view_in, Input.request_in, Input.fetch_in, Input.timeout_in}
-use Rattle.definitions.specs.Rulings.{Input.beat_in, Ruling, Ruling.due, Ruling.missing, Ruling.refusing}
+use Rattle.definitions.specs.Rulings.{Input.beat_in, Input.prune_in, Ruling, Ruling.due, Ruling.missing}
+use Rattle.definitions.specs.Rulings.{Ruling.refusing}
 use Rattle.definitions.specs.Rulings.{admitted, on_placing, on_block, on_request, with_block, ruling}
 use Rattle.definitions.specs.Admission.{check, Checked.passes, Checked.rejected}
 use Rattle.definitions.specs.Premises.{Claim, accepted_tags, vote_claims, command_claims, CoreOf}
@@ -60,7 +61,7 @@ AllStanding P (refusing n) = ⊤
 
 placed-from : (self : Identity) (i : Input) (w : Option ℕ) (sender : ℕ) (core : Core) (q : Certificate)
     (f : Findings) (c : Chronicle) → Carries i core q f → (p : Placing)
-    → IsPlaced 0 MOST_BLOCKS core q (tree c) p
+    → IsPlaced (horizon c) MOST_BLOCKS core q (window c) p
     → AllStanding (FromInput i) (on_placing self w sender core q f c p)
 unfolding on_placing admitted
 placed-from self i w sender core q f c ca (stands b) h = (
@@ -77,7 +78,7 @@ placed-from self i w sender core q f c ca (stands b) h = (
   },
 )
 placed-from self i w sender core q f c ca (grows b) (parent, g) =
-    let ep = sym (found-in core.parent (tree c) parent g.parent_found).1 in (
+    let ep = sym (found-in core.parent (window c) parent g.parent_found).1 in (
       core,
       q,
       f,
@@ -97,8 +98,8 @@ block-from : (self : Identity) (i : Input) (w : Option ℕ) (sender : ℕ) (core
     (f : Findings) (c : Chronicle) → Carries i core q f
     → AllStanding (FromInput i) (on_block self w sender core q f c)
 block-from self i w sender core q f c ca =
-    placed-from self i w sender core q f c ca (placing 0 MOST_BLOCKS core q (tree c))
-    (placed 0 MOST_BLOCKS core q (tree c))
+    placed-from self i w sender core q f c ca (placing (horizon c) MOST_BLOCKS core q (window c))
+    (placed (horizon c) MOST_BLOCKS core q (window c))
 
 vote-from : (self : Identity) (i : Input) (o : Option Branch) (b : Vote) (d : Bytes)
     → AllStanding (FromInput i) (with_block o b.voter d (λ x. due (noted (got_vote b.voter b.vector x))))
@@ -133,6 +134,7 @@ ruling-from self (request_in r) c = request-from self (request_in r) r c
 ruling-from self (fetch_in sender d) c = tt
 ruling-from self timeout_in c = tt
 ruling-from self beat_in c = tt
+ruling-from self (prune_in height) c = tt
 
 -- what holds of each holds of one
 pub all-among : {A : Type 0} (P : A → Type 0) (xs : List A) (x : A) → AllByRecursion P xs → Among x xs → P x
@@ -294,3 +296,4 @@ carried-checked self f (request_in c) h = tt
 carried-checked self f (fetch_in s d) h = tt
 carried-checked self f timeout_in h = tt
 carried-checked self f beat_in h = tt
+carried-checked self f (prune_in height) h = tt

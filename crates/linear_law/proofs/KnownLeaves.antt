@@ -1,5 +1,6 @@
 -- The block that a replica's next proposal stands on has known cores, and its last proposal can be a frame.
-use Rattle.std.proofs.Common.{ℕ, ◌≡◌, ◌<◌, true, [], ◌∷◌, length, refl, sym, ap, subst, arith, inl, Option}
+use Rattle.std.proofs.Common.{ℕ, ◌≡◌, ◌<◌, ◌^◌, true, [], ◌∷◌, length, refl, sym, ap, subst, arith, inl}
+use Rattle.std.proofs.Common.{Option}
 use Rattle.std.proofs.Common.{Some, None}
 use Rattle.std.proofs.lemmas.Bool.{cond-true}
 use Rattle.definitions.specs.Lists.{Among}
@@ -62,14 +63,13 @@ proposal-core self w j = refl
 module _ (Known : Core → Type 0) (apart : NoCollision Known) (genesis : Known genesis_core) where
   -- a leaf of which a child is made stands in the tree, so its height is bounded
   leaf-low : (self : Identity) (c : Chronicle) (b : Branch) → IsGrown Known self c
-      → IsLeafKnown Known self c → IsChild self c (leaf self c) b → length (leaf self c) < 1048576
+      → IsLeafKnown Known self c → IsChild self c (leaf self c) b → length (leaf self c) < 2 ^ 58
   leaf-low self c b g k ch =
       let x = known-block (digest_of (leaf self c)) c ch.known in
       let e = digest_of-one Known apart genesis ground x.0 (leaf self c) (g.known x.0 x.1) k.known x.2 in
       let l = g.sound.heights x.0 x.1 in
-      let f = g.sound.bounded in
       let n = ap (λ (y : Branch). length y) e in
-      omega (arith, l, f, n)
+      omega (arith, l, n)
 
   -- the core of a child is one of a frame
   made-core : (self : Identity) (c : Chronicle) (b : Branch) → IsGrown Known self c

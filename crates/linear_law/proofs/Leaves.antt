@@ -1,9 +1,9 @@
 -- Views, waiting requests and the block that the next proposal stands on, of a chronicle whose steps came
 -- in frames.
-use Rattle.ids.specs.declared.limits.TheConstants.{MOST_COMMANDS, MOST_BLOCKS}
+use Rattle.ids.specs.declared.limits.TheConstants.{MOST_COMMANDS}
 use Rattle.std.proofs.Common.{ℕ, zero, suc, if◌then◌else◌, ◌≡◌, ◌<◌, ◌≤◌, ◌+◌, ◌^◌, ◌&&◌, not, true, List, []}
 use Rattle.std.proofs.Common.{◌∷◌, ◌++◌, length, refl, sym, ap, subst, arith, inl, Option, Some, None}
-use Rattle.std.proofs.Common.{true≢false, ◌==◌, nat_lt, nat_le, map, filter, take, is_some}
+use Rattle.std.proofs.Common.{true≢false, ◌-◌, ◌==◌, nat_lt, nat_le, map, filter, take, is_some}
 use Rattle.std.specs.List.{list_any, AllByRecursion}
 use Rattle.std.proofs.lemmas.Bool.{and_parts, cond_both, ltb-true, ltb-false}
 use Rattle.std.proofs.lemmas.List.{length-take}
@@ -16,8 +16,9 @@ use Rattle.definitions.specs.Branches.{Branch}
 use Rattle.definitions.specs.Digests.{digest_of, core_of, core_over}
 use Rattle.definitions.specs.Histories.{history_of}
 use Rattle.definitions.specs.Chronicles.{Admitted, Step, Step.took_block, Step.noted, Note.got_new_view}
-use Rattle.definitions.specs.Chronicles.{Note.got_vote, Note.got_request, Note.timed_out, Note.beat, Chronicle}
-use Rattle.definitions.specs.Chronicles.{taken_blocks, tree, history, IsLawful, AreKnown, IsSound}
+use Rattle.definitions.specs.Chronicles.{Note.got_vote, Note.got_request, Note.timed_out, Note.beat}
+use Rattle.definitions.specs.Chronicles.{Chronicle}
+use Rattle.definitions.specs.Chronicles.{taken_blocks, tree, history, horizon, IsLawful, AreKnown, IsSound}
 use Rattle.definitions.specs.Checks.{Identity}
 use Rattle.definitions.specs.States.{known_as, announcements, announced, reached_view, view, raised, qc_high}
 use Rattle.definitions.specs.States.{Justified, higher, votes}
@@ -111,11 +112,13 @@ pub picks-fit : (self : Identity) (c : Chronicle) (on : Branch) → AreStored se
 unfolding picks
 picks-fit self c on h =
     let kept : List Command =
-    filter (λ r. not (list_any (λ e. (e.client == r.client) && (e.seq == r.seq)) (history_of on)))
+    filter (λ r. not (list_any (λ e. (e.client == r.client) && (e.seq == r.seq))
+    (history_of (take (length on - horizon c) on))))
     (pending c) in (
       all-take (IsCommand self.sizes) MOST_COMMANDS kept
           (all-filter (IsCommand self.sizes)
-          (λ r. not (list_any (λ e. (e.client == r.client) && (e.seq == r.seq)) (history_of on)))
+          (λ r. not (list_any (λ e. (e.client == r.client) && (e.seq == r.seq))
+          (history_of (take (length on - horizon c) on))))
           (pending c) (pending-fit self c h)),
       (let l = length-take MOST_COMMANDS kept in omega (arith, l)),
     )
@@ -206,8 +209,8 @@ brought-known s (took_block a) c l k =
     (taken-tree (took_block a ∷ c) a (subst (λ (xs : List Admitted). Among a xs)
     (sym (cond-true a.new (a ∷ taken_blocks c) (taken_blocks c) e)) (inl refl)))) (λ e. tt)
 brought-known s (noted (got_vote voter v b)) c l k =
-    cond_both (nat_lt (length (votes s (digest_of b) c)) (quorum s)
-    && (length (votes s (digest_of b) (noted (got_vote voter v b) ∷ c)) == quorum s)) _ _
+    cond_both (nat_lt (length (votes s b c)) (quorum s)
+    && (length (votes s b (noted (got_vote voter v b) ∷ c)) == quorum s)) _ _
     (λ (o : Option Justified). IfSome o
     (λ q. Among q.block (tree (noted (got_vote voter v b) ∷ c))))
     (λ e. tree-grows (noted (got_vote voter v b)) c b k.0) (λ e. tt)
@@ -275,12 +278,11 @@ raised-low self (st ∷ c) =
 
 -- so its height is bounded by the number of steps
 pub leaf-low : (self : Identity) (c : Chronicle) → IsSound self.sizes c
-    → length (leaf self c) ≤ length c + MOST_BLOCKS
+    → length (leaf self c) ≤ length c + 2 ^ 58
 leaf-low self c so =
     let low = raised-low self c in
     let high = so.heights (qc_high self.sizes c).block (high-known self.sizes c so.lawful so.known) in
-    let room = so.bounded in
-    omega (arith, low, high, room)
+    omega (arith, low, high)
 
 -- ---- the core of a new block
 

@@ -1,7 +1,6 @@
 -- The certificates of a chronicle: those that came in frames, and those that a quorum of votes completes.
 use Rattle.std.proofs.Common.{ℕ, ◌≡◌, ◌<◌, ◌&&◌, not, true, false, List, [], ◌∷◌, ◌++◌, length, refl, sym}
 use Rattle.std.proofs.Common.{ap, subst, ◌∙◌, arith, inl, inr, Option, Some, None, true≢false, ◌==◌, nat_lt}
-use Rattle.std.proofs.Common.{bytes_eq}
 use Rattle.std.specs.List.{list_any, AllByRecursion}
 use Rattle.std.specs.Bool.{⊤}
 use Rattle.std.proofs.lemmas.Bool.{and_parts, eqb-true, eq-eqb, cond_both, cond-true, cases_Bool, ltb-true}
@@ -11,7 +10,7 @@ use Rattle.ids.specs.Sizes.{Sizes, quorum}
 use Rattle.definitions.specs.Bytes.{Bytes}
 use Rattle.definitions.specs.Frames.{Vote, genesis_core}
 use Rattle.definitions.specs.FrameLimits.{IsVote, IsCertificate}
-use Rattle.definitions.specs.Branches.{Branch}
+use Rattle.definitions.specs.Branches.{Branch, branch_eq}
 use Rattle.definitions.specs.Digests.{digest, digest_of}
 use Rattle.definitions.specs.Chronicles.{Step, Step.took_block, Step.noted, Note.got_vote}
 use Rattle.definitions.specs.Chronicles.{Note.got_new_view, Chronicle, taken_blocks}
@@ -20,7 +19,7 @@ use Rattle.definitions.specs.States.{votes, by_voter, Justified, raised, higher,
 use Rattle.definitions.proofs.Certificates.{AreOfEach, IsDigest-digest, IsDigest-digest_of}
 use Rattle.definitions.proofs.Certificates.{IsCertificate-by_voter, is_good-by_voter, all-implied}
 use Rattle.linear_law.specs.Law.{HasCertificates}
-use Rattle.definitions.proofs.Trees.{same_bytes}
+use Rattle.definitions.proofs.Branches.{branch_eq-decides}
 use Rattle.linear_law.proofs.StoredFrames.{AreStored}
 
 -- ---- the votes that are kept
@@ -35,42 +34,46 @@ not-kept voter (b ∷ bs) h = (
 )
 
 -- the votes for a block are of distinct voters
-pub votes-each : (s : Sizes) (d : Bytes) (c : Chronicle) → AreOfEach (votes s d c)
+pub votes-each : (s : Sizes) (block : Branch) (c : Chronicle) → AreOfEach (votes s block c)
 unfolding votes
-votes-each s d [] = tt
-votes-each s d (noted (got_vote voter v b) ∷ c) =
-    cond_both (bytes_eq (digest_of b) d
-    && (not (list_any (λ x. x.voter == voter) (votes s d c)) && nat_lt (length (votes s d c))
+votes-each s block [] = tt
+votes-each s block (noted (got_vote voter v b) ∷ c) =
+    cond_both (branch_eq b block
+    && (not (list_any (λ x. x.voter == voter) (votes s block c)) && nat_lt (length (votes s block c))
     (quorum s))) _ _ AreOfEach
-    (λ e. (not-kept voter (votes s d c) (not-true _ (and_parts _ _ (and_parts _ _ e).1).0), votes-each s d c))
-    (λ e. votes-each s d c)
-votes-each s d (took_block a ∷ c) = votes-each s d c
-votes-each s d (noted n ∷ c) = votes-each s d c
+    (λ e. (
+      not-kept voter (votes s block c) (not-true _ (and_parts _ _ (and_parts _ _ e).1).0),
+      votes-each s block c,
+    ))
+    (λ e. votes-each s block c)
+votes-each s block (took_block a ∷ c) = votes-each s block c
+votes-each s block (noted n ∷ c) = votes-each s block c
 
 -- a vote of a frame that verifies
 abbrev pub Counts : Identity → Bytes → Vote → Type 0
 Counts self d b = IsVote self.sizes b × (vote_verifies self d b ≡ true)
 
 -- each vote for a block is one of a frame, and verifies
-pub votes-count : (self : Identity) (d : Bytes) (c : Chronicle) → AreStored self c
-    → AllByRecursion (Counts self d) (votes self.sizes d c)
+pub votes-count : (self : Identity) (block : Branch) (c : Chronicle) → AreStored self c
+    → AllByRecursion (Counts self (digest_of block)) (votes self.sizes block c)
 unfolding votes
-votes-count self d [] h = tt
-votes-count self d (noted (got_vote voter v b) ∷ c) h =
-    cond_both (bytes_eq (digest_of b) d
-    && (not (list_any (λ x. x.voter == voter) (votes self.sizes d c)) && nat_lt
-    (length (votes self.sizes d c)) (quorum self.sizes))) _ _ (AllByRecursion (Counts self d))
+votes-count self block [] h = tt
+votes-count self block (noted (got_vote voter v b) ∷ c) h =
+    cond_both (branch_eq b block
+    && (not (list_any (λ x. x.voter == voter) (votes self.sizes block c)) && nat_lt
+    (length (votes self.sizes block c)) (quorum self.sizes))) _ _
+    (AllByRecursion (Counts self (digest_of block)))
     (λ e. (
       (
         h.0.vote_is,
         subst (λ (y : Bytes). vote_verifies self y (record { voter = voter; vector = v }) ≡ true)
-            (same_bytes _ _ (and_parts _ _ e).0) h.0.verifies,
+            (ap digest_of ((branch_eq-decides b block).0 (and_parts _ _ e).0)) h.0.verifies,
       ),
-      votes-count self d c h.1,
+      votes-count self block c h.1,
     ))
-    (λ e. votes-count self d c h.1)
-votes-count self d (took_block a ∷ c) h = votes-count self d c h.1
-votes-count self d (noted n ∷ c) h = votes-count self d c h.1
+    (λ e. votes-count self block c h.1)
+votes-count self block (took_block a ∷ c) h = votes-count self block c h.1
+votes-count self block (noted n ∷ c) h = votes-count self block c h.1
 
 -- ---- the certificates that steps bring or complete
 
@@ -87,24 +90,24 @@ above-genesis b e l = let k = ap (λ (x : Branch). length x) e in omega (arith, 
 -- the certificate that a quorum of votes completes
 completed : (self : Identity) (voter : ℕ) (v : Bytes) (b : Branch) (c : Chronicle)
     → AreStored self (noted (got_vote voter v b) ∷ c)
-    → length (votes self.sizes (digest_of b) (noted (got_vote voter v b) ∷ c)) ≡ quorum self.sizes
+    → length (votes self.sizes b (noted (got_vote voter v b) ∷ c)) ≡ quorum self.sizes
     → IsRaised self
     (record {
       block = b;
       certificate =
           record {
             digest = digest_of b;
-            votes = by_voter (votes self.sizes (digest_of b) (noted (got_vote voter v b) ∷ c));
+            votes = by_voter (votes self.sizes b (noted (got_vote voter v b) ∷ c));
           };
     })
 completed self voter v b c h enough =
-    let bs : List Vote = votes self.sizes (digest_of b) (noted (got_vote voter v b) ∷ c) in
+    let bs : List Vote = votes self.sizes b (noted (got_vote voter v b) ∷ c) in
     let each : AllByRecursion (Counts self (digest_of b)) bs =
-    votes-count self (digest_of b) (noted (got_vote voter v b) ∷ c) h in
+    votes-count self b (noted (got_vote voter v b) ∷ c) h in
     record {
       certificate_is = IsCertificate-by_voter self.sizes (digest_of b) bs (IsDigest-digest_of b)
           (all-implied (Counts self (digest_of b)) (IsVote self.sizes) (λ x k. k.0) bs each)
-          (votes-each self.sizes (digest_of b) (noted (got_vote voter v b) ∷ c)) enough;
+          (votes-each self.sizes b (noted (got_vote voter v b) ∷ c)) enough;
       good = λ l. is_good-by_voter self (digest_of b) bs
           (all-implied (Counts self (digest_of b)) (λ x. vote_verifies self (digest_of b) x ≡ true)
           (λ x k. k.1) bs each) enough
@@ -131,8 +134,8 @@ raised-all self (took_block a) c h =
     })
     (λ e. tt)
 raised-all self (noted (got_vote voter v b)) c h =
-    cond_both (nat_lt (length (votes self.sizes (digest_of b) c)) (quorum self.sizes)
-    && (length (votes self.sizes (digest_of b) (noted (got_vote voter v b) ∷ c)) == quorum self.sizes))
+    cond_both (nat_lt (length (votes self.sizes b c)) (quorum self.sizes)
+    && (length (votes self.sizes b (noted (got_vote voter v b) ∷ c)) == quorum self.sizes))
     _ _ (AllRaised self)
     (λ e. completed self voter v b c h (eqb-true _ _ (and_parts _ _ e).1))
     (λ e. tt)

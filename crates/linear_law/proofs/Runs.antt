@@ -89,7 +89,8 @@ arises-checked w e i (inl b) =
     carried-checked (self_of w (party_of e)) b.frame i
     (check-carried (self_of w (party_of e)) b.frame i b.is_frame b.good)
 arises-checked w e i (inr (inl t)) = subst (IsCheckedInput w.sizes) (sym t) tt
-arises-checked w e i (inr (inr t)) = subst (IsCheckedInput w.sizes) (sym t) tt
+arises-checked w e i (inr (inr (inl t))) = subst (IsCheckedInput w.sizes) (sym t) tt
+arises-checked w e i (inr (inr (inr t))) = subst (IsCheckedInput w.sizes) (sym t.1) tt
 
 pub arises-carried : (w : World) (e : Event) (i : Input) (core : Core) (q : Certificate) (g : Findings)
     → Arises w e i → Carries i core q g
@@ -97,7 +98,10 @@ pub arises-carried : (w : World) (e : Event) (i : Input) (core : Core) (q : Cert
 arises-carried w e i core q g (inl b) ca =
     (b, check-carried (self_of w (party_of e)) b.frame i b.is_frame b.good core q g ca)
 arises-carried w e i core q g (inr (inl t)) ca = absurd (subst (λ (j : Input). Carries j core q g) t ca)
-arises-carried w e i core q g (inr (inr t)) ca = absurd (subst (λ (j : Input). Carries j core q g) t ca)
+arises-carried w e i core q g (inr (inr (inl t))) ca =
+    absurd (subst (λ (j : Input). Carries j core q g) t ca)
+arises-carried w e i core q g (inr (inr (inr t))) ca =
+    absurd (subst (λ (j : Input). Carries j core q g) t.1 ca)
 
 module _ (Known : Core → Type 0) where
   -- a vote that was counted in a member's name was given by it

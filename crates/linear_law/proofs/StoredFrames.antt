@@ -14,18 +14,20 @@ use Rattle.definitions.specs.FrameLimits.{IsDigest, IsCommand, IsCore, IsVote, I
 use Rattle.definitions.specs.Branches.{Branch, just1}
 use Rattle.definitions.specs.Digests.{digest_of, core_of}
 use Rattle.definitions.specs.Chronicles.{Admitted, Step, Step.took_block, Step.noted, Note.got_vote}
-use Rattle.definitions.specs.Chronicles.{Note.got_new_view, Note.got_request, Chronicle, tree, history}
+use Rattle.definitions.specs.Chronicles.{Note.got_new_view, Note.got_request, Chronicle, history, horizon}
+use Rattle.definitions.specs.Chronicles.{window}
 use Rattle.definitions.specs.Chronicles.{IsSound}
 use Rattle.definitions.specs.Checks.{Identity, Findings, is_good, is_genesis, vote_verifies}
 use Rattle.definitions.specs.States.{find_block, is_due, pending, is_same_request}
 use Rattle.definitions.specs.Rulings.{Input, Input.proposal_in, Input.block_in, Input.vote_in}
 use Rattle.definitions.specs.Rulings.{Input.new_view_in, Input.request_in, Input.fetch_in, Input.timeout_in}
-use Rattle.definitions.specs.Rulings.{Input.beat_in, Ruling, Ruling.due, Ruling.missing, Ruling.refusing}
+use Rattle.definitions.specs.Rulings.{Input.beat_in, Input.prune_in, Ruling, Ruling.due, Ruling.missing}
+use Rattle.definitions.specs.Rulings.{Ruling.refusing}
 use Rattle.definitions.specs.Rulings.{admitted, on_placing, on_block, on_request, with_block, ruling}
 use Rattle.definitions.specs.Admission.{check, Checked.passes, Checked.rejected}
 use Rattle.definitions.specs.Worlds.{World, Event, self_of}
 use Rattle.definitions.specs.Events.{party_of}
-use Rattle.definitions.proofs.Sound.{found}
+use Rattle.definitions.proofs.Sound.{found, found-standing}
 use Rattle.definitions.specs.Trees.{Placing, Placing.stands, Placing.grows, Placing.lacks_parent}
 use Rattle.definitions.specs.Trees.{Placing.unfit, placing, IsTree}
 use Rattle.definitions.proofs.Trees.{same_bytes, found-in, core-known, IsPlaced, placed}
@@ -111,12 +113,13 @@ check-read self (frame.reply r c s p t g) i fr e = absurd (apart e)
 pub arises-read : (w : World) (e : Event) (i : Input) → Arises w e i → IsReadInput (self_of w (party_of e)) i
 arises-read w e i (inl b) = check-read (self_of w (party_of e)) b.frame i b.is_frame b.good
 arises-read w e i (inr (inl t)) = subst (IsReadInput (self_of w (party_of e))) (sym t) tt
-arises-read w e i (inr (inr t)) = subst (IsReadInput (self_of w (party_of e))) (sym t) tt
+arises-read w e i (inr (inr (inl t))) = subst (IsReadInput (self_of w (party_of e))) (sym t) tt
+arises-read w e i (inr (inr (inr t))) = subst (IsReadInput (self_of w (party_of e))) (sym t.1) tt
 
 -- ---- rulings
 
--- a block of the tree with genesis's digest is genesis
-genesis-only : (c : Chronicle) (b : Branch) → IsTree 0 (tree c) → Among b (tree c)
+-- a block of the window with genesis's digest is genesis
+genesis-only : (c : Chronicle) (b : Branch) → IsTree (horizon c) (window c) → Among b (window c)
     → is_genesis (digest_of b) ≡ true → b ≡ []
 unfolding digest_of
 genesis-only c b tr m h = tr.one b [] m tr.genesis (same_bytes _ _ h)
@@ -124,7 +127,7 @@ genesis-only c b tr m h = tr.one b [] m tr.genesis (same_bytes _ _ h)
 -- a block with its certificate
 placed-stored : (self : Identity) (w : Option ℕ) (sender : ℕ) (core : Core) (q : Certificate) (f : Findings)
     (c : Chronicle) → IsCore self.sizes core → IsCertificate self.sizes q → is_good self q ≡ true
-    → (p : Placing) → IsPlaced 0 MOST_BLOCKS core q (tree c) p
+    → (p : Placing) → IsPlaced (horizon c) MOST_BLOCKS core q (window c) p
     → IsStoredRuling self c (on_placing self w sender core q f c p)
 unfolding on_placing admitted
 placed-stored self w sender core q f c hk hq g (stands b) h =
@@ -136,7 +139,7 @@ placed-stored self w sender core q f c hk hq g (stands b) h =
       stored = λ n. absurd (true≢false (sym n));
     }
 placed-stored self w sender core q f c hk hq g (grows b) (parent, t) =
-    let ep = sym (found-in core.parent (tree c) parent t.parent_found).1 in
+    let ep = sym (found-in core.parent (window c) parent t.parent_found).1 in
     record {
       core_is = hk;
       certificate_is = hq;
@@ -151,8 +154,8 @@ block-stored : (self : Identity) (w : Option ℕ) (sender : ℕ) (core : Core) (
     (c : Chronicle) → IsCore self.sizes core → IsCertificate self.sizes q → is_good self q ≡ true
     → IsStoredRuling self c (on_block self w sender core q f c)
 block-stored self w sender core q f c hk hq g =
-    placed-stored self w sender core q f c hk hq g (placing 0 MOST_BLOCKS core q (tree c))
-    (placed 0 MOST_BLOCKS core q (tree c))
+    placed-stored self w sender core q f c hk hq g (placing (horizon c) MOST_BLOCKS core q (window c))
+    (placed (horizon c) MOST_BLOCKS core q (window c))
 
 -- a vote
 vote-stored : (self : Identity) (b : Vote) (d : Bytes) (c : Chronicle) → IsSound self.sizes c → IsDigest d
@@ -160,7 +163,7 @@ vote-stored : (self : Identity) (b : Vote) (d : Bytes) (c : Chronicle) → IsSou
     → IsStoredRuling self c (with_block o b.voter d (λ x. due (noted (got_vote b.voter b.vector x))))
 vote-stored self b d c so hd hb v None e = hd
 vote-stored self b d c so hd hb v (Some x) e =
-    let r = found d c x e in
+    let r = found-standing d c x e in
     record {
       vote_is = hb;
       verifies = subst (λ (y : Bytes). vote_verifies self y b ≡ true) (sym r.1) v;
@@ -198,3 +201,4 @@ ruling-stored self (request_in r) c h so = request-stored self r c h
 ruling-stored self (fetch_in sender d) c h so = tt
 ruling-stored self timeout_in c h so = tt
 ruling-stored self beat_in c h so = tt
+ruling-stored self (prune_in height) c h so = tt

@@ -22,7 +22,8 @@ use Rattle.definitions.specs.Keyrings.{Keyring, client_at, verify, vector_for}
 use Rattle.definitions.specs.Histories.{Entry}
 use Rattle.definitions.specs.Chronicles.{Step, Chronicle}
 use Rattle.definitions.specs.Checks.{Identity}
-use Rattle.definitions.specs.Rulings.{Input, Input.timeout_in, Input.beat_in, Ruling, Ruling.due}
+use Rattle.definitions.specs.Rulings.{Input, Input.timeout_in, Input.beat_in, Input.prune_in, Ruling}
+use Rattle.definitions.specs.Rulings.{Ruling.due}
 use Rattle.definitions.specs.Rulings.{Ruling.missing, Ruling.refusing, ruling, conflicts}
 use Rattle.definitions.specs.Sendings.{To.to_all, To.to_party, Sending, fetch_frame}
 use Rattle.definitions.specs.Replicas.{MemorySupply, MemorySupply.ample, MemorySupply.refused_at_once}
@@ -34,7 +35,8 @@ use Rattle.definitions.specs.Sessions.{Client, Session, Heard, Receipt, Submitte
 use Rattle.definitions.specs.Sessions.{is_ample, submission, request_frame, on_reply, count_reply}
 use Rattle.definitions.specs.Tally.{agrees}
 use Rattle.definitions.specs.Worlds.{World, Sent, AcceptedBy, Event, Event.submit, Event.relay}
-use Rattle.definitions.specs.Worlds.{Event.inject, Event.timeout, Event.beat, Happening, put, is_replica}
+use Rattle.definitions.specs.Worlds.{Event.inject, Event.timeout, Event.beat, Event.prune, Happening, put}
+use Rattle.definitions.specs.Worlds.{is_replica}
 use Rattle.definitions.specs.Worlds.{self_of, client_of, new_world}
 use Rattle.definitions.specs.Admission.{Checked, Checked.passes, Checked.rejected, check}
 use Rattle.definitions.specs.Events.{Effect, nothing, stepped, told, submitted, out_of, accepted_of}
@@ -126,6 +128,7 @@ acts-tells w (relay k to) m = comes-tells w (relay k to) m (recorded w k)
 acts-tells w (inject to bytes f) m = comes-tells w (inject to bytes f) m f
 acts-tells w (timeout r) m = steps-tells w (timeout r) r m timeout_in
 acts-tells w (beat r) m = steps-tells w (beat r) r m beat_in
+acts-tells w (prune r height) m = steps-tells w (prune r height) r m (prune_in height)
 
 effect-tells : (w : World) (e : Event) (m : MemorySupply) → Tells w e m (effect w (e, m))
 unfolding effect

@@ -11,7 +11,7 @@ use Rattle.definitions.specs.Digests.{NoCollision}
 use Rattle.definitions.specs.Keyrings.{Keyring}
 use Rattle.definitions.specs.States.{Justified, leaf, proposed}
 use Rattle.definitions.specs.Worlds.{World, Sent, Event, Event.submit, Event.relay, Event.inject}
-use Rattle.definitions.specs.Worlds.{Event.timeout, Event.beat, Happening, self_of, new_world}
+use Rattle.definitions.specs.Worlds.{Event.timeout, Event.beat, Event.prune, Happening, self_of, new_world}
 use Rattle.definitions.specs.Events.{brought, happens}
 use Rattle.definitions.specs.Runs.{refusal, run, after}
 use Rattle.definitions.specs.Premises.{CoreOf, CoreBrought, CoreOfRun, IsReadIn, AllRead, NoForgeryIn}
@@ -62,6 +62,7 @@ comes-framed w (relay k to) rd sent f b = recorded-framed w.sizes w.sent k f sen
 comes-framed w (inject to bytes read) rd sent f b = (subst (IsReadAs w.sizes bytes) b rd).0
 comes-framed w (timeout r) rd sent f b = absurd (let k : None ≡ Some f = b in cc)
 comes-framed w (beat r) rd sent f b = absurd (let k : None ≡ Some f = b in cc)
+comes-framed w (prune r height) rd sent f b = absurd (let k : None ≡ Some f = b in cc)
 
 -- ---- what is assumed along a schedule
 

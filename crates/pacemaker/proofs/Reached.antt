@@ -13,7 +13,7 @@ use Rattle.definitions.specs.Frames.{Certificate}
 use Rattle.definitions.specs.Branches.{Branch}
 use Rattle.definitions.specs.Chronicles.{Chronicle, Step, Step.took_block, Step.noted, Note.got_vote}
 use Rattle.definitions.specs.Chronicles.{Note.got_new_view, Note.got_request, Note.got_fetch}
-use Rattle.definitions.specs.Chronicles.{Note.timed_out, Note.beat}
+use Rattle.definitions.specs.Chronicles.{Note.timed_out, Note.beat, Note.pruned}
 use Rattle.definitions.specs.States.{announcements, announced, reached_view, view}
 use Rattle.definitions.proofs.Lists.{greatest-above, Among-map, Among-mapped, Among-kept}
 use Rattle.definitions.proofs.Counts.{count-same}
@@ -215,6 +215,7 @@ view-stays s (noted (got_request r)) c h = refl
 view-stays s (noted (got_fetch sender b)) c h = refl
 view-stays s (noted timed_out) c h = absurd h
 view-stays s (noted beat) c h = refl
+view-stays s (noted (pruned height)) c h = refl
 
 announced-stays : (i : ℕ) (st : Step) (c : Chronicle) → LeavesPace st → announced i (st ∷ c) ≡ announced i c
 unfolding announced announcements
@@ -225,6 +226,7 @@ announced-stays i (noted (got_request r)) c h = refl
 announced-stays i (noted (got_fetch sender b)) c h = refl
 announced-stays i (noted timed_out) c h = absurd h
 announced-stays i (noted beat) c h = refl
+announced-stays i (noted (pruned height)) c h = refl
 
 -- keeps the pace
 pub paced-still : (st : Step) (c : Chronicle) (p : Pace) → LeavesPace st → IsPaceOf c p → IsPaceOf (st ∷ c) p

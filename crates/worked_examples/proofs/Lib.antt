@@ -2,5 +2,6 @@ pub mod FrameSizes
 pub mod LineSteps
 mod SmallRun
 mod OneReplica
+mod OnePruned
 mod Rounds
 mod PrunedTree

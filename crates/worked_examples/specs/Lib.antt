@@ -3,6 +3,7 @@ pub mod Chains
 pub mod Frames
 pub mod Histories
 pub mod Lines
+pub mod Pruning
 pub mod Replicas
 pub mod Rounds
 pub mod Runs

@@ -7,6 +7,7 @@ pub mod chains;
 pub mod frames;
 pub mod histories;
 pub mod lines;
+pub mod pruning;
 pub mod replicas;
 pub mod runs;
 pub mod tags;
