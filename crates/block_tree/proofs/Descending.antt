@@ -35,10 +35,10 @@ pow-some k = elim (cases_lt 0 (2 ^ k)) [
 -- ---- a descent
 
 -- At `at`, with `rest` times `2 ^ level` blocks left of a distance, `done` turns were taken, of `all` in
--- the end.
-pub record Descending (tree : List Branch) (from distance at rest level done all : ℕ) : Type 0 where
+-- the end. The way ends no lower than at the floor.
+pub record Descending (tree : List Branch) (floor from distance at rest level done all : ℕ) : Type 0 where
   pub known : at < length tree
-  pub low : rest * 2 ^ level ≤ length (numbered tree at)
+  pub low : rest * 2 ^ level + floor ≤ length (numbered tree at)
   pub is : drop (rest * 2 ^ level) (numbered tree at) ≡ drop distance (numbered tree from)
   pub counted : done + count_ones rest ≡ all
 
@@ -49,10 +49,10 @@ halves rest level =
     ap (λ (n : ℕ). n * 2 ^ level) split in
     rw double (omega (arith, many))
 
-module _ (tree : List Branch) (from distance at rest level done all : ℕ)
-    (w : Descending tree from distance at rest level done all) where
+module _ (tree : List Branch) (floor from distance at rest level done all : ℕ)
+    (w : Descending tree floor from distance at rest level done all) where
   -- a zero bit
-  pub descend-even : rest % 2 ≡ 0 → Descending tree from distance at (rest / 2) (level + 1) done all
+  pub descend-even : rest % 2 ≡ 0 → Descending tree floor from distance at (rest / 2) (level + 1) done all
   descend-even even =
       let whole = halves rest level in
       let none : (rest % 2) * 2 ^ level ≡ 0 = rw even (omega arith) in
@@ -62,7 +62,7 @@ module _ (tree : List Branch) (from distance at rest level done all : ℕ)
 
   -- a one bit
   pub descend-odd : (next : ℕ) → rest % 2 ≡ 1 → IsDown tree (2 ^ level) (numbered tree at) next
-      → Descending tree from distance next (rest / 2) (level + 1) (done + 1) all
+      → Descending tree floor from distance next (rest / 2) (level + 1) (done + 1) all
   descend-odd next odd down =
       let whole = halves rest level in
       let one : (rest % 2) * 2 ^ level ≡ 2 ^ level = rw odd (omega arith) in
@@ -82,7 +82,7 @@ module _ (tree : List Branch) (from distance at rest level done all : ℕ)
       }
 
   -- it has its link
-  pub descend-high : 0 < rest → 2 ^ level ≤ length (numbered tree at)
+  pub descend-high : 0 < rest → 2 ^ level + floor ≤ length (numbered tree at)
   descend-high some =
       let more : 1 * 2 ^ level ≤ rest * 2 ^ level =
       mul-le 1 (2 ^ level) rest (2 ^ level) some (omega arith) in
@@ -124,9 +124,14 @@ module _ (tree : List Branch) (b : Branch) (at level : ℕ) (links : List ℕ)
       (down-more tree (2 ^ level) (2 ^ level) b at next w.last down)
 
   -- so there are few levels
-  pub build-few : (next : ℕ) → IsDown tree (2 ^ level) (numbered tree at) next → length b < 2 ^ 21
+  pub build-few : (floor next : ℕ) → 2 ^ level + floor ≤ length (numbered tree at) → length b < 2 ^ 21 + floor
       → level + 1 < 21
-  build-few next down low = pow-lower (level + 1) 21 (length b) (next_down next down).high low
+  build-few floor next high low =
+      let top = w.last.high in
+      let here : length (numbered tree at) ≡ length b - 2 ^ level =
+      ap (λ (x : Branch). length x) w.last.is ∙ length-drop (2 ^ level) b in
+      let twice = double level in
+      pow-lower (level + 1) 21 (length b - floor) (omega (arith, top, here, high, twice)) (omega (arith, low))
 
   pub build-more : (next : ℕ) → IsDown tree (2 ^ level) (numbered tree at) next
       → Building tree b next (level + 1) (links ++ next ∷ [])
@@ -159,16 +164,18 @@ module _ (tree : List Branch) (b : Branch) (at level : ℕ) (links : List ℕ)
       ap (λ (x : Branch). length x) down.is ∙ length-drop (2 ^ level) (numbered tree at) in
       omega (arith, here, some, high)
 
-  pub build-done : length (numbered tree at) < 2 ^ level → AreLinks tree b links
-  build-done end i =
+  pub build-done : (horizon : ℕ) → length (numbered tree at) < 2 ^ level + (horizon - 2)
+      → AreLinks horizon tree b links
+  build-done horizon end i =
       let many = w.many in
       let twice = double level in
       let top = w.last.high in
       let here : length (numbered tree at) ≡ length b - 2 ^ level =
       ap (λ (x : Branch). length x) w.last.is ∙ length-drop (2 ^ level) b in
-      let P = λ (o : Option ℕ). MatchOption o (length b < 2 ^ i) (IsDown tree (2 ^ i) b) in
+      let P = λ (o : Option ℕ). MatchOption o (length b < 2 ^ i + (horizon - 2))
+      (λ m. 2 ^ i + (horizon - 2) ≤ length b → IsDown tree (2 ^ i) b m) in
       elim (cases_lt i (length links)) [
-        | inl p ↦ subst P (sym (slice_get-get_or links i 0 p)) (w.right i (omega (arith, many, p)))
+        | inl p ↦ subst P (sym (slice_get-get_or links i 0 p)) (λ reach. w.right i (omega (arith, many, p)))
         | inr q ↦
             let more : 2 ^ (level + 1) ≤ 2 ^ i = pow-le-pow_right (omega arith) (omega (arith, many, q)) in
             subst P (sym (slice_get_past links i q)) (omega (arith, more, twice, here, end, top))

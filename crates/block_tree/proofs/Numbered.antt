@@ -1,21 +1,32 @@
 -- Blocks by their numbers, and the links from one to another.
-use Rattle.std.proofs.Common.{ℕ, suc, ◌+◌, ◌-◌, ◌^◌, ◌≡◌, ◌<◌, ◌≤◌, Bool, true, false, cond, List, [], ◌∷◌}
+use Rattle.std.proofs.Common.{ℕ, suc, ◌+◌, ◌-◌, ◌^◌, ◌≡◌, ◌<◌, ◌≤◌, List, [], ◌∷◌}
 use Rattle.std.proofs.Common.{length, drop, get_or, reverse, refl, sym, ap, subst, ◌∙◌, arith, inl, inr}
-use Rattle.std.proofs.Common.{Option, Some, None}
-use Rattle.std.specs.Prelude.{IsSome, MatchOption, slice_get}
-use Rattle.std.specs.Str.{bytes_eq}
+use Rattle.std.proofs.Common.{Option, Some, None, ◌⊎◌, ◌++◌}
+use Rattle.std.specs.Prelude.{MatchOption, slice_get}
 use Rattle.std.proofs.lemmas.Bool.{eq-eqb, ne_eqb, cond-true, cond-false, cases_lt, le-ltb, lt-ltb}
 use Rattle.std.proofs.lemmas.List.{length-drop, drop-drop}
 use Rattle.definitions.specs.Lists.{beginning, Among}
-use Rattle.definitions.specs.Bytes.{Bytes}
 use Rattle.definitions.specs.Branches.{Branch}
-use Rattle.definitions.specs.Digests.{digest_of, core_of}
-use Rattle.definitions.specs.Trees.{Stored, blocks, find_in}
-use Rattle.block_tree.specs.declared.node.Node.{Node}
-use Rattle.block_tree.specs.Nodes.{block_in, all_stored_as, IsNode, IsNodeAt, AreNodes}
-use Rattle.block_tree.specs.Numbers.{stored_number, number_in, numbered, IsDown, AreLinks}
-use Rattle.block_tree.proofs.Kept.{node-named, node-core, nodes-count, reverse-twice}
-use Rattle.block_tree.proofs.Numbers.{node-place, blocks-count}
+use Rattle.definitions.specs.Trees.{Stored, blocks}
+use Rattle.block_tree.specs.declared.forest.Entry.{Entry}
+use Rattle.block_tree.specs.Nodes.{IsEntry, AreEntries}
+use Rattle.block_tree.specs.Numbers.{nth_stored, numbered, IsDown, AreLinks}
+use Rattle.block_tree.proofs.Numbers.{blocks-count, nth-newest, nth-older, nth-within}
+use Rattle.std.proofs.Math.Seq.{get_or-append_seam}
+use Rattle.std.proofs.lemmas.List.{get_or_append_left, length-reverse, reverse-append}
+use Rattle.std.proofs.lemmas.Option.{same_Some}
+
+pub reverse-last : {A : Type 0} (xs : List A) (x : A) → reverse (xs ++ x ∷ []) ≡ x ∷ reverse xs
+reverse-last xs x = reverse-append xs (x ∷ [])
+
+pub reverse-first : {A : Type 0} (x : A) (xs : List A) → reverse (x ∷ xs) ≡ reverse xs ++ x ∷ []
+reverse-first x xs = reverse-append (x ∷ []) xs
+
+pub reverse-twice : {A : Type 0} (xs : List A) → reverse (reverse xs) ≡ xs
+reverse-twice [] = refl
+reverse-twice {A} (x ∷ xs) =
+    ap reverse (reverse-first x xs)
+    ∙ (reverse-last (reverse xs) x ∙ ap (λ (l : List A). x ∷ l) (reverse-twice xs))
 
 -- the newest block has the last number
 pub numbered-newest : (b : Branch) (older : List Branch) (k : ℕ) → k ≡ length older
@@ -46,76 +57,23 @@ numbered-among (b ∷ older) k lt =
       | inr q ↦ inl (numbered-newest b older k (omega (arith, q, lt)))
     ]
 
--- ---- the number of a digest
-
-pub number-found : (d : Bytes) (tree : List Branch) (k : ℕ) → number_in d tree ≡ Some k
-    → (k < length tree) × (find_in d tree ≡ Some (numbered tree k))
-unfolding number_in
-number-found d [] k e = absurd (cc)
-number-found d (b ∷ older) k e = go (bytes_eq (digest_of b) d) refl e (number-found d older k)
-  where
-    go : (t : Bool) → bytes_eq (digest_of b) d ≡ t
-        → cond t (Some (length older)) (number_in d older) ≡ Some k
-        → (number_in d older ≡ Some k → (k < length older) × (find_in d older ≡ Some (numbered older k)))
-        → (k < suc (length older)) × (find_in d (b ∷ older) ≡ Some (numbered (b ∷ older) k))
-    go true i j rest =
-        let same : length older ≡ k = cc in (
-          omega (arith, same),
-          ap (λ (t : Bool). cond t (Some b) (find_in d older)) i
-              ∙ ap (λ (x : Branch). Some x) (sym (numbered-newest b older k (sym same))),
-        )
-    go false i j rest =
-        let r = rest j in
-        let lt = r.0 in (
-          omega (arith, lt),
-          ap (λ (t : Bool). cond t (Some b) (find_in d older)) i ∙ r.1
-              ∙ ap (λ (x : Branch). Some x) (sym (numbered-older b older k lt)),
-        )
-
-pub number-absent : (d : Bytes) (tree : List Branch) → number_in d tree ≡ None → find_in d tree ≡ None
-unfolding number_in
-number-absent d [] e = refl
-number-absent d (b ∷ older) e = go (bytes_eq (digest_of b) d) e (number-absent d older)
-  where
-    go : (t : Bool) → cond t (Some (length older)) (number_in d older) ≡ None
-        → (number_in d older ≡ None → find_in d older ≡ None) → cond t (Some b) (find_in d older) ≡ None
-    go true i rest = absurd (cc)
-    go false i rest = rest i
-
-pub number-there : (d : Bytes) (tree : List Branch) → IsSome (find_in d tree) → (o : Option ℕ)
-    → o ≡ number_in d tree → IsSome o
-number-there d tree h None e = subst IsSome (number-absent d tree (sym e)) h
-number-there d tree h (Some k) e = refl
-
--- of a stored block, or else of genesis
-pub number-stored : (d : Bytes) (stored : List Stored) (k : ℕ) → stored_number d stored ≡ Some k
-    → number_in d (blocks stored) ≡ Some k
-unfolding stored_number number_in
-number-stored d [] k e = absurd (cc)
-number-stored d (s ∷ older) k e = go (bytes_eq (digest_of s.branch) d) e (number-stored d older k)
-  where
-    go : (t : Bool) → cond t (Some (suc (length older))) (stored_number d older) ≡ Some k
-        → (stored_number d older ≡ Some k → number_in d (blocks older) ≡ Some k)
-        → cond t (Some (length (blocks older))) (number_in d (blocks older)) ≡ Some k
-    go true i rest = ap (λ (n : ℕ). Some n) (blocks-count older) ∙ i
-    go false i rest = rest i
-
-pub number-other : (d : Bytes) (stored : List Stored) → stored_number d stored ≡ None
-    → number_in d (blocks stored) ≡ number_in d ([] ∷ [])
-unfolding stored_number number_in
-number-other d [] e = refl
-number-other d (s ∷ older) e = go (bytes_eq (digest_of s.branch) d) e (number-other d older)
-  where
-    go : (t : Bool) → cond t (Some (suc (length older))) (stored_number d older) ≡ None
-        → (stored_number d older ≡ None → number_in d (blocks older) ≡ number_in d ([] ∷ []))
-        → cond t (Some (length (blocks older))) (number_in d (blocks older)) ≡ number_in d ([] ∷ [])
-    go true i rest = absurd (cc)
-    go false i rest = rest i
-
-pub number-genesis : (d : Bytes) (t : Bool) → bytes_eq (digest_of []) d ≡ t
-    → number_in d ([] ∷ []) ≡ cond t (Some 0) None
-unfolding number_in
-number-genesis d t e = ap (λ (b : Bool). cond b (Some 0) None) e
+pub nth-branch : (all : List Stored) (k : ℕ) (s : Stored) → nth_stored all k ≡ Some s
+    → numbered (blocks all) k ≡ s.branch
+unfolding nth_stored
+nth-branch [] k s e = absurd (cc)
+nth-branch (x ∷ older) k s e =
+    let count = blocks-count older in
+    let within = nth-within (x ∷ older) k s e in
+    let high = within.1 in
+    elim (cases_lt (length older) k) [
+      | inl lt ↦
+          (let top : k ≡ suc (length older) = omega (arith, lt, high) in
+          numbered-newest x.branch (blocks older) k (omega (arith, top, count))
+          ∙ ap (λ (y : Stored). y.branch) (same_Some x s (sym (nth-newest x older k top) ∙ e)))
+      | inr le ↦
+          numbered-older x.branch (blocks older) k (omega (arith, le, count))
+          ∙ nth-branch older k s (sym (nth-older x older k le) ∙ e)
+    ]
 
 -- ---- links
 
@@ -127,66 +85,103 @@ down-older tree x b distance m h = record {
   is = numbered-older x tree m h.known ∙ h.is;
 }
 
-links-older : (tree : List Branch) (x b : Branch) (links : List ℕ) → AreLinks tree b links
-    → AreLinks (x ∷ tree) b links
-links-older tree x b links h i = go (slice_get links i) (h i)
+links-older : (h : ℕ) (tree : List Branch) (x b : Branch) (links : List ℕ) → AreLinks h tree b links
+    → AreLinks h (x ∷ tree) b links
+links-older h tree x b links are i = go (slice_get links i) (are i)
   where
-    go : (o : Option ℕ) → MatchOption o (length b < 2 ^ i) (IsDown tree (2 ^ i) b)
-        → MatchOption o (length b < 2 ^ i) (IsDown (x ∷ tree) (2 ^ i) b)
+    go : (o : Option ℕ) → MatchOption o (length b < 2 ^ i + (h - 2))
+        (λ m. 2 ^ i + (h - 2) ≤ length b → IsDown tree (2 ^ i) b m)
+        → MatchOption o (length b < 2 ^ i + (h - 2))
+        (λ m. 2 ^ i + (h - 2) ≤ length b → IsDown (x ∷ tree) (2 ^ i) b m)
     go None p = p
-    go (Some m) p = down-older tree x b (2 ^ i) m p
+    go (Some m) p = λ reach. down-older tree x b (2 ^ i) m (p reach)
 
-at_newest : (n : Node) (tree : List Branch) (k : ℕ) → IsNode n tree → k ≡ length tree
-    → IsNodeAt n (block_in n.core tree ∷ tree) k
-at_newest n tree k h e =
-    let its : numbered (block_in n.core tree ∷ tree) k ≡ block_in n.core tree =
-    numbered-newest (block_in n.core tree) tree k e in
-    record {
-      named = sym (node-named n tree h) ∙ ap digest_of (sym its);
-      core = sym (node-core n tree h) ∙ ap core_of (sym its);
-      links = subst (λ (b : Branch). AreLinks (block_in n.core tree ∷ tree) b n.links) (sym its)
-          (links-older tree (block_in n.core tree) (block_in n.core tree) n.links h.links);
-    }
+links-higher : (h k : ℕ) → h ≤ k → (tree : List Branch) (b : Branch) (links : List ℕ)
+    → AreLinks h tree b links → AreLinks k tree b links
+links-higher h k le tree b links are i = go (slice_get links i) (are i)
+  where
+    go : (o : Option ℕ) → MatchOption o (length b < 2 ^ i + (h - 2))
+        (λ m. 2 ^ i + (h - 2) ≤ length b → IsDown tree (2 ^ i) b m)
+        → MatchOption o (length b < 2 ^ i + (k - 2))
+        (λ m. 2 ^ i + (k - 2) ≤ length b → IsDown tree (2 ^ i) b m)
+    go None p = omega (arith, p, le)
+    go (Some m) p = λ reach. p (omega (arith, reach, le))
 
-at_older : (n : Node) (x : Branch) (tree : List Branch) (k : ℕ) → k < length tree → IsNodeAt n tree k
-    → IsNodeAt n (x ∷ tree) k
-at_older n x tree k lt h =
-    let its : numbered (x ∷ tree) k ≡ numbered tree k = numbered-older x tree k lt in
-    record {
-      named = h.named ∙ ap digest_of (sym its);
-      core = h.core ∙ ap core_of (sym its);
-      links = subst (λ (b : Branch). AreLinks (x ∷ tree) b n.links) (sym its)
-          (links-older tree x (numbered tree k) n.links h.links);
-    }
+-- ---- entries
 
-nodes_at : (ns : List Node) → AreNodes ns → (k : ℕ) (x : Node) → 0 < k
-    → k < length (blocks (all_stored_as ns))
-    → x ≡ get_or (reverse ns) (k - 1) x → IsNodeAt x (blocks (all_stored_as ns)) k
-unfolding all_stored_as
-nodes_at [] h k x above known is = absurd (omega arith)
-nodes_at (n ∷ older) h k x above known is =
-    let count = nodes-count older in
-    elim (node-place n older (k - 1) x (omega (arith, known, count, above)) is) [
-      | inl l ↦
-          let lt = l.0 in
-          let in_older : k < length (blocks (all_stored_as older)) = omega (arith, lt, count, above) in
-          at_older x (block_in n.core (blocks (all_stored_as older))) (blocks (all_stored_as older)) k
-          in_older
-          (nodes_at older h.1 k x above in_older l.1)
-      | inr r ↦
-          let end = r.0 in
-          subst (λ (y : Node). IsNodeAt y
-          (block_in n.core (blocks (all_stored_as older)) ∷ blocks (all_stored_as older)) k) (sym r.1)
-          (at_newest n (blocks (all_stored_as older)) k h.0 (omega (arith, end, count, above)))
+entry_older : (h : ℕ) (e : Entry) (s : Stored) (older : List Branch) (x : Branch) → IsEntry h e s older
+    → IsEntry h e s (x ∷ older)
+entry_older h e s older x is = record {
+  node = is.node;
+  certified = is.certified;
+  links = links-older h older x s.branch e.links is.links;
+}
+
+-- entries stay right where the horizon rises,
+pub entries-higher : (h k : ℕ) → h ≤ k → (row : List Entry) (all : List Stored) → AreEntries h row all
+    → AreEntries k row all
+entries-higher h k le [] all are = tt
+entries-higher h k le (e ∷ row) [] are = are
+entries-higher h k le (e ∷ row) (s ∷ older) are = (
+  record {
+    node = are.0.node;
+    certified = are.0.certified;
+    links = links-higher h k le (blocks older) s.branch e.links are.0.links;
+  },
+  entries-higher h k le row older are.1,
+)
+
+-- and where the oldest ones go
+pub entries-fewer : (h : ℕ) (row gone : List Entry) (all : List Stored) → AreEntries h (row ++ gone) all
+    → AreEntries h row all
+entries-fewer h [] gone all are = tt
+entries-fewer h (e ∷ row) gone [] are = are
+entries-fewer h (e ∷ row) gone (s ∷ older) are = (are.0, entries-fewer h row gone older are.1)
+
+-- the entry at a place is an older one, or the newest
+entry_place : (e : Entry) (row : List Entry) (i : ℕ) (x : Entry) → i < suc (length row)
+    → x ≡ get_or (reverse (e ∷ row)) i x
+    → ((i < length row) × (x ≡ get_or (reverse row) i x)) ⊎ ((i ≡ length row) × (x ≡ e))
+entry_place e row i x here is =
+    let count = length-reverse row in
+    let all : get_or (reverse (e ∷ row)) i x ≡ get_or (reverse row ++ e ∷ []) i x =
+    ap (λ (l : List Entry). get_or l i x) (reverse-first e row) in
+    elim (cases_lt i (length row)) [
+      | inl lt ↦
+          inl (lt, is ∙ all ∙ get_or_append_left (reverse row) (e ∷ []) x i (omega (arith, lt, count)))
+      | inr le ↦
+          let end : i ≡ length row = omega (arith, le, here) in
+          let last : i ≡ length (reverse row) = omega (arith, end, count) in
+          inr (
+            end,
+            is ∙ all ∙ ap (λ (k : ℕ). get_or (reverse row ++ e ∷ []) k x) last
+                ∙ get_or-append_seam (reverse row) e [] x,
+          )
     ]
 
--- the node of a number
-pub node-at : (items : List Node) → AreNodes (reverse items) → (k : ℕ) (x : Node) → 0 < k
-    → k < length (blocks (all_stored_as (reverse items))) → x ≡ get_or items (k - 1) x
-    → IsNodeAt x (blocks (all_stored_as (reverse items))) k
-node-at items h k x above known is =
-    nodes_at (reverse items) h k x above known
-    (is ∙ ap (λ (l : List Node). get_or l (k - 1) x) (sym (reverse-twice items)))
+-- the entry of a number
+pub entry-at : (h first : ℕ) (row : List Entry) (all : List Stored) → AreEntries h row all
+    → first + length row ≡ length all + 1 → (k : ℕ) (x : Entry) → first ≤ k → k ≤ length all
+    → x ≡ get_or (reverse row) (k - first) x → (s : Stored) → nth_stored all k ≡ Some s
+    → IsEntry h x s (blocks all)
+entry-at h first [] all are count k x kept known is s e = absurd (omega (arith, count, kept, known))
+entry-at h first (e ∷ row) [] are count k x kept known is s at = absurd are
+entry-at h first (e ∷ row) (z ∷ older) are count k x kept known is s at =
+    elim (entry_place e row (k - first) x (omega (arith, count, kept, known)) is) [
+      | inl l ↦
+          (let lt = l.0 in
+          let low : k ≤ length older = omega (arith, lt, count, kept) in
+          entry_older h x s (blocks older) z.branch
+          (entry-at h first row older are.1 (omega (arith, count)) k x kept low l.1 s
+          (sym (nth-older z older k low) ∙ at)))
+      | inr r ↦
+          (let end = r.0 in
+          let same : z ≡ s =
+          same_Some z s (sym (nth-newest z older k (omega (arith, end, count, kept))) ∙ at) in
+          subst (λ (y : Entry). IsEntry h y s (z.branch ∷ blocks older)) (sym r.1)
+          (subst (λ (y : Stored). IsEntry h e y (z.branch ∷ blocks older)) same
+          (entry_older h e z (blocks older) z.branch are.0)))
+    ]
 
 -- ---- down a branch
 

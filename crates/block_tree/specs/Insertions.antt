@@ -14,9 +14,9 @@ use Rattle.block_tree.specs.declared.insert.Plan.{Plan}
 use Rattle.block_tree.specs.declared.insert.Plan.TheVariants.{Stands, Grows}
 use Rattle.block_tree.specs.Nodes.{IsNode}
 
--- a node that may be added to a tree
+-- a node may be added to a tree
 pub record MayStand (t : TreeState) (n : Node) : Type 0 where
-  pub node : IsNode n (blocks t.stored)
+  pub node : IsNode t.horizon n (blocks t.stored)
   pub room : length (blocks t.stored) < t.most
 
 -- the node that is planned for a new block
@@ -55,6 +55,7 @@ InsertedAt old core q clear result new (grows b) =
     ((result ≡ Ok (digest core))
     × (new ≡ record {
       most = old.most;
+      horizon = old.horizon;
       stored = record { branch = b; certificate = q; clear = clear } ∷ old.stored;
     }))
     ⊎ ((result ≡ Err fault.Memory) × (new ≡ old))
@@ -64,4 +65,4 @@ InsertedAt old core q clear result new (unfit n) = (result ≡ Err n) × (new �
 -- what an insertion answers and leaves: a block that may stand does afterwards, unless memory is refused
 abbrev pub Inserted : TreeState → Core → Certificate → Bool → Result Bytes Fault → TreeState → Type 0
 Inserted old core q clear result new =
-    InsertedAt old core q clear result new (placing 0 old.most core q (blocks old.stored))
+    InsertedAt old core q clear result new (placing old.horizon old.most core q (blocks old.stored))

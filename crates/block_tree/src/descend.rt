@@ -1,25 +1,27 @@
 //! Blocks by their numbers, and the way down a branch along the links.
 
-ghost use Rattle.std.specs.Prelude.{◌≡◌, ◌+◌, ◌<◌, ◌≤◌, ◌^◌, length, MatchOption, IsSome};
-ghost use Rattle.std.specs.Prelude.{count_ones};
+ghost use Rattle.std.specs.Prelude.{◌≡◌, ◌+◌, ◌-◌, ◌<◌, ◌≤◌, ◌^◌, length, MatchOption, IsSome, None};
+ghost use Rattle.std.specs.Prelude.{count_ones, option_map};
+ghost use Rattle.std.specs.Option.{option_and_then};
 ghost use Rattle.definitions.specs.Digests.{digest_of};
 ghost use Rattle.definitions.specs.Trees.{blocks, find_in};
 ghost use Rattle.frames_view.specs.Views.{core_of};
-ghost use Rattle.block_tree.specs.Nodes.{block_in, IsNodeAt};
-ghost use Rattle.block_tree.specs.Numbers.{numbered, number_in, IsDown, AreLinks};
-ghost use Rattle.block_tree.specs.Finding.{heights_of};
+ghost use Rattle.block_tree.specs.Nodes.{block_in, branch_in, window, IsHere, IsBlockAt};
+ghost use Rattle.block_tree.specs.Numbers.{numbered, IsDown, AreLinks};
+ghost use Rattle.block_tree.specs.Finding.{IsSeen, at_height, turns_to};
 
+use crate::forest::Forest;
 use crate::links::Links;
-use crate::node::Node;
-use crate::tree::Tree;
 use crate::turns::Turns;
 use frames_view::CoreView;
 use ids::{Digest, Height};
 
-impl Tree {
-    /// The number of the block of a digest: 0 for genesis, the others in order of insertion.
-    pub(crate) fn number(&self, digest: &Digest) -> Option<usize>
-        ensures { result ≡ number_in digest.now (blocks self.now.stored) }
+impl Forest {
+    /// The number of the block of a digest: 0 for genesis, the others in the order in which they were
+    /// taken.
+    fn number(&self, digest: &Digest) -> Option<u64>
+        ensures { MatchOption result (find_in digest.now (blocks (window self.now)) ≡ None)
+            (IsBlockAt self.now digest.now) }
     {
         match self.stored_number(digest) {
             Some(number) => Some(number),
@@ -28,83 +30,72 @@ impl Tree {
         }
     }
 
-    /// The node of the block of a number above genesis.
-    fn node_at(&self, number: usize) -> &Node
-        requires above { 0 < number }
-        requires known { number < length (blocks self.now.stored) }
-        ensures { IsNodeAt result.now (blocks self.now.stored) number }
-    {
-        &self.nodes[number - 1]
-    }
-
     /// The height of the block of a number.
-    pub(crate) fn height_at(&self, number: usize) -> Height
-        requires { number < length (blocks self.now.stored) }
-        ensures { result ≡ length (numbered (blocks self.now.stored) number) }
-    {
-        let (height, _) = self.heights_at(number);
-        height
-    }
-
-    /// The height of the block of a number, and the height that it justifies.
-    pub(crate) fn heights_at(&self, number: usize) -> (Height, Height)
-        requires { number < length (blocks self.now.stored) }
-        ensures { result ≡ heights_of (numbered (blocks self.now.stored) number) }
+    fn height_at(&self, number: u64) -> Height
+        requires { IsHere self.now number }
+        ensures { result ≡ length (numbered (blocks self.now.all) number) }
     {
         if number == 0 {
-            return (Height(0), Height(0));
+            return Height(0);
         }
-        let core = self.node_at(number).core.view();
-        (core.height(), core.justify_height())
+        self.entry_at(number).node.height()
     }
 
     /// The digest of the block of a number.
-    pub(crate) fn digest_at(&self, number: usize) -> Digest
-        requires { number < length (blocks self.now.stored) }
-        ensures { result ≡ digest_of (numbered (blocks self.now.stored) number) }
+    fn digest_at(&self, number: u64) -> Digest
+        requires { IsHere self.now number }
+        ensures { result ≡ digest_of (numbered (blocks self.now.all) number) }
     {
         if number == 0 {
             return self.genesis;
         }
-        self.node_at(number).digest
+        self.entry_at(number).node.digest
     }
 
-    /// The ancestor that a link leads to, `2^level` blocks down, where the block is as high.
-    fn link(&self, at: usize, level: usize) -> Option<usize>
-        requires { at < length (blocks self.now.stored) }
-        ensures { MatchOption result (length (numbered (blocks self.now.stored) at) < 2 ^ level)
-            (IsDown (blocks self.now.stored) (2 ^ level) (numbered (blocks self.now.stored) at)) }
+    /// The ancestor that a link leads to, `2^level` blocks down, where that one is in reach.
+    fn link(&self, at: u64, level: usize) -> Option<u64>
+        requires { IsHere self.now at }
+        ensures { MatchOption result
+            (length (numbered (blocks self.now.all) at) < 2 ^ level + (self.now.horizon - 2))
+            (λ m. (2 ^ level + (self.now.horizon - 2) ≤ length (numbered (blocks self.now.all) at))
+            × IsDown (blocks self.now.all) (2 ^ level) (numbered (blocks self.now.all) at) m) }
     {
         if at == 0 {
             return None;
         }
-        self.node_at(at).links.get(level)
+        let entry = self.entry_at(at);
+        let ancestor = entry.links.get(level)?;
+        let above = entry.node.height().0.saturating_sub(self.floor());
+        if above < 1 << level {
+            return None;
+        }
+        Some(ancestor)
     }
 
     /// Follows one link, and counts it.
-    fn turn(&self, at: usize, level: usize, turns: &mut Turns) -> usize
-        requires known { at < length (blocks self.now.stored) }
-        requires high { 2 ^ level ≤ length (numbered (blocks self.now.stored) at) }
+    fn turn(&self, at: u64, level: usize, turns: &mut Turns) -> u64
+        requires here { IsHere self.now at }
+        requires high { 2 ^ level + (self.now.horizon - 2)
+            ≤ length (numbered (blocks self.now.all) at) }
         requires room { turns.old + 1 < 2 ^ 64 }
-        ensures down { IsDown (blocks self.now.stored) (2 ^ level) (numbered (blocks self.now.stored) at)
-            result }
+        ensures down { IsDown (blocks self.now.all) (2 ^ level) (numbered (blocks self.now.all) at) result }
         ensures counted { turns.new ≡ turns.old + 1 }
     {
         turns.add_one();
         self.link(at, level).unwrap()
     }
 
-    /// The ancestor so many blocks down, by one link for each one bit of the distance.
-    pub(crate) fn descend(&self, from: usize, distance: usize, turns: &mut Turns) -> usize
-        requires known { from < length (blocks self.now.stored) }
-        requires high { distance ≤ length (numbered (blocks self.now.stored) from) }
+    /// The ancestor so many blocks down, by one link for each one bit of the distance. It is in reach.
+    fn descend(&self, from: u64, distance: u64, turns: &mut Turns) -> u64
+        requires known { from < length (blocks self.now.all) }
+        requires high { distance + (self.now.horizon - 2)
+            ≤ length (numbered (blocks self.now.all) from) }
         requires room { turns.old + count_ones distance < 2 ^ 64 }
-        ensures down { IsDown (blocks self.now.stored) distance (numbered (blocks self.now.stored) from)
-            result }
+        ensures down { IsDown (blocks self.now.all) distance (numbered (blocks self.now.all) from) result }
         ensures counted { turns.new ≡ turns.old + count_ones distance }
     {
-        // They make a tree, and a block's number is at least its height.
-        let _nodes = &self.nodes;
+        // A block in reach has not left the row.
+        let _entries = &self.entries;
         let mut at = from;
         let mut level: usize = 0;
         let mut rest = distance;
@@ -118,14 +109,52 @@ impl Tree {
         at
     }
 
-    /// The links of a block on its parent, which stands in the tree.
-    pub(crate) fn links_over(&self, core: &CoreView) -> Links
-        requires { IsSome (find_in (core_of core.now).parent (blocks self.now.stored)) }
-        ensures { AreLinks (blocks self.now.stored)
-            (block_in (core_of core.now) (blocks self.now.stored)) result }
+    /// The block of this height on the branch of a block that stands and is no lower, and how many links
+    /// lead to it.
+    pub(crate) fn ancestor(
+        &self,
+        digest: &Digest,
+        height: Height,
+        turns: &mut Turns,
+    ) -> Option<Digest>
+        requires { turns.old < 2 ^ 63 }
+        ensures seen { IsSeen self.now.horizon height
+            → result
+            ≡ option_map digest_of
+            (option_and_then (at_height height) (find_in digest.now (blocks (window self.now)))) }
+        ensures below { 0 < height → height + 2 < self.now.horizon → result ≡ None }
+        ensures counted { turns.new ≡ turns.old
+            + turns_to self.now.horizon height (find_in digest.now (blocks (window self.now))) }
+        ensures few { turns.new ≤ turns.old + 20 }
     {
-        // At most 2^20 blocks stand in the tree.
-        let _nodes = &self.nodes;
+        // They make a tree, so a block has fewer ancestors in reach than blocks stand.
+        let _entries = &self.entries;
+        let from = self.number(digest)?;
+        if height.0 < self.floor() {
+            return if height.0 == 0 {
+                Some(self.genesis)
+            } else {
+                None
+            };
+        }
+        let top = self.height_at(from);
+        if top.0 < height.0 {
+            return None;
+        }
+        let ancestor = self.descend(from, top.0 - height.0, turns);
+        Some(self.digest_at(ancestor))
+    }
+
+    /// The links of a block on its parent, which stands and is in reach.
+    pub(crate) fn links_over(&self, core: &CoreView) -> Links
+        requires stands { IsSome (find_in (core_of core.now).parent (blocks (window self.now))) }
+        requires reach { self.now.horizon
+            ≤ length (branch_in (core_of core.now).parent (blocks (window self.now))) + 2 }
+        ensures { AreLinks self.now.horizon (blocks self.now.all)
+            (block_in (core_of core.now) (blocks (window self.now))) result }
+    {
+        // They make a tree, so a block has fewer ancestors in reach than blocks stand.
+        let _entries = &self.entries;
         let mut at = self.number(&Digest(*core.parent())).unwrap();
         let mut links = Links::new();
         links.push(at);

@@ -10,12 +10,12 @@ use std::collections::BTreeMap;
 /// The number of each block that was entered.
 #[derive(Drop)]
 pub(crate) struct Index {
-    numbers: BTreeMap<Digest, u32>,
+    numbers: BTreeMap<Digest, u64>,
 }
 
 impl Index {
     ghost use Rattle.definitions.specs.Bytes.{Bytes};
-    ghost use Rattle.block_tree.specs.Indexed.{number_of};
+    ghost use Rattle.block_tree.specs.Indexed.{number_of, other_than};
 
     /// No block.
     pub(crate) fn new(alloc: Global) -> Index
@@ -27,14 +27,14 @@ impl Index {
     }
 
     /// The number of the block of a digest.
-    pub(crate) fn get(&self, digest: &Digest) -> Option<u32>
+    pub(crate) fn get(&self, digest: &Digest) -> Option<u64>
         ensures { result ≡ number_of self.now digest.now }
     {
         self.numbers.get(digest).copied()
     }
 
     /// Enters a block by its digest.
-    pub(crate) fn insert(&mut self, digest: Digest, number: u32) -> Result<(), Fault>
+    pub(crate) fn insert(&mut self, digest: Digest, number: u64) -> Result<(), Fault>
         ensures entered { OnOk result ((d : Bytes)
             → number_of self.new d ≡ (if bytes_eq digest d then Some number else number_of self.old d)) }
         ensures kept { OnErr result ((d : Bytes) → number_of self.new d ≡ number_of self.old d) }
@@ -42,5 +42,16 @@ impl Index {
     {
         self.numbers.insert(digest, number)?;
         Ok(())
+    }
+
+    /// Takes out the number of a digest, where it is this one.
+    pub(crate) fn remove(&mut self, digest: &Digest, number: u64)
+        ensures { (d : Bytes) → number_of self.new d
+            ≡ (if bytes_eq digest.now d then other_than number (number_of self.old d)
+            else number_of self.old d) }
+    {
+        if self.get(digest) == Some(number) {
+            self.numbers.remove(digest);
+        }
     }
 }

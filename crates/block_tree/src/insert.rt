@@ -23,13 +23,13 @@ pub enum Plan {
 
 impl Tree {
     /// What is to become of a block that comes with the certificate of the block that it justifies,
-    /// and with a clear mark. A new block's parts are copied, and links to its ancestors found;
-    /// nothing changes yet.
+    /// and with a clear mark. A new block's parts are copied; nothing changes yet.
     ///
-    /// `UnknownParent` where its parent isn't in the tree, `BadHeight` where its height isn't one
-    /// above, `WrongJustify` where the certificate is for another block than it justifies,
-    /// `Crowded` where 64 blocks have its height, `Full` where as many blocks stand as may, in this
-    /// order; then `Memory`.
+    /// `Pruned` where it justifies a block below the horizon, `UnknownParent` where its parent isn't
+    /// in the tree, `BadHeight` where its height isn't one above, `WrongJustify` where the
+    /// certificate is for another block than it justifies, `Crowded` where 64 blocks have its
+    /// height, `Full` where as many blocks stand as may or its height is 2^58 or more, in this
+    /// order; then `Memory`. Of a block that stands, only `Pruned` and `WrongJustify`.
     pub fn plan(
         &self,
         core: &CoreView,
@@ -37,15 +37,14 @@ impl Tree {
         clear: bool,
     ) -> Result<Plan, Fault>
         ensures { IsPlanned self.now (core_of core.now) (certificate_of certificate.now) clear result
-            (placing 0 self.now.most (core_of core.now) (certificate_of certificate.now)
+            (placing self.now.horizon self.now.most (core_of core.now) (certificate_of certificate.now)
             (blocks self.now.stored)) }
     {
         let digest = core.digest();
         match self.placing(&digest, core, certificate)? {
             Place::Stands => Ok(Plan::Stands(digest)),
             Place::Grows => {
-                let links = self.links_over(core);
-                let node = Node::copy(self.alloc, digest, core, certificate, clear, links)?;
+                let node = Node::copy(self.alloc, digest, core, certificate, clear)?;
                 Ok(Plan::Grows(node))
             }
         }
@@ -57,18 +56,16 @@ impl Tree {
         ensures added { OnOk result (self.new
             ≡ record {
               most = self.old.most;
+              horizon = self.old.horizon;
               stored = stored_as node (blocks self.old.stored) ∷ self.old.stored;
             }) }
         ensures unchanged { OnErr result (self.new ≡ self.old) }
         ensures memory { OnErr result (result ≡ Err Fault.Memory) }
     {
-        let number = self.len() as u32;
         let height = node.height();
-        self.nodes.reserve(1)?;
         self.counts.reach(height)?;
-        self.index.insert(node.digest, number)?;
+        self.forest.push(node)?;
         self.counts.add_one(height);
-        self.nodes.push(node).unwrap();
         Ok(())
     }
 

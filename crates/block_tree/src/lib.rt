@@ -6,12 +6,15 @@
 
 mod counts;
 mod descend;
+mod forest;
 mod index;
 mod insert;
 mod links;
 mod node;
 mod place;
+mod prune;
 mod queries;
+mod told;
 mod tree;
 mod turns;
 mod walks;

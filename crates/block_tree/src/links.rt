@@ -1,18 +1,19 @@
 //! The links of a block.
 
-ghost use Rattle.std.specs.Prelude.{◌≡◌, ◌<◌, ◌^◌, [], ◌∷◌, ◌++◌, length, slice_get};
+ghost use Rattle.std.specs.Prelude.{◌≡◌, ◌<◌, [], ◌∷◌, ◌++◌, length, slice_get, IsSome};
 
 use std::marker::Model;
 
 /// As many links as a block may have: no tree has more than 2^20 blocks.
 pub(crate) const MOST_LINKS: usize = 21;
 
-/// The numbers of a block's ancestors at the distances 1, 2, 4 and so on, up to its height.
+/// The numbers of a block's ancestors at the distances 1, 2, 4 and so on, as far down as blocks are in
+/// reach.
 ///
-/// They stand within the block's node, so that a link costs one look into memory.
+/// They stand within the block's entry, so that a link costs one look into memory.
 #[derive(Drop)]
 pub(crate) struct Links {
-    row: [u32; MOST_LINKS],
+    row: [u64; MOST_LINKS],
     count: usize,
 }
 
@@ -41,20 +42,20 @@ impl Links {
     }
 
     /// One more link.
-    pub(crate) fn push(&mut self, number: usize)
-        requires room { length self.old < MOST_LINKS }
-        requires number { number < 2 ^ 32 }
+    pub(crate) fn push(&mut self, number: u64)
+        requires { length self.old < MOST_LINKS }
         ensures { self.new ≡ self.old ++ number ∷ [] }
     {
-        self.row[self.count] = number as u32;
+        self.row[self.count] = number;
         self.count += 1;
     }
 
     /// Where the link of a level leads, over `2^level` blocks.
-    pub(crate) fn get(&self, level: usize) -> Option<usize>
-        ensures { result ≡ slice_get self.now level }
+    pub(crate) fn get(&self, level: usize) -> Option<u64>
+        ensures link { result ≡ slice_get self.now level }
+        ensures low { IsSome result → level < MOST_LINKS }
     {
         let number = self.row[..self.count].get(level)?;
-        Some(*number as usize)
+        Some(*number)
     }
 }

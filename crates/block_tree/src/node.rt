@@ -1,10 +1,9 @@
 //! One block of the tree.
 
-ghost use Rattle.std.specs.Prelude.{◌≡◌, ◌==◌, reverse, find, count_by, option_map, IfOk, OnErr};
+ghost use Rattle.std.specs.Prelude.{◌≡◌, IfOk, OnErr};
 ghost use Rattle.std.specs.Str.{bytes_eq};
 ghost use Rattle.frames_view.specs.Views.{core_of, certificate_of};
 
-use crate::links::Links;
 use frames_view::{CertificateBuf, CertificateView, CoreBuf, CoreView};
 use ids::{Digest, Fault, Height};
 use std::alloc::Global;
@@ -16,18 +15,16 @@ pub struct Node {
     pub(crate) core: CoreBuf,
     pub(crate) certificate: CertificateBuf,
     pub(crate) clear: bool,
-    pub(crate) links: Links,
 }
 
 impl Node {
-    /// A node with copies of these parts, and with these links.
+    /// A node with copies of these parts.
     pub(crate) fn copy(
         alloc: Global,
         digest: Digest,
         core: &CoreView,
         certificate: &CertificateView,
         clear: bool,
-        links: Links,
     ) -> Result<Node, Fault>
         ensures copied { IfOk result (λ n. n
             ≡ record {
@@ -35,7 +32,6 @@ impl Node {
               core = core_of core.now;
               certificate = certificate_of certificate.now;
               clear = clear;
-              links = links;
             }) }
         ensures memory { OnErr result (result ≡ Err Fault.Memory) }
     {
@@ -44,7 +40,6 @@ impl Node {
             core: CoreBuf::copy(alloc, core)?,
             certificate: CertificateBuf::copy(alloc, certificate)?,
             clear,
-            links,
         })
     }
 

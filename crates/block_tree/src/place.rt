@@ -1,7 +1,7 @@
 //! What a block comes to in the tree.
 
 ghost use Rattle.ids.specs.declared.limits.TheConstants.{MOST_OF_HEIGHT, HEIGHT_LIMIT};
-ghost use Rattle.std.specs.Prelude.{◌≡◌, ◌<◌, ◌==◌, ◌&&◌, ◌∷◌, not, nat_lt, length, Some, count_by};
+ghost use Rattle.std.specs.Prelude.{◌≡◌, ◌<◌, ◌≤◌, ◌==◌, ◌&&◌, ◌∷◌, not, nat_lt, length, Some, count_by};
 ghost use Rattle.definitions.specs.Branches.{Branch};
 ghost use Rattle.definitions.specs.Digests.{digest as digest_of_core};
 ghost use Rattle.definitions.specs.Trees.{blocks, find_in, block_of, justifies, placing, placing_over};
@@ -33,24 +33,31 @@ impl Tree {
     ) -> Result<Place, Fault>
         requires { digest.now ≡ digest_of_core (core_of core.now) }
         ensures { result
-            ≡ place_of (placing 0 self.now.most (core_of core.now) (certificate_of certificate.now)
-            (blocks self.now.stored)) }
+            ≡ place_of (placing self.now.horizon self.now.most (core_of core.now)
+            (certificate_of certificate.now) (blocks self.now.stored)) }
     {
-        match self.justified(digest) {
-            Some((justified, _)) if is_same(&Digest(*certificate.digest()), &justified) => {
-                Ok(Place::Stands)
-            }
-            Some(_) => Err(Fault::WrongJustify),
-            None => self.placing_over(core, certificate),
+        let Some((justified, height)) = self.justified(digest) else {
+            return self.placing_over(core, certificate);
+        };
+        if height.0 < self.horizon().0 {
+            return Err(Fault::Pruned);
+        }
+        if is_same(&Digest(*certificate.digest()), &justified) {
+            Ok(Place::Stands)
+        } else {
+            Err(Fault::WrongJustify)
         }
     }
 
     /// What a block comes to that doesn't stand in the tree.
     fn placing_over(&self, core: &CoreView, certificate: &CertificateView) -> Result<Place, Fault>
         ensures { result
-            ≡ place_of (placing_over 0 self.now.most (core_of core.now) (certificate_of certificate.now)
-            (blocks self.now.stored)) }
+            ≡ place_of (placing_over self.now.horizon self.now.most (core_of core.now)
+            (certificate_of certificate.now) (blocks self.now.stored)) }
     {
+        if core.justify_height().0 < self.horizon().0 {
+            return Err(Fault::Pruned);
+        }
         let Some(parent) = self.height(&Digest(*core.parent())) else {
             return Err(Fault::UnknownParent);
         };
@@ -72,6 +79,7 @@ impl Tree {
 
     /// Whether the certificate is for the block that a core justifies, over its parent.
     fn is_justified(&self, core: &CoreView, certificate: &CertificateView) -> bool
+        requires { self.now.horizon ≤ (core_of core.now).justify_height }
         ensures { (parent : Branch) → find_in (core_of core.now).parent (blocks self.now.stored) ≡ Some parent
             → (core_of core.now).height ≡ length (block_of (core_of core.now) ∷ parent)
             → result ≡ justifies (certificate_of certificate.now) (block_of (core_of core.now) ∷ parent) }
@@ -85,7 +93,7 @@ impl Tree {
 
     /// Whether as many blocks have a height as may have it.
     fn is_crowded(&self, height: Height) -> bool
-        requires { 0 < height }
+        requires { self.now.horizon < height }
         ensures { result
             ≡ not (nat_lt (count_by (λ x. length x == height) (blocks self.now.stored)) MOST_OF_HEIGHT) }
     {

@@ -90,11 +90,14 @@ impl Blocks {
     }
 
     /// So many blocks in a row.
-    fn chain(&mut self, count: u64) -> Result<Digest, Fault> {
+    fn chain(&mut self, numbers: [u64; 4]) -> Result<Digest, Fault> {
+        let [count, justify_height, certified, _] = numbers;
+        let (justify_height, certified) = (Height(justify_height), self.digest(certified));
         let mut last = self.digests.last().copied().unwrap_or(genesis_digest());
         for _ in 0..count {
-            let height = Height(self.tree.len() as u64);
-            let bytes = block(self.alloc, &last, height, Height(0), &genesis_digest())?;
+            let below = self.tree.height(&last).unwrap_or(Height(0));
+            let height = Height(below.0.saturating_add(1));
+            let bytes = block(self.alloc, &last, height, justify_height, &certified)?;
             last = self.add(&bytes, true)?;
         }
         Ok(last)
@@ -152,7 +155,10 @@ impl Blocks {
     /// A question about one block.
     fn about(&self, word: &str, block: &Digest, number: u64) -> Result<String, Fault> {
         match word {
-            "told" => self.told(block),
+            "told" => match self.told(block) {
+                Ok(told) => Ok(told),
+                Err(fault) => self.named(Err(fault)),
+            },
             "at" => self.ancestor(block, Height(number)),
             "over" => self.said(self.tree.extends(block, &self.digest(number))),
             "clear" => self.said(self.tree.is_clear_above(block, Height(number))),
@@ -160,6 +166,12 @@ impl Blocks {
             "decided" => self.named(Rules::decided(&self.tree, block).ok_or(Fault::UnknownParent)),
             _ => Err(Fault::BadFields),
         }
+    }
+
+    /// A pruning.
+    fn prune(&mut self, horizon: Height) -> Result<String, Fault> {
+        self.tree.prune(horizon);
+        Ok(format!(in self.alloc; "{} {}", self.tree.horizon(), self.tree.len())?)
     }
 
     /// A vote.
@@ -175,7 +187,8 @@ impl Blocks {
         let grown = match word {
             "grow" => self.grow(numbers, true),
             "dark" => self.grow(numbers, false),
-            "chain" => self.chain(first),
+            "chain" => self.chain(numbers),
+            "prune" => return self.prune(Height(first)),
             "len" => return Ok(format!(in self.alloc; "{}", self.tree.len())?),
             "voted" => return self.vote(Height(first)),
             "take" => return self.take(self.digest(first)),

@@ -3,13 +3,15 @@
 //! independent program.
 //!
 //! Blocks have no commands, and numbers in the order in which they come to stand; that of genesis
-//! is 0. A number for which none stands means the digest of zeros alone. Of a block its digest is
-//! printed, and `fault` and a number where a call refuses.
+//! is 0. A number that no block has means the digest of zeros alone, and a number that is left out
+//! is 0. Of a block its digest is printed, and `fault` and a number where a call refuses.
 //!
 //! - `tree MOST`: begins anew, with room for so many blocks.
 //! - `grow PARENT HEIGHT JUSTIFY CERTIFIED`: a block on a parent, of a height, that justifies a
 //!   height by a certificate for a block; or `dark ..`, one whose commands are unclear.
-//! - `chain COUNT`: so many blocks, each on the last one that came to stand, which justify genesis.
+//! - `chain COUNT JUSTIFY CERTIFIED`: so many blocks, each on the last one that came to stand, which
+//!   justify this height by a certificate for this block.
+//! - `prune HORIZON`: raises the horizon; printed are the horizon and how many blocks stand.
 //! - `len`: how many blocks stand.
 //! - `told BLOCK`: its height, the one that it justifies, its parent, what its certificate is for,
 //!   and what it justifies.

@@ -1,100 +1,87 @@
-use Rattle.std.proofs.Common.{◌≡◌, ◌∷◌, ◌++◌, ◌+◌, [], ◌<◌, ◌≤◌, ◌==◌, ℕ, List, length, count_by, reverse}
-use Rattle.std.proofs.Common.{sym, ap, subst, ◌∙◌, arith}
-use Rattle.std.proofs.lemmas.List.Sums.{count_by-le-length}
-use Rattle.definitions.specs.Branches.{Branch}
+use Rattle.std.proofs.Common.{◌≡◌, ◌∷◌, ◌+◌, ◌<◌, ◌≤◌, ℕ, List, length, sym, ap, subst, ◌∙◌, arith}
 use Rattle.definitions.specs.Trees.{Stored, TreeState, blocks}
 use Rattle.definitions.proofs.Trees.{found-in}
+use Rattle.definitions.proofs.Windows.{blocks-length, standing-grown}
 use Rattle.block_tree.specs.declared.node.Node.{Node}
-use Rattle.block_tree.specs.Nodes.{branch_in, block_in, stored_as, all_stored_as, IsNode, IsWhole}
-use Rattle.block_tree.specs.Numbers.{count_of, AreCounts}
-use Rattle.block_tree.proofs.Kept.{sound-of}
-use Rattle.block_tree.proofs.Counted.{same-counts, one-more}
-use Rattle.block_tree.proofs.Growing.{added-whole, added-stored}
+use Rattle.block_tree.specs.Nodes.{ForestState, branch_in, stored_as, window, IsNode, IsWhole}
+use Rattle.block_tree.specs.Numbers.{CountsState, AreCounts}
+use Rattle.block_tree.proofs.Counted.{same-counts, one-more, total-of}
+use Rattle.block_tree.proofs.Growing.{node-reach}
+use Rattle.block_tree.proofs.Sound.{grown-whole}
 use Rattle.block_tree.proofs.tree.Tree.add.Goals as goal
 
--- the height of a new block
-node_height : (n : Node) (tree : List Branch) (h : ℕ) → IsNode n tree → h ≡ n.core.height
-    → (counts : List ℕ) → AreCounts counts tree → h ≤ length counts + 1
-node_height n tree h is e counts are =
-    let parent = are.high (branch_in n.core.parent tree)
-    (found-in n.core.parent tree (branch_in n.core.parent tree) is.parent).0 in
+-- a new block is at most one above the highest one
+next_height : (n : Node) (h : ℕ) (stored : List Stored) (horizon : ℕ) → IsNode horizon n (blocks stored)
+    → h ≡ n.core.height → (counts : CountsState) → AreCounts counts stored
+    → h ≤ counts.base + length counts.heights
+next_height n h stored horizon is e counts are =
+    let t = blocks stored in
+    let parent = are.high (branch_in n.core.parent t)
+    (found-in n.core.parent t (branch_in n.core.parent t) is.parent).0 in
     let height = is.height in
     omega (arith, e, height, parent)
 
 pub reach-requires-clause-next : goal.reach-requires-clause-next
 reach-requires-clause-next c =
-    node_height c.args.node (blocks c.args.self.now.stored) c.height-height.result c.requires.node
-    (c.height-height.ensures) c.self.inside.counts
-    (subst (λ (t : TreeState). AreCounts c.self.inside.counts (blocks t.stored)) c.self.view_is
-    c.self.invariant.counted)
-
-pub invariant_of-self-in_err-insert : goal.invariant_of-self-in_err-insert
-invariant_of-self-in_err-insert c =
-    let inside = c.self.inside in
-    let tree = blocks (all_stored_as (reverse inside.nodes.items)) in
-    subst
-    (λ (l : List Node). IsWhole inside.most inside.genesis (reverse l) c.insert.new.self c.reach.new.self)
-    (sym c.reserve.ensures.items)
-    (record {
-      kept = c.self.invariant.kept;
-      indexed = λ d. c.in_err-insert.ensures.kept d ∙ c.self.invariant.indexed d;
-      counted = same-counts inside.counts c.reach.new.self tree c.self.invariant.counted
-          c.reach.ensures.same c.reach.ensures.longer;
-    })
+    let f = c.self.inside.forest in
+    let is = subst (λ (t : TreeState). IsNode t.horizon c.args.node (blocks t.stored)) (sym c.self.view_is)
+    c.requires.node in
+    next_height c.args.node c.height-height.result (window f) f.horizon is (c.height-height.ensures)
+    c.self.inside.counts c.self.invariant.counted
 
 pub add_one-requires-clause-room : goal.add_one-requires-clause-room
 add_one-requires-clause-room c =
-    let sound = sound-of c.self.inside.most c.self.inside.genesis (reverse c.self.inside.nodes.items)
-    c.args.self.now c.self.view_is c.self.invariant.kept in
-    let h = c.height-height.result in
-    let tree = blocks c.args.self.now.stored in
-    let height : h ≡ c.args.node.core.height = c.height-height.ensures in
-    let above : 0 < h = omega (arith, height, c.requires.node.height) in
-    let counted = subst (λ (t : TreeState). AreCounts c.self.inside.counts (blocks t.stored)) c.self.view_is
-    c.self.invariant.counted in
-    let count : count_of c.reach.new.self h ≡ count_by (λ (b : Branch). length b == h) tree =
-    c.reach.ensures.same h ∙ counted.right h above in
-    omega
-    (arith, count, count_by-le-length (λ (b : Branch). length b == h) tree, c.requires.room, sound.limit)
+    let stored = window c.self.inside.forest in
+    let total = total-of c.self.inside.counts stored c.self.invariant.counted in
+    omega (
+      arith,
+      total,
+      blocks-length stored,
+      c.reach.ensures.total,
+      c.self.invariant.room,
+      c.self.invariant.limit,
+    )
 
 pub invariant_of-self-2 : goal.invariant_of-self-2
 invariant_of-self-2 c =
     let inside = c.self.inside in
-    let items = inside.nodes.items in
+    let f = inside.forest in
     let n = c.args.node in
-    let tree = blocks (all_stored_as (reverse items)) in
-    let pushed : c.push.new.self.items ≡ items ++ n ∷ [] =
-    rw c.unwrap.ensures at c.push.ensures.items
-    ∙ ap (λ (l : List Node). l ++ n ∷ []) c.reserve.ensures.items in
-    let all : length tree ≡ length (blocks c.args.self.now.stored) =
-    ap (λ (t : TreeState). length (blocks t.stored)) c.self.view_is in
-    let is : IsNode n tree =
-    subst (λ (t : TreeState). IsNode n (blocks t.stored)) (sym c.self.view_is) c.requires.node in
-    let room : length tree < inside.most =
+    let is = subst (λ (t : TreeState). IsNode t.horizon n (blocks t.stored)) (sym c.self.view_is)
+    c.requires.node in
+    let room : length (blocks (window f)) < inside.most =
     subst (λ (t : TreeState). length (blocks t.stored) < t.most) (sym c.self.view_is) c.requires.room in
-    let height : c.height-height.result ≡ length (block_in n.core tree) =
-    c.height-height.ensures ∙ is.height in
-    let wide = same-counts inside.counts c.reach.new.self tree c.self.invariant.counted c.reach.ensures.same
-    c.reach.ensures.longer in
-    let counted = one-more c.reach.new.self c.add_one.new.self (block_in n.core tree) tree
-    c.height-height.result height wide c.in_ok-reach.ensures.reached c.add_one.ensures.counts
-    c.add_one.ensures.long in
-    subst (λ (l : List Node). IsWhole inside.most inside.genesis (reverse l) c.insert.new.self
-    c.add_one.new.self) (sym pushed)
-    (added-whole inside.most inside.genesis items inside.index c.insert.new.self inside.counts
-    c.add_one.new.self n c.len-number.result c.self.invariant is room (c.len-number.ensures ∙ sym all)
-    c.in_ok-insert.ensures.entered counted)
+    let base = c.reach.ensures.base in
+    let wide = same-counts inside.counts c.reach.new.self (window f) c.self.invariant.counted base
+    c.reach.ensures.same c.reach.ensures.longer in
+    let above = is.above in
+    let below = is.justify in
+    let low = c.self.invariant.base in
+    let height = c.height-height.ensures in
+    let counted = one-more c.reach.new.self c.add_one.new.self (stored_as n (blocks (window f))) (window f)
+    c.height-height.result (c.height-height.ensures ∙ is.height) wide
+    (omega (arith, base, low, above, below, height)) c.in_ok-reach.ensures.reached c.add_one.ensures.base
+    c.add_one.ensures.counts c.add_one.ensures.long in
+    subst (λ (f : ForestState). IsWhole inside.most f c.add_one.new.self) (sym c.in_ok-push.ensures.taken)
+    (grown-whole inside.most f inside.counts c.add_one.new.self n c.self.invariant is room
+    (c.add_one.ensures.base ∙ base) counted)
 
 pub returns-clause-added : goal.returns-clause-added
 returns-clause-added c =
     let inside = c.self.inside in
-    let items = inside.nodes.items in
-    let pushed : c.push.new.self.items ≡ items ++ c.args.node ∷ [] =
-    rw c.unwrap.ensures at c.push.ensures.items
-    ∙ ap (λ (l : List Node). l ++ c.args.node ∷ []) c.reserve.ensures.items in
-    let value : List Stored → TreeState = λ l. record { most = inside.most; stored = l } in
-    ap (λ (l : List Node). value (all_stored_as (reverse l))) pushed
-    ∙ ap value (added-stored items c.args.node)
-    ∙ ap (λ (t : TreeState). let u : TreeState =
-    record { most = t.most; stored = stored_as c.args.node (blocks t.stored) ∷ t.stored } in u)
-    c.self.view_is
+    let f = inside.forest in
+    let n = c.args.node in
+    let is = subst (λ (t : TreeState). IsNode t.horizon n (blocks t.stored)) (sym c.self.view_is)
+    c.requires.node in
+    let value : ForestState → TreeState =
+    λ f. record { most = inside.most; horizon = f.horizon; stored = window f } in
+    ap value c.in_ok-push.ensures.taken
+    ∙ (ap (λ (l : List Stored). let u : TreeState =
+    record { most = inside.most; horizon = f.horizon; stored = l } in u)
+    (standing-grown f.horizon (stored_as n (blocks (window f))) f.all
+    (node-reach f.horizon n (blocks (window f)) is))
+    ∙ ap (λ (t : TreeState). let u : TreeState = record {
+      most = t.most;
+      horizon = t.horizon;
+      stored = stored_as n (blocks t.stored) ∷ t.stored;
+    } in u) c.self.view_is)

@@ -14,7 +14,7 @@ returns-in_ok-add-in-Grows c =
     let t = c.args.self.now in
     let core = core_of c.args.core.now in
     let q = certificate_of c.args.certificate.now in
-    let place = placing 0 t.most core q (blocks t.stored) in
+    let place = placing t.horizon t.most core q (blocks t.stored) in
     let planned : IsPlanned t core q c.args.clear (Ok (Grows c.in-Grows.node)) place =
     subst (λ (p : Plan). IsPlanned t core q c.args.clear (Ok p) place) c.in-Grows.is
     c.in_ok-digest.ensures in

@@ -3,14 +3,8 @@ use Rattle.definitions.specs.Trees.{blocks, placing}
 use Rattle.frames_view.specs.Views.{core_of, certificate_of}
 use Rattle.block_tree.specs.declared.node.Node.{Node}
 use Rattle.block_tree.specs.Insertions.{IsNodeFor}
-use Rattle.block_tree.proofs.Growing.{growth-node, growth-room, growth-parent}
-use Rattle.block_tree.proofs.Planning.{planned-grows}
+use Rattle.block_tree.proofs.Planning.{planned-grows, growth-node, growth-room}
 use Rattle.block_tree.proofs.tree.Tree.plan.Goals as goal
-
-pub links_over-links-requires : goal.links_over-links-requires
-links_over-links-requires c =
-    growth-parent c.args.self.now.most (core_of c.args.core.now) (certificate_of c.args.certificate.now)
-    (blocks c.args.self.now.stored) (ap Ok (sym c.in-Grows.is) ∙ c.in_ok-placing.ensures)
 
 pub returns-in_ok-node-in-Grows : goal.returns-in_ok-node-in-Grows
 returns-in_ok-node-in-Grows c =
@@ -23,19 +17,18 @@ returns-in_ok-node-in-Grows c =
       core = core;
       certificate = q;
       clear = c.args.clear;
-      links = c.links_over-links.result;
     } in
+    let below = c.args.core.now.fields.below in
     let is : IsNodeFor t core q c.args.clear node = record {
       digest = c.digest-digest.ensures;
       core = refl;
       certificate = refl;
       clear = refl;
       may_stand = record {
-        node = growth-node t.most node (blocks t.stored) c.digest-digest.ensures
-            c.args.core.now.fields.below c.links_over-links.ensures answer;
-        room = growth-room t.most core q (blocks t.stored) answer;
+        node = growth-node t.horizon t.most node (blocks t.stored) c.digest-digest.ensures below answer;
+        room = growth-room t.horizon t.most node (blocks t.stored) c.digest-digest.ensures below answer;
       };
     } in
-    planned-grows t core q c.args.clear c.in_ok-node-in-Grows.node (placing 0 t.most core q (blocks t.stored))
-    answer
+    planned-grows t core q c.args.clear c.in_ok-node-in-Grows.node
+    (placing t.horizon t.most core q (blocks t.stored)) answer
     (subst (IsNodeFor t core q c.args.clear) (sym c.in_ok-node-in-Grows.ensures.copied) is)
