@@ -13,7 +13,7 @@ use Rattle.frames_view.specs.Places.{IsProposalAt, IsBlockAt, IsVoteFrameAt, IsN
 use Rattle.frames_view.specs.Places.{IsFetchAt}
 use Rattle.admission.specs.declared.input.Input.{Input}
 use Rattle.admission.specs.declared.input.Input.TheVariants.{Proposal, Block, Vote as AVote, NewView, Request}
-use Rattle.admission.specs.declared.input.Input.TheVariants.{Fetch, Timeout, Beat}
+use Rattle.admission.specs.declared.input.Input.TheVariants.{Fetch, Timeout, Beat, Prune}
 use Rattle.admission.specs.Inputs.{input_of, is_addressed}
 
 -- each part of the frame that it lends lies in the bytes, at the place where the grammar has it
@@ -26,6 +26,7 @@ LiesIn bytes (Request r) = IsCommandAt bytes 1 r.view
 LiesIn bytes (Fetch f) = IsFetchAt bytes 1 f.view
 LiesIn bytes Timeout = ⊥
 LiesIn bytes Beat = ⊥
+LiesIn bytes (Prune height) = ⊥
 
 -- it says what passed, was checked for the replica of these keys, and lies in the bytes
 pub record Brings (keys : Keys) (bytes : Bor Bytes) (i : Input) : Type 0 where

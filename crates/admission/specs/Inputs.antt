@@ -13,7 +13,7 @@ use Rattle.frames_view.specs.Fields.{frame_vote}
 use Rattle.frames_view.specs.Views.{proposal_of, block_of, vote_frame_of, new_view_of, fetch_of, command_of}
 use Rattle.admission.specs.declared.input.Input.{Input}
 use Rattle.admission.specs.declared.input.Input.TheVariants.{Proposal, Block, Vote as AVote, NewView, Request}
-use Rattle.admission.specs.declared.input.Input.TheVariants.{Fetch, Timeout, Beat}
+use Rattle.admission.specs.declared.input.Input.TheVariants.{Fetch, Timeout, Beat, Prune}
 
 -- a proposal
 abbrev pub proposal_input : CheckedView ProposalView → rulings.Input
@@ -40,6 +40,7 @@ input_of (Request r) = rulings.request_in (command_of r.view)
 input_of (Fetch f) = rulings.fetch_in (frame_replica (fetch_of f.view)) (frame_digest (fetch_of f.view))
 input_of Timeout = rulings.timeout_in
 input_of Beat = rulings.beat_in
+input_of (Prune height) = rulings.prune_in height
 
 -- the same sizes
 abbrev pub same_sizes : Sizes → Sizes → Bool
@@ -49,7 +50,8 @@ same_sizes a b = (a.faults == b.faults) && (a.clients == b.clients)
 abbrev pub same_replica : Keys → Keys → Bool
 same_replica a b = (a.party == b.party) && same_sizes a.sizes b.sizes
 
--- the input was checked for the replica of these keys, at its sizes; timeouts and beats are for anyone
+-- the input was checked for the replica of these keys, at its sizes; timeouts, beats and prunings are
+-- for anyone
 abbrev pub is_addressed : Keys → Input → Bool
 is_addressed keys (Proposal p) = same_replica p.keys keys
 is_addressed keys (Block b) = same_replica b.keys keys
@@ -59,3 +61,4 @@ is_addressed keys (Request r) = same_replica r.keys keys
 is_addressed keys (Fetch f) = same_replica f.keys keys
 is_addressed keys Timeout = true
 is_addressed keys Beat = true
+is_addressed keys (Prune height) = true

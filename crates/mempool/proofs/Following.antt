@@ -9,11 +9,11 @@ use Rattle.std.specs.List.{list_any}
 use Rattle.definitions.specs.Frames.{Command}
 use Rattle.definitions.specs.Branches.{Branch}
 use Rattle.definitions.specs.Lists.{greatest}
-use Rattle.definitions.specs.Histories.{Entry, History, last_seq, history_of}
+use Rattle.definitions.specs.Histories.{Entry, History, last_seq}
 use Rattle.definitions.specs.Chronicles.{Chronicle, Step, Step.noted, Note.got_request, history, executed}
 use Rattle.definitions.specs.Chronicles.{decided, taken_blocks}
 use Rattle.definitions.specs.States.{is_due, is_same_request, pending, picks, with_request}
-use Rattle.mempool.specs.Laws.{FollowsRequest, IsLeftBy, IsPicked}
+use Rattle.mempool.specs.Laws.{unpruned, FollowsRequest, IsLeftBy, IsPicked}
 use Rattle.mempool.specs.Pool.{is_up_to, left_after, first_beside}
 
 pub filter-alike : {A : Type 0} (p q : A → Bool) → ((x : A) → p x ≡ q x) → (xs : List A)
@@ -142,11 +142,11 @@ abbrev is_entry_of : Command → Entry → Bool
 is_entry_of r e = (e.client == r.client) && (e.seq == r.seq)
 
 picked-whole : (c : Chronicle) (on : Branch)
-    → first_beside (map (λ e. (e.client, e.seq)) (history_of on)) (pending c) ≡ picks c on
+    → first_beside (map (λ e. (e.client, e.seq)) (unpruned c on)) (pending c) ≡ picks c on
 unfolding picks
 picked-whole c on = ap (take MOST_COMMANDS) (filter-alike _ _
     (λ r. ap not (any-mapped (λ (e : Entry). (e.client, e.seq)) (λ e. (e.0 == r.client) && (e.1 == r.seq))
-    (history_of on))) (pending c))
+    (unpruned c on))) (pending c))
 
 -- a request that isn't overtaken by an entry is another one
 apart : (a : Bool) (m n : ℕ) → not (a && nat_le n m) ≡ true → (a && (m == n)) ≡ false
@@ -170,6 +170,16 @@ any-appended : {A : Type 0} (p : A → Bool) (xs ys : List A) → list_any p ys 
 any-appended p [] ys none = none
 any-appended p (x ∷ xs) ys none = ap (λ b. p x || b) (any-appended p xs ys none)
 
+any-first : {A : Type 0} (p : A → Bool) (xs ys : List A) → list_any p (xs ++ ys) ≡ false
+    → list_any p xs ≡ false
+any-first p [] ys none = refl
+any-first p (x ∷ xs) ys none = by (p x) (any-first p xs ys) none
+  where
+    by : (b : Bool) → (list_any p (xs ++ ys) ≡ false → list_any p xs ≡ false)
+        → (b || list_any p (xs ++ ys)) ≡ false → (b || list_any p xs) ≡ false
+    by true rest h = absurd (true≢false h)
+    by false rest h = rest h
+
 -- tests that agree where a third one passes
 filter-alike-where : {A : Type 0} (d p q : A → Bool) → ((x : A) → d x ≡ true → p x ≡ q x) → (xs : List A)
     → filter p (filter d xs) ≡ filter q (filter d xs)
@@ -182,20 +192,22 @@ filter-alike-where d p q h (x ∷ xs) = by (d x) (h x) (filter-alike-where d p q
     by true same rest = λ i. cond (same refl i) (x ∷ rest i) (rest i)
     by false same rest = rest
 
-picked-above : (c : Chronicle) (on : Branch) (new : History) → history_of on ≡ new ++ history c
+picked-above : (c : Chronicle) (on : Branch) (new old older : History) → unpruned c on ≡ new ++ old
+    → history c ≡ old ++ older
     → first_beside (map (λ e. (e.client, e.seq)) new) (pending c) ≡ picks c on
 unfolding picks
-picked-above c on new goes =
+picked-above c on new old older goes is =
     let beside : History → Command → Bool = λ h r. not (list_any (is_entry_of r) h) in
     ap (take MOST_COMMANDS) (filter-alike _ (beside new)
     (λ r. ap not
     (any-mapped (λ (e : Entry). (e.client, e.seq)) (λ e. (e.0 == r.client) && (e.1 == r.seq)) new))
     (pending c)
     ∙ ap (filter (beside new)) (sym (pending-due c))
-    ∙ filter-alike-where (is_due (history c)) (beside new) (beside (new ++ history c))
-    (λ r d. ap not (sym (any-appended (is_entry_of r) new (history c) (not-executed (history c) r d))))
+    ∙ filter-alike-where (is_due (history c)) (beside new) (beside (new ++ old))
+    (λ r d. ap not (sym (any-appended (is_entry_of r) new old (any-first (is_entry_of r) old older
+    (ap (list_any (is_entry_of r)) (sym is) ∙ not-executed (history c) r d)))))
     (pending c)
-    ∙ ap (filter (beside (new ++ history c))) (pending-due c)
+    ∙ ap (filter (beside (new ++ old))) (pending-due c)
     ∙ ap (λ h. filter (beside h) (pending c)) (sym goes))
 
 pub picked : (c : Chronicle) (on : Branch) → IsPicked c on

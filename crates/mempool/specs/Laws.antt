@@ -1,9 +1,9 @@
 -- How a pool follows the chronicle of its replica.
-use Rattle.std.specs.Prelude.{◌≡◌, ◌∷◌, ◌++◌, map, true, false}
+use Rattle.std.specs.Prelude.{◌≡◌, ◌∷◌, ◌++◌, ◌-◌, map, take, length, true, false}
 use Rattle.definitions.specs.Frames.{Command}
 use Rattle.definitions.specs.Branches.{Branch}
 use Rattle.definitions.specs.Histories.{History, history_of}
-use Rattle.definitions.specs.Chronicles.{Chronicle, Step, Step.noted, Note.got_request, history}
+use Rattle.definitions.specs.Chronicles.{Chronicle, Step, Step.noted, Note.got_request, history, horizon}
 use Rattle.definitions.specs.States.{is_due, pending, picks, with_request}
 use Rattle.mempool.specs.Pool.{first_beside, left_after}
 
@@ -19,9 +19,13 @@ IsLeftBy c s new =
     with_request s (pending c) ≡ pending c → history (s ∷ c) ≡ new ++ history c
     → pending (s ∷ c) ≡ left_after new (pending c)
 
--- What is picked beside the clients and numbers of a branch is what a child of it takes; where the branch
--- goes on from what was executed, those of its commands above that are enough.
+-- the commands of a branch above the horizon
+abbrev pub unpruned : Chronicle → Branch → History
+unpruned c on = history_of (take (length on - horizon c) on)
+
+-- What is picked beside the clients and numbers of a branch above the horizon is what a child of it takes;
+-- what was executed may be left out there.
 pub record IsPicked (c : Chronicle) (on : Branch) : Type 0 where
-  pub whole : first_beside (map (λ e. (e.client, e.seq)) (history_of on)) (pending c) ≡ picks c on
-  pub above : (new : History) → history_of on ≡ new ++ history c
+  pub whole : first_beside (map (λ e. (e.client, e.seq)) (unpruned c on)) (pending c) ≡ picks c on
+  pub above : (new old older : History) → unpruned c on ≡ new ++ old → history c ≡ old ++ older
       → first_beside (map (λ e. (e.client, e.seq)) new) (pending c) ≡ picks c on

@@ -11,7 +11,7 @@ use Rattle.definitions.specs.Trees.{Stored, blocks, block_of, is_clear, clear_ab
 use Rattle.definitions.specs.Trees.{placing, IsTree}
 use Rattle.definitions.proofs.Branches.{extends-true, extends-from, extends-cases, Extends-trans}
 use Rattle.definitions.proofs.Branches.{branch_eq-decides, just1-extends, justify_height-just1}
-use Rattle.definitions.proofs.Trees.{IsGrowth, IsPlaced, placed, whole-below, growth-tree}
+use Rattle.definitions.proofs.Trees.{IsGrowth, IsPlaced, placed, tree-below, growth-tree}
 use Rattle.block_tree.proofs.Clear.{branch-differs, absent-clear}
 use Rattle.replica_rules.specs.Ruled.{ref_of}
 
@@ -76,29 +76,32 @@ clear-over b parent q clear all lt absent =
 
 -- ---- a block that the tests let stand
 
-pub grown : (most : ℕ) (core : Core) (q : Certificate) (t : List Branch) (b : Branch)
-    → placing 0 most core q t ≡ grows b → (parent : Branch) × IsGrowth 0 most core q t b parent
-grown most core q t b e = subst (λ (p : Placing). IsPlaced 0 most core q t p) e (placed 0 most core q t)
+pub grown : (horizon most : ℕ) (core : Core) (q : Certificate) (t : List Branch) (b : Branch)
+    → placing horizon most core q t ≡ grows b → (parent : Branch) × IsGrowth horizon most core q t b parent
+grown horizon most core q t b e =
+    subst (λ (p : Placing). IsPlaced horizon most core q t p) e (placed horizon most core q t)
 
 justify_of : (core : Core) (parent : Branch) → justify_height (block_of core ∷ parent) ≡ core.justify_height
 unfolding justify_height
 justify_of core parent = refl
 
-module _ (most : ℕ) (core : Core) (q : Certificate) (t : List Branch) (b parent : Branch) (tr : IsTree 0 t)
-    (below : core.justify_height < core.height) (g : IsGrowth 0 most core q t b parent) where
-  justified_height : length (just1 b) ≡ core.justify_height
-  justified_height =
-      justify_height-just1 b ((growth-tree 0 most core q t b parent tr below g).branches b (inl refl))
+module _ (horizon most : ℕ) (core : Core) (q : Certificate) (t : List Branch) (b parent : Branch)
+    (tr : IsTree horizon t) (below : core.justify_height < core.height)
+    (g : IsGrowth horizon most core q t b parent) where
+  pub justified-height : length (just1 b) ≡ core.justify_height
+  justified-height =
+      justify_height-just1 b ((growth-tree horizon most core q t b parent tr below g).branches b (inl refl))
       ∙ (ap justify_height g.is ∙ justify_of core parent)
 
   -- what it justifies stands in the tree
   pub just1-among : Among (just1 b) t
-  just1-among = elim (whole-below (b ∷ t) (growth-tree 0 most core q t b parent tr below g) b (just1 b)
-      (inl refl) (just1-extends b)) [
+  just1-among = elim (tree-below horizon (b ∷ t) (growth-tree horizon most core q t b parent tr below g) b
+      (just1 b) (inl refl) (just1-extends b)
+      (let above = g.above in omega (arith, justified-height, above))) [
         | inl e ↦ absurd (
             let k = ap (λ (x : Branch). length x) e in
             let i : length b ≡ suc (length parent) = ap (λ (x : Branch). length x) g.is in
-            omega (arith, k, i, justified_height, below, g.height))
+            omega (arith, k, i, justified-height, below, g.height))
         | inr m ↦ m
       ]
 
@@ -107,4 +110,4 @@ module _ (most : ℕ) (core : Core) (q : Certificate) (t : List Branch) (b paren
   just1-named =
       let d : digest_of (just1 b) ≡ q.digest =
       ap (λ (x : Branch). digest_of (just1 x)) g.is ∙ sym g.justified in
-      λ i. record { digest = d i; height = justified_height i }
+      λ i. record { digest = d i; height = justified-height i }

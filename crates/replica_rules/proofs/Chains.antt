@@ -1,15 +1,18 @@
 -- The chain below a block that stands in a tree, and what it decides.
-use Rattle.std.proofs.Common.{◌≡◌, ◌==◌, ◌&&◌, suc, not, Bool, true, false, List, length, cond}
-use Rattle.std.proofs.Common.{if◌then◌else◌, refl, sym, ap, subst, ◌∙◌, Option, Some, None, option_map, nat_lt}
+use Rattle.std.proofs.Common.{ℕ, ◌≡◌, ◌==◌, ◌&&◌, suc, not, Bool, true, false, List, length, cond}
+use Rattle.std.proofs.Common.{if◌then◌else◌, refl, sym, ap, subst, ◌∙◌, Option, Some, None, option_map}
+use Rattle.std.proofs.Common.{nat_lt}
+use Rattle.std.proofs.lemmas.Bool.{eqb-true}
 use Rattle.std.specs.Option.{option_and_then}
 use Rattle.definitions.specs.Bytes.{Bytes}
 use Rattle.definitions.specs.Lists.{Among}
-use Rattle.definitions.specs.Branches.{Branch, just1, just2, just3}
+use Rattle.definitions.specs.Branches.{Branch, just1, just2, just3, extends}
 use Rattle.definitions.specs.Digests.{digest_of}
 use Rattle.definitions.specs.Trees.{Stored, blocks, find_in, IsTree}
 use Rattle.definitions.specs.Chronicles.{Chronicle, decides, decides_against, executed}
-use Rattle.definitions.proofs.Branches.{just1-extends, just2-is, just3-is, just3-below, justify_height-just1}
-use Rattle.definitions.proofs.Trees.{found-in, found-itself, whole-below}
+use Rattle.definitions.proofs.Branches.{just2-is, just3-is, justify_height-just1}
+use Rattle.definitions.proofs.Trees.{found-in, found-itself}
+use Rattle.definitions.proofs.Windows.{IsChainSeen}
 use Rattle.replica_rules.specs.declared.block_ref.BlockRef.{BlockRef}
 use Rattle.replica_rules.specs.declared.chain.Chain.{Chain}
 use Rattle.replica_rules.specs.Ruled.{ref_of}
@@ -34,12 +37,16 @@ chain_of b = chain_by b (length (just1 b) == suc (length (just2 b)))
 abbrev pub executed_with : Branch → Branch → Branch
 executed_with e b = if decides b then (if nat_lt (length e) (length (just3 b)) then just3 b else e) else e
 
-third_by : (t : Bool) (x y : BlockRef) {o : Option BlockRef} → o ≡ Some x
-    → cond t o (Some y) ≡ Some (cond t x y)
-third_by true x y e = e
-third_by false x y e = refl
+-- the third block is asked for only where the second is the next one below the first
+third_found : (all : List Stored) (b : Branch)
+    → (length (just1 b) ≡ suc (length (just2 b))
+    → justified_in (digest_of (just2 b)) all ≡ Some (ref_of (just3 b)))
+    → (t : Bool) → (length (just1 b) == suc (length (just2 b))) ≡ t
+    → cond t (justified_in (digest_of (just2 b)) all) (Some (ref_of (just2 b))) ≡ Some (chain_by b t).third
+third_found all b asked true e = asked (eqb-true (length (just1 b)) (suc (length (just2 b))) e)
+third_found all b asked false e = refl
 
-module _ (all : List Stored) (tr : IsTree 0 (blocks all)) where
+module _ (horizon : ℕ) (all : List Stored) (tr : IsTree horizon (blocks all)) where
   pub justified-found : (d : Bytes) (b : Branch) → find_in d (blocks all) ≡ Some b
       → justified_in d all ≡ Some (ref_of (just1 b))
   justified-found d b f =
@@ -50,28 +57,21 @@ module _ (all : List Stored) (tr : IsTree 0 (blocks all)) where
   -- of a block that stands there by its own digest
   justified_itself : (b : Branch) → Among b (blocks all)
       → justified_in (digest_of b) all ≡ Some (ref_of (just1 b))
-  justified_itself b m = justified-found (digest_of b) b (found-itself 0 (blocks all) tr b m)
+  justified_itself b m = justified-found (digest_of b) b (found-itself horizon (blocks all) tr b m)
 
-  pub chain-found : (b : Branch) → Among (just1 b) (blocks all)
+  pub chain-found : (b : Branch) → IsChainSeen (blocks all) b
       → chain_in (ref_of (just1 b)) all ≡ Some (chain_of b)
-  chain-found b m =
+  chain-found b seen =
       let two : justified_in (digest_of (just1 b)) all ≡ Some (ref_of (just2 b)) =
-      justified_itself (just1 b) m ∙ ap (λ (x : Branch). Some (ref_of x)) (just2-is b) in
-      let among : Among (just1 (just1 b)) (blocks all) =
-      whole-below (blocks all) tr (just1 b) (just1 (just1 b)) m (just1-extends (just1 b)) in
-      let among2 : Among (just2 b) (blocks all) =
-      subst (λ (x : Branch). Among x (blocks all)) (just2-is b) among in
-      let three : justified_in (digest_of (just2 b)) all ≡ Some (ref_of (just3 b)) =
-      justified_itself (just2 b) among2 ∙ ap (λ (x : Branch). Some (ref_of x)) (just3-is b) in
+      justified_itself (just1 b) seen.first ∙ ap (λ (x : Branch). Some (ref_of x)) (just2-is b) in
       let asked : third_in (length (just1 b)) (ref_of (just2 b)) all ≡ Some (chain_of b).third =
-      third_by (length (just1 b) == suc (length (just2 b))) _ _ three in
+      third_found all b
+      (λ e. justified_itself (just2 b) (seen.second e) ∙ ap (λ (x : Branch). Some (ref_of x)) (just3-is b))
+      (length (just1 b) == suc (length (just2 b))) refl in
       ap (option_and_then (chain_over (ref_of (just1 b)) all)) two
       ∙ ap (option_map (λ (third : BlockRef).
       record { first = ref_of (just1 b); second = ref_of (just2 b); third = third }))
       asked
-
-  pub third-among : (b : Branch) → Among (just1 b) (blocks all) → Among (just3 b) (blocks all)
-  third-among b m = whole-below (blocks all) tr (just1 b) (just3 b) m (just3-below b)
 
 and_false : (x y : Bool) → y ≡ false → (x && y) ≡ false
 and_false true y e = e
@@ -97,31 +97,41 @@ pub decided-is : {A : Type 0} (f : Bool → BlockRef → A) (b : Branch)
 decided-is f b same = decided_by f b same (length (just1 b) == suc (length (just2 b))) refl
 
 -- what the block of a digest decides
-pub decided-found : (all : List Stored) (d : Bytes) (b : Branch) → IsTree 0 (blocks all)
-    → find_in d (blocks all) ≡ Some b
+pub decided-found : (horizon : ℕ) (all : List Stored) (d : Bytes) (b : Branch) → IsTree horizon (blocks all)
+    → find_in d (blocks all) ≡ Some b → IsChainSeen (blocks all) b
     → decided_in d all ≡ (if decides b then Some (digest_of (just3 b)) else None)
-decided-found all d b tr f =
-    let among = whole-below (blocks all) tr b (just1 b) (found-in d (blocks all) b f).0 (just1-extends b) in
+decided-found horizon all d b tr f seen =
     ap (option_and_then (λ (first : BlockRef). option_and_then decided_with (chain_in first all)))
-    (justified-found all tr d b f)
-    ∙ ap (option_and_then decided_with) (chain-found all tr b among)
+    (justified-found horizon all tr d b f)
+    ∙ ap (option_and_then decided_with) (chain-found horizon all tr b seen)
     ∙ decided-is (λ t x. cond t (Some x.digest) None) b (λ x y. refl)
 
+-- what decides nothing conflicts with nothing
+only_deciding : (t x y : Bool) → (t ≡ true → x ≡ y) → (t && x) ≡ (t && y)
+only_deciding true x y f = f refl
+only_deciding false x y f = refl
+
 -- it decides against the last executed block where its branch does
-pub against-found : (all : List Stored) (c : Chronicle) (b : Branch) → Holds all c
-    → Among (just1 b) (blocks all)
+pub against-found : (horizon : ℕ) (all : List Stored) (c : Chronicle) (b : Branch) → Holds horizon all c
+    → IsChainSeen (blocks all) b
     → decides_against_in (ref_of (executed c)) (chain_of b) all ≡ decides_against (executed c) b
-against-found all c b h m =
-    let third = found-itself 0 (blocks all) h.is_tree (just3 b) (third-among all h.is_tree b m) in
-    let last = executed-found all c h in
-    let up =
-    extends-found (digest_of (just3 b)) (digest_of (executed c)) (blocks all) (just3 b) (executed c) third
-    last in
-    let down =
-    extends-found (digest_of (executed c)) (digest_of (just3 b)) (blocks all) (executed c) (just3 b) last
-    third in
+against-found horizon all c b h seen =
     decided-is (λ t x. t && conflict_in x.digest (digest_of (executed c)) (blocks all)) b (λ x y. refl)
-    ∙ (λ i. decides b && (not (up i) && not (down i)))
+    ∙ only_deciding (decides b) _ _ (λ d. conflicts (seen.third d))
+  where
+    last : find_in (digest_of (executed c)) (blocks all) ≡ Some (executed c)
+    last = executed-found horizon all c h
+
+    conflicts : Among (just3 b) (blocks all)
+        → conflict_in (digest_of (just3 b)) (digest_of (executed c)) (blocks all)
+        ≡ (not (extends (just3 b) (executed c)) && not (extends (executed c) (just3 b)))
+    conflicts m =
+        let third = found-itself horizon (blocks all) h.is_tree (just3 b) m in
+        let up = extends-found (digest_of (just3 b)) (digest_of (executed c)) (blocks all) (just3 b)
+        (executed c) third last in
+        let down = extends-found (digest_of (executed c)) (digest_of (just3 b)) (blocks all) (executed c)
+        (just3 b) last third in
+        λ i. not (up i) && not (down i)
 
 pub higher-ref : (x y : Branch) (t : Bool) → cond t (ref_of y) (ref_of x) ≡ ref_of (cond t y x)
 higher-ref x y true = refl

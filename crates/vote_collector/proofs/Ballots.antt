@@ -8,7 +8,8 @@ use Rattle.std.proofs.lemmas.Slice.Eq.{bytes_eq-Decides}
 use Rattle.ids.specs.Sizes.{Sizes, quorum}
 use Rattle.definitions.specs.Bytes.{Bytes}
 use Rattle.definitions.specs.Frames.{Vote}
-use Rattle.definitions.specs.Branches.{Branch}
+use Rattle.definitions.specs.Branches.{Branch, branch_eq}
+use Rattle.definitions.proofs.Branches.{branch_eq-decides}
 use Rattle.definitions.specs.Digests.{digest_of}
 use Rattle.definitions.specs.Chronicles.{Chronicle, Step.noted, Note.got_vote}
 use Rattle.definitions.specs.States.{votes, insert_vote, by_voter, raised, Justified, higher}
@@ -60,40 +61,52 @@ judged-says most voter xs =
 pub same_digest : (d : Bytes) → bytes_eq d d ≡ true
 same_digest d = (bytes_eq-Decides d d).1 refl
 
+same_branch : (b : Branch) → branch_eq b b ≡ true
+same_branch b = (branch_eq-decides b b).1 refl
+
+-- blocks of other digests are other blocks
+pub other_branch : (b x : Branch) → bytes_eq (digest_of b) (digest_of x) ≡ false → branch_eq b x ≡ false
+other_branch b x other = by (branch_eq b x) refl
+  where
+    by : (t : Bool) → branch_eq b x ≡ t → t ≡ false
+    by false e = refl
+    by true e = absurd (true≢false (sym ((bytes_eq-Decides (digest_of b) (digest_of x)).1
+        (ap digest_of ((branch_eq-decides b x).0 e))) ∙ other))
+
 module _ (s : Sizes) (c : Chronicle) (voter : ℕ) (v : Bytes) (b : Branch) where
   abbrev pub vote_of_it : Vote
   vote_of_it = record { voter = voter; vector = v }
 
-  -- votes for other digests stay
-  pub votes-other : (d : Bytes) → bytes_eq (digest_of b) d ≡ false
-      → votes s d (noted (got_vote voter v b) ∷ c) ≡ votes s d c
+  -- votes for other blocks stay
+  pub votes-other : (x : Branch) → branch_eq b x ≡ false
+      → votes s x (noted (got_vote voter v b) ∷ c) ≡ votes s x c
   unfolding votes
-  votes-other d other =
+  votes-other x other =
       ap (λ (t : Bool). cond (t
-      && (not (list_any (λ (x : Vote). x.voter == voter) (votes s d c)) && nat_lt
-      (length (votes s d c)) (quorum s))) (vote_of_it ∷ votes s d c) (votes s d c)) other
+      && (not (list_any (λ (y : Vote). y.voter == voter) (votes s x c)) && nat_lt
+      (length (votes s x c)) (quorum s))) (vote_of_it ∷ votes s x c) (votes s x c)) other
 
   -- a second vote isn't kept
-  pub votes-doubled : has_voter voter (votes s (digest_of b) c) ≡ true
-      → votes s (digest_of b) (noted (got_vote voter v b) ∷ c) ≡ votes s (digest_of b) c
+  pub votes-doubled : has_voter voter (votes s b c) ≡ true
+      → votes s b (noted (got_vote voter v b) ∷ c) ≡ votes s b c
   unfolding votes
   votes-doubled doubled =
-      let xs = votes s (digest_of b) c in
+      let xs = votes s b c in
       ap (λ (t : Bool). cond
       (t && (not (list_any (λ (x : Vote). x.voter == voter) xs) && nat_lt (length xs) (quorum s)))
-      (vote_of_it ∷ xs) xs) (same_digest (digest_of b))
+      (vote_of_it ∷ xs) xs) (same_branch b)
       ∙ ap (λ (t : Bool). cond (not t && nat_lt (length xs) (quorum s)) (vote_of_it ∷ xs) xs) doubled
 
   -- a first one is, below a quorum
-  pub votes-first : has_voter voter (votes s (digest_of b) c) ≡ false
-      → length (votes s (digest_of b) c) < quorum s
-      → votes s (digest_of b) (noted (got_vote voter v b) ∷ c) ≡ vote_of_it ∷ votes s (digest_of b) c
+  pub votes-first : has_voter voter (votes s b c) ≡ false
+      → length (votes s b c) < quorum s
+      → votes s b (noted (got_vote voter v b) ∷ c) ≡ vote_of_it ∷ votes s b c
   unfolding votes
   votes-first first few =
-      let xs = votes s (digest_of b) c in
+      let xs = votes s b c in
       ap (λ (t : Bool). cond
       (t && (not (list_any (λ (x : Vote). x.voter == voter) xs) && nat_lt (length xs) (quorum s)))
-      (vote_of_it ∷ xs) xs) (same_digest (digest_of b))
+      (vote_of_it ∷ xs) xs) (same_branch b)
       ∙ ap (λ (t : Bool). cond (not t && nat_lt (length xs) (quorum s)) (vote_of_it ∷ xs) xs) first
       ∙ ap (λ (t : Bool). cond t (vote_of_it ∷ xs) xs) (lt-ltb (length xs) (quorum s) few)
 
@@ -104,13 +117,13 @@ module _ (s : Sizes) (c : Chronicle) (voter : ℕ) (v : Bytes) (b : Branch) wher
     certificate =
         record {
           digest = digest_of b;
-          votes = by_voter (votes s (digest_of b) (noted (got_vote voter v b) ∷ c));
+          votes = by_voter (votes s b (noted (got_vote voter v b) ∷ c));
         };
   }
 
   raised-is : raised s (noted (got_vote voter v b)) c
-      ≡ cond (nat_lt (length (votes s (digest_of b) c)) (quorum s)
-      && (length (votes s (digest_of b) (noted (got_vote voter v b) ∷ c)) == quorum s)) (Some Made) None
+      ≡ cond (nat_lt (length (votes s b c)) (quorum s)
+      && (length (votes s b (noted (got_vote voter v b) ∷ c)) == quorum s)) (Some Made) None
   unfolding raised
   raised-is = refl
 
@@ -125,39 +138,39 @@ module _ (s : Sizes) (c : Chronicle) (voter : ℕ) (v : Bytes) (b : Branch) wher
       → higher (raised s (noted (got_vote voter v b)) c) q ≡ q
   raised-lower q le =
       ap (λ (o : Option Justified). higher o q) raised-is
-      ∙ higher-lower (nat_lt (length (votes s (digest_of b) c)) (quorum s)
-      && (length (votes s (digest_of b) (noted (got_vote voter v b) ∷ c)) == quorum s)) Made q le
+      ∙ higher-lower (nat_lt (length (votes s b c)) (quorum s)
+      && (length (votes s b (noted (got_vote voter v b) ∷ c)) == quorum s)) Made q le
 
   both_false : (a t : Bool) → t ≡ false → (a && t) ≡ false
   both_false true t e = e
   both_false false t e = refl
 
   -- nothing, where it doesn't make a quorum
-  pub raised-none : (length (votes s (digest_of b) (noted (got_vote voter v b) ∷ c)) ≡ quorum s → ⊥)
+  pub raised-none : (length (votes s b (noted (got_vote voter v b) ∷ c)) ≡ quorum s → ⊥)
       → raised s (noted (got_vote voter v b)) c ≡ None
   raised-none few =
       raised-is
-      ∙ cond-false _ (Some Made) None (both_false (nat_lt (length (votes s (digest_of b) c)) (quorum s))
-      (length (votes s (digest_of b) (noted (got_vote voter v b) ∷ c)) == quorum s)
-      (ne_eqb (length (votes s (digest_of b) (noted (got_vote voter v b) ∷ c))) (quorum s) few))
+      ∙ cond-false _ (Some Made) None (both_false (nat_lt (length (votes s b c)) (quorum s))
+      (length (votes s b (noted (got_vote voter v b) ∷ c)) == quorum s)
+      (ne_eqb (length (votes s b (noted (got_vote voter v b) ∷ c))) (quorum s) few))
 
   -- the certificate of a quorum
-  pub raised-made : has_voter voter (votes s (digest_of b) c) ≡ false
-      → length (votes s (digest_of b) c) + 1 ≡ quorum s
+  pub raised-made : has_voter voter (votes s b c) ≡ false
+      → length (votes s b c) + 1 ≡ quorum s
       → raised s (noted (got_vote voter v b)) c
       ≡ Some (record {
         block = b;
         certificate =
             record {
               digest = digest_of b;
-              votes = insert_vote vote_of_it (by_voter (votes s (digest_of b) c));
+              votes = insert_vote vote_of_it (by_voter (votes s b c));
             };
       })
   unfolding by_voter
   raised-made first full =
-      let xs = votes s (digest_of b) c in
+      let xs = votes s b c in
       let now = votes-first first (omega (arith, full)) in
-      let count : (length (votes s (digest_of b) (noted (got_vote voter v b) ∷ c)) == quorum s) ≡ true =
+      let count : (length (votes s b (noted (got_vote voter v b) ∷ c)) == quorum s) ≡ true =
       same_eqb _ _ (ap length now ∙ more (length xs) (quorum s) full) in
       raised-is
       ∙ cond-true _ (Some Made) None (both_true (nat_lt (length xs) (quorum s)) _

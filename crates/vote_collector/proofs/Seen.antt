@@ -2,18 +2,22 @@
 use Rattle.std.proofs.Common.{ℕ, suc, ◌≡◌, ◌+◌, ◌<◌, ◌≤◌, ◌==◌, inl, inr, Bool, true, false, Option, Some}
 use Rattle.std.proofs.Common.{None, List, [], ◌∷◌, length, refl, sym, ap, subst, ◌∙◌, arith, nat_lt}
 use Rattle.std.proofs.Common.{bytes_eq}
-use Rattle.std.proofs.lemmas.Bool.{cond_both, cond-true, cond-false, lt-ltb, ltb-true, cases_lt}
+use Rattle.std.proofs.lemmas.Bool.{cond-true, cond-false, lt-ltb, ltb-true, cases_lt}
 use Rattle.std.proofs.lemmas.Slice.Eq.{bytes_eq-Decides}
 use Rattle.ids.specs.Sizes.{Sizes, quorum}
 use Rattle.definitions.specs.Bytes.{Bytes}
 use Rattle.definitions.specs.Lists.{Among}
 use Rattle.definitions.specs.Frames.{Vote}
-use Rattle.definitions.specs.Branches.{Branch}
+use Rattle.definitions.specs.Branches.{Branch, branch_eq}
+use Rattle.definitions.proofs.Branches.{branch_eq-decides}
+use Rattle.definitions.proofs.Horizons.{high-window, window-tree, tree-window, window-cases, window-genesis}
+use Rattle.definitions.proofs.Horizons.{higher-rises}
 use Rattle.definitions.specs.Digests.{digest_of}
 use Rattle.definitions.specs.Trees.{find_in, IsTree}
 use Rattle.definitions.specs.Chronicles.{Chronicle, Step, Note, Step.took_block, Step.noted, Note.got_vote}
 use Rattle.definitions.specs.Chronicles.{Note.got_new_view, Note.got_request, Note.got_fetch}
-use Rattle.definitions.specs.Chronicles.{Note.timed_out, Note.beat, stored_blocks, taken_blocks, tree}
+use Rattle.definitions.specs.Chronicles.{Note.timed_out, Note.beat, Note.pruned, Admitted, stored_blocks}
+use Rattle.definitions.specs.Chronicles.{taken_blocks, tree, horizon, standing_blocks, window}
 use Rattle.definitions.specs.States.{Justified, votes, by_voter, insert_vote, raised, higher, qc_high}
 use Rattle.definitions.proofs.Trees.{found-in, not-found}
 use Rattle.definitions.proofs.Chronicles.{tree-grows}
@@ -26,6 +30,7 @@ use Rattle.vote_collector.specs.Lawful.{BringsNoVote}
 use Rattle.vote_collector.proofs.Entries.{Seen, entry_with, votes-with, seen_with, votes_at, entry_above}
 use Rattle.vote_collector.proofs.Entries.{seen_above}
 use Rattle.vote_collector.proofs.Ballots.{Says, any-by_voter, judged-says, same_digest, votes-other}
+use Rattle.vote_collector.proofs.Ballots.{other_branch}
 use Rattle.vote_collector.proofs.Ballots.{votes-doubled, votes-first, raised-lower, raised-none}
 use Rattle.vote_collector.proofs.Ballots.{raised-made}
 
@@ -34,7 +39,7 @@ pub record IsVotesIn (s : Sizes) (c : Chronicle) (kept : Seen) : Type 0 where
   pub above : (b : Branch) → Among b (tree c) → certified s c < length b
       → AreCollected s c (votes_at (digest_of b) kept) b
   pub alone : (d : Bytes) (e : Entry) → kept d ≡ Some e → IsOfBlock s c d e
-  pub unknown : (d : Bytes) → ((b : Branch) → Among b (tree c) → digest_of b ≡ d → ⊥) → votes s d c ≡ []
+  pub unknown : (b : Branch) → (Among b (tree c) → ⊥) → votes s b c ≡ []
 
 -- so they are, with this highest certificate
 abbrev pub IsLeft : Sizes → Chronicle → Seen → Justified → Type 0
@@ -85,17 +90,31 @@ unfolding tree stored_blocks taken_blocks
 tree-none b (inl e) = e
 tree-none b (inr m) = absurd m
 
-pub votes-none : (s : Sizes) (d : Bytes) → votes s d [] ≡ []
+pub votes-none : (s : Sizes) (b : Branch) → votes s b [] ≡ []
 unfolding votes
-votes-none s d = refl
+votes-none s b = refl
+
+-- ---- the window
+
+-- of the blocks above the highest certificate's each digest has one
+pub one-high : (s : Sizes) (c : Chronicle) → IsTree (horizon c) (window c) → (x y : Branch) → Among x (tree c)
+    → Among y (tree c) → certified s c < length x → certified s c < length y → digest_of x ≡ digest_of y
+    → x ≡ y
+one-high s c tr x y m n l k e =
+    tr.one x y (high-window s c x m (omega (arith, l))) (high-window s c y n (omega (arith, k))) e
+
+-- a block that is taken takes nothing out
+window-took : (a : Admitted) (c : Chronicle) (y : Branch) → Among y (window c)
+    → Among y (window (took_block a ∷ c))
+unfolding horizon
+window-took a c y m =
+    elim (window-cases c y m) [
+      | inl e ↦ subst (λ (x : Branch). Among x (window (took_block a ∷ c))) (sym e)
+          (window-genesis (took_block a ∷ c))
+      | inr r ↦ tree-window (took_block a ∷ c) y (tree-grows (took_block a) c y r.0) r.1
+    ]
 
 -- ---- one step
-
-higher-rises : (o : Option Justified) (q : Justified) → length q.block ≤ length (higher o q).block
-higher-rises None q = omega arith
-higher-rises (Some p) q = cond_both (nat_lt (length q.block) (length p.block)) p q
-    (λ (x : Justified). length q.block ≤ length x.block)
-    (λ e. let w = ltb-true (length q.block) (length p.block) e in omega (arith, w)) (λ e. omega arith)
 
 qc-next : (s : Sizes) (st : Step) (c : Chronicle) → qc_high s (st ∷ c) ≡ higher (raised s st c) (qc_high s c)
 unfolding qc_high
@@ -126,9 +145,10 @@ module _ (s : Sizes) (st : Step) (c : Chronicle) (kept : Seen) (of : IsVotesIn s
         higher = omega (arith, both.1, w.its_height);
       }
 
-  module _ (tr : IsTree 0 (tree (st ∷ c))) (x : Branch) (above : certified s (st ∷ c) < length x) where
+  module _ (old : IsTree (horizon c) (window c)) (tr : IsTree (horizon (st ∷ c)) (window (st ∷ c)))
+      (x : Branch) (above : certified s (st ∷ c) < length x) where
     -- the votes for a higher block stay
-    votes-stay : Among x (tree (st ∷ c))
+    votes-stay : Among x (tree c)
         → votes_at (digest_of x) (seen_above (certified s (st ∷ c)) kept) ≡ votes_at (digest_of x) kept
     votes-stay m = go (kept (digest_of x)) refl
       where
@@ -137,75 +157,109 @@ module _ (s : Sizes) (st : Step) (c : Chronicle) (kept : Seen) (of : IsVotesIn s
         go None e = refl
         go (Some y) e =
             let w = of.alone (digest_of x) y e in
-            let same : w.block ≡ x = tr.one w.block x (tree-grows st c w.block w.among) m w.its_digest in
+            let rises = certified-rises s st c in
+            let same : w.block ≡ x =
+            one-high s c old w.block x w.among m w.higher (omega (arith, rises, above)) w.its_digest in
             ap votes_in (above-stays (certified s (st ∷ c)) y
             (let h = ap (λ (z : Branch). length z) same in omega (arith, above, h, w.its_height)))
 
     above-next : (new : Seen) → Among x (tree c)
         → new (digest_of x) ≡ entry_above (certified s (st ∷ c)) (kept (digest_of x))
-        → votes s (digest_of x) (st ∷ c) ≡ votes s (digest_of x) c
+        → votes s x (st ∷ c) ≡ votes s x c
         → AreCollected s (st ∷ c) (votes_at (digest_of x) new) x
     above-next new m is same =
         let rises = certified-rises s st c in
         let w = of.above x m (omega (arith, rises, above)) in
         record {
-          same = ap votes_in is ∙ votes-stay (tree-grows st c x m) ∙ w.same ∙ ap by_voter (sym same);
+          same = ap votes_in is ∙ votes-stay m ∙ w.same ∙ ap by_voter (sym same);
           few = let n = ap (λ (l : List Vote). length l) same in omega (arith, n, w.few);
         }
 
     -- no votes were there for a block that is new
-    above-new : ((y : Branch) → Among y (tree c) → digest_of y ≡ digest_of x → ⊥)
-        → votes s (digest_of x) (st ∷ c) ≡ votes s (digest_of x) c
+    above-new : (Among x (tree c) → ⊥) → Among x (tree (st ∷ c)) → votes s x (st ∷ c) ≡ votes s x c
         → AreCollected s (st ∷ c) (votes_at (digest_of x) (seen_above (certified s (st ∷ c)) kept)) x
-    above-new none same =
-        let no_votes : votes s (digest_of x) (st ∷ c) ≡ [] = same ∙ of.unknown (digest_of x) none in
+    above-new none m same =
+        let no_votes : votes s x (st ∷ c) ≡ [] = same ∙ of.unknown x none in
         record {
           same = go (kept (digest_of x)) refl ∙ by_voter-none ∙ ap by_voter (sym no_votes);
           few = let n = ap (λ (l : List Vote). length l) no_votes in omega (arith, n);
         }
       where
+        some : (y z : Entry) → kept (digest_of x) ≡ Some y → (Some y ≡ Some z)
+            × (certified s (st ∷ c) < z.height) → ⊥
+        some y z e both =
+            let w = of.alone (digest_of x) y e in
+            let same_height = height_of y z both.0 in
+            let same_block : w.block ≡ x =
+            one-high s (st ∷ c) tr w.block x (tree-grows st c w.block w.among) m
+            (let i = w.its_height in let h = both.1 in omega (arith, i, h, same_height)) above
+            w.its_digest in
+            none (subst (λ (b : Branch). Among b (tree c)) same_block w.among)
+
+        left : (y : Entry) → kept (digest_of x) ≡ Some y → (p : Option Entry)
+            → entry_above (certified s (st ∷ c)) (Some y) ≡ p → votes_in p ≡ []
+        left y e None is = refl
+        left y e (Some z) is =
+            absurd (some y z e (stays-above (certified s (st ∷ c)) (Some y) z is))
+
         go : (o : Option Entry) → kept (digest_of x) ≡ o
             → votes_in (entry_above (certified s (st ∷ c)) o) ≡ []
         go None e = refl
-        go (Some y) e = let w = of.alone (digest_of x) y e in absurd (none w.block w.among w.its_digest)
+        go (Some y) e = left y e (entry_above (certified s (st ∷ c)) (Some y)) refl
 
 -- ---- a step that brings no vote
 
-votes-silent : (s : Sizes) (d : Bytes) (st : Step) (c : Chronicle) → BringsNoVote st
-    → votes s d (st ∷ c) ≡ votes s d c
+votes-silent : (s : Sizes) (x : Branch) (st : Step) (c : Chronicle) → BringsNoVote st
+    → votes s x (st ∷ c) ≡ votes s x c
 unfolding votes
-votes-silent s d (took_block a) c h = refl
-votes-silent s d (noted (got_vote voter v b)) c h = absurd h
-votes-silent s d (noted (got_new_view view sender q b)) c h = refl
-votes-silent s d (noted (got_request r)) c h = refl
-votes-silent s d (noted (got_fetch sender b)) c h = refl
-votes-silent s d (noted timed_out) c h = refl
-votes-silent s d (noted beat) c h = refl
+votes-silent s x (took_block a) c h = refl
+votes-silent s x (noted (got_vote voter v b)) c h = absurd h
+votes-silent s x (noted (got_new_view view sender q b)) c h = refl
+votes-silent s x (noted (got_request r)) c h = refl
+votes-silent s x (noted (got_fetch sender b)) c h = refl
+votes-silent s x (noted timed_out) c h = refl
+votes-silent s x (noted beat) c h = refl
+votes-silent s x (noted (pruned height)) c h = refl
+
+pub tree-noted : (n : Note) (c : Chronicle) → tree (noted n ∷ c) ≡ tree c
+unfolding tree stored_blocks taken_blocks
+tree-noted n c = refl
 
 pub seen-else : (s : Sizes) (c : Chronicle) (kept : Seen) (st : Step) → BringsNoVote st
-    → IsTree 0 (tree (st ∷ c)) → IsVotesIn s c kept
+    → IsTree (horizon c) (window c) → IsTree (horizon (st ∷ c)) (window (st ∷ c)) → IsVotesIn s c kept
     → IsVotesIn s (st ∷ c) (seen_above (certified s (st ∷ c)) kept)
-seen-else s c kept st silent tr of = record {
-  above = λ x m l. above x m l;
+seen-else s c kept st silent old tr of = record {
+  above = λ x m l. above st silent tr x m l;
   alone = λ d e is. alone-next s st c kept of (seen_above (certified s (st ∷ c)) kept) d e refl is;
-  unknown = λ d none. votes-silent s d st c silent ∙ of.unknown d (λ b m e. none b (tree-grows st c b m) e);
+  unknown = λ b none. votes-silent s b st c silent ∙ of.unknown b (λ m. none (tree-grows st c b m));
 }
   where
-    above : (x : Branch) → Among x (tree (st ∷ c)) → certified s (st ∷ c) < length x
+    above : (st : Step) → BringsNoVote st → IsTree (horizon (st ∷ c)) (window (st ∷ c)) → (x : Branch)
+        → Among x (tree (st ∷ c)) → certified s (st ∷ c) < length x
         → AreCollected s (st ∷ c) (votes_at (digest_of x) (seen_above (certified s (st ∷ c)) kept)) x
-    above x m l = go (find_in (digest_of x) (tree c)) refl
+    above (noted n) silent tr x m l =
+        above-next s (noted n) c kept of old tr x l (seen_above (certified s (noted n ∷ c)) kept)
+        (subst (λ (t : List Branch). Among x t) (tree-noted n c) m) refl (votes-silent s x (noted n) c silent)
+    above (took_block a) silent tr x m l = go (find_in (digest_of x) (window c)) refl
       where
-        go : (o : Option Branch) → find_in (digest_of x) (tree c) ≡ o
-            → AreCollected s (st ∷ c) (votes_at (digest_of x) (seen_above (certified s (st ∷ c)) kept)) x
-        go None e = above-new s st c kept of tr x l
-            (λ y k same. not-found (digest_of x) (tree c) y e k same)
-            (votes-silent s (digest_of x) st c silent)
+        next : Step
+        next = took_block a
+
+        high : certified s c < length x
+        high = let rises = certified-rises s next c in omega (arith, rises, l)
+
+        go : (o : Option Branch) → find_in (digest_of x) (window c) ≡ o
+            → AreCollected s (next ∷ c) (votes_at (digest_of x) (seen_above (certified s (next ∷ c)) kept)) x
+        go None e = above-new s next c kept of old tr x l
+            (λ k. not-found (digest_of x) (window c) x e (high-window s c x k (omega (arith, high))) refl) m
+            (votes-silent s x next c silent)
         go (Some y) e =
-            let r = found-in (digest_of x) (tree c) y e in
-            let same : y ≡ x = tr.one y x (tree-grows st c y r.0) m r.1 in
-            above-next s st c kept of tr x l (seen_above (certified s (st ∷ c)) kept)
-            (subst (λ (z : Branch). Among z (tree c)) same r.0) refl
-            (votes-silent s (digest_of x) st c silent)
+            let r = found-in (digest_of x) (window c) y e in
+            let same : y ≡ x =
+            tr.one y x (window-took a c y r.0) (high-window s (next ∷ c) x m (omega (arith, l))) r.1 in
+            above-next s next c kept of old tr x l (seen_above (certified s (next ∷ c)) kept)
+            (subst (λ (z : Branch). Among z (tree c)) same (window-tree c y r.0)) refl
+            (votes-silent s x next c silent)
 
 -- ---- a vote
 
@@ -213,20 +267,31 @@ by_voter-more : (b : Vote) (xs : List Vote) → insert_vote b (by_voter xs) ≡ 
 unfolding by_voter
 by_voter-more b xs = refl
 
-pub tree-noted : (n : Note) (c : Chronicle) → tree (noted n ∷ c) ≡ tree c
-unfolding tree stored_blocks taken_blocks
-tree-noted n c = refl
+-- neither the horizon nor the window
+vote-window : (voter : ℕ) (v : Bytes) (b : Branch) (c : Chronicle) → IsTree (horizon c) (window c)
+    → IsTree (horizon (noted (got_vote voter v b) ∷ c)) (window (noted (got_vote voter v b) ∷ c))
+unfolding horizon window standing_blocks stored_blocks taken_blocks
+vote-window voter v b c tr = tr
 
-module _ (s : Sizes) (c : Chronicle) (kept : Seen) (b : Branch) (vote : Vote) (tr : IsTree 0 (tree c))
-    (m : Among b (tree c)) (of : IsVotesIn s c kept) where
+module _ (s : Sizes) (c : Chronicle) (kept : Seen) (b : Branch) (vote : Vote)
+    (tr : IsTree (horizon c) (window c)) (m : Among b (window c)) (of : IsVotesIn s c kept) where
   -- the step
   abbrev pub it : Step
   it = noted (got_vote vote.voter vote.vector b)
 
   -- a block of the same digest is the same
-  one-block : (x : Branch) → Among x (tree (it ∷ c)) → digest_of b ≡ digest_of x → b ≡ x
-  one-block x k e = tr.one b x m
-      (subst (λ (t : List Branch). Among x t) (tree-noted (got_vote vote.voter vote.vector b) c) k) e
+  known : Among b (tree c)
+  known = window-tree c b m
+
+  now_tree : IsTree (horizon (it ∷ c)) (window (it ∷ c))
+  now_tree = vote-window vote.voter vote.vector b c tr
+
+  one-block : (x : Branch) → Among x (tree (it ∷ c)) → certified s (it ∷ c) < length x
+      → digest_of b ≡ digest_of x → b ≡ x
+  one-block x k l e = tr.one b x m
+      (high-window s c x
+      (subst (λ (t : List Branch). Among x t) (tree-noted (got_vote vote.voter vote.vector b) c) k)
+      (let rises = certified-rises s it c in omega (arith, rises, l))) e
 
   after-vote : (new : Seen)
       → ((d : Bytes) → bytes_eq (digest_of b) d ≡ false → new d
@@ -247,14 +312,14 @@ module _ (s : Sizes) (c : Chronicle) (kept : Seen) (b : Branch) (vote : Vote) (t
           go : (t : Bool) → bytes_eq (digest_of b) (digest_of x) ≡ t
               → AreCollected s (it ∷ c) (votes_at (digest_of x) new) x
           go true e =
-              let same = one-block x k ((bytes_eq-Decides (digest_of b) (digest_of x)).0 e) in
+              let same = one-block x k l ((bytes_eq-Decides (digest_of b) (digest_of x)).0 e) in
               subst (λ (z : Branch). AreCollected s (it ∷ c) (votes_at (digest_of z) new) z) same
               (its_votes (let h = ap (λ (z : Branch). length z) same in omega (arith, h, l)))
           go false e =
-              above-next s it c kept of
-              (subst (IsTree 0) (sym (tree-noted (got_vote vote.voter vote.vector b) c)) tr) x l new
+              above-next s it c kept of tr now_tree x l new
               (subst (λ (t : List Branch). Among x t) (tree-noted (got_vote vote.voter vote.vector b) c) k)
-              (others (digest_of x) e) (votes-other s c vote.voter vote.vector b (digest_of x) e)
+              (others (digest_of x) e)
+              (votes-other s c vote.voter vote.vector b x (other_branch b x e))
 
       alone : (d : Bytes) (e : Entry) → new d ≡ Some e → IsOfBlock s (it ∷ c) d e
       alone d e is = go (bytes_eq (digest_of b) d) refl
@@ -265,15 +330,16 @@ module _ (s : Sizes) (c : Chronicle) (kept : Seen) (b : Branch) (vote : Vote) (t
               subst (λ (x : Bytes). IsOfBlock s (it ∷ c) x e) k (its_entry e (ap new k ∙ is))
           go false other = alone-next s it c kept of new d e (others d other) is
 
-      unknown : (d : Bytes) → ((x : Branch) → Among x (tree (it ∷ c)) → digest_of x ≡ d → ⊥)
-          → votes s d (it ∷ c) ≡ []
-      unknown d none = go (bytes_eq (digest_of b) d) refl
+      unknown : (x : Branch) → (Among x (tree (it ∷ c)) → ⊥) → votes s x (it ∷ c) ≡ []
+      unknown x none = go (branch_eq b x) refl
         where
-          go : (t : Bool) → bytes_eq (digest_of b) d ≡ t → votes s d (it ∷ c) ≡ []
-          go true same = absurd (none b (tree-grows it c b m) ((bytes_eq-Decides (digest_of b) d).0 same))
+          go : (t : Bool) → branch_eq b x ≡ t → votes s x (it ∷ c) ≡ []
+          go true same =
+              absurd (none (subst (λ (y : Branch). Among y (tree (it ∷ c))) ((branch_eq-decides b x).0 same)
+              (tree-grows it c b known)))
           go false other =
-              votes-other s c vote.voter vote.vector b d other
-              ∙ of.unknown d (λ x k e. none x (tree-grows it c x k) e)
+              votes-other s c vote.voter vote.vector b x other
+              ∙ of.unknown x (λ k. none (tree-grows it c x k))
 
   -- where the highest certificate stays
   module _ (stays : qc_high s (it ∷ c) ≡ qc_high s c) where
@@ -300,13 +366,13 @@ module _ (s : Sizes) (c : Chronicle) (kept : Seen) (b : Branch) (vote : Vote) (t
   module _ (l : certified s c < length b) where
     -- the votes for it
     abbrev ours : List Vote
-    ours = votes s (digest_of b) c
+    ours = votes s b c
 
     found-ours : votes_at (digest_of b) kept ≡ by_voter ours
-    found-ours = (of.above b m l).same
+    found-ours = (of.above b known l).same
 
     few-ours : length ours < quorum s
-    few-ours = (of.above b m l).few
+    few-ours = (of.above b known l).few
 
     same-count : length (votes_at (digest_of b) kept) ≡ length ours
     same-count = ap (λ (v : List Vote). length v) found-ours ∙ length-by_voter ours
@@ -320,9 +386,6 @@ module _ (s : Sizes) (c : Chronicle) (kept : Seen) (b : Branch) (vote : Vote) (t
     says a e = subst (Says (quorum s) vote.voter (votes_at (digest_of b) kept)) e
         (judged-says (quorum s) vote.voter (votes_at (digest_of b) kept))
 
-    now_tree : IsTree 0 (tree (it ∷ c))
-    now_tree = subst (IsTree 0) (sym (tree-noted (got_vote vote.voter vote.vector b) c)) tr
-
     pub doubled-vote : judged (quorum s) vote.voter (votes_at (digest_of b) kept) ≡ Doubled
         → IsLeft s (it ∷ c) kept (qc_high s c)
     doubled-vote judgement =
@@ -332,7 +395,8 @@ module _ (s : Sizes) (c : Chronicle) (kept : Seen) (b : Branch) (vote : Vote) (t
         (raised-none s c vote.voter vote.vector b (λ e. let n =
         ap (λ (v : List Vote). length v) same in let f = few-ours in omega (arith, e, n, f))) in
         unchanged stays
-        (λ above. above-next s it c kept of now_tree b above kept m (all-above stays (digest_of b)) same)
+        (λ above. above-next s it c kept of tr now_tree b above kept known (all-above stays
+        (digest_of b)) same)
 
     entry-height : (entry_with (length b) vote (kept (digest_of b))).height ≡ length b
     entry-height = go (kept (digest_of b)) refl
@@ -342,7 +406,8 @@ module _ (s : Sizes) (c : Chronicle) (kept : Seen) (b : Branch) (vote : Vote) (t
         go (Some y) e =
             let w =
             of.alone (digest_of b) y e in
-            w.its_height ∙ ap (λ (z : Branch). length z) (tr.one w.block b w.among m w.its_digest)
+            w.its_height
+            ∙ ap (λ (z : Branch). length z) (one-high s c tr w.block b w.among known w.higher l w.its_digest)
 
     pub first-vote : judged (quorum s) vote.voter (votes_at (digest_of b) kept) ≡ First
         → IsLeft s (it ∷ c) (seen_with (digest_of b) (length b) vote kept) (qc_high s c)
@@ -350,7 +415,7 @@ module _ (s : Sizes) (c : Chronicle) (kept : Seen) (b : Branch) (vote : Vote) (t
         let new : Seen = seen_with (digest_of b) (length b) vote kept in
         let told = says First judgement in
         let now = votes-first s c vote.voter vote.vector b (sym same-voters ∙ told.0) few-ours in
-        let count : length (votes s (digest_of b) (it ∷ c)) ≡ suc (length ours) =
+        let count : length (votes s b (it ∷ c)) ≡ suc (length ours) =
         ap (λ (v : List Vote). length v) now in
         let few : suc (length ours) ≡ quorum s → ⊥ =
         λ e. told.1 (let n = same-count in omega (arith, e, n)) in
@@ -374,7 +439,7 @@ module _ (s : Sizes) (c : Chronicle) (kept : Seen) (b : Branch) (vote : Vote) (t
               })
               (λ e is. record {
                 block = b;
-                among = tree-grows it c b m;
+                among = tree-grows it c b known;
                 its_digest = refl;
                 its_height =
                     sym (height_of (entry_with (length b) vote (kept (digest_of b))) e (sym put ∙ is))

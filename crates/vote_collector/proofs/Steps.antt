@@ -10,7 +10,7 @@ use Rattle.definitions.specs.Frames.{Vote}
 use Rattle.definitions.specs.Branches.{Branch}
 use Rattle.definitions.specs.Digests.{digest_of}
 use Rattle.definitions.specs.Trees.{IsTree}
-use Rattle.definitions.specs.Chronicles.{Chronicle, Step, Step.noted, Note.got_vote, tree}
+use Rattle.definitions.specs.Chronicles.{Chronicle, Step, Step.noted, Note.got_vote, horizon, window}
 use Rattle.definitions.specs.States.{Justified, qc_high}
 use Rattle.definitions.proofs.Trees.{found-in}
 use Rattle.definitions.proofs.Chronicles.{tree-grows}
@@ -22,7 +22,7 @@ use Rattle.vote_collector.specs.Lawful.{NoneAreLow, made_with}
 use Rattle.vote_collector.proofs.Entries.{Seen, seen, entry_with, seen_with, seen_above, seen-with}
 use Rattle.vote_collector.proofs.Entries.{seen-above, all-found, all-with, all-above}
 use Rattle.vote_collector.proofs.Ballots.{same_digest}
-use Rattle.vote_collector.proofs.Seen.{IsVotesIn, IsLeft, tree-none, votes-none, tree-noted, seen-else}
+use Rattle.vote_collector.proofs.Seen.{IsVotesIn, IsLeft, tree-none, votes-none, one-high, seen-else}
 use Rattle.vote_collector.proofs.Seen.{low-vote, doubled-vote, first-vote, complete-vote}
 
 -- ---- a step
@@ -63,15 +63,15 @@ module _ (s : Sizes) (st : Step) (c : Chronicle) (kept : VotesByDigest) (of : Is
       ap (λ (q : Justified). length q.block) stays in omega (arith, h, w.higher, w.its_height))) kept
       of.alone
 
-  one-height : IsTree 0 (tree (st ∷ c)) → (x y : Bytes × Entry) → OfBlock s c x → OfBlock s c y → x.0 ≡ y.0
-      → x.1.height ≡ y.1.height
+  one-height : IsTree (horizon c) (window c) → (x y : Bytes × Entry) → OfBlock s c x → OfBlock s c y
+      → x.0 ≡ y.0 → x.1.height ≡ y.1.height
   one-height tr x y v w e =
       v.its_height
-      ∙ ap (λ (b : Branch). length b) (tr.one v.block w.block (tree-grows st c v.block v.among)
-      (tree-grows st c w.block w.among) (v.its_digest ∙ e ∙ sym w.its_digest)) ∙ sym w.its_height
+      ∙ ap (λ (b : Branch). length b) (one-high s c tr v.block w.block v.among w.among v.higher w.higher
+      (v.its_digest ∙ e ∙ sym w.its_digest)) ∙ sym w.its_height
 
   -- dropping, up to a height that no higher block has
-  dropped : IsTree 0 (tree (st ∷ c)) → (height : ℕ) → certified s (st ∷ c) ≡ height
+  dropped : IsTree (horizon c) (window c) → (height : ℕ) → certified s (st ∷ c) ≡ height
       → IsVotesIn s (st ∷ c) (seen_above height (seen kept)) → IsVotesOf s (st ∷ c) (kept_above height kept)
   dropped tr height is w =
       back s (st ∷ c) (kept_above height kept) (seen_above height (seen kept))
@@ -80,12 +80,12 @@ module _ (s : Sizes) (st : Step) (c : Chronicle) (kept : VotesByDigest) (of : Is
       kept of.alone)
 
 pub followed-else : (s : Sizes) (c : Chronicle) (kept : VotesByDigest) → IsFollowedElse s c kept
-followed-else s c kept st silent tr of =
-    dropped s st c kept of tr (certified s (st ∷ c)) refl
-    (seen-else s c (seen kept) st silent tr (into s c kept of))
+followed-else s c kept st silent old tr of =
+    dropped s st c kept of old (certified s (st ∷ c)) refl
+    (seen-else s c (seen kept) st silent old tr (into s c kept of))
 
 module _ (s : Sizes) (c : Chronicle) (kept : VotesByDigest) (b : Branch) (vote : Vote)
-    (tr : IsTree 0 (tree c)) (m : Among b (tree c)) (of : IsVotesOf s c kept) where
+    (tr : IsTree (horizon c) (window c)) (m : Among b (window c)) (of : IsVotesOf s c kept) where
   abbrev step : Step
   step = noted (got_vote vote.voter vote.vector b)
 
@@ -110,8 +110,7 @@ module _ (s : Sizes) (c : Chronicle) (kept : VotesByDigest) (b : Branch) (vote :
       → Leaves s (step ∷ c) (kept_above (length b) kept)
       (record { block = b; certificate = made_with (digest_of b) vote kept })
   fewer l = (
-    dropped s step c kept of (subst (IsTree 0) (sym (tree-noted (got_vote vote.voter vote.vector b) c)) tr)
-        (length b) (ap (λ (q : Justified). length q.block) l.1) l.0,
+    dropped s step c kept of tr (length b) (ap (λ (q : Justified). length q.block) l.1) l.0,
     l.1,
   )
 
@@ -127,7 +126,7 @@ module _ (s : Sizes) (c : Chronicle) (kept : VotesByDigest) (b : Branch) (vote :
 
 pub followed-vote : (s : Sizes) (c : Chronicle) (kept : VotesByDigest) → IsFollowedAtVote s c kept
 followed-vote s c kept d b vote tr found of =
-    let r = found-in d (tree c) b found in
+    let r = found-in d (window c) b found in
     subst (λ (x : Bytes). FollowsVote s c kept x b vote) r.1 (at-digest s c kept b vote tr r.0 of)
 
 -- ---- at the start, and where nothing is low
@@ -142,5 +141,5 @@ pub begins-empty : (s : Sizes) → BeginsEmpty s
 begins-empty s = record {
   above = λ b m l. absurd (let e = ap (λ (x : Branch). length x) (tree-none b m) in omega (arith, e, l));
   alone = tt;
-  unknown = λ d none. votes-none s d;
+  unknown = λ b none. votes-none s b;
 }

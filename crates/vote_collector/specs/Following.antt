@@ -17,8 +17,8 @@ certified s c = length (qc_high s c).block
 
 -- these are all votes for this block, and they are no quorum
 pub record AreCollected (s : Sizes) (c : Chronicle) (kept : List Vote) (b : Branch) : Type 0 where
-  pub same : kept ≡ by_voter (votes s (digest_of b) c)
-  pub few : length (votes s (digest_of b) c) < quorum s
+  pub same : kept ≡ by_voter (votes s b c)
+  pub few : length (votes s b c) < quorum s
 
 -- what is kept for a digest is of a block of the tree, above the highest certificate's
 pub record IsOfBlock (s : Sizes) (c : Chronicle) (d : Bytes) (e : Entry) : Type 0 where
@@ -29,9 +29,9 @@ pub record IsOfBlock (s : Sizes) (c : Chronicle) (d : Bytes) (e : Entry) : Type 
   pub higher : certified s c < length block
 
 -- These are the votes that a replica of this chronicle may need again: all that it has for each block above
--- its highest certificate's, and no others. For a digest that isn't in the tree there are none.
+-- its highest certificate's, and no others. For a block that isn't in the tree there are none.
 pub record IsVotesOf (s : Sizes) (c : Chronicle) (kept : VotesByDigest) : Type 0 where
   pub above : (b : Branch) → Among b (tree c) → certified s c < length b
       → AreCollected s c (votes_for (digest_of b) kept) b
   pub alone : AllByRecursion (λ e. IsOfBlock s c e.0 e.1) kept
-  pub unknown : (d : Bytes) → ((b : Branch) → Among b (tree c) → digest_of b ≡ d → ⊥) → votes s d c ≡ []
+  pub unknown : (b : Branch) → (Among b (tree c) → ⊥) → votes s b c ≡ []

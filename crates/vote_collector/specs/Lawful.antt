@@ -5,7 +5,7 @@ use Rattle.definitions.specs.Bytes.{Bytes}
 use Rattle.definitions.specs.Frames.{Vote, Certificate}
 use Rattle.definitions.specs.Branches.{Branch}
 use Rattle.definitions.specs.Trees.{find_in, IsTree}
-use Rattle.definitions.specs.Chronicles.{Chronicle, Step, Step.noted, Note.got_vote, tree}
+use Rattle.definitions.specs.Chronicles.{Chronicle, Step, Step.noted, Note.got_vote, horizon, window}
 use Rattle.definitions.specs.States.{Justified, qc_high, insert_vote}
 use Rattle.vote_collector.specs.declared.added.Added.TheVariants.{First, Doubled, Complete}
 use Rattle.vote_collector.specs.Collecting.{VotesByDigest, votes_for, judged, with_vote, kept_above}
@@ -48,15 +48,16 @@ BringsNoVote st = ⊤
 abbrev pub BeginsEmpty : Sizes → Type 0
 BeginsEmpty s = IsVotesOf s [] []
 
--- a vote for a block of the tree
+-- a vote for a block of the window
 abbrev pub IsFollowedAtVote : Sizes → Chronicle → VotesByDigest → Type 0
 IsFollowedAtVote s c kept =
-    (d : Bytes) (b : Branch) (vote : Vote) → IsTree 0 (tree c) → find_in d (tree c) ≡ Some b
+    (d : Bytes) (b : Branch) (vote : Vote) → IsTree (horizon c) (window c) → find_in d (window c) ≡ Some b
     → IsVotesOf s c kept → FollowsVote s c kept d b vote
 
 -- any other step: the votes for blocks of at most the height of the highest certificate then may go
 abbrev pub IsFollowedElse : Sizes → Chronicle → VotesByDigest → Type 0
-IsFollowedElse s c kept = (st : Step) → BringsNoVote st → IsTree 0 (tree (st ∷ c)) → IsVotesOf s c kept
+IsFollowedElse s c kept = (st : Step) → BringsNoVote st → IsTree (horizon c) (window c)
+    → IsTree (horizon (st ∷ c)) (window (st ∷ c)) → IsVotesOf s c kept
     → IsVotesOf s (st ∷ c) (kept_above (certified s (st ∷ c)) kept)
 
 -- where that height stays, none are so low
