@@ -15,11 +15,11 @@ use crate::cores::KnownCore;
 use crate::members::chronicle_of;
 use crate::verdict::{CorePlace, Reason};
 use ids::ReplicaId;
-use replica::{Archived, ChronicleView};
+use replica::{ChronicleView, Whole};
 
 /// The core that a replica stored in a step.
 fn stored_core<'a>(
-    replicas: &[&'a Archived],
+    replicas: &[&'a Whole<'a>],
     number: ReplicaId,
     step: usize,
 ) -> Option<KnownCore<'a>>
@@ -32,7 +32,7 @@ fn stored_core<'a>(
 }
 
 /// The core at a place.
-fn core_at<'a>(replicas: &[&'a Archived], place: &CorePlace) -> Option<KnownCore<'a>>
+fn core_at<'a>(replicas: &[&'a Whole<'a>], place: &CorePlace) -> Option<KnownCore<'a>>
     ensures { option_map known result ≡ core_at (judged replicas.now) (place_of place.now) }
 {
     match place {
@@ -42,7 +42,7 @@ fn core_at<'a>(replicas: &[&'a Archived], place: &CorePlace) -> Option<KnownCore
 }
 
 /// Whether two unequal cores of one digest stand at these places.
-pub(crate) fn is_collision(replicas: &[&Archived], first: &CorePlace, second: &CorePlace) -> bool
+pub(crate) fn is_collision(replicas: &[&Whole<'_>], first: &CorePlace, second: &CorePlace) -> bool
     ensures { IsTrue result ↔ IsCollision (judged replicas.now) (place_of first.now) (place_of second.now) }
 {
     match (core_at(replicas, first), core_at(replicas, second)) {
@@ -69,7 +69,7 @@ fn collides_in(chronicle: ChronicleView<'_>, core: &KnownCore<'_>) -> Option<usi
 }
 
 /// The place of a core that collides with this one.
-fn collides_at(replicas: &[&Archived], core: &KnownCore<'_>) -> Option<CorePlace>
+fn collides_at(replicas: &[&Whole<'_>], core: &KnownCore<'_>) -> Option<CorePlace>
     requires { AreDistinct (numbers (judged replicas.now)) }
     ensures { MatchOption result
         ((b : Core) → KnownTo (judged replicas.now) b → Collide (known core.now) b → ⊥)
@@ -88,7 +88,7 @@ fn collides_at(replicas: &[&Archived], core: &KnownCore<'_>) -> Option<CorePlace
 }
 
 /// A collision of a core that a replica stored.
-fn collision_of(replicas: &[&Archived], replica: &Archived) -> Option<Reason>
+fn collision_of(replicas: &[&Whole<'_>], replica: &Whole<'_>) -> Option<Reason>
     requires distinct { AreDistinct (numbers (judged replicas.now)) }
     requires member { Among (member_of replica.now) (judged replicas.now) }
     ensures { MatchOption result
@@ -113,7 +113,7 @@ fn collision_of(replicas: &[&Archived], replica: &Archived) -> Option<Reason>
 }
 
 /// A collision of two cores that judged replicas know.
-pub(crate) fn find_collision(replicas: &[&Archived]) -> Option<Reason>
+pub(crate) fn find_collision(replicas: &[&Whole<'_>]) -> Option<Reason>
     requires { AreDistinct (numbers (judged replicas.now)) }
     ensures { MatchOption result (NoCollision (KnownTo (judged replicas.now)))
         (λ r. Holds (judged replicas.now) (reason_of r)) }

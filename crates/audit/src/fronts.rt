@@ -14,7 +14,7 @@ ghost use Rattle.audit.specs.Fronts.{cut_of, vote_stands};
 use crate::chronicles::{gave_vote, oldest, step_after};
 use crate::members::{chronicle_of, place};
 use ids::{Digest, MOST_REPLICAS, ReplicaId};
-use replica::{Archived, CountedVotes, StepView};
+use replica::{CountedVotes, StepView, Whole};
 
 /// How many steps of each replica are made, by its number.
 pub(crate) type Row = [usize; MOST_REPLICAS];
@@ -28,7 +28,7 @@ fn made(fronts: &Row, number: ReplicaId) -> usize
 
 /// Whether a replica's vote for the block of a digest is made, or the replica isn't judged.
 pub(crate) fn vote_stands(
-    replicas: &[&Archived],
+    replicas: &[&Whole<'_>],
     fronts: &Row,
     block: &Digest,
     voter: ReplicaId,
@@ -43,7 +43,7 @@ pub(crate) fn vote_stands(
 
 /// The first voter whose counted vote isn't made.
 fn first_missing(
-    replicas: &[&Archived],
+    replicas: &[&Whole<'_>],
     fronts: &Row,
     counted: &CountedVotes<'_>,
 ) -> Option<ReplicaId>
@@ -63,7 +63,7 @@ fn first_missing(
 
 /// A vote that a step counts and that isn't made: its voter, and the digest of the block.
 pub(crate) fn missing_vote(
-    replicas: &[&Archived],
+    replicas: &[&Whole<'_>],
     fronts: &Row,
     step: &StepView<'_>,
 ) -> Option<(ReplicaId, Digest)>
@@ -80,7 +80,7 @@ pub(crate) fn missing_vote(
 
 /// A replica's first step that isn't made.
 pub(crate) fn next_step<'a>(
-    replicas: &[&'a Archived],
+    replicas: &[&'a Whole<'a>],
     fronts: &Row,
     number: ReplicaId,
 ) -> Option<StepView<'a>>
@@ -92,7 +92,7 @@ pub(crate) fn next_step<'a>(
 }
 
 /// Whether a replica's next step may be made: each vote that it counts is.
-fn may_move(replicas: &[&Archived], fronts: &Row, number: ReplicaId) -> bool
+fn may_move(replicas: &[&Whole<'_>], fronts: &Row, number: ReplicaId) -> bool
     ensures moves { result ≡ may_move (judged replicas.now) (cut_of fronts.now) number }
     ensures few { OnTrue result (cut_of fronts.now number + 1 < 2 ^ 64) }
 {
@@ -103,7 +103,7 @@ fn may_move(replicas: &[&Archived], fronts: &Row, number: ReplicaId) -> bool
 }
 
 /// The place of a replica whose next step may be made.
-fn find_mover(replicas: &[&Archived], fronts: &Row) -> Option<usize>
+fn find_mover(replicas: &[&Whole<'_>], fronts: &Row) -> Option<usize>
     ensures { MatchOption result ((u : ℕ) → may_move (judged replicas.now) (cut_of fronts.now) u ≡ false)
         (λ u. (may_move (judged replicas.now) (cut_of fronts.now) u ≡ true)
         × (u < MOST_REPLICAS) × (cut_of fronts.now u + 1 < 2 ^ 64)) }
@@ -117,7 +117,7 @@ fn find_mover(replicas: &[&Archived], fronts: &Row) -> Option<usize>
 }
 
 /// The fronts, by number of replica. One count at a time is moved on while the next step may be made.
-pub(crate) fn fronts(replicas: &[&Archived]) -> Row
+pub(crate) fn fronts(replicas: &[&Whole<'_>]) -> Row
     ensures { AreFronts (judged replicas.now) (cut_of result) }
 {
     let mut fronts = [0; MOST_REPLICAS];

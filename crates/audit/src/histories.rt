@@ -7,7 +7,7 @@ ghost use Rattle.definitions.specs.Replicas.{held_history};
 ghost use Rattle.audit.specs.Judged.{judged, Agree};
 
 use executor::{Entries, Entry};
-use replica::Archived;
+use replica::Whole;
 
 /// Whether two entries are the same.
 fn are_same(a: &Entry<'_>, b: &Entry<'_>) -> bool
@@ -24,14 +24,14 @@ fn agree(a: &Entries, b: &Entries) -> bool
 }
 
 /// Whether the histories of two replicas agree.
-fn agrees_with(one: &Archived, other: &Archived) -> bool
+fn agrees_with(one: &Whole<'_>, other: &Whole<'_>) -> bool
     ensures { IsTrue result ↔ Agree (held_history one.now.replica) (held_history other.now.replica) }
 {
     agree(one.history(), other.history())
 }
 
 /// Whether the history of one agrees with that of each of these.
-fn agrees_with_all(one: &Archived, replicas: &[&Archived]) -> bool
+fn agrees_with_all(one: &Whole<'_>, replicas: &[&Whole<'_>]) -> bool
     ensures { IsTrue result
         ↔ All (λ r. Agree (held_history one.now.replica) (held_history r.now.replica)) replicas.now }
 {
@@ -39,7 +39,7 @@ fn agrees_with_all(one: &Archived, replicas: &[&Archived]) -> bool
 }
 
 /// Whether the histories are pairwise beginnings of one another.
-pub(crate) fn histories_agree(replicas: &[&Archived]) -> bool
+pub(crate) fn histories_agree(replicas: &[&Whole<'_>]) -> bool
     ensures { IsTrue result ↔ HistoriesAgree (judged replicas.now) }
 {
     replicas.iter().all(|one| agrees_with_all(one, replicas))

@@ -14,10 +14,10 @@ use crate::histories::histories_agree;
 use crate::unbacked::{find_unbacked, is_unbacked};
 use crate::verdict::{Reason, Verdict};
 use ids::Fault;
-use replica::Archived;
+use replica::Whole;
 
 /// Says what holds of each replica, and does nothing else.
-fn hold(replicas: &[&Archived])
+fn hold(replicas: &[&Whole<'_>])
     ensures { All (λ r. IsHeld r.now) replicas.now }
 {
     for replica in replicas {
@@ -26,7 +26,7 @@ fn hold(replicas: &[&Archived])
 }
 
 /// A reason for a fork: an unbacked vote, or else a collision.
-fn find_reason(replicas: &[&Archived]) -> Option<Reason>
+fn find_reason(replicas: &[&Whole<'_>]) -> Option<Reason>
     requires { AreDistinct (numbers (judged replicas.now)) }
     ensures { MatchOption result
         (NoneUnbacked (judged replicas.now) × NoCollision (KnownTo (judged replicas.now)))
@@ -44,7 +44,7 @@ fn find_reason(replicas: &[&Archived]) -> Option<Reason>
 /// other sizes. Replicas that aren't handed in may have lied. It takes no memory; where histories agree
 /// it takes one pass over them for each pair, and where they fork a time that grows with the square of
 /// the number of steps.
-pub fn judge(replicas: &[&Archived]) -> Result<Verdict, Fault>
+pub fn judge(replicas: &[&Whole<'_>]) -> Result<Verdict, Fault>
     ensures judged { IsOk result ↔ AreEnough replicas.now }
     ensures refused { OnErr result (result ≡ Err Fault.TooFew) }
     ensures verdict { IfOk result (λ v. IsVerdict (judged replicas.now) (verdict_of v)) }
@@ -65,7 +65,7 @@ pub fn judge(replicas: &[&Archived]) -> Result<Verdict, Fault>
 /// Whether a reason holds of these replicas, as it does of those that were judged.
 ///
 /// It doesn't where they can't be judged, or where one that the reason names isn't among them.
-pub fn check_reason(replicas: &[&Archived], reason: &Reason) -> bool
+pub fn check_reason(replicas: &[&Whole<'_>], reason: &Reason) -> bool
     ensures { IsTrue result ↔ (AreEnough replicas.now × Holds (judged replicas.now) (reason_of reason.now)) }
 {
     if !are_enough(replicas) {

@@ -6,10 +6,10 @@ ghost use Rattle.definitions.specs.Audit.{is_judged, chronicle_of};
 ghost use Rattle.audit.specs.Judged.{judged};
 
 use ids::ReplicaId;
-use replica::{Archived, ChronicleView};
+use replica::{ChronicleView, Whole};
 
 /// The first judged replica of a number, where there is one.
-fn find<'a>(replicas: &[&'a Archived], number: ReplicaId) -> Option<&'a Archived>
+fn find<'a>(replicas: &[&'a Whole<'a>], number: ReplicaId) -> Option<&'a Whole<'a>>
     ensures { result ≡ find (λ r. r.now.keys.party == number) replicas.now }
 {
     replicas
@@ -20,7 +20,7 @@ fn find<'a>(replicas: &[&'a Archived], number: ReplicaId) -> Option<&'a Archived
 
 /// The chronicle of the judged replica of a number, where there is one.
 pub(crate) fn chronicle_of<'a>(
-    replicas: &[&'a Archived],
+    replicas: &[&'a Whole<'a>],
     number: ReplicaId,
 ) -> Option<ChronicleView<'a>>
     ensures { MatchOption result (is_judged (judged replicas.now) number ≡ false)
@@ -32,7 +32,7 @@ pub(crate) fn chronicle_of<'a>(
 }
 
 /// A replica's place in a row over replicas.
-pub(crate) fn place(replica: &Archived) -> usize
+pub(crate) fn place(replica: &Whole<'_>) -> usize
     ensures number { result ≡ replica.now.keys.party }
     ensures within { result < MOST_REPLICAS }
 {

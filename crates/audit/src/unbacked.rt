@@ -12,11 +12,11 @@ ghost use Rattle.audit.specs.Verdicts.{reason_of};
 use crate::fronts::{Row, fronts, missing_vote, next_step, vote_stands};
 use crate::verdict::Reason;
 use ids::{Digest, ReplicaId};
-use replica::{Archived, StepView};
+use replica::{StepView, Whole};
 
 /// The vote that a replica's first step behind its front counts and that is missing, where its front
 /// isn't whole.
-fn unbacked_of(replicas: &[&Archived], fronts: &Row, receiver: ReplicaId) -> Option<Reason>
+fn unbacked_of(replicas: &[&Whole<'_>], fronts: &Row, receiver: ReplicaId) -> Option<Reason>
     requires { AreFronts (judged replicas.now) (cut_of fronts.now) }
     ensures { MatchOption result
         (step_after (cut_of fronts.now receiver) (chronicle_of (judged replicas.now) receiver) ≡ None)
@@ -32,7 +32,7 @@ fn unbacked_of(replicas: &[&Archived], fronts: &Row, receiver: ReplicaId) -> Opt
 }
 
 /// An unbacked vote: of the first replica whose front isn't whole, and of the first voter.
-pub(crate) fn find_unbacked(replicas: &[&Archived]) -> Option<Reason>
+pub(crate) fn find_unbacked(replicas: &[&Whole<'_>]) -> Option<Reason>
     ensures { MatchOption result (NoneUnbacked (judged replicas.now))
         (λ r. Holds (judged replicas.now) (reason_of r)) }
 {
@@ -57,7 +57,7 @@ fn counts_vote(step: &StepView<'_>, voter: ReplicaId, block: &Digest) -> bool
 
 /// Whether this vote is unbacked.
 pub(crate) fn is_unbacked(
-    replicas: &[&Archived],
+    replicas: &[&Whole<'_>],
     receiver: ReplicaId,
     voter: ReplicaId,
     block: &Digest,

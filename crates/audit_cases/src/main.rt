@@ -20,7 +20,7 @@ mod reasons;
 mod replicas;
 mod told;
 
-use crate::replicas::{Sizes, lent, number, replicas_of};
+use crate::replicas::{Sizes, lent, number, replicas_of, whole};
 use crate::told::tell_all;
 use anyhow::Result;
 use ids::Fault;
@@ -30,7 +30,8 @@ use std::alloc::Global;
 /// What an audit of replicas answers.
 fn answer(alloc: Global, replicas: &[Archived], asked: &str) -> Result<String, Fault> {
     let mut text = String::new(alloc);
-    tell_all(&lent(alloc, replicas)?, asked, &mut text)?;
+    let whole = whole(alloc, replicas)?;
+    tell_all(&lent(alloc, &whole)?, asked, &mut text)?;
     Ok(text)
 }
 

@@ -6,7 +6,7 @@ ghost use Rattle.admission.specs.Inputs.{is_addressed};
 
 use admission::admit;
 use ids::{Config, Fault, PartyId, ReplicaId};
-use replica::{Archived, Input};
+use replica::{Archived, Input, Whole};
 use simulated_keys::keyring_of;
 use std::alloc::Global;
 
@@ -57,7 +57,7 @@ fn step(replica: &mut Archived, input: Input<'_>) -> Result<(), Fault>
 
 /// Brings the bytes of a frame, checked with the keys of the replica.
 fn receive(alloc: Global, replica: &mut Archived, bytes: &[u8]) -> Result<(), Fault> {
-    let (config, own) = (replica.config(), replica.number());
+    let (config, own) = (replica.replica().config(), replica.replica().number());
     if own.0 >= config.n() {
         return Err(Fault::NoSuchParty);
     }
@@ -143,11 +143,20 @@ pub(crate) fn replicas_of(
     beside(replicas, pushed)
 }
 
-/// References to replicas.
+/// The replicas with their archives. None of them was pruned.
+pub(crate) fn whole<'a>(alloc: Global, replicas: &'a [Archived]) -> Result<Vec<Whole<'a>>, Fault> {
+    let mut all = Vec::new(alloc);
+    for replica in replicas {
+        all.push(replica.whole().ok_or(Fault::Pruned)?)?;
+    }
+    Ok(all)
+}
+
+/// References to them.
 pub(crate) fn lent<'a>(
     alloc: Global,
-    replicas: &'a [Archived],
-) -> Result<Vec<&'a Archived>, Fault> {
+    replicas: &'a [Whole<'a>],
+) -> Result<Vec<&'a Whole<'a>>, Fault> {
     let mut lent = Vec::new(alloc);
     for replica in replicas {
         lent.push(replica)?;

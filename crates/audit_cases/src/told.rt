@@ -3,7 +3,7 @@
 use crate::reasons::reason_of;
 use audit::{CorePlace, Reason, Verdict, check_reason, judge};
 use ids::Fault;
-use replica::Archived;
+use replica::Whole;
 
 fn tell_place(place: &CorePlace, text: &mut String) -> Result<(), Fault> {
     match place {
@@ -30,12 +30,12 @@ fn tell_reason(reason: &Reason, text: &mut String) -> Result<(), Fault> {
 }
 
 /// Whether a reason holds.
-fn tell_check(replicas: &[&Archived], reason: &Reason, text: &mut String) -> Result<(), Fault> {
+fn tell_check(replicas: &[&Whole<'_>], reason: &Reason, text: &mut String) -> Result<(), Fault> {
     write!(text, " {}", check_reason(replicas, reason))?;
     Ok(())
 }
 
-fn tell_verdict(replicas: &[&Archived], text: &mut String) -> Result<(), Fault> {
+fn tell_verdict(replicas: &[&Whole<'_>], text: &mut String) -> Result<(), Fault> {
     match judge(replicas) {
         Ok(Verdict::Agree) => text.push_str("agree")?,
         Ok(Verdict::Fork(reason)) => {
@@ -48,7 +48,7 @@ fn tell_verdict(replicas: &[&Archived], text: &mut String) -> Result<(), Fault> 
 }
 
 /// Tells whether the reason of a field holds.
-fn tell_asked(replicas: &[&Archived], field: &str, text: &mut String) -> Result<(), Fault> {
+fn tell_asked(replicas: &[&Whole<'_>], field: &str, text: &mut String) -> Result<(), Fault> {
     match reason_of(field) {
         Ok(reason) => tell_check(replicas, &reason, text),
         Err(fault) => Err(fault),
@@ -57,7 +57,7 @@ fn tell_asked(replicas: &[&Archived], field: &str, text: &mut String) -> Result<
 
 /// Tells what the audit of replicas answers, and which of the reasons in question hold.
 pub(crate) fn tell_all(
-    replicas: &[&Archived],
+    replicas: &[&Whole<'_>],
     asked: &str,
     text: &mut String,
 ) -> Result<(), Fault> {

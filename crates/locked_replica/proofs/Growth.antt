@@ -58,7 +58,7 @@ unfolding on_ruling held_history
 on_ruling-longer self m (due s) c = on_step-longer self m s c
 on_ruling-longer self m (missing sender d) c = le_refl _
 on_ruling-longer self m (refusing n) c =
-    cond_both (stops n) stopped running (λ (s : Standing). length (history c)
+    cond_both (stops n c) stopped running (λ (s : Standing). length (history c)
     ≤ length (held_history (record { chronicle = c; standing = s }))) (λ e. le_refl _) (λ e. le_refl _)
 
 step-longer : (self : Identity) (m : MemorySupply) (i : Input) (c : Chronicle) (s : Standing)

@@ -59,7 +59,7 @@ impl<'a> Model for Kept<'a> {
 fn executed(replica: &Archived) -> u64
     ensures { result ≡ mark_of replica.now.replica }
 {
-    replica.history().len() as u64
+    replica.replica().executed() as u64
 }
 
 impl<'a> Kept<'a> {
@@ -73,7 +73,7 @@ impl<'a> Kept<'a> {
         ensures { result ≡ record { keys = replica.keys; replica = replica.replica; shares = []; eye = eye } }
     {
         // It is lawful.
-        let _steps = replica.steps();
+        let _steps = replica.replica().steps();
         Kept {
             replica,
             shares: Vec::new(alloc),
@@ -108,7 +108,7 @@ impl<'a> Kept<'a> {
     pub fn number(&self) -> ReplicaId
         ensures { result ≡ self.now.keys.party }
     {
-        self.replica.number()
+        self.replica.replica().number()
     }
 
     /// How many steps stand, which the shares made count together.
@@ -117,7 +117,7 @@ impl<'a> Kept<'a> {
         ensures counted { sum self.now.shares ≡ length self.now.replica.chronicle }
         ensures lawful { IsLawful self.now.keys.sizes self.now.replica.chronicle }
     {
-        self.replica.steps()
+        self.replica.replica().steps()
     }
 
     /// The next share, which counts no step yet.
@@ -147,10 +147,11 @@ impl<'a> Kept<'a> {
         ensures { result ≡ same_replica checked.now.keys self.now.keys }
     {
         checked.keyring().party() == PartyId::from(self.number())
-            && checked.config() == self.replica.config()
+            && checked.config() == self.replica.replica().config()
     }
 
-    /// Whether the input was checked for this replica, at its sizes. Timeouts and beats are for anyone.
+    /// Whether the input was checked for this replica, at its sizes. Timeouts, beats and prunings are for
+    /// anyone.
     pub fn is_addressed(&self, input: &Input) -> bool
         ensures { result ≡ is_addressed self.now.keys input.now }
     {
@@ -163,6 +164,7 @@ impl<'a> Kept<'a> {
             Input::Fetch(asked) => self.is_mine(asked),
             Input::Timeout => true,
             Input::Beat => true,
+            Input::Prune(_) => true,
         }
     }
 
@@ -196,11 +198,11 @@ impl<'a> Kept<'a> {
             return Err(Fault::NotAll);
         }
         let replica = &mut self.replica;
-        let before = replica.steps();
+        let before = replica.replica().steps();
         let outcome = replica.step(input);
-        share.add(replica.steps() - before);
+        share.add(replica.replica().steps() - before);
         self.shares[share.number()] = share.count();
-        let (number, length) = (self.replica.number(), executed(&self.replica));
+        let (number, length) = (self.replica.replica().number(), executed(&self.replica));
         self.marks.put(&mut self.eye, number, length);
         outcome
     }

@@ -19,6 +19,6 @@ impl<'a> UnderLock for Kept<'a> {
     }
 
     fn wants_beat_now(&self) -> bool {
-        self.replica().wants_beat_now()
+        self.replica().replica().wants_beat_now()
     }
 }

@@ -17,21 +17,21 @@ use Rattle.definitions.specs.FrameLimits.{IsCore}
 use Rattle.definitions.specs.Branches.{Branch}
 use Rattle.definitions.specs.Digests.{digest_of}
 use Rattle.definitions.specs.Chronicles.{Note, Step, Step.took_block, Step.noted, Chronicle, taken_blocks}
-use Rattle.definitions.specs.Chronicles.{stored_blocks}
+use Rattle.definitions.specs.Chronicles.{stored_blocks, horizon, window}
 use Rattle.definitions.specs.Chronicles.{tree, decided, executed, history, IsSound}
 use Rattle.definitions.specs.Histories.{History, history_of, Answer, answers}
 use Rattle.definitions.specs.Keyrings.{Keys}
 use Rattle.definitions.specs.Checks.{Findings, identity_of}
 use Rattle.definitions.specs.Rulings.{Input, Input.proposal_in, Input.block_in, Input.vote_in}
 use Rattle.definitions.specs.Rulings.{Input.new_view_in, Input.request_in, Input.fetch_in, Input.timeout_in}
-use Rattle.definitions.specs.Rulings.{Input.beat_in, Ruling, Ruling.due, ruling, conflicts}
+use Rattle.definitions.specs.Rulings.{Input.beat_in, Input.prune_in, Ruling, Ruling.due, ruling, conflicts}
 use Rattle.definitions.specs.Sendings.{reply_to, new_replies, sendings}
 use Rattle.definitions.specs.Replicas.{ample, refused_after, running, stopped, cut_short, stopped_at}
 use Rattle.definitions.specs.Replicas.{Replica, Reaction, sends_out, fails, held_history, held_pending}
 use Rattle.definitions.specs.Replicas.{whole_blocks, executes, on_step, on_ruling}
 use Rattle.definitions.proofs.Lists.{beginning-whole, IsBeginning-beginning, Among-before, Among-reverse}
 use Rattle.definitions.proofs.Branches.{length-extends}
-use Rattle.definitions.proofs.Held.{executed-tree}
+use Rattle.definitions.proofs.Horizons.{executed-window, horizon-before}
 use Rattle.linear_law.proofs.Replies.{executed-grows, history-grows}
 use Rattle.linear_law.proofs.FitAnswers.{answers-fit}
 use Rattle.linear_law.proofs.Inputs.{Carries, FromInput, AllStanding, ruling-from}
@@ -39,7 +39,7 @@ use Rattle.linear_law.proofs.Rows.{taken-known, step-known}
 use Rattle.executor.specs.State.{new_answers}
 use Rattle.signed_frames.specs.Outs.{SentBytes}
 use Rattle.replica.specs.Steps.{bytes_of, shown, Shows}
-use Rattle.replica.specs.Kept.{Variables, StateParts, waiting, IsStateOf, AreFit, AreStored}
+use Rattle.replica.specs.Kept.{Variables, StateParts, tree_of, waiting, IsStateOf, AreFit, AreStored}
 use Rattle.replica.specs.Changes.{asked, sent_first}
 use Rattle.replica.specs.Inputs.{IsFitInput}
 use Rattle.replica.specs.Execution.{history_above, IsCut, is_sendable, told}
@@ -48,7 +48,8 @@ use Rattle.replica.specs.Advances.{going, IsWholeOf, Advances}
 use Rattle.replica.specs.declared.standing.Taken.TheVariants.{Sends, Refused, CutShort}
 use Rattle.replica.proofs.Keeping.{stores-on}
 use Rattle.replica.proofs.Waiting.{waits-on, held-waits}
-use Rattle.replica.proofs.Executing.{new-are, answers-more, above-appended, history-is, IsBetween, cut-is}
+use Rattle.replica.proofs.Executing.{new-are, answers-more, above-appended, tree_at, history-is, IsBetween}
+use Rattle.replica.proofs.Executing.{cut-is}
 
 -- ---- the cores of the tree's blocks
 
@@ -62,6 +63,7 @@ fit-carried s (request_in r) core q f c h = absurd c
 fit-carried s (fetch_in sender d) core q f c h = absurd c
 fit-carried s timeout_in core q f c h = absurd c
 fit-carried s beat_in core q f c h = absurd c
+fit-carried s (prune_in height) core q f c h = absurd c
 
 fit-from : (s : Sizes) (i : Input) (st : Step) (c : Chronicle) → IsFitInput s i → FromInput i st
     → IsSound s (st ∷ c) → AreFit s c → AreFit s (st ∷ c)
@@ -148,9 +150,9 @@ module _ (keys : Keys) (st : Step) (c : Chronicle) (calm : conflicts st c ≡ fa
   top : Branch
   top = executed (st ∷ c)
 
-  top-in : Among top (tree (st ∷ c))
+  top-in : Among top (window (st ∷ c))
   unfolding top
-  top-in = executed-tree (st ∷ c) is.sound.is_tree
+  top-in = executed-window keys.sizes (st ∷ c) is.sound.lawful
 
   low-in : length (executed c) ≤ length top
   unfolding top
@@ -163,7 +165,7 @@ module _ (keys : Keys) (st : Step) (c : Chronicle) (calm : conflicts st c ≡ fa
   -- the history up to the last decided block
   history-up : (h new : History) → h ≡ history c
       → new
-      ≡ history_above s.variables.rules.executed.digest s.variables.stored (length (executed c))
+      ≡ history_above s.variables.rules.executed.digest (tree_of s.variables) (length (executed c))
       (s.variables.rules.executed.height - length (executed c)) h → new ≡ history (st ∷ c)
   unfolding top history
   history-up h new e n =
@@ -171,43 +173,45 @@ module _ (keys : Keys) (st : Step) (c : Chronicle) (calm : conflicts st c ≡ fa
       let whole : length (executed c) + (length top - length (executed c)) ≡ length top =
       omega (arith, low) in
       n
-      ∙ (λ i. history_above (is.same i).rules.executed.digest (is.same i).stored (length (executed c))
+      ∙ (λ i. history_above (is.same i).rules.executed.digest (tree_of (is.same i)) (length (executed c))
       ((is.same i).rules.executed.height - length (executed c)) (e i))
-      ∙ ap (λ (b : Branch). history_above (digest_of top) (stored_blocks (st ∷ c)) (length (executed c))
+      ∙ ap (λ (b : Branch). history_above (digest_of top) (tree_at (st ∷ c)) (length (executed c))
       (length top - length (executed c)) (history_of b)) (sym begins)
       ∙ history-is keys.sizes (st ∷ c) is.sound top top-in (length (executed c))
-      (length top - length (executed c)) (omega (arith, whole))
+      (length top - length (executed c)) (horizon-before st c) (omega (arith, whole))
       ∙ ap (λ (n : ℕ). history_of (beginning n top)) whole ∙ ap history_of (beginning-whole top)
 
   -- what waits after it
   waits-up : (waits left : List Command) → waits ≡ asked st c
       → left
-      ≡ left_after (history_above s.variables.rules.executed.digest s.variables.stored
+      ≡ left_after (history_above s.variables.rules.executed.digest (tree_of s.variables)
       (length (executed c)) (s.variables.rules.executed.height - length (executed c)) []) waits
       → left ≡ pending (st ∷ c)
   waits-up waits left w n =
       let v = s.variables in
-      let new = history_above v.rules.executed.digest v.stored (length (executed c))
+      let new = history_above v.rules.executed.digest (tree_of v) (length (executed c))
       (v.rules.executed.height - length (executed c)) [] in
       let all = history-up (history c) _ refl refl in
       let goes : history (st ∷ c) ≡ new ++ history c =
       sym all
-      ∙ above-appended v.rules.executed.digest v.stored (length (executed c))
+      ∙ above-appended v.rules.executed.digest (tree_of v) (length (executed c))
       (v.rules.executed.height - length (executed c)) (history c) in
       n ∙ ap (left_after new) w ∙ sym (waits-on st c new goes)
 
   -- or a part of it
   history-part : (h new : History) (waits left : List Command) → h ≡ history c
-      → IsCut s.variables.rules.executed.digest s.variables.stored (length (executed c))
+      → IsCut s.variables.rules.executed.digest (tree_of s.variables) (length (executed c))
       s.variables.rules.executed.height h new waits left
       → IsBetween (st ∷ c) top (length (executed c)) new waits left
   unfolding top history
   history-part h new waits left e k =
-      let cut = subst (λ (b : History). IsCut (digest_of top) (stored_blocks (st ∷ c)) (length (executed c))
+      let cut = subst (λ (b : History). IsCut (digest_of top) (tree_at (st ∷ c)) (length (executed c))
       (length top) b new waits left) (e ∙ ap history_of (sym begins))
-      (subst (λ (v : Variables). IsCut v.rules.executed.digest v.stored (length (executed c))
+      (subst (λ (v : Variables). IsCut v.rules.executed.digest (tree_of v) (length (executed c))
       v.rules.executed.height h new waits left) is.same k) in
-      cut-is keys.sizes (st ∷ c) is.sound top top-in (length (executed c)) new waits left low-in cut
+      cut-is keys.sizes (st ∷ c) is.sound top top-in (length (executed c)) new waits left
+      (horizon-before st c)
+      low-in cut
 
   low-history : history_of (beginning (length (executed c)) top) ≡ history c
   unfolding history
@@ -234,10 +238,10 @@ module _ (keys : Keys) (i : Input) (c : Chronicle) (h : History) (before : h ≡
   pub sends-all : (out more : List SentBytes) (s after : StateParts) (new : History)
       → Stands keys (ruling (identity_of keys) i c) c out s
       → new
-      ≡ history_above s.variables.rules.executed.digest s.variables.stored (length (executed c))
+      ≡ history_above s.variables.rules.executed.digest (tree_of s.variables) (length (executed c))
       (s.variables.rules.executed.height - length (executed c)) h
       → after
-      ≡ waiting (left_after (history_above s.variables.rules.executed.digest s.variables.stored
+      ≡ waiting (left_after (history_above s.variables.rules.executed.digest (tree_of s.variables)
       (length (executed c)) (s.variables.rules.executed.height - length (executed c)) []) s.pending)
       s
       → more ≡ out ++ told keys (new_answers h new) → Advances keys i c (Sends more) after new
@@ -275,7 +279,7 @@ module _ (keys : Keys) (i : Input) (c : Chronicle) (h : History) (before : h ≡
   -- memory was refused in between
   pub stops-short : (out : List SentBytes) (s after : StateParts) (new : History)
       → Stands keys (ruling (identity_of keys) i c) c out s → after ≡ waiting after.pending s
-      → IsCut s.variables.rules.executed.digest s.variables.stored (length (executed c))
+      → IsCut s.variables.rules.executed.digest (tree_of s.variables) (length (executed c))
       s.variables.rules.executed.height h new s.pending after.pending
       → Advances keys i c CutShort after new
   unfolding on_ruling on_step executes held_history
@@ -350,15 +354,15 @@ module _ (keys : Keys) (i : Input) (c : Chronicle) (h : History) (before : h ≡
       → Advances keys i c (Refused n) s h
   refuses n s r = record {
     memory = r.memory;
-    replica = record { chronicle = c; standing = cond (halts n) stopped running };
+    replica = record { chronicle = c; standing = cond (halts (horizon c) n) stopped running };
     replica_is = r.left;
     whole = record {
       state = subst (λ (l : List Command). IsStateOf keys c (waiting l s)) r.state.waits r.state;
-      waits = r.state.waits ∙ waits-all (halts n);
-      history = before ∙ held-all (halts n);
+      waits = r.state.waits ∙ waits-all (halts (horizon c) n);
+      history = before ∙ held-all (halts (horizon c) n);
       fit = fit;
       stored = well;
     };
-    standing = refl;
+    standing = ap (λ (v : Variables). cond (halts v.horizon n) stopped running) (sym r.state.same);
     answer = r.answer;
   }

@@ -12,8 +12,9 @@ use Rattle.definitions.specs.Branches.{Branch}
 use Rattle.definitions.specs.Keyrings.{Keys}
 use Rattle.definitions.specs.Checks.{identity_of}
 use Rattle.definitions.specs.Trees.{blocks, find_in}
+use Rattle.definitions.specs.Chronicles.{window}
 use Rattle.definitions.specs.Chronicles.{Note, Step.noted, Note.got_new_view, Note.timed_out, Chronicle}
-use Rattle.definitions.specs.Chronicles.{stored_blocks, tree, IsSound}
+use Rattle.definitions.specs.Chronicles.{standing_blocks, tree, IsSound}
 use Rattle.definitions.specs.States.{Justified, view, qc_high, find_block, raised, leaf}
 use Rattle.definitions.specs.Rulings.{Input.timeout_in, Input.new_view_in, Ruling, ruling, conflicts}
 use Rattle.definitions.specs.Rulings.{with_block}
@@ -69,7 +70,7 @@ timeout-step keys c s d o t =
     (record {
       variables =
           (λ i. changed_variables (timeout_change keys (record s { variables = o.same i }) t.pace)
-          (variables_of keys c)) ∙ sym (variables-calm keys timed_out c refl refl);
+          (variables_of keys c)) ∙ sym (variables-calm keys timed_out c refl refl refl);
       sizes = sizes;
       pace = pace;
       out = (λ i. new_view_sent keys (at i) (q i) ∷ []) ∙ timeout-sent keys c;
@@ -88,7 +89,7 @@ timeout-decided keys c s result made memory o =
 -- ---- an announced view
 
 module _ (keys : Keys) (c : Chronicle) (n : GotNewView) (b : Branch)
-    (found : find_in n.certificate.digest (tree c) ≡ Some b) where
+    (found : find_in n.certificate.digest (window c) ≡ Some b) where
   abbrev note : Note
   note = got_new_view n.view n.sender n.certificate b
 
@@ -97,7 +98,7 @@ module _ (keys : Keys) (c : Chronicle) (n : GotNewView) (b : Branch)
 
   block-is : block ≡ ref_of b
   block-is =
-      λ i. record { digest = sym (found-in n.certificate.digest (tree c) b found).1 i; height = length b }
+      λ i. record { digest = sym (found-in n.certificate.digest (window c) b found).1 i; height = length b }
 
   brought : raised keys.sizes (noted note) c ≡ Some (record { block = b; certificate = n.certificate })
   unfolding raised
@@ -118,8 +119,8 @@ module _ (keys : Keys) (c : Chronicle) (n : GotNewView) (b : Branch)
 
   -- the announcement as it is stored
   note-is : noted (got_new_view n.view n.sender n.certificate
-      (or_genesis (find_in n.certificate.digest (blocks (stored_blocks c))))) ≡ noted note
-  unfolding tree
+      (or_genesis (find_in n.certificate.digest (blocks (standing_blocks c))))) ≡ noted note
+  unfolding window
   note-is =
       ap (λ (o : Option Branch). noted (got_new_view n.view n.sender n.certificate (or_genesis o))) found
 
@@ -142,7 +143,7 @@ module _ (keys : Keys) (c : Chronicle) (n : GotNewView) (b : Branch)
             ∙ (λ i. record (variables_of keys c)
             { chronicle = note-is i ∷ c; high = high-is.high i; leaf = high-is.its_leaf i })
             ∙ sym (variables-noted keys note c (qc_high keys.sizes (noted note ∷ c))
-            (leaf (identity_of keys) (noted note ∷ c)) refl refl refl);
+            (leaf (identity_of keys) (noted note ∷ c)) refl refl refl refl);
         sizes = sizes;
         pace = pace;
         out = (λ i. cond (nat_lt (was i) (at i)) (new_view_sent keys (at i) (q i) ∷ []) []) ∙ sent-is;
@@ -157,7 +158,7 @@ module _ (keys : Keys) (c : Chronicle) (n : GotNewView) (b : Branch)
 
 -- by what is found
 new-view-by : (keys : Keys) (c : Chronicle) (s : StateParts) (n : GotNewView) (result : Result Change Fault)
-    → IsStateOf keys c s → (o : Option Branch) → find_in n.certificate.digest (tree c) ≡ o
+    → IsStateOf keys c s → (o : Option Branch) → find_in n.certificate.digest (window c) ≡ o
     → IsNewViewAt keys s n result o
     → Follows keys (with_block o n.sender n.certificate.digest
     (λ x. rulings.due (noted (got_new_view n.view n.sender n.certificate x)))) c (answer result)
@@ -173,10 +174,10 @@ pub new-view-decided :
     (keys : Keys) (c : Chronicle) (s : StateParts) (n : GotNewView) (result : Result Change Fault)
     → IsNewView keys s n result → IsStateOf keys c s
     → StepsTo keys (new_view_in n.view n.sender n.certificate) c (answer result) (after result s)
-unfolding ruling find_block tree
+unfolding ruling find_block window
 new-view-decided keys c s n result h o =
     let same = ap (λ (v : Variables). find_in n.certificate.digest (blocks v.stored)) o.same in
-    new-view-by keys c s n result o (find_in n.certificate.digest (blocks (stored_blocks c))) refl
+    new-view-by keys c s n result o (find_in n.certificate.digest (blocks (standing_blocks c))) refl
     (subst (IsNewViewAt keys s n result) same h)
 
 -- whether it moved, as a test

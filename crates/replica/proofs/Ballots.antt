@@ -10,7 +10,7 @@ use Rattle.definitions.specs.Branches.{Branch}
 use Rattle.definitions.specs.Keyrings.{Keys}
 use Rattle.definitions.specs.Checks.{identity_of}
 use Rattle.definitions.specs.Trees.{blocks, find_in}
-use Rattle.definitions.specs.Chronicles.{Note, Step.noted, Note.got_vote, Chronicle, stored_blocks, tree}
+use Rattle.definitions.specs.Chronicles.{Note, Step.noted, Note.got_vote, Chronicle, standing_blocks, window}
 use Rattle.definitions.specs.Chronicles.{IsSound}
 use Rattle.definitions.specs.States.{Justified, qc_high, find_block, leaf}
 use Rattle.definitions.specs.Rulings.{Input.vote_in, ruling, conflicts, with_block}
@@ -37,7 +37,7 @@ use Rattle.replica.proofs.Steps.{no-memory, asks, refused, stands, calm}
 use Rattle.replica.proofs.Stays.{leaf-same, leaf-raised, variables-noted}
 
 module _ (keys : Keys) (c : Chronicle) (s : StateParts) (is : IsStateOf keys c s) (d : Bytes) (vote : Vote)
-    (b : Branch) (found : find_in d (tree c) ≡ Some b) where
+    (b : Branch) (found : find_in d (window c) ≡ Some b) where
   abbrev note : Note
   note = got_vote vote.voter vote.vector b
 
@@ -45,12 +45,12 @@ module _ (keys : Keys) (c : Chronicle) (s : StateParts) (is : IsStateOf keys c s
   block = record { digest = d; height = length b }
 
   block-is : block ≡ ref_of b
-  block-is = λ i. record { digest = sym (found-in d (tree c) b found).1 i; height = length b }
+  block-is = λ i. record { digest = sym (found-in d (window c) b found).1 i; height = length b }
 
   -- the vote as it is stored
-  note-is : noted (got_vote vote.voter vote.vector (or_genesis (find_in d (blocks (stored_blocks c)))))
+  note-is : noted (got_vote vote.voter vote.vector (or_genesis (find_in d (blocks (standing_blocks c)))))
       ≡ noted note
-  unfolding tree
+  unfolding window
   note-is = ap (λ (o : Option Branch). noted (got_vote vote.voter vote.vector (or_genesis o))) found
 
   follows : FollowsVote keys.sizes c s.votes.kept d b vote
@@ -69,7 +69,7 @@ module _ (keys : Keys) (c : Chronicle) (s : StateParts) (is : IsStateOf keys c s
     variables = (λ i. changed_variables (vote_noted (record s { variables = is.same i }) block vote)
         (variables_of keys c))
         ∙ (λ i. record (variables_of keys c) { chronicle = note-is i ∷ c })
-        ∙ sym (variables-noted keys note c (qc_high keys.sizes c) (leaf (identity_of keys) c) refl q
+        ∙ sym (variables-noted keys note c (qc_high keys.sizes c) (leaf (identity_of keys) c) refl refl q
         (leaf-same (identity_of keys) (noted note) c refl q));
     sizes = is.sizes;
     pace = paced-still (noted note) c s.pace tt is.pace;
@@ -98,7 +98,7 @@ module _ (keys : Keys) (c : Chronicle) (s : StateParts) (is : IsStateOf keys c s
               high = record { block = block-is i; certificate = made.certificate };
               leaf = block-is i;
             })
-            ∙ sym (variables-noted keys note c made b refl q
+            ∙ sym (variables-noted keys note c made b refl refl q
             (leaf-raised (identity_of keys) (noted note) c made q lt));
         sizes = is.sizes;
         pace = paced-still (noted note) c s.pace tt is.pace;
@@ -163,7 +163,7 @@ counted-waits s block vote =
 -- by what is found
 vote-by :
     (keys : Keys) (c : Chronicle) (s : StateParts) (d : Bytes) (vote : Vote) (result : Result Change Fault)
-    → IsStateOf keys c s → (o : Option Branch) → find_in d (tree c) ≡ o → IsVoteAt s d vote result o
+    → IsStateOf keys c s → (o : Option Branch) → find_in d (window c) ≡ o → IsVoteAt s d vote result o
     → Follows keys
     (with_block o vote.voter d (λ x. rulings.due (noted (got_vote vote.voter vote.vector x)))) c
     (answer result) (after result s)
@@ -186,8 +186,8 @@ pub vote-decided :
     (keys : Keys) (c : Chronicle) (s : StateParts) (d : Bytes) (vote : Vote) (result : Result Change Fault)
     → IsVoteDecided s d vote result → IsStateOf keys c s
     → StepsTo keys (vote_in d vote) c (answer result) (after result s)
-unfolding ruling find_block tree
+unfolding ruling find_block window
 vote-decided keys c s d vote result h is =
     let same = ap (λ (v : Variables). find_in d (blocks v.stored)) is.same in
-    vote-by keys c s d vote result is (find_in d (blocks (stored_blocks c))) refl
+    vote-by keys c s d vote result is (find_in d (blocks (standing_blocks c))) refl
     (subst (IsVoteAt s d vote result) same h)

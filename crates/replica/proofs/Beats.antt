@@ -15,7 +15,8 @@ use Rattle.definitions.specs.Keyrings.{Keys}
 use Rattle.definitions.specs.Checks.{Identity, identity_of}
 use Rattle.definitions.specs.Digests.{digest_of}
 use Rattle.definitions.specs.Chronicles.{Step.noted, Note.beat, Chronicle, IsSound}
-use Rattle.definitions.specs.States.{Justified, view, qc_high, pending, leads, is_known, known_as, picks, child}
+use Rattle.definitions.specs.States.{Justified, view, qc_high, pending, leads, is_known, known_as, picks}
+use Rattle.definitions.specs.States.{child}
 use Rattle.definitions.specs.States.{leaf, proposed, or_else, made_with, raised}
 use Rattle.definitions.specs.Rulings.{Input.beat_in, ruling, conflicts}
 use Rattle.definitions.specs.Sendings.{sendings, proposes}
@@ -66,7 +67,7 @@ module _ (keys : Keys) (c : Chronicle) (kept : StateParts) (few : length c < 2 ^
 
   made-is : Becomes (made_by keys s) (child self c on)
   unfolding child leads is_known Rattle.definitions.specs.States.find_block digest_of
-      Rattle.definitions.specs.Chronicles.tree Rattle.definitions.specs.Digests.digest
+      Rattle.definitions.specs.Chronicles.window Rattle.definitions.specs.Digests.digest
       Rattle.definitions.specs.Digests.core_of Rattle.definitions.specs.Digests.core_over
   made-is = by (leads self c && is_known (digest_of on) c) refl
     where
@@ -94,7 +95,8 @@ module _ (keys : Keys) (c : Chronicle) (kept : StateParts) (few : length c < 2 ^
   sent-is false p = refl
 
   step-is : IsStep keys c (noted beat) s.pace (beat_change keys s)
-  unfolding leaf proposed leads sendings qc_high raised Rattle.definitions.specs.Chronicles.stored_blocks
+  unfolding leaf proposed leads sendings qc_high raised Rattle.definitions.specs.Chronicles.standing_blocks
+      Rattle.definitions.specs.Chronicles.horizon Rattle.definitions.specs.Chronicles.stored_blocks
       Rattle.definitions.specs.Chronicles.taken_blocks Rattle.definitions.specs.Chronicles.vheight
       Rattle.definitions.specs.Chronicles.voted_blocks Rattle.definitions.specs.Chronicles.lock
       Rattle.definitions.specs.Chronicles.executed Rattle.definitions.specs.Chronicles.decided

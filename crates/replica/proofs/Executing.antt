@@ -2,8 +2,9 @@
 use Rattle.std.proofs.Common.{ℕ, zero, suc, ◌≡◌, ◌+◌, ◌-◌, ◌<◌, ◌≤◌, Bool, true, false, List, [], ◌∷◌, ◌++◌}
 use Rattle.std.proofs.Common.{length, map, reverse, take, drop, cond, refl, sym, ap, ◌∙◌, subst, arith}
 use Rattle.std.proofs.Common.{append_assoc, option_to_list, Option, Some, None, Result, Ok, Err, OnErr, inl}
-use Rattle.std.proofs.Common.{inr, length-append}
-use Rattle.std.specs.Prelude.{option_map}
+use Rattle.std.proofs.Common.{inr, length-append, true≢false}
+use Rattle.std.specs.Prelude.{option_map, nat_le, ◌||◌, ◌==◌}
+use Rattle.ids.specs.declared.limits.TheConstants.{MOST_BLOCKS}
 use Rattle.std.specs.Option.{option_and_then}
 use Rattle.std.proofs.lemmas.List.{append-nil, map-append, reverse-append, length-reverse, length-map}
 use Rattle.std.proofs.lemmas.List.{length-take-le, take-append-drop}
@@ -15,13 +16,13 @@ use Rattle.definitions.specs.Lists.{beginning, IsBeginning, Among}
 use Rattle.definitions.specs.Frames.{Command, Core}
 use Rattle.definitions.specs.Branches.{Block, Branch, Extends}
 use Rattle.definitions.specs.Digests.{digest_of, core_of, core_over}
-use Rattle.definitions.specs.Trees.{Stored, blocks, find_in}
-use Rattle.definitions.specs.Chronicles.{Chronicle, stored_blocks, tree, IsSound}
+use Rattle.definitions.specs.Trees.{Stored, TreeState, blocks, find_in}
+use Rattle.definitions.specs.Chronicles.{Chronicle, horizon, standing_blocks, window, IsSound}
 use Rattle.definitions.specs.Histories.{Entry, entry_of, History, history_of, Answer, answers, is_fresh}
 use Rattle.definitions.specs.Histories.{answer_in}
 use Rattle.definitions.specs.Keyrings.{Keys}
 use Rattle.definitions.proofs.Lists.{beginning-begins, length-beginning, IsBeginning-beginning}
-use Rattle.definitions.proofs.Trees.{found-in, found-itself, whole-below}
+use Rattle.definitions.proofs.Trees.{found-in, found-itself, tree-below}
 use Rattle.definitions.proofs.Histories.{history_of-grows}
 use Rattle.block_tree.specs.Finding.{stored_in, at_height}
 use Rattle.block_tree.proofs.Found.{block_from, blocks-found}
@@ -31,7 +32,8 @@ use Rattle.mempool.specs.Pool.{left_after}
 use Rattle.executor.specs.State.{with_commands, new_answers}
 use Rattle.replica.proofs.Waiting.{left-append, shorter, whole-cut, whole-exact}
 use Rattle.signed_frames.specs.Outs.{SentBytes}
-use Rattle.replica.specs.Execution.{block_at, commands_at, history_above, IsCutIn, IsCut, told_one, told}
+use Rattle.replica.specs.Execution.{seen_at, block_at, commands_at, history_above, IsCutIn, IsCut, told_one}
+use Rattle.replica.specs.Execution.{told}
 
 -- ---- the replies
 
@@ -96,7 +98,7 @@ all-heights from to height none low high =
     ]
 
 -- the blocks up to this height were executed
-pub record IsUpTo (keys : Keys) (tip : Bytes) (all : List Stored) (from height : ℕ) (old now : History)
+pub record IsUpTo (keys : Keys) (tip : Bytes) (all : TreeState) (from height : ℕ) (old now : History)
     (waits left : List Command) (first out : List SentBytes) : Type 0 where
   pub low : from ≤ height
   pub now_is : now ≡ history_above tip all from (height - from) old
@@ -106,7 +108,7 @@ pub record IsUpTo (keys : Keys) (tip : Bytes) (all : List Stored) (from height :
   pub left_are : left ≡ left_after (history_above tip all from (height - from) []) waits
 
 -- the entries of the blocks above a height come before what was executed
-pub above-appended : (tip : Bytes) (all : List Stored) (from count : ℕ) (h : History)
+pub above-appended : (tip : Bytes) (all : TreeState) (from count : ℕ) (h : History)
     → history_above tip all from count h ≡ history_above tip all from count [] ++ h
 unfolding history_above
 above-appended tip all from zero h = refl
@@ -115,7 +117,7 @@ above-appended tip all from (suc n) h =
     ap (λ (l : History). new ++ l) (above-appended tip all from n h)
     ∙ sym (append_assoc new (history_above tip all from n []) h)
 
-module _ (keys : Keys) (tip : Bytes) (all : List Stored) (from : ℕ) (old : History) (waits : List Command)
+module _ (keys : Keys) (tip : Bytes) (all : TreeState) (from : ℕ) (old : History) (waits : List Command)
     (first : List SentBytes) where
   pub begins-up : IsUpTo keys tip all from from old old waits waits first first
   unfolding history_above told left_after
@@ -216,7 +218,7 @@ grown-by b parent = refl
 abbrev commands-of : Option Stored → List Command
 commands-of o = elim o [ Some s ↦ (core_of s.branch).commands | None ↦ [] ]
 
-pub commands-some : (tip : Bytes) (height : ℕ) (all : List Stored) (k : Core)
+pub commands-some : (tip : Bytes) (height : ℕ) (all : TreeState) (k : Core)
     → Some k ≡ option_map (λ s. core_of s.branch) (block_at tip height all)
     → commands_at tip height all ≡ k.commands
 commands-some tip height all k e = by (block_at tip height all) e
@@ -228,7 +230,7 @@ commands-some tip height all k e = by (block_at tip height all) e
         none : Some k ≡ None → ⊥
         none j = cc
 
-pub commands-none : (tip : Bytes) (height : ℕ) (all : List Stored)
+pub commands-none : (tip : Bytes) (height : ℕ) (all : TreeState)
     → option_map {T = Stored} {U = Core} (λ s. core_of s.branch) (block_at tip height all) ≡ None
     → commands_at tip height all ≡ []
 commands-none tip height all e = by (block_at tip height all) e
@@ -252,27 +254,39 @@ stored-commands d all y e l = by (stored_in d all) (sym (blocks-found d all) ∙
     by (Some s) k = let same : s.branch ≡ y = (cc) in ap (λ (b : Branch). (core_of b).commands) same
     by None k = absurd (let n = ap (λ (b : Branch). length b) (genesis-alone d y k) in omega (arith, n, l))
 
+-- the tree of a chronicle
+abbrev pub tree_at : Chronicle → TreeState
+tree_at c = record { most = MOST_BLOCKS; horizon = horizon c; stored = standing_blocks c }
+
+or_left : (x y : Bool) → x ≡ true → (x || y) ≡ true
+or_left true y e = refl
+or_left false y e = absurd (true≢false (sym e))
+
 -- the block of a chronicle's tree
-module _ (sizes : Sizes) (c : Chronicle) (so : IsSound sizes c) (x : Branch) (m : Among x (tree c)) where
-  found : (y : Branch) → Among y (tree c) → find_in (digest_of y) (blocks (stored_blocks c)) ≡ Some y
-  unfolding tree
-  found y k = found-itself 0 (tree c) so.is_tree y k
+module _ (sizes : Sizes) (c : Chronicle) (so : IsSound sizes c) (x : Branch) (m : Among x (window c)) where
+  found : (y : Branch) → Among y (window c) → find_in (digest_of y) (blocks (standing_blocks c)) ≡ Some y
+  unfolding window
+  found y k = found-itself (horizon c) (window c) so.is_tree y k
 
-  -- its branch stands in the tree
-  below : (h : ℕ) → Among (beginning h x) (tree c)
-  below h = whole-below (tree c) so.is_tree x (beginning h x) m (beginning-begins h x)
+  -- its branch stands in the tree, as far as it is in reach
+  below : (h : ℕ) → h ≤ length x → horizon c ≤ h + 2 → Among (beginning h x) (window c)
+  below h k r = tree-below (horizon c) (window c) so.is_tree x (beginning h x) m (beginning-begins h x)
+      (let n = length-beginning h x k in omega (arith, n, r))
 
-  pub commands-are : (h : ℕ) → 1 ≤ h → h ≤ length x
-      → commands_at (digest_of x) h (stored_blocks c) ≡ (core_of (beginning h x)).commands
-  commands-are h l k =
-      let at : option_and_then (at_height h) (find_in (digest_of x) (blocks (stored_blocks c)))
+  pub commands-are : (h : ℕ) → 1 ≤ h → h ≤ length x → horizon c ≤ h + 2
+      → commands_at (digest_of x) h (tree_at c) ≡ (core_of (beginning h x)).commands
+  commands-are h l k r =
+      let sight : (nat_le (horizon c) (h + 2) || (h == 0)) ≡ true =
+      or_left (nat_le (horizon c) (h + 2)) (h == 0) (le-leb (horizon c) (h + 2) r) in
+      let at : option_and_then (seen_at (horizon c) h) (find_in (digest_of x) (blocks (standing_blocks c)))
       ≡ Some (beginning h x) =
-      ap (option_and_then (at_height h)) (found x m)
+      ap (option_and_then (seen_at (horizon c) h)) (found x m)
+      ∙ ap (λ (b : Bool). cond b (at_height h x) None) sight
       ∙ ap (λ (b : Bool). cond b (Some (beginning h x)) None) (le-leb h (length x) k) in
       ap (λ (o : Option Branch). commands-of
-      (option_and_then (λ d. stored_in d (stored_blocks c)) (option_map digest_of o))) at
-      ∙ stored-commands (digest_of (beginning h x)) (stored_blocks c) (beginning h x)
-      (found (beginning h x) (below h)) (let n = length-beginning h x k in omega (arith, n, l))
+      (option_and_then (λ d. stored_in d (standing_blocks c)) (option_map digest_of o))) at
+      ∙ stored-commands (digest_of (beginning h x)) (standing_blocks c) (beginning h x)
+      (found (beginning h x) (below h k r)) (let n = length-beginning h x k in omega (arith, n, l))
 
   -- one block more
   one-up : (n : ℕ) → suc n ≤ length x
@@ -295,16 +309,16 @@ module _ (sizes : Sizes) (c : Chronicle) (so : IsSound sizes c) (x : Branch) (m 
           (ap (λ (i : ℕ). beginning i x) (sym here) ∙ IsBeginning-beginning parent x low)
           ∙ grown-by b parent
 
-  pub history-is : (from count : ℕ) → from + count ≤ length x
-      → history_above (digest_of x) (stored_blocks c) from count (history_of (beginning from x))
+  pub history-is : (from count : ℕ) → horizon c ≤ from → from + count ≤ length x
+      → history_above (digest_of x) (tree_at c) from count (history_of (beginning from x))
       ≡ history_of (beginning (from + count) x)
   unfolding history_above
-  history-is from zero l =
+  history-is from zero r l =
       ap (λ (i : ℕ). history_of (beginning i x)) (let e : from ≡ from + 0 = omega arith in e)
-  history-is from (suc n) l =
+  history-is from (suc n) r l =
       let e : suc (from + n) ≡ from + suc n = omega arith in
-      let cs = commands-are (suc (from + n)) (omega arith) (omega (arith, l)) in
-      (λ i. with_commands (cs i) (history-is from n (omega (arith, l)) i))
+      let cs = commands-are (suc (from + n)) (omega arith) (omega (arith, l)) (omega (arith, r)) in
+      (λ i. with_commands (cs i) (history-is from n r (omega (arith, l)) i))
       ∙ one-up (from + n) (omega (arith, l)) ∙ ap (λ (i : ℕ). history_of (beginning i x)) e
 
 -- ---- where it was cut short
@@ -338,18 +352,19 @@ pub record IsBetween (c : Chronicle) (x : Branch) (from : ℕ) (held : History) 
   pub left_are : left ≡ left_after new waits
 
 -- the whole blocks, by whether the last one begun was whole too
-module _ (sizes : Sizes) (c : Chronicle) (so : IsSound sizes c) (x : Branch) (m : Among x (tree c))
-    (from blocks : ℕ) (below : from + blocks < length x) where
+module _ (sizes : Sizes) (c : Chronicle) (so : IsSound sizes c) (x : Branch) (m : Among x (window c))
+    (from blocks : ℕ) (reach : horizon c ≤ from) (below : from + blocks < length x) where
   cs : List Command
   cs = (core_of (beginning (suc (from + blocks)) x)).commands
 
-  cs-are : commands_at (digest_of x) (suc (from + blocks)) (stored_blocks c) ≡ cs
+  cs-are : commands_at (digest_of x) (suc (from + blocks)) (tree_at c) ≡ cs
   unfolding cs
   cs-are = commands-are sizes c so x m (suc (from + blocks)) (omega arith) (omega (arith, below))
+      (omega (arith, reach))
 
-  before : history_above (digest_of x) (stored_blocks c) from blocks (history_of (beginning from x))
+  before : history_above (digest_of x) (tree_at c) from blocks (history_of (beginning from x))
       ≡ history_of (beginning (from + blocks) x)
-  before = history-is sizes c so x m from blocks (omega (arith, below))
+  before = history-is sizes c so x m from blocks reach (omega (arith, below))
 
   here : with_commands cs (history_of (beginning (from + blocks) x))
       ≡ history_of (beginning (suc (from + blocks)) x)
@@ -366,12 +381,12 @@ module _ (sizes : Sizes) (c : Chronicle) (so : IsSound sizes c) (x : Branch) (m 
       (length-reverse (map entry_of cs) ∙ length-map cs entry_of)
 
   entries : (n : ℕ) → History
-  entries n = history_above (digest_of x) (stored_blocks c) from n []
+  entries n = history_above (digest_of x) (tree_at c) from n []
 
   up-to : history_of (beginning (from + blocks) x) ≡ entries blocks ++ history_of (beginning from x)
   unfolding entries
   up-to =
-      sym before ∙ above-appended (digest_of x) (stored_blocks c) from blocks (history_of (beginning from x))
+      sym before ∙ above-appended (digest_of x) (tree_at c) from blocks (history_of (beginning from x))
 
   up-over : history_of (beginning (suc (from + blocks)) x)
       ≡ entries (suc blocks) ++ history_of (beginning from x)
@@ -383,9 +398,9 @@ module _ (sizes : Sizes) (c : Chronicle) (so : IsSound sizes c) (x : Branch) (m 
       ++ history_of (beginning from x)) (sym cs-are)
 
   pub cut-by : (h : History) (waits left : List Command) → from ≤ length x
-      → IsCutIn (commands_at (digest_of x) (suc (from + blocks)) (stored_blocks c))
-      (history_above (digest_of x) (stored_blocks c) from blocks (history_of (beginning from x))) h
-      (left_after (history_above (digest_of x) (stored_blocks c) from blocks []) waits) left
+      → IsCutIn (commands_at (digest_of x) (suc (from + blocks)) (tree_at c))
+      (history_above (digest_of x) (tree_at c) from blocks (history_of (beginning from x))) h
+      (left_after (history_above (digest_of x) (tree_at c) from blocks []) waits) left
       → IsBetween c x from h waits left
   unfolding entries history_above
   cut-by h waits left f k =
@@ -430,7 +445,7 @@ module _ (sizes : Sizes) (c : Chronicle) (so : IsSound sizes c) (x : Branch) (m 
                   ∙ up-over,
               k.whole (exact ∙ ap (λ (z : List Command). length z) (sym cs-are))
                   ∙ sym (left-append
-                  (reverse (map entry_of (commands_at (digest_of x) (suc (from + blocks)) (stored_blocks c))))
+                  (reverse (map entry_of (commands_at (digest_of x) (suc (from + blocks)) (tree_at c))))
                   (entries blocks) waits),
             )
       ] in
@@ -444,9 +459,9 @@ module _ (sizes : Sizes) (c : Chronicle) (so : IsSound sizes c) (x : Branch) (m 
         left_are = last.2;
       }
 
-pub cut-is : (sizes : Sizes) (c : Chronicle) → IsSound sizes c → (x : Branch) → Among x (tree c)
-    → (from : ℕ) (h : History) (waits left : List Command) → from ≤ length x
-    → IsCut (digest_of x) (stored_blocks c) from (length x) (history_of (beginning from x)) h waits left
+pub cut-is : (sizes : Sizes) (c : Chronicle) → IsSound sizes c → (x : Branch) → Among x (window c)
+    → (from : ℕ) (h : History) (waits left : List Command) → horizon c ≤ from → from ≤ length x
+    → IsCut (digest_of x) (tree_at c) from (length x) (history_of (beginning from x)) h waits left
     → IsBetween c x from h waits left
-cut-is sizes c so x m from h waits left f k =
-    cut-by sizes c so x m from k.blocks k.below h waits left f k.next
+cut-is sizes c so x m from h waits left r f k =
+    cut-by sizes c so x m from k.blocks r k.below h waits left f k.next

@@ -4,8 +4,9 @@ use Rattle.std.proofs.Common.{List, ◌≡◌, [], refl, sym, ap, subst, None}
 use Rattle.definitions.specs.Frames.{genesis_core}
 use Rattle.definitions.specs.Keyrings.{Keys}
 use Rattle.definitions.specs.Digests.{digest}
+use Rattle.definitions.specs.Chronicles.{standing_blocks}
 use Rattle.definitions.specs.Chronicles.{taken_blocks, stored_blocks, tree, decided, decided_by, executed}
-use Rattle.definitions.specs.Chronicles.{history}
+use Rattle.definitions.specs.Chronicles.{history, horizon}
 use Rattle.definitions.specs.Branches.{highest}
 use Rattle.definitions.specs.FrameLimits.{IsCore}
 use Rattle.definitions.specs.Digests.{AllKnown}
@@ -28,6 +29,7 @@ pub first : (keys : Keys) (s : StateParts)
     ≡ record {
       chronicle = [];
       most = MOST_BLOCKS;
+      horizon = 0;
       stored = [];
       rules = ruled_by [];
       high =
@@ -37,7 +39,7 @@ pub first : (keys : Keys) (s : StateParts)
     }
     → s.pace.sizes ≡ keys.sizes → IsPaceOf [] s.pace → s.votes ≡ record { sizes = keys.sizes; kept = [] }
     → s.pending ≡ [] → IsStateOf keys [] s
-unfolding qc_high leaf proposed pending stored_blocks taken_blocks tree
+unfolding qc_high leaf proposed pending standing_blocks stored_blocks taken_blocks horizon
 first keys s e z p v w = record {
   same = e;
   sizes = z;

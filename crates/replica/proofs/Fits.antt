@@ -27,7 +27,8 @@ use Rattle.replica.specs.Ballots.{vote_noted, vote_counted, vote_change, IsVoteA
 pub fits-timeout : (keys : Keys) (s : StateParts) (result : Result Change Fault)
     → IfOk result (IsTimeout keys s)
     → IfOk result (λ d. Fits s d)
-fits-timeout keys s (Ok d) t = subst (Fits s) (sym t.change) (record { growth = tt; step = refl })
+fits-timeout keys s (Ok d) t = subst (Fits s) (sym t.change)
+    (record { growth = tt; step = refl; pruning = refl })
 fits-timeout keys s (Err n) t = tt
 
 pub fits-new-view : (keys : Keys) (s : StateParts) (n : GotNewView) (result : Result Change Fault)
@@ -36,27 +37,28 @@ fits-new-view keys s n result h = by result (find_in n.certificate.digest (block
   where
     by : (r : Result Change Fault) (o : Option Branch) → IsNewViewAt keys s n r o → IfOk r (λ d. Fits s d)
     by (Ok d) None h = absurd (let k : Ok d ≡ Err fault.UnknownParent = h in cc)
-    by (Ok d) (Some b) h = subst (Fits s) (sym h.change) (record { growth = tt; step = refl })
+    by (Ok d) (Some b) h = subst (Fits s) (sym h.change) (record { growth = tt; step = refl; pruning = refl })
     by (Err n) o h = tt
 
 pub fits-block : (keys : Keys) (s : StateParts) (o : Offered) (result : Result Change Fault)
     → IsDecided keys s o result → IfOk result (λ d. Fits s d)
 fits-block keys s o result h =
-    by result (placing 0 s.variables.most o.core o.certificate (blocks s.variables.stored)) h
+    by result (placing s.variables.horizon s.variables.most o.core o.certificate
+    (blocks s.variables.stored)) h
   where
     by : (r : Result Change Fault) (p : Placing) → IsDecidedAt keys s o r p → IfOk r (λ d. Fits s d)
-    by (Ok d) (stands b) h = subst (Fits s) (sym h) (record { growth = tt; step = refl })
+    by (Ok d) (stands b) h = subst (Fits s) (sym h) (record { growth = tt; step = refl; pruning = refl })
     by (Ok d) (grows b) h =
-        subst (Fits s) (sym h.change) (record { growth = h.its_node.may_stand; step = refl })
+        subst (Fits s) (sym h.change) (record { growth = h.its_node.may_stand; step = refl; pruning = refl })
     by (Ok d) lacks_parent h = absurd (let k : Ok d ≡ Err fault.UnknownParent = h in cc)
     by (Ok d) (unfit n) h = absurd (let k : Ok d ≡ Err n = h in cc)
     by (Err n) p h = tt
 
 counted-fits : (s : StateParts) (block : BlockRef) (vote : Vote) (a : Added) → IsVote s.votes.sizes vote
     → Fits s (vote_counted s block vote a)
-counted-fits s block vote First h = record { growth = h; step = refl }
-counted-fits s block vote Doubled h = record { growth = tt; step = refl }
-counted-fits s block vote Complete h = record { growth = tt; step = refl }
+counted-fits s block vote First h = record { growth = h; step = refl; pruning = refl }
+counted-fits s block vote Doubled h = record { growth = tt; step = refl; pruning = refl }
+counted-fits s block vote Complete h = record { growth = tt; step = refl; pruning = refl }
 
 vote-fits : (s : StateParts) (block : BlockRef) (vote : Vote) → IsVote s.votes.sizes vote
     → Fits s (vote_change s block vote)
@@ -67,7 +69,7 @@ vote-fits s block vote h =
     (vote_noted s block vote) (λ d. Fits s d)
     (λ t. counted-fits s block vote
     (judged (quorum s.votes.sizes) vote.voter (votes_for block.digest s.votes.kept)) h)
-    (λ t. record { growth = tt; step = refl })
+    (λ t. record { growth = tt; step = refl; pruning = refl })
 
 pub fits-vote : (s : StateParts) (d : Bytes) (vote : Vote) (result : Result Change Fault)
     → IsVote s.votes.sizes vote → IsVoteDecided s d vote result → IfOk result (λ x. Fits s x)

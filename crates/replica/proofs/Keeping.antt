@@ -13,15 +13,19 @@ use Rattle.definitions.specs.Digests.{digest, digest_of, core_of}
 use Rattle.definitions.specs.Trees.{Placing, Placing.stands, Placing.grows, Placing.lacks_parent}
 use Rattle.definitions.specs.Trees.{Placing.unfit, placing}
 use Rattle.definitions.specs.Checks.{Identity, Findings}
+use Rattle.definitions.specs.Chronicles.{horizon}
+use Rattle.definitions.specs.Chronicles.{window}
 use Rattle.definitions.specs.Chronicles.{Admitted, Step, Step.took_block, Step.noted, Note, Chronicle}
 use Rattle.definitions.specs.Chronicles.{history, tree, stored_blocks, taken_blocks}
 use Rattle.definitions.specs.States.{is_due, is_same_request, pending}
 use Rattle.definitions.specs.Rulings.{Input, Input.proposal_in, Input.block_in, Input.vote_in}
 use Rattle.definitions.specs.Rulings.{Input.new_view_in, Input.request_in, Input.fetch_in, Input.timeout_in}
-use Rattle.definitions.specs.Rulings.{Input.beat_in, Ruling.due, admitted, on_placing, on_block, on_request}
+use Rattle.definitions.specs.Rulings.{Input.beat_in, Input.prune_in, Ruling.due, admitted, on_placing}
+use Rattle.definitions.specs.Rulings.{on_block, on_request}
 use Rattle.definitions.specs.Rulings.{with_block, ruling}
 use Rattle.definitions.proofs.Trees.{found-in, core-known, digest-core, IsPlaced, placed}
 use Rattle.definitions.proofs.Chronicles.{tree-grows}
+use Rattle.definitions.proofs.Horizons.{window-tree}
 use Rattle.linear_law.proofs.Inputs.{AllStanding}
 use Rattle.audit_ground.specs.Law.{IsStored}
 use Rattle.replica.specs.Kept.{AreStored}
@@ -33,14 +37,19 @@ Stores c (noted n) = ⊤
 
 placed-stored : (self : Identity) (w : Option ℕ) (sender : ℕ) (core : Core) (q : Certificate) (f : Findings)
     (c : Chronicle) (p : Placing)
-    → IsPlaced 0 MOST_BLOCKS core q (tree c) p
+    → IsPlaced (horizon c) MOST_BLOCKS core q (window c) p
     → AllStanding (Stores c) (on_placing self w sender core q f c p)
 unfolding on_placing admitted tree stored_blocks taken_blocks
 placed-stored self w sender core q f c (stands b) h =
-    let found = found-in (digest core) (tree c) b h.0 in
-    record { stands = found.0; named = sym found.1; justified = h.1; own = λ n. absurd (true≢false (sym n)) }
+    let found = found-in (digest core) (window c) b h.0 in
+    record {
+      stands = window-tree c b found.0;
+      named = sym found.1;
+      justified = h.1;
+      own = λ n. absurd (true≢false (sym n));
+    }
 placed-stored self w sender core q f c (grows b) (parent, g) =
-    let above = sym (found-in core.parent (tree c) parent g.parent_found).1 in
+    let above = sym (found-in core.parent (window c) parent g.parent_found).1 in
     record {
       stands = inl refl;
       named = sym (ap digest_of g.is ∙ digest-core core parent above g.height);
@@ -54,8 +63,8 @@ block-stored : (self : Identity) (w : Option ℕ) (sender : ℕ) (core : Core) (
     (c : Chronicle)
     → AllStanding (Stores c) (on_block self w sender core q f c)
 block-stored self w sender core q f c =
-    placed-stored self w sender core q f c (placing 0 MOST_BLOCKS core q (tree c))
-    (placed 0 MOST_BLOCKS core q (tree c))
+    placed-stored self w sender core q f c (placing (horizon c) MOST_BLOCKS core q (window c))
+    (placed (horizon c) MOST_BLOCKS core q (window c))
 
 noted-stored : (c : Chronicle) (o : Option Branch) (sender : ℕ) (d : Bytes) (note : Branch → Note)
     → AllStanding (Stores c) (with_block o sender d (λ x. due (noted (note x))))
@@ -81,6 +90,7 @@ ruling-stored self (request_in r) c = request-stored r c
 ruling-stored self (fetch_in sender d) c = tt
 ruling-stored self timeout_in c = tt
 ruling-stored self beat_in c = tt
+ruling-stored self (prune_in height) c = tt
 
 -- what was stored so stays so
 still-stored : (st : Step) (c : Chronicle) (a : Admitted) → IsStored c a → IsStored (st ∷ c) a

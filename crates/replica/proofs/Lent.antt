@@ -12,7 +12,7 @@ use Rattle.block_tree.specs.declared.node.Node.{Node}
 use Rattle.block_tree.specs.Nodes.{IsNodeOf}
 use Rattle.replica.specs.declared.stored.StoredStep.{StoredStep}
 use Rattle.replica.specs.declared.stored.StoredStep.TheVariants.{TookNew, TookAgain, GotVote, GotNewView}
-use Rattle.replica.specs.declared.stored.StoredStep.TheVariants.{GotRequest, GotFetch, TimedOut, Beat}
+use Rattle.replica.specs.declared.stored.StoredStep.TheVariants.{GotRequest, GotFetch, TimedOut, Beat, Pruned}
 use Rattle.replica.specs.Replay.{is_new, taken_new, step_of, before, newest, replay}
 use Rattle.replica.proofs.Replaying.{replay-push}
 
@@ -50,6 +50,7 @@ taken-count (GotRequest r ∷ earlier) stored = taken-count earlier (before (Got
 taken-count (GotFetch f ∷ earlier) stored = taken-count earlier (before (GotFetch f) stored)
 taken-count (TimedOut ∷ earlier) stored = taken-count earlier (before TimedOut stored)
 taken-count (Beat ∷ earlier) stored = taken-count earlier (before Beat stored)
+taken-count (Pruned height ∷ earlier) stored = taken-count earlier (before (Pruned height) stored)
 
 -- the node of the newest of these blocks
 pub newest-node : (k : ℕ) (stored : List Stored) → k < length stored → (n : Node)

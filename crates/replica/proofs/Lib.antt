@@ -2,6 +2,7 @@ pub mod Replaying
 pub mod Logging
 pub mod Lent
 pub mod Steps
+mod Prunings
 pub mod Executing
 pub mod Walking
 pub mod Advancing
@@ -16,6 +17,6 @@ pub mod Ballots
 pub mod Checked
 pub mod Fits
 pub mod First
-pub mod Whole
+pub mod WholeSteps
 pub mod Waiting
 pub mod Keeping

@@ -3,7 +3,8 @@ use Rattle.ids.specs.declared.limits.TheConstants.{MOST_BLOCKS}
 use Rattle.ids.specs.declared.fault.Fault.{Fault}
 use Rattle.ids.specs.declared.fault.Fault.TheVariants as fault
 use Rattle.std.proofs.Common.{ℕ, ◌≡◌, ◌<◌, ◌&&◌, Bool, true, false, [], ◌∷◌, length}
-use Rattle.std.proofs.Common.{cond, refl, sym, ap, ◌∙◌, subst, List, inl, inr, Option, Some, None, Result, Ok, Err}
+use Rattle.std.proofs.Common.{cond, refl, sym, ap, ◌∙◌, subst, List, inl, inr, Option, Some, None, Result, Ok}
+use Rattle.std.proofs.Common.{Err}
 use Rattle.std.specs.Prelude.{option_map}
 use Rattle.ids.specs.Sizes.{leader}
 use Rattle.definitions.specs.Frames.{Core}
@@ -13,9 +14,9 @@ use Rattle.definitions.specs.Keyrings.{Keys}
 use Rattle.definitions.specs.Checks.{identity_of}
 use Rattle.definitions.specs.Trees.{Stored, blocks, find_in, block_of, Placing, Placing.grows}
 use Rattle.definitions.specs.Trees.{Placing.lacks_parent, Placing.unfit, placing}
-use Rattle.definitions.specs.Chronicles.{Admitted, Step, Step.took_block, Chronicle, stored_blocks}
+use Rattle.definitions.specs.Chronicles.{Admitted, Step, Step.took_block, Chronicle, standing_blocks}
 use Rattle.definitions.specs.Chronicles.{stored_block}
-use Rattle.definitions.specs.Chronicles.{tree}
+use Rattle.definitions.specs.Chronicles.{horizon, window}
 use Rattle.definitions.specs.States.{view, raised}
 use Rattle.definitions.specs.Rulings.{Ruling.due, admitted, votes_for, on_placing, on_block}
 use Rattle.definitions.specs.Rulings.{conflicts}
@@ -33,8 +34,9 @@ use Rattle.replica_rules.specs.Ruled.{Ruled, ref_of, ruled_by, with_vote}
 use Rattle.replica_rules.specs.Votes.{candidate_of, may_vote_in, may_vote_over}
 use Rattle.replica_rules.specs.Chains.{ruled_after}
 use Rattle.replica_rules.specs.declared.block_ref.BlockRef.{BlockRef}
-use Rattle.replica_rules.proofs.Votes.{votes-known, votes-new, stored-known, stored-new}
-use Rattle.replica_rules.proofs.Takes.{taking_of, taking-new, taking-stands, taking-refused, justified-new, ruled-new}
+use Rattle.replica_rules.proofs.Votes.{votes-known, votes-new, standing-known, standing-new}
+use Rattle.replica_rules.proofs.Takes.{taking_of, taking-new, taking-stands, taking-refused, justified-new}
+use Rattle.replica_rules.proofs.Takes.{ruled-new}
 use Rattle.replica_rules.proofs.Takes.{ruled-known}
 use Rattle.replica.specs.declared.change.Change.{Change}
 use Rattle.replica.specs.declared.state.High.{High}
@@ -42,7 +44,8 @@ use Rattle.replica.specs.Replay.{or_genesis, step_of}
 use Rattle.signed_frames.specs.Outs.{SentBytes}
 use Rattle.replica.specs.Steps.{Shows}
 use Rattle.replica.specs.Kept.{Variables, StateParts, own_of, variables_of, IsStateOf}
-use Rattle.replica.specs.Changes.{grown, noting, tree_of, raise_of, leaf_after, IsStep}
+use Rattle.replica.specs.Changes.{grown, horizon_after, noting, raise_of, leaf_after, IsStep}
+use Rattle.replica.specs.Kept.{tree_of}
 use Rattle.replica.specs.declared.change.Growth.{Growth}
 use Rattle.replica.specs.declared.change.Growth.TheVariants.{Nothing, Block}
 use Rattle.replica.specs.declared.stored.StoredStep.{StoredStep}
@@ -83,17 +86,19 @@ module _ (keys : Keys) (c : Chronicle) (kept : StateParts) (o : Offered)
 
   -- a change that takes a block
   took-step : (a : Admitted) (step : StoredStep) (g : Growth) (r : Ruled) (h : Option High)
-      (out : List SentBytes) → step_of step (grown g v.stored) ≡ took_block a
-      → grown g v.stored ≡ stored_blocks (took_block a ∷ c) → r ≡ ruled_by (took_block a ∷ c)
+      (out : List SentBytes) → horizon_after g v.horizon ≡ v.horizon
+      → step_of step (grown g v.stored) ≡ took_block a
+      → grown g v.stored ≡ standing_blocks (took_block a ∷ c) → r ≡ ruled_by (took_block a ∷ c)
       → AreHigh keys (took_block a) c h
       → out ≡ votes_sent keys (view keys.sizes c) (digest_of a.branch) a.voted
       → IsStep keys c (took_block a) s.pace
       (record (noting v step out) { growth = g; rules = r; high = h; leaf = leaf_after h v.leaf })
-  unfolding vote_frame
-  took-step a step g r h out steps stored rules high sent = record {
+  unfolding vote_frame horizon
+  took-step a step g r h out low steps stored rules high sent = record {
     variables = λ i. record {
       chronicle = steps i ∷ c;
       most = MOST_BLOCKS;
+      horizon = low i;
       stored = stored i;
       rules = rules i;
       high = high.high i;
@@ -110,7 +115,7 @@ module _ (keys : Keys) (c : Chronicle) (kept : StateParts) (o : Offered)
 
   -- ---- a block that stands in the tree
 
-  voted-again : (b : Branch) → find_in (digest o.core) (tree c) ≡ Some b → (w : Option ℕ)
+  voted-again : (b : Branch) → find_in (digest o.core) (window c) ≡ Some b → (w : Option ℕ)
       → (is_for (view keys.sizes c) w && may_vote_in v.rules (digest o.core) v.stored)
       ≡ votes_for keys.sizes w (admitted b o.core o.certificate o.found false) c
   unfolding votes_for admitted
@@ -119,31 +124,31 @@ module _ (keys : Keys) (c : Chronicle) (kept : StateParts) (o : Offered)
       sym (votes-known keys.sizes w c (digest o.core) (admitted b o.core o.certificate o.found false)
       is.sound refl found)
 
-  again-step : (b : Branch) → find_in (digest o.core) (tree c) ≡ Some b
+  again-step : (b : Branch) → find_in (digest o.core) (window c) ≡ Some b
       → IsStep keys c (took_block (taken false b)) s.pace (again_change keys s o)
-  unfolding admitted raised tree
+  unfolding admitted raised window
   again-step b found =
       let a = taken false b in
       let voted = voted-again b found o.view in
-      took-step a _ Nothing _ None _
+      took-step a _ Nothing _ None _ refl
       (λ i. took_block (record a { branch = or_genesis (found i); voted = voted i }))
-      (sym (stored-known a c refl))
+      (sym (standing-known a c refl))
       ((λ i. elim (found i) [ Some y ↦ with_vote (voted i) (length y) v.rules | None ↦ v.rules ])
       ∙ ruled-known c a refl)
       (unraised keys (took_block a) c refl (qc-same keys.sizes (took_block a) c refl))
       (λ i. votes_sent keys (view keys.sizes c)
-      (sym (found-in (digest o.core) (tree c) b found).1 i) (voted i))
+      (sym (found-in (digest o.core) (window c) b found).1 i) (voted i))
 
   -- ---- a new block
 
   module _ (b : Branch) (below : o.core.justify_height < o.core.height)
-      (grows-to : placing 0 MOST_BLOCKS o.core o.certificate (tree c) ≡ grows b) where
+      (grows-to : placing (horizon c) MOST_BLOCKS o.core o.certificate (window c) ≡ grows b) where
     abbrev new : Admitted
     new = taken true b
 
-    growth : (parent : Branch) × IsGrowth 0 MOST_BLOCKS o.core o.certificate (tree c) b parent
-    growth = subst (IsPlaced 0 MOST_BLOCKS o.core o.certificate (tree c)) grows-to
-        (placed 0 MOST_BLOCKS o.core o.certificate (tree c))
+    growth : (parent : Branch) × IsGrowth (horizon c) MOST_BLOCKS o.core o.certificate (window c) b parent
+    growth = subst (IsPlaced (horizon c) MOST_BLOCKS o.core o.certificate (window c)) grows-to
+        (placed (horizon c) MOST_BLOCKS o.core o.certificate (window c))
 
     voted-new : (w : Option ℕ)
         → (is_for (view keys.sizes c) w && may_vote_over v.rules (candidate_of o.core o.found.clear)
@@ -164,11 +169,11 @@ module _ (keys : Keys) (c : Chronicle) (kept : StateParts) (o : Offered)
 
     -- the block as its node has it
     parent-is : o.core.parent ≡ digest_of growth.0
-    parent-is = sym (found-in o.core.parent (tree c) growth.0 growth.1.parent_found).1
+    parent-is = sym (found-in o.core.parent (window c) growth.0 growth.1.parent_found).1
 
     node-is : (n : Node) → IsNodeFor (tree_of v) o.core o.certificate o.found.clear n
         → stored_as n (blocks v.stored) ≡ stored_block new
-    unfolding admitted tree
+    unfolding admitted window
     node-is n h = λ i. record {
       branch = (ap (λ (k : Core). node_block k (blocks v.stored)) h.core
           ∙ ap (λ (x : Option Branch). block_of o.core ∷ elim x [ Some y ↦ y | None ↦ [] ])
@@ -192,7 +197,7 @@ module _ (keys : Keys) (c : Chronicle) (kept : StateParts) (o : Offered)
         ap core_of growth.1.is ∙ core-known o.core growth.0 parent-is growth.1.height in
         let r = taking-stands c new t.rules (sym t.ruled ∙ ruled-is) in (
           subst (IsStep keys c (took_block new) s.pace) (sym t.change)
-              (took-step new _ (Block t.node) _ (raise_of (high_in o) v.high) _
+              (took-step new _ (Block t.node) _ (raise_of (high_in o) v.high) _ refl
               (λ i. took_block (record new {
                 branch = (node i).branch;
                 core = (ap (λ (x : Stored). core_of x.branch) node ∙ core) i;
@@ -200,7 +205,8 @@ module _ (keys : Keys) (c : Chronicle) (kept : StateParts) (o : Offered)
                 clear = (node i).clear;
                 voted = voted i;
               }))
-              (ap (λ (x : Stored). x ∷ v.stored) node ∙ sym (stored-new new c refl))
+              (ap (λ (x : Stored). x ∷ v.stored) node
+              ∙ sym (standing-new c o.core o.certificate new below refl grows-to))
               ((λ i. with_vote (voted i) (height i) t.rules) ∙ ruled-new c new t.rules r.1)
               (raise-is keys (took_block new) c (record { block = just1 b; certificate = o.certificate })
               (justified_of o) refl refl justified-is)
@@ -210,7 +216,7 @@ module _ (keys : Keys) (c : Chronicle) (kept : StateParts) (o : Offered)
 
   -- ---- each place
 
-  unfit-stops : (n : Fault) → IsUnfit n → stops n ≡ halts n
+  unfit-stops : (n : Fault) → IsUnfit n → stops n c ≡ halts (horizon c) n
   unfit-stops n (inl e) = rw e refl
   unfit-stops n (inr (inl e)) = rw e refl
   unfit-stops n (inr (inr (inl e))) = rw e refl
@@ -218,9 +224,10 @@ module _ (keys : Keys) (c : Chronicle) (kept : StateParts) (o : Offered)
   unfit-stops n (inr (inr (inr (inr e)))) = rw e refl
 
   place-by : (sender : ℕ) (result : Result Change Fault) → o.core.justify_height < o.core.height
-      → (p : Placing) → placing 0 MOST_BLOCKS o.core o.certificate (tree c) ≡ p
-      → IsPlaced 0 MOST_BLOCKS o.core o.certificate (tree c) p → let v =
-      on_placing (identity_of keys) o.view sender o.core o.certificate o.found c p in Keeps (identity_of keys) c v
+      → (p : Placing) → placing (horizon c) MOST_BLOCKS o.core o.certificate (window c) ≡ p
+      → IsPlaced (horizon c) MOST_BLOCKS o.core o.certificate (window c) p → let v =
+      on_placing (identity_of keys) o.view sender o.core o.certificate o.found c p in
+      Keeps (identity_of keys) c v
       → IsDecidedAt keys s o result p → Follows keys v c (answer result) (after result s)
   unfolding on_placing admitted conflicts raised
   place-by sender result below (Placing.stands b) e h so t =
@@ -251,13 +258,14 @@ pub block-decided :
     → IsDecided keys s o result → IsStateOf keys c s → o.core.justify_height < o.core.height → let v =
     on_block (identity_of keys) o.view sender o.core o.certificate o.found c in Keeps (identity_of keys) c v
     → Follows keys v c (answer result) (after result s)
-unfolding tree
+unfolding window
 block-decided keys c s o sender result h is below so = where-kept keys c s
     (λ x. IsDecided keys x o result
     → Follows keys (on_block (identity_of keys) o.view sender o.core o.certificate o.found c) c
     (answer result) (after result x)) is
-    (λ k. place-by keys c s o k sender result below (placing 0 MOST_BLOCKS o.core o.certificate (tree c)) refl
-    (placed 0 MOST_BLOCKS o.core o.certificate (tree c)) so) h
+    (λ k. place-by keys c s o k sender result below
+    (placing (horizon c) MOST_BLOCKS o.core o.certificate (window c)) refl
+    (placed (horizon c) MOST_BLOCKS o.core o.certificate (window c)) so) h
 
 -- ---- from what was planned
 

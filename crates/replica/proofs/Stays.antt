@@ -9,7 +9,8 @@ use Rattle.definitions.specs.Branches.{Branch}
 use Rattle.definitions.specs.Keyrings.{Keys}
 use Rattle.definitions.specs.Checks.{Identity, identity_of}
 use Rattle.definitions.specs.Chronicles.{Note, Step, Step.took_block, Step.noted}
-use Rattle.definitions.specs.Chronicles.{Note.beat, Chronicle, taken_blocks, stored_blocks}
+use Rattle.definitions.specs.Chronicles.{Note.beat, Chronicle}
+use Rattle.definitions.proofs.Horizons.{is_pruning, horizon-noted, standing-noted}
 use Rattle.definitions.specs.States.{Justified, raised, higher, qc_high, leaf, proposed}
 use Rattle.replica_rules.specs.Ruled.{ref_of}
 use Rattle.replica_rules.proofs.Takes.{ruled-noted}
@@ -119,10 +120,6 @@ pub shown-if : (t : Bool) (x : Sending) → shown (cond t (x ∷ []) []) ≡ con
 shown-if true x = refl
 shown-if false x = refl
 
-pub stored-noted : (n : Note) (c : Chronicle) → stored_blocks (noted n ∷ c) ≡ stored_blocks c
-unfolding stored_blocks taken_blocks
-stored-noted n c = refl
-
 pub proposed-same : (self : Identity) (st : Step) (c : Chronicle) → is_beat st ≡ false
     → proposed self (st ∷ c) ≡ proposed self c
 unfolding proposed
@@ -130,16 +127,17 @@ proposed-same self (noted beat) c e = absurd (true≢false e)
 proposed-same self (took_block a) c e = refl
 proposed-same self (noted n) c e = refl
 
--- the variables after a note that is no beat, by highest certificate and leaf
+-- the variables after a note that is neither a beat nor a pruning, by highest certificate and leaf
 pub variables-noted : (keys : Keys) (n : Note) (c : Chronicle) (h : Justified) (b : Branch)
-    → is_beat (noted n) ≡ false → qc_high keys.sizes (noted n ∷ c) ≡ h
+    → is_beat (noted n) ≡ false → is_pruning n ≡ false → qc_high keys.sizes (noted n ∷ c) ≡ h
     → leaf (identity_of keys) (noted n ∷ c) ≡ b
     → variables_of keys (noted n ∷ c)
     ≡ record (variables_of keys c) { chronicle = noted n ∷ c; high = high_of h; leaf = ref_of b }
-variables-noted keys n c h b e eh el = λ i. record {
+variables-noted keys n c h b e p eh el = λ i. record {
   chronicle = noted n ∷ c;
   most = MOST_BLOCKS;
-  stored = stored-noted n c i;
+  horizon = horizon-noted n c p i;
+  stored = standing-noted n c p i;
   rules = ruled-noted n c i;
   high = high_of (eh i);
   leaf = ref_of (el i);
@@ -148,9 +146,9 @@ variables-noted keys n c h b e eh el = λ i. record {
 
 -- where it brings no certificate
 pub variables-calm : (keys : Keys) (n : Note) (c : Chronicle) → is_beat (noted n) ≡ false
-    → raised keys.sizes (noted n) c ≡ None
+    → is_pruning n ≡ false → raised keys.sizes (noted n) c ≡ None
     → variables_of keys (noted n ∷ c) ≡ record (variables_of keys c) { chronicle = noted n ∷ c }
-variables-calm keys n c e r =
+variables-calm keys n c e p r =
     let q = qc-same keys.sizes (noted n) c r in
-    variables-noted keys n c (qc_high keys.sizes c) (leaf (identity_of keys) c) e q
+    variables-noted keys n c (qc_high keys.sizes c) (leaf (identity_of keys) c) e p q
     (leaf-same (identity_of keys) (noted n) c e q)

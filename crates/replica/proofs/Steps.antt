@@ -10,7 +10,7 @@ use Rattle.definitions.specs.Bytes.{Bytes}
 use Rattle.definitions.specs.Frames.{Command}
 use Rattle.definitions.specs.Keyrings.{Keys}
 use Rattle.definitions.specs.Trees.{IsTree}
-use Rattle.definitions.specs.Chronicles.{Step, Chronicle, tree, history, IsSound}
+use Rattle.definitions.specs.Chronicles.{Step, Chronicle, horizon, window, history, IsSound}
 use Rattle.definitions.specs.States.{view, qc_high, is_due, pending, with_request}
 use Rattle.definitions.specs.Rulings.{Ruling, Ruling.due, Ruling.missing, Ruling.refusing, conflicts}
 use Rattle.definitions.specs.Replicas.{ample, refused_at_once, running, stopped, stops, on_step, on_ruling}
@@ -21,7 +21,7 @@ use Rattle.vote_collector.specs.Lawful.{BringsNoVote}
 use Rattle.vote_collector.proofs.Steps.{followed-else, none-low}
 use Rattle.replica.specs.declared.state.High.{High}
 use Rattle.replica.specs.declared.change.Growth.{Growth}
-use Rattle.replica.specs.declared.change.Growth.TheVariants.{Nothing, Block, Vote, Request}
+use Rattle.replica.specs.declared.change.Growth.TheVariants.{Nothing, Block, Vote, Request, Prune}
 use Rattle.replica.specs.declared.change.Change.{Change}
 use Rattle.signed_frames.specs.Outs.{SentBytes}
 use Rattle.replica.specs.Kept.{Variables, StateParts, high_of, variables_of, IsStateOf}
@@ -45,7 +45,7 @@ unfolding on_ruling
 asks keys c sender d s o = record { memory = ample; state = o; left = refl; answer = refl }
 
 -- an input that is refused
-pub refuses : (keys : Keys) (c : Chronicle) (n : Fault) (s : StateParts) → stops n ≡ halts n
+pub refuses : (keys : Keys) (c : Chronicle) (n : Fault) (s : StateParts) → stops n c ≡ halts (horizon c) n
     → IsStateOf keys c s → Follows keys (refusing n) c (Err n) s
 unfolding on_ruling
 refuses keys c n s h o = record {
@@ -115,27 +115,32 @@ quiet (Vote b v) kept waits e = absurd (true≢false e)
 quiet (Request r) kept waits e = absurd (true≢false e)
 quiet Nothing kept waits e = (refl, refl)
 quiet (Block n) kept waits e = (refl, refl)
+quiet (Prune to) kept waits e = (refl, refl)
 
 -- the collected votes after a step that brings none, by what is raised
 left-above-is : (s : Sizes) (st : Step) (c : Chronicle) (kept : List (Bytes × Entry)) (r : Option High)
-    → BringsNoVote st → IsTree 0 (tree (st ∷ c)) → IsVotesOf s c kept
+    → BringsNoVote st → IsTree (horizon c) (window c) → IsTree (horizon (st ∷ c)) (window (st ∷ c))
+    → IsVotesOf s c kept
     → unwrap_or r (high_of (qc_high s c)) ≡ high_of (qc_high s (st ∷ c))
     → IsVotesOf s (st ∷ c) (left_above r kept)
-left-above-is s st c kept None b tr is e =
+left-above-is s st c kept None b old tr is e =
     let h : certified s c ≡ certified s (st ∷ c) = ap (λ (x : High). x.block.height) e in
     subst (IsVotesOf s (st ∷ c)) (none-low s c kept (certified s (st ∷ c)) is (omega (arith, h)))
-    (followed-else s c kept st b tr is)
-left-above-is s st c kept (Some r) b tr is e =
+    (followed-else s c kept st b old tr is)
+left-above-is s st c kept (Some r) b old tr is e =
     let h : r.block.height ≡ certified s (st ∷ c) = ap (λ (x : High). x.block.height) e in
-    subst (λ (n : ℕ). IsVotesOf s (st ∷ c) (kept_above n kept)) (sym h) (followed-else s c kept st b tr is)
+    subst (λ (n : ℕ). IsVotesOf s (st ∷ c) (kept_above n kept)) (sym h)
+    (followed-else s c kept st b old tr is)
 
 pub votes-else : (keys : Keys) (st : Step) (c : Chronicle) (d : Change) (s : StateParts) → BringsNoVote st
-    → collected d.growth s.votes.kept ≡ s.votes.kept → IsTree 0 (tree (st ∷ c))
+    → collected d.growth s.votes.kept ≡ s.votes.kept → IsTree (horizon c) (window c)
+    → IsTree (horizon (st ∷ c)) (window (st ∷ c))
     → IsVotesOf keys.sizes c s.votes.kept → IsStep keys c st s.pace d
     → IsVotesOf keys.sizes (st ∷ c) (votes_after d s.votes.kept)
-votes-else keys st c d s b q tr is x =
+votes-else keys st c d s b q old tr is x =
     subst (λ (k : List (Bytes × Entry)). IsVotesOf keys.sizes (st ∷ c) (left_above d.high k)) (sym q)
-    (left-above-is keys.sizes st c s.votes.kept d.high b tr is (ap (λ (v : Variables). v.high) x.variables))
+    (left-above-is keys.sizes st c s.votes.kept d.high b old tr is
+    (ap (λ (v : Variables). v.high) x.variables))
 
 -- ---- what was decided
 
@@ -161,7 +166,7 @@ decided keys c st s (Ok d) P so k w o b makes m =
     let x = makes d m in
     let stays = quiet d.growth s.votes.kept s.pending x.1 in
     stands keys c st d s k so (stays.1 ∙ calm st c s.pending w o.waits) o x.0
-    (votes-else keys st c d s b stays.0 so.is_tree o.votes x.0)
+    (votes-else keys st c d s b stays.0 o.sound.is_tree so.is_tree o.votes x.0)
 decided keys c st s (Err n) P so k w o b makes m = no-memory keys c st n s m o
 
 -- ---- where this chronicle stands

@@ -8,7 +8,7 @@ use Rattle.std.specs.List.{flat_map}
 use Rattle.definitions.specs.Bytes.{Bytes}
 use Rattle.definitions.specs.Frames.{Command, command_bytes}
 use Rattle.definitions.specs.Histories.{Entry, entry_of, History}
-use Rattle.definitions.specs.Trees.{Stored}
+use Rattle.definitions.specs.Trees.{TreeState}
 use Rattle.mempool.specs.Pool.{is_up_to, left_after, first_beside, stands_among}
 use Rattle.executor.specs.State.{with_commands}
 use Rattle.replica.specs.Picks.{key_of, keys_of}
@@ -80,12 +80,12 @@ keys-next cs h =
     ∙ ap (λ (l : List (ℕ × ℕ)). reverse (keys_of h) ++ l) (reverse-reverse (map key_of cs)))
 
 -- the keys of the blocks so far
-pub record AreKeys (tip : Bytes) (all : List Stored) (from to height : ℕ) (keys : List (ℕ × ℕ)) : Type 0 where
+pub record AreKeys (tip : Bytes) (all : TreeState) (from to height : ℕ) (keys : List (ℕ × ℕ)) : Type 0 where
   pub low : from ≤ height
   pub are : keys ≡ reverse (keys_of (history_above tip all from (height - from) []))
   pub none : to < from → height ≡ from
 
-pub keys-begin : (tip : Bytes) (all : List Stored) (from to : ℕ) (keys : List (ℕ × ℕ)) → keys ≡ []
+pub keys-begin : (tip : Bytes) (all : TreeState) (from to : ℕ) (keys : List (ℕ × ℕ)) → keys ≡ []
     → AreKeys tip all from to from keys
 unfolding history_above
 keys-begin tip all from to keys e = record {
@@ -98,7 +98,7 @@ keys-begin tip all from to keys e = record {
 }
 
 pub keys-go_on :
-    (tip : Bytes) (all : List Stored) (from to height : ℕ) (keys new : List (ℕ × ℕ)) (cs : List Command)
+    (tip : Bytes) (all : TreeState) (from to height : ℕ) (keys new : List (ℕ × ℕ)) (cs : List Command)
     → AreKeys tip all from to height keys → height < to → commands_at tip (suc height) all ≡ cs
     → new ≡ keys ++ map key_of cs → AreKeys tip all from to (height + 1) new
 unfolding history_above
@@ -119,7 +119,7 @@ keys-go_on tip all from to height keys new cs k below e n =
       none = λ o. absurd (omega (arith, o, l, below));
     }
 
-pub keys-all : (tip : Bytes) (all : List Stored) (from to height : ℕ) (keys : List (ℕ × ℕ))
+pub keys-all : (tip : Bytes) (all : TreeState) (from to height : ℕ) (keys : List (ℕ × ℕ))
     → AreKeys tip all from to height keys → to ≤ height → (from ≤ to → height ≤ to)
     → keys ≡ reverse (keys_of (history_above tip all from (to - from) []))
 keys-all tip all from to height keys k low high =

@@ -30,16 +30,16 @@ pub record IsWholeOf (keys : Keys) (r : Replica) (s : StateParts) (h : History) 
   pub fit : AreFit keys.sizes r.chronicle
   pub stored : AreStored r.chronicle
 
--- what a caller is told, and whether the replica goes on with so many executed commands
+-- what a caller is told, and whether the replica with this horizon goes on with so many executed commands
 abbrev pub answer_of : Taken → Result (List SentBytes) Fault
 answer_of (Sends out) = Ok out
 answer_of (Refused n) = Err n
 answer_of CutShort = Err fault.Memory
 
-abbrev pub standing_after : Taken → ℕ → Standing
-standing_after (Sends out) held = running
-standing_after (Refused n) held = if halts n then stopped else running
-standing_after CutShort held = cut_short held
+abbrev pub standing_after : ℕ → Taken → ℕ → Standing
+standing_after horizon (Sends out) held = running
+standing_after horizon (Refused n) held = if halts horizon n then stopped else running
+standing_after horizon CutShort held = cut_short held
 
 -- what an input gives where this chronicle stands, with what memory there was
 pub record Advances (keys : Keys) (input : Input) (c : Chronicle) (taken : Taken) (new : StateParts)
@@ -49,6 +49,6 @@ pub record Advances (keys : Keys) (input : Input) (c : Chronicle) (taken : Taken
   pub replica : Replica
   pub replica_is : (on_ruling (identity_of keys) memory (ruling (identity_of keys) input c) c).0 ≡ replica
   pub whole : IsWholeOf keys replica new h
-  pub standing : replica.standing ≡ standing_after taken (length h)
+  pub standing : replica.standing ≡ standing_after new.variables.horizon taken (length h)
   pub answer :
       Shows (on_ruling (identity_of keys) memory (ruling (identity_of keys) input c) c).1 (answer_of taken)

@@ -1,12 +1,13 @@
 -- What a step changes, as functions of what is kept.
-use Rattle.std.specs.Prelude.{◌≡◌, Bool, true, false, List, [], ◌∷◌, filter, nat_lt, if◌then◌else◌, Option}
+use Rattle.std.specs.Prelude.{ℕ, ◌≡◌, ◌≤◌, Bool, true, false, List, [], ◌∷◌, filter, nat_lt, if◌then◌else◌}
+use Rattle.std.specs.Prelude.{Option}
 use Rattle.std.specs.Prelude.{Some, None, ⊤}
 use Rattle.std.specs.Option.{option_or, unwrap_or}
 use Rattle.ids.specs.Sizes.{Sizes, leader}
 use Rattle.definitions.specs.Bytes.{Bytes}
 use Rattle.definitions.specs.FrameLimits.{IsVote}
 use Rattle.vote_collector.specs.Collecting.{Entry, with_vote, kept_above}
-use Rattle.definitions.specs.Trees.{Stored, TreeState, blocks}
+use Rattle.definitions.specs.Trees.{Stored, TreeState, blocks, standing}
 use Rattle.block_tree.specs.Nodes.{stored_as}
 use Rattle.block_tree.specs.Insertions.{MayStand}
 use Rattle.definitions.specs.Keyrings.{Keys}
@@ -22,16 +23,27 @@ use Rattle.replica.specs.declared.state.High.{High}
 use Rattle.replica.specs.declared.stored.StoredStep.{StoredStep}
 use Rattle.replica.specs.declared.change.Change.{Change}
 use Rattle.replica.specs.declared.change.Growth.{Growth}
-use Rattle.replica.specs.declared.change.Growth.TheVariants.{Nothing, Block, Vote, Request}
-use Rattle.replica.specs.Replay.{is_new, step_of}
+use Rattle.replica.specs.declared.change.Growth.TheVariants.{Nothing, Block, Vote, Request, Prune}
+use Rattle.replica.specs.Replay.{is_new, is_pruning, step_of}
 use Rattle.signed_frames.specs.Outs.{SentBytes}
 use Rattle.replica.specs.Steps.{shown}
-use Rattle.replica.specs.Kept.{Variables, StateParts, variables_of}
+use Rattle.replica.specs.Kept.{Variables, StateParts, tree_of, variables_of}
 
--- the blocks of the tree with what is added
+-- the blocks of the tree with what is added, or without what is let go
 abbrev pub grown : Growth → List Stored → List Stored
 grown (Block n) stored = stored_as n (blocks stored) ∷ stored
+grown (Prune to) stored = standing to stored
 grown g stored = stored
+
+-- the horizon after it
+abbrev pub horizon_after : Growth → ℕ → ℕ
+horizon_after (Prune to) horizon = to
+horizon_after g horizon = horizon
+
+-- the tree after it
+abbrev pub tree_after : Growth → TreeState → TreeState
+tree_after g t =
+    record { most = t.most; horizon = horizon_after g t.horizon; stored = grown g t.stored }
 
 -- the collected votes with what is added
 abbrev pub collected : Growth → List (Bytes × Entry) → List (Bytes × Entry)
@@ -56,26 +68,30 @@ abbrev pub adds : Growth → Bool
 adds (Block n) = true
 adds g = false
 
--- what is added may be added
+-- whether blocks are let go
+abbrev pub shrinks : Growth → Bool
+shrinks (Prune to) = true
+shrinks g = false
+
+-- what is added may be added, and the horizon doesn't fall
 abbrev pub MayGrow : TreeState → Sizes → Growth → Type 0
 MayGrow t s (Block n) = MayStand t n
 MayGrow t s (Vote b v) = IsVote s v
+MayGrow t s (Prune to) = t.horizon ≤ to
 MayGrow t s g = ⊤
-
--- the tree of these variables
-abbrev pub tree_of : Variables → TreeState
-tree_of v = record { most = v.most; stored = v.stored }
 
 -- the change can be made: what is added may be, and the step says so
 pub record Fits (s : StateParts) (d : Change) : Type 0 where
   pub growth : MayGrow (tree_of s.variables) s.votes.sizes d.growth
   pub step : is_new d.step ≡ adds d.growth
+  pub pruning : is_pruning d.step ≡ shrinks d.growth
 
 -- the variables after a change
 abbrev pub changed_variables : Change → Variables → Variables
 changed_variables d v = record {
   chronicle = step_of d.step (grown d.growth v.stored) ∷ v.chronicle;
   most = v.most;
+  horizon = horizon_after d.growth v.horizon;
   stored = grown d.growth v.stored;
   rules = d.rules;
   high = unwrap_or d.high v.high;

@@ -2,13 +2,14 @@
 use Rattle.ids.specs.declared.limits.TheConstants.{MOST_TEXT}
 use Rattle.std.specs.Prelude.{ℕ, zero, suc, ◌+◌, ◌<◌, ◌≤◌, ◌≡◌, ◌&&◌, ◌++◌, Bool, List, [], ◌∷◌, map}
 use Rattle.std.specs.Prelude.{reverse, take, length, if◌then◌else◌, option_to_list, nat_lt, nat_le, Option}
-use Rattle.std.specs.Prelude.{Some, None, option_map}
+use Rattle.std.specs.Prelude.{Some, None, option_map, ◌||◌, ◌==◌}
+use Rattle.definitions.specs.Branches.{Branch}
 use Rattle.std.specs.Option.{option_and_then}
 use Rattle.ids.specs.Sizes.{Sizes}
 use Rattle.definitions.specs.Bytes.{Bytes}
 use Rattle.definitions.specs.Frames.{Command}
 use Rattle.definitions.specs.Digests.{digest_of, core_of}
-use Rattle.definitions.specs.Trees.{Stored, blocks, find_in}
+use Rattle.definitions.specs.Trees.{Stored, TreeState, blocks, find_in}
 use Rattle.definitions.specs.Keyrings.{Keys}
 use Rattle.definitions.specs.Checks.{identity_of}
 use Rattle.definitions.specs.Histories.{History, Answer, entry_of}
@@ -19,22 +20,27 @@ use Rattle.executor.specs.State.{with_commands}
 use Rattle.signed_frames.specs.Outs.{SentBytes}
 use Rattle.replica.specs.Steps.{bytes_of}
 
+-- the block of this height on a branch, where it stands in the tree
+abbrev pub seen_at : (horizon height : ℕ) → Branch → Option Branch
+seen_at horizon height b =
+    if nat_le horizon (height + 2) || (height == 0) then at_height height b else None
+
 -- the stored block of this height on the branch of a block
-abbrev pub block_at : Bytes → ℕ → List Stored → Option Stored
-block_at tip height stored =
-    option_and_then (λ d. stored_in d stored)
-    (option_map digest_of (option_and_then (at_height height) (find_in tip (blocks stored))))
+abbrev pub block_at : Bytes → ℕ → TreeState → Option Stored
+block_at tip height t =
+    option_and_then (λ d. stored_in d t.stored)
+    (option_map digest_of (option_and_then (seen_at t.horizon height) (find_in tip (blocks t.stored))))
 
 -- its commands; none where there is no such block
-abbrev pub commands_at : Bytes → ℕ → List Stored → List Command
-commands_at tip height stored =
-    elim (block_at tip height stored) [ Some s ↦ (core_of s.branch).commands | None ↦ [] ]
+abbrev pub commands_at : Bytes → ℕ → TreeState → List Command
+commands_at tip height t =
+    elim (block_at tip height t) [ Some s ↦ (core_of s.branch).commands | None ↦ [] ]
 
 -- the history after so many blocks above a height
-unfoldable pub history_above : Bytes → List Stored → (from count : ℕ) → History → History
-history_above tip stored from zero h = h
-history_above tip stored from (suc n) h =
-    with_commands (commands_at tip (suc (from + n)) stored) (history_above tip stored from n h)
+unfoldable pub history_above : Bytes → TreeState → (from count : ℕ) → History → History
+history_above tip t from zero h = h
+history_above tip t from (suc n) h =
+    with_commands (commands_at tip (suc (from + n)) t) (history_above tip t from n h)
 
 -- Of the commands of a block some were executed, perhaps all. The requests that wait changed only if all
 -- were.
@@ -47,13 +53,13 @@ pub record IsCutIn (commands : List Command) (old new : History) (waits left : L
   pub whole : count ≡ length commands → left ≡ left_after (reverse (map entry_of commands)) waits
 
 -- some blocks above a height were executed, and the next one was cut short
-pub record IsCut (tip : Bytes) (stored : List Stored) (from to : ℕ) (old new : History)
+pub record IsCut (tip : Bytes) (t : TreeState) (from to : ℕ) (old new : History)
     (waits left : List Command) : Type 0 where
   pub blocks : ℕ
   pub below : from + blocks < to
-  pub next : IsCutIn (commands_at tip (suc (from + blocks)) stored)
-      (history_above tip stored from blocks old) new
-      (left_after (history_above tip stored from blocks []) waits) left
+  pub next : IsCutIn (commands_at tip (suc (from + blocks)) t)
+      (history_above tip t from blocks old) new
+      (left_after (history_above tip t from blocks []) waits) left
 
 -- an answer that a frame of these sizes can carry: those to executed commands are
 abbrev pub is_sendable : Sizes → Answer → Bool

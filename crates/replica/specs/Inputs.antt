@@ -1,5 +1,5 @@
 -- The parts of what is taken in, as the state keeps them.
-use Rattle.std.specs.Prelude.{Some, None, ⊤}
+use Rattle.std.specs.Prelude.{Bool, true, false, Some, None, ⊤}
 use Rattle.ids.specs.Sizes.{Sizes}
 use Rattle.definitions.specs.Frames.{Core, Certificate}
 use Rattle.definitions.specs.FrameLimits.{IsCore}
@@ -12,6 +12,8 @@ use Rattle.frames_view.specs.declared.frame_views.NewViewView.{NewViewView}
 use Rattle.frames_view.specs.declared.frame_views.FetchView.{FetchView}
 use Rattle.frames_view.specs.Fields.{frame_view, frame_replica, frame_core, frame_certificate, frame_digest}
 use Rattle.frames_view.specs.Views.{proposal_of, block_of, new_view_of, fetch_of}
+use Rattle.admission.specs.declared.input.Input.{Input}
+use Rattle.admission.specs.declared.input.Input.TheVariants.{Prune}
 use Rattle.replica.specs.declared.stored.GotNewView.{GotNewView}
 use Rattle.replica.specs.declared.stored.GotFetch.{GotFetch}
 use Rattle.replica.specs.Offers.{Offered}
@@ -46,6 +48,11 @@ announced_by n = record {
 -- what is asked for
 abbrev pub asked_by : FetchView → GotFetch
 asked_by f = record { sender = frame_replica (fetch_of f); block = frame_digest (fetch_of f) }
+
+-- leave to prune
+abbrev pub prunes : Input → Bool
+prunes (Prune height) = true
+prunes i = false
 
 -- a block that comes is one of a frame at these sizes
 abbrev pub IsFitInput : Sizes → rulings.Input → Type 0

@@ -10,8 +10,9 @@ use Rattle.ids.specs.Sizes.{Sizes}
 use Rattle.definitions.specs.Branches.{Branch}
 use Rattle.definitions.specs.FrameLimits.{IsCore}
 use Rattle.definitions.specs.Digests.{core_of, AllKnown}
-use Rattle.definitions.specs.Trees.{Stored}
-use Rattle.definitions.specs.Chronicles.{Admitted, Step.took_block, Chronicle, stored_blocks, tree, IsSound}
+use Rattle.definitions.specs.Trees.{Stored, TreeState}
+use Rattle.definitions.specs.Chronicles.{Admitted, Step.took_block, Chronicle, tree, horizon, standing_blocks}
+use Rattle.definitions.specs.Chronicles.{IsSound}
 use Rattle.definitions.specs.States.{Justified, qc_high, leaf, pending, proposed}
 use Rattle.audit_ground.specs.Law.{IsStored}
 use Rattle.pacemaker.specs.Pacing.{Pace, IsPaceOf}
@@ -30,11 +31,16 @@ pub record Own : Type 0 where
 pub record Variables : Type 0 where
   pub chronicle : Chronicle
   pub most : ℕ  -- as many blocks may stand in the tree
+  pub horizon : ℕ
   pub stored : List Stored
   pub rules : Ruled
   pub high : High
   pub leaf : BlockRef
   pub own : Option Own
+
+-- the tree of these variables
+abbrev pub tree_of : Variables → TreeState
+tree_of v = record { most = v.most; horizon = v.horizon; stored = v.stored }
 
 -- what is kept
 pub record StateParts : Type 0 where
@@ -59,7 +65,8 @@ abbrev pub variables_of : Keys → Chronicle → Variables
 variables_of keys c = record {
   chronicle = c;
   most = MOST_BLOCKS;
-  stored = stored_blocks c;
+  horizon = horizon c;
+  stored = standing_blocks c;
   rules = ruled_by c;
   high = high_of (qc_high keys.sizes c);
   leaf = ref_of (leaf (identity_of keys) c);

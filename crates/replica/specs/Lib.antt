@@ -16,3 +16,4 @@ pub mod Requests
 pub mod Ballots
 pub mod Inputs
 pub mod Wanting
+pub mod Prunings

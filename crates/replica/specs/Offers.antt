@@ -26,7 +26,8 @@ use Rattle.replica.specs.declared.change.Change.{Change}
 use Rattle.replica.specs.declared.change.Growth.TheVariants.{Block}
 use Rattle.signed_frames.specs.Outs.{SentBytes}
 use Rattle.replica.specs.Kept.{StateParts}
-use Rattle.replica.specs.Changes.{noting, tree_of, raise_of, leaf_after}
+use Rattle.replica.specs.Changes.{noting, raise_of, leaf_after}
+use Rattle.replica.specs.Kept.{tree_of}
 
 -- A block with its certificate and what a check found of them, and the view that it was proposed for, if it
 -- was.
@@ -131,4 +132,5 @@ IsDecidedAt keys s o result (unfit n) = result ≡ Err n
 
 abbrev pub IsDecided : Keys → StateParts → Offered → Result Change Fault → Type 0
 IsDecided keys s o result =
-    IsDecidedAt keys s o result (placing 0 s.variables.most o.core o.certificate (blocks s.variables.stored))
+    IsDecidedAt keys s o result
+    (placing s.variables.horizon s.variables.most o.core o.certificate (blocks s.variables.stored))

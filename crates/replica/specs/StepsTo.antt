@@ -1,11 +1,11 @@
 -- One step of a replica that runs, over what it keeps. What is decided is executed after the step.
 use Rattle.ids.specs.declared.fault.Fault.{Fault}
 use Rattle.ids.specs.declared.fault.Fault.TheVariants as fault
-use Rattle.std.specs.Prelude.{◌≡◌, Bool, true, false, List, ◌∷◌, if◌then◌else◌, Result, Ok, Err}
+use Rattle.std.specs.Prelude.{ℕ, ◌≡◌, ◌==◌, Bool, true, false, List, ◌∷◌, if◌then◌else◌, Result, Ok, Err}
 use Rattle.std.specs.Prelude.{MatchResult}
 use Rattle.definitions.specs.Keyrings.{Keys}
 use Rattle.definitions.specs.Checks.{identity_of}
-use Rattle.definitions.specs.Chronicles.{Chronicle, Step}
+use Rattle.definitions.specs.Chronicles.{Chronicle, Step, horizon}
 use Rattle.definitions.specs.States.{pending}
 use Rattle.definitions.specs.Rulings.{Input, Ruling, Ruling.due, ruling, conflicts}
 use Rattle.definitions.specs.Replicas.{MemorySupply, running, stopped}
@@ -16,12 +16,12 @@ use Rattle.replica.specs.Kept.{StateParts, waiting, IsStateOf}
 use Rattle.replica.specs.Changes.{changed, asked, sent_first}
 use Rattle.replica.specs.declared.change.Change.{Change}
 
--- the refusals after which a replica is stopped
-abbrev pub halts : Fault → Bool
-halts fault.Full = true
-halts fault.Conflict = true
-halts fault.Memory = true
-halts n = false
+-- the refusals after which a replica with this horizon is stopped
+abbrev pub halts : ℕ → Fault → Bool
+halts horizon fault.Full = horizon == 0
+halts horizon fault.Conflict = true
+halts horizon fault.Memory = true
+halts horizon n = false
 
 -- the step that was due stands
 pub record Stands (keys : Keys) (v : Ruling) (c : Chronicle) (out : List SentBytes) (new : StateParts) :
@@ -38,7 +38,7 @@ pub record IsRefused (keys : Keys) (v : Ruling) (c : Chronicle) (n : Fault) (new
   pub memory : MemorySupply
   pub state : IsStateOf keys c new
   pub left : (on_ruling (identity_of keys) memory v c).0
-      ≡ record { chronicle = c; standing = if halts n then stopped else running }
+      ≡ record { chronicle = c; standing = if halts (horizon c) n then stopped else running }
   pub answer : Shows (on_ruling (identity_of keys) memory v c).1 (Err n)
 
 -- what a ruling gives where this chronicle stands

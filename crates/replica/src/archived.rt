@@ -1,17 +1,12 @@
 //! A replica with its archive.
 
-ghost use Rattle.std.specs.Prelude.{◌≡◌, ◌<◌, ◌⊎◌, [], length, reverse, suc, IsTrue, IfOk, OnErr};
+ghost use Rattle.std.specs.Prelude.{◌≡◌, ◌<◌, ◌⊎◌, [], length, reverse, suc, IsTrue, IfOk, IfSome, OnErr};
 ghost use Rattle.ids.specs.Sizes.{replicas};
 ghost use Rattle.audit_ground.specs.Law.{IsLawfullyKept};
 ghost use Rattle.admission.specs.Inputs.{input_of, is_addressed};
 ghost use Rattle.definitions.specs.Checks.{identity_of};
-ghost use Rattle.definitions.specs.Chronicles.{IsLawful};
-ghost use Rattle.definitions.specs.Frames.{spelling};
-ghost use Rattle.definitions.specs.Replicas.{running, held_history, held_pending};
-ghost use Rattle.definitions.specs.Sendings.{fetch_frame};
-ghost use Rattle.definitions.specs.States.{view};
+ghost use Rattle.definitions.specs.Replicas.{running, held_history};
 ghost use Rattle.replica.specs.Steps.{Stepped};
-ghost use Rattle.replica.specs.Wanting.{wants_beat, wants_beat_now};
 
 use crate::chronicle::ChronicleView;
 use crate::replica::Replica;
@@ -19,20 +14,27 @@ use crate::step_log::Steps;
 use admission::Input;
 use authenticators::Keyring;
 use executor::Entries;
-use ids::{Config, Digest, Fault, ReplicaId, View};
+use ids::{Config, Fault, ReplicaId};
 use signed_frames::Out;
 use std::alloc::Global;
 use std::marker::Model;
 
-/// A replica that keeps its past: each step that stands, and each command that it executed.
+/// What a replica did: each step that stands, and each command that it executed.
+#[derive(Drop)]
+pub(crate) struct Archive {
+    steps: Steps,
+    entries: Entries,
+}
+
+/// A replica that keeps its past, until it is given leave to prune: each step that stands, and each
+/// command that it executed.
 ///
 /// To its callers it is a replica, and its step is the replica's. What it keeps takes memory, which is
 /// taken before a step stands or a command is executed; where that is refused, it is the replica that
 /// is refused memory.
 pub struct Archived {
     replica: Replica,
-    steps: Steps,
-    entries: Entries,
+    archive: Option<Archive>,
 }
 
 /// Written out, as that of a replica is.
@@ -40,13 +42,13 @@ impl Drop for Archived {
     fn drop(self) {
         let Archived {
             replica: _replica,
-            steps: _steps,
-            entries: _entries,
+            archive: _archive,
         } = self;
     }
 }
 
 impl Model for Archived {
+    ghost use Rattle.std.specs.Prelude.{IfSome};
     ghost use Rattle.replica.specs.Steps.{Held};
     ghost use Rattle.replica.specs.Logs.{IsArchiveOf};
 
@@ -54,7 +56,8 @@ impl Model for Archived {
 
     ghost view = { λ a. a.replica };
 
-    ghost invariant = { λ a. IsArchiveOf a.replica.replica a.steps.items.items a.entries };
+    ghost invariant = { λ a. IfSome a.archive
+        (λ x. IsArchiveOf a.replica.replica x.steps.items.items x.entries) };
 }
 
 impl Archived {
@@ -73,10 +76,13 @@ impl Archived {
         ensures memory { OnErr result (result ≡ Err Fault.Memory) }
     {
         let replica = Replica::new(alloc, config, number, keyring)?;
-        Ok(Archived {
-            replica,
+        let archive = Archive {
             steps: Steps::new(alloc),
             entries: Entries::new(alloc),
+        };
+        Ok(Archived {
+            replica,
+            archive: Some(archive),
         })
     }
 
@@ -87,18 +93,68 @@ impl Archived {
         &self.replica
     }
 
-    /// The steps that stand.
-    pub fn chronicle(&self) -> ChronicleView<'_>
-        ensures { result ≡ self.now.replica.chronicle }
+    /// The replica with its archive. None once it was given leave to prune.
+    pub fn whole(&self) -> Option<Whole<'_>>
+        ensures { IfSome result (λ w. w ≡ self.now) }
     {
-        self.replica.chronicle(&self.steps.items)
+        match &self.archive {
+            Some(archive) => Some(Whole {
+                replica: &self.replica,
+                archive,
+            }),
+            None => None,
+        }
     }
 
-    /// What it executed, oldest first.
-    pub fn history(&self) -> &Entries
-        ensures { reverse result.now ≡ held_history self.now.replica }
+    /// Takes an input: one step of the replica, which is kept. Leave to prune ends its archive.
+    ///
+    /// Its refusals are those of `Replica::step`.
+    pub fn step(&mut self, input: Input<'_>) -> Result<Out, Fault>
+        requires { IsTrue (is_addressed self.old.keys input) }
+        ensures stepped { Stepped (identity_of self.old.keys) (input_of input.entry) self.old.replica result
+            self.new.replica }
+        ensures keys { self.new.keys ≡ self.old.keys }
+        ensures grows { (length self.new.replica.chronicle ≡ length self.old.replica.chronicle)
+            ⊎ (length self.new.replica.chronicle ≡ suc (length self.old.replica.chronicle)) }
     {
-        &self.entries
+        if let Input::Prune(_) = input {
+            self.archive = None;
+        }
+        match &mut self.archive {
+            Some(archive) => {
+                self.replica
+                    .step_into(input, &mut archive.steps, &mut archive.entries)
+            }
+            None => self.replica.step(input),
+        }
+    }
+}
+
+/// A replica with all its past, lent.
+#[derive(Drop)]
+pub struct Whole<'a> {
+    replica: &'a Replica,
+    archive: &'a Archive,
+}
+
+impl<'a> Model for Whole<'a> {
+    ghost use Rattle.replica.specs.Steps.{Held};
+    ghost use Rattle.replica.specs.Logs.{IsArchiveOf};
+
+    ghost Value = { Held };
+
+    ghost view = { λ w. w.replica.now };
+
+    ghost invariant = { λ w. IsArchiveOf w.replica.now.replica w.archive.now.steps.items.items
+        w.archive.now.entries };
+}
+
+impl<'a> Whole<'a> {
+    /// The replica, without its archive.
+    pub fn replica(&self) -> &'a Replica
+        ensures { result.now ≡ self.now }
+    {
+        self.replica
     }
 
     /// Which replica it is.
@@ -115,14 +171,6 @@ impl Archived {
         self.replica.config()
     }
 
-    /// How many steps stand.
-    pub fn steps(&self) -> usize
-        ensures count { result ≡ length self.now.replica.chronicle }
-        ensures lawful { IsLawful self.now.keys.sizes self.now.replica.chronicle }
-    {
-        self.replica.steps()
-    }
-
     /// Says that it is one of the replicas of its sizes, and that its chronicle is kept as an audit
     /// wants it, and does nothing else.
     pub fn holds(&self)
@@ -132,56 +180,17 @@ impl Archived {
         self.replica.holds();
     }
 
-    /// How many requests wait.
-    pub fn pending(&self) -> usize
-        ensures { result ≡ length (held_pending self.now.replica) }
+    /// The steps that stand.
+    pub fn chronicle(&self) -> ChronicleView<'a>
+        ensures { result ≡ self.now.replica.chronicle }
     {
-        self.replica.pending()
+        self.replica.chronicle(&self.archive.steps.items)
     }
 
-    /// Whether a beat brings something, as `Replica::wants_beat` says it.
-    pub fn wants_beat(&self) -> bool
-        ensures { result ≡ wants_beat self.now }
+    /// What it executed, oldest first.
+    pub fn history(&self) -> &'a Entries
+        ensures { reverse result.now ≡ held_history self.now.replica }
     {
-        self.replica.wants_beat()
-    }
-
-    /// Whether a beat brings something at once, as `Replica::wants_beat_now` says it.
-    pub fn wants_beat_now(&self) -> bool
-        ensures { result ≡ wants_beat_now self.now }
-    {
-        self.replica.wants_beat_now()
-    }
-
-    /// The view that it is in.
-    pub fn view(&self) -> View
-        ensures { result ≡ view self.now.keys.sizes self.now.replica.chronicle }
-    {
-        self.replica.view()
-    }
-
-    /// Its question to a replica for the block of a digest: a Fetch frame.
-    pub fn write_fetch(&self, to: ReplicaId, block: &Digest) -> Result<Vec<u8>, Fault>
-        requires { to < replicas self.now.keys.sizes }
-        ensures made { IfOk result
-            (λ frame. frame.items ≡ spelling (fetch_frame (identity_of self.now.keys) to block.now)) }
-        ensures memory { OnErr result (result ≡ Err Fault.Memory) }
-    {
-        self.replica.write_fetch(to, block)
-    }
-
-    /// Takes an input: one step of the replica, which is kept.
-    ///
-    /// Its refusals are those of `Replica::step`.
-    pub fn step(&mut self, input: Input<'_>) -> Result<Out, Fault>
-        requires { IsTrue (is_addressed self.old.keys input) }
-        ensures stepped { Stepped (identity_of self.old.keys) (input_of input.entry) self.old.replica result
-            self.new.replica }
-        ensures keys { self.new.keys ≡ self.old.keys }
-        ensures grows { (length self.new.replica.chronicle ≡ length self.old.replica.chronicle)
-            ⊎ (length self.new.replica.chronicle ≡ suc (length self.old.replica.chronicle)) }
-    {
-        self.replica
-            .step_into(input, &mut self.steps, &mut self.entries)
+        &self.archive.entries
     }
 }

@@ -6,7 +6,8 @@ ghost use Rattle.definitions.specs.Digests.{digest as digest_of_core};
 ghost use Rattle.frames_view.specs.Views.{certificate_of};
 ghost use Rattle.block_tree.specs.Insertions.{IsNodeFor};
 ghost use Rattle.replica_rules.specs.Ruled.{with_vote};
-ghost use Rattle.replica.specs.Changes.{raise_of, leaf_after, tree_of};
+ghost use Rattle.replica.specs.Changes.{raise_of, leaf_after};
+ghost use Rattle.replica.specs.Kept.{tree_of};
 ghost use Rattle.replica.specs.Offers.{votes_sent, with_vote_in, again_step, again_change, new_change};
 ghost use Rattle.replica.specs.Offers.{IsDecided};
 

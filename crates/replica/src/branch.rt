@@ -14,7 +14,7 @@ use std::alloc::Global;
 /// The block of this height on the branch of a block of the tree. Genesis isn't kept.
 pub(crate) fn block_at<'a>(tree: &'a Tree, tip: &Digest, height: Height) -> Option<&'a Node>
     ensures { option_map (λ n. n.now.core) result
-        ≡ option_map (λ s. core_of s.branch) (block_at tip.now height tree.now.stored) }
+        ≡ option_map (λ s. core_of s.branch) (block_at tip.now height tree.now) }
 {
     let digest = tree.ancestor_at(tip, height)?;
     tree.block(&digest)
@@ -40,7 +40,7 @@ pub(crate) fn keys_between(
     to: u64,
 ) -> Result<Vec<(ClientId, Seq)>, Fault>
     ensures found { IfOk result
-        (λ keys. keys.items ≡ reverse (keys_of (history_above tip.now tree.now.stored from (to - from) []))) }
+        (λ keys. keys.items ≡ reverse (keys_of (history_above tip.now tree.now from (to - from) []))) }
     ensures memory { OnErr result (result ≡ Err Fault.Memory) }
 {
     let mut keys = Vec::new(alloc);

@@ -6,13 +6,14 @@ ghost use Rattle.replica.specs.Changes.{noting};
 use crate::state::{High, OwnProposal, State};
 use crate::stored::StoredStep;
 use block_tree::Node;
+use ids::Height;
 use mempool::Pending;
 use pacemaker::Pacemaker;
 use replica_rules::{BlockRef, Rules};
 use signed_frames::Out;
 use vote_collector::KeptVote;
 
-/// What is added.
+/// What is added, or let go.
 #[derive(Drop)]
 pub(crate) enum Growth {
     Nothing,
@@ -22,6 +23,8 @@ pub(crate) enum Growth {
     Vote(BlockRef, KeptVote),
     /// A request that waits.
     Request(Pending),
+    /// Nothing: the tree is pruned to this horizon.
+    Prune(Height),
 }
 
 /// A step that is to stand: what it changes, and what it sends.

@@ -6,7 +6,7 @@ ghost use Rattle.std.specs.Prelude.{option_to_list, OnOk, OnErr, IfOk, IfSome, I
 ghost use Rattle.ids.specs.Sizes.{replicas};
 ghost use Rattle.definitions.specs.Histories.{entry_of};
 ghost use Rattle.mempool.specs.Pool.{left_after};
-ghost use Rattle.replica.specs.Kept.{waiting};
+ghost use Rattle.replica.specs.Kept.{waiting, tree_of};
 ghost use Rattle.frames_view.specs.Views.{commands_left};
 ghost use Rattle.executor.specs.State.{with_commands, new_answers};
 ghost use Rattle.signed_frames.specs.Outs.{sent_of};
@@ -135,14 +135,14 @@ fn execute_between<L: Ledger>(
 ) -> Result<(), Fault>
     requires { keyring.now.party < replicas keyring.now.sizes }
     ensures executed { OnOk result
-        (executor.new ≡ history_above tip.now tree.now.stored from (to - from) executor.old) }
+        (executor.new ≡ history_above tip.now tree.now from (to - from) executor.old) }
     ensures written { L.holds ledger.old executor.old → L.holds ledger.new executor.new }
     ensures left { OnOk result
-        (pool.new ≡ left_after (history_above tip.now tree.now.stored from (to - from) []) pool.old) }
+        (pool.new ≡ left_after (history_above tip.now tree.now from (to - from) []) pool.old) }
     ensures told { OnOk result
         (out.new ≡ out.old ++ told keyring.now (new_answers executor.old executor.new)) }
     ensures cut { OnErr result
-        (IsCut tip.now tree.now.stored from to executor.old executor.new pool.old pool.new) }
+        (IsCut tip.now tree.now from to executor.old executor.new pool.old pool.new) }
 {
     for height in from..to {
         if let Some(block) = block_at(tree, tip, Height(height + 1)) {
@@ -167,18 +167,18 @@ pub(crate) fn execute<L: Ledger>(
     ensures executed { OnOk result (
         let last = state.old.variables.rules.executed in
         executor.new
-        ≡ history_above last.digest state.old.variables.stored from (last.height - from) executor.old) }
+        ≡ history_above last.digest (tree_of state.old.variables) from (last.height - from) executor.old) }
     ensures written { L.holds ledger.old executor.old → L.holds ledger.new executor.new }
     ensures left { OnOk result (
         let last = state.old.variables.rules.executed in
         state.new.pending
-        ≡ left_after (history_above last.digest state.old.variables.stored from (last.height - from) [])
+        ≡ left_after (history_above last.digest (tree_of state.old.variables) from (last.height - from) [])
         state.old.pending) }
     ensures told { OnOk result
         (out.new ≡ out.old ++ told keyring.now (new_answers executor.old executor.new)) }
     ensures cut { OnErr result (
         let last = state.old.variables.rules.executed in
-        IsCut last.digest state.old.variables.stored from last.height executor.old executor.new
+        IsCut last.digest (tree_of state.old.variables) from last.height executor.old executor.new
         state.old.pending state.new.pending) }
 {
     let last = state.rules.executed();

@@ -12,6 +12,7 @@ mod execution;
 mod fetch;
 mod offer;
 mod pick;
+mod prune;
 mod replica;
 mod request;
 mod standing;
@@ -22,7 +23,7 @@ mod telling;
 mod vote;
 
 pub use admission::Input;
-pub use archived::Archived;
+pub use archived::{Archived, Whole};
 pub use chronicle::{ChronicleView, CountedVotes, StepView};
 pub use replica::Replica;
 pub use signed_frames::{Out, Sending, To};

@@ -20,7 +20,7 @@ fn executed_below(state: &State) -> Height
     if state.tree.extends(&state.leaf.digest, &executed.digest) {
         executed.height
     } else {
-        Height(0)
+        state.tree.horizon()
     }
 }
 

@@ -1,11 +1,12 @@
 //! One replica.
 
 ghost use Rattle.std.specs.Prelude.{◌≡◌, ◌<◌, ◌&&◌, ◌⊎◌, [], length, reverse, suc, IsTrue, IfOk, OnErr};
-ghost use Rattle.std.specs.Prelude.{◌↔◌, IsNone};
+ghost use Rattle.std.specs.Prelude.{◌↔◌, false, IsNone};
 ghost use Rattle.ids.specs.Sizes.{replicas};
 ghost use Rattle.audit_ground.specs.Law.{IsLawfullyKept};
 ghost use Rattle.definitions.specs.Checks.{identity_of};
-ghost use Rattle.definitions.specs.Chronicles.{Chronicle, IsLawful, executed, stored_blocks, tree};
+ghost use Rattle.definitions.specs.Chronicles.{Chronicle, IsLawful, executed, horizon, standing_blocks};
+ghost use Rattle.definitions.specs.Chronicles.{window};
 ghost use Rattle.definitions.specs.Frames.{spelling};
 ghost use Rattle.definitions.specs.Replicas.{running, held_history, held_pending};
 ghost use Rattle.definitions.specs.Sendings.{fetch_frame};
@@ -18,9 +19,9 @@ ghost use Rattle.replica.specs.Changes.{Fits};
 ghost use Rattle.replica.specs.StepsTo.{StepsTo, answer, after};
 ghost use Rattle.replica.specs.Advances.{going, IsWholeOf, Advances};
 ghost use Rattle.admission.specs.Inputs.{input_of, is_addressed};
-ghost use Rattle.replica.specs.Inputs.{IsFitInput};
+ghost use Rattle.replica.specs.Inputs.{IsFitInput, prunes};
 ghost use Rattle.replica.specs.Logs.{Logs, LogsAll};
-ghost use Rattle.replica.specs.Replay.{replay};
+ghost use Rattle.replica.specs.Replay.{is_pruning, replay};
 
 use crate::announce::{decide_new_view, decide_timeout};
 use crate::beat::{decide_beat, leads};
@@ -30,6 +31,7 @@ use crate::chronicle::ChronicleView;
 use crate::execution::execute;
 use crate::fetch::decide_fetch;
 use crate::offer::Offer;
+use crate::prune::decide_prune;
 use crate::request::decide_request;
 use crate::standing::{Standing, Taken};
 use crate::state::{High, State};
@@ -111,6 +113,7 @@ fn decide(
     ensures decided { (c : Chronicle) → IsWholeOf keyring.now (going c) state.now executor.now
         → StepsTo keyring.now (input_of input.entry) c (answer result) (after result state.now) }
     ensures fits { IfOk result (λ d. Fits state.now d) }
+    ensures pruning { IfOk result (λ d. is_pruning d.step ≡ prunes input.entry) }
     ensures fit { IsFitInput keyring.now.sizes (input_of input.entry) }
 {
     match input {
@@ -126,6 +129,7 @@ fn decide(
             let _count = state.count;
             decide_beat(state, keyring)
         }
+        Input::Prune(height) => Ok(decide_prune(state, height)),
     }
 }
 
@@ -144,7 +148,8 @@ fn take<S: StepLog>(
     ensures steps { (c : Chronicle) → IsWholeOf keyring.now (going c) state.old executor.now
         → StepsTo keyring.now (input_of input.entry) c result state.new }
     ensures fit { IsFitInput keyring.now.sizes (input_of input.entry) }
-    ensures logged { Logs (S.holds log.old) state.old.variables.stored state.old.variables.chronicle
+    ensures logged { prunes input.entry ≡ false
+        → Logs (S.holds log.old) state.old.variables.stored state.old.variables.chronicle
         → Logs (S.holds log.new) state.new.variables.stored state.new.variables.chronicle }
 {
     let change = decide(state, keyring, executor, input)?;
@@ -166,7 +171,8 @@ fn advance<S: StepLog, L: Ledger>(
     requires votes { state.old.votes.sizes ≡ keyring.now.sizes }
     ensures advances { (c : Chronicle) → IsWholeOf keyring.now (going c) state.old executor.old
         → Advances keyring.now (input_of input.entry) c result state.new executor.new }
-    ensures logged { Logs (S.holds log.old) state.old.variables.stored state.old.variables.chronicle
+    ensures logged { prunes input.entry ≡ false
+        → Logs (S.holds log.old) state.old.variables.stored state.old.variables.chronicle
         → Logs (S.holds log.new) state.new.variables.stored state.new.variables.chronicle }
     ensures written { L.holds ledger.old executor.old → L.holds ledger.new executor.new }
 {
@@ -260,8 +266,9 @@ impl Replica {
 
     /// The steps that stand, where these make its chronicle. Oldest first.
     pub(crate) fn chronicle<'a>(&'a self, steps: &'a [StoredStep]) -> ChronicleView<'a>
-        requires { replay (reverse steps.now) (stored_blocks self.now.replica.chronicle)
+        requires steps { replay (reverse steps.now) (standing_blocks self.now.replica.chronicle)
             ≡ self.now.replica.chronicle }
+        requires unpruned { horizon self.now.replica.chronicle ≡ 0 }
         ensures { result ≡ self.entry.now.replica.chronicle }
     {
         self.state.chronicle(steps)
@@ -315,10 +322,18 @@ impl Replica {
         self.state.rules.executed().height
     }
 
+    /// The horizon of its tree: what is more than two heights below it was forgotten. It is 0 until the
+    /// replica is given leave to prune.
+    pub fn horizon(&self) -> Height
+        ensures { result ≡ horizon self.now.replica.chronicle }
+    {
+        self.state.horizon()
+    }
+
     /// How many blocks it holds, genesis included.
-    #[tactic(auto, unfolding(definitions::specs::Chronicles::tree))]
+    #[tactic(auto, unfolding(definitions::specs::Chronicles::window))]
     pub fn blocks(&self) -> usize
-        ensures { result ≡ length (tree self.now.replica.chronicle) }
+        ensures { result ≡ length (window self.now.replica.chronicle) }
     {
         self.state.tree.len()
     }
@@ -345,8 +360,9 @@ impl Replica {
 
     /// Takes an input: one step, which answers what goes out.
     ///
-    /// After `UnknownParent`, `BadHeight`, `WrongJustify`, `Crowded` and `PoolFull` it is as
-    /// before. After `Full`, `Conflict` and `Memory` it is stopped. Where memory is refused in
+    /// After `UnknownParent`, `BadHeight`, `WrongJustify`, `Crowded`, `PoolFull` and `Pruned` it is
+    /// as before. After `Conflict` and `Memory` it is stopped, and after `Full` where its horizon is
+    /// 0: it can't prune then. Where memory is refused in
     /// between, to execute what the step decided, the step stands, the history ends behind the last
     /// command that was executed, and nothing goes out.
     pub fn step(&mut self, input: Input<'_>) -> Result<Out, Fault>
@@ -373,7 +389,8 @@ impl Replica {
         ensures keys { self.new.keys ≡ self.old.keys }
         ensures grows { (length self.new.replica.chronicle ≡ length self.old.replica.chronicle)
             ⊎ (length self.new.replica.chronicle ≡ suc (length self.old.replica.chronicle)) }
-        ensures logged { LogsAll (S.holds log.old) self.old.replica
+        ensures logged { prunes input.entry ≡ false
+            → LogsAll (S.holds log.old) self.old.replica
             → LogsAll (S.holds log.new) self.new.replica }
         ensures written { L.holds ledger.old (held_history self.old.replica)
             → L.holds ledger.new (held_history self.new.replica) }
@@ -389,7 +406,7 @@ impl Replica {
             log,
             ledger,
         );
-        self.standing = taken.standing();
+        self.standing = taken.standing(self.state.horizon());
         taken.into_answer()
     }
 }

@@ -5,7 +5,7 @@ ghost use Rattle.replica.specs.Steps.{is_running, standing_of};
 ghost use Rattle.replica.specs.StepsTo.{halts};
 ghost use Rattle.replica.specs.Advances.{answer_of, standing_after};
 
-use ids::Fault;
+use ids::{Fault, Height};
 use signed_frames::Out;
 
 /// Whether a replica goes on.
@@ -49,21 +49,25 @@ pub(crate) enum Taken {
     CutShort,
 }
 
-/// Whether a replica is stopped after this refusal.
-fn halts(fault: Fault) -> bool
-    ensures { result ≡ halts fault }
+/// Whether a replica with this horizon is stopped after this refusal.
+fn halts(horizon: Height, fault: Fault) -> bool
+    ensures { result ≡ halts horizon fault }
 {
-    matches!(fault, Fault::Full | Fault::Conflict | Fault::Memory)
+    match fault {
+        Fault::Full => horizon.0 == 0,
+        Fault::Conflict | Fault::Memory => true,
+        _ => false,
+    }
 }
 
 impl Taken {
-    /// Whether the replica goes on.
-    pub(crate) fn standing(&self) -> Standing
-        ensures { (held : ℕ) → standing_of result held ≡ standing_after self.now held }
+    /// Whether the replica goes on, if it has this horizon.
+    pub(crate) fn standing(&self, horizon: Height) -> Standing
+        ensures { (held : ℕ) → standing_of result held ≡ standing_after horizon self.now held }
     {
         match self {
             Taken::Sends(_) => Standing::Running,
-            Taken::Refused(fault) if halts(*fault) => Standing::Stopped(*fault),
+            Taken::Refused(fault) if halts(horizon, *fault) => Standing::Stopped(*fault),
             Taken::Refused(_) => Standing::Running,
             Taken::CutShort => Standing::CutShort,
         }

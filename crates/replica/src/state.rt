@@ -1,12 +1,12 @@
 //! What a replica keeps beside its keys.
 
-ghost use Rattle.std.specs.Prelude.{◌≡◌, length, reverse, IfOk, OnOk, OnErr};
+ghost use Rattle.std.specs.Prelude.{◌≡◌, false, length, reverse, IfOk, OnOk, OnErr};
 ghost use Rattle.std.specs.Option.{unwrap_or};
 ghost use Rattle.definitions.specs.Chronicles.{stored_blocks};
 ghost use Rattle.definitions.specs.Trees.{Stored};
-ghost use Rattle.replica.specs.Changes.{changed, grown, collected, pended, left_above, MayGrow, Fits};
+ghost use Rattle.replica.specs.Changes.{changed, tree_after, collected, pended, left_above, MayGrow, Fits};
 ghost use Rattle.replica.specs.Logs.{Logs};
-ghost use Rattle.replica.specs.Replay.{replay};
+ghost use Rattle.replica.specs.Replay.{is_pruning, replay};
 
 use crate::change::{Change, Growth};
 use crate::chronicle::ChronicleView;
@@ -16,7 +16,7 @@ use crate::telling::{AStep, Newest};
 use block_tree::Tree;
 use frames_view::CertificateBuf;
 use ghost_list::GhostList;
-use ids::Fault;
+use ids::{Fault, Height};
 use mempool::Mempool;
 use pacemaker::Pacemaker;
 use replica_rules::{BlockRef, Rules};
@@ -81,6 +81,7 @@ impl Model for State {
       variables = record {
         chronicle = s.chronicle.items;
         most = s.tree.most;
+        horizon = s.tree.horizon;
         stored = s.tree.stored;
         rules = s.rules;
         high = s.high;
@@ -95,7 +96,7 @@ impl Model for State {
     ghost invariant = { λ s. (s.count ≡ length s.chronicle.items) × (s.count ≤ 2 ^ 62) };
 }
 
-/// What is added takes its place. Its memory is taken first.
+/// What is added takes its place, and what is let go goes. Memory is taken first.
 fn grow(
     tree: &mut Tree,
     votes: &mut Collector,
@@ -103,7 +104,7 @@ fn grow(
     growth: Growth,
 ) -> Result<(), Fault>
     requires { MayGrow tree.old votes.old.sizes growth }
-    ensures grown { OnOk result (tree.new ≡ record tree.old { stored = grown growth tree.old.stored }) }
+    ensures grown { OnOk result (tree.new ≡ tree_after growth tree.old) }
     ensures collected { OnOk result
         (votes.new ≡ record votes.old { kept = collected growth votes.old.kept }) }
     ensures pended { OnOk result (pool.new ≡ pended growth pool.old) }
@@ -117,6 +118,10 @@ fn grow(
         Growth::Block(node) => tree.add(node),
         Growth::Vote(block, vote) => votes.add(block.digest, block.height, vote),
         Growth::Request(request) => pool.insert(request),
+        Growth::Prune(horizon) => {
+            tree.prune(horizon);
+            Ok(())
+        }
     }
 }
 
@@ -146,6 +151,13 @@ impl State {
         self.count
     }
 
+    /// The horizon of its tree.
+    pub(crate) fn horizon(&self) -> Height
+        ensures { result ≡ self.now.variables.horizon }
+    {
+        self.tree.horizon()
+    }
+
     /// The steps that stand, where each block of the tree was taken by one of these. Oldest first.
     pub(crate) fn chronicle<'a>(&'a self, steps: &'a [StoredStep]) -> ChronicleView<'a>
         requires steps { replay (reverse steps.now) self.now.variables.stored ≡ self.now.variables.chronicle }
@@ -161,7 +173,8 @@ impl State {
         requires { Fits self.old change }
         ensures made { OnOk result (self.new ≡ changed change self.old) }
         ensures out { IfOk result (λ out. out ≡ change.out) }
-        ensures logged { Logs (S.holds log.old) self.old.variables.stored self.old.variables.chronicle
+        ensures logged { is_pruning change.step ≡ false
+            → Logs (S.holds log.old) self.old.variables.stored self.old.variables.chronicle
             → Logs (S.holds log.new) self.new.variables.stored self.new.variables.chronicle }
         ensures unchanged { OnErr result (self.new ≡ self.old) }
         ensures memory { OnErr result (result ≡ Err Fault.Memory) }

@@ -92,7 +92,7 @@ fn refused(kept: Kept<'_>, shares: Vec<Share>) -> Result<NotAll<'_>, Fault> {
 /// How many steps the replica counts that closing gives back.
 fn closed(kept: Kept<'_>, shares: Vec<Share>) -> Result<usize, Fault> {
     let closed = kept.close(shares).ok().ok_or(Fault::NotAll)?;
-    Ok(closed.replica.steps())
+    Ok(closed.replica.replica().steps())
 }
 
 /// A value with what a call gave; where the call was refused, the value is dropped.

@@ -8,7 +8,7 @@ use Rattle.block_tree.specs.Insertions.{IsPlanned}
 use Rattle.block_tree.proofs.Planning.{node-planned}
 use Rattle.replica_rules.specs.Chains.{ruled_after}
 use Rattle.replica.specs.Kept.{StateParts}
-use Rattle.replica.specs.Changes.{tree_of}
+use Rattle.replica.specs.Kept.{tree_of}
 use Rattle.replica.specs.Offers.{Offered, justified_of, IsDecided}
 use Rattle.replica.proofs.Offers.{conflict-decided}
 use Rattle.replica.proofs.blocks.decide_block.Goals as goal
@@ -16,7 +16,7 @@ use Rattle.replica.proofs.blocks.decide_block.Goals as goal
 -- what was planned, of the tree and what came
 abbrev IsPlannedFor : TreeState → Offered → Plan → Type 0
 IsPlannedFor t o p = IsPlanned t o.core o.certificate o.found.clear (Ok p)
-    (placing 0 t.most o.core o.certificate (blocks t.stored))
+    (placing t.horizon t.most o.core o.certificate (blocks t.stored))
 
 pub returns-in_err-rules-in-Grows : goal.returns-in_err-rules-in-Grows
 returns-in_err-rules-in-Grows c =

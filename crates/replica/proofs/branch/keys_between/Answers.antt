@@ -9,12 +9,12 @@ use Rattle.replica.proofs.branch.keys_between.Goals as goal
 use Rattle.replica.proofs.branch.keys_between.Goals.{in-Some+in_ok-put_keys, in_default}
 
 pub loop-height-init : goal.loop-height-init
-loop-height-init c = keys-begin c.args.tip.now c.args.tree.now.stored c.args.from c.args.to
+loop-height-init c = keys-begin c.args.tip.now c.args.tree.now c.args.from c.args.to
     c.new-keys.result.items c.new-keys.ensures.items
 
 pub loop-height-preserved : goal.loop-height-preserved
 loop-height-preserved c =
-    let all = c.args.tree.now.stored in
+    let all = c.args.tree.now in
     let tip = c.args.tip.now in
     let h : ℕ = c.loop-height.height in
     let up : suc h ≡ h + 1 = omega arith in
@@ -42,6 +42,6 @@ loop-height-preserved c =
 
 pub returns-clause-found : goal.returns-clause-found
 returns-clause-found c =
-    keys-all c.args.tip.now c.args.tree.now.stored c.args.from c.args.to c.loop-height.height
+    keys-all c.args.tip.now c.args.tree.now c.args.from c.args.to c.loop-height.height
     c.loop-height.keys.items c.loop-height.invariant c.loop-height-test.false
     c.loop-height.auto.height-end

@@ -12,7 +12,7 @@ use Rattle.replica.proofs.execution.execute_between.Goals.{in-Some+in_ok-execute
 
 pub loop-height-init : goal.loop-height-init
 loop-height-init g c = (
-  begins-up c.args.keyring.now c.args.tip.now c.args.tree.now.stored c.args.from c.args.executor.now
+  begins-up c.args.keyring.now c.args.tip.now c.args.tree.now c.args.from c.args.executor.now
       c.args.pool.now c.args.out.now,
   λ l. refl,
   λ k. k,
@@ -20,7 +20,7 @@ loop-height-init g c = (
 
 pub returns-in_err-execute_block-clause-cut : goal.returns-in_err-execute_block-clause-cut
 returns-in_err-execute_block-clause-cut g c =
-    let all = c.args.tree.now.stored in
+    let all = c.args.tree.now in
     let tip = c.args.tip.now in
     let h : ℕ = c.loop-height.height in
     let up : suc h ≡ h + 1 = omega arith in
@@ -38,7 +38,7 @@ returns-in_err-execute_block-clause-cut g c =
 pub loop-height-preserved : goal.loop-height-preserved
 loop-height-preserved g c =
     let keys = c.args.keyring.now in
-    let all = c.args.tree.now.stored in
+    let all = c.args.tree.now in
     let tip = c.args.tip.now in
     let h : ℕ = c.loop-height.height in
     let up : suc h ≡ h + 1 = omega arith in (
@@ -81,19 +81,19 @@ loop-height-preserved g c =
 pub returns-clause-executed : goal.returns-clause-executed
 returns-clause-executed g c =
     c.loop-height.invariant.0.now_is
-    ∙ ap (λ (n : ℕ). history_above c.args.tip.now c.args.tree.now.stored c.args.from n c.args.executor.now)
+    ∙ ap (λ (n : ℕ). history_above c.args.tip.now c.args.tree.now c.args.from n c.args.executor.now)
     (all-heights c.args.from c.args.to c.loop-height.height c.loop-height.invariant.1
     c.loop-height-test.false c.loop-height.auto.height-end)
 
 pub returns-clause-left : goal.returns-clause-left
 returns-clause-left g c =
     c.loop-height.invariant.0.left_are
-    ∙ ap (λ (n : ℕ). left_after (history_above c.args.tip.now c.args.tree.now.stored c.args.from n [])
+    ∙ ap (λ (n : ℕ). left_after (history_above c.args.tip.now c.args.tree.now c.args.from n [])
     c.args.pool.now)
     (all-heights c.args.from c.args.to c.loop-height.height c.loop-height.invariant.1
     c.loop-height-test.false c.loop-height.auto.height-end)
 
 pub returns-clause-told : goal.returns-clause-told
-returns-clause-told g c = told-up c.args.keyring.now c.args.tip.now c.args.tree.now.stored c.args.from
+returns-clause-told g c = told-up c.args.keyring.now c.args.tip.now c.args.tree.now c.args.from
     c.args.executor.now c.args.pool.now c.args.out.now c.loop-height.height c.loop-height.executor
     c.loop-height.pool c.loop-height.out c.loop-height.invariant.0

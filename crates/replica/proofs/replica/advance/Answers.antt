@@ -1,7 +1,7 @@
 use Rattle.std.proofs.Common.{◌≡◌, ◌-◌, ℕ, List, [], length, ap, sym, ◌∙◌, subst}
 use Rattle.definitions.specs.Chronicles.{executed}
 use Rattle.replica_rules.specs.declared.block_ref.BlockRef.{BlockRef}
-use Rattle.replica.specs.Kept.{Variables, StateParts, waiting}
+use Rattle.replica.specs.Kept.{Variables, StateParts, waiting, tree_of}
 use Rattle.definitions.specs.Frames.{Command}
 use Rattle.mempool.specs.Pool.{left_after}
 use Rattle.admission.specs.Inputs.{input_of}
@@ -28,11 +28,11 @@ returns-in-Ok-execute-clause-advances g c c' o =
     c.in-Ok.ensures.fit c.in-Ok.out c.execute.new.out c.take.new.state c.execute.new.state
     c.execute.new.executor (c.in-Ok.ensures.steps c' o)
     (subst (λ (n : ℕ). c.execute.new.executor
-    ≡ history_above last.digest c.take.new.state.variables.stored n (last.height - n)
+    ≡ history_above last.digest (tree_of c.take.new.state.variables) n (last.height - n)
     c.args.executor.now) from c.in-Ok-execute.ensures.executed)
     (subst (λ (n : ℕ). c.execute.new.state
     ≡ waiting (left_after
-    (history_above last.digest c.take.new.state.variables.stored n (last.height - n) [])
+    (history_above last.digest (tree_of c.take.new.state.variables) n (last.height - n) [])
     c.take.new.state.pending) c.take.new.state) from
     (c.execute.ensures.rest
     ∙ ap (λ (l : List Command). waiting l c.take.new.state) c.in-Ok-execute.ensures.left))
@@ -50,14 +50,16 @@ returns-in-Err-execute-clause-advances g c c' o =
     c.in-Ok.ensures.fit c.in-Ok.out c.take.new.state c.execute.new.state c.execute.new.executor
     (c.in-Ok.ensures.steps c' o)
     c.execute.ensures.rest
-    (subst (λ (n : ℕ). IsCut last.digest c.take.new.state.variables.stored n last.height c.args.executor.now
-    c.execute.new.executor c.take.new.state.pending c.execute.new.state.pending) from
+    (subst (λ (n : ℕ). IsCut last.digest (tree_of c.take.new.state.variables) n last.height
+    c.args.executor.now c.execute.new.executor c.take.new.state.pending c.execute.new.state.pending) from
     c.in-Err-execute.ensures.cut)
 
 pub returns-in-Ok-execute-clause-logged : goal.returns-in-Ok-execute-clause-logged
-returns-in-Ok-execute-clause-logged g c l =
-    subst (LogsOf (g.S.StepLog.holds c.take.new.log)) (sym c.execute.ensures.rest) (c.in-Ok.ensures.logged l)
+returns-in-Ok-execute-clause-logged g c stays l =
+    subst (LogsOf (g.S.StepLog.holds c.take.new.log)) (sym c.execute.ensures.rest)
+    (c.in-Ok.ensures.logged stays l)
 
 pub returns-in-Err-execute-clause-logged : goal.returns-in-Err-execute-clause-logged
-returns-in-Err-execute-clause-logged g c l =
-    subst (LogsOf (g.S.StepLog.holds c.take.new.log)) (sym c.execute.ensures.rest) (c.in-Ok.ensures.logged l)
+returns-in-Err-execute-clause-logged g c stays l =
+    subst (LogsOf (g.S.StepLog.holds c.take.new.log)) (sym c.execute.ensures.rest)
+    (c.in-Ok.ensures.logged stays l)

@@ -1,4 +1,4 @@
-use Rattle.std.proofs.Common.{◌≡◌, ◌<◌, true, ◌^◌, IfOk, length, ap, ◌∙◌, subst, arith}
+use Rattle.std.proofs.Common.{◌≡◌, ◌<◌, true, ◌^◌, Ok, sym, IfOk, length, ap, ◌∙◌, subst, arith}
 use Rattle.ids.specs.Sizes.{Sizes, leader}
 use Rattle.definitions.specs.FrameLimits.{IsCore}
 use Rattle.definitions.specs.Rulings.{ruling}
@@ -27,7 +27,11 @@ use Rattle.replica.proofs.Fits.{fits-timeout, fits-new-view, fits-block, fits-vo
 use Rattle.replica.specs.Requests.{IsRequested}
 use Rattle.replica.proofs.Requests.{request-decided}
 use Rattle.frames_view.specs.declared.views.CommandView.{CommandView}
+use Rattle.replica.proofs.Prunings.{prune-decided}
 use Rattle.replica.proofs.Advancing.{state-going, history-going}
+use Rattle.definitions.specs.Rulings.{Input.prune_in}
+use Rattle.replica.specs.declared.change.Change.{Change}
+use Rattle.replica.specs.StepsTo.{StepsTo, answer, after}
 use Rattle.replica.proofs.replica.decide.Goals as goal
 
 pub returns-in-Proposal-clause-decided : goal.returns-in-Proposal-clause-decided
@@ -168,3 +172,11 @@ returns-in-Request-clause-decided c c' w =
     c.view-in-Request.ensures.view c.decide_request.ensures in
     rw c.in-Request.is (request-decided keys c' s h (command_of r.view) o (history-going keys c' s h w)
     w.fit c.decide_request.result made)
+
+pub returns-in-Prune-clause-decided : goal.returns-in-Prune-clause-decided
+returns-in-Prune-clause-decided c c' w =
+    let keys = c.args.keyring.now in
+    let s = c.args.state.now in
+    let o = state-going keys c' s c.args.executor.now w in
+    rw c.in-Prune.is (subst (λ (d : Change). StepsTo keys (prune_in c.in-Prune.height) c' (answer (Ok d))
+    (after (Ok d) s)) (sym c.decide_prune.ensures) (prune-decided keys c' c.in-Prune.height s o))

@@ -10,6 +10,7 @@ returns c keys e =
     (λ i. record {
       chronicle = c.new-6.ensures i;
       most = (c.new.ensures i).most;
+      horizon = (c.new.ensures i).horizon;
       stored = (c.new.ensures i).stored;
       rules = c.new-2.ensures i;
       high = record {

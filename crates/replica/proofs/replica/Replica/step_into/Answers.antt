@@ -1,4 +1,4 @@
-use Rattle.std.proofs.Common.{◌≡◌, refl, ◌⊎◌, List, length, suc, sym, ap, ◌∙◌, subst, Result}
+use Rattle.std.proofs.Common.{ℕ, ◌≡◌, refl, ◌⊎◌, List, length, suc, sym, ap, ◌∙◌, subst, Result}
 use Rattle.ids.specs.declared.fault.Fault.{Fault}
 use Rattle.definitions.specs.Checks.{identity_of}
 use Rattle.definitions.specs.Keyrings.{Keys}
@@ -6,13 +6,13 @@ use Rattle.definitions.specs.Chronicles.{Chronicle}
 use Rattle.definitions.specs.Replicas.{Replica}
 use Rattle.signed_frames.specs.Outs.{SentBytes}
 use Rattle.replica.specs.Steps.{Held, Stepped, standing_of}
-use Rattle.definitions.specs.Chronicles.{stored_blocks}
+use Rattle.definitions.specs.Chronicles.{standing_blocks}
 use Rattle.definitions.specs.Replicas.{held_history}
 use Rattle.replica.specs.Kept.{Variables}
-use Rattle.replica.specs.Advances.{IsWholeOf}
+use Rattle.replica.specs.Advances.{IsWholeOf, standing_after}
 use Rattle.replica.proofs.Logging.{logs-at}
 use Rattle.admission.specs.Inputs.{input_of}
-use Rattle.replica.proofs.Whole.{goes-on, kept-from, stepped-from, stepped-not, grows-from}
+use Rattle.replica.proofs.WholeSteps.{goes-on, kept-from, stepped-from, stepped-not, grows-from}
 use Rattle.replica.proofs.replica.Replica.step_into.Goals as goal
 
 pub returns-then-not-is_running-clause-stepped : goal.returns-then-not-is_running-clause-stepped
@@ -32,7 +32,10 @@ invariant_of-self g c =
     (subst (λ (x : Replica). IsWholeOf r.keyring x r.state r.executor) on c.self.invariant.0) in (
       kept-from r.keyring (input_of c.args.input) c' c.advance-taken.result c.advance-taken.new.state
           c.advance-taken.new.executor _ t
-          (c.standing-self-inside.ensures (length c.advance-taken.new.executor)),
+          (subst (λ (z : ℕ). standing_of c.standing-self-inside.result
+          (length c.advance-taken.new.executor)
+          ≡ standing_after z c.advance-taken.result (length c.advance-taken.new.executor)) c.horizon.ensures
+          (c.standing-self-inside.ensures (length c.advance-taken.new.executor))),
       c.self.invariant.1,
     )
 
@@ -50,7 +53,10 @@ returns-clause-stepped g c =
     let step = stepped-from r.keyring (input_of c.args.input) c.args.self.now.replica c'
     c.advance-taken.result c.advance-taken.new.state c.advance-taken.new.executor _
     (ap (λ (h : Held). h.replica) (sym c.self.view_is) ∙ on) t
-    (c.standing-self-inside.ensures (length c.advance-taken.new.executor)) in
+    (subst (λ (z : ℕ). standing_of c.standing-self-inside.result
+    (length c.advance-taken.new.executor)
+    ≡ standing_after z c.advance-taken.result (length c.advance-taken.new.executor)) c.horizon.ensures
+    (c.standing-self-inside.ensures (length c.advance-taken.new.executor))) in
     subst (λ (k : Keys). Stepped (identity_of k) (input_of c.args.input) c.args.self.now.replica
     c.into_answer.result new) (ap (λ (h : Held). h.keys) c.self.view_is)
     (subst (λ (x : Result (List SentBytes) Fault). Stepped (identity_of r.keyring) (input_of c.args.input)
@@ -70,18 +76,18 @@ returns-clause-grows g c =
     c.advance-taken.new.executor t)
 
 pub returns-clause-logged : goal.returns-clause-logged
-returns-clause-logged g c l =
+returns-clause-logged g c stays l =
     let r = c.self.inside in
     let new = c.advance-taken.new.state.variables in
     let same = ap (λ (h : Held). h.replica.chronicle) c.self.view_is in
-    let old = logs-at (g.S.StepLog.holds c.args.log.now) (stored_blocks c.args.self.now.replica.chronicle)
+    let old = logs-at (g.S.StepLog.holds c.args.log.now) (standing_blocks c.args.self.now.replica.chronicle)
     r.state.variables.stored c.args.self.now.replica.chronicle r.state.variables.chronicle
-    (ap stored_blocks (sym same) ∙ sym (ap (λ (v : Variables). v.stored) c.self.invariant.0.state.same))
+    (ap standing_blocks (sym same) ∙ sym (ap (λ (v : Variables). v.stored) c.self.invariant.0.state.same))
     (sym same) l in
-    logs-at (g.S.StepLog.holds c.advance-taken.new.log) new.stored (stored_blocks new.chronicle)
+    logs-at (g.S.StepLog.holds c.advance-taken.new.log) new.stored (standing_blocks new.chronicle)
     new.chronicle new.chronicle
     (ap (λ (v : Variables). v.stored) (invariant_of-self g c).0.state.same) refl
-    (c.advance-taken.ensures.logged old)
+    (c.advance-taken.ensures.logged stays old)
 
 pub returns-clause-written : goal.returns-clause-written
 returns-clause-written g c k =

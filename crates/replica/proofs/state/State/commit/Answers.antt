@@ -23,6 +23,7 @@ returns-clause-made g c =
       variables = record {
         chronicle = chronicle i;
         most = (tree i).most;
+        horizon = (tree i).horizon;
         stored = (tree i).stored;
         rules = d.rules;
         high = c.raise.ensures i;
@@ -35,13 +36,13 @@ returns-clause-made g c =
     }) ∙ ap (λ (k : StateParts). changed d k) c.self.view_is
 
 pub returns-clause-logged : goal.returns-clause-logged
-returns-clause-logged g c l =
+returns-clause-logged g c stays l =
     let new = g.S.StepLog.holds c.push.new.self in
     subst (LogsOf new) (sym (returns-clause-made g c))
-    (logged-one (g.S.StepLog.holds c.args.log.now) new c.args.change c.args.self.now c.requires
+    (logged-one (g.S.StepLog.holds c.args.log.now) new c.args.change c.args.self.now c.requires stays
     (λ xs h. c.push.ensures xs (c.reserve.ensures.same xs h)) l)
 
 pub returns-in_err-reserve-clause-logged : goal.returns-in_err-reserve-clause-logged
-returns-in_err-reserve-clause-logged g c l =
+returns-in_err-reserve-clause-logged g c stays l =
     logged-still (g.S.StepLog.holds c.args.log.now) (g.S.StepLog.holds c.reserve.new.self) c.args.self.now
     c.reserve.ensures.same l

@@ -51,7 +51,7 @@ grows-from keys i c taken s h t =
 -- what is kept after it
 pub kept-from :
     (keys : Keys) (i : Input) (c : Chronicle) (taken : Taken) (s : StateParts) (h : History) (m : Standing)
-    → Advances keys i c taken s h → m ≡ standing_after taken (length h)
+    → Advances keys i c taken s h → m ≡ standing_after s.variables.horizon taken (length h)
     → IsWholeOf keys (record { chronicle = s.variables.chronicle; standing = m }) s h
 kept-from keys i c taken s h m t e =
     subst (λ (r : Replica). IsWholeOf keys r s h) (λ j.
@@ -64,7 +64,7 @@ kept-from keys i c taken s h m t e =
 pub stepped-from : (keys : Keys) (i : Input) (old : Replica) (c : Chronicle) (taken : Taken) (s : StateParts)
     (h : History) (m : Standing) → old ≡ record { chronicle = c; standing = running }
     → Advances keys i c taken s h
-    → m ≡ standing_after taken (length h)
+    → m ≡ standing_after s.variables.horizon taken (length h)
     → Stepped (identity_of keys) i old (answer_of taken)
     (record { chronicle = s.variables.chronicle; standing = m })
 unfolding step
