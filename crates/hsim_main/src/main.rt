@@ -22,6 +22,7 @@ A schedule, each line ended by LF, one space between fields:
   inject PARTY HEX      bytes come to a party
   timeout rN            replica N goes on to its next view
   beat rN               replica N is told to propose, if it leads its view
+  prune rN H            replica N may forget what is deep below height H
 A party is r or c and its number: r0 is the first leader of the 3F + 1 replicas.
 
 An example: client 0 asks for a get, replica 0 proposes it, and replica 1 votes.

@@ -125,9 +125,7 @@ fn tell_history(text: &mut Vec<u8>, history: &History) -> Result<(), Fault>
     let mut replica_digits = Buffer::new();
     let replica = replica_digits.format(history.replica().0).as_bytes();
     let mut length_digits = Buffer::new();
-    let length = length_digits
-        .format(history.entries().len() as u64)
-        .as_bytes();
+    let length = length_digits.format(history.len() as u64).as_bytes();
     append(text, &[b"h", replica, b" ", length, b"\n"])
 }
 

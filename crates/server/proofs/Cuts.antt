@@ -20,11 +20,12 @@ use Rattle.definitions.specs.Bytes.{Bytes}
 use Rattle.server.specs.Texts.{IsBelow, spaced, party_text}
 use Rattle.run_report.specs.Names.{replica_text, client_text}
 use Rattle.server.specs.Lines.{IsHeading, heading_text, parties_text, submission_text, injection_text}
-use Rattle.server.specs.Lines.{delivery_text, IsEvent, event_text}
+use Rattle.server.specs.Lines.{delivery_text, pruning_text, IsEvent, event_text}
 use Rattle.server.specs.Schedules.{BeginsWith, IsPrintable, IsPlain, is_lf}
 use Rattle.world_schedule.specs.declared.event.Event.{Event}
 use Rattle.server.specs.declared.lines.Heading.{Heading}
 use Rattle.world_schedule.specs.declared.event.Event.TheVariants.{Submit, Relay, Inject, Timeout, Beat}
+use Rattle.world_schedule.specs.declared.event.Event.TheVariants.{Prune}
 
 -- ---- what schedules are written with is printable
 
@@ -105,6 +106,11 @@ plain_event (Timeout replica) fits =
 plain_event (Beat replica) fits =
     All-append IsPrintable (codes "beat ") (replica_text replica)
     (All-from_recursion IsPrintable (codes "beat ") (search rules)) (plain_replica replica fits)
+plain_event (Prune replica height) fits =
+    All-append IsPrintable (codes "prune ") (pruning_text (replica, height))
+    (All-from_recursion IsPrintable (codes "prune ") (search rules))
+    (plain_spaced (replica_text replica) (decimal height) (plain_replica replica fits.0)
+    (plain_decimal height fits.1))
 
 pub plain_is_utf8 : (words : Bytes) → IsPlain words → IsUtf8 words
 plain_is_utf8 words plain = IsUtf8-from_ascii words (λ i. by i (nat_lt i (length words)) refl)

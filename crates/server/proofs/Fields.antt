@@ -6,9 +6,11 @@ use Rattle.std.proofs.lemmas.Bool.{ltb-true}
 use Rattle.std.proofs.lemmas.Str.Pattern.{IsSplitOnceResult, split_after}
 use Rattle.definitions.specs.Bytes.{Bytes}
 use Rattle.server.specs.Lines.{IsDelivery, delivery_text, IsSubmission, submission_text, IsInjection}
-use Rattle.server.specs.Lines.{injection_text, IsBare, IsEvent, event_text}
+use Rattle.server.specs.Lines.{injection_text, IsPruning, pruning_text, IsQuiet, IsBare, IsEvent}
+use Rattle.server.specs.Lines.{event_text}
 use Rattle.world_schedule.specs.declared.event.Event.{Event}
 use Rattle.world_schedule.specs.declared.event.Event.TheVariants.{Submit, Relay, Inject, Timeout, Beat}
+use Rattle.world_schedule.specs.declared.event.Event.TheVariants.{Prune}
 use Rattle.server.specs.declared.words.NotRead.{NotRead}
 use Rattle.server.specs.declared.words.NotRead.TheVariants.{Bad, Memory}
 use Rattle.server.proofs.Numbers.{no_space}
@@ -66,6 +68,20 @@ no_delivery bs rest whole none = λ e fits spelled. by e fits (spelled ∙ whole
     by (Inject to bytes) fits same = fits
     by (Timeout replica) fits same = absurd (omega (arith, ap first_byte same))
     by (Beat replica) fits same = absurd (omega (arith, ap first_byte same))
+    by (Prune replica height) fits same = absurd (omega (arith, ap first_byte same))
+
+-- what begins as a pruning and isn't one is no event that brings nothing
+pub no_pruning : (bs rest : Bytes) → bs ≡ codes "prune " ++ rest
+    → IsReadOf pruning_text IsPruning rest None → IsReadOf event_text IsQuiet bs None
+no_pruning bs rest whole none = λ e fits spelled. by e fits (spelled ∙ whole)
+  where
+    by : (e : Event) → IsQuiet e → event_text e ≡ codes "prune " ++ rest → ⊥
+    by (Submit client payload) fits same = fits
+    by (Relay frame to) fits same = fits
+    by (Inject to bytes) fits same = fits
+    by (Timeout replica) fits same = absurd (omega (arith, ap first_byte same))
+    by (Beat replica) fits same = absurd (omega (arith, ap first_byte same))
+    by (Prune replica height) fits same = none (replica, height) fits (ap (drop 6) same)
 
 -- what begins as a submission and isn't one is no event
 pub no_submission : (bs rest : Bytes) → bs ≡ codes "submit " ++ rest
@@ -78,6 +94,7 @@ no_submission bs rest whole none = λ e fits spelled. by e fits (spelled ∙ who
     by (Inject to bytes) fits same = absurd (omega (arith, ap first_byte same))
     by (Timeout replica) fits same = absurd (omega (arith, ap first_byte same))
     by (Beat replica) fits same = absurd (omega (arith, ap first_byte same))
+    by (Prune replica height) fits same = absurd (omega (arith, ap first_byte same))
 
 -- nor is what begins as an injection
 pub no_injection : (bs rest : Bytes) → bs ≡ codes "inject " ++ rest
@@ -90,6 +107,7 @@ no_injection bs rest whole none = λ e fits spelled. by e fits (spelled ∙ whol
     by (Inject to bytes) fits same = none (to, bytes) fits (ap (drop 7) same)
     by (Timeout replica) fits same = absurd (omega (arith, ap first_byte same))
     by (Beat replica) fits same = absurd (omega (arith, ap first_byte same))
+    by (Prune replica height) fits same = absurd (omega (arith, ap first_byte same))
 
 -- what begins as neither, and is no event without bytes, is none
 pub no_event : (bs : Bytes) → ((rest : Bytes) → bs ≢ codes "submit " ++ rest)
@@ -103,6 +121,7 @@ no_event bs not_submitted not_injected none = λ e. by e
     by (Inject to bytes) fits spelled = not_injected (injection_text (to, bytes)) (sym spelled)
     by (Timeout replica) fits spelled = none (Timeout replica) fits spelled
     by (Beat replica) fits spelled = none (Beat replica) fits spelled
+    by (Prune replica height) fits spelled = none (Prune replica height) fits spelled
 
 pub bare_is_event : (e : Event) → IsBare e → IsEvent e
 bare_is_event (Submit client payload) fits = absurd fits
@@ -110,6 +129,7 @@ bare_is_event (Relay frame to) fits = fits
 bare_is_event (Inject to bytes) fits = absurd fits
 bare_is_event (Timeout replica) fits = fits
 bare_is_event (Beat replica) fits = fits
+bare_is_event (Prune replica height) fits = fits
 
 pub not_submitted : (bs rest : Bytes) → bs ≡ codes "submit " ++ rest → (w : NotRead)
     → IsReading submission_text IsSubmission rest (Err w) → IsReading event_text IsEvent bs (Err w)

@@ -32,6 +32,10 @@ pub client_word : (c : ℕ) → c < 256 → IsWord (client_text c)
 client_word c small =
     word_behind 99 (decimal c) (λ e. omega (arith, e)) (decimal_word c (omega (arith, small)))
 
+pub replica_word : (r : ℕ) → r < 256 → IsWord (replica_text r)
+replica_word r small =
+    word_behind 114 (decimal r) (λ e. omega (arith, e)) (decimal_word r (omega (arith, small)))
+
 pub party_word : (p : ℕ) → p < 512 → IsWord (party_text p)
 party_word p small = by (nat_lt p 256) refl
   where

@@ -1,12 +1,13 @@
 -- What is read and told, where the reader's bytes are known.
 use Rattle.std.proofs.Common.{◌≡◌, Option, Some, None, IfSome, Result, Ok, Err, OnOk, Vec, Global, ℕ}
+use Rattle.std.proofs.Common.{inl, inr}
 use Rattle.std.specs.Prelude.{IfOk, is_ok}
 use Rattle.std.specs.Io.KnownBytes.{Appends}
 use Rattle.ids.specs.declared.fault.Fault as refusal
 use Rattle.definitions.specs.Bytes.{Bytes}
 use Rattle.world_schedule.specs.Running.{IsRunOf}
 use Rattle.world_schedule.specs.declared.outcome.Outcome.{Outcome}
-use Rattle.server.specs.Faults.{IsWhyNot, IsRightIn}
+use Rattle.server.specs.Faults.{IsWhyNot, IsWhyNoOutcome, IsWhyNoRun}
 use Rattle.run_report.specs.Reports.{outcome_text}
 use Rattle.server.specs.Schedules.{IsTextOf}
 use Rattle.server.specs.Simulations.{setting_of, IsTextOfRun, IsToldOf}
@@ -20,11 +21,19 @@ pub run_told : (r : Result (Vec ℕ Global) refusal.Fault) (s : Schedule) (o : O
 run_told (Ok text) s o is ran = record { outcome = o; ran = ran; tells = is }
 run_told (Err e) s o is ran = tt
 
-pub right_in : (known : Option Bytes) (text : Bytes) (fault : SimFault) → IfSome known (λ xs. text ≡ xs)
-    → IsWhyNot text fault → IfSome known (λ xs. IsRightIn xs fault)
-right_in None text fault read why = tt
-right_in (Some xs) text (sim.Line number) read why = rw (← read) why
-right_in (Some xs) text (sim.Fault fault) read why = tt
+-- why there is no schedule
+pub why_no_schedule : (known : Option Bytes) (text : Bytes) (fault : SimFault)
+    → IfSome known (λ xs. text ≡ xs) → IsWhyNot text fault → IsWhyNoOutcome known fault
+why_no_schedule None text (sim.Line number) read why = tt
+why_no_schedule (Some xs) text (sim.Line number) read why = rw (← read) why
+why_no_schedule known text (sim.Fault fault) read why = inl why
+
+-- why a schedule that was read has no run
+pub why_no_run : (known : Option Bytes) (text : Bytes) (s : Schedule) (fault : refusal.Fault)
+    → IfSome known (λ xs. text ≡ xs) → IsTextOf s text → IsWhyNoRun s fault
+    → IsWhyNoOutcome known (sim.Fault fault)
+why_no_run None text s fault read is why = inr (inr (inr (s, tt, why)))
+why_no_run (Some xs) text s fault read is why = inr (inr (inr (s, rw (← read) is, why)))
 
 pub told_of : (known old new : Option Bytes) (input text : Bytes) (s : Schedule)
     → IfSome known (λ xs. input ≡ xs) → IsTextOf s input → IsTextOfRun s text → Appends old new text

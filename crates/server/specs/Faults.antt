@@ -1,11 +1,16 @@
 -- Why a text has no schedule, or a schedule no outcome.
-use Rattle.std.specs.Prelude.{◌≡◌, ℕ, ⊤}
+use Rattle.std.specs.Prelude.{◌≡◌, ◌⊎◌, ℕ, Option, Some, None, IfSome}
 use Rattle.std.specs.declared.io.ErrorKind.{ErrorKind}
 use Rattle.std.specs.declared.io.ErrorKind.TheVariants.{OutOfMemory}
 use Rattle.ids.specs.declared.fault.Fault as refusal
-use Rattle.ids.specs.declared.fault.Fault.TheVariants.{Memory, ReadFailed}
+use Rattle.ids.specs.declared.fault.Fault.TheVariants.{Memory, BadSize, ReadFailed, WriteFailed}
+use Rattle.ids.specs.Sizes.{AreSizes}
 use Rattle.definitions.specs.Bytes.{Bytes}
-use Rattle.server.specs.Schedules.{IsFirstBadLine}
+use Rattle.world_schedule.specs.Settings.{why_not}
+use Rattle.world_schedule.specs.Schedules.{IsRefusedFor}
+use Rattle.server.specs.Schedules.{IsFirstBadLine, IsTextOf}
+use Rattle.server.specs.Simulations.{setting_of, sizes_of}
+use Rattle.server.specs.declared.schedule.Schedule.{Schedule}
 use Rattle.server.specs.declared.words.NotRead.{NotRead}
 use Rattle.server.specs.declared.words.NotRead.TheVariants as not_read
 use Rattle.server.specs.declared.sim_fault.SimFault.{SimFault}
@@ -21,11 +26,24 @@ abbrev pub fault_of_line : NotRead → ℕ → SimFault
 fault_of_line not_read.Bad number = Line number
 fault_of_line not_read.Memory number = Fault Memory
 
--- a line that is named is the text's first bad one, and else the text is that of some schedule, or wasn't
--- read
-abbrev pub IsRightIn : Bytes → SimFault → Type 0
-IsRightIn text (Line number) = IsFirstBadLine text number
-IsRightIn text (Fault fault) = ⊤
+-- why a schedule has no run: for want of memory; or its sizes are out of their limits; or else a faulty party
+-- isn't there, or more replicas are faulty than are tolerated; or else for the first event that is refused
+abbrev pub IsWhyNoRun : Schedule → refusal.Fault → Type 0
+IsWhyNoRun s fault =
+    let sizes = sizes_of s.heading in
+    (fault ≡ Memory)
+    ⊎ (AreSizes sizes → ⊥) × (fault ≡ BadSize)
+    ⊎ AreSizes sizes × (why_not sizes s.heading.faulty.items ≡ Some fault)
+    ⊎ AreSizes sizes × (why_not sizes s.heading.faulty.items ≡ None)
+    × IsRefusedFor (setting_of s.heading) s.events.items fault
+
+-- Why what a reader gives has no outcome, as far as its bytes are known: a line that is named is the text's
+-- first bad one; else memory, the reader or the writer failed, or the text is a schedule that has no run.
+abbrev pub IsWhyNoOutcome : Option Bytes → SimFault → Type 0
+IsWhyNoOutcome known (Line number) = IfSome known (λ text. IsFirstBadLine text number)
+IsWhyNoOutcome known (Fault fault) =
+    (fault ≡ Memory) ⊎ (fault ≡ ReadFailed) ⊎ (fault ≡ WriteFailed)
+    ⊎ (s : Schedule) × IfSome known (IsTextOf s) × IsWhyNoRun s fault
 
 -- a reader's error, as a refusal: out of memory is told apart
 abbrev pub read_fault_of : ErrorKind → refusal.Fault

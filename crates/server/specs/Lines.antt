@@ -9,6 +9,7 @@ use Rattle.server.specs.Texts.{IsBelow, party_text, spaced, behind_word}
 use Rattle.run_report.specs.Names.{replica_text, client_text}
 use Rattle.world_schedule.specs.declared.event.Event.{Event}
 use Rattle.world_schedule.specs.declared.event.Event.TheVariants.{Submit, Relay, Inject, Timeout, Beat}
+use Rattle.world_schedule.specs.declared.event.Event.TheVariants.{Prune}
 use Rattle.server.specs.declared.lines.Heading.{Heading}
 
 -- parties, each once, and each behind a space
@@ -67,6 +68,13 @@ IsDelivery d = (d.0 < 2 ^ 64) × (d.1 < 512)
 abbrev pub delivery_text : ℕ × ℕ → Bytes
 delivery_text d = spaced (decimal d.0) (party_text d.1)
 
+-- a replica, and the height up to which it may prune
+abbrev pub IsPruning : ℕ × ℕ → Type 0
+IsPruning p = (p.0 < 256) × (p.1 < 2 ^ 64)
+
+abbrev pub pruning_text : ℕ × ℕ → Bytes
+pruning_text p = spaced (replica_text p.0) (decimal p.1)
+
 -- a timeout or a beat
 abbrev pub IsTimer : Event → Type 0
 IsTimer (Submit client payload) = ⊥
@@ -74,6 +82,16 @@ IsTimer (Relay frame to) = ⊥
 IsTimer (Inject to bytes) = ⊥
 IsTimer (Timeout replica) = replica < 256
 IsTimer (Beat replica) = replica < 256
+IsTimer (Prune replica height) = ⊥
+
+-- an event that brings nothing
+abbrev pub IsQuiet : Event → Type 0
+IsQuiet (Submit client payload) = ⊥
+IsQuiet (Relay frame to) = ⊥
+IsQuiet (Inject to bytes) = ⊥
+IsQuiet (Timeout replica) = replica < 256
+IsQuiet (Beat replica) = replica < 256
+IsQuiet (Prune replica height) = IsPruning (replica, height)
 
 -- an event whose line has no bytes
 abbrev pub IsBare : Event → Type 0
@@ -82,6 +100,7 @@ IsBare (Relay frame to) = IsDelivery (frame, to)
 IsBare (Inject to bytes) = ⊥
 IsBare (Timeout replica) = replica < 256
 IsBare (Beat replica) = replica < 256
+IsBare (Prune replica height) = IsPruning (replica, height)
 
 -- another line: an event
 abbrev pub IsEvent : Event → Type 0
@@ -90,6 +109,7 @@ IsEvent (Relay frame to) = IsDelivery (frame, to)
 IsEvent (Inject to bytes) = IsInjection (to, bytes)
 IsEvent (Timeout replica) = replica < 256
 IsEvent (Beat replica) = replica < 256
+IsEvent (Prune replica height) = IsPruning (replica, height)
 
 abbrev pub event_text : Event → Bytes
 event_text (Submit client payload) = codes "submit " ++ submission_text (client, payload)
@@ -97,3 +117,4 @@ event_text (Relay frame to) = codes "relay " ++ delivery_text (frame, to)
 event_text (Inject to bytes) = codes "inject " ++ injection_text (to, bytes)
 event_text (Timeout replica) = codes "timeout " ++ replica_text replica
 event_text (Beat replica) = codes "beat " ++ replica_text replica
+event_text (Prune replica height) = codes "prune " ++ pruning_text (replica, height)

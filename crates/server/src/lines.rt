@@ -6,10 +6,11 @@ ghost use Rattle.server.specs.Lines.{IsHeading, heading_text, AreSizesOf, ArePar
 ghost use Rattle.server.specs.Lines.{digits_of_client, AreDigitsOfClient, digits_of_party};
 ghost use Rattle.server.specs.Lines.{AreDigitsOfParty, IsDelivery, delivery_text, IsSubmission};
 ghost use Rattle.server.specs.Lines.{submission_text, IsInjection, injection_text, IsTimer, IsBare};
+ghost use Rattle.server.specs.Lines.{IsPruning, pruning_text, IsQuiet};
 ghost use Rattle.server.specs.Lines.{IsEvent, event_text};
 
 use crate::words::{NotRead, bytes_of, client_of, number_of, party_of, replica_of};
-use ids::{ClientId, PartyId};
+use ids::{ClientId, Height, PartyId, ReplicaId};
 use std::alloc::Global;
 use world_schedule::Event;
 
@@ -153,8 +154,29 @@ fn bare_event_of(words: &str) -> Option<Event>
             let (frame, to) = delivery_of(fields)?;
             Some(Event::Relay { frame, to })
         }
+        None => quiet_event_of(words),
+    }
+}
+
+/// An event that brings nothing: a pruning, a timeout or a beat.
+fn quiet_event_of(words: &str) -> Option<Event>
+    ensures { IsReadOf event_text IsQuiet words.now result }
+{
+    match words.strip_prefix("prune ") {
+        Some(fields) => {
+            let (replica, height) = pruning_of(fields)?;
+            Some(Event::Prune { replica, height })
+        }
         None => timer_of(words),
     }
+}
+
+/// A replica, and the height up to which it may prune.
+fn pruning_of(fields: &str) -> Option<(ReplicaId, Height)>
+    ensures { IsReadOf pruning_text IsPruning fields.now result }
+{
+    let (replica, height) = fields.split_once(' ')?;
+    Some((replica_of(replica)?, Height(number_of(height)?)))
 }
 
 /// A timeout or a beat.

@@ -1,6 +1,6 @@
-ghost use Rattle.std.specs.Prelude.{◌≡◌, ◌≢◌, IfSome, IfOk, IfErr, OnOk};
+ghost use Rattle.std.specs.Prelude.{◌≡◌, ◌≢◌, ◌⊎◌, Err, IfSome, IfOk, IfErr, OnOk, OnErr};
 ghost use Rattle.std.specs.IoError.{error_kind};
-ghost use Rattle.server.specs.Faults.{IsRightIn, read_fault_of};
+ghost use Rattle.server.specs.Faults.{IsWhyNoOutcome, IsWhyNoRun, read_fault_of};
 ghost use Rattle.server.specs.Simulations.{all_keys, IsTextOfRun, IsToldOf};
 
 use crate::schedule::{Schedule, parse};
@@ -33,8 +33,8 @@ pub fn simulate<R: Read, W: Write>(
     // What is written is the text of an outcome of the schedule that was read.
     ensures ok { OnOk result
         (IfSome (R.remaining reader.old) (IsToldOf (W.contents writer.old) (W.contents writer.new))) }
-    // A line is named where it is the first bad one.
-    ensures line { IfErr result (λ fault. IfSome (R.remaining reader.old) (λ text. IsRightIn text fault)) }
+    // A line is named where it is the first bad one, and else a fault of what failed.
+    ensures refused { IfErr result (IsWhyNoOutcome (R.remaining reader.old)) }
     // Nothing is written but by a whole run.
     ensures unwritten { IfErr result
         (λ fault. fault ≢ SimFault.Fault Fault.WriteFailed → writer.new ≡ writer.old) }
@@ -47,7 +47,8 @@ pub fn simulate<R: Read, W: Write>(
 
 /// What a reader gives up to its end.
 fn read_all<R: Read>(alloc: Global, reader: &mut R) -> Result<Vec<u8>, Fault>
-    ensures { IfOk result (λ bytes. IfSome (R.remaining reader.old) (λ text. bytes.items ≡ text)) }
+    ensures read { IfOk result (λ bytes. IfSome (R.remaining reader.old) (λ text. bytes.items ≡ text)) }
+    ensures failed { OnErr result ((result ≡ Err Fault.Memory) ⊎ (result ≡ Err Fault.ReadFailed)) }
 {
     let mut bytes = Vec::new(alloc);
     match reader.read_to_end(&mut bytes) {
@@ -68,7 +69,8 @@ pub fn read_fault(error: &io::Error) -> Fault
 
 /// What is told of the run of a schedule.
 fn tell_run(alloc: Global, schedule: Schedule) -> Result<Vec<u8>, Fault>
-    ensures { IfOk result (λ text. IsTextOfRun schedule text.items) }
+    ensures told { IfOk result (λ text. IsTextOfRun schedule text.items) }
+    ensures refused { IfErr result (IsWhyNoRun schedule) }
 {
     let config = schedule.heading.config()?;
     let keyrings = keyrings_of(alloc, config)?;
@@ -79,7 +81,8 @@ fn tell_run(alloc: Global, schedule: Schedule) -> Result<Vec<u8>, Fault>
 
 /// The keyrings of all parties, replicas first.
 fn keyrings_of(alloc: Global, config: Config) -> Result<Vec<Keyring>, Fault>
-    ensures { IfOk result (λ keyrings. keyrings.items ≡ all_keys config) }
+    ensures made { IfOk result (λ keyrings. keyrings.items ≡ all_keys config) }
+    ensures memory { OnErr result (result ≡ Err Fault.Memory) }
 {
     let mut keyrings = Vec::new(alloc);
     for replica in 0..config.n() {

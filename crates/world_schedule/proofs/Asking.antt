@@ -13,12 +13,13 @@ use Rattle.definitions.specs.Frames.{Core, Certificate, Command, Frame}
 use Rattle.definitions.specs.Frames as frame
 use Rattle.definitions.specs.Branches.{Branch}
 use Rattle.definitions.specs.Checks.{Identity, Findings}
-use Rattle.definitions.specs.Chronicles.{Step, Chronicle, tree, history, Note.got_vote, Note.got_new_view}
-use Rattle.definitions.specs.Chronicles.{Step.noted}
+use Rattle.definitions.specs.Chronicles.{Step, Chronicle, horizon, window, history, Note.got_vote}
+use Rattle.definitions.specs.Chronicles.{Note.got_new_view, Step.noted}
 use Rattle.definitions.specs.States.{find_block, is_due, is_same_request, pending}
 use Rattle.definitions.specs.Trees.{Placing, Placing.stands, Placing.grows, Placing.lacks_parent}
 use Rattle.definitions.specs.Trees.{Placing.unfit, placing}
-use Rattle.definitions.specs.Rulings.{Input, Input.timeout_in, Input.beat_in, Ruling, Ruling.due}
+use Rattle.definitions.specs.Rulings.{Input, Input.timeout_in, Input.beat_in, Input.prune_in, Ruling}
+use Rattle.definitions.specs.Rulings.{Ruling.due}
 use Rattle.definitions.specs.Rulings.{Ruling.missing, Ruling.refusing, ruling, conflicts, on_placing}
 use Rattle.definitions.specs.Rulings.{on_block, on_request, with_block}
 use Rattle.definitions.specs.Admission.{Checked, Checked.passes, Checked.rejected, check, when}
@@ -95,7 +96,7 @@ step-right lack self m i r h = by r.standing
 
 -- a block that doesn't fit is refused for something else than its parent
 unfit-other : (core : Core) (q : Certificate) (c : Chronicle) (n : Fault)
-    → IsPlaced 0 MOST_BLOCKS core q (tree c) (unfit n) → n ≡ fault.UnknownParent → ⊥
+    → IsPlaced (horizon c) MOST_BLOCKS core q (window c) (unfit n) → n ≡ fault.UnknownParent → ⊥
 unfit-other core q c n (inl e) k = cc
 unfit-other core q c n (inr (inl e)) k = cc
 unfit-other core q c n (inr (inr (inl e))) k = cc
@@ -103,7 +104,7 @@ unfit-other core q c n (inr (inr (inr (inl e)))) k = cc
 unfit-other core q c n (inr (inr (inr (inr e)))) k = cc
 
 placed-right : (self : Identity) (w : Option ℕ) (sender : ℕ) (core : Core) (q : Certificate) (f : Findings)
-    (c : Chronicle) (p : Placing) → IsPlaced 0 MOST_BLOCKS core q (tree c) p
+    (c : Chronicle) (p : Placing) → IsPlaced (horizon c) MOST_BLOCKS core q (window c) p
     → RulesRightly (Some (sender, core.parent)) (on_placing self w sender core q f c p)
 unfolding on_placing
 placed-right self w sender core q f c (stands b) h = tt
@@ -114,8 +115,8 @@ placed-right self w sender core q f c (unfit n) h = unfit-other core q c n h
 block-right : (self : Identity) (w : Option ℕ) (sender : ℕ) (core : Core) (q : Certificate) (f : Findings)
     (c : Chronicle) → RulesRightly (Some (sender, core.parent)) (on_block self w sender core q f c)
 block-right self w sender core q f c =
-    placed-right self w sender core q f c (placing 0 MOST_BLOCKS core q (tree c))
-    (placed 0 MOST_BLOCKS core q (tree c))
+    placed-right self w sender core q f c (placing (horizon c) MOST_BLOCKS core q (window c))
+    (placed (horizon c) MOST_BLOCKS core q (window c))
 
 found-right : (o : Option Branch) (sender : ℕ) (d : Bytes) (follows : Branch → Step)
     → RulesRightly (Some (sender, d)) (with_block o sender d (λ b. due (follows b)))
@@ -325,14 +326,18 @@ lack-told self bytes old new e are a k = by (takes self a.memory a.read old).1 r
               (k.tells sender d (ap (lacked_by self.sizes) (sym same) ∙ lack));
         }
 
--- ---- timeouts and beats
+-- ---- timeouts, beats and prunings
 
--- a timeout or a beat is due
-timer-due : (self : Identity) (i : Input) (c : Chronicle) → (i ≡ timeout_in) ⊎ (i ≡ beat_in)
-    → RulesRightly None (ruling self i c)
+-- an input that no frame brings
+abbrev pub IsTimer : Input → Type 0
+IsTimer i = (i ≡ timeout_in) ⊎ ((i ≡ beat_in) ⊎ ((height : ℕ) × (i ≡ prune_in height)))
+
+-- it is due
+timer-due : (self : Identity) (i : Input) (c : Chronicle) → IsTimer i → RulesRightly None (ruling self i c)
 unfolding ruling
 timer-due self i c (inl e) = subst (λ x. RulesRightly None (ruling self x c)) (sym e) tt
-timer-due self i c (inr e) = subst (λ x. RulesRightly None (ruling self x c)) (sym e) tt
+timer-due self i c (inr (inl e)) = subst (λ x. RulesRightly None (ruling self x c)) (sym e) tt
+timer-due self i c (inr (inr (height, e))) = subst (λ x. RulesRightly None (ruling self x c)) (sym e) tt
 
 -- frames that go out
 pub sent-ticked : (self : Identity) (i : Input) (old new : Replica) (sent : List SentBytes) (e : Effect)
@@ -352,7 +357,7 @@ sent-ticked self i old new sent e a out accepted answer = by (step self a.memory
 
 -- a refusal
 pub refusal-ticked : (self : Identity) (i : Input) (old new : Replica) (n : Fault) (e : Effect)
-    → (i ≡ timeout_in) ⊎ (i ≡ beat_in) → Stepped self i old (Err n) new
+    → IsTimer i → Stepped self i old (Err n) new
     → e.out.items ≡ [] → e.accepted ≡ None → e.answer ≡ Some n → Ticks self i old new e
 refusal-ticked self i old new n e timer a out accepted answer = by (step self a.memory i old).1 refl a.answer
   where

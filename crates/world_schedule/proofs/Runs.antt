@@ -38,6 +38,7 @@ use Rattle.client_accept.specs.Sessions as sessions
 use Rattle.world_schedule.specs.declared.effect.Effect.{Effect}
 use Rattle.world_schedule.specs.declared.event.Event.{Event}
 use Rattle.world_schedule.specs.declared.event.Event.TheVariants.{Submit, Relay, Inject, Timeout, Beat}
+use Rattle.world_schedule.specs.declared.event.Event.TheVariants.{Prune}
 use Rattle.world_schedule.specs.declared.outcome.SentFrame.{SentFrame}
 use Rattle.world_schedule.specs.declared.outcome.Outcome.{Outcome}
 use Rattle.world_schedule.specs.declared.journal.Journal.{Journal}
@@ -69,6 +70,8 @@ refusal-is w read (Inject to bytes) sizes sent e n =
 refusal-is w read (Timeout replica) sizes sent e n =
     ap (λ (z : Sizes). why_refused z sent (Timeout replica)) e
 refusal-is w read (Beat replica) sizes sent e n = ap (λ (z : Sizes). why_refused z sent (Beat replica)) e
+refusal-is w read (Prune replica height) sizes sent e n =
+    ap (λ (z : Sizes). why_refused z sent (Prune replica height)) e
 
 -- an event is at the party that it names
 pub party-is : (read : Option Frame) (event : Event) → party_of (event_of read event) ≡ party_named event
@@ -78,6 +81,7 @@ party-is read (Relay frame to) = refl
 party-is read (Inject to bytes) = refl
 party-is read (Timeout replica) = refl
 party-is read (Beat replica) = refl
+party-is read (Prune replica height) = refl
 
 -- ---- the record
 
@@ -171,6 +175,18 @@ module _ (s : Setting) (w : World) (held : List steps.Held) (seats : List sessio
   unfolding acts party_of
   beaten i b = record {
     happening = (worlds.beat i, b.memory);
+    is_event = (None, tt, refl);
+    parties = b.parties;
+    tells = b.tells;
+  }
+
+  -- leave to prune
+  pub pruned-to : (i height : ℕ)
+      → Moves s w (Rattle.definitions.specs.Rulings.prune_in height) i held seats e
+      → Acts s w (Prune i height) held seats e
+  unfolding acts party_of
+  pruned-to i height b = record {
+    happening = (worlds.prune i height, b.memory);
     is_event = (None, tt, refl);
     parties = b.parties;
     tells = b.tells;

@@ -413,7 +413,7 @@ takes-if s held seats i p bytes old new keys (Ok e) is l k here same t = λ w at
     (subst (λ (n : ℕ). old ≡ slice_index_or held n old) is here) same t)
 takes-if s held seats i p bytes old new keys (Err n) is l k here same t = tt
 
--- a replica's time was out, or its beat came
+-- a replica's time was out, its beat came, or it was given leave to prune
 pub ticks-at : (s : Setting) (held : List steps.Held) (seats : List sessions.Held) (i p : ℕ) (input : Input)
     (old new : steps.Held) (e : Effect) → i ≡ p → p < replicas s.sizes → old ≡ slice_index_or held i old
     → new.keys ≡ old.keys

@@ -13,6 +13,7 @@ use Rattle.definitions.specs.Runs.{refusal, run}
 use Rattle.definitions.specs.Premises.{IsReadIn}
 use Rattle.world_schedule.specs.declared.event.Event.{Event}
 use Rattle.world_schedule.specs.declared.event.Event.TheVariants.{Submit, Relay, Inject, Timeout, Beat}
+use Rattle.world_schedule.specs.declared.event.Event.TheVariants.{Prune}
 use Rattle.world_schedule.specs.Settings.{Setting, start_of}
 
 -- the party that an event names
@@ -22,6 +23,7 @@ party_named (Relay frame to) = to
 party_named (Inject to bytes) = to
 party_named (Timeout replica) = replica
 party_named (Beat replica) = replica
+party_named (Prune replica height) = replica
 
 -- the event, where its bytes are read as this frame, or as none
 abbrev pub event_of : Option Frame → Event → worlds.Event
@@ -30,6 +32,7 @@ event_of read (Relay frame to) = worlds.relay frame to
 event_of read (Inject to bytes) = worlds.inject to bytes.items read
 event_of read (Timeout replica) = worlds.timeout replica
 event_of read (Beat replica) = worlds.beat replica
+event_of read (Prune replica height) = worlds.prune replica height
 
 -- the party that it names is there
 abbrev pub has_party : Sizes → Event → Bool
@@ -38,6 +41,7 @@ has_party sizes (Relay frame to) = is_party_of sizes to
 has_party sizes (Inject to bytes) = is_party_of sizes to
 has_party sizes (Timeout replica) = is_replica_of sizes replica
 has_party sizes (Beat replica) = is_replica_of sizes replica
+has_party sizes (Prune replica height) = is_replica_of sizes replica
 
 -- the frame that it names is one of so many
 abbrev pub has_frame : ℕ → Event → Bool

@@ -86,7 +86,7 @@ pub record Hands (s : Setting) (w : World) (client : ℕ) (payload : Bytes) (hel
   pub parties : AreOf s held seats (with_effect w (submits client memory payload w))
   pub tells : Tells (submits client memory payload w) (client_at (client_party client)) e
 
--- a replica that isn't faulty took a timeout or a beat
+-- a replica that isn't faulty took a timeout, a beat or leave to prune
 pub record Moves (s : Setting) (w : World) (input : Input) (i : ℕ) (held : List steps.Held)
     (seats : List sessions.Held) (e : Effect) : Type 0 where
   pub memory : MemorySupply

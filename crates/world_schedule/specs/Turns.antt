@@ -52,7 +52,7 @@ pub record Takes (self : Identity) (bytes : Bytes) (old new : Replica) (e : Effe
   pub state : new ≡ (takes self memory read old).0
   pub tells : TellsReaction self memory (takes self memory read old).1 e
 
--- its time is out, or its beat comes
+-- its time is out, its beat comes, or it is given leave to prune
 pub record Ticks (self : Identity) (input : Input) (old new : Replica) (e : Effect) : Type 0 where
   pub memory : MemorySupply
   pub state : new ≡ (step self memory input old).0

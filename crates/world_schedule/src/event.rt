@@ -3,7 +3,7 @@
 ghost use Rattle.std.specs.Prelude.{◌≡◌};
 ghost use Rattle.world_schedule.specs.Schedules.{party_named};
 
-use ids::{ClientId, PartyId, ReplicaId};
+use ids::{ClientId, Height, PartyId, ReplicaId};
 
 /// One event of a schedule.
 #[derive(Debug, Drop)]
@@ -18,6 +18,8 @@ pub enum Event {
     Timeout(ReplicaId),
     /// A replica is told to propose, if it leads.
     Beat(ReplicaId),
+    /// A replica is given leave to prune its tree up to a height.
+    Prune { replica: ReplicaId, height: Height },
 }
 
 impl Event {
@@ -28,7 +30,9 @@ impl Event {
         match self {
             Event::Submit { client, .. } => PartyId::from(*client),
             Event::Relay { to, .. } | Event::Inject { to, .. } => *to,
-            Event::Timeout(replica) | Event::Beat(replica) => PartyId::from(*replica),
+            Event::Timeout(replica) | Event::Beat(replica) | Event::Prune { replica, .. } => {
+                PartyId::from(*replica)
+            }
         }
     }
 }

@@ -1,6 +1,6 @@
 //! What a run comes to.
 
-ghost use Rattle.std.specs.Prelude.{◌≡◌, reverse};
+ghost use Rattle.std.specs.Prelude.{◌≡◌, length, reverse, IfSome};
 ghost use Rattle.definitions.specs.Replicas.{held_history};
 
 use client_accept::Receipt;
@@ -54,14 +54,24 @@ impl History {
     pub fn replica(&self) -> ReplicaId
         ensures { result ≡ self.now.replica }
     {
-        self.replica.number()
+        self.replica.replica().number()
     }
 
-    /// The executed commands, oldest first.
-    pub fn entries(&self) -> &Entries
-        ensures { reverse result.now ≡ self.now.history }
+    /// How many commands were executed.
+    pub fn len(&self) -> usize
+        ensures { result ≡ length self.now.history }
     {
-        self.replica.history()
+        self.replica.replica().executed()
+    }
+
+    /// The executed commands, oldest first. None of a replica that was given leave to prune.
+    pub fn entries(&self) -> Option<&Entries>
+        ensures { IfSome result (λ all. reverse all.now ≡ self.now.history) }
+    {
+        match self.replica.whole() {
+            Some(whole) => Some(whole.history()),
+            None => None,
+        }
     }
 }
 

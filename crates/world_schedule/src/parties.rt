@@ -5,7 +5,7 @@ ghost use Rattle.std.specs.Prelude.{OnErr};
 ghost use Rattle.ids.specs.Sizes.{replicas};
 ghost use Rattle.definitions.specs.Keyrings.{is_party_of, client_at};
 ghost use Rattle.definitions.specs.Canonical.{is_canonical};
-ghost use Rattle.definitions.specs.Rulings.{timeout_in, beat_in};
+ghost use Rattle.definitions.specs.Rulings.{timeout_in, beat_in, prune_in};
 ghost use Rattle.definitions.specs.Worlds as worlds;
 ghost use Rattle.linear_law.specs.Law.{SentAreFrames};
 ghost use Rattle.world_schedule.specs.Settings.{Setting, start_of};
@@ -20,7 +20,7 @@ use crate::outcome::{History, SentFrame};
 use crate::world::World;
 use crate::{client, replica_turn};
 use client_accept::Session;
-use ids::{ClientId, Fault, PartyId, ReplicaId};
+use ids::{ClientId, Fault, Height, PartyId, ReplicaId};
 use replica::Archived;
 
 /// All replicas and clients, also the faulty ones, which no event changes.
@@ -85,7 +85,7 @@ fn keep_correct(world: &World, histories: &mut Vec<History>, replica: Archived) 
         (histories.new.items ≡ histories.old.items ++ told_by world.now (replica ∷ [])) }
     ensures memory { OnErr result (result ≡ Err Fault.Memory) }
 {
-    if world.is_faulty(replica.number().into()) {
+    if world.is_faulty(replica.replica().number().into()) {
         return Ok(());
     }
     histories.push(History::of(replica))?;
@@ -203,6 +203,18 @@ impl Parties {
         replica_turn::beat(world.alloc(), replica)
     }
 
+    /// Gives a replica leave to prune its tree up to a height.
+    fn prune(&mut self, world: &World, replica: ReplicaId, height: Height) -> Effect
+        requires seated { AreSeated world.now self.old.replicas.items self.old.sessions.items }
+        requires replica { replica < replicas world.now.sizes }
+        ensures { (w : worlds.World) → AreOf world.now self.old.replicas.items self.old.sessions.items w
+            → Moves world.now w (prune_in height) replica self.new.replicas.items self.new.sessions.items
+            result }
+    {
+        let replica = &mut self.replicas[usize::from(replica.0)];
+        replica_turn::prune(world.alloc(), replica, height)
+    }
+
     /// Has the party that an event names take it.
     pub(crate) fn act(
         &mut self,
@@ -225,6 +237,7 @@ impl Parties {
             Event::Inject { to, bytes } => self.bring(world, *to, bytes),
             Event::Timeout(replica) => Ok(self.timeout(world, *replica)),
             Event::Beat(replica) => Ok(self.beat(world, *replica)),
+            Event::Prune { replica, height } => Ok(self.prune(world, *replica, *height)),
         }
     }
 

@@ -6,7 +6,7 @@ ghost use Rattle.definitions.specs.Bytes.{Bytes};
 ghost use Rattle.definitions.specs.Frames.{Frame};
 ghost use Rattle.definitions.specs.FrameLimits.{IsReadAs};
 ghost use Rattle.definitions.specs.Checks.{identity_of};
-ghost use Rattle.definitions.specs.Rulings.{timeout_in, beat_in};
+ghost use Rattle.definitions.specs.Rulings.{timeout_in, beat_in, prune_in};
 ghost use Rattle.admission.specs.Lacking.{lacked_by};
 ghost use Rattle.world_schedule.specs.Turns.{Takes, Ticks};
 ghost use Rattle.world_schedule.specs.Asking.{Answers, Asks, is_lack, Refuses, SameReplica};
@@ -14,8 +14,8 @@ ghost use Rattle.world_schedule.specs.Asking.{Answers, Asks, is_lack, Refuses, S
 use crate::effect::Effect;
 use admission::{admit, missing};
 use authenticators::Keyring;
-use ids::{Fault, Kind};
-use replica::{Archived, Input, Out, Sending, To};
+use ids::{Fault, Height, Kind};
+use replica::{Archived, Input, Out, Replica, Sending, To};
 use std::alloc::Global;
 
 /// Brings bytes to a replica, checked with its keys.
@@ -36,7 +36,7 @@ fn take(replica: &mut Archived, keyring: &Keyring, bytes: &[u8]) -> Result<Out, 
 /// missing, to the frame's sender. It is left out where that is the replica itself, or where memory
 /// for it is refused.
 #[tactic(auto, unfolding(definitions::specs::Sendings::fetch_frame))]
-fn ask(alloc: Global, replica: &Archived, bytes: &[u8]) -> Result<Effect, Fault>
+fn ask(alloc: Global, replica: &Replica, bytes: &[u8]) -> Result<Effect, Fault>
     ensures asked { IfOk result (λ e. Asks (identity_of replica.now.keys) bytes.now e) }
     ensures memory { OnErr result (result ≡ Err Fault.Memory) }
 {
@@ -68,7 +68,7 @@ fn is_lack(fault: Fault) -> bool
 }
 
 /// The effect of a refusal of bytes.
-fn refuse(alloc: Global, replica: &Archived, bytes: &[u8], fault: Fault) -> Result<Effect, Fault>
+fn refuse(alloc: Global, replica: &Replica, bytes: &[u8], fault: Fault) -> Result<Effect, Fault>
     ensures refused { IfOk result (λ e. Refuses (identity_of replica.now.keys) bytes.now fault e) }
     ensures memory { OnErr result (result ≡ Err Fault.Memory) }
 {
@@ -95,7 +95,7 @@ pub(crate) fn receive(
     keyring.config().holds();
     match take(replica, keyring, bytes) {
         Ok(out) => Ok(Effect::sends(out)),
-        Err(fault) => refuse(alloc, replica, bytes, fault),
+        Err(fault) => refuse(alloc, replica.replica(), bytes, fault),
     }
 }
 
@@ -106,6 +106,18 @@ pub(crate) fn timeout(alloc: Global, replica: &mut Archived) -> Effect
         result }
 {
     match replica.step(Input::Timeout) {
+        Ok(out) => Effect::sends(out),
+        Err(fault) => Effect::only(alloc, Some(fault)),
+    }
+}
+
+/// Gives a replica leave to prune its tree up to a height.
+pub(crate) fn prune(alloc: Global, replica: &mut Archived, height: Height) -> Effect
+    ensures keys { replica.new.keys ≡ replica.old.keys }
+    ensures ticked { Ticks (identity_of replica.old.keys) (prune_in height) replica.old.replica
+        replica.new.replica result }
+{
+    match replica.step(Input::Prune(height)) {
         Ok(out) => Effect::sends(out),
         Err(fault) => Effect::only(alloc, Some(fault)),
     }

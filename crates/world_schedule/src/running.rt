@@ -32,7 +32,9 @@ fn names_party(config: &Config, event: &Event) -> bool
     match event {
         Event::Submit { client, .. } => client.0 < config.clients(),
         Event::Relay { to, .. } | Event::Inject { to, .. } => has_party(config, *to),
-        Event::Timeout(replica) | Event::Beat(replica) => replica.0 < config.n(),
+        Event::Timeout(replica) | Event::Beat(replica) | Event::Prune { replica, .. } => {
+            replica.0 < config.n()
+        }
     }
 }
 
@@ -89,6 +91,7 @@ fn brings_frame(config: &Config, event: &Event) -> bool
         Event::Relay { .. } => false,
         Event::Timeout(_) => false,
         Event::Beat(_) => false,
+        Event::Prune { .. } => false,
     }
 }
 

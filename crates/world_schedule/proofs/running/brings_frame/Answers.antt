@@ -32,3 +32,7 @@ returns-in-Timeout c =
 pub returns-in-Beat : goal.returns-in-Beat
 returns-in-Beat c =
     (None, subst (λ (x : Event). IsReadIn c.args.config.now (event_of None x)) (sym c.in-Beat.is) tt)
+
+pub returns-in-Prune : goal.returns-in-Prune
+returns-in-Prune c =
+    (None, subst (λ (x : Event). IsReadIn c.args.config.now (event_of None x)) (sym c.in-Prune.is) tt)

@@ -3,7 +3,7 @@ use Rattle.definitions.specs.Worlds as worlds
 use Rattle.world_schedule.specs.declared.event.Event.{Event}
 use Rattle.world_schedule.specs.Schedules.{event_of}
 use Rattle.world_schedule.specs.Seats.{Acts}
-use Rattle.world_schedule.proofs.Runs.{handed-if, injected-if, relayed-if, timed-out, beaten}
+use Rattle.world_schedule.proofs.Runs.{handed-if, injected-if, relayed-if, timed-out, beaten, pruned-to}
 use Rattle.world_schedule.proofs.parties.Parties.act.Goals as goal
 
 pub returns-in-Submit-clause-acted : goal.returns-in-Submit-clause-acted
@@ -33,3 +33,9 @@ returns-in-Beat-clause-acted c = λ w at told fit.
     subst (λ (x : Event). Acts c.args.world.now w x c.beat.new.self.replicas.items
     c.beat.new.self.sessions.items c.beat.result) (sym c.in-Beat.is)
     (beaten _ _ _ _ _ _ (c.beat.ensures w at))
+
+pub returns-in-Prune-clause-acted : goal.returns-in-Prune-clause-acted
+returns-in-Prune-clause-acted c = λ w at told fit.
+    subst (λ (x : Event). Acts c.args.world.now w x c.prune.new.self.replicas.items
+    c.prune.new.self.sessions.items c.prune.result) (sym c.in-Prune.is)
+    (pruned-to _ _ _ _ _ _ _ (c.prune.ensures w at))
