@@ -3,19 +3,24 @@ parties and injected frames, which are good, cut short, changed in a byte, or si
 keys.
 
 The writer of a schedule runs it as it writes, so that each event is one that can happen and the faulty
-parties know what was sent. The seed alone decides.
+parties know what was sent. The seed alone decides, and whether replicas prune.
 """
 import random
 from dataclasses import replace
 
 from . import frames
+from .blocks import Block
 from .frames import (GENESIS, BlockFrame, Certificate, Command, Core, FetchFrame, Kind, NewViewFrame,
                      ProposalFrame, ReplyFrame, RequestFrame, Vote, VoteFrame, write)
-from .replica import ALL
+from .own_frames import ALL
+from .replica import Replica
 from .requests import Request
 from .sizes import FIRST_CLIENT, TOP, Config, Refusal, party_name
 from .tags import Keyring
-from .world import Beat, Inject, Relay, Submit, Timeout, World
+from .world import Beat, Inject, Prune, Relay, Submit, Timeout, World
+
+# Whether replicas prune, where nothing else is said.
+PRUNES = False
 
 KEYS = [b"a", b"b", b"counter", b"k" * 250]
 DATA = [b"", b"x", b"5", b"12x", b"18446744073709551615", b"\r\nset a", bytes(range(256)), b"y" * 4096]
@@ -41,10 +46,11 @@ def random_request(rng):
 class Liar:
     """What a faulty party may send: frames with its own keys, of anything that it saw."""
 
-    def __init__(self, rng, config, party):
+    def __init__(self, rng, config, party, past):
         self.rng = rng
         self.config = config
         self.party = party
+        self.past = past            # digest -> block, of all that were ever known, where replicas prune
         self.keyring = Keyring(config, party)
         self.seq = 0
         self.cores = []
@@ -72,9 +78,12 @@ class Liar:
         return write(RequestFrame(replace(command, vector=self._vector(Kind.REQUEST, command.content()))))
 
     def _known(self, world):
-        """The blocks that some correct replica knows, genesis too."""
+        """A block that some correct replica knows, genesis too; or one that it has forgotten."""
+        if self.past and self.rng.random() < 0.3:
+            return self.rng.choice(list(self.past.values()))
         tree = self.rng.choice(sorted(world.replicas.items()))[1].tree
-        return tree.blocks[self.rng.choice(sorted(tree.blocks))]
+        digest = self.rng.choice(sorted(tree.blocks))
+        return self.past[digest] if self.past else tree.blocks[digest]
 
     def _commands(self, world):
         """Commands that were sent, in anyone's name, and some whose tags are invented."""
@@ -164,7 +173,8 @@ class Liar:
         return write(replace(frame, tag=self.keyring.tag(Kind.FETCH, to, frame.content())))
 
     def _block(self, world, to):
-        core, justified = self._core(world)
+        again = self._known(world) if self.past and self.rng.random() < 0.3 else None
+        core, justified = (again.core, again.justified) if again and again.core else self._core(world)
         self.cores.append((core, justified))
         frame = BlockFrame(self.party, core, self._certificate(world, justified))
         to = to if to < FIRST_CLIENT else 0
@@ -172,17 +182,18 @@ class Liar:
 
 
 class Writer:
-    """Writes one schedule."""
+    """Writes one schedule, with prunings or without."""
 
-    def __init__(self, rng, clients=None):
+    def __init__(self, rng, clients=None, prunes=PRUNES, replica=Replica):
         self.rng = rng
         f = rng.choice([1, 1, 1, 1, 1, 2, 3, 4])
         some = rng.choice([1, 1, 2, 2, 3, 8, 64])
         config = Config(f, clients or some)
         self.faulty = self._faulty(config)
         self.config = config
-        self.world = World(config, self.faulty)
-        self.liars = [Liar(rng, config, party) for party in self.faulty]
+        self.world = World(config, self.faulty, replica)
+        self.past = {GENESIS: Block(GENESIS, None, None, True, None, None)} if prunes else {}
+        self.liars = [Liar(rng, config, party, self.past) for party in self.faulty]
         self.events = []
         self.waiting = []           # (frame, party) that are still to be brought
         self.loss = rng.choice([0, 0, 0.02, 0.1, 0.3])
@@ -195,6 +206,18 @@ class Writer:
             "timeout": rng.choice([0, 0, 0.3, 2]), "inject": rng.choice([1, 4, 12]) if self.liars else 0,
             "spoil": rng.choice([0, 2, 6]), "stray": rng.choice([0, 1]),
         }
+        if prunes:
+            self._plan_prunings()
+
+    def _plan_prunings(self):
+        """Mostly all goes well, so that the chain grows. Old frames come again."""
+        rng = self.rng
+        self.weights["prune"], self.weights["revive"] = rng.choice([1, 2, 5]), rng.choice([2, 6, 12])
+        self.kept = rng.choice([0, 0, 1, 2, 3, 6])      # heights, when a replica prunes as it should
+        if rng.random() < 0.8:
+            self.loss, self.deaf, self.lateness = rng.choice([0, 0, 0.02]), [], rng.choice([1, 1, 4])
+            self.repeat, self.patient = rng.choice([0, 0, 0.05]), True
+            self.weights["timeout"] = rng.choice([0, 0, 0.1])
 
     def _faulty(self, config):
         rng = self.rng
@@ -218,9 +241,18 @@ class Writer:
         first = len(self.world.record)
         _, sent, _ = self.world.happen(event)
         self.events.append(event)
+        if self.past and event.party in self.world.replicas:
+            self._remember(self.world.replicas[event.party].tree)
         for at, frame in enumerate(sent):
             parties = range(self.config.n) if frame.to == ALL else [frame.to]
             self.waiting += [(first + at, party) for party in parties if self.rng.random() >= self.loss]
+
+    def _remember(self, tree):
+        """The block that a replica took last, with all below it."""
+        block = tree.blocks[next(reversed(tree.blocks))]
+        if block.digest not in self.past:
+            parent, justified = self.past[block.core.parent], self.past[block.justified_digest]
+            self.past[block.digest] = Block(block.digest, block.core, block.cert, True, parent, justified)
 
     def _any_party(self):
         return self.rng.choice(self.config.parties())
@@ -261,6 +293,28 @@ class Writer:
             return Timeout(self.config.n - 1)
         return Timeout(self.rng.randrange(self.config.n))
 
+    def _prune(self):
+        """Of one replica, or of all in turn: some heights below what was executed last, or anything."""
+        if self.rng.random() < 0.2:
+            for replica in sorted(self.world.replicas):
+                self._happen(Prune(replica, max(0, self._executed(replica) - self.kept)))
+        replica = self.rng.randrange(self.config.n)
+        top = self._executed(replica)
+        some = [0, 1, top // 2, top + 1, top + 5, 2 ** 58, TOP]
+        height = top - self.kept if self.rng.random() < 0.8 else self.rng.choice(some)
+        return Prune(replica, max(0, height))
+
+    def _revive(self):
+        """A frame that speaks of a block, of the older half of those that were sent, comes to any replica."""
+        kinds = self.rng.choice([(Kind.PROPOSAL,), (Kind.VOTE,), (Kind.NEW_VIEW,), (Kind.FETCH, Kind.BLOCK)])
+        found = [at for at, sent in enumerate(self.world.record) if sent.data[0] in kinds]
+        if not found:
+            return None
+        return Relay(self.rng.choice(found[:len(found) // 2 + 1]), self.rng.randrange(self.config.n))
+
+    def _executed(self, replica):
+        return self.world.replicas[replica].executed.height if replica in self.world.replicas else 0
+
     def _inject(self):
         """A faulty party's own frame, to one party, sometimes to all in a row."""
         liar = self.rng.choice(self.liars)
@@ -297,7 +351,7 @@ class Writer:
         return Relay(self.rng.randrange(len(self.world.record)), self._any_party())
 
 
-def _refused(rng, head, events):
+def _refused(rng, head, events, prunes):
     """A schedule that is refused as a whole, or whose last event ends the run."""
     f, clients, faulty = head
     how = rng.randrange(5)
@@ -309,17 +363,19 @@ def _refused(rng, head, events):
         return (f, clients, [3 * f + 1 + rng.randrange(3)]), events
     if how == 3:
         return (f, clients, list(range(f + 1 + rng.randrange(2)))), events
-    last = rng.choice([Relay(10 ** 6, 0), Relay(0, 3 * f + 1), Submit(clients, b"get a\r\n"),
-                       Submit(0, b"quit\r\n"), Submit(0, b"get a \r\n"), Submit(200, b"quit\r\n"),
-                       Timeout(255), Beat(3 * f + 1),
-                       Inject(FIRST_CLIENT + clients, b""), Relay(2 ** 64 - 1, FIRST_CLIENT + clients)])
+    some = [Relay(10 ** 6, 0), Relay(0, 3 * f + 1), Submit(clients, b"get a\r\n"),
+            Submit(0, b"quit\r\n"), Submit(0, b"get a \r\n"), Submit(200, b"quit\r\n"),
+            Timeout(255), Beat(3 * f + 1),
+            Inject(FIRST_CLIENT + clients, b""), Relay(2 ** 64 - 1, FIRST_CLIENT + clients)]
+    last = rng.choice(some + [Prune(3 * f + 1, 0), Prune(255, TOP)] if prunes else some)
     at = rng.randrange(len(events) + 1)
     return head, events[:at] + [last] + events[at:]
 
 
-def random_schedule(seed, longest=400, clients=None):
-    """(heading, events), decided by the seed alone; with so many clients, where that is said."""
+def random_schedule(seed, longest=400, clients=None, prunes=PRUNES):
+    """(heading, events), decided by the seed, and by whether replicas prune; with so many clients, where that
+    is said."""
     rng = random.Random(seed)
-    length = rng.choice([5, 40, 120, 200, longest])
-    head, events = Writer(rng, clients).write(length)
-    return _refused(rng, head, events) if rng.random() < 0.06 else (head, events)
+    length = rng.choice([40, 200, longest, longest] if prunes else [5, 40, 120, 200, longest])
+    head, events = Writer(rng, clients, prunes).write(length)
+    return _refused(rng, head, events, prunes) if rng.random() < 0.06 else (head, events)

@@ -2,18 +2,18 @@
 
 The rules are those of the paper of 2019 (three certified blocks in direct succession decide the first), in
 this repository's profile: a block's height is its parent's plus one, the justified block is named by its
-height on the block's own branch, and a replica votes over clear blocks alone.
+height on the block's own branch, and a replica votes over clear blocks alone. A replica that is told to prune
+forgets its past: its tree keeps a window, and its chronicle and its history are gone.
 """
 from dataclasses import dataclass
 
 from .blocks import Tree
 from .cache import Cache
-from .frames import (GENESIS, MOST_COMMANDS, BlockFrame, Certificate, Core, FetchFrame, Kind, NewViewFrame,
-                     ProposalFrame, ReplyFrame, Vote, VoteFrame, write)
-from .sizes import FIRST_CLIENT, TOP, Fault, Refusal
+from .frames import GENESIS, MOST_COMMANDS, Certificate, Core, Kind
+from .own_frames import OwnFrames
+from .sizes import TOP, Fault, Refusal
 from .tags import Keyring
 
-ALL = "all"
 MOST_PENDING = 4096
 
 
@@ -43,16 +43,19 @@ class Executor:
 
     def __init__(self):
         self.cache = Cache()
-        self.history = []
+        self.history = []           # None once it was forgotten
+        self.length = 0
         self.last = {}
 
     def run(self, commands):
         answers = []
         for command in commands:
-            self.history.append((command.client, command.seq, command.payload))
+            self.length += 1
+            if self.history is not None:
+                self.history.append((command.client, command.seq, command.payload))
             if command.seq > self.last_seq(command.client):
                 text = self.cache.answer(command.payload)
-                answers.append(Answer(command.client, command.seq, len(self.history), text))
+                answers.append(Answer(command.client, command.seq, self.length, text))
                 self.last[command.client] = answers[-1]
         return answers
 
@@ -89,28 +92,26 @@ class Replica:
         self.config = config
         self.me = me
         self.keyring = Keyring(config, me)
+        self.own = OwnFrames(self.keyring)
         self.tree = Tree()
         self.lock = self.tree.genesis
         self.voted_height = 0
         self.executed = self.tree.genesis
         self.highest = Certificate(GENESIS)
+        self.highest_block = self.tree.genesis
         self.leaf = GENESIS
+        self.leaf_height = 0
         self.own_proposal = None
         self.pacemaker = Pacemaker(config)
         self.pending = {}           # (client, seq) -> command, in order of arrival
-        self.votes = {}             # digest -> {voter: vote}
         self.executor = Executor()
-        self.chronicle = []         # the steps that stand
+        self.chronicle = []         # the steps that stand; None once they were forgotten
         self.stopped = False
         self.came = None            # what the step under way brings
 
     @property
     def history(self):
         return self.executor.history
-
-    @property
-    def highest_block(self):
-        return self.tree.get(self.highest.digest)
 
     # ---- steps: each answers a list of (destination, frame's bytes), or refuses
 
@@ -127,6 +128,11 @@ class Replica:
     def beat(self):
         return self._step(self._on_beat)
 
+    def prune(self, height):
+        """Lets go what is below the window of this horizon, or of the last executed block's height where that
+        is lower. No horizon falls. The first pruning ends the chronicle and the history."""
+        return self._step(self._on_prune, height)
+
     def _step(self, step, *given):
         if self.stopped:
             raise Refusal(Fault.STOPPED)
@@ -134,10 +140,15 @@ class Replica:
         try:
             out = step(*given)
         except Refusal as refusal:
-            self.stopped = refusal.fault in (Fault.FULL, Fault.CONFLICT)
+            self.stopped = self._stops(refusal.fault)
             raise
-        self.chronicle.append(self.came)
+        if self.chronicle is not None:
+            self.chronicle.append(self.came)
         return out
+
+    def _stops(self, fault):
+        """A full tree stops a replica that has no horizon. One with a horizon can prune again."""
+        return fault == Fault.CONFLICT or (fault == Fault.FULL and self.tree.horizon == 0)
 
     def _on_proposal(self, checked):
         sender = checked.frame.view % self.config.n
@@ -147,7 +158,7 @@ class Replica:
         voted = checked.frame.view == self.pacemaker.view and self._may_vote(block)
         if voted:
             self.voted_height = block.height
-            out.append((sender, self._vote(block.digest)))
+            out.append(self.own.vote(sender, block.digest))
         self.came = self._step_with(checked, new, voted)
         return out + (self._take(block, decided) if new else [])
 
@@ -158,28 +169,30 @@ class Replica:
 
     def _on_vote(self, checked):
         digest, vote = checked.frame.digest, checked.frame.vote
-        if self.tree.get(digest) is None:
+        block = self.tree.get(digest)
+        if block is None:
             raise self._unknown(vote.voter, digest)
-        votes = self.votes.setdefault(digest, {})
+        votes = block.votes
         if vote.voter not in votes and len(votes) < self.config.quorum:
             votes[vote.voter] = vote
             if len(votes) == self.config.quorum:
-                self._raise(Certificate(digest, tuple(votes[voter] for voter in sorted(votes))))
+                self._raise(block, Certificate(digest, tuple(votes[voter] for voter in sorted(votes))))
         return []
 
     def _on_new_view(self, checked):
         frame = checked.frame
-        if self.tree.get(frame.cert.digest) is None:
+        block = self.tree.get(frame.cert.digest)
+        if block is None:
             raise self._unknown(frame.sender, frame.cert.digest)
-        self._raise(frame.cert)
-        return [(ALL, self._new_view())] if self.pacemaker.on_new_view(frame.sender, frame.view) else []
+        self._raise(block, frame.cert)
+        return [self._new_view()] if self.pacemaker.on_new_view(frame.sender, frame.view) else []
 
     def _on_request(self, checked):
         command = checked.frame.command
         name = command.client, command.seq
         last = self.executor.last_seq(command.client)
         if command.seq == last:
-            return [self._reply(self.executor.last[command.client])]
+            return [self.own.reply(self.executor.last[command.client])]
         if command.seq < last or name in self.pending:
             return []
         if len(self.pending) >= MOST_PENDING:
@@ -188,22 +201,31 @@ class Replica:
         return []
 
     def _on_fetch(self, checked):
-        block, sender = self.tree.get(checked.frame.digest), checked.frame.sender
-        return [] if block is None or block.core is None else [(sender, self._block(block, sender))]
+        block = self.tree.get(checked.frame.digest)
+        if block is None or block.core is None:
+            return []
+        return [self.own.block(checked.frame.sender, block.core, block.cert)]
 
     def _on_timeout(self):
         self.pacemaker.timeout()
-        return [(ALL, self._new_view())]
+        return [self._new_view()]
 
     def _on_beat(self):
         if self.pacemaker.leader() != self.me:
             return []
         leaf = self.tree.get(self.leaf)
         if leaf is not None:
-            core = Core(leaf.digest, leaf.height + 1, self.highest_block.height, self._picked(leaf))
+            self.leaf_height += 1
+            core = Core(self.leaf, self.leaf_height, self.highest_block.height, self._picked(leaf))
             self.own_proposal = core, self.highest
             self.leaf = core.digest()
-        return [(ALL, self._proposal(*self.own_proposal))]
+        return [self.own.proposal(self.pacemaker.view, *self.own_proposal)]
+
+    def _on_prune(self, height):
+        self.chronicle = None
+        self.executor.history = None
+        self.tree.prune(max(self.tree.horizon, min(height, self.executed.height)))
+        return []
 
     # ---- rules
 
@@ -227,27 +249,26 @@ class Replica:
         justifies."""
         if block.height <= self.voted_height:
             return False
-        if not block.extends(self.lock) and block.justified.height <= self.lock.height:
+        if not block.extends(self.lock) and block.justify_height <= self.lock.height:
             return False
-        between = block
-        while between.height > block.justified.height:
-            if not between.clear:
-                return False
-            between = between.parent
-        return True
+        return all(between.clear for between in block.above(block.justify_height))
 
-    def _raise(self, cert):
-        if self.tree.get(cert.digest).height > self.highest_block.height:
-            self.highest = cert
-            self.leaf = cert.digest
+    def _raise(self, block, cert):
+        """A certificate of a block may be the highest."""
+        if block.height > self.highest_block.height:
+            self.highest, self.highest_block = cert, block
+            self.leaf, self.leaf_height = block.digest, block.height
 
     def _decided_by(self, block):
-        """The block that is to be executed once this one is taken, if any."""
+        """The block that is to be executed once this one is taken, if any. Heights are compared before a link
+        is followed, since what isn't in direct succession may have been pruned."""
         third = block.justified
-        second = third.justified
-        first = second.justified
-        if third.height != first.height + 2 or second.height != first.height + 1:
+        if third.height != third.justify_height + 1:
             return None
+        second = third.justified
+        if second.height != second.justify_height + 1:
+            return None
+        first = second.justified
         if self.executed.extends(first):
             return None
         if not first.extends(self.executed):
@@ -257,18 +278,17 @@ class Replica:
     def _take(self, block, decided):
         """The block joins the tree. What it decides is executed, and answered."""
         self.tree.insert(block)
-        self._raise(block.cert)
-        second = block.justified.justified
-        if second.height > self.lock.height:
-            self.lock = second
+        self._raise(block.justified, block.cert)
+        if block.justified.justify_height > self.lock.height:
+            self.lock = block.justified.justified
         if decided is None:
             return []
         answers = []
-        for ready in decided.branch()[self.executed.height:]:
+        for ready in decided.above(self.executed.height):
             answers += self.executor.run(ready.core.commands)
             self._forget_executed(ready.core.commands)
         self.executed = decided
-        return [self._reply(answer) for answer in answers]
+        return [self.own.reply(answer) for answer in answers]
 
     def _forget_executed(self, commands):
         """An executed command, and those of its client with lower numbers, aren't pending any more."""
@@ -278,38 +298,11 @@ class Replica:
                     del self.pending[client, seq]
 
     def _picked(self, leaf):
-        commands = [command for block in leaf.branch() for command in block.core.commands]
+        """Pending requests that don't stand on the leaf's branch above the horizon."""
+        commands = [command for block in leaf.above(self.tree.horizon) for command in block.core.commands]
         on_branch = {(command.client, command.seq) for command in commands}
         picked = [command for name, command in self.pending.items() if name not in on_branch]
         return tuple(picked[:MOST_COMMANDS])
 
-    # ---- own frames
-
-    def _proposal(self, core, cert):
-        frame = ProposalFrame(self.pacemaker.view, core, cert)
-        vector = self.keyring.vector(Kind.PROPOSAL, frame.content())
-        return write(ProposalFrame(frame.view, core, cert, vector))
-
-    def _vote(self, digest):
-        return write(VoteFrame(digest, Vote(self.me, self.keyring.vector(Kind.VOTE, digest))))
-
     def _new_view(self):
-        frame = NewViewFrame(self.pacemaker.view, self.me, self.highest)
-        vector = self.keyring.vector(Kind.NEW_VIEW, frame.content())
-        return write(NewViewFrame(frame.view, self.me, self.highest, vector))
-
-    def _block(self, block, to):
-        frame = BlockFrame(self.me, block.core, block.cert)
-        tag = self.keyring.tag(Kind.BLOCK, to, frame.content())
-        return write(BlockFrame(self.me, block.core, block.cert, tag))
-
-    def _reply(self, answer):
-        fields = self.me, answer.client, answer.seq, answer.place, answer.text
-        to = FIRST_CLIENT + answer.client
-        tag = self.keyring.tag(Kind.REPLY, to, ReplyFrame(*fields).content())
-        return to, write(ReplyFrame(*fields, tag))
-
-    def fetch(self, to, digest):
-        """The question for a block, to the sender of what was refused for want of it."""
-        frame = FetchFrame(self.me, digest)
-        return to, write(FetchFrame(self.me, digest, self.keyring.tag(Kind.FETCH, to, frame.content())))
+        return self.own.new_view(self.pacemaker.view, self.highest)

@@ -3,7 +3,8 @@ said by events; nothing comes by itself, and faulty parties do nothing by themse
 from dataclasses import dataclass
 
 from . import checks, requests
-from .replica import ALL, Replica
+from .own_frames import ALL
+from .replica import Replica
 from .session import Session
 from .sizes import FIRST_CLIENT, Fault, Refusal
 
@@ -46,6 +47,13 @@ class Beat:
 
 
 @dataclass(frozen=True)
+class Prune:
+    """A replica raises its horizon to a height, and forgets what is below."""
+    party: int
+    height: int
+
+
+@dataclass(frozen=True)
 class Sent:
     event: int          # from 1
     to: object          # ALL or a party
@@ -53,14 +61,14 @@ class Sent:
 
 
 class World:
-    def __init__(self, config, faulty=()):
+    def __init__(self, config, faulty=(), replica=Replica):
         if not all(config.is_party(party) for party in faulty):
             raise Refusal(Fault.NO_SUCH_PARTY)
         if len({party for party in faulty if party < FIRST_CLIENT}) > config.f:
             raise Refusal(Fault.TOO_MANY_FAULTY)
         self.config = config
         self.faulty = frozenset(faulty)
-        self.replicas = {r: Replica(config, r) for r in range(config.n) if r not in self.faulty}
+        self.replicas = {r: replica(config, r) for r in range(config.n) if r not in self.faulty}
         correct = [c for c in range(config.clients) if FIRST_CLIENT + c not in self.faulty]
         self.sessions = {c: Session(config, c) for c in correct}
         self.record = []
@@ -84,7 +92,7 @@ class World:
                 out, receipt = self._answer(event)
             except Refusal as refusal:
                 refused = refusal.fault
-                out = [self.replicas[event.party].fetch(*refusal.missing)] if refusal.missing else []
+                out = [self.replicas[event.party].own.fetch(*refusal.missing)] if refusal.missing else []
         sent = [Sent(self.events, to, data) for to, data in out]
         self.record += sent
         return refused, sent, receipt
@@ -96,12 +104,14 @@ class World:
             return self.replicas[event.party].timeout(), None
         if isinstance(event, Beat):
             return self.replicas[event.party].beat(), None
+        if isinstance(event, Prune):
+            return self.replicas[event.party].prune(event.height), None
         data = self.record[event.frame].data if isinstance(event, Relay) else event.data
         if event.party >= FIRST_CLIENT:
             return [], self.sessions[event.party - FIRST_CLIENT].receive(data)
         replica = self.replicas[event.party]
         return replica.receive(checks.admit(replica.keyring, data)), None
 
-    def histories(self):
-        """The histories of the correct replicas, by number."""
-        return sorted((number, replica.history) for number, replica in self.replicas.items())
+    def lengths(self):
+        """(number, length of its history) of each correct replica."""
+        return sorted((number, replica.executor.length) for number, replica in self.replicas.items())
