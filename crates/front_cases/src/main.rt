@@ -1,8 +1,10 @@
 //! A front with one seat, and its clients, in one process. What each client reads is printed.
 #![tactic(auto)]
 
+mod failing;
 mod silence;
 
+use crate::failing::failing_scene;
 use crate::silence::silent_scene;
 use anyhow::{Result, bail};
 use connection::Service;
@@ -18,7 +20,7 @@ const CONNECTIONS: u64 = 3;
 
 /// Answers each request with its length.
 #[derive(Drop)]
-struct Lengths(Global);
+pub(crate) struct Lengths(pub(crate) Global);
 
 impl Service for Lengths {
     ghost use Rattle.std.specs.Prelude.{◌≡◌};
@@ -65,24 +67,41 @@ fn clients<R: Net<Stream = TcpStream> + AllocGlobal>(
     Ok(read)
 }
 
+/// The one seat of a front.
+pub(crate) fn one_seat<S: Drop>(alloc: Global, seat: S) -> Result<Seats<S>> {
+    let mut all = Vec::new(alloc);
+    all.push(seat)?;
+    Ok(Seats::new(alloc, all)?)
+}
+
+/// Prints what clients read.
+pub(crate) fn tell<R: Print>(rt: &R, read: &[String]) -> Result<()> {
+    for text in read {
+        println!(rt; "{:?}", text.as_str())?;
+    }
+    Ok(())
+}
+
+/// How many connections a front served.
+pub(crate) fn count_of(served: std::result::Result<u64, Fault>) -> Result<u64> {
+    match served {
+        Ok(count) => Ok(count),
+        Err(fault) => bail!("fault {}", fault.number()),
+    }
+}
+
 fn main(rt: HostRuntime) -> Result<()> {
     let listener = TcpListener::bind(&rt, "127.0.0.1:0")?;
     let at = listener.local_addr()?;
-    let mut all = Vec::new(rt.alloc());
-    all.push(Lengths(rt.alloc()))?;
-    let seats = Seats::new(rt.alloc(), all)?;
+    let seats = one_seat(rt.alloc(), Lengths(rt.alloc()))?;
     let (served, read) = join(
         &rt,
         || front(&rt, &listener, &seats, CONNECTIONS),
         || clients(&rt, at),
     );
-    for text in &read? {
-        println!(rt; "{:?}", text.as_str())?;
-    }
-    match served {
-        Ok(served) => println!(rt; "served {served}")?,
-        Err(fault) => bail!("fault {}", fault.number()),
-    }
+    tell(&rt, &read?)?;
+    println!(rt; "served {}", count_of(served)?)?;
+    failing_scene(&rt)?;
     silent_scene(&rt, true)?;
     silent_scene(&rt, false)
 }

@@ -1,7 +1,7 @@
 //! A client's service over links on which nothing ever comes: one that is open, and one that is closed.
 
-use crate::ask;
-use anyhow::{Result, bail};
+use crate::{ask, count_of, one_seat, tell};
+use anyhow::Result;
 use client_accept::Session;
 use client_service::{ClientService, Link};
 use ids::{ClientId, Config, Fault};
@@ -102,17 +102,6 @@ where
     join(rt, || front(told, listener, seats, 2), || clients(rt, at))
 }
 
-/// One seat over such a link.
-fn one_seat<'a>(
-    alloc: Global,
-    open: bool,
-    sendings: &'a AtomicU64,
-) -> Result<Seats<ClientService<Silence<'a>>>> {
-    let mut all = Vec::new(alloc);
-    all.push(seat(alloc, Silence { open, sendings })?)?;
-    Ok(Seats::new(alloc, all)?)
-}
-
 /// Serves two connections with one seat over such a link. Prints what their clients read, and how often a
 /// frame was sent.
 pub(crate) fn silent_scene<R>(rt: &R, open: bool) -> Result<()>
@@ -122,15 +111,15 @@ where
 {
     let listener = TcpListener::bind(rt, "127.0.0.1:0")?;
     let sendings = AtomicU64::new(0);
-    let seats = one_seat(rt.alloc(), open, &sendings)?;
+    let link = Silence {
+        open,
+        sendings: &sendings,
+    };
+    let seats = one_seat(rt.alloc(), seat(rt.alloc(), link)?)?;
     let told = Logged::new(rt.clone()?, Level::Warn, Printed(rt.clone()?));
     let (served, read) = serve_both(rt, &told, &listener, &seats, listener.local_addr()?);
-    for text in &read? {
-        println!(rt; "{:?}", text.as_str())?;
-    }
+    tell(rt, &read?)?;
     println!(rt; "sent {}", sendings.load(Ordering::SeqCst))?;
-    match served {
-        Ok(_) => Ok(()),
-        Err(fault) => bail!("fault {}", fault.number()),
-    }
+    let _two = count_of(served)?;
+    Ok(())
 }

@@ -112,7 +112,7 @@ none_read text one other none (k ∷ []) rest all =
 -- ---- the lines of a party
 
 -- the pairs with parties from one on are those with the first so many, and then the others
-pairs_split : (one first i more : ℕ)
+pub pairs_split : (one first i more : ℕ)
     → pairs_with one first (i + more) ≡ pairs_with one first i ++ pairs_with one (first + i) more
 pairs_split one first zero more = rw (zero-add, add-zero) refl
 pairs_split one first (suc i) more =
@@ -158,7 +158,7 @@ range_split first (suc i) more =
 abbrev pub pairs_before : Sizes → ℕ → List (ℕ × ℕ)
 pairs_before sizes i = flat_map (pairs_of sizes) (range_with_len 0 i)
 
-rows_split : (sizes : Sizes) (i more : ℕ)
+pub rows_split : (sizes : Sizes) (i more : ℕ)
     → pairs_before sizes (i + more)
     ≡ pairs_before sizes i ++ flat_map (pairs_of sizes) (range_with_len i more)
 rows_split sizes i more =

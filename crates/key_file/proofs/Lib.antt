@@ -1,3 +1,4 @@
 pub mod Lines
 pub mod Files
 pub mod Keyrings
+pub mod Found

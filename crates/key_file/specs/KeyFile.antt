@@ -1,6 +1,7 @@
 -- The key file, and what its keys are to each party.
-use Rattle.std.specs.Prelude.{◌≡◌, ℕ, ◌-◌, ◌&&◌, ◌==◌, min, max, List, [], ◌∷◌, ◌++◌, length, map, find}
-use Rattle.std.specs.Prelude.{decimal, Option, option_map, unwrap_or, if◌then◌else◌, ⊤}
+use Rattle.std.specs.Prelude.{◌≡◌, ℕ, ◌+◌, ◌-◌, ◌<◌, ◌&&◌, ◌==◌, min, max, List, [], ◌∷◌, ◌++◌, length}
+use Rattle.std.specs.Prelude.{map, find}
+use Rattle.std.specs.Prelude.{decimal, Option, option_map, IsSome, unwrap_or, if◌then◌else◌, ⊤}
 use Rattle.std.specs.List.{range_with_len, flat_map}
 use Rattle.hex.specs.Hex.{encode_lower, IsBytes}
 use Rattle.ids.specs.Sizes.{Sizes, replicas, client_party}
@@ -64,7 +65,11 @@ pub record AllKeys : Type 0 where
 abbrev pub found_key : List PairKey → ℕ → ℕ → Option Bytes
 found_key keys a b = option_map (λ k. k.key) (find (λ k. (k.one == min a b) && (k.other == max a b)) keys)
 
--- the same, where they have one
+-- a party has a key with each of so many parties from one on
+abbrev pub HasKeys : List PairKey → ℕ → ℕ → ℕ → Type 0
+HasKeys keys party first count = (i : ℕ) → i < count → IsSome (found_key keys party (first + i))
+
+-- the key of two parties, where they have one
 abbrev pub key_between : List PairKey → ℕ → ℕ → Bytes
 key_between keys a b = unwrap_or (found_key keys a b) []
 

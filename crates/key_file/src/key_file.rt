@@ -1,8 +1,9 @@
 ghost use Rattle.std.specs.Prelude.{◌≡◌, ◌==◌, ◌&&◌, ◌⊎◌, ◌≤◌, ◌++◌, find, option_map, List, IfOk, OnOk};
-ghost use Rattle.std.specs.Prelude.{OnErr};
+ghost use Rattle.std.specs.Prelude.{OnErr, IsSome, IsTrue, if◌then◌else◌};
 ghost use Rattle.ids.specs.Sizes.{replicas};
 ghost use Rattle.definitions.specs.Bytes.{Bytes};
-ghost use Rattle.key_file.specs.KeyFile.{IsFileOf, found_key, keys_with, keys_of_party};
+ghost use Rattle.key_file.specs.KeyFile.{IsFileOf, HasKeys, found_key, keys_with, keys_of_party};
+ghost use Rattle.definitions.specs.Keyrings.{is_party_of};
 ghost use Rattle.key_file.specs.declared.key_file.KeyFileFault.TheVariants as refusal;
 ghost use Rattle.key_file.specs.declared.pair_key.PairKey.{PairKey};
 
@@ -51,11 +52,13 @@ pub struct PairKeys {
 }
 
 impl Model for PairKeys {
-    ghost use Rattle.key_file.specs.KeyFile.{AllKeys};
+    ghost use Rattle.key_file.specs.KeyFile.{AllKeys, AreOf, pairs};
 
     ghost Value = { AllKeys };
 
     ghost view = { λ k. record { sizes = k.config; keys = k.keys.items } };
+
+    ghost invariant = { λ k. AreOf (pairs k.config) k.keys.items };
 }
 
 /// The first of some keys that is of these two parties, in this order.
@@ -115,6 +118,9 @@ impl PairKeys {
         requires { first ≤ 256 }
         ensures made { OnOk result
             (out.new.items ≡ out.old.items ++ keys_with self.now.keys party first count) }
+        ensures there { OnOk result (HasKeys self.now.keys party first count) }
+        ensures memory { result ≡ Err Fault.Memory → IsSome (found_key self.now.keys party first) }
+        ensures missing { result ≡ Err Fault.NoSuchParty → HasKeys self.now.keys party first count → ⊥ }
         ensures refused { OnErr result ((result ≡ Err Fault.Memory) ⊎ (result ≡ Err Fault.NoSuchParty)) }
     {
         for i in 0..u16::from(count) {
@@ -127,10 +133,12 @@ impl PairKeys {
 
     /// The keyring of a party: its keys with each replica, then, where it is a replica, with each client.
     ///
-    /// `NoSuchParty` comes only where the deployment has no such party; then `Memory`.
+    /// `NoSuchParty` comes exactly where the deployment has no such party, and else `Memory` alone.
     pub fn keyring(&self, alloc: Global, party: PartyId) -> Result<Keyring, Fault>
         ensures made { IfOk result (λ keyring. keyring ≡ keys_of_party self.now party) }
-        ensures refused { OnErr result ((result ≡ Err Fault.Memory) ⊎ (result ≡ Err Fault.NoSuchParty)) }
+        ensures there { OnOk result (IsTrue (is_party_of self.now.sizes party)) }
+        ensures refused { OnErr result (result
+            ≡ Err (if is_party_of self.now.sizes party then Fault.Memory else Fault.NoSuchParty)) }
     {
         let config = self.config;
         let mut keys = Vec::new(alloc);

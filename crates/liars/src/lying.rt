@@ -1,7 +1,14 @@
-ghost use Rattle.std.specs.Prelude.{◌≡◌, ◌<◌, [], IfOk, OnErr};
+ghost use Rattle.std.specs.Prelude.{◌≡◌, ◌<◌, ◌∷◌, [], map, IfOk, OnErr};
+ghost use Rattle.std.specs.List.{range_with_len};
 ghost use Rattle.ids.specs.Sizes.{replicas};
+ghost use Rattle.definitions.specs.Frames.{spelling};
 ghost use Rattle.definitions.specs.FrameLimits.{IsFrame};
-ghost use Rattle.frames_view.specs.Views.{reply_of, proposal_of};
+ghost use Rattle.definitions.specs.Replies.{reply_text, exists};
+ghost use Rattle.definitions.specs.Checks.{identity_of};
+ghost use Rattle.definitions.specs.Sendings.{reply_to};
+ghost use Rattle.frames_view.specs.Views.{reply_of, proposal_of, core_of, certificate_of};
+ghost use Rattle.signed_frames.specs.Outs.{sent_of};
+ghost use Rattle.liars.specs.Lies.{IsLie, IsTold, bad_reply, empty_proposal, faces, two_faced};
 
 use authenticators::Keyring;
 use frame_writers::{ReplyText, write_core};
@@ -35,38 +42,58 @@ pub fn lie(
     sending: Sending,
 ) -> Result<Vec<Sending>, Fault>
     requires { keyring.now.party < replicas keyring.now.sizes }
-    ensures mute { liar ≡ Liar.Mute → IfOk result (λ out. out.items ≡ []) }
+    ensures lies { IfOk result (λ out. IsLie keyring.now liar (sent_of sending) (map sent_of out.items)) }
     ensures memory { OnErr result (result ≡ Err Fault.Memory) }
 {
-    let config = keyring.config();
-    match (liar, read(&config, &sending.frame)) {
-        (Liar::Mute, _) => Ok(Vec::new(alloc)),
-        (Liar::TwoFaced, Ok(Frame::Proposal(view))) => {
-            let empty = empty_proposal(alloc, keyring, &view)?;
-            two_faced(alloc, config.n(), &sending.frame, &empty)
-        }
-        (Liar::BadReply, Ok(Frame::Reply(view))) => {
-            let frame = bad_reply(alloc, keyring, &view)?;
-            one(
-                alloc,
-                Sending {
-                    to: sending.to,
-                    kind: Kind::Reply,
-                    frame,
-                },
-            )
-        }
-        _ => one(alloc, sending),
+    match liar {
+        Liar::Mute => Ok(Vec::new(alloc)),
+        Liar::TwoFaced => with_two_faces(alloc, keyring, sending),
+        Liar::BadReply => with_bad_reply(alloc, keyring, sending),
     }
 }
 
 /// One frame.
 fn one(alloc: Global, sending: Sending) -> Result<Vec<Sending>, Fault>
-    ensures { OnErr result (result ≡ Err Fault.Memory) }
+    ensures made { IfOk result (λ out. out.items ≡ sending ∷ []) }
+    ensures memory { OnErr result (result ≡ Err Fault.Memory) }
 {
     let mut out = Vec::new(alloc);
     out.push(sending)?;
     Ok(out)
+}
+
+/// What a two-faced replica sends.
+fn with_two_faces(alloc: Global, keyring: &Keyring, sending: Sending) -> Result<Vec<Sending>, Fault>
+    ensures lies { IfOk result (λ out. IsTold (two_faced keyring.now) keyring.now.sizes (sent_of sending)
+        (map sent_of out.items)) }
+    ensures memory { OnErr result (result ≡ Err Fault.Memory) }
+{
+    let config = keyring.config();
+    match read(&config, &sending.frame) {
+        Ok(Frame::Proposal(view)) => {
+            let empty = empty_proposal(alloc, keyring, &view)?;
+            to_each(alloc, config.n(), &sending.frame, &empty)
+        }
+        _ => one(alloc, sending),
+    }
+}
+
+/// What a replica of bad replies sends.
+fn with_bad_reply(alloc: Global, keyring: &Keyring, sending: Sending) -> Result<Vec<Sending>, Fault>
+    requires { keyring.now.party < replicas keyring.now.sizes }
+    ensures lies { IfOk result (λ out. IsTold (bad_reply keyring.now) keyring.now.sizes (sent_of sending)
+        (map sent_of out.items)) }
+    ensures memory { OnErr result (result ≡ Err Fault.Memory) }
+{
+    let config = keyring.config();
+    match read(&config, &sending.frame) {
+        Ok(Frame::Reply(view)) => {
+            let frame = bad_reply(alloc, keyring, &view)?;
+            let (to, kind) = (sending.to, Kind::Reply);
+            one(alloc, Sending { to, kind, frame })
+        }
+        _ => one(alloc, sending),
+    }
 }
 
 /// The proposal of a block without commands in place of this one's.
@@ -75,7 +102,9 @@ fn empty_proposal(
     keyring: &Keyring,
     view: &ProposalView<'_>,
 ) -> Result<Vec<u8>, Fault>
-    ensures { OnErr result (result ≡ Err Fault.Memory) }
+    ensures made { IfOk result (λ frame. frame.items ≡ spelling (empty_proposal keyring.now view.now.view
+        (core_of view.now.core) (certificate_of view.now.certificate))) }
+    ensures memory { OnErr result (result ≡ Err Fault.Memory) }
 {
     let core = view.core();
     let parent = Digest(*core.parent());
@@ -94,8 +123,10 @@ fn empty_proposal(
 }
 
 /// This frame to the replicas of even number, and that to the others.
-fn two_faced(alloc: Global, n: u8, even: &[u8], odd: &[u8]) -> Result<Vec<Sending>, Fault>
-    ensures { OnErr result (result ≡ Err Fault.Memory) }
+fn to_each(alloc: Global, n: u8, even: &[u8], odd: &[u8]) -> Result<Vec<Sending>, Fault>
+    ensures made { IfOk result (λ out. map sent_of out.items
+        ≡ map (faces even.now odd.now) (range_with_len 0 n)) }
+    ensures memory { OnErr result (result ≡ Err Fault.Memory) }
 {
     let mut out = Vec::new(alloc);
     for number in 0..n {
@@ -113,7 +144,14 @@ fn two_faced(alloc: Global, n: u8, even: &[u8], odd: &[u8]) -> Result<Vec<Sendin
 fn bad_reply(alloc: Global, keyring: &Keyring, view: &ReplyView<'_>) -> Result<Vec<u8>, Fault>
     requires own { keyring.now.party < replicas keyring.now.sizes }
     requires fits { IsFrame keyring.now.sizes (reply_of view.now) }
-    ensures { OnErr result (result ≡ Err Fault.Memory) }
+    ensures made { IfOk result (λ frame. frame.items ≡ spelling (reply_to (identity_of keyring.now)
+        (record {
+          client = view.now.client;
+          seq = view.now.seq;
+          place = view.now.place;
+          text = reply_text exists;
+        })).1) }
+    ensures memory { OnErr result (result ≡ Err Fault.Memory) }
 {
     let text = ReplyText::new(BAD_REPLY).unwrap();
     reply_frame(

@@ -1,4 +1,4 @@
-ghost use Rattle.std.specs.Prelude.{◌≡◌, IfOk, OnErr, Err, vec_len};
+ghost use Rattle.std.specs.Prelude.{◌≡◌, map, Some, IfOk, OnErr, Err, vec_len};
 ghost use Rattle.ids.specs.declared.fault.Fault.TheVariants.{Memory};
 
 use client_service::{ClientService, Link};
@@ -31,7 +31,8 @@ pub(crate) struct Taken<S> {
 
 /// The seats of a server. Each is free, or a connection has it, or it is lost.
 ///
-/// Threads share it by reference. Contracts see how many seats there are.
+/// Threads share it by reference. Contracts see how many seats there are: a lock shows nothing of what lies
+/// under it.
 #[derive(Drop)]
 pub struct Seats<S> {
     /// By number. A free one stands in its slot.
@@ -49,13 +50,20 @@ impl<S> Model for Seats<S> {
     ghost view = { λ seats. vec_len seats.slots };
 }
 
-/// A slot for each of these seats, which stands in it.
-fn slots<S: Drop>(alloc: Global, seats: Vec<S>) -> Result<Vec<Mutex<Option<S>>>, Fault>
-    ensures all { IfOk result (λ slots. vec_len slots ≡ vec_len seats) }
+/// What stands in the slots of these seats: each in its own, in their order.
+fn all_free<S: Drop>(alloc: Global, seats: Vec<S>) -> Result<Vec<Option<S>>, Fault>
+    ensures all { IfOk result (λ free. free.items ≡ map Some seats.items) }
     ensures memory { OnErr result (result ≡ Err Memory) }
 {
-    let slots = seats.into_iter().map(|seat| Mutex::new(Some(seat)));
-    Ok(slots.collect(alloc)?)
+    Ok(seats.into_iter().map(Some).collect(alloc)?)
+}
+
+/// A lock round each of these, in their order.
+fn locked<T: Drop>(alloc: Global, all: Vec<T>) -> Result<Vec<Mutex<T>>, Fault>
+    ensures all { IfOk result (λ locks. vec_len locks ≡ vec_len all) }
+    ensures memory { OnErr result (result ≡ Err Memory) }
+{
+    Ok(all.into_iter().map(Mutex::new).collect(alloc)?)
 }
 
 impl<S: Drop> Seats<S> {
@@ -65,7 +73,7 @@ impl<S: Drop> Seats<S> {
         ensures memory { OnErr result (result ≡ Err Memory) }
     {
         Ok(Seats {
-            slots: slots(alloc, seats)?,
+            slots: locked(alloc, all_free(alloc, seats)?)?,
             taken: AtomicU64::new(0),
             is_closed: AtomicBool::new(false),
         })
@@ -104,18 +112,18 @@ impl<S: Drop> Seats<S> {
         None
     }
 
-    /// A connection that had a seat has ended. The seat is free again, unless it is lost.
+    /// A connection that had a seat has ended. The seat is free again, unless it is lost, before the
+    /// connection is counted out.
     pub(crate) fn leave<R: Wait>(&self, rt: &R, taken: Taken<S>)
     where
         S: Seat,
     {
         let Taken { number, seat } = taken;
+        if !seat.is_lost() {
+            if let Some(slot) = self.slots.get(number) {
+                *slot.lock(rt) = Some(seat);
+            }
+        }
         self.taken.fetch_sub(1, SeqCst);
-        if seat.is_lost() {
-            return;
-        }
-        if let Some(slot) = self.slots.get(number) {
-            *slot.lock(rt) = Some(seat);
-        }
     }
 }
