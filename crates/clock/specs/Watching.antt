@@ -1,6 +1,6 @@
 -- What is due to a replica, by what was seen of it.
 use Rattle.std.specs.Prelude.{ℕ, ◌+◌, ◌*◌, ◌/◌, ◌-◌, ◌^◌, ◌==◌, ◌&&◌, ◌||◌, not, min, max, nat_le, Bool}
-use Rattle.std.specs.Prelude.{if◌then◌else◌}
+use Rattle.std.specs.Prelude.{if◌then◌else◌, nat_lt, Option, Some, None}
 use Rattle.clock.specs.declared.watch.Pulse.{Pulse}
 use Rattle.clock.specs.declared.watch.Due.{Due}
 use Rattle.clock.specs.declared.watch.Watch.{Watch}
@@ -38,6 +38,13 @@ due_of w now p = record { beat = p.wants_beat_now || is_overdue w now p; timeout
 abbrev pub pause_after : ℕ → Bool → Bool → ℕ
 pause_after pause got_on passed =
     if got_on then max (pause / 2) 20 else if passed then min (pause * 2) (2 ^ 64 - 1) else pause
+
+-- Where more heights than a window and an eighth of it lie between the horizon and the last executed block,
+-- what is a window below that block.
+abbrev pub prune_at : ℕ → Pulse → Option ℕ
+prune_at window p =
+    if nat_lt (min (window + window / 8) (2 ^ 64 - 1)) (p.height - p.horizon) then Some (p.height - window)
+    else None
 
 -- what was seen so far, with this. Both times begin anew where there is nothing to wait for, or what was
 -- due is given

@@ -1,6 +1,6 @@
 //! The thread that looks at a replica.
 
-use crate::watch::{Due, Pulse, Watch};
+use crate::watch::{Due, Pulse, Watch, prune_at};
 use fabric::Links;
 use ids::{Fault, ReplicaId};
 use std::sync::Wait;
@@ -28,7 +28,8 @@ fn millis_since<R: Clock>(rt: &R, start: Option<Instant>) -> u64 {
 }
 
 /// Looks at a replica each 20 milliseconds until it is told to stop, and hands in beats and
-/// timeouts at its link. What the link doesn't take is lost, and due again soon.
+/// timeouts at its link, and prunings that leave it so many heights, if it is to prune. What the link
+/// doesn't take is lost, and due again soon.
 ///
 /// It ends where the replica has stopped, too, and tells why; where it was told to stop, it tells nothing.
 pub fn keep_time<R: Wait + Clock, W: Watched>(
@@ -36,6 +37,7 @@ pub fn keep_time<R: Wait + Clock, W: Watched>(
     links: &Links,
     number: ReplicaId,
     replica: &W,
+    window: Option<u64>,
     stop: &AtomicBool,
 ) -> Option<Fault> {
     let start = Instant::now(rt).ok();
@@ -51,6 +53,9 @@ pub fn keep_time<R: Wait + Clock, W: Watched>(
         }
         let due = watch.look(millis_since(rt, start), pulse);
         hand_in(rt, links, number, due);
+        if let Some(height) = window.and_then(|window| prune_at(window, pulse)) {
+            let _ = links.prune(rt, number, height);
+        }
     }
     None
 }

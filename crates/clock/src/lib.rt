@@ -8,4 +8,4 @@ mod keeping;
 mod watch;
 
 pub use keeping::{Watched, keep_time};
-pub use watch::{Due, Pulse, Watch};
+pub use watch::{Due, Pulse, Watch, prune_at};

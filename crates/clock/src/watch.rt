@@ -1,9 +1,11 @@
 //! What is due to one replica.
 
 ghost use Rattle.std.specs.Prelude.{◌≡◌, if◌then◌else◌};
-ghost use Rattle.clock.specs.Watching.{due_of, is_late, is_overdue, looked, moved, pause_after, rests, unseen};
+ghost use Rattle.clock.specs.Watching.{due_of, is_late, is_overdue, looked, moved, pause_after, rests};
+ghost use Rattle.clock.specs.Watching.{unseen};
+ghost use Rattle.clock.specs.Watching.{prune_at};
 
-use ids::{Fault, View};
+use ids::{Fault, Height, View};
 
 /// For how many milliseconds a proposal may wait for votes, at first and at least, before a beat on
 /// top of it.
@@ -22,6 +24,10 @@ pub struct Pulse {
     pub view: View,
     /// How many commands it has executed.
     pub executed: u64,
+    /// The height of its last executed block.
+    pub height: Height,
+    /// The horizon of its tree.
+    pub horizon: Height,
     /// Why it stopped. None while it goes on.
     pub stopped: Option<Fault>,
 }
@@ -46,6 +52,19 @@ pub struct Watch {
     /// Since when a proposal of it has waited for votes, and how long that may last.
     asked: u64,
     pause: u64,
+}
+
+/// The height up to which a replica may forget, if it is to keep so many heights below its last executed
+/// block. None until it holds an eighth more, so that it isn't asked for each block.
+pub fn prune_at(window: u64, pulse: Pulse) -> Option<Height>
+    ensures { result ≡ prune_at window pulse }
+{
+    let held = pulse.height.0.saturating_sub(pulse.horizon.0);
+    if held > window.saturating_add(window / 8) {
+        Some(Height(pulse.height.0 - window))
+    } else {
+        None
+    }
 }
 
 /// The beginning of a time that may begin anew.

@@ -1,5 +1,8 @@
 //! The seats of a front: one client each.
 
+ghost use Rattle.std.specs.Prelude.{◌≡◌, ◌⊎◌, Err, OnErr};
+ghost use Rattle.ids.specs.declared.fault.Fault.TheVariants.{Memory, NoSuchParty};
+
 use crate::link::ClientLink;
 use crate::roll::Roll;
 use bytes::Bytes;
@@ -23,7 +26,9 @@ pub(crate) fn desks<R: Wait + Clock + AllocGlobal + Clone + Drop>(
     roll: &Arc<Roll>,
     keys: &PairKeys,
     ends: Vec<Receiver<Bytes>>,
-) -> Result<Seats<Desk<R>>, Fault> {
+) -> Result<Seats<Desk<R>>, Fault>
+    ensures refused { OnErr result ((result ≡ Err Memory) ⊎ (result ≡ Err NoSuchParty)) }
+{
     let (alloc, config) = (rt.alloc(), keys.config());
     let mut ends = ends.into_iter();
     let mut desks = Vec::new(alloc);

@@ -2,6 +2,8 @@
 //! connect to.
 #![tactic(auto)]
 
+mod bounded;
+mod crew;
 mod desk;
 mod ending;
 mod link;
@@ -9,6 +11,8 @@ mod lying;
 mod roll;
 mod running;
 mod stations;
+mod terms;
 mod watching;
 
-pub use running::{Ended, Terms, run};
+pub use running::{Ended, run};
+pub use terms::Terms;

@@ -1,8 +1,10 @@
 //! Which replicas go on.
 
-ghost use Rattle.std.specs.Prelude.{◌≡◌};
+ghost use Rattle.std.specs.Prelude.{◌≡◌, ◌+◌, ◌≤◌, min, nat_le, Some, if◌then◌else◌};
+ghost use Rattle.ids.specs.Sizes.{replicas};
 
 use ids::{Config, Fault};
+use std::marker::Model;
 use std::sync::atomic::AtomicBool;
 use std::sync::atomic::Ordering::SeqCst;
 use std::sync::{Mutex, Wait};
@@ -16,6 +18,32 @@ struct Stops {
     cause: Option<Fault>,
 }
 
+impl Stops {
+    /// Whether the others are a quorum, of replicas of which so many may be faulty.
+    fn leave_a_quorum(self, faults: u8) -> bool
+        ensures { result ≡ nat_le self.count faults }
+    {
+        self.count <= faults
+    }
+
+    /// One replica more has stopped, for this reason.
+    fn with_one_more(self, faults: u8, fault: Fault) -> Stops
+        ensures { result ≡ record {
+          count = min (self.count + 1) 255;
+          cause = if nat_le self.count faults then Some fault else self.cause;
+        } }
+    {
+        Stops {
+            count: self.count.saturating_add(1),
+            cause: if self.leave_a_quorum(faults) {
+                Some(fault)
+            } else {
+                self.cause
+            },
+        }
+    }
+}
+
 /// The roll of a deployment's replicas. Threads share it by reference.
 ///
 /// As long as at most f replicas have stopped, the others are a quorum, and requests can be answered.
@@ -26,9 +54,19 @@ pub(crate) struct Roll {
     is_open: AtomicBool,
 }
 
+impl Model for Roll {
+    ghost use Rattle.ids.specs.Sizes.{Sizes};
+
+    ghost Value = { Sizes };
+
+    ghost view = { λ roll. roll.config };
+}
+
 impl Roll {
     /// All replicas go on.
-    pub(crate) fn new(config: Config) -> Roll {
+    pub(crate) fn new(config: Config) -> Roll
+        ensures { result ≡ config }
+    {
         Roll {
             config,
             stops: Mutex::new(Stops {
@@ -45,7 +83,9 @@ impl Roll {
     }
 
     /// How many replicas go on.
-    pub(crate) fn going<R: Wait>(&self, rt: &R) -> u8 {
+    pub(crate) fn going<R: Wait>(&self, rt: &R) -> u8
+        ensures { result ≤ replicas self.now }
+    {
         let stops = self.stops.lock(rt);
         self.config.n().saturating_sub(stops.count)
     }
@@ -60,12 +100,10 @@ impl Roll {
 
     /// A replica has stopped for this reason.
     pub(crate) fn strike<R: Wait>(&self, rt: &R, fault: Fault) {
+        let faults = self.config.faults();
         let mut stops = self.stops.lock(rt);
-        if self.is_open() {
-            stops.cause = Some(fault);
-        }
-        stops.count = stops.count.saturating_add(1);
-        if stops.count > self.config.faults() {
+        *stops = stops.with_one_more(faults, fault);
+        if !stops.leave_a_quorum(faults) {
             self.is_open.store(false, SeqCst);
         }
     }

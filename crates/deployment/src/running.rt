@@ -1,18 +1,19 @@
 //! From keys to a running deployment, and to its end.
 
-ghost use Rattle.std.specs.Prelude.{◌≡◌, IfOk};
-ghost use Rattle.deployment.specs.Ends.{IsOfAudit};
+ghost use Rattle.std.specs.Prelude.{◌≡◌, IfOk, IfErr, IfSome, IsSome, None};
+ghost use Rattle.deployment.specs.Ends.{IsOfAudit, IsNoRun};
 
+use crate::crew::Crew;
 use crate::desk::{Desk, desks};
-use crate::ending::judge_left;
+use crate::ending::judge_by_terms;
 use crate::roll::Roll;
-use crate::stations::{Crew, Station, man, stations, watch};
+use crate::stations::{Station, man, stations, watch};
+use crate::terms::Terms;
 use crate::watching::Board;
 use audit::Verdict;
 use fabric::{Ends, Links};
 use ids::{Fault, ReplicaId};
 use key_file::PairKeys;
-use liars::Liar;
 use log::{Log, warn};
 use marks::Marks;
 use std::net::TcpListener;
@@ -24,17 +25,6 @@ use std::thread::Threads;
 use std::time::Clock;
 use tcp_front::{Closer, Seats, front};
 
-/// How a deployment is to run.
-#[derive(Clone, Copy, Debug)]
-pub struct Terms {
-    /// How replica 0 lies, if it is to.
-    pub liar: Option<Liar>,
-    /// How many connections are served.
-    pub most: u64,
-    /// Each how many seconds a line is logged that tells how it goes. None for no lines.
-    pub watch: Option<u64>,
-}
-
 /// How a deployment ended.
 #[derive(Clone, Copy, Debug)]
 pub struct Ended {
@@ -42,7 +32,8 @@ pub struct Ended {
     /// that stopped more than f replicas, or `Memory` where not all threads could be had.
     pub served: Result<u64, Fault>,
     /// What the audit says of the replicas, without replica 0 where that one was to lie.
-    pub verdict: Verdict,
+    /// None where too few have all their past, since they were given leave to forget.
+    pub verdict: Option<Verdict>,
 }
 
 /// Tells the workers of all replicas to end.
@@ -137,7 +128,7 @@ fn serve_at<R: Threads + Wait + Clock + Sync + Send + AllocGlobal + Log + Clone 
 /// It ends early where accepting fails, and where more than f replicas have stopped, so that no request can
 /// be answered any more: services refuse at once then, requests that are out get two seconds, and no
 /// connection is accepted. `Memory` where memory was refused before a thread began, `AcceptFailed`
-/// where the listener can't be had twice.
+/// where the listener can't be had twice; the other refusals aren't expected.
 pub fn run<R: Threads + Wait + Clock + Sync + Send + AllocGlobal + Log + Clone + Drop>(
     rt: &R,
     keys: &PairKeys,
@@ -145,9 +136,11 @@ pub fn run<R: Threads + Wait + Clock + Sync + Send + AllocGlobal + Log + Clone +
     terms: Terms,
 ) -> Result<Ended, Fault>
     ensures served { IfOk result (λ ended. IfOk ended.served (λ served. served ≡ terms.most)) }
-    ensures verdict { IfOk result (λ ended. IsOfAudit ended.verdict) }
+    ensures verdict { IfOk result (λ ended. IfSome ended.verdict IsOfAudit) }
+    ensures judged { IfOk result (λ ended. terms.window ≡ None → IsSome ended.verdict) }
+    ensures refused { IfErr result IsNoRun }
 {
-    let (alloc, config, liar) = (rt.alloc(), keys.config(), terms.liar);
+    let (alloc, config) = (rt.alloc(), keys.config());
     let closer = Closer::new(listener)?;
     let (links, ends) = Links::new(alloc, config)?;
     let Ends { replicas, clients } = ends;
@@ -156,7 +149,7 @@ pub fn run<R: Threads + Wait + Clock + Sync + Send + AllocGlobal + Log + Clone +
         return Err(Fault::NotAll);
     };
     let roll = Arc::new(alloc, Roll::new(config))?;
-    let (stations, crews) = stations(alloc, keys, &marks, eyes, replicas, liar)?;
+    let (stations, crews) = stations(alloc, keys, &marks, eyes, replicas, &terms)?;
     let links = Arc::new(alloc, links)?;
     let room = Vec::with_capacity(alloc, usize::from(config.n()))?;
     let seats = desks(rt, &links, &roll, keys, clients)?;
@@ -167,6 +160,6 @@ pub fn run<R: Threads + Wait + Clock + Sync + Send + AllocGlobal + Log + Clone +
         closer: &closer,
     };
     let served = serve_at(rt, stations.as_slice(), crews, &bell, listener, terms);
-    let verdict = judge_left(stations, usize::from(liar.is_some()), room)?;
+    let verdict = judge_by_terms(stations, terms, room)?;
     Ok(Ended { served, verdict })
 }

@@ -1,20 +1,24 @@
 //! Replicas, each under its lock, and what their workers start with.
 
-ghost use Rattle.std.specs.Prelude.{◌≡◌, ◌<◌, map};
+ghost use Rattle.std.specs.Prelude.{◌≡◌, ◌<◌, ◌==◌, ◌⊎◌, map, Err, IfOk, OnErr, None, if◌then◌else◌};
+ghost use Rattle.ids.specs.declared.fault.Fault.TheVariants.{Memory, NoSuchParty};
+ghost use Rattle.deployment.specs.Crews.{LiesBy, lie_of};
 ghost use Rattle.std.specs.List.{range_with_len};
 ghost use Rattle.ids.specs.Sizes.{replicas};
 ghost use Rattle.marks.specs.Eyes.{first_eye};
 
+use crate::bounded::{Bounded, stopped};
+use crate::crew::{Crew, Worker};
 use crate::lying::{LyingOut, Tongue};
+use crate::terms::Terms;
 use crate::watching::Progress;
-use authenticators::Keyring;
 use clock::{Pulse, Watched, keep_time};
 use crossbeam_channel::Receiver;
 use fabric::{Links, Parcel, Post, WaitingRoom};
 use ids::{Fault, ReplicaId};
 use key_file::PairKeys;
 use liars::Liar;
-use locked_replica::{Kept, Locked, Share};
+use locked_replica::{Kept, Locked};
 use marks::{Eye, Marks};
 use replica::Archived;
 use std::alloc::Global;
@@ -28,25 +32,12 @@ use turns::Open;
 pub(crate) struct Station<'a> {
     number: ReplicaId,
     locked: Locked<'a>,
+    /// At how many blocks it stops.
+    most_blocks: usize,
+    /// How many heights it keeps, if it is to forget others.
+    window: Option<u64>,
     parcels: Receiver<Parcel>,
     room: WaitingRoom,
-}
-
-/// What one worker starts with.
-#[derive(Drop)]
-pub(crate) struct Worker {
-    share: Share,
-    keyring: Keyring,
-    ghost is_a_replica: { keyring.party < replicas keyring.sizes },
-    /// Where its replica is to lie.
-    tongue: Option<Tongue>,
-}
-
-/// The two workers of a replica.
-#[derive(Drop)]
-pub(crate) struct Crew {
-    pub(crate) one: Worker,
-    pub(crate) two: Worker,
 }
 
 impl<'a> Station<'a> {
@@ -84,7 +75,9 @@ impl<'a> Watched for Station<'a> {
             is_pending: replica.pending() > 0,
             view: replica.view(),
             executed: replica.executed() as u64,
-            stopped: replica.stopped(),
+            height: replica.height(),
+            horizon: replica.horizon(),
+            stopped: stopped(&kept, self.most_blocks),
         }
     }
 }
@@ -102,7 +95,10 @@ pub(crate) fn man<R: Wait + AllocGlobal>(
         tongue,
     } = worker;
     let (alloc, gate) = (rt.alloc(), Open);
-    let mut steps = &station.locked;
+    let mut steps = Bounded {
+        locked: &station.locked,
+        most: station.most_blocks,
+    };
     let _share = match tongue {
         None => {
             let post = Post::new(
@@ -123,15 +119,15 @@ pub(crate) fn man<R: Wait + AllocGlobal>(
     };
 }
 
-/// Gives a station its beats and timeouts until it is told to stop, or the replica has stopped: then it
-/// answers why.
+/// Gives a station its beats, timeouts and prunings until it is told to stop, or the replica has stopped:
+/// then it answers why.
 pub(crate) fn watch<R: Wait + Clock>(
     rt: &R,
     station: &Station<'_>,
     links: &Links,
     stop: &AtomicBool,
 ) -> Option<Fault> {
-    keep_time(rt, links, station.number, station, stop)
+    keep_time(rt, links, station.number, station, station.window, stop)
 }
 
 /// What a replica lies with.
@@ -142,6 +138,8 @@ fn make_tongue(
     liar: Liar,
 ) -> Result<Tongue, Fault>
     requires { number < replicas keys.now.sizes }
+    ensures made { IfOk result (λ tongue. tongue.liar ≡ liar) }
+    ensures memory { OnErr result (result ≡ Err Memory) }
 {
     let keyring = keys.keyring(alloc, number.into())?;
     Ok(Tongue {
@@ -160,6 +158,8 @@ fn hire(
     liar: Option<Liar>,
 ) -> Result<Worker, Fault>
     requires { number < replicas keys.now.sizes }
+    ensures lies { IfOk result (λ worker. lie_of worker ≡ liar) }
+    ensures memory { OnErr result (result ≡ Err Memory) }
 {
     let share = kept.share()?;
     let keyring = keys.keyring(alloc, number.into())?;
@@ -185,6 +185,7 @@ fn new_kept<'a>(
     requires number { number < replicas keys.now.sizes }
     requires words { marks.now.words ≡ replicas keys.now.sizes }
     requires eye { eye ≡ first_eye marks.now number }
+    ensures memory { OnErr result (result ≡ Err Memory) }
 {
     let keyring = keys.keyring(alloc, number.into())?;
     let replica = Archived::new(alloc, keys.config(), number, keyring)?;
@@ -200,6 +201,8 @@ fn hire_crew(
     liar: Option<Liar>,
 ) -> Result<Crew, Fault>
     requires { number < replicas keys.now.sizes }
+    ensures lies { IfOk result (LiesBy liar) }
+    ensures memory { OnErr result (result ≡ Err Memory) }
 {
     let one = hire(alloc, keys, kept, number, liar)?;
     let two = hire(alloc, keys, kept, number, liar)?;
@@ -214,34 +217,39 @@ fn build_station<'a>(
     eye: Eye,
     marks: &'a Marks,
     parcels: Receiver<Parcel>,
-    liar: Option<Liar>,
+    terms: &Terms,
 ) -> Result<(Station<'a>, Crew), Fault>
     requires number { number < replicas keys.now.sizes }
     requires words { marks.now.words ≡ replicas keys.now.sizes }
     requires eye { eye ≡ first_eye marks.now number }
+    ensures lies { IfOk result (λ made. LiesBy (if number == 0 then terms.now.liar else None) made.1) }
+    ensures memory { OnErr result (result ≡ Err Memory) }
 {
     let mut kept = new_kept(alloc, keys, number, eye, marks)?;
-    let crew = hire_crew(alloc, keys, &mut kept, number, liar)?;
+    let crew = hire_crew(alloc, keys, &mut kept, number, terms.liar_of(number))?;
     let station = Station {
         number,
         locked: Mutex::new(kept),
+        most_blocks: terms.most_blocks(),
+        window: terms.window,
         parcels,
         room: WaitingRoom::new(alloc),
     };
     Ok((station, crew))
 }
 
-/// A station for each word of the marks, with the eye that owns it. Replica 0 is the one that may lie.
+/// A station for each word of the marks, with the eye that owns it.
 pub(crate) fn stations<'a>(
     alloc: Global,
     keys: &PairKeys,
     marks: &'a Marks,
     owners: Vec<Eye>,
     ends: Vec<Receiver<Parcel>>,
-    liar: Option<Liar>,
+    terms: &Terms,
 ) -> Result<(Vec<Station<'a>>, Vec<Crew>), Fault>
     requires words { marks.now.words ≡ replicas keys.now.sizes }
     requires owners { owners.items ≡ map (first_eye marks.now) (range_with_len 0 marks.now.words) }
+    ensures refused { OnErr result ((result ≡ Err Memory) ⊎ (result ≡ Err NoSuchParty)) }
 {
     let mut ends = ends.into_iter();
     let mut stations = Vec::new(alloc);
@@ -250,7 +258,6 @@ pub(crate) fn stations<'a>(
         let (Ok(number), Some(parcels)) = (u8::try_from(number), ends.next()) else {
             return Err(Fault::NoSuchParty);
         };
-        let lie = if number == 0 { liar } else { None };
         let (station, crew) = build_station(
             alloc,
             keys,
@@ -258,7 +265,7 @@ pub(crate) fn stations<'a>(
             eye,
             marks,
             parcels,
-            lie,
+            terms,
         )?;
         stations.push(station)?;
         crews.push(crew)?;

@@ -1,5 +1,7 @@
 //! What is told of a running deployment, each so many seconds.
 
+ghost use Rattle.std.specs.Prelude.{◌≡◌, max};
+
 use crate::roll::Roll;
 use crate::stations::Station;
 use fabric::Links;
@@ -38,7 +40,15 @@ impl Progress {
     }
 
     /// Of each number the greater.
-    fn max(self, other: Progress) -> Progress {
+    fn max(self, other: Progress) -> Progress
+        ensures { result ≡ record {
+          executed = max self.executed other.executed;
+          height = max self.height other.height;
+          blocks = max self.blocks other.blocks;
+          pending = max self.pending other.pending;
+          view = max self.view other.view;
+        } }
+    {
         Progress {
             executed: self.executed.max(other.executed),
             height: Height(self.height.0.max(other.height.0)),

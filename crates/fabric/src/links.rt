@@ -5,7 +5,7 @@ ghost use Rattle.ids.specs.Sizes.{replicas};
 
 use bytes::Bytes;
 use crossbeam_channel::{Receiver, SendError, Sender};
-use ids::{ClientId, Config, Fault, ReplicaId};
+use ids::{ClientId, Config, Fault, Height, ReplicaId};
 use std::alloc::Global;
 use std::marker::Model;
 use std::sync::Wait;
@@ -29,6 +29,8 @@ pub enum Parcel {
     Beat,
     /// The view has lasted too long.
     Timeout,
+    /// Leave to prune the tree up to this height.
+    Prune(u64),
     /// The worker that takes it ends.
     Stop,
 }
@@ -252,6 +254,13 @@ impl Links {
         ensures { OnErr result ((result ≡ Err Fault.Memory) ⊎ (result ≡ Err Fault.NoSuchParty)) }
     {
         self.hand_in(rt, to, Parcel::Timeout)
+    }
+
+    /// Gives a replica leave to prune its tree up to a height.
+    pub fn prune<R: Wait>(&self, rt: &R, to: ReplicaId, height: Height) -> Result<(), Fault>
+        ensures { OnErr result ((result ≡ Err Fault.Memory) ⊎ (result ≡ Err Fault.NoSuchParty)) }
+    {
+        self.hand_in(rt, to, Parcel::Prune(height.0))
     }
 
     /// Tells a replica's workers to end, once they have taken what was handed in before.

@@ -11,7 +11,7 @@ use admission::Input;
 use authenticators::Keyring;
 use bytes::Bytes;
 use crossbeam_channel::Receiver;
-use ids::{Digest, Fault, Kind, ReplicaId};
+use ids::{Digest, Fault, Height, Kind, ReplicaId};
 use signed_frames::{Out, Sending, To, fetch_frame};
 use std::alloc::Global;
 use std::sync::Wait;
@@ -234,6 +234,9 @@ impl<'a, G: Gate, O: Outgoing> Post<'a, G, O> {
                 }
                 Ok(Parcel::Beat) => self.step(rt, steps, &mut share, Input::Beat),
                 Ok(Parcel::Timeout) => self.step(rt, steps, &mut share, Input::Timeout),
+                Ok(Parcel::Prune(height)) => {
+                    self.step(rt, steps, &mut share, Input::Prune(Height(height)));
+                }
                 Ok(Parcel::Stop) | Err(_) => break,
             }
             self.propose(rt, steps, &mut share);

@@ -38,7 +38,7 @@ impl MainFault {
             MainFault::Fault(Fault::BadSize) =>
                 "sizes out of their limits: --faults is 1 to 4, --clients 1 to 64",
             MainFault::Fault(Fault::Full) =>
-                "more than F replicas hold 1,048,576 blocks; start again, with an empty cache",
+                "more than F replicas hold as many blocks as they may; start again, with an empty cache",
             MainFault::Fault(Fault::Memory) =>
                 "out of memory; start again, with more of it and an empty cache",
             MainFault::Fault(Fault::Conflict) =>

@@ -35,10 +35,11 @@ fn fail(rt: &HostRuntime, fault: MainFault) -> io::Result<ExitCode> {
 }
 
 /// What an audit says, in a word.
-fn word_of(verdict: &Verdict) -> &'static str {
+fn word_of(verdict: &Option<Verdict>) -> &'static str {
     match verdict {
-        Verdict::Agree => "agree",
-        Verdict::Fork(_) => "fork",
+        Some(Verdict::Agree) => "agree",
+        Some(Verdict::Fork(_)) => "fork",
+        None => "none",
     }
 }
 

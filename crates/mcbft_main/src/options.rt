@@ -34,6 +34,8 @@ pub(crate) fn matches_of(alloc: Global, words: &[String]) -> Result<ArgMatches<'
         .arg(port_arg(alloc))?
         .arg(liar_arg(alloc))?
         .arg(serve_arg(alloc))?
+        .arg(blocks_arg(alloc))?
+        .arg(window_arg(alloc))?
         .arg(watch_arg(alloc))?;
     command.try_get_matches_from(words)
 }
@@ -90,6 +92,26 @@ fn serve_arg(alloc: Global) -> Arg<'static> {
         .help("Ends after N connections; 0 to go on")
 }
 
+fn blocks_arg(alloc: Global) -> Arg<'static> {
+    Arg::new(alloc, "blocks")
+        .long("blocks")
+        .value_name("B")
+        .value_parser(value_parser!(u32))
+        .default_value("0")
+        .help("A replica stops when it holds B blocks; 0 for 1,048,576")
+}
+
+fn window_arg(alloc: Global) -> Arg<'static> {
+    Arg::new(alloc, "window")
+        .long("window")
+        .value_name("H")
+        .value_parser(value_parser!(u32))
+        .default_value("0")
+        .help(
+            "A replica forgets blocks more than H heights below the last executed one; 0 for none",
+        )
+}
+
 fn watch_arg(alloc: Global) -> Arg<'static> {
     Arg::new(alloc, "watch")
         .long("watch")
@@ -114,6 +136,8 @@ impl<'a> Options<'a> {
     pub(crate) fn read(matches: &ArgMatches<'a>) -> Option<Options<'a>> {
         let most: u64 = matches.get_one("serve")?;
         let watch: u32 = matches.get_one("watch")?;
+        let blocks: u32 = matches.get_one("blocks")?;
+        let window: u32 = matches.get_one("window")?;
         Some(Options {
             keys: matches.get_str("keys")?,
             faults: matches.get_one("faults")?,
@@ -122,6 +146,16 @@ impl<'a> Options<'a> {
             terms: Terms {
                 liar: matches.get_str("liar").and_then(liar_of),
                 most: if most == 0 { u64::MAX } else { most },
+                blocks: if blocks == 0 {
+                    None
+                } else {
+                    Some(blocks as usize)
+                },
+                window: if window == 0 {
+                    None
+                } else {
+                    Some(u64::from(window))
+                },
                 watch: if watch == 0 {
                     None
                 } else {

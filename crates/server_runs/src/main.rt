@@ -1,7 +1,10 @@
-//! A deployment and its clients in one process: with no liar, and with each. What each client reads
-//! is printed.
+//! A deployment and its clients in one process: with no liar, and with each; one whose replicas forget what
+//! is a few heights below; and one whose replicas may hold few blocks. What each client reads is printed.
 #![tactic(auto)]
 
+mod ending;
+
+use crate::ending::end_of_few_blocks;
 use anyhow::Result;
 use deployment::{Terms, run};
 use ids::Config;
@@ -16,7 +19,7 @@ use std::thread::join;
 const CONNECTIONS: u64 = 6;
 
 /// Sends these words, and gives what comes back, to the end or as long as a piece.
-fn ask(alloc: Global, stream: &TcpStream, words: &str) -> Result<String> {
+pub(crate) fn ask(alloc: Global, stream: &TcpStream, words: &str) -> Result<String> {
     (&mut &*stream).write_all(words.as_bytes())?;
     let mut piece = [0; 256];
     let count = (&mut &*stream).read(&mut piece)?;
@@ -92,18 +95,24 @@ fn keys(alloc: Global) -> Result<String> {
 fn main(rt: HostRuntime) -> Result<()> {
     let text = keys(rt.alloc())?;
     let keys = PairKeys::read(rt.alloc(), Config::new(1, 1)?, text.as_bytes())?;
-    for liar in [
-        None,
-        Some(Liar::Mute),
-        Some(Liar::TwoFaced),
-        Some(Liar::BadReply),
+    for (liar, window) in [
+        (None, None),
+        (Some(Liar::Mute), None),
+        (Some(Liar::TwoFaced), None),
+        (Some(Liar::BadReply), None),
+        (None, Some(4)),
     ] {
-        println!(rt; "{liar:?}")?;
+        match window {
+            Some(heights) => println!(rt; "a window of {heights} heights")?,
+            None => println!(rt; "{liar:?}")?,
+        }
         let listener = TcpListener::bind(&rt, "127.0.0.1:0")?;
         let at = listener.local_addr()?;
         let terms = Terms {
             liar,
             most: CONNECTIONS,
+            blocks: None,
+            window,
             watch: None,
         };
         let (ended, read) = join(
@@ -115,7 +124,10 @@ fn main(rt: HostRuntime) -> Result<()> {
             println!(rt; "{:?}", text.as_str())?;
         }
         let ended = ended?;
-        println!(rt; "served {}, audit {:?}", ended.served?, ended.verdict)?;
+        match (window, ended.verdict) {
+            (None, Some(verdict)) => println!(rt; "served {}, audit {verdict:?}", ended.served?)?,
+            _ => println!(rt; "served {}", ended.served?)?,
+        }
     }
-    Ok(())
+    end_of_few_blocks(&rt, &keys)
 }

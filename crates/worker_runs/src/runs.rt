@@ -185,7 +185,7 @@ fn close(station: Station<'_>) -> Result<usize, Fault> {
     } = station;
     let closed = locked.into_inner().close(shares.into_inner());
     let steps = closed.map(|closed| {
-        let steps = closed.replica.steps();
+        let steps = closed.replica.replica().steps();
         read_of(closed, steps)
     });
     steps.ok().ok_or(Fault::NotAll)
