@@ -1,9 +1,8 @@
 //! What is due to one replica.
 
 ghost use Rattle.std.specs.Prelude.{◌≡◌, if◌then◌else◌};
-ghost use Rattle.clock.specs.Watching.{due_of, is_late, is_overdue, looked, moved, pause_after, rests};
-ghost use Rattle.clock.specs.Watching.{unseen};
-ghost use Rattle.clock.specs.Watching.{prune_at};
+ghost use Rattle.clock.specs.Watching.{due_of, is_late, is_overdue, looked, moved, pause_after, prune_at};
+ghost use Rattle.clock.specs.Watching.{rests, unseen};
 
 use ids::{Fault, Height, View};
 
