@@ -19,7 +19,7 @@ use Rattle.audit_ground.proofs.Members.{among-judged, chronicle-own}
 use Rattle.audit_ground.proofs.Families.{backed-chronicles_are_orderly}
 
 -- what a replica holds is a beginning of the history of any block that its last executed one is below
-held-below : (r : Replica) (x : Branch) → Extends x (executed r.chronicle)
+pub held-below : (r : Replica) (x : Branch) → Extends x (executed r.chronicle)
     → IsBeginning (held_history r) (history_of x)
 unfolding history
 held-below r x h = IsBeginning-trans (held_history r) (history_of (executed r.chronicle)) (history_of x)

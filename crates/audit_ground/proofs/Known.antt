@@ -10,7 +10,7 @@ use Rattle.definitions.specs.Digests.{digest, StandsFor, NoCollision}
 use Rattle.definitions.specs.Chronicles.{Admitted, Step.took_block, Chronicle, IsLawful}
 use Rattle.definitions.specs.Audit.{Member, Judged, is_judged, chronicle_of}
 use Rattle.definitions.proofs.Digests.{stands_for-digest, digest_of-one}
-use Rattle.audit_ground.specs.Law.{KnownIn, KnownTo, IsNamed, IsLawfullyKept, AreJudged}
+use Rattle.audit_ground.specs.Law.{KnownIn, KnownTo, IsNamed, IsLawfullyKept, IsKeptWell, AreJudged}
 use Rattle.audit_ground.proofs.Members.{judged-member, unjudged-none}
 
 -- what stands for a branch still does where more is known
@@ -45,11 +45,17 @@ pub known-member : (ks : Judged) (m : Member) → Among m ks → (c : Core) → 
     → KnownTo ks c
 known-member ks m n c k = inr (m, n, k)
 
+-- with no collision of what all know, each that is kept well is lawfully kept
+pub kept-lawfully : (sizes : Sizes) (ks : Judged) → ((m : Member) → Among m ks → IsKeptWell sizes m)
+    → NoCollision (KnownTo ks) → (m : Member) → Among m ks → IsLawfullyKept sizes m.replica.chronicle
+kept-lawfully sizes ks kept apart m n =
+    kept m n (λ a b p q. apart a b (known-member ks m n a p) (known-member ks m n b q))
+
 -- from here on: judged replicas, and no collision of what they know
 module _ (sizes : Sizes) (ks : Judged) (judged : AreJudged sizes ks) (apart : NoCollision (KnownTo ks)) where
   -- each member's chronicle is lawful, and its digests stand for its branches
   pub member-kept : (m : Member) → Among m ks → IsLawfullyKept sizes m.replica.chronicle
-  member-kept m n = judged.kept m n (λ a b p q. apart a b (known-member ks m n a p) (known-member ks m n b q))
+  member-kept = kept-lawfully sizes ks judged.kept apart
 
   -- the chronicle of a judged number is lawful
   pub judged-lawful : (i : ℕ) → is_judged ks i ≡ true → IsLawful sizes (chronicle_of ks i)

@@ -7,6 +7,7 @@ pub mod Stored
 pub mod Families
 pub mod Ordered
 pub mod Histories
+pub mod Shown
 pub mod Decisions
 pub mod Cores
 pub mod Verdicts

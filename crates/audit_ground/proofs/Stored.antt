@@ -11,7 +11,7 @@ use Rattle.definitions.proofs.Chronicles.{taken-now, tree-taken, tree-parent, tr
 use Rattle.audit_ground.specs.Law.{KnownIn, IsNamed, IsStored, StoredBlocksAreNamed}
 
 -- a taken block was admitted, as a new one
-taken-took : (a : Admitted) (c : Chronicle) → Among a (taken_blocks c)
+pub taken-took : (a : Admitted) (c : Chronicle) → Among a (taken_blocks c)
     → Among (took_block a) c × (a.new ≡ true)
 unfolding taken_blocks
 taken-took a [] m = absurd m

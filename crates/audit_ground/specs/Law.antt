@@ -15,6 +15,8 @@ use Rattle.definitions.specs.Audit.{Member, Judged, is_judged, chronicle_of, Cut
 use Rattle.definitions.specs.Audit.{AreAllowed, counted_by, counted_for, step_after, has_vote, may_move}
 use Rattle.definitions.specs.Audit.{AreFronts, Reason, Verdict, IsUnbacked, Holds, HistoriesAgree}
 use Rattle.definitions.specs.Audit.{IsVerdict}
+use Rattle.definitions.specs.WindowAudit.{WindowVerdict.agree, WindowVerdict.fork, WindowsShow, Stands}
+use Rattle.definitions.specs.WindowAudit.{BlocksConflict}
 
 -- ---- what judged replicas have kept
 
@@ -146,6 +148,18 @@ EachForkHasAReason =
 -- judged replicas have a verdict
 abbrev pub EachAuditAnswers : Type 0
 EachAuditAnswers = (sizes : Sizes) (ks : Judged) → AreJudged sizes ks → (v : Verdict) × IsVerdict ks v
+
+-- Of any number of replicas, each kept well, that may have pruned: where no two known cores collide and their
+-- windows agree, so do their histories.
+abbrev pub AgreeingWindowsAreRight : Type 0
+AgreeingWindowsAreRight =
+    (sizes : Sizes) (ks : Judged) → ((m : Member) → Among m ks → IsKeptWell sizes m) → NoCollision (KnownTo ks)
+    → WindowsShow ks agree → HistoriesAgree ks
+
+-- Where windows fork, so do the executed branches.
+abbrev pub ForkingWindowsAreRight : Type 0
+ForkingWindowsAreRight =
+    (ks : Judged) (a b : ℕ) → WindowsShow ks (fork a b) → Stands BlocksConflict ks a b
 
 -- judged replicas of four, each kept well
 pub record AreOfFour (sizes : Sizes) (judged : Judged) : Type 0 where

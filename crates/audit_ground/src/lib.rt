@@ -7,7 +7,7 @@ ghost use Rattle.audit_ground.specs.Law.{StoredBlocksAreNamed, FrontsAreOne, Mov
 ghost use Rattle.audit_ground.specs.Law.{UnbackedVotesAreSeen, BackedChroniclesAreOrderly};
 ghost use Rattle.audit_ground.specs.Law.{BackedHistoriesAgree, OrderlyChroniclesAreBacked};
 ghost use Rattle.audit_ground.specs.Law.{EachForkHasAReason, EachAuditAnswers, SomeAgreement, SomeFork};
-ghost use Rattle.audit_ground.specs.Law.{SomeCircle};
+ghost use Rattle.audit_ground.specs.Law.{SomeCircle, AgreeingWindowsAreRight, ForkingWindowsAreRight};
 
 /// A lawful chronicle is kept well where each block is stored under its own digest, with a
 /// certificate of the block that it justifies.
@@ -53,6 +53,17 @@ pub fn each_fork_has_a_reason()
 /// Judged replicas have a verdict.
 pub fn each_audit_answers()
     ensures { EachAuditAnswers }
+{}
+
+/// Where the windows of replicas that may have pruned show that their executed blocks lie on one branch,
+/// and no two known cores collide, their histories agree.
+pub fn agreeing_windows_are_right()
+    ensures { AgreeingWindowsAreRight }
+{}
+
+/// Where windows show two blocks at one height, neither executed branch goes through the other's last block.
+pub fn forking_windows_are_right()
+    ensures { ForkingWindowsAreRight }
 {}
 
 /// The premises can be met: three of four replicas are judged that executed something, and no vote

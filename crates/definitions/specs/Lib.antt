@@ -34,4 +34,5 @@ pub mod Premises
 pub mod Linearity
 pub mod Agreement
 pub mod Audit
+pub mod WindowAudit
 pub mod Marks

@@ -4,7 +4,7 @@ use Rattle.std.proofs.Common.{ℕ, ◌≡◌, Bool, true, false, [], ◌∷◌, 
 use Rattle.std.proofs.Common.{inl, inr, map, true≢false, ◌==◌}
 use Rattle.std.specs.Bool.{⊤}
 use Rattle.std.proofs.lemmas.Bool.{eqb-true, eq-eqb, cond_both, cond-true, cond-false, cases_Bool, ne_eqb}
-use Rattle.definitions.proofs.Digests.{digest_of-one}
+use Rattle.definitions.proofs.Digests.{digest_of-one, all_known-below}
 use Rattle.definitions.proofs.Branches.{just1-extends}
 use Rattle.definitions.specs.Lists.{Among}
 use Rattle.definitions.specs.Frames.{Core, genesis_core}
@@ -47,14 +47,6 @@ pub record MayFollow (Known : Core → Type 0) (is_member : ℕ → Bool) (row :
 abbrev pub StepMayFollow : (Core → Type 0) → (ℕ → Bool) → (ℕ → Chronicle) → Step → Type 0
 StepMayFollow Known is_member row (took_block a) = MayFollow Known is_member row a
 StepMayFollow Known is_member row st = ⊤
-
-all_known-below : (Known : Core → Type 0) (b x : Branch) → AllKnown Known b → Extends b x → AllKnown Known x
-all_known-below Known b x h ([], e) = subst (AllKnown Known) (sym e) h
-all_known-below Known [] x h (c ∷ added, e) = absurd (nil (sym e))
-  where
-    nil : [] ≡ c ∷ (added ++ x) → ⊥
-    nil k = cc
-all_known-below Known (b ∷ parent) x h (c ∷ added, e) = all_known-below Known parent x h.1 (added, (cc))
 
 -- a block put on a known one
 pub taken-known : (Known : Core → Type 0) (need : Sizes) (a : Admitted) (c : Chronicle)
