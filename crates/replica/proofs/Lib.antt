@@ -4,6 +4,7 @@ pub mod Lent
 pub mod Steps
 mod Prunings
 pub mod Executing
+pub mod Shown
 pub mod Walking
 pub mod Advancing
 pub mod Stays

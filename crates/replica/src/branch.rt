@@ -1,9 +1,11 @@
 //! The blocks along a branch of the tree.
 
 ghost use Rattle.std.specs.Prelude.{◌≡◌, ◌-◌, ◌++◌, reverse, map, [], option_map, IfOk, OnOk, OnErr};
-ghost use Rattle.definitions.specs.Digests.{core_of};
+ghost use Rattle.std.specs.Option.{option_and_then};
+ghost use Rattle.definitions.specs.Digests.{digest_of, core_of};
+ghost use Rattle.definitions.specs.Trees.{blocks, find_in};
 ghost use Rattle.frames_view.specs.Views.{commands_left};
-ghost use Rattle.replica.specs.Execution.{block_at, history_above};
+ghost use Rattle.replica.specs.Execution.{seen_at, block_at, history_above};
 ghost use Rattle.replica.specs.Picks.{key_of, keys_of};
 
 use block_tree::{Node, Tree};
@@ -11,12 +13,20 @@ use frames_view::Commands;
 use ids::{ClientId, Digest, Fault, Height, Seq};
 use std::alloc::Global;
 
+/// The digest of the block of this height on the branch of a block of the tree, as far as it is in reach.
+pub(crate) fn digest_at(tree: &Tree, tip: &Digest, height: Height) -> Option<Digest>
+    ensures { result ≡ option_map digest_of
+        (option_and_then (seen_at tree.now.horizon height) (find_in tip.now (blocks tree.now.stored))) }
+{
+    tree.ancestor_at(tip, height)
+}
+
 /// The block of this height on the branch of a block of the tree. Genesis isn't kept.
 pub(crate) fn block_at<'a>(tree: &'a Tree, tip: &Digest, height: Height) -> Option<&'a Node>
     ensures { option_map (λ n. n.now.core) result
         ≡ option_map (λ s. core_of s.branch) (block_at tip.now height tree.now) }
 {
-    let digest = tree.ancestor_at(tip, height)?;
+    let digest = digest_at(tree, tip, height)?;
     tree.block(&digest)
 }
 

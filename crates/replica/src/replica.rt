@@ -1,16 +1,18 @@
 //! One replica.
 
 ghost use Rattle.std.specs.Prelude.{◌≡◌, ◌<◌, ◌&&◌, ◌⊎◌, [], length, reverse, suc, IsTrue, IfOk, OnErr};
-ghost use Rattle.std.specs.Prelude.{◌↔◌, false, IsNone};
+ghost use Rattle.std.specs.Prelude.{◌↔◌, false, IsNone, option_map};
 ghost use Rattle.ids.specs.Sizes.{replicas};
 ghost use Rattle.audit_ground.specs.Law.{IsLawfullyKept};
 ghost use Rattle.definitions.specs.Checks.{identity_of};
 ghost use Rattle.definitions.specs.Chronicles.{Chronicle, IsLawful, executed, horizon, standing_blocks};
 ghost use Rattle.definitions.specs.Chronicles.{window};
+ghost use Rattle.definitions.specs.Digests.{digest_of};
 ghost use Rattle.definitions.specs.Frames.{spelling};
 ghost use Rattle.definitions.specs.Replicas.{running, held_history, held_pending};
 ghost use Rattle.definitions.specs.Sendings.{fetch_frame};
 ghost use Rattle.definitions.specs.States.{view};
+ghost use Rattle.definitions.specs.WindowAudit.{shown_at};
 ghost use Rattle.replica.specs.Steps.{Stepped};
 ghost use Rattle.replica.specs.Wanting.{wants_beat, wants_beat_now};
 ghost use Rattle.definitions.specs.Keyrings.{Keys};
@@ -320,6 +322,22 @@ impl Replica {
         ensures { result ≡ length (executed self.now.replica.chronicle) }
     {
         self.state.rules.executed().height
+    }
+
+    /// The digest of the last block that was decided.
+    pub fn executed_block(&self) -> Digest
+        ensures { result ≡ digest_of (executed self.now.replica.chronicle) }
+    {
+        self.state.rules.executed().digest
+    }
+
+    /// The digest of the block of a height on the branch that was decided, as far as its window reaches.
+    /// None where the height is above the last one, or more than two below the horizon. Genesis is always
+    /// there.
+    pub fn executed_block_at(&self, height: Height) -> Option<Digest>
+        ensures { result ≡ option_map digest_of (shown_at height self.now.replica.chronicle) }
+    {
+        self.state.executed_block_at(height)
     }
 
     /// The horizon of its tree: what is more than two heights below it was forgotten. It is 0 until the

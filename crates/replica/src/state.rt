@@ -1,13 +1,16 @@
 //! What a replica keeps beside its keys.
 
-ghost use Rattle.std.specs.Prelude.{◌≡◌, false, length, reverse, IfOk, OnOk, OnErr};
-ghost use Rattle.std.specs.Option.{unwrap_or};
+ghost use Rattle.std.specs.Prelude.{◌≡◌, false, length, reverse, option_map, IfOk, OnOk, OnErr};
+ghost use Rattle.std.specs.Option.{unwrap_or, option_and_then};
 ghost use Rattle.definitions.specs.Chronicles.{stored_blocks};
-ghost use Rattle.definitions.specs.Trees.{Stored};
+ghost use Rattle.definitions.specs.Digests.{digest_of};
+ghost use Rattle.definitions.specs.Trees.{Stored, blocks, find_in};
 ghost use Rattle.replica.specs.Changes.{changed, tree_after, collected, pended, left_above, MayGrow, Fits};
+ghost use Rattle.replica.specs.Execution.{seen_at};
 ghost use Rattle.replica.specs.Logs.{Logs};
 ghost use Rattle.replica.specs.Replay.{is_pruning, replay};
 
+use crate::branch::digest_at;
 use crate::change::{Change, Growth};
 use crate::chronicle::ChronicleView;
 use crate::step_log::StepLog;
@@ -16,7 +19,7 @@ use crate::telling::{AStep, Newest};
 use block_tree::Tree;
 use frames_view::CertificateBuf;
 use ghost_list::GhostList;
-use ids::{Fault, Height};
+use ids::{Digest, Fault, Height};
 use mempool::Mempool;
 use pacemaker::Pacemaker;
 use replica_rules::{BlockRef, Rules};
@@ -156,6 +159,19 @@ impl State {
         ensures { result ≡ self.now.variables.horizon }
     {
         self.tree.horizon()
+    }
+
+    /// The digest of the block of a height on the branch of the last executed block, as far as it is in
+    /// reach.
+    pub(crate) fn executed_block_at(&self, height: Height) -> Option<Digest>
+        ensures { (
+            let v = self.now.variables in
+            result
+            ≡ option_map digest_of
+            (option_and_then (seen_at v.horizon height) (find_in v.rules.executed.digest (blocks v.stored)))) }
+    {
+        let last = self.rules.executed();
+        digest_at(&self.tree, &last.digest, height)
     }
 
     /// The steps that stand, where each block of the tree was taken by one of these. Oldest first.
