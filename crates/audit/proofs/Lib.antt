@@ -7,3 +7,4 @@ pub mod Moves
 pub mod Missing
 pub mod Colliding
 pub mod Held
+pub mod Leading

@@ -13,16 +13,23 @@ use Rattle.replica.specs.Steps.{Held}
 abbrev pub member_of : Held → Member
 member_of r = record { number = r.keys.party; replica = r.replica }
 
--- the judged replicas, in their order
-abbrev pub judged : List (Bor Held) → Judged
-judged rs = map (λ r. member_of r.now) rs
+-- the judged replicas, in their order, by what they hold
+abbrev pub judged_by : {T : Type 0} → (T → Held) → List (Bor T) → Judged
+judged_by held rs = map (λ r. member_of (held r.now)) rs
 
--- at least a quorum of replicas of the same sizes, each once
-pub record AreEnough (rs : List (Bor Held)) : Type 0 where
+-- at least a quorum of replicas of the same sizes, each once, by what they hold
+pub record AreEnoughBy {T : Type 0} (held : T → Held) (rs : List (Bor T)) : Type 0 where
   pub sizes : Sizes
-  pub same : All (λ r. r.now.keys.sizes ≡ sizes) rs
+  pub same : All (λ r. (held r.now).keys.sizes ≡ sizes) rs
   pub enough : quorum sizes ≤ length rs
-  pub distinct : AreDistinct (numbers (judged rs))
+  pub distinct : AreDistinct (numbers (judged_by held rs))
+
+-- the same of replicas
+abbrev pub judged : List (Bor Held) → Judged
+judged rs = judged_by (λ r. r) rs
+
+abbrev pub AreEnough : List (Bor Held) → Type 0
+AreEnough rs = AreEnoughBy (λ r. r) rs
 
 -- one of two histories is a beginning of the other
 unfoldable pub Agree : History → History → Type 0

@@ -2,3 +2,4 @@ pub mod Judged
 pub mod Verdicts
 pub mod Fronts
 pub mod Cores
+pub mod Shown

@@ -1,29 +1,20 @@
 //! The audit.
 
-ghost use Rattle.std.specs.Prelude.{◌≡◌, ◌↔◌, IsOk, IfOk, OnErr, IsTrue, All, MatchOption};
+ghost use Rattle.std.specs.Prelude.{◌≡◌, ◌↔◌, IsOk, IfOk, OnErr, IsTrue, MatchOption};
 ghost use Rattle.definitions.specs.Lists.{AreDistinct};
 ghost use Rattle.definitions.specs.Digests.{NoCollision};
 ghost use Rattle.definitions.specs.Audit.{IsVerdict, Holds};
 ghost use Rattle.audit_ground.specs.Law.{numbers, KnownTo, NoneUnbacked};
-ghost use Rattle.audit.specs.Judged.{judged, AreEnough, IsHeld};
+ghost use Rattle.audit.specs.Judged.{judged, AreEnough};
 ghost use Rattle.audit.specs.Verdicts.{reason_of, verdict_of};
 
 use crate::collisions::{find_collision, is_collision};
-use crate::enough::are_enough;
+use crate::enough::{are_enough, hold};
 use crate::histories::histories_agree;
 use crate::unbacked::{find_unbacked, is_unbacked};
 use crate::verdict::{Reason, Verdict};
 use ids::Fault;
 use replica::Whole;
-
-/// Says what holds of each replica, and does nothing else.
-fn hold(replicas: &[&Whole<'_>])
-    ensures { All (λ r. IsHeld r.now) replicas.now }
-{
-    for replica in replicas {
-        replica.holds();
-    }
-}
 
 /// A reason for a fork: an unbacked vote, or else a collision.
 fn find_reason(replicas: &[&Whole<'_>]) -> Option<Reason>

@@ -12,6 +12,8 @@ mod judging;
 mod members;
 mod unbacked;
 mod verdict;
+mod windows;
 
 pub use judging::{check_reason, judge};
-pub use verdict::{CorePlace, Reason, Verdict};
+pub use verdict::{CorePlace, Reason, Verdict, WindowVerdict};
+pub use windows::judge_windows;

@@ -33,3 +33,16 @@ pub enum Verdict {
     Agree,
     Fork(Reason),
 }
+
+/// What windows show of the last executed blocks of replicas that may have pruned. Each is held against
+/// the executed branch of the one that leads: the first of those that executed highest.
+#[derive(Clone, Copy, Debug)]
+pub enum WindowVerdict {
+    /// All of them lie on that branch, by their digests.
+    Agree,
+    /// At the height of the lower one's block another block stands on that branch.
+    Fork { lower: ReplicaId, higher: ReplicaId },
+    /// No fork is shown; but at the height of the lower one's block the window shows none any more, so
+    /// that nothing is known of it.
+    Unmet { lower: ReplicaId, higher: ReplicaId },
+}

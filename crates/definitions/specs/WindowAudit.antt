@@ -61,11 +61,12 @@ pub record Stands (R : Member → Member → Type 0) (ks : Judged) (a b : ℕ) :
   pub related : R lower higher
 
 -- Each is held against the one that leads. Where its window shows each one's last executed block, they agree;
--- where it shows another block, they fork; and where it shows none, and no fork, nothing is known of that one.
+-- where it shows another block, they fork; and where it shows none, and of no one another, they are unmet.
 abbrev pub WindowsShow : Judged → WindowVerdict → Type 0
 WindowsShow ks agree = (m : Member) × Leads ks m × ((k : Member) → Among k ks → Meets k m)
 WindowsShow ks (fork a b) = Stands Differs ks a b
-WindowsShow ks (unmet a b) = Stands Misses ks a b × ((c d : ℕ) → Stands Differs ks c d → ⊥)
+WindowsShow ks (unmet a b) =
+    (s : Stands Misses ks a b) × ((k : Member) → Among k ks → Differs k s.higher → ⊥)
 
 -- the last executed blocks conflict
 abbrev pub BlocksConflict : (k m : Member) → Type 0
