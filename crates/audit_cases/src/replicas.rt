@@ -5,8 +5,8 @@ ghost use Rattle.ids.specs.Sizes.{replicas};
 ghost use Rattle.admission.specs.Inputs.{is_addressed};
 
 use admission::admit;
-use ids::{Config, Fault, PartyId, ReplicaId};
-use replica::{Archived, Input, Whole};
+use ids::{Config, Fault, Height, PartyId, ReplicaId};
+use replica::{Archived, Input, Replica, Whole};
 use simulated_keys::keyring_of;
 use std::alloc::Global;
 
@@ -27,20 +27,32 @@ pub(crate) fn number(digits: &str) -> Result<u8, Fault> {
 enum Brought {
     Beat,
     Timeout,
+    Prune(Height),
     Frame(Vec<u8>),
+}
+
+/// What a word brings.
+fn read_word(alloc: Global, word: &str) -> Result<Brought, Fault> {
+    match word {
+        "beat" => return Ok(Brought::Beat),
+        "timeout" => return Ok(Brought::Timeout),
+        _ => {}
+    }
+    if let Some(digits) = word.strip_prefix("prune:") {
+        let height = digits.parse().ok().ok_or(Fault::BadFields)?;
+        return Ok(Brought::Prune(Height(height)));
+    }
+    let bytes = hex::decode(alloc, word).ok().ok_or(Fault::BadFields)?;
+    Ok(Brought::Frame(bytes))
 }
 
 /// What the words of a replica bring.
 fn brought_by(alloc: Global, words: &str) -> Result<Vec<Brought>, Fault> {
     let mut all = Vec::new(alloc);
     for word in words.split(',') {
-        let brought = match word {
-            "" => continue,
-            "beat" => Brought::Beat,
-            "timeout" => Brought::Timeout,
-            _ => Brought::Frame(hex::decode(alloc, word).ok().ok_or(Fault::BadFields)?),
-        };
-        all.push(brought)?;
+        if !word.is_empty() {
+            all.push(read_word(alloc, word)?)?;
+        }
     }
     Ok(all)
 }
@@ -74,6 +86,7 @@ fn bring(alloc: Global, replica: &mut Archived, all: &[Brought]) -> Result<(), F
         match brought {
             Brought::Beat => step(replica, Input::Beat)?,
             Brought::Timeout => step(replica, Input::Timeout)?,
+            Brought::Prune(height) => step(replica, Input::Prune(*height))?,
             Brought::Frame(bytes) => receive(alloc, replica, bytes)?,
         }
     }
@@ -162,4 +175,16 @@ pub(crate) fn lent<'a>(
         lent.push(replica)?;
     }
     Ok(lent)
+}
+
+/// References to replicas, without their archives.
+pub(crate) fn plain<'a>(
+    alloc: Global,
+    replicas: &'a [Archived],
+) -> Result<Vec<&'a Replica>, Fault> {
+    let mut plain = Vec::new(alloc);
+    for replica in replicas {
+        plain.push(replica.replica())?;
+    }
+    Ok(plain)
 }

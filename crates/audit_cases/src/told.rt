@@ -1,9 +1,9 @@
 //! What an audit answers, in words.
 
 use crate::reasons::reason_of;
-use audit::{CorePlace, Reason, Verdict, check_reason, judge};
+use audit::{CorePlace, Reason, Verdict, WindowVerdict, check_reason, judge, judge_windows};
 use ids::Fault;
-use replica::Whole;
+use replica::{Replica, Whole};
 
 fn tell_place(place: &CorePlace, text: &mut String) -> Result<(), Fault> {
     match place {
@@ -64,6 +64,21 @@ pub(crate) fn tell_all(
     tell_verdict(replicas, text)?;
     for field in asked.split_whitespace() {
         tell_asked(replicas, field, text)?;
+    }
+    Ok(())
+}
+
+/// Tells what the windows of replicas show.
+pub(crate) fn tell_windows(replicas: &[&Replica], text: &mut String) -> Result<(), Fault> {
+    match judge_windows(replicas) {
+        Ok(WindowVerdict::Agree) => text.push_str("agree")?,
+        Ok(WindowVerdict::Fork { lower, higher }) => {
+            write!(text, "fork {} {}", lower.0, higher.0)?
+        }
+        Ok(WindowVerdict::Unmet { lower, higher }) => {
+            write!(text, "unmet {} {}", lower.0, higher.0)?
+        }
+        Err(fault) => write!(text, "{}", fault.number())?,
     }
     Ok(())
 }
