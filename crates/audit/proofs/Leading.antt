@@ -11,6 +11,7 @@ use Rattle.definitions.specs.Lists.{Among}
 use Rattle.definitions.specs.Audit.{Member, Judged}
 use Rattle.definitions.specs.WindowAudit.{last_block, Meets, Differs, Misses, Leads}
 use Rattle.definitions.proofs.Lists.{Among-either, Among-after}
+use Rattle.audit_ground.proofs.Leaders.{meets-not_differs, misses-not_differs}
 use Rattle.replica.specs.Steps.{Held}
 use Rattle.audit.specs.Judged.{member_of, judged}
 use Rattle.audit.proofs.ByNumber.{member-among}
@@ -110,19 +111,6 @@ pub record AreCompared (ks done : Judged) (m : Member) (unmet : Option ℕ) : Ty
   pub same : (k : Member) → Among k done → Differs k m → ⊥
   pub met : MatchOption unmet ((k : Member) → Among k done → Meets k m) (IsUnmet ks m)
 
-some_none : (d : Bytes) → Some d ≡ None → ⊥
-some_none d e = cc
-
-some_one : (d e : Bytes) → Some d ≡ Some e → d ≡ e
-some_one d e i = cc
-
--- who is met or missed doesn't differ
-meets-same : (k m : Member) → Meets k m → Differs k m → ⊥
-meets-same k m h (d, e, n) = n (some_one d (digest_of (last_block k)) (sym e ∙ h))
-
-misses-same : (k m : Member) → Misses k m → Differs k m → ⊥
-misses-same k m h (d, e, n) = some_none d (sym e ∙ h)
-
 pub compared-none : (rs : List (Bor Held)) (m : Member) → AreCompared (judged rs) (judged (take 0 rs)) m None
 compared-none rs m = record { same = λ k n. absurd n; met = λ k n. absurd n }
 
@@ -132,7 +120,7 @@ pub compared-met : (rs : List (Bor Held)) (i : ℕ) (r : Bor Held) (m : Member) 
     → AreCompared (judged rs) (judged (take i rs)) m unmet
     → AreCompared (judged rs) (judged (take (i + 1) rs)) m unmet
 compared-met rs i r m unmet l e h c = record {
-  same = among-more rs i r l e (λ k. Differs k m → ⊥) c.same (meets-same (member_of r.now) m h);
+  same = among-more rs i r l e (λ k. Differs k m → ⊥) c.same (meets-not_differs (member_of r.now) m h);
   met = by unmet c.met;
 }
   where
@@ -148,7 +136,7 @@ pub compared-unmet : (rs : List (Bor Held)) (i : ℕ) (r : Bor Held) (m : Member
     → AreCompared (judged rs) (judged (take i rs)) m unmet
     → AreCompared (judged rs) (judged (take (i + 1) rs)) m (option_or unmet (Some n))
 compared-unmet rs i r m unmet n l e h is c = record {
-  same = among-more rs i r l e (λ k. Differs k m → ⊥) c.same (misses-same (member_of r.now) m h);
+  same = among-more rs i r l e (λ k. Differs k m → ⊥) c.same (misses-not_differs (member_of r.now) m h);
   met = by unmet c.met;
 }
   where

@@ -68,16 +68,19 @@ pub(crate) fn tell_all(
     Ok(())
 }
 
+fn tell_shown(verdict: &WindowVerdict, text: &mut String) -> Result<(), Fault> {
+    match verdict {
+        WindowVerdict::Agree => text.push_str("agree")?,
+        WindowVerdict::Fork { lower, higher } => write!(text, "fork {} {}", lower.0, higher.0)?,
+        WindowVerdict::Unmet { lower, higher } => write!(text, "unmet {} {}", lower.0, higher.0)?,
+    }
+    Ok(())
+}
+
 /// Tells what the windows of replicas show.
 pub(crate) fn tell_windows(replicas: &[&Replica], text: &mut String) -> Result<(), Fault> {
     match judge_windows(replicas) {
-        Ok(WindowVerdict::Agree) => text.push_str("agree")?,
-        Ok(WindowVerdict::Fork { lower, higher }) => {
-            write!(text, "fork {} {}", lower.0, higher.0)?
-        }
-        Ok(WindowVerdict::Unmet { lower, higher }) => {
-            write!(text, "unmet {} {}", lower.0, higher.0)?
-        }
+        Ok(verdict) => tell_shown(&verdict, text)?,
         Err(fault) => write!(text, "{}", fault.number())?,
     }
     Ok(())

@@ -8,6 +8,7 @@ pub mod Families
 pub mod Ordered
 pub mod Histories
 pub mod Shown
+pub mod Leaders
 pub mod Decisions
 pub mod Cores
 pub mod Verdicts

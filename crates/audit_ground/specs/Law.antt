@@ -1,6 +1,6 @@
 -- What is known of judged replicas, and what follows for their fronts, their histories and an audit's
 -- verdict.
-use Rattle.std.specs.Prelude.{ℕ, suc, ◌≡◌, ◌<◌, ◌≤◌, ◌⊎◌, Bool, true, false, List, map, length, Some}
+use Rattle.std.specs.Prelude.{ℕ, suc, ◌≡◌, ◌<◌, ◌≤◌, ◌⊎◌, Bool, true, false, List, map, length, Some, ⊤}
 use Rattle.std.specs.List.{AllByRecursion}
 use Rattle.ids.specs.Sizes.{Sizes, replicas, quorum}
 use Rattle.definitions.specs.Bytes.{Bytes}
@@ -15,8 +15,8 @@ use Rattle.definitions.specs.Audit.{Member, Judged, is_judged, chronicle_of, Cut
 use Rattle.definitions.specs.Audit.{AreAllowed, counted_by, counted_for, step_after, has_vote, may_move}
 use Rattle.definitions.specs.Audit.{AreFronts, Reason, Verdict, IsUnbacked, Holds, HistoriesAgree}
 use Rattle.definitions.specs.Audit.{IsVerdict}
-use Rattle.definitions.specs.WindowAudit.{WindowVerdict.agree, WindowVerdict.fork, WindowsShow, Stands}
-use Rattle.definitions.specs.WindowAudit.{BlocksConflict}
+use Rattle.definitions.specs.WindowAudit.{WindowVerdict, WindowVerdict.agree, WindowVerdict.fork}
+use Rattle.definitions.specs.WindowAudit.{WindowVerdict.unmet, WindowsShow, Stands, BlocksConflict}
 
 -- ---- what judged replicas have kept
 
@@ -160,6 +160,18 @@ AgreeingWindowsAreRight =
 abbrev pub ForkingWindowsAreRight : Type 0
 ForkingWindowsAreRight =
     (ks : Judged) (a b : ℕ) → WindowsShow ks (fork a b) → Stands BlocksConflict ks a b
+
+-- the same verdict, and the same higher replica where two are named
+abbrev pub AreOneKind : WindowVerdict → WindowVerdict → Type 0
+AreOneKind agree agree = ⊤
+AreOneKind (fork a b) (fork c d) = b ≡ d
+AreOneKind (unmet a b) (unmet c d) = b ≡ d
+AreOneKind v w = ⊥
+
+-- windows show one verdict, but for the lower replica that is named
+abbrev pub WindowsShowOneVerdict : Type 0
+WindowsShowOneVerdict =
+    (ks : Judged) (v w : WindowVerdict) → WindowsShow ks v → WindowsShow ks w → AreOneKind v w
 
 -- judged replicas of four, each kept well
 pub record AreOfFour (sizes : Sizes) (judged : Judged) : Type 0 where

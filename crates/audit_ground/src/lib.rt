@@ -8,6 +8,7 @@ ghost use Rattle.audit_ground.specs.Law.{UnbackedVotesAreSeen, BackedChroniclesA
 ghost use Rattle.audit_ground.specs.Law.{BackedHistoriesAgree, OrderlyChroniclesAreBacked};
 ghost use Rattle.audit_ground.specs.Law.{EachForkHasAReason, EachAuditAnswers, SomeAgreement, SomeFork};
 ghost use Rattle.audit_ground.specs.Law.{SomeCircle, AgreeingWindowsAreRight, ForkingWindowsAreRight};
+ghost use Rattle.audit_ground.specs.Law.{WindowsShowOneVerdict};
 
 /// A lawful chronicle is kept well where each block is stored under its own digest, with a
 /// certificate of the block that it justifies.
@@ -64,6 +65,11 @@ pub fn agreeing_windows_are_right()
 /// Where windows show two blocks at one height, neither executed branch goes through the other's last block.
 pub fn forking_windows_are_right()
     ensures { ForkingWindowsAreRight }
+{}
+
+/// What windows show is one verdict, but for the lower replica that is named.
+pub fn windows_show_one_verdict()
+    ensures { WindowsShowOneVerdict }
 {}
 
 /// The premises can be met: three of four replicas are judged that executed something, and no vote
