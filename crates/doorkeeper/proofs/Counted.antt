@@ -1,0 +1,65 @@
+-- The counts of taken blocks, after one more and after some were forgotten.
+use Rattle.std.proofs.Common.{ℕ, ◌≡◌, ◌+◌, ◌<◌, List, ◌∷◌, cond, filter, IsTrue}
+use Rattle.std.proofs.Common.{Option, Some, None, refl, sym, ap, ◌∙◌, arith, ◌==◌, nat_eq, nat_le, get_or}
+use Rattle.std.proofs.lemmas.Bool.{cond_both, eqb-true, eq-eqb, ne_eqb, eqb-false, leb-true, leb-false}
+use Rattle.std.proofs.lemmas.Bool.{and_from, and_right}
+use Rattle.std.proofs.lemmas.Map.Entries.{lookup-filter-keys}
+use Rattle.std.specs.HashMap.{get, Updates}
+use Rattle.std.specs.Map.{lookup}
+use Rattle.doorkeeper.specs.declared.brought.Brought.{Brought}
+use Rattle.doorkeeper.specs.Doors.{brought, passes, remembered}
+use Rattle.doorkeeper.specs.Rows.{Rows, count_in, AreCounts}
+use Rattle.doorkeeper.proofs.Senders.{is_from, count-yes, count-no}
+use Rattle.doorkeeper.proofs.Remembering.{other-height, brought-remembered, brought-forgotten}
+use Rattle.doorkeeper.proofs.Remembering.{passed-remembered}
+
+-- one more of its sender, in the row of its height
+at-height : (sender : ℕ) (b : Brought) (taken : List Brought)
+    → brought b.height sender (b ∷ taken)
+    ≡ cond (sender == b.sender) (brought b.height sender taken + 1) (brought b.height sender taken)
+at-height sender b taken =
+    cond_both (sender == b.sender) (brought b.height sender taken + 1) (brought b.height sender taken)
+    (λ (k : ℕ). brought b.height sender (b ∷ taken) ≡ k)
+    (λ t. count-yes (is_from b.height sender) b taken (and_from (b.height == b.height) (b.sender == sender)
+    (eq-eqb b.height b.height refl) (eq-eqb b.sender sender (sym (eqb-true sender b.sender t))))
+    ∙ (omega arith))
+    (λ f. count-no (is_from b.height sender) b taken (and_right _ _ (ne_eqb b.sender sender
+    (λ e. eqb-false sender b.sender f (sym e)))))
+
+-- a block more, in the row of its height
+pub counted-more : (rows rows' : Rows) (taken : List Brought) (b : Brought) (row : List ℕ)
+    → AreCounts rows taken → b.sender < 13 → IsTrue (passes b taken)
+    → Updates nat_eq rows rows' b.height (Some row)
+    → ((other : ℕ) → other < 13 → get_or row other 0
+    ≡ cond (other == b.sender) (brought b.height other taken + 1) (brought b.height other taken))
+    → AreCounts rows' (b ∷ taken)
+counted-more rows rows' taken b row counts low pass put now = record {
+  right = λ height sender l. rw (put.0 height)
+      (cond_both (nat_eq b.height height) (Some row) (get nat_eq rows height)
+      (λ (o : Option (List ℕ)). count_in sender o ≡ brought height sender (b ∷ taken))
+      (λ t. now sender l
+      ∙ (sym (at-height sender b taken)
+      ∙ ap (λ (h : ℕ). brought h sender (b ∷ taken)) (eqb-true b.height height t)))
+      (λ f. counts.right height sender l
+      ∙ sym (other-height height sender b taken (eqb-false b.height height f))));
+  passed = (low, pass, counts.passed);
+}
+
+-- what is lower than the base was forgotten
+pub counted-forgotten : (rows rows' : Rows) (taken : List Brought) (base : ℕ)
+    → AreCounts rows taken → rows'.entries ≡ filter (λ e. nat_le base e.0) rows.entries
+    → AreCounts rows' (remembered base taken)
+counted-forgotten rows rows' taken base counts kept = record {
+  right = λ height sender l. rw (at height)
+      (cond_both (nat_le base height) (get nat_eq rows height) None
+      (λ (o : Option (List ℕ)). count_in sender o ≡ brought height sender (remembered base taken))
+      (λ t. counts.right height sender l
+      ∙ sym (brought-remembered base height sender taken (leb-true base height t)))
+      (λ f. sym (brought-forgotten base height sender taken (leb-false base height f))));
+  passed = passed-remembered 13 base taken counts.passed;
+}
+  where
+    at : (height : ℕ) → get nat_eq rows' height ≡ cond (nat_le base height) (get nat_eq rows height) None
+    at height = ap (λ (es : List (ℕ × List ℕ)). lookup (nat_eq height) es) kept
+        ∙ lookup-filter-keys (nat_eq height) (nat_le base) (nat_le base height)
+        (λ k t. ap (nat_le base) (sym (eqb-true height k t))) rows.entries

@@ -1,0 +1,96 @@
+-- What is remembered of taken blocks.
+use Rattle.std.proofs.Common.{ℕ, ◌≡◌, ◌+◌, ◌<◌, ◌≤◌, List, [], ◌∷◌, cond}
+use Rattle.std.proofs.Common.{refl, sym, ap, ◌∙◌, arith, nat_lt, nat_le}
+use Rattle.std.proofs.lemmas.Bool.{cond_both, leb-true, leb-false, le-leb, lt-leb}
+use Rattle.std.proofs.lemmas.Bool.{ne_eqb, and_left, cond-true, cond-false}
+use Rattle.doorkeeper.specs.declared.brought.Brought.{Brought}
+use Rattle.doorkeeper.specs.Doors.{brought, remembered, PassedAll}
+use Rattle.doorkeeper.proofs.Senders.{is_from, count-cons, count-no}
+
+-- a block of another height counts for none of this one
+pub other-height : (height sender : ℕ) (b : Brought) (taken : List Brought) → (b.height ≡ height → ⊥)
+    → brought height sender (b ∷ taken) ≡ brought height sender taken
+other-height height sender b taken d =
+    count-no (is_from height sender) b taken (and_left _ _ (ne_eqb b.height height d))
+
+-- of a height that is remembered, all count
+pub brought-remembered : (base height sender : ℕ) (taken : List Brought) → base ≤ height
+    → brought height sender (remembered base taken) ≡ brought height sender taken
+brought-remembered base height sender [] l = refl
+brought-remembered base height sender (b ∷ taken) l =
+    let rest : brought height sender (remembered base taken) ≡ brought height sender taken =
+    brought-remembered base height sender taken l in
+    cond_both (nat_le base b.height) (b ∷ remembered base taken) (remembered base taken)
+    (λ (xs : List Brought). brought height sender xs ≡ brought height sender (b ∷ taken))
+    (λ t. count-cons (is_from height sender) b (remembered base taken)
+    ∙ (ap (λ (k : ℕ). cond (is_from height sender b) 1 0 + k) rest
+    ∙ sym (count-cons (is_from height sender) b taken)))
+    (λ f. rest ∙ sym (other-height height sender b taken (lower (leb-false base b.height f))))
+  where
+    lower : b.height < base → b.height ≡ height → ⊥
+    lower k e = omega arith
+
+-- of a lower one none do
+pub brought-forgotten : (base height sender : ℕ) (taken : List Brought) → height < base
+    → brought height sender (remembered base taken) ≡ 0
+brought-forgotten base height sender [] l = refl
+brought-forgotten base height sender (b ∷ taken) l =
+    let rest : brought height sender (remembered base taken) ≡ 0 =
+    brought-forgotten base height sender taken l in
+    cond_both (nat_le base b.height) (b ∷ remembered base taken) (remembered base taken)
+    (λ (xs : List Brought). brought height sender xs ≡ 0)
+    (λ t. other-height height sender b (remembered base taken) (higher (leb-true base b.height t)) ∙ rest)
+    (λ f. rest)
+  where
+    higher : base ≤ b.height → b.height ≡ height → ⊥
+    higher k e = omega arith
+
+-- what passed still did where some are forgotten
+pub passed-remembered : (n base : ℕ) (taken : List Brought) → PassedAll n taken
+    → PassedAll n (remembered base taken)
+passed-remembered n base [] p = p
+passed-remembered n base (b ∷ taken) p =
+    let rest : PassedAll n (remembered base taken) =
+    passed-remembered n base taken p.2 in
+    cond_both (nat_le base b.height) (b ∷ remembered base taken) (remembered base taken) (PassedAll n)
+    (λ t. (
+      p.0,
+      ap (λ (k : ℕ). nat_lt k 4)
+          (brought-remembered base b.height b.sender taken (leb-true base b.height t)) ∙ p.1,
+      rest,
+    ))
+    (λ _. rest)
+
+-- to forget more
+pub remembered-again : (base before : ℕ) (taken : List Brought) → before ≤ base
+    → remembered base (remembered before taken) ≡ remembered base taken
+remembered-again base before [] l = refl
+remembered-again base before (b ∷ taken) l =
+    let rest : remembered base (remembered before taken) ≡ remembered base taken =
+    remembered-again base before taken l in
+    cond_both (nat_le before b.height) (b ∷ remembered before taken) (remembered before taken)
+    (λ (xs : List Brought). remembered base xs ≡ remembered base (b ∷ taken))
+    (λ t. ap (λ (xs : List Brought). cond (nat_le base b.height) (b ∷ xs) xs) rest)
+    (λ f. rest
+    ∙ sym (cond-false (nat_le base b.height) (b ∷ remembered base taken) (remembered base taken)
+    (lt-leb base b.height (lower (leb-false before b.height f)))))
+  where
+    lower : b.height < before → b.height < base
+    lower k = omega arith
+
+-- what is lower than all that is remembered takes nothing away
+pub remembered-same : (base before : ℕ) (taken : List Brought) → base ≤ before
+    → remembered base (remembered before taken) ≡ remembered before taken
+remembered-same base before [] l = refl
+remembered-same base before (b ∷ taken) l =
+    let rest : remembered base (remembered before taken) ≡ remembered before taken =
+    remembered-same base before taken l in
+    cond_both (nat_le before b.height) (b ∷ remembered before taken) (remembered before taken)
+    (λ (xs : List Brought). remembered base xs ≡ xs)
+    (λ t. cond-true (nat_le base b.height) (b ∷ remembered base (remembered before taken))
+    (remembered base (remembered before taken)) (le-leb base b.height (higher (leb-true before b.height t)))
+    ∙ ap (λ (xs : List Brought). b ∷ xs) rest)
+    (λ f. rest)
+  where
+    higher : before ≤ b.height → base ≤ b.height
+    higher k = omega arith

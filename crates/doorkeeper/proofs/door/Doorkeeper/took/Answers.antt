@@ -1,0 +1,37 @@
+use Rattle.std.proofs.Common.{ℕ, ◌≡◌, ◌≤◌, ◌+◌, ◌∙◌, sym, ap, subst, arith, ◌∷◌, IsTrue, cond, ◌==◌, nat_eq, nat_le}
+use Rattle.std.proofs.lemmas.Bool.{ltb-true, le-leb, cond-true}
+use Rattle.std.proofs.Common.{Some}
+use Rattle.std.specs.HashMap.{Updates}
+use Rattle.doorkeeper.specs.declared.brought.Brought.{Brought}
+use Rattle.doorkeeper.specs.Doors.{DoorState, brought, passes, remembered}
+use Rattle.doorkeeper.specs.Rows.{AreCounts}
+use Rattle.doorkeeper.proofs.Counted.{counted-more}
+use Rattle.doorkeeper.proofs.door.Doorkeeper.took.Goals as goal
+
+pub add_one-requires-clause-few : goal.add_one-requires-clause-few
+add_one-requires-clause-few c =
+    omega (arith, c.row-row.ensures c.args.block.now.sender c.requires.sender, ltb-true _ _ c.requires.passes)
+
+pub invariant_of-self : goal.invariant_of-self
+invariant_of-self c =
+    let base = c.self.inside.base in
+    let b : Brought = c.args.block.now in
+    let own : c.self-inside.inside.0.0.0 ≡ c.self.inside.base = ap (λ k. k.base) c.self-inside.view_is in
+    let high : c.self.inside.base ≤ c.args.block.now.height =
+    omega (arith, own, c.height.view_is, c.if-height-self.false) in
+    let grown : remembered base c.with-self-inside.result.items ≡ b ∷ remembered base c.self.inside.all.items =
+    ap (remembered base) c.with-self-inside.ensures
+    ∙ cond-true (nat_le base c.args.block.now.height) (b ∷ remembered base c.self.inside.all.items)
+    (remembered base c.self.inside.all.items) (le-leb base c.args.block.now.height high) in
+    let passed : IsTrue (passes b (remembered base c.self.inside.all.items)) =
+    subst (λ (d : DoorState). IsTrue (passes b d.taken)) (sym c.self.view_is) c.requires.passes
+    in
+    subst (AreCounts c.insert-inserted.new.self) (sym grown)
+    (counted-more c.self.inside.rows c.insert-inserted.new.self (remembered base c.self.inside.all.items) b
+    c.add_one.new.self c.self.invariant c.requires.sender passed
+    (subst (λ (h : ℕ). Updates nat_eq c.self.inside.rows c.insert-inserted.new.self h (Some c.add_one.new.self))
+    c.height-2.view_is (rw c.unwrap-before.ensures at c.insert-inserted.ensures.updates))
+    (λ other l. c.add_one.ensures other
+    ∙ ap (λ (k : ℕ). cond (other == c.args.block.now.sender) (k + 1) k)
+    (c.row-row.ensures other l
+    ∙ sym (ap (λ (d : DoorState). brought b.height other d.taken) c.self.view_is))))

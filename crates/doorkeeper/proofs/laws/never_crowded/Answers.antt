@@ -1,0 +1,5 @@
+use Rattle.doorkeeper.proofs.Senders.{never-crowded}
+use Rattle.doorkeeper.proofs.laws.never_crowded.Goals as goal
+
+pub returns : goal.returns
+returns c = never-crowded

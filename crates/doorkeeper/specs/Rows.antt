@@ -1,0 +1,24 @@
+-- The counts that a doorkeeper keeps.
+use Rattle.std.specs.Prelude.{ℕ, ◌≡◌, ◌<◌, List, Option, Some, None, get_or}
+use Rattle.std.specs.Prelude.{nat_eq}
+use Rattle.std.specs.declared.hash.FoldHasher.{FoldHasher}
+use Rattle.std.specs.declared.hash.BuildHasherDefault.{BuildHasherDefault}
+use Rattle.std.specs.HashMap.{get, HashMap}
+use Rattle.ids.specs.declared.limits.TheConstants.{MOST_REPLICAS}
+use Rattle.doorkeeper.specs.declared.brought.Brought.{Brought}
+use Rattle.doorkeeper.specs.Doors.{brought, PassedAll}
+
+-- a row of counts for each height of which there is one
+abbrev pub Rows : Type 0
+Rows = HashMap ℕ (List ℕ) (BuildHasherDefault FoldHasher)
+
+-- the count of a sender in a row, if there is one
+abbrev pub count_in : ℕ → Option (List ℕ) → ℕ
+count_in sender None = 0
+count_in sender (Some row) = get_or row sender 0
+
+-- The rows count the blocks that were taken, and each of these passed.
+pub record AreCounts (rows : Rows) (taken : List Brought) : Type 0 where
+  pub right : (height sender : ℕ) → sender < MOST_REPLICAS
+      → count_in sender (get nat_eq rows height) ≡ brought height sender taken
+  pub passed : PassedAll MOST_REPLICAS taken

@@ -1,0 +1,53 @@
+//! Who brings which block.
+
+ghost use Rattle.std.specs.Prelude.{◌≡◌, ◌<◌, IfSome};
+ghost use Rattle.admission.specs.Inputs.{input_of};
+
+use admission::Input;
+use ghost_list::Tells;
+use ids::{Config, Height, MOST_REPLICAS, ReplicaId};
+
+/// The most blocks of one height that are let in from one sender. In all runs that were tried a correct
+/// one brought three at most.
+pub const MOST_OF_SENDER: usize = 4;
+
+/// A block that comes to a replica, by its height, and who brings it: the leader of a proposal's view, or
+/// the sender of a Block frame.
+#[derive(Clone, Copy, Debug, PartialEq, Eq)]
+pub struct Brought {
+    pub height: Height,
+    pub sender: ReplicaId,
+}
+
+impl Tells<Brought> for Brought {
+    ghost tells = { λ b. b };
+}
+
+ghost use Rattle.doorkeeper.specs.Doors.{brings};
+
+/// The block that an input brings, if it brings one.
+pub fn brings(config: &Config, input: &Input<'_>) -> Option<Brought>
+    ensures brings { result ≡ brings config.now (input_of input.now) }
+    ensures sender { IfSome result (λ b. b.sender < MOST_REPLICAS) }
+{
+    // There are at most 13.
+    let _replicas = config.n();
+    match input {
+        Input::Proposal(proposal) => {
+            let view = proposal.view();
+            Some(Brought {
+                height: view.core().height(),
+                sender: config.leader(view.view()),
+            })
+        }
+        Input::Block(block) => {
+            let _replicas = block.config().n();
+            let view = block.view();
+            Some(Brought {
+                height: view.core().height(),
+                sender: view.sender(),
+            })
+        }
+        _ => None,
+    }
+}

@@ -1,0 +1,145 @@
+//! The doorkeeper.
+
+ghost use Rattle.std.specs.Prelude.{◌≡◌, ◌⊎◌, ◌<◌, ◌≤◌, [], IsTrue, IfOk, OnOk, OnErr, max, nat_le, get_or, ℕ};
+ghost use Rattle.std.specs.Bool.{OnTrue, OnFalse};
+ghost use Rattle.ids.specs.declared.limits.TheConstants.{MOST_OF_HEIGHT};
+ghost use Rattle.doorkeeper.specs.Doors.{brought, of_height, passes, remembered, with_block};
+
+use crate::brought::{Brought, MOST_OF_SENDER};
+use crate::row::Row;
+use ghost_list::GhostList;
+use ids::{Fault, Height, MOST_REPLICAS};
+use std::alloc::Global;
+use std::collections::HashMap;
+use std::marker::Model;
+
+/// Who brought which blocks that a replica took, and so who may bring more.
+///
+/// Before a step that may take a block, `let_in` says whether the block passes, and takes the memory to
+/// count it. Where the replica took it, `took` counts it. `forget_below` follows a pruning.
+#[derive(Drop)]
+pub struct Doorkeeper {
+    /// Of lower heights nothing is known.
+    base: Height,
+    rows: HashMap<u64, Row>,
+    /// Every block that was counted, newest first.
+    all: GhostList<Brought>,
+}
+
+impl Model for Doorkeeper {
+    ghost use Rattle.std.specs.HashMap.{spare};
+    ghost use Rattle.doorkeeper.specs.Doors.{DoorState, remembered};
+
+    ghost Value = { DoorState };
+
+    ghost use Rattle.doorkeeper.specs.Rows.{AreCounts};
+
+    ghost view = { λ d. record {
+      base = d.base;
+      taken = remembered d.base d.all.items;
+      room = spare d.rows;
+    } };
+
+    ghost invariant = { λ d. AreCounts d.rows (remembered d.base d.all.items) };
+}
+
+impl Doorkeeper {
+    /// Nobody has brought anything. It takes no memory.
+    pub fn new(alloc: Global) -> Doorkeeper
+        ensures base { result.base ≡ 0 }
+        ensures taken { result.taken ≡ [] }
+    {
+        Doorkeeper {
+            base: Height(0),
+            rows: HashMap::new(alloc),
+            all: GhostList::new(),
+        }
+    }
+
+    /// The counts of a height.
+    fn row(&self, height: Height) -> Row
+        ensures { (sender : ℕ) → sender < MOST_REPLICAS
+            → get_or result sender 0 ≡ brought height sender self.now.taken }
+    {
+        match self.rows.get(&height.0) {
+            Some(row) => *row,
+            None => Row::new(),
+        }
+    }
+
+    /// Whether a block passes: its sender has brought fewer than four of its height.
+    pub fn passes(&self, block: &Brought) -> bool
+        requires { block.now.sender < MOST_REPLICAS }
+        ensures { result ≡ passes block.now self.now.taken }
+    {
+        usize::from(self.row(block.height).of(block.sender)) < MOST_OF_SENDER
+    }
+
+    /// Lets a block come to the replica, and takes the memory to count it.
+    ///
+    /// `Crowded` comes first, where the block doesn't pass; then `Memory`.
+    pub fn let_in(&mut self, block: &Brought) -> Result<(), Fault>
+        requires { block.now.sender < MOST_REPLICAS }
+        ensures passes { OnOk result (IsTrue (passes block.now self.new.taken)) }
+        ensures room { OnOk result (0 < self.new.room) }
+        ensures crowded { OnFalse (passes block.now self.old.taken) (result ≡ Err Fault.Crowded) }
+        ensures memory { OnTrue (passes block.now self.old.taken) (OnErr result (result ≡ Err Fault.Memory)) }
+        ensures base { self.new.base ≡ self.old.base }
+        ensures taken { self.new.taken ≡ self.old.taken }
+    {
+        if !self.passes(block) {
+            return Err(Fault::Crowded);
+        }
+        self.rows.reserve(1)?;
+        Ok(())
+    }
+
+    /// Counts a block that passed, and that the replica took.
+    pub fn took(&mut self, block: &Brought)
+        requires sender { block.now.sender < MOST_REPLICAS }
+        requires passes { IsTrue (passes block.now self.old.taken) }
+        requires room { 0 < self.old.room }
+        ensures base { self.new.base ≡ self.old.base }
+        ensures taken { self.new.taken ≡ with_block self.old.base block.now self.old.taken }
+    {
+        let (height, sender) = (block.height, block.sender);
+        if height.0 < self.base.0 {
+            return;
+        }
+        let mut row = self.row(height);
+        row.add_one(sender);
+        // There is room for it.
+        let inserted: Result<_, _> = self.rows.insert(height.0, row);
+        let _before = inserted.unwrap();
+        self.all = self.all.with(block);
+    }
+
+    /// Forgets the blocks below a height, and gives their memory back. A lower height than before changes
+    /// nothing.
+    pub fn forget_below(&mut self, base: Height)
+        ensures base { self.new.base ≡ max base self.old.base }
+        ensures taken { self.new.taken ≡ remembered base self.old.taken }
+    {
+        if base.0 <= self.base.0 {
+            return;
+        }
+        self.base = base;
+        let lowest = base.0;
+        self.rows.retain(
+            |height: &u64, row: &mut Row| -> bool
+                ensures { (result ≡ nat_le lowest height.now) × (row.new ≡ row.old) }
+            {
+                let _counts = row;
+                *height >= lowest
+            },
+        );
+    }
+
+    /// Says that no height is crowded, and does nothing else: whoever lies, fewer blocks of it were
+    /// counted than a tree takes.
+    pub fn holds(&self)
+        ensures { (height : ℕ) → of_height height self.now.taken < MOST_OF_HEIGHT }
+    {
+        let _base = self.base;
+    }
+}

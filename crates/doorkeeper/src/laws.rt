@@ -1,0 +1,23 @@
+//! What the rule is for. Each law stands as the contract of a function with an empty body.
+
+ghost use Rattle.doorkeeper.specs.Doors.{FewPass, OthersDontCount, FewOfHeight, NeverCrowded};
+
+/// A sender that brought at most three blocks of a height may bring one more.
+pub fn few_pass()
+    ensures { FewPass }
+{}
+
+/// What a sender brings changes nothing for the others.
+pub fn others_do_not_count()
+    ensures { OthersDontCount }
+{}
+
+/// Of one height n replicas bring at most 4 n blocks.
+pub fn few_of_a_height()
+    ensures { FewOfHeight }
+{}
+
+/// No height is crowded, whoever lies: 13 replicas bring at most 52 blocks of it, and a tree takes 64.
+pub fn never_crowded()
+    ensures { NeverCrowded }
+{}

@@ -1,0 +1,12 @@
+//! Who comes in to a replica: of each height few blocks from each sender, so that a faulty replica
+//! can't fill a height, and end the service.
+#![tactic(auto)]
+
+mod brought;
+mod door;
+mod laws;
+mod row;
+
+pub use brought::{Brought, MOST_OF_SENDER, brings};
+pub use door::Doorkeeper;
+pub use laws::{few_of_a_height, few_pass, never_crowded, others_do_not_count};
