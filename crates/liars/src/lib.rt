@@ -2,6 +2,7 @@
 //! demonstrations and tests.
 #![tactic(auto)]
 
+mod crowd;
 mod lying;
 
 pub use lying::{Liar, lie};

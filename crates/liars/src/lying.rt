@@ -8,8 +8,9 @@ ghost use Rattle.definitions.specs.Checks.{identity_of};
 ghost use Rattle.definitions.specs.Sendings.{reply_to};
 ghost use Rattle.frames_view.specs.Views.{reply_of, proposal_of, core_of, certificate_of};
 ghost use Rattle.signed_frames.specs.Outs.{sent_of};
-ghost use Rattle.liars.specs.Lies.{IsLie, IsTold, bad_reply, empty_proposal, faces, two_faced};
+ghost use Rattle.liars.specs.Lies.{IsLie, IsTold, bad_reply, crowded, empty_proposal, faces, two_faced};
 
+use crate::crowd::crowd;
 use authenticators::Keyring;
 use frame_writers::{ReplyText, write_core};
 use frames_view::{Frame, ProposalView, ReplyView, read};
@@ -30,6 +31,9 @@ pub enum Liar {
     TwoFaced,
     /// It tells each client `EXISTS`.
     BadReply,
+    /// As a leader it sends all replicas, behind each proposal, 64 different blocks of the next height, on
+    /// the proposed one: as many as a tree takes. Each has one command that nobody sent.
+    Crowder,
 }
 
 /// What goes out where a replica of this keyring wants to send a frame.
@@ -49,6 +53,7 @@ pub fn lie(
         Liar::Mute => Ok(Vec::new(alloc)),
         Liar::TwoFaced => with_two_faces(alloc, keyring, sending),
         Liar::BadReply => with_bad_reply(alloc, keyring, sending),
+        Liar::Crowder => with_crowd(alloc, keyring, sending),
     }
 }
 
@@ -91,6 +96,23 @@ fn with_bad_reply(alloc: Global, keyring: &Keyring, sending: Sending) -> Result<
             let frame = bad_reply(alloc, keyring, &view)?;
             let (to, kind) = (sending.to, Kind::Reply);
             one(alloc, Sending { to, kind, frame })
+        }
+        _ => one(alloc, sending),
+    }
+}
+
+/// What a crowder sends.
+fn with_crowd(alloc: Global, keyring: &Keyring, sending: Sending) -> Result<Vec<Sending>, Fault>
+    requires { keyring.now.party < replicas keyring.now.sizes }
+    ensures lies { IfOk result (λ out. IsTold (crowded keyring.now) keyring.now.sizes (sent_of sending)
+        (map sent_of out.items)) }
+    ensures memory { OnErr result (result ≡ Err Fault.Memory) }
+{
+    match read(&keyring.config(), &sending.frame) {
+        Ok(Frame::Proposal(view)) => {
+            let mut out = crowd(alloc, keyring, &view)?;
+            out.insert(0, sending)?;
+            Ok(out)
         }
         _ => one(alloc, sending),
     }
