@@ -6,6 +6,7 @@ mod bounded;
 mod crew;
 mod desk;
 mod ending;
+mod guarded;
 mod link;
 mod lying;
 mod roll;

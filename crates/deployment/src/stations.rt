@@ -9,16 +9,18 @@ ghost use Rattle.marks.specs.Eyes.{first_eye};
 
 use crate::bounded::{Bounded, stopped};
 use crate::crew::{Crew, Worker};
+use crate::guarded::Guarded;
 use crate::lying::{LyingOut, Tongue};
 use crate::terms::Terms;
 use crate::watching::Progress;
 use clock::{Pulse, Watched, keep_time};
 use crossbeam_channel::Receiver;
+use doorkeeper::Doorkeeper;
 use fabric::{Links, Parcel, Post, WaitingRoom};
 use ids::{Fault, ReplicaId};
 use key_file::PairKeys;
 use liars::Liar;
-use locked_replica::{Kept, Locked};
+use locked_replica::Kept;
 use marks::{Eye, Marks};
 use replica::Archived;
 use std::alloc::Global;
@@ -27,11 +29,11 @@ use std::sync::{Mutex, Wait};
 use std::time::Clock;
 use turns::Open;
 
-/// A replica under its lock, and where what is for it comes out.
+/// A replica under its lock, behind its doorkeeper, and where what is for it comes out.
 #[derive(Drop)]
 pub(crate) struct Station<'a> {
     number: ReplicaId,
-    locked: Locked<'a>,
+    locked: Mutex<Guarded<'a>>,
     /// At how many blocks it stops.
     most_blocks: usize,
     /// How many heights it keeps, if it is to forget others.
@@ -48,13 +50,14 @@ impl<'a> Station<'a> {
 
     /// The replica, out of its lock.
     pub(crate) fn into_kept(self) -> Kept<'a> {
-        self.locked.into_inner()
+        let Guarded { kept, door: _ } = self.locked.into_inner();
+        kept
     }
 
     /// How far the replica is.
     pub(crate) fn progress<R: Wait>(&self, rt: &R) -> Progress {
-        let kept = self.locked.lock(rt);
-        let replica = kept.replica().replica();
+        let guarded = self.locked.lock(rt);
+        let replica = guarded.replica();
         Progress {
             executed: replica.executed() as u64,
             height: replica.height(),
@@ -67,8 +70,8 @@ impl<'a> Station<'a> {
 
 impl<'a> Watched for Station<'a> {
     fn pulse<R: Wait>(&self, rt: &R) -> Pulse {
-        let kept = self.locked.lock(rt);
-        let replica = kept.replica().replica();
+        let guarded = self.locked.lock(rt);
+        let replica = guarded.replica();
         Pulse {
             wants_beat: replica.wants_beat(),
             wants_beat_now: replica.wants_beat_now(),
@@ -77,7 +80,7 @@ impl<'a> Watched for Station<'a> {
             executed: replica.executed() as u64,
             height: replica.height(),
             horizon: replica.horizon(),
-            stopped: stopped(&kept, self.most_blocks),
+            stopped: stopped(replica, self.most_blocks),
         }
     }
 }
@@ -229,7 +232,10 @@ fn build_station<'a>(
     let crew = hire_crew(alloc, keys, &mut kept, number, terms.liar_of(number))?;
     let station = Station {
         number,
-        locked: Mutex::new(kept),
+        locked: Mutex::new(Guarded {
+            kept,
+            door: Doorkeeper::new(alloc),
+        }),
         most_blocks: terms.most_blocks(),
         window: terms.window,
         parcels,
