@@ -1,3 +1,4 @@
 pub mod Counted
+pub mod Crowds
 pub mod Remembering
 pub mod Senders

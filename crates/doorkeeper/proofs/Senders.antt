@@ -11,9 +11,9 @@ use Rattle.doorkeeper.specs.Doors.{FewOfHeight, NeverCrowded}
 
 -- ---- counting
 
-pub count-cons : (p : Brought → Bool) (b : Brought) (taken : List Brought)
-    → count_by p (b ∷ taken) ≡ cond (p b) 1 0 + count_by p taken
-count-cons p b taken = sum_by-cons (λ (x : Brought). cond (p x) 1 0) b taken
+pub count-cons : {A : Type 0} (p : A → Bool) (x : A) (xs : List A)
+    → count_by p (x ∷ xs) ≡ cond (p x) 1 0 + count_by p xs
+count-cons {A} p x xs = sum_by-cons (λ (y : A). cond (p y) 1 0) x xs
 
 pub count-yes : (p : Brought → Bool) (b : Brought) (taken : List Brought) → p b ≡ true
     → count_by p (b ∷ taken) ≡ 1 + count_by p taken

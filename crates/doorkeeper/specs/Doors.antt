@@ -1,10 +1,14 @@
 -- Which blocks a doorkeeper lets in to its replica. This is the project's own rule of the running server. No
 -- theorem rests on it: what it keeps out is lost, as on any network.
 use Rattle.std.specs.Prelude.{ℕ, ◌≡◌, ◌==◌, ◌*◌, ◌<◌, ◌≤◌, ◌&&◌, Bool, IsTrue, List, [], ◌∷◌, count_by, filter}
+use Rattle.std.specs.Prelude.{length, map}
 use Rattle.std.specs.Prelude.{nat_lt, nat_le, if◌then◌else◌, Option, Some, None, ⊤}
 use Rattle.ids.specs.Sizes.{Sizes, leader}
 use Rattle.ids.specs.declared.limits.TheConstants.{MOST_OF_HEIGHT, MOST_REPLICAS}
-use Rattle.definitions.specs.Rulings.{Input, Input.proposal_in, Input.block_in}
+use Rattle.ids.specs.declared.fault.Fault.TheVariants as fault
+use Rattle.definitions.specs.Checks.{Identity}
+use Rattle.definitions.specs.Chronicles.{Chronicle, taken_blocks}
+use Rattle.definitions.specs.Rulings.{Input, Input.proposal_in, Input.block_in, Ruling.refusing, ruling}
 use Rattle.doorkeeper.specs.declared.brought.Brought.{Brought}
 use Rattle.doorkeeper.specs.declared.brought.TheConstants.{MOST_OF_SENDER}
 
@@ -67,3 +71,13 @@ FewOfHeight = (n height : ℕ) (taken : List Brought) → PassedAll n taken
 abbrev pub NeverCrowded : Type 0
 NeverCrowded = (height : ℕ) (taken : List Brought) → PassedAll MOST_REPLICAS taken
     → of_height height taken < MOST_OF_HEIGHT
+
+-- these are the blocks that a replica took: each with its height
+abbrev pub AreTakenIn : Chronicle → List Brought → Type 0
+AreTakenIn c taken = map (λ b. b.height) taken ≡ map (λ a. length a.branch) (taken_blocks c)
+
+-- A replica each of whose taken blocks passed when it came refuses no input because a height has as many
+-- blocks as it may have.
+abbrev pub NoneCrowdedOut : Type 0
+NoneCrowdedOut = (self : Identity) (i : Input) (c : Chronicle) (taken : List Brought)
+    → PassedAll MOST_REPLICAS taken → AreTakenIn c taken → ruling self i c ≡ refusing fault.Crowded → ⊥

@@ -1,6 +1,7 @@
 //! What the rule is for. Each law stands as the contract of a function with an empty body.
 
 ghost use Rattle.doorkeeper.specs.Doors.{FewPass, OthersDontCount, FewOfHeight, NeverCrowded};
+ghost use Rattle.doorkeeper.specs.Doors.{NoneCrowdedOut};
 
 /// A sender that brought at most three blocks of a height may bring one more.
 pub fn few_pass()
@@ -20,4 +21,9 @@ pub fn few_of_a_height()
 /// No height is crowded, whoever lies: 13 replicas bring at most 52 blocks of it, and a tree takes 64.
 pub fn never_crowded()
     ensures { NeverCrowded }
+{}
+
+/// A replica behind a doorkeeper never refuses an input because its height is crowded, whoever lies.
+pub fn none_crowded_out()
+    ensures { NoneCrowdedOut }
 {}

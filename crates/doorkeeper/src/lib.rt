@@ -9,4 +9,4 @@ mod row;
 
 pub use brought::{Brought, MOST_OF_SENDER, brings};
 pub use door::Doorkeeper;
-pub use laws::{few_of_a_height, few_pass, never_crowded, others_do_not_count};
+pub use laws::{few_of_a_height, few_pass, never_crowded, none_crowded_out, others_do_not_count};
