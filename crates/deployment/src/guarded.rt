@@ -1,7 +1,10 @@
 //! A replica and its doorkeeper.
 
-ghost use Rattle.std.specs.Prelude.{◌≡◌, ◌<◌, ◌⊎◌, Err};
+ghost use Rattle.std.specs.Prelude.{◌≡◌, ◌-◌, ◌<◌, ◌⊎◌, Err, length, nat_lt, if◌then◌else◌};
+ghost use Rattle.std.specs.Bool.{OnFalse};
 ghost use Rattle.ids.specs.declared.fault.Fault.TheVariants.{Crowded, Memory};
+ghost use Rattle.definitions.specs.Chronicles.{horizon, window};
+ghost use Rattle.doorkeeper.specs.Doors.{passes, remembered, with_block};
 ghost use Rattle.locked_replica.specs.Stepping.{SomeStep};
 ghost use Rattle.turns.specs.Shares.{Counts};
 
@@ -21,17 +24,26 @@ pub(crate) struct Guarded<'a> {
 
 impl<'a> Guarded<'a> {
     /// The replica.
-    pub(crate) fn replica(&self) -> &Replica {
+    pub(crate) fn replica(&self) -> &Replica
+        ensures { result.now ≡ record { keys = self.now.kept.keys; replica = self.now.kept.replica } }
+    {
         self.kept.replica().replica()
     }
 
-    /// A step with a block, where the doorkeeper lets it in. It is counted where the replica took it, which
-    /// then holds one block more.
+    /// A step with a block, where the doorkeeper lets it in. It is counted where the replica took it: then
+    /// more blocks stand in its window.
     fn take(&mut self, share: &mut Share, input: Input<'_>, block: &Brought) -> Result<Out, Fault>
         requires { block.now.sender < MOST_REPLICAS }
         ensures stepped { SomeStep share.old input.entry result share.new
             ⊎ ((result ≡ Err Crowded) ⊎ (result ≡ Err Memory)) × (share.new ≡ share.old) }
         ensures counts { Counts share.old result share.new }
+        ensures kept_out { OnFalse (passes block.now self.old.door.taken)
+            ((result ≡ Err Crowded) × (self.new.kept ≡ self.old.kept)) }
+        ensures counted { self.new.door.taken
+            ≡ (if nat_lt (length (window self.old.kept.replica.chronicle))
+            (length (window self.new.kept.replica.chronicle))
+            then with_block self.old.door.base block.now self.old.door.taken
+            else self.old.door.taken) }
     {
         self.door.let_in(block)?;
         let before = self.replica().blocks();
@@ -46,6 +58,8 @@ impl<'a> Guarded<'a> {
     fn note(&mut self, share: &mut Share, input: Input<'_>) -> Result<Out, Fault>
         ensures stepped { SomeStep share.old input.entry result share.new }
         ensures counts { Counts share.old result share.new }
+        ensures forgotten { self.new.door.taken
+            ≡ remembered (horizon self.new.kept.replica.chronicle - 2) self.old.door.taken }
     {
         let answer = UnderLock::step(&mut self.kept, share, input);
         let horizon = self.replica().horizon();

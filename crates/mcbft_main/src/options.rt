@@ -19,7 +19,7 @@ and in another terminal:
   printf 'set a 0 0 1\\r\\nx\\r\\nget a\\r\\nquit\\r\\n' | nc 127.0.0.1 11211";
 
 /// The names of the lies.
-const LIARS: [&str; 3] = ["mute", "two-faced", "bad-reply"];
+const LIARS: [&str; 4] = ["mute", "two-faced", "bad-reply", "crowder"];
 
 /// What the words of a command line say.
 pub(crate) fn matches_of(alloc: Global, words: &[String]) -> Result<ArgMatches<'_>, Error> {
@@ -172,6 +172,7 @@ fn liar_of(name: &str) -> Option<Liar> {
         "mute" => Some(Liar::Mute),
         "two-faced" => Some(Liar::TwoFaced),
         "bad-reply" => Some(Liar::BadReply),
+        "crowder" => Some(Liar::Crowder),
         _ => None,
     }
 }

@@ -100,6 +100,7 @@ fn main(rt: HostRuntime) -> Result<()> {
         (Some(Liar::Mute), None),
         (Some(Liar::TwoFaced), None),
         (Some(Liar::BadReply), None),
+        (Some(Liar::Crowder), None),
         (None, Some(4)),
     ] {
         match window {
