@@ -1,7 +1,7 @@
 -- The chronicle of a replica: the steps that stand, newest first. Here is what it says of blocks: votes,
 -- lock, decisions, and its law (HotStuff, PODC 2019, the safety rules, with this project's clear blocks).
 use Rattle.ids.specs.declared.limits.TheConstants.{MOST_BLOCKS, HEIGHT_LIMIT}
-use Rattle.std.specs.Prelude.{ℕ, suc, ◌≡◌, ◌<◌, ◌≤◌, ◌==◌, ◌⊎◌, ◌&&◌, ◌||◌, not, Bool, true, List, []}
+use Rattle.std.specs.Prelude.{ℕ, suc, ◌≡◌, ◌<◌, ◌≤◌, ◌==◌, ◌⊎◌, ◌&&◌, ◌||◌, not, Bool, true, false, List, []}
 use Rattle.std.specs.Prelude.{◌∷◌, ◌++◌, map, length, if◌then◌else◌, nat_lt, max, min, Option, ⊤}
 use Rattle.std.specs.List.{AllByRecursion}
 use Rattle.definitions.specs.Lists.{Among, AreDistinct, greatest}
@@ -107,6 +107,12 @@ unfoldable pub horizon : Chronicle → ℕ
 horizon [] = 0
 horizon (noted (pruned height) ∷ earlier) = max (min height (length (executed earlier))) (horizon earlier)
 horizon (s ∷ earlier) = horizon earlier
+
+-- it was given leave to prune
+unfoldable pub was_pruned : Chronicle → Bool
+was_pruned [] = false
+was_pruned (noted (pruned height) ∷ earlier) = true
+was_pruned (s ∷ earlier) = was_pruned earlier
 
 -- what still stands in the tree
 unfoldable pub standing_blocks : Chronicle → List Stored

@@ -159,7 +159,7 @@ sends-reply self st c n o (its_proposal j l e) r cl s p x t h =
     absurd (let k : proposal_frame self (view self.sizes c) j ≡ frame.reply r cl s p x t = h in cc)
 
 -- what a member holds grows with each outcome
-held-running : (o : Replica) → o.standing ≡ running → held_history o ≡ history o.chronicle
+pub held-running : (o : Replica) → o.standing ≡ running → held_history o ≡ history o.chronicle
 unfolding held_history
 held-running o u = ap (λ (s : Standing). elim s as (λ x. History) [
   | running ↦ history o.chronicle

@@ -14,7 +14,7 @@ use Rattle.definitions.specs.Checks.{identity_of}
 use Rattle.definitions.specs.Trees.{blocks, find_in}
 use Rattle.definitions.specs.Chronicles.{window}
 use Rattle.definitions.specs.Chronicles.{Note, Step.noted, Note.got_new_view, Note.timed_out, Chronicle}
-use Rattle.definitions.specs.Chronicles.{standing_blocks, tree, IsSound}
+use Rattle.definitions.specs.Chronicles.{standing_blocks, IsSound}
 use Rattle.definitions.specs.States.{Justified, view, qc_high, find_block, raised, leaf}
 use Rattle.definitions.specs.Rulings.{Input.timeout_in, Input.new_view_in, Ruling, ruling, conflicts}
 use Rattle.definitions.specs.Rulings.{with_block}

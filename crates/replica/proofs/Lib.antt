@@ -1,4 +1,5 @@
 pub mod Replaying
+pub mod Archives
 pub mod Logging
 pub mod Lent
 pub mod Steps

@@ -3,7 +3,7 @@ use Rattle.std.proofs.Common.{◌≡◌, false, true≢false, List, ◌∷◌, r
 use Rattle.replica.specs.declared.stored.StoredStep.TheVariants.{TookNew, TookAgain, GotVote, GotNewView}
 use Rattle.replica.specs.declared.stored.StoredStep.TheVariants.{GotRequest, GotFetch, TimedOut, Beat, Pruned}
 use Rattle.definitions.specs.Trees.{Stored}
-use Rattle.definitions.specs.Chronicles.{Chronicle, horizon}
+use Rattle.definitions.specs.Chronicles.{Chronicle, was_pruned}
 use Rattle.replica.specs.declared.stored.StoredStep.{StoredStep}
 use Rattle.replica.specs.declared.change.Change.{Change}
 use Rattle.replica.specs.Replay.{is_pruning, step_of, replay}
@@ -22,19 +22,19 @@ pub logged-still : (old new : List StoredStep → Type 0) (s : StateParts)
 logged-still old new s h l =
     record { steps = l.steps; held = h l.steps l.held; replayed = l.replayed; unpruned = l.unpruned }
 
--- a step that is no pruning leaves the horizon
-horizon-kept : (s : StoredStep) (stored : List Stored) (c : Chronicle) → is_pruning s ≡ false
-    → horizon (step_of s stored ∷ c) ≡ horizon c
-unfolding horizon
-horizon-kept (TookNew t) stored c e = refl
-horizon-kept (TookAgain t) stored c e = refl
-horizon-kept (GotVote g) stored c e = refl
-horizon-kept (GotNewView n) stored c e = refl
-horizon-kept (GotRequest r) stored c e = refl
-horizon-kept (GotFetch f) stored c e = refl
-horizon-kept TimedOut stored c e = refl
-horizon-kept Beat stored c e = refl
-horizon-kept (Pruned height) stored c e = absurd (true≢false e)
+-- a step that is no pruning leaves a chronicle as unpruned as it was
+unpruned-still : (s : StoredStep) (stored : List Stored) (c : Chronicle) → is_pruning s ≡ false
+    → was_pruned (step_of s stored ∷ c) ≡ was_pruned c
+unfolding was_pruned
+unpruned-still (TookNew t) stored c e = refl
+unpruned-still (TookAgain t) stored c e = refl
+unpruned-still (GotVote g) stored c e = refl
+unpruned-still (GotNewView n) stored c e = refl
+unpruned-still (GotRequest r) stored c e = refl
+unpruned-still (GotFetch f) stored c e = refl
+unpruned-still TimedOut stored c e = refl
+unpruned-still Beat stored c e = refl
+unpruned-still (Pruned height) stored c e = absurd (true≢false e)
 
 -- one step more is written down
 pub logged-one : (old new : List StoredStep → Type 0) (d : Change) (s : StateParts) → Fits s d
@@ -48,7 +48,8 @@ logged-one old new d s fits stays h l = record {
       ap (λ (x : List Stored). step_of d.step (grown d.growth s.variables.stored) ∷ replay l.steps x)
       (before-grown d.step d.growth s.variables.stored fits.step (sym fits.pruning ∙ stays))
       ∙ ap (λ (x : Chronicle). step_of d.step (grown d.growth s.variables.stored) ∷ x) l.replayed;
-  unpruned = horizon-kept d.step (grown d.growth s.variables.stored) s.variables.chronicle stays ∙ l.unpruned;
+  unpruned =
+      unpruned-still d.step (grown d.growth s.variables.stored) s.variables.chronicle stays ∙ l.unpruned;
 }
 
 -- the same blocks, and the same chronicle
@@ -59,5 +60,5 @@ logs-at holds stored others c d e k l =
       steps = l.steps;
       held = l.held;
       replayed = ap (replay l.steps) (sym e) ∙ l.replayed ∙ k;
-      unpruned = ap horizon (sym k) ∙ l.unpruned;
+      unpruned = ap was_pruned (sym k) ∙ l.unpruned;
     }

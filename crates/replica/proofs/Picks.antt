@@ -18,7 +18,7 @@ use Rattle.definitions.specs.Trees.{blocks, find_in, IsTree}
 use Rattle.definitions.specs.Chronicles.{Chronicle, horizon, standing_blocks, window, executed, history}
 use Rattle.definitions.specs.Chronicles.{IsSound}
 use Rattle.definitions.specs.States.{pending, find_block, known_as, picks, leaf, or_else}
-use Rattle.definitions.proofs.Lists.{length-beginning, beginning-whole, IsBeginning-beginning}
+use Rattle.definitions.proofs.Lists.{beginning-whole, IsBeginning-beginning}
 use Rattle.definitions.proofs.Branches.{extends-true, length-extends}
 use Rattle.definitions.proofs.Trees.{found-in, found-itself}
 use Rattle.definitions.proofs.Horizons.{executed-window, horizon-low}

@@ -1,5 +1,5 @@
 -- What a pruning changes is what its step changes.
-use Rattle.std.proofs.Common.{ℕ, ◌≡◌, [], ◌∷◌, refl, sym, ap, ◌∙◌, subst, Some, None, Ok}
+use Rattle.std.proofs.Common.{ℕ, ◌≡◌, ◌∷◌, refl, sym, ap, subst, Ok}
 use Rattle.std.specs.Prelude.{option_map}
 use Rattle.ids.specs.declared.limits.TheConstants.{MOST_BLOCKS}
 use Rattle.definitions.specs.Keyrings.{Keys}
@@ -15,7 +15,7 @@ use Rattle.replica_rules.specs.Ruled.{ref_of}
 use Rattle.replica_rules.proofs.Takes.{ruled-noted}
 use Rattle.replica.specs.declared.change.Change.{Change}
 use Rattle.replica.specs.Kept.{StateParts, high_of, own_of, variables_of, IsStateOf}
-use Rattle.replica.specs.Changes.{IsStep, changed}
+use Rattle.replica.specs.Changes.{IsStep}
 use Rattle.replica.specs.Prunings.{prune_change}
 use Rattle.replica.specs.StepsTo.{StepsTo, answer, after}
 use Rattle.replica.proofs.Steps.{collects, decided, kept_at, where-kept}

@@ -1,11 +1,14 @@
 //! A replica with its archive.
 
-ghost use Rattle.std.specs.Prelude.{◌≡◌, ◌<◌, ◌⊎◌, [], length, reverse, suc, IsTrue, IfOk, IfSome, OnErr};
+ghost use Rattle.std.specs.Prelude.{◌≡◌, ◌<◌, ◌⊎◌, [], length, reverse, suc, true, false, IsTrue, IfOk, OnErr};
+ghost use Rattle.std.specs.Prelude.{MatchOption};
 ghost use Rattle.ids.specs.Sizes.{replicas};
 ghost use Rattle.audit_ground.specs.Law.{IsLawfullyKept};
 ghost use Rattle.admission.specs.Inputs.{input_of, is_addressed};
 ghost use Rattle.definitions.specs.Checks.{identity_of};
+ghost use Rattle.definitions.specs.Chronicles.{was_pruned};
 ghost use Rattle.definitions.specs.Replicas.{running, held_history};
+ghost use Rattle.replica.specs.Inputs.{prunes};
 ghost use Rattle.replica.specs.Steps.{Stepped};
 
 use crate::chronicle::ChronicleView;
@@ -48,7 +51,8 @@ impl Drop for Archived {
 }
 
 impl Model for Archived {
-    ghost use Rattle.std.specs.Prelude.{IfSome};
+    ghost use Rattle.std.specs.Prelude.{◌≡◌, true, MatchOption};
+    ghost use Rattle.definitions.specs.Chronicles.{was_pruned};
     ghost use Rattle.replica.specs.Steps.{Held};
     ghost use Rattle.replica.specs.Logs.{IsArchiveOf};
 
@@ -56,7 +60,8 @@ impl Model for Archived {
 
     ghost view = { λ a. a.replica };
 
-    ghost invariant = { λ a. IfSome a.archive
+    ghost invariant = { λ a. MatchOption a.archive
+        (was_pruned a.replica.replica.chronicle ≡ true)
         (λ x. IsArchiveOf a.replica.replica x.steps.items.items x.entries) };
 }
 
@@ -95,7 +100,8 @@ impl Archived {
 
     /// The replica with its archive. None once it was given leave to prune.
     pub fn whole(&self) -> Option<Whole<'_>>
-        ensures { IfSome result (λ w. w ≡ self.now) }
+        ensures { MatchOption result (was_pruned self.now.replica.chronicle ≡ true)
+            (λ w. (w ≡ self.now) × (was_pruned w.replica.chronicle ≡ false)) }
     {
         match &self.archive {
             Some(archive) => Some(Whole {
@@ -103,6 +109,25 @@ impl Archived {
                 archive,
             }),
             None => None,
+        }
+    }
+
+    /// Leave to prune ends the archive. Where it is refused, the archive stays.
+    fn prune(&mut self, input: Input<'_>) -> Result<Out, Fault>
+        requires own { IsTrue (is_addressed self.old.keys input) }
+        requires prunes { IsTrue (prunes input) }
+        ensures stepped { Stepped (identity_of self.old.keys) (input_of input.entry) self.old.replica result
+            self.new.replica }
+        ensures keys { self.new.keys ≡ self.old.keys }
+        ensures grows { (length self.new.replica.chronicle ≡ length self.old.replica.chronicle)
+            ⊎ (length self.new.replica.chronicle ≡ suc (length self.old.replica.chronicle)) }
+    {
+        match self.replica.step(input) {
+            Ok(out) => {
+                self.archive = None;
+                Ok(out)
+            }
+            Err(fault) => Err(fault),
         }
     }
 
@@ -118,7 +143,7 @@ impl Archived {
             ⊎ (length self.new.replica.chronicle ≡ suc (length self.old.replica.chronicle)) }
     {
         if let Input::Prune(_) = input {
-            self.archive = None;
+            return self.prune(input);
         }
         match &mut self.archive {
             Some(archive) => {

@@ -6,7 +6,7 @@ ghost use Rattle.ids.specs.Sizes.{replicas};
 ghost use Rattle.audit_ground.specs.Law.{IsLawfullyKept};
 ghost use Rattle.definitions.specs.Checks.{identity_of};
 ghost use Rattle.definitions.specs.Chronicles.{Chronicle, IsLawful, executed, horizon, standing_blocks};
-ghost use Rattle.definitions.specs.Chronicles.{window};
+ghost use Rattle.definitions.specs.Chronicles.{window, was_pruned};
 ghost use Rattle.definitions.specs.Digests.{digest_of};
 ghost use Rattle.definitions.specs.Frames.{spelling};
 ghost use Rattle.definitions.specs.Replicas.{running, held_history, held_pending};
@@ -270,7 +270,7 @@ impl Replica {
     pub(crate) fn chronicle<'a>(&'a self, steps: &'a [StoredStep]) -> ChronicleView<'a>
         requires steps { replay (reverse steps.now) (standing_blocks self.now.replica.chronicle)
             ≡ self.now.replica.chronicle }
-        requires unpruned { horizon self.now.replica.chronicle ≡ 0 }
+        requires unpruned { was_pruned self.now.replica.chronicle ≡ false }
         ensures { result ≡ self.entry.now.replica.chronicle }
     {
         self.state.chronicle(steps)

@@ -1,5 +1,5 @@
 use Rattle.std.proofs.Common.{[], refl, reverse, ap, sym, ◌∙◌, subst, List}
-use Rattle.definitions.specs.Chronicles.{standing_blocks, horizon}
+use Rattle.definitions.specs.Chronicles.{standing_blocks, was_pruned}
 use Rattle.definitions.specs.Histories.{Entry}
 use Rattle.definitions.specs.Replicas.{Replica}
 use Rattle.replica.specs.declared.stored.StoredStep.{StoredStep}
@@ -10,7 +10,7 @@ use Rattle.replica.proofs.First.{first-history}
 use Rattle.replica.proofs.archived.Archived.new.Goals as goal
 
 pub invariant_of-result : goal.invariant_of-result
-unfolding replay horizon
+unfolding replay was_pruned
 invariant_of-result c =
     subst (λ (r : Replica). IsArchiveOf r c.new-2.result.items.items c.new-3.result)
     (sym (ap (λ (h : Held). h.replica) c.in_ok-replica.ensures.made))
