@@ -3,6 +3,7 @@
 #![tactic(auto)]
 
 mod links;
+mod queue;
 mod waiting;
 mod worker;
 

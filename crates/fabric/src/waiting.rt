@@ -1,19 +1,14 @@
 //! Frames that wait for a block.
 
-ghost use Rattle.std.specs.Prelude.{◌≡◌, IfSome};
-
+use crate::queue::{Question, Queue};
 use admission::missing;
 use bytes::Bytes;
 use frames_view::{Frame, read};
 use ids::{Config, Digest, ReplicaId};
 use std::alloc::Global;
-use std::marker::Model;
 use std::sync::atomic::AtomicU64;
 use std::sync::atomic::Ordering::SeqCst;
 use std::sync::{Mutex, Wait};
-
-/// How many frames wait at one replica, at most.
-const MOST_WAITING: usize = 256;
 
 /// What a frame brings to its receiver's tree.
 #[derive(Clone, Copy)]
@@ -45,7 +40,7 @@ impl Brought {
     }
 
     /// Whether a frame that brings this does all that one does that brings the other.
-    fn serves_for(self, other: Brought) -> bool {
+    pub(crate) fn serves_for(self, other: Brought) -> bool {
         match other {
             Brought::Nothing => false,
             Brought::Block(block) => self.block() == Some(block),
@@ -66,10 +61,10 @@ pub(crate) struct Waiting {
     pub(crate) lacks: Digest,
     pub(crate) brings: Brought,
     pub(crate) bytes: Bytes,
-    /// How many frames had begun to wait when it did.
-    place: u64,
+    /// The first block that no waiting frame brought when it came, from the one that it lacks down.
+    pub(crate) bottom: Digest,
     /// How many parcels must have been done before its sender is asked.
-    due: u64,
+    pub(crate) due: u64,
 }
 
 impl Waiting {
@@ -83,114 +78,16 @@ impl Waiting {
             lacks,
             brings,
             bytes,
-            place: 0,
+            bottom: lacks,
             due: 0,
         })
     }
 }
 
-/// The frames that wait, the oldest first.
-#[derive(Drop)]
-struct Queue {
-    frames: Vec<Waiting>,
-    /// How many frames have begun to wait.
-    begun: u64,
-    /// How many parcels were done.
-    done: u64,
-    /// Up to which place senders were asked.
-    asked: u64,
-}
-
-impl Model for Queue {
-    ghost use Rattle.std.specs.Prelude.{ℕ, ◌≤◌, vec_len};
-    ghost use Rattle.fabric.specs.declared.waiting.TheConstants.{MOST_WAITING};
-
-    ghost Value = { ℕ };
-
-    ghost view = { λ queue. vec_len queue.frames };
-
-    ghost invariant = { λ queue. vec_len queue.frames ≤ MOST_WAITING };
-}
-
-impl Queue {
-    /// The block that the frame that brings this block lacks. None, where no such frame waits.
-    fn below(&self, block: &Digest) -> Option<Digest> {
-        let frame = self
-            .frames
-            .iter()
-            .find(|frame| frame.brings.block() == Some(*block))?;
-        Some(frame.lacks)
-    }
-
-    /// Whether a frame waits that does all that this one would.
-    fn has_one_like(&self, other: &Waiting) -> bool {
-        let brings = other.brings;
-        self.frames
-            .iter()
-            .any(|frame| frame.brings.serves_for(brings))
-    }
-
-    /// Adds a frame, unless one waits that does all that this one would. Its sender is asked once
-    /// so many parcels more were done. Where the list is full the oldest goes.
-    fn add(&mut self, mut frame: Waiting, parcels: u64) {
-        if self.has_one_like(&frame) {
-            return;
-        }
-        if self.frames.len() >= MOST_WAITING {
-            let _oldest = self.frames.remove(0);
-        }
-        self.begun = self.begun.saturating_add(1);
-        frame.place = self.begun;
-        frame.due = self.done.saturating_add(parcels);
-        let _refused = self.frames.push(frame);
-    }
-
-    /// The oldest frame whose sender is to be asked and wasn't: its place, sender, and block.
-    fn due(&self) -> Option<(u64, ReplicaId, Digest)> {
-        let (asked, done) = (self.asked, self.done);
-        let mut waiting = self.frames.iter();
-        let frame = waiting.find(|frame| frame.place > asked && frame.due <= done)?;
-        Some((frame.place, frame.sender, frame.lacks))
-    }
-
-    /// A parcel was done. Whom to ask now, and for which block, if for any.
-    fn next_question(&mut self) -> Option<(ReplicaId, Digest)> {
-        self.done = self.done.saturating_add(1);
-        let (place, sender, lacks) = self.due()?;
-        self.asked = place;
-        Some((sender, self.first_missing(&lacks)))
-    }
-
-    /// Takes out the oldest frame that lacks this block.
-    fn take_for(&mut self, block: &Digest) -> Option<Waiting>
-        ensures { IfSome result (λ frame. frame.lacks ≡ block.now) }
-    {
-        let place = self.frames.iter().position(|frame| frame.lacks == *block)?;
-        Some(self.frames.remove(place))
-    }
-
-    /// Takes out the frame of this number.
-    fn take_number(&mut self, number: u64) -> Option<Waiting> {
-        let place = self.frames.iter().position(|frame| frame.number == number)?;
-        Some(self.frames.remove(place))
-    }
-
-    /// The first block that no waiting frame brings, from this one down.
-    fn first_missing(&self, block: &Digest) -> Digest {
-        let mut lacked = *block;
-        for _ in 0..self.frames.len() {
-            match self.below(&lacked) {
-                Some(below) => lacked = below,
-                None => break,
-            }
-        }
-        lacked
-    }
-}
-
 /// Where the frames of one replica's link wait that lack a block. Its workers share it by reference.
 ///
-/// At most 256 wait; one more drives out the oldest. What is driven out, or for which memory is
+/// At most 8,192 wait, of 32 MB together and one more; what comes then drives out the oldest. So none is lost
+/// while one worker sleeps over the block that the others lack, for half a second of full load. What is driven out, or for which memory is
 /// refused, is lost, as on any network. Each call takes the lock once, and holds it while it looks
 /// at the list.
 #[derive(Drop)]
@@ -204,12 +101,7 @@ impl WaitingRoom {
     /// A room in which nothing waits.
     pub fn new(alloc: Global) -> WaitingRoom {
         WaitingRoom {
-            queue: Mutex::new(Queue {
-                frames: Vec::new(alloc),
-                begun: 0,
-                done: 0,
-                asked: 0,
-            }),
+            queue: Mutex::new(Queue::new(alloc)),
             busy: AtomicU64::new(0),
         }
     }
@@ -239,13 +131,13 @@ impl WaitingRoom {
 
     /// A worker is done with a parcel. Whom to ask now, and for which block, if for any: the first
     /// that no waiting frame brings, from the one down that a frame lacks.
-    pub(crate) fn end<R: Wait>(&self, rt: &R) -> Option<(ReplicaId, Digest)> {
+    pub(crate) fn end<R: Wait>(&self, rt: &R) -> Option<Question> {
         self.busy.fetch_sub(1, SeqCst);
         self.queue.lock(rt).next_question()
     }
 
     /// Whether nothing waits.
     pub(crate) fn is_empty<R: Wait>(&self, rt: &R) -> bool {
-        self.queue.lock(rt).frames.is_empty()
+        self.queue.lock(rt).is_empty()
     }
 }

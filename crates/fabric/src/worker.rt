@@ -6,6 +6,7 @@ ghost use Rattle.turns.specs.Shares.{Counts};
 ghost use Rattle.fabric.specs.Shares.{HasGrown};
 
 use crate::links::{Links, Parcel};
+use crate::queue::Question;
 use crate::waiting::{Brought, Waiting, WaitingRoom};
 use admission::Input;
 use authenticators::Keyring;
@@ -85,7 +86,7 @@ impl<'a, G: Gate, O: Outgoing> Post<'a, G, O> {
 
     /// A parcel is done. Asks for the block that a waiting frame lacks, if it has waited long enough.
     fn end<R: Wait>(&self, rt: &R) {
-        let Some((sender, block)) = self.room.end(rt) else {
+        let Some(Question { sender, block }) = self.room.end(rt) else {
             return;
         };
         if sender == self.keyring.replica() || sender.0 >= self.keyring.config().n() {
