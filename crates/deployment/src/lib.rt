@@ -7,6 +7,7 @@ mod crew;
 mod desk;
 mod ending;
 mod guarded;
+mod laggards;
 mod link;
 mod lying;
 mod roll;
@@ -15,5 +16,6 @@ mod stations;
 mod terms;
 mod watching;
 
+pub use ending::EndAudit;
 pub use running::{Ended, run};
 pub use terms::Terms;

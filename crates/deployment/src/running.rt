@@ -1,16 +1,15 @@
 //! From keys to a running deployment, and to its end.
 
-ghost use Rattle.std.specs.Prelude.{◌≡◌, IfOk, IfErr, IfSome, IsSome, None};
-ghost use Rattle.deployment.specs.Ends.{IsOfAudit, IsNoRun};
+ghost use Rattle.std.specs.Prelude.{◌≡◌, IfOk, IfErr, None};
+ghost use Rattle.deployment.specs.Ends.{IsEndAudit, IsWhole, IsNoRun};
 
 use crate::crew::Crew;
 use crate::desk::{Desk, desks};
-use crate::ending::judge_by_terms;
+use crate::ending::{EndAudit, judge_by_terms};
 use crate::roll::Roll;
 use crate::stations::{Station, man, stations, watch};
 use crate::terms::Terms;
 use crate::watching::Board;
-use audit::Verdict;
 use fabric::{Ends, Links};
 use ids::{Fault, ReplicaId};
 use key_file::PairKeys;
@@ -31,9 +30,8 @@ pub struct Ended {
     /// How many connections were served; or why not so many as were to be: `AcceptFailed`, the refusal
     /// that stopped more than f replicas, or `Memory` where not all threads could be had.
     pub served: Result<u64, Fault>,
-    /// What the audit says of the replicas, without replica 0 where that one was to lie.
-    /// None where too few have all their past, since they were given leave to forget.
-    pub verdict: Option<Verdict>,
+    /// What is said of the replicas, without replica 0 where that one was to lie.
+    pub audit: EndAudit,
 }
 
 /// Tells the workers of all replicas to end.
@@ -103,10 +101,8 @@ fn serve_at<R: Threads + Wait + Clock + Sync + Send + AllocGlobal + Log + Clone 
             let timed = scope.spawn(move || bell.keep(rt, station, stop));
             is_manned = is_manned && one.is_ok() && two.is_ok() && timed.is_ok();
         }
-        if let Some(seconds) = terms.watch {
-            let told = scope.spawn(move || board.tell_each(rt, seconds, stop));
-            is_manned = is_manned && told.is_ok();
-        }
+        let watched = scope.spawn(move || board.keep(rt, terms.watch, stop));
+        is_manned = is_manned && watched.is_ok();
         let served = if is_manned {
             front(rt, listener, seats, terms.most)
         } else {
@@ -136,8 +132,8 @@ pub fn run<R: Threads + Wait + Clock + Sync + Send + AllocGlobal + Log + Clone +
     terms: Terms,
 ) -> Result<Ended, Fault>
     ensures served { IfOk result (λ ended. IfOk ended.served (λ served. served ≡ terms.most)) }
-    ensures verdict { IfOk result (λ ended. IfSome ended.verdict IsOfAudit) }
-    ensures judged { IfOk result (λ ended. terms.window ≡ None → IsSome ended.verdict) }
+    ensures audit { IfOk result (λ ended. IsEndAudit ended.audit) }
+    ensures whole { IfOk result (λ ended. terms.window ≡ None → IsWhole ended.audit) }
     ensures refused { IfErr result IsNoRun }
 {
     let (alloc, config) = (rt.alloc(), keys.config());
@@ -160,6 +156,6 @@ pub fn run<R: Threads + Wait + Clock + Sync + Send + AllocGlobal + Log + Clone +
         closer: &closer,
     };
     let served = serve_at(rt, stations.as_slice(), crews, &bell, listener, terms);
-    let verdict = judge_by_terms(stations, terms, room)?;
-    Ok(Ended { served, verdict })
+    let audit = judge_by_terms(stations, terms, room)?;
+    Ok(Ended { served, audit })
 }

@@ -10,6 +10,7 @@ ghost use Rattle.marks.specs.Eyes.{first_eye};
 use crate::bounded::{Bounded, stopped};
 use crate::crew::{Crew, Worker};
 use crate::guarded::Guarded;
+use crate::laggards::Reach;
 use crate::lying::{LyingOut, Tongue};
 use crate::terms::Terms;
 use crate::watching::Progress;
@@ -64,6 +65,17 @@ impl<'a> Station<'a> {
             blocks: replica.blocks(),
             pending: replica.pending(),
             view: replica.view(),
+        }
+    }
+
+    /// What the replica has executed, and what it has forgotten.
+    pub(crate) fn reach<R: Wait>(&self, rt: &R) -> Reach {
+        let guarded = self.locked.lock(rt);
+        let replica = guarded.replica();
+        Reach {
+            height: replica.height(),
+            horizon: replica.horizon(),
+            goes_on: replica.stopped().is_none(),
         }
     }
 }

@@ -2,6 +2,7 @@
 
 ghost use Rattle.std.specs.Prelude.{◌≡◌, max};
 
+use crate::laggards::Laggards;
 use crate::roll::Roll;
 use crate::stations::Station;
 use fabric::Links;
@@ -93,20 +94,37 @@ impl<'a, 's, S: Drop> Board<'a, 's, S> {
         now.executed
     }
 
-    /// Tells a line each so many seconds, until it is told to stop.
-    pub(crate) fn tell_each<R: Wait + Clock + Log>(&self, rt: &R, seconds: u64, stop: &AtomicBool) {
-        let pauses = seconds.saturating_mul(1000 / PAUSE_MILLIS);
-        let (mut waited, mut executed) = (0u64, 0);
+    /// Warns of replicas that fall behind, and tells a line each so many seconds, if any, until it is told
+    /// to stop.
+    pub(crate) fn keep<R: Wait + Clock + Log>(
+        &self,
+        rt: &R,
+        seconds: Option<u64>,
+        stop: &AtomicBool,
+    ) {
+        let each = seconds.unwrap_or(u64::MAX).max(1);
+        let (mut passed, mut executed) = (0u64, 0);
+        let mut laggards = Laggards::none();
         for _ in rt.forever() {
-            if stop.load(SeqCst) {
+            if !sleep_a_second(rt, stop) {
                 break;
             }
-            thread::sleep(rt, Duration::from_millis(PAUSE_MILLIS));
-            waited = waited.saturating_add(1);
-            if waited >= pauses {
-                executed = self.tell(rt, executed, seconds);
-                waited = 0;
+            passed = passed.saturating_add(1);
+            laggards.look(rt, self.stations);
+            if passed % each == 0 {
+                executed = self.tell(rt, executed, each);
             }
         }
     }
+}
+
+/// Sleeps for a second. False where it was told to stop in the meantime.
+fn sleep_a_second<R: Wait + Clock>(rt: &R, stop: &AtomicBool) -> bool {
+    for _ in 0..1000 / PAUSE_MILLIS {
+        if stop.load(SeqCst) {
+            return false;
+        }
+        thread::sleep(rt, Duration::from_millis(PAUSE_MILLIS));
+    }
+    true
 }

@@ -10,10 +10,10 @@ mod serving;
 use crate::faults::MainFault;
 use crate::options::{Options, matches_of};
 use crate::serving::serve;
-use audit::Verdict;
+use audit::{Verdict, WindowVerdict};
 use clap::Error;
 use clap::error::ErrorKind;
-use deployment::Ended;
+use deployment::{EndAudit, Ended};
 use ids::Fault;
 use std::process::ExitCode;
 use std::{env, io};
@@ -34,12 +34,14 @@ fn fail(rt: &HostRuntime, fault: MainFault) -> io::Result<ExitCode> {
     Ok(ExitCode::FAILURE)
 }
 
-/// What an audit says, in a word.
-fn word_of(verdict: &Option<Verdict>) -> &'static str {
-    match verdict {
-        Some(Verdict::Agree) => "agree",
-        Some(Verdict::Fork(_)) => "fork",
-        None => "none",
+/// What is said of the replicas, in words.
+fn words_of(audit: &EndAudit) -> &'static str {
+    match audit {
+        EndAudit::Whole(Verdict::Agree) => "agree",
+        EndAudit::Whole(Verdict::Fork(_)) => "fork",
+        EndAudit::Windows(WindowVerdict::Agree) => "windows agree",
+        EndAudit::Windows(WindowVerdict::Fork { .. }) => "windows fork",
+        EndAudit::Windows(WindowVerdict::Unmet { .. }) => "windows unmet",
     }
 }
 
@@ -48,7 +50,7 @@ fn end(rt: &HostRuntime, ended: &Ended) -> io::Result<ExitCode> {
     if let Ok(served) = ended.served {
         println!(rt; "served {served} connections")?;
     }
-    println!(rt; "audit {}", word_of(&ended.verdict))?;
+    println!(rt; "audit {}", words_of(&ended.audit))?;
     match ended.served {
         Ok(_) => Ok(ExitCode::SUCCESS),
         Err(fault) => fail(rt, MainFault::from(fault)),

@@ -1,6 +1,6 @@
 //! The command line.
 
-use clap::{Arg, ArgMatches, Command, Error, value_parser};
+use clap::{Arg, ArgAction, ArgMatches, Command, Error, value_parser};
 use deployment::Terms;
 use liars::Liar;
 use std::alloc::Global;
@@ -8,9 +8,9 @@ use std::alloc::Global;
 /// What stands behind the options in `--help`.
 const EXAMPLE: &str = "\
 Limits: keys of 250 bytes, data of 4,096, requests of a line of 4,096 bytes, 16 keys in a get, 65,536 keys
-in all. It listens on 127.0.0.1 alone, keeps all in memory, and a restart empties it. A replica keeps
-1,048,576 blocks, which is some hundred thousand commands of one connection, and more of many.
-docs/OPERATING.md tells what comes then.
+in all. It listens on 127.0.0.1 alone, keeps all in memory, and a restart empties it. With --archive a
+replica keeps 1,048,576 blocks, which is some hundred thousand commands of one connection, and more of
+many. docs/OPERATING.md tells what comes then.
 
 Example, with f = 1 and 8 clients:
   bin/make-keys 1 8 > keys
@@ -36,6 +36,7 @@ pub(crate) fn matches_of(alloc: Global, words: &[String]) -> Result<ArgMatches<'
         .arg(serve_arg(alloc))?
         .arg(blocks_arg(alloc))?
         .arg(window_arg(alloc))?
+        .arg(archive_arg(alloc))?
         .arg(watch_arg(alloc))?;
     command.try_get_matches_from(words)
 }
@@ -106,10 +107,15 @@ fn window_arg(alloc: Global) -> Arg<'static> {
         .long("window")
         .value_name("H")
         .value_parser(value_parser!(u32))
-        .default_value("0")
-        .help(
-            "A replica forgets blocks more than H heights below the last executed one; 0 for none",
-        )
+        .default_value("4096")
+        .help("A replica forgets blocks more than H heights below the last executed one")
+}
+
+fn archive_arg(alloc: Global) -> Arg<'static> {
+    Arg::new(alloc, "archive")
+        .long("archive")
+        .action(ArgAction::SetTrue)
+        .help("No replica forgets anything, so that all is judged at the end; goes before --window")
 }
 
 fn watch_arg(alloc: Global) -> Arg<'static> {
@@ -151,7 +157,7 @@ impl<'a> Options<'a> {
                 } else {
                     Some(blocks as usize)
                 },
-                window: if window == 0 {
+                window: if matches.get_flag("archive") {
                     None
                 } else {
                     Some(u64::from(window))

@@ -3,7 +3,6 @@
 use crate::ask;
 use anyhow::{Result, bail};
 use deployment::{Terms, run};
-use ids::Fault;
 use key_file::PairKeys;
 use log::kv::Source;
 use log::span::Spans;
@@ -95,10 +94,6 @@ where
     let ended = ended?;
     println!(rt; "{:?}", read?.as_str())?;
     println!(rt; "more than one stopped: {}", count.load(SeqCst) > 1)?;
-    println!(rt;
-        "{:?}, audit {:?}",
-        ended.served,
-        ended.verdict.ok_or(Fault::TooFew)?
-    )?;
+    println!(rt; "{:?}, audit {:?}", ended.served, ended.audit)?;
     Ok(())
 }

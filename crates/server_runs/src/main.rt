@@ -6,7 +6,8 @@ mod ending;
 
 use crate::ending::end_of_few_blocks;
 use anyhow::Result;
-use deployment::{Terms, run};
+use audit::{Verdict, WindowVerdict};
+use deployment::{EndAudit, Terms, run};
 use ids::Config;
 use key_file::PairKeys;
 use liars::Liar;
@@ -92,6 +93,14 @@ fn keys(alloc: Global) -> Result<String> {
     Ok(text)
 }
 
+/// Whether replicas were seen to fork.
+fn is_fork(audit: EndAudit) -> bool {
+    matches!(
+        audit,
+        EndAudit::Whole(Verdict::Fork(_)) | EndAudit::Windows(WindowVerdict::Fork { .. })
+    )
+}
+
 fn main(rt: HostRuntime) -> Result<()> {
     let text = keys(rt.alloc())?;
     let keys = PairKeys::read(rt.alloc(), Config::new(1, 1)?, text.as_bytes())?;
@@ -125,9 +134,11 @@ fn main(rt: HostRuntime) -> Result<()> {
             println!(rt; "{:?}", text.as_str())?;
         }
         let ended = ended?;
-        match (window, ended.verdict) {
-            (None, Some(verdict)) => println!(rt; "served {}, audit {verdict:?}", ended.served?)?,
-            _ => println!(rt; "served {}", ended.served?)?,
+        match (window, ended.audit) {
+            (None, EndAudit::Whole(verdict)) => {
+                println!(rt; "served {}, audit {verdict:?}", ended.served?)?;
+            }
+            (_, audit) => println!(rt; "served {}, fork: {}", ended.served?, is_fork(audit))?,
         }
     }
     end_of_few_blocks(&rt, &keys)
