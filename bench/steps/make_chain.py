@@ -1,9 +1,9 @@
 #!/usr/bin/env python3
 """Writes a chain of blocks with their votes to standard output, the same on every machine.
 
-make_chain.py HEIGHTS: for each height a Proposal frame of view 0 and then three Vote frames for its block, each behind
-its length in four bytes. There are four replicas and 16 clients; replica 0 leads the view. A block has 16 commands, of
-1,000 that were made beforehand, and stands on the one before with the certificate of its three votes; the first stands
+make_chain.py HEIGHTS [COMMANDS]: for each height a Proposal frame of view 0 and then three Vote frames for its block,
+each behind its length in four bytes. There are four replicas and 16 clients; replica 0 leads the view. A block has 16
+commands, or as many as are given, of 1,000 that were made beforehand, and stands on the one before with the certificate of its three votes; the first stands
 on genesis, whose certificate has none. All tags are right: the key of two parties is SHA-256 of the word hsim and their
 two numbers, the lower one first, and the tags are by the standard library's HMAC.
 """
@@ -16,7 +16,7 @@ import sys
 HEIGHTS = int(sys.argv[1])
 REPLICAS = 4
 CLIENTS = 16
-COMMANDS = 16
+COMMANDS = int(sys.argv[2]) if len(sys.argv) > 2 else 16
 LEADER = 0
 REQUEST, PROPOSAL, VOTE = 1, 2, 3
 random.seed(20261123)
