@@ -1,6 +1,6 @@
 //! Replicas that have fallen behind what the others keep.
 
-ghost use Rattle.std.specs.Prelude.{◌≡◌, ◌+◌, nat_lt};
+ghost use Rattle.std.specs.Prelude.{◌≡◌, ◌+◌, ◌&&◌, ◌==◌, nat_lt};
 
 use crate::stations::Station;
 use ids::{Height, MOST_REPLICAS, ReplicaId};
@@ -15,12 +15,14 @@ pub(crate) struct Reach {
     pub(crate) goes_on: bool,
 }
 
-/// Whether a replica that has executed up to a height lacks the next block where the others have this
-/// horizon: they keep what is at most two heights below it.
-fn is_behind(height: Height, horizon: Height) -> bool
-    ensures { result ≡ nat_lt (height + 3) horizon }
+/// Whether a replica has executed nothing since it had come to a height, and lacks the next block where the
+/// others have this horizon: they keep what is at most two heights below it.
+fn is_stuck(reach: Reach, before: Height, horizon: Height) -> bool
+    ensures { result
+        ≡ (reach.goes_on && (reach.height == before) && nat_lt (reach.height + 3) horizon) }
 {
-    horizon.0 > 3 && height.0 < horizon.0 - 3
+    let lacks_next = horizon.0 > 3 && reach.height.0 < horizon.0 - 3;
+    reach.goes_on && reach.height.0 == before.0 && lacks_next
 }
 
 /// The lowest horizon of the replicas at the other stations.
@@ -34,38 +36,57 @@ fn lowest_horizon<R: Wait>(rt: &R, stations: &[Station<'_>], but: ReplicaId) -> 
     lowest
 }
 
-/// Which replicas have fallen behind: no other one has the next block that they need any more. One that has
-/// it at its own link catches up; else it counts as faulty.
+/// What was seen of a replica.
+#[derive(Clone, Copy)]
+struct Seen {
+    height: Height,
+    is_stuck: bool,
+}
+
+/// Which replicas were seen to be stuck: none of the others has the next block that they need any more, and
+/// it isn't on its way to them.
 #[derive(Clone, Copy)]
 pub(crate) struct Laggards {
-    behind: [bool; MOST_REPLICAS],
+    seen: [Seen; MOST_REPLICAS],
 }
 
 impl Laggards {
-    /// None has.
+    /// None is.
     pub(crate) fn none() -> Laggards {
+        let seen = Seen {
+            height: Height(0),
+            is_stuck: false,
+        };
         Laggards {
-            behind: [false; MOST_REPLICAS],
+            seen: [seen; MOST_REPLICAS],
         }
     }
 
-    /// Looks at all replicas, and warns of each that has fallen behind since it was looked at last. Where
-    /// one has caught up, that is told too.
+    /// Looks at all replicas. Warns of each that is stuck now and wasn't when it was looked at last, and tells
+    /// where one has got on.
     pub(crate) fn look<R: Wait + Log>(&mut self, rt: &R, stations: &[Station<'_>]) {
-        for (station, was_behind) in stations.iter().zip(self.behind.iter_mut()) {
+        for (station, seen) in stations.iter().zip(self.seen.iter_mut()) {
             let number = station.number();
             let horizon = lowest_horizon(rt, stations, number);
             let reach = station.reach(rt);
-            let is_behind = reach.goes_on && is_behind(reach.height, horizon);
-            if is_behind && !*was_behind {
-                let (number, height, horizon) = (number.0, reach.height.0, horizon.0);
-                warn!(rt; "replica {number} is behind: it has executed up to height {height}, and the \
-                    others have forgotten what is below {horizon}");
+            let is_stuck = is_stuck(reach, seen.height, horizon);
+            if reach.goes_on {
+                tell(rt, number, seen.is_stuck, is_stuck);
             }
-            if *was_behind && !is_behind && reach.goes_on {
-                info!(rt; "replica {} has caught up", number.0);
-            }
-            *was_behind = is_behind;
+            *seen = Seen {
+                height: reach.height,
+                is_stuck,
+            };
         }
+    }
+}
+
+/// Tells that a replica is stuck, or has got on.
+fn tell<R: Log>(rt: &R, number: ReplicaId, was_stuck: bool, is_stuck: bool) {
+    if is_stuck && !was_stuck {
+        warn!(rt; "replica {} is stuck: the others have forgotten blocks that it needs", number.0);
+    }
+    if was_stuck && !is_stuck {
+        info!(rt; "replica {} goes on again", number.0);
     }
 }
