@@ -15,32 +15,30 @@ use Rattle.audit_ground.specs.Law.{WindowsShowOneVerdict}
 abbrev height : Member → ℕ
 height m = length (last_block m)
 
--- none of these is higher, and those before it are lower
+-- it is higher than each of these, or as high as each
 abbrev IsAbove : Judged → Member → Type 0
 IsAbove ks m = (k : Member) → Among k ks → height k < height m
 
 abbrev IsHighest : Judged → Member → Type 0
 IsHighest ks m = (k : Member) → Among k ks → height k ≤ height m
 
--- who is the first of the highest on one list is one
+-- none of those behind a highest one is higher than it
+not-behind : (m z k : Member) (before rest behind : Judged) → m ≡ z → before ++ k ∷ rest ≡ behind
+    → IsHighest behind m → height z < height k → ⊥
+not-behind m z k before rest behind same are h up =
+    let low = h k (subst (λ (ks : Judged). Among k ks) are (Among-after k before (k ∷ rest) (inl refl))) in
+    let e = ap height same in
+    omega (arith, up, low, e)
+
+-- a list has one first of its highest
 first-one : (before behind before2 behind2 : Judged) (x y : Member)
     → before ++ x ∷ behind ≡ before2 ++ y ∷ behind2 → IsAbove before x → IsHighest behind x
     → IsAbove before2 y → IsHighest behind2 y → x ≡ y
 first-one [] behind [] behind2 x y e a h a2 h2 = cc
 first-one [] behind (z ∷ before2) behind2 x y e a h a2 h2 =
-    let same : x ≡ z = cc in
-    let rest : before2 ++ y ∷ behind2 ≡ behind = cc in
-    let up = a2 z (inl refl) in
-    let low = h y (subst (λ (ks : Judged). Among y ks) rest (Among-after y before2 (y ∷ behind2) (inl refl))) in
-    let k = ap height same in
-    absurd (omega (arith, up, low, k))
+    absurd (not-behind x z y before2 behind2 behind (cc) (cc) h (a2 z (inl refl)))
 first-one (z ∷ before) behind [] behind2 x y e a h a2 h2 =
-    let same : y ≡ z = cc in
-    let rest : before ++ x ∷ behind ≡ behind2 = cc in
-    let up = a z (inl refl) in
-    let low = h2 x (subst (λ (ks : Judged). Among x ks) rest (Among-after x before (x ∷ behind) (inl refl))) in
-    let k = ap height same in
-    absurd (omega (arith, up, low, k))
+    absurd (not-behind y z x before behind behind2 (cc) (cc) h2 (a z (inl refl)))
 first-one (z ∷ before) behind (w ∷ before2) behind2 x y e a h a2 h2 =
     first-one before behind before2 behind2 x y (cc) (λ k m. a k (inr m)) h (λ k m. a2 k (inr m)) h2
 

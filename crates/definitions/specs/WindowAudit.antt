@@ -61,7 +61,8 @@ pub record Stands (R : Member → Member → Type 0) (ks : Judged) (a b : ℕ) :
   pub related : R lower higher
 
 -- Each is held against the one that leads. Where its window shows each one's last executed block, they agree;
--- where it shows another block, they fork; and where it shows none, and of no one another, they are unmet.
+-- where it shows another block for one of them, they fork; where it does so for none, and shows no block for
+-- one of them, that one is unmet.
 abbrev pub WindowsShow : Judged → WindowVerdict → Type 0
 WindowsShow ks agree = (m : Member) × Leads ks m × ((k : Member) → Among k ks → Meets k m)
 WindowsShow ks (fork a b) = Stands Differs ks a b
