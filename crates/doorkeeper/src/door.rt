@@ -114,8 +114,8 @@ impl Doorkeeper {
         self.all = self.all.with(block);
     }
 
-    /// Forgets the blocks below a height, and gives their memory back. A lower height than before changes
-    /// nothing.
+    /// Forgets the blocks below a height: their rows make room for others. A lower height than before
+    /// changes nothing.
     pub fn forget_below(&mut self, base: Height)
         ensures base { self.new.base ≡ max base self.old.base }
         ensures taken { self.new.taken ≡ remembered base self.old.taken }
