@@ -16,7 +16,7 @@ const MOST_WAITING: usize = 8192;
 const MOST_BYTES: usize = 33_554_432;
 
 /// How many parcels must be done before the same is asked again.
-const PATIENCE: u64 = 256;
+const PATIENCE: u64 = 64;
 
 /// How many waiting frames are passed at most on the way down to a missing block.
 const MOST_PASSED: usize = 64;
