@@ -88,9 +88,9 @@ def compare(servers):
             print(f"{line} {wrong:5.0f}", flush=True)
 
 
-def rates_of_a_long_run():
+def rates_of_a_long_run(words):
     """Commands a second after 20,000 and after 200,000 commands, and bytes of resident memory a command between them."""
-    server = mcbft()
+    server = mcbft(*words)
     try:
         load(server.kind, server.place, CLIENTS, 20_000, 3)
         early = server.resident()
@@ -103,9 +103,10 @@ def rates_of_a_long_run():
         server.stop()
 
 
-def long_run():
+def long_run(words):
     """Throughput and memory after 20,000 and after 200,000 commands, each turn with a fresh server."""
-    turns = [rates_of_a_long_run() for _ in range(TURNS)]
+    print(" ".join(["a long run", *words]))
+    turns = [rates_of_a_long_run(words) for _ in range(TURNS)]
     for first, last, memory in turns:
         print(f"after 20,000 commands {first:.0f} a second, after 200,000 {last:.0f}: {last / first:.2f}; "
               f"{memory:.0f} bytes of resident memory a command")
@@ -123,7 +124,8 @@ def main():
         for server in servers:
             server.stop()
         shutil.rmtree(folder)
-    long_run()
+    long_run([])
+    long_run(["--archive"])
 
 
 main()
