@@ -7,19 +7,38 @@ use Rattle.clock.specs.declared.watch.Watch.{Watch}
 
 -- nothing was seen yet: view 0, nothing executed, and a pause of 20 milliseconds
 abbrev pub unseen : Watch
-unseen = record { view = 0; executed = 0; since = 0; asked = 0; pause = 20 }
+unseen = record { view = 0; executed = 0; looked = 0; since = 0; slow = 0; asked = 0; pause = 20 }
 
 -- its view or its history changed since it was looked at last
 abbrev pub moved : Watch → Pulse → Bool
 moved w p = not ((p.view == w.view) && (p.executed == w.executed))
 
--- the milliseconds that a view may last: one second, and one more for each view before it
+-- requests wait, and it hasn't got on since it was looked at last
+abbrev pub stands_still : Watch → Pulse → Bool
+stands_still w p = p.is_pending && not (moved w p)
+
+-- how slow its view was: each millisecond in which it stood still counts three, each other one takes one back
+abbrev pub slow_after : Watch → ℕ → Pulse → ℕ
+slow_after w now p =
+    if not (p.view == w.view) then 0
+    else if stands_still w p then min (w.slow + min ((now - w.looked) * 3) (2 ^ 64 - 1)) (2 ^ 64 - 1)
+    else w.slow - (now - w.looked)
+
+-- the milliseconds that a view may stand still, or be slow: one second, and one more for each view before it
 abbrev pub limit_of : ℕ → ℕ
 limit_of view = min (min (view + 1) (2 ^ 64 - 1) * 1000) (2 ^ 64 - 1)
 
--- requests are pending, and nothing has changed for so long
+-- it has stood still for so long
 abbrev pub is_late : Watch → ℕ → Pulse → Bool
-is_late w now p = p.is_pending && not (moved w p) && nat_le (limit_of p.view) (now - w.since)
+is_late w now p = stands_still w p && nat_le (limit_of p.view) (now - w.since)
+
+-- it stands still, and has been slow for so long
+abbrev pub is_slow : Watch → ℕ → Pulse → Bool
+is_slow w slow p = stands_still w p && nat_le (limit_of p.view) slow
+
+-- either
+abbrev pub is_over : Watch → ℕ → Pulse → Bool
+is_over w now p = is_late w now p || is_slow w (slow_after w now p) p
 
 -- nothing that it proposed waits for votes, or it has just got on
 abbrev pub rests : Watch → Pulse → Bool
@@ -31,7 +50,10 @@ is_overdue w now p = not (rests w p) && nat_le w.pause (now - w.asked)
 
 -- what is due
 abbrev pub due_of : Watch → ℕ → Pulse → Due
-due_of w now p = record { beat = p.wants_beat_now || is_overdue w now p; timeout = is_late w now p }
+due_of w now p = record {
+  beat = p.wants_beat_now || is_overdue w now p;
+  timeout = is_over w now p;
+}
 
 -- the next pause, in milliseconds: half of the last, and at least 20, where the replica has got on, and
 -- twice as long where it passed in vain
@@ -52,7 +74,9 @@ abbrev pub looked : Watch → ℕ → Pulse → Watch
 looked w now p = record {
   view = p.view;
   executed = p.executed;
-  since = if not p.is_pending || moved w p || is_late w now p then now else w.since;
+  looked = now;
+  since = if not p.is_pending || moved w p || is_over w now p then now else w.since;
+  slow = if is_over w now p then 0 else slow_after w now p;
   asked = if rests w p || is_overdue w now p then now else w.asked;
   pause = pause_after w.pause (moved w p) (is_overdue w now p);
 }

@@ -1,8 +1,8 @@
 //! What is due to one replica.
 
 ghost use Rattle.std.specs.Prelude.{◌≡◌, if◌then◌else◌};
-ghost use Rattle.clock.specs.Watching.{due_of, is_late, is_overdue, looked, moved, pause_after, prune_at};
-ghost use Rattle.clock.specs.Watching.{rests, unseen};
+ghost use Rattle.clock.specs.Watching.{due_of, is_late, is_overdue, is_slow, looked, moved, pause_after};
+ghost use Rattle.clock.specs.Watching.{limit_of, prune_at, rests, slow_after, stands_still, unseen};
 
 use ids::{Fault, Height, View};
 
@@ -36,8 +36,8 @@ pub struct Pulse {
 pub struct Due {
     /// Leave to make a proposal.
     pub beat: bool,
-    /// A timeout: requests were pending all the time, and neither its view nor its history changed,
-    /// for one second more than the number of its view.
+    /// A timeout: for one second more than the number of its view requests were pending, and neither its
+    /// view nor its history changed; or so much longer than it got on in between.
     pub timeout: bool,
 }
 
@@ -46,8 +46,13 @@ pub struct Due {
 pub struct Watch {
     view: View,
     executed: u64,
-    /// Since when it has waited, in milliseconds.
+    /// When it was looked at last, in milliseconds.
+    looked: u64,
+    /// Since when it has waited.
     since: u64,
+    /// How slow its view was so far: three for each millisecond in which it stood still, less one for each
+    /// other.
+    slow: u64,
     /// Since when a proposal of it has waited for votes, and how long that may last.
     asked: u64,
     pause: u64,
@@ -64,6 +69,13 @@ pub fn prune_at(window: u64, pulse: Pulse) -> Option<Height>
     } else {
         None
     }
+}
+
+/// How many milliseconds a view may stand still, or be slow: one second, and one more for each view before.
+fn limit_of(view: u64) -> u64
+    ensures { result ≡ limit_of view }
+{
+    view.saturating_add(1).saturating_mul(1000)
 }
 
 /// The beginning of a time that may begin anew.
@@ -94,7 +106,9 @@ impl Watch {
         Watch {
             view: View(0),
             executed: 0,
+            looked: 0,
             since: 0,
+            slow: 0,
             asked: 0,
             pause: LEAST_PAUSE,
         }
@@ -107,12 +121,41 @@ impl Watch {
         !(pulse.view.0 == self.view.0 && pulse.executed == self.executed)
     }
 
-    /// Whether its view has lasted too long.
+    /// Whether requests wait, and it hasn't got on since it was looked at last.
+    fn stands_still(&self, pulse: Pulse) -> bool
+        ensures { result ≡ stands_still self.now pulse }
+    {
+        pulse.is_pending && !self.has_moved(pulse)
+    }
+
+    /// How slow its view has been with what is seen at this moment.
+    fn slow_after(&self, now: u64, pulse: Pulse) -> u64
+        ensures { result ≡ slow_after self.now now pulse }
+    {
+        let passed = now.saturating_sub(self.looked);
+        if pulse.view.0 != self.view.0 {
+            0
+        } else if self.stands_still(pulse) {
+            self.slow.saturating_add(passed.saturating_mul(3))
+        } else {
+            self.slow.saturating_sub(passed)
+        }
+    }
+
+    /// Whether its view has stood still for too long.
     fn is_late(&self, now: u64, pulse: Pulse) -> bool
         ensures { result ≡ is_late self.now now pulse }
     {
-        let limit = pulse.view.0.saturating_add(1).saturating_mul(1000);
-        pulse.is_pending && !self.has_moved(pulse) && now.saturating_sub(self.since) >= limit
+        let limit = limit_of(pulse.view.0);
+        self.stands_still(pulse) && now.saturating_sub(self.since) >= limit
+    }
+
+    /// Whether its view stands still, and has been slow for too long.
+    fn is_slow(&self, slow: u64, pulse: Pulse) -> bool
+        ensures { result ≡ is_slow self.now slow pulse }
+    {
+        let limit = limit_of(pulse.view.0);
+        self.stands_still(pulse) && slow >= limit
     }
 
     /// Whether nothing that it proposed waits for votes, or it has just got on.
@@ -135,13 +178,16 @@ impl Watch {
         ensures due { result ≡ due_of self.old now pulse }
         ensures watch { self.new ≡ looked self.old now pulse }
     {
-        let (moved, late) = (self.has_moved(pulse), self.is_late(now, pulse));
+        let (moved, slow) = (self.has_moved(pulse), self.slow_after(now, pulse));
+        let late = self.is_late(now, pulse) || self.is_slow(slow, pulse);
         let (rests, overdue) = (self.rests(pulse), self.is_overdue(now, pulse));
         let waits_anew = !pulse.is_pending || moved || late;
         *self = Watch {
             view: pulse.view,
             executed: pulse.executed,
+            looked: now,
             since: from(waits_anew, now, self.since),
+            slow: if late { 0 } else { slow },
             asked: from(rests || overdue, now, self.asked),
             pause: pause_after(self.pause, moved, overdue),
         };

@@ -65,20 +65,31 @@ impl Laggards {
     /// Looks at all replicas. Warns of each that is stuck now and wasn't when it was looked at last, and tells
     /// where one has got on.
     pub(crate) fn look<R: Wait + Log>(&mut self, rt: &R, stations: &[Station<'_>]) {
-        for (station, seen) in stations.iter().zip(self.seen.iter_mut()) {
-            let number = station.number();
-            let horizon = lowest_horizon(rt, stations, number);
-            let reach = station.reach(rt);
-            let is_stuck = is_stuck(reach, seen.height, horizon);
-            if reach.goes_on {
-                tell(rt, number, seen.is_stuck, is_stuck);
+        for station in stations {
+            let place = usize::from(station.number().0);
+            if let Some(before) = self.seen.get(place).copied() {
+                self.seen[place] = look_at(rt, stations, station, before);
             }
-            *seen = Seen {
-                height: reach.height,
-                is_stuck,
-            };
         }
     }
+}
+
+/// What is seen of the replica at a station, of which this was seen before; and tells of it.
+fn look_at<R: Wait + Log>(
+    rt: &R,
+    stations: &[Station<'_>],
+    station: &Station<'_>,
+    before: Seen,
+) -> Seen {
+    let number = station.number();
+    let horizon = lowest_horizon(rt, stations, number);
+    let reach = station.reach(rt);
+    let (height, goes_on) = (reach.height, reach.goes_on);
+    let is_stuck = is_stuck(reach, before.height, horizon);
+    if goes_on {
+        tell(rt, number, before.is_stuck, is_stuck);
+    }
+    Seen { height, is_stuck }
 }
 
 /// Tells that a replica is stuck, or has got on.
