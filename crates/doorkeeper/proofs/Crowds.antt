@@ -1,6 +1,7 @@
 -- A replica behind a doorkeeper refuses no block for the crowd of its height.
 use Rattle.std.proofs.Common.{ℕ, suc, ◌≡◌, ◌+◌, ◌^◌, ◌<◌, ◌≤◌, Bool, false, not, List, [], ◌∷◌, ◌&&◌, ◌==◌}
-use Rattle.std.proofs.Common.{length, map, filter, cond, refl, sym, ap, ◌∙◌, arith, Option, Some, None, nat_lt}
+use Rattle.std.proofs.Common.{length, map, filter, cond, refl, sym, ap, ◌∙◌, arith, Option, Some, None}
+use Rattle.std.proofs.Common.{nat_lt}
 use Rattle.std.proofs.lemmas.Bool.{cond_both, ne_eqb, ltb-false, not-true}
 use Rattle.std.specs.List.{count_by, list_any}
 use Rattle.ids.specs.Sizes.{leader}

@@ -1,7 +1,7 @@
 -- Which blocks a doorkeeper lets in to its replica. This is the project's own rule of the running server. No
 -- theorem rests on it: what it keeps out is lost, as on any network.
-use Rattle.std.specs.Prelude.{ℕ, ◌≡◌, ◌==◌, ◌*◌, ◌<◌, ◌≤◌, ◌&&◌, Bool, IsTrue, List, [], ◌∷◌, count_by, filter}
-use Rattle.std.specs.Prelude.{length, map}
+use Rattle.std.specs.Prelude.{ℕ, ◌≡◌, ◌==◌, ◌*◌, ◌<◌, ◌≤◌, ◌&&◌, Bool, IsTrue, List, [], ◌∷◌, count_by}
+use Rattle.std.specs.Prelude.{filter, length, map}
 use Rattle.std.specs.Prelude.{nat_lt, nat_le, if◌then◌else◌, Option, Some, None, ⊤}
 use Rattle.ids.specs.Sizes.{Sizes, leader}
 use Rattle.ids.specs.declared.limits.TheConstants.{MOST_OF_HEIGHT, MOST_REPLICAS}

@@ -1,6 +1,6 @@
 //! The doorkeeper.
 
-ghost use Rattle.std.specs.Prelude.{◌≡◌, ◌⊎◌, ◌<◌, ◌≤◌, [], IsTrue, IfOk, OnOk, OnErr, max, nat_le, get_or, ℕ};
+ghost use Rattle.std.specs.Prelude.{◌≡◌, ◌<◌, [], IsTrue, OnOk, OnErr, max, nat_le, get_or, ℕ};
 ghost use Rattle.std.specs.Bool.{OnTrue, OnFalse};
 ghost use Rattle.ids.specs.declared.limits.TheConstants.{MOST_OF_HEIGHT};
 ghost use Rattle.doorkeeper.specs.Doors.{brought, of_height, passes, remembered, with_block};

@@ -1,6 +1,6 @@
-use Rattle.std.proofs.Common.{ℕ, ◌≡◌, ◌≤◌, ◌+◌, ◌∙◌, sym, ap, subst, arith, ◌∷◌, IsTrue, cond, ◌==◌, nat_eq, nat_le}
+use Rattle.std.proofs.Common.{ℕ, ◌≡◌, ◌≤◌, ◌+◌, ◌∙◌, sym, ap, subst, arith, ◌∷◌, IsTrue, cond, ◌==◌}
+use Rattle.std.proofs.Common.{List, Some, nat_eq, nat_le}
 use Rattle.std.proofs.lemmas.Bool.{ltb-true, le-leb, cond-true}
-use Rattle.std.proofs.Common.{Some}
 use Rattle.std.specs.HashMap.{Updates}
 use Rattle.doorkeeper.specs.declared.brought.Brought.{Brought}
 use Rattle.doorkeeper.specs.Doors.{DoorState, brought, passes, remembered}
@@ -15,21 +15,23 @@ add_one-requires-clause-few c =
 pub invariant_of-self : goal.invariant_of-self
 invariant_of-self c =
     let base = c.self.inside.base in
+    let before : List Brought = remembered c.self.inside.base c.self.inside.all.items in
     let b : Brought = c.args.block.now in
     let own : c.self-inside.inside.0.0.0 ≡ c.self.inside.base = ap (λ k. k.base) c.self-inside.view_is in
     let high : c.self.inside.base ≤ c.args.block.now.height =
     omega (arith, own, c.height.view_is, c.if-height-self.false) in
-    let grown : remembered base c.with-self-inside.result.items ≡ b ∷ remembered base c.self.inside.all.items =
+    let grown : remembered base c.with-self-inside.result.items ≡ b ∷ before =
     ap (remembered base) c.with-self-inside.ensures
-    ∙ cond-true (nat_le base c.args.block.now.height) (b ∷ remembered base c.self.inside.all.items)
-    (remembered base c.self.inside.all.items) (le-leb base c.args.block.now.height high) in
-    let passed : IsTrue (passes b (remembered base c.self.inside.all.items)) =
+    ∙ cond-true (nat_le base c.args.block.now.height) (b ∷ before)
+    before (le-leb base c.args.block.now.height high) in
+    let passed : IsTrue (passes b before) =
     subst (λ (d : DoorState). IsTrue (passes b d.taken)) (sym c.self.view_is) c.requires.passes
     in
     subst (AreCounts c.insert-inserted.new.self) (sym grown)
-    (counted-more c.self.inside.rows c.insert-inserted.new.self (remembered base c.self.inside.all.items) b
+    (counted-more c.self.inside.rows c.insert-inserted.new.self before b
     c.add_one.new.self c.self.invariant c.requires.sender passed
-    (subst (λ (h : ℕ). Updates nat_eq c.self.inside.rows c.insert-inserted.new.self h (Some c.add_one.new.self))
+    (subst (λ (h : ℕ). Updates nat_eq c.self.inside.rows c.insert-inserted.new.self h
+    (Some c.add_one.new.self))
     c.height-2.view_is (rw c.unwrap-before.ensures at c.insert-inserted.ensures.updates))
     (λ other l. c.add_one.ensures other
     ∙ ap (λ (k : ℕ). cond (other == c.args.block.now.sender) (k + 1) k)
