@@ -276,6 +276,8 @@ pub(crate) fn stations<'a>(
         let (Ok(number), Some(parcels)) = (u8::try_from(number), ends.next()) else {
             return Err(Fault::NoSuchParty);
         };
+        stations.reserve(1)?;
+        crews.reserve(1)?;
         let (station, crew) = build_station(
             alloc,
             keys,
@@ -285,8 +287,8 @@ pub(crate) fn stations<'a>(
             parcels,
             terms,
         )?;
-        stations.push(station)?;
-        crews.push(crew)?;
+        stations.push_reserved(station);
+        crews.push_reserved(crew);
     }
     Ok((stations, crews))
 }
