@@ -10,15 +10,21 @@
 //! - `FAULTS CLIENTS RECEIVER changes MASK FRAME`: the same of the frame with each byte in turn
 //!   changed by exclusive or with the mask: how often each first word was said, and the first half
 //!   of the SHA-256 digest of all that would be printed, line by line.
+//! - `FAULTS CLIENTS RECEIVER cuts FRAME`: the same counts and digest of what admission answers to each
+//!   proper beginning of the frame, the shortest first.
+//! - `FAULTS CLIENTS RECEIVER every-change FRAME`: of what it answers to the frame with one byte changed
+//!   to any other value: the first byte first, by exclusive or with 1 to 255.
 //! - `FAULTS CLIENTS RECEIVER votes FRAME ..`: votes, checked and collected one after the other, as
 //!   `votes` tells it.
 //! - `FAULTS CLIENTS PARTY vector LABEL CONTENT`: the tags of any party for all replicas.
 #![tactic(auto)]
 
+mod admitted;
 mod answers;
 mod row;
 mod votes;
 
+use crate::admitted::{cuts, every_change};
 use crate::answers::check;
 use crate::row::changes;
 use crate::votes::votes;
@@ -77,6 +83,8 @@ fn answer(
     match ask {
         "check" => check(alloc, config, receiver, &bytes_of(alloc, rest)?),
         "changes" => changes(alloc, config, receiver, rest),
+        "cuts" => cuts(alloc, config, receiver, rest),
+        "every-change" => every_change(alloc, config, receiver, rest),
         "votes" => votes(alloc, config, receiver, rest),
         _ => Err(Fault::BadFields),
     }

@@ -12,49 +12,62 @@ use std::alloc::Global;
 
 /// How often each first word was said, and a digest of all that was said.
 #[derive(Drop)]
-struct Row {
+pub(crate) struct Row {
     told: Sha256,
     passed: u64,
     no_frames: u64,
     bad_tags: u64,
+    not_mine: u64,
     others: u64,
 }
 
 impl Row {
-    fn new() -> Row {
+    pub(crate) fn new() -> Row {
         Row {
             told: Sha256::new(),
             passed: 0,
             no_frames: 0,
             bad_tags: 0,
+            not_mine: 0,
             others: 0,
         }
     }
 
-    fn add(&mut self, line: &str) {
+    /// One more line that was said.
+    pub(crate) fn add(&mut self, line: &str) {
         self.told.update(line);
         self.told.update("\n");
         let count = match line.split(' ').next() {
             Some("ok") => &mut self.passed,
             Some("10") => &mut self.no_frames,
             Some("11") => &mut self.bad_tags,
+            Some("30") => &mut self.not_mine,
             _ => &mut self.others,
         };
         *count = count.wrapping_add(1);
     }
 
-    fn into_text(self, alloc: Global) -> Result<String, Fault> {
+    /// The counts, and half of the digest.
+    pub(crate) fn into_text(self, alloc: Global) -> Result<String, Fault> {
         let Row {
             told,
             passed,
             no_frames,
             bad_tags,
+            not_mine,
             others,
         } = self;
         let digest = hex::encode(alloc, &told.finalize()[..16])?;
         Ok(format!(in alloc;
-            "{passed} ok, {no_frames} of 10, {bad_tags} of 11, {others} others, {digest}"
+            "{passed} ok, {no_frames} of 10, {bad_tags} of 11, {not_mine} of 30, {others} others, {digest}"
         )?)
+    }
+}
+
+/// Changes the byte at a place by exclusive or with a mask; once more, and it is as before.
+pub(crate) fn flip(bytes: &mut [u8], place: usize, mask: u8) {
+    if let Some(byte) = bytes.get_mut(place) {
+        *byte ^= mask;
     }
 }
 
@@ -75,15 +88,11 @@ pub(crate) fn changes(
     let ring = keyring_of(alloc, config, PartyId::from(receiver))?;
     let mut row = Row::new();
     for place in 0..bytes.len() {
-        if let Some(byte) = bytes.get_mut(place) {
-            *byte ^= mask;
-        }
+        flip(&mut bytes, place, mask);
         let mut text = String::new(alloc);
         tell(&ring, &bytes, &mut text)?;
         row.add(&text);
-        if let Some(byte) = bytes.get_mut(place) {
-            *byte ^= mask;
-        }
+        flip(&mut bytes, place, mask);
     }
     row.into_text(alloc)
 }

@@ -4,6 +4,7 @@ ghost use Rattle.std.specs.Prelude.{◌≡◌, ◌<◌, IsTrue};
 ghost use Rattle.admission.specs.Inputs.{is_addressed};
 ghost use Rattle.ids.specs.Sizes.{replicas};
 
+use crate::requests::request;
 use crate::stepped::number;
 use crate::told::tell_answer;
 use admission::admit;
@@ -43,6 +44,30 @@ fn take(alloc: Global, replica: &mut Replica, input: &str) -> Result<Result<Out,
     }
 }
 
+/// How many of client 0's requests from 1 to COUNT are answered without a refusal.
+fn ask(alloc: Global, replica: &mut Replica, count: &str) -> Result<u64, Fault> {
+    let count: u64 = count.parse().ok().ok_or(Fault::BadFields)?;
+    let mut stood: u64 = 0;
+    for number in 1..=count {
+        let frame = request(alloc, replica.config(), number)?;
+        let own = replica.number().0;
+        if receive(alloc, replica, own, &frame)?.is_ok() {
+            stood = stood.wrapping_add(1);
+        }
+    }
+    Ok(stood)
+}
+
+/// Tells what an input is answered.
+fn tell(alloc: Global, replica: &mut Replica, input: &str, text: &mut String) -> Result<(), Fault> {
+    if let Some(count) = input.strip_prefix("requests:") {
+        write!(text, "{} ok", ask(alloc, replica, count)?)?;
+        return Ok(());
+    }
+    let answer = take(alloc, replica, input)?;
+    tell_answer(alloc, &answer, text)
+}
+
 /// Tells what the inputs are answered, and then how many steps stand and how many commands were executed.
 fn tell_all(
     alloc: Global,
@@ -51,8 +76,7 @@ fn tell_all(
     text: &mut String,
 ) -> Result<(), Fault> {
     for input in inputs.split(' ') {
-        let answer = take(alloc, replica, input)?;
-        tell_answer(alloc, &answer, text)?;
+        tell(alloc, replica, input, text)?;
         text.push_str(", ")?;
     }
     write!(

@@ -16,10 +16,12 @@
 //!
 //! Where `alone` stands for SHARES, the inputs come to a replica that keeps no past and has no shares. Then
 //! an input is `beat`, `timeout` or `CHECKER:BYTES`, and at the end stand how many steps it made and how
-//! many commands it executed.
+//! many commands it executed. Or it is `requests:COUNT`: client 0's requests 1 to COUNT come, each `get a`,
+//! and how many of them are answered without a refusal is told.
 #![tactic(auto)]
 
 mod bare;
+mod requests;
 mod shares;
 mod stepped;
 mod told;

@@ -163,13 +163,13 @@ fn tell_votes(alloc: Global, told: &Told) -> Result<String> {
 
 /// What came of a thousand requests.
 fn tell_each(alloc: Global, seen: &Seen, told: &Told) -> Result<String> {
+    let requested = seen.requested(alloc)?;
     let (announced, voted) = (seen.announced(alloc)?, seen.voted(alloc)?);
-    Ok(format!(in alloc;
-        "of 1000 requests {} came once; announcements{announced}, votes{voted}, replies {}, others {}",
-        seen.came_once(),
-        told.replies,
-        told.left
-    )?)
+    let once = seen.came_once();
+    let mut text = format!(in alloc; "of 1000 requests {once} came once; requests{requested}")?;
+    write!(text, ", announcements{announced}, votes{voted}")?;
+    write!(text, ", replies {}, others {}", told.replies, told.left)?;
+    Ok(text)
 }
 
 /// What came of a request for all replicas.

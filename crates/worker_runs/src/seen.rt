@@ -16,9 +16,10 @@ const ANSWERED: usize = 500;
 pub(crate) struct Seen {
     /// How many inputs were brought.
     inputs: AtomicU64,
-    /// How often each question or request came, by number.
+    /// How often each question or request came, by number, whatever replica it came to.
     asked: Vec<AtomicU64>,
-    /// How many announcements and votes came, by number of replica.
+    /// How many requests, announcements and votes came, by number of replica.
+    requested: Vec<AtomicU64>,
     announced: Vec<AtomicU64>,
     voted: Vec<AtomicU64>,
     /// Whether the call for question 1 waits for that for question 2.
@@ -58,11 +59,13 @@ impl Seen {
     /// What is asked under one number is answered with these frames.
     pub(crate) fn new(alloc: Global, waits: bool, answers: Vec<Sending>) -> Result<Seen, Fault> {
         let asked = counters(alloc, 1001)?;
+        let requested = counters(alloc, 4)?;
         let announced = counters(alloc, 4)?;
         let voted = counters(alloc, 4)?;
         Ok(Seen {
             inputs: AtomicU64::new(0),
             asked,
+            requested,
             announced,
             voted,
             waits,
@@ -86,6 +89,7 @@ impl Seen {
     /// Counts an input at a replica, and answers the number of what it asks.
     pub(crate) fn note(&self, replica: ReplicaId, input: &Input<'_>) -> Option<usize> {
         match input {
+            Input::Request(_) => count(&self.requested, usize::from(replica.0)),
             Input::NewView(_) => count(&self.announced, usize::from(replica.0)),
             Input::Vote(_) => count(&self.voted, usize::from(replica.0)),
             _ => {}
@@ -130,12 +134,17 @@ impl Seen {
         self.meeting.has_met()
     }
 
-    /// How many numbers came once.
+    /// How many numbers came once, at whatever replica.
     pub(crate) fn came_once(&self) -> usize {
         self.asked
             .iter()
             .filter(|count| count.load(SeqCst) == 1)
             .count()
+    }
+
+    /// How many requests came to each replica.
+    pub(crate) fn requested(&self, alloc: Global) -> Result<String, Fault> {
+        listed(alloc, &self.requested)
     }
 
     /// How many announcements came to each replica.
