@@ -8,10 +8,17 @@ use client_service::Link;
 use crossbeam_channel::Receiver;
 use fabric::Links;
 use std::sync::{Arc, Wait};
+use std::thread;
 use std::time::{Clock, Duration, Instant};
 
 /// For how many milliseconds a client waits before it sends its request again.
 const PATIENCE_MILLIS: u64 = 1000;
+
+/// How many parcels may wait at a replica's link without a client's holding back.
+const MOST_WAITING: usize = 4096;
+
+/// For how many milliseconds at most a client holds back a request.
+const MOST_HELD_MILLIS: u64 = 20;
 
 /// The link of one client: where it hands in frames for all replicas, and where its replies come out.
 #[derive(Drop)]
@@ -40,6 +47,17 @@ impl<R: Wait + Clock + AllocGlobal> ClientLink<R> {
             until: None,
         }
     }
+
+    /// While much waits at a replica's link, lets it catch up, so that links don't grow without end where
+    /// processors are too few for all. Not for long: a faulty replica could be slow for ever.
+    fn hold_back(&self) {
+        for _ in 0..MOST_HELD_MILLIS {
+            if self.links.longest() <= MOST_WAITING {
+                break;
+            }
+            thread::sleep(&self.rt, Duration::from_millis(1));
+        }
+    }
 }
 
 impl<R: Wait + Clock + AllocGlobal> Link for ClientLink<R> {
@@ -51,6 +69,7 @@ impl<R: Wait + Clock + AllocGlobal> Link for ClientLink<R> {
     }
 
     fn send(&mut self, frame: &[u8]) {
+        self.hold_back();
         if let Ok(bytes) = Bytes::copy_from_slice(self.rt.alloc(), frame) {
             let _ = self.links.to_all(&self.rt, bytes);
         }

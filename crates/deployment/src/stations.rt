@@ -98,7 +98,7 @@ impl<'a> Watched for Station<'a> {
 }
 
 /// Works at a station until it is told to stop.
-pub(crate) fn man<R: Wait + AllocGlobal>(
+pub(crate) fn man<R: Wait + Clock + AllocGlobal>(
     rt: &R,
     station: &Station<'_>,
     links: &Links,

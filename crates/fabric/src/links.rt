@@ -182,6 +182,12 @@ impl Links {
         self.lost.fetch_add(1, SeqCst);
     }
 
+    /// How many parcels wait at the link of the replica that is furthest behind.
+    pub fn longest(&self) -> usize {
+        let lengths = self.replicas.iter().map(|link| link.parcels.len());
+        lengths.max().unwrap_or(0)
+    }
+
     /// Hands in a parcel at a replica's link.
     fn hand_in<R: Wait>(&self, rt: &R, to: ReplicaId, parcel: Parcel) -> Result<(), Fault>
         ensures { OnErr result ((result ≡ Err Fault.Memory) ⊎ (result ≡ Err Fault.NoSuchParty)) }

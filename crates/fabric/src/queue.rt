@@ -88,6 +88,13 @@ impl Queue {
         self.frames.is_empty()
     }
 
+    /// How many wait.
+    pub(crate) fn len(&self) -> usize
+        ensures { result ≡ self.now }
+    {
+        self.frames.len()
+    }
+
     /// A waiting frame that brings this block.
     fn bringer(&self, block: &Digest) -> Option<&Waiting> {
         let number = self.bringing.get(block)?;

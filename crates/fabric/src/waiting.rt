@@ -9,6 +9,14 @@ use std::alloc::Global;
 use std::sync::atomic::AtomicU64;
 use std::sync::atomic::Ordering::SeqCst;
 use std::sync::{Mutex, Wait};
+use std::thread;
+use std::time::{Clock, Duration};
+
+/// How many frames may wait without a worker's holding back.
+const CROWD: u64 = 512;
+
+/// For how many milliseconds at most a worker holds back.
+const MOST_HELD_MILLIS: u64 = 1000;
 
 /// What a frame brings to its receiver's tree.
 #[derive(Clone, Copy)]
@@ -86,15 +94,17 @@ impl Waiting {
 
 /// Where the frames of one replica's link wait that lack a block. Its workers share it by reference.
 ///
-/// At most 8,192 wait, of 32 MB together and one more; what comes then drives out the oldest. So none is lost
-/// while one worker sleeps over the block that the others lack, for half a second of full load. What is driven out, or for which memory is
-/// refused, is lost, as on any network. Each call takes the lock once, and holds it while it looks
-/// at the list.
+/// At most 8,192 wait, of 32 MB together and one more; what comes then drives out the oldest. What is driven
+/// out, or for which memory is refused, is lost, as on any network. So that none is lost while one worker
+/// sleeps over the block that the others lack, the other holds back once 512 wait. Each call takes the lock
+/// once at most, and holds it while it looks at the list.
 #[derive(Drop)]
 pub struct WaitingRoom {
     queue: Mutex<Queue>,
     /// How many workers are busy with a parcel.
     busy: AtomicU64,
+    /// How many frames waited when the last parcel was done.
+    waiting: AtomicU64,
 }
 
 impl WaitingRoom {
@@ -103,6 +113,19 @@ impl WaitingRoom {
         WaitingRoom {
             queue: Mutex::new(Queue::new(alloc)),
             busy: AtomicU64::new(0),
+            waiting: AtomicU64::new(0),
+        }
+    }
+
+    /// Where many frames wait and another worker is busy, waits for it: it may sleep over the block that they
+    /// lack, and what is taken meanwhile would wait too. Not for long: they may be a faulty replica's, and
+    /// lack what never comes.
+    pub(crate) fn hold_back<R: Clock>(&self, rt: &R) {
+        for _ in 0..MOST_HELD_MILLIS {
+            if self.waiting.load(SeqCst) <= CROWD || self.busy.load(SeqCst) == 0 {
+                break;
+            }
+            thread::sleep(rt, Duration::from_millis(1));
         }
     }
 
@@ -133,7 +156,9 @@ impl WaitingRoom {
     /// that no waiting frame brings, from the one down that a frame lacks.
     pub(crate) fn end<R: Wait>(&self, rt: &R) -> Option<Question> {
         self.busy.fetch_sub(1, SeqCst);
-        self.queue.lock(rt).next_question()
+        let mut queue = self.queue.lock(rt);
+        self.waiting.store(queue.len() as u64, SeqCst);
+        queue.next_question()
     }
 
     /// Whether nothing waits.

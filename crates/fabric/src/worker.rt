@@ -16,6 +16,7 @@ use ids::{Digest, Fault, Height, Kind, ReplicaId};
 use signed_frames::{Out, Sending, To, fetch_frame};
 use std::alloc::Global;
 use std::sync::Wait;
+use std::time::Clock;
 use turns::{Gate, Share, Steps, turn};
 
 /// Where a worker stands: it takes from a replica's link, sends by `out`, and has a keyring of its own.
@@ -223,10 +224,11 @@ impl<'a, G: Gate, O: Outgoing> Post<'a, G, O> {
 
     /// Takes what comes over the replica's link until it is told to stop, or the links are gone. It
     /// gives the share back, with the steps that it made.
-    pub fn work<R: Wait, S: Steps>(self, rt: &R, steps: &mut S, mut share: Share) -> Share
+    pub fn work<R: Wait + Clock, S: Steps>(self, rt: &R, steps: &mut S, mut share: Share) -> Share
         ensures { HasGrown share result }
     {
         for _ in rt.forever() {
+            self.room.hold_back(rt);
             let parcel = self.parcels.recv(rt);
             self.room.begin();
             match parcel {

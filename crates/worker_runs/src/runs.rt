@@ -106,7 +106,7 @@ fn stop_all<R: Wait>(rt: &R, links: &Links) {
 
 /// Works at a station with this share and a keyring of its own, until it is told to stop. The share
 /// comes back.
-fn work<R: Wait, G: Gate>(
+fn work<R: Wait + Clock, G: Gate>(
     rt: &R,
     stage: &Stage<'_, G>,
     station: &Station<'_>,
@@ -139,7 +139,7 @@ fn work<R: Wait, G: Gate>(
 }
 
 /// Works at a station with one of its shares, which is put back at the end.
-fn man<R: Wait, G: Gate>(rt: &R, stage: &Stage<'_, G>, station: &Station<'_>) {
+fn man<R: Wait + Clock, G: Gate>(rt: &R, stage: &Stage<'_, G>, station: &Station<'_>) {
     let share = station.shares.lock(rt).pop();
     if let Some(share) = share {
         let share = work(rt, stage, station, share);
