@@ -5,3 +5,5 @@ mod OneReplica
 mod OnePruned
 mod Rounds
 mod PrunedTree
+mod Forgery
+mod LiarRun

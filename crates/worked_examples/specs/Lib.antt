@@ -2,6 +2,7 @@ pub mod Cache
 pub mod Chains
 pub mod Frames
 pub mod Histories
+pub mod Liar
 pub mod Lines
 pub mod Pruning
 pub mod Replicas

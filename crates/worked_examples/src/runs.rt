@@ -1,5 +1,7 @@
 //! A small run of a world, with real digests and tags, computed.
 
+ghost use Rattle.worked_examples.specs.Liar.{IsTakenWhole as IsTakenWithALiar};
+ghost use Rattle.worked_examples.specs.Liar.{PremisesHold as PremisesHoldWithALiar};
 ghost use Rattle.worked_examples.specs.Rounds.{SentSizes, SentIn};
 ghost use Rattle.worked_examples.specs.Runs.{IsTakenWhole, SendsOneVote, Lengths, Answers, PremisesHold};
 
@@ -20,4 +22,11 @@ pub fn a_round_of_votes_makes_a_certificate()
 /// The premises of the laws of runs can be met: they hold of this run.
 pub fn the_premises_of_runs_can_be_met()
     ensures { PremisesHold }
+{}
+
+/// They hold of a run with a faulty replica, too, of which a frame is injected: what carries its own
+/// tags forges nothing.
+pub fn the_premises_can_be_met_beside_a_liar()
+    ensures whole { IsTakenWithALiar }
+    ensures premises { PremisesHoldWithALiar }
 {}
