@@ -1,0 +1,67 @@
+"""The lines of crates/step_cases: replicas that are stepped, by shares or alone."""
+from hashlib import sha256
+
+from . import checks
+from .own_frames import ALL
+from .replica import Replica
+from .sizes import Config, Fault, Refusal, party_name
+from .tags import Keyring
+
+NOT_ALL = 45
+
+
+def sent(to, data):
+    return " %d to %s %s" % (len(data), "all" if to == ALL else party_name(to), sha256(data).hexdigest()[:16])
+
+
+def step(replica, brought, is_own=True):
+    """What one input is answered. A frame that was checked for another replica is refused before a share that isn't
+    the replica's own."""
+    frame = None
+    if brought not in ("beat", "timeout"):
+        checker, digits = brought.split(":")
+        frame = checks.admit(Keyring(replica.config, int(checker)), bytes.fromhex(digits))
+        if int(checker) != replica.me:
+            raise Refusal(Fault.NOT_MINE)
+    if not is_own:
+        return None
+    if frame:
+        return replica.receive(frame)
+    return replica.beat() if brought == "beat" else replica.timeout()
+
+
+def answer(replica, brought, is_own=True):
+    try:
+        out = step(replica, brought, is_own)
+    except Refusal as refusal:
+        return str(int(refusal.fault))
+    return str(NOT_ALL) if out is None else "ok" + "".join(sent(*sending) for sending in out)
+
+
+def executed(history):
+    """How many commands, and a digest of their lines; nothing where there is none."""
+    lines = "".join("c%d %d %s\n" % (client, seq, payload.hex()) for client, seq, payload in history)
+    return ", executed %d %s" % (len(history), sha256(lines.encode()).hexdigest()[:16]) if history else ""
+
+
+def by_shares(replica, count, inputs):
+    """The share behind the last one is a strange one."""
+    counts, told = [0] * (count + 1), ""
+    for item in inputs:
+        share, brought = item.split(":", 1)
+        before = len(replica.chronicle)
+        told += answer(replica, brought, int(share) < count) + ", "
+        counts[int(share)] += len(replica.chronicle) - before
+    told += "[" + "".join(" %d" % made for made in counts) + " ] refused, refused, closed "
+    return told + "%d%s" % (len(replica.chronicle), executed(replica.history))
+
+
+def alone(replica, inputs):
+    told = "".join(answer(replica, brought) + ", " for brought in inputs)
+    return told + "made %d, executed %d" % (len(replica.chronicle), replica.executor.length)
+
+
+def tell(line):
+    faults, clients, number, shares, *inputs = line.split(" ")
+    replica = Replica(Config(int(faults), int(clients)), int(number))
+    return alone(replica, inputs) if shares == "alone" else by_shares(replica, int(shares), inputs)
