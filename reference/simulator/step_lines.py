@@ -1,59 +1,79 @@
-"""Lines of the program `step_cases` with a replica by itself, and what it has to print of them. The head of
-crates/step_cases/src/main.rt has the format.
+"""The lines of crates/step_cases: replicas that are stepped, by shares or alone."""
+from hashlib import sha256
 
-    FAULTS CLIENTS REPLICA alone INPUT ..
-"""
 from . import checks
 from .own_frames import ALL
 from .replica import Replica
 from .signing import request_of
-from .sizes import Config, Refusal, party_name
+from .sizes import Config, Fault, Refusal, party_name
 from .stated_runs import GET_A
-from .tags import sha256
+from .tags import Keyring
+
+NOT_ALL = 45
 
 
-def of_sending(to, data):
-    return " %d to %s %s" % (len(data), "all" if to == ALL else party_name(to), sha256(data)[:8].hex())
+def sent(to, data):
+    return " %d to %s %s" % (len(data), "all" if to == ALL else party_name(to), sha256(data).hexdigest()[:16])
 
 
-class Stepped:
-    """A replica that has made no step, and what was told of its inputs."""
-
-    def __init__(self, config, number):
-        self.replica = Replica(config, number)
-        self.steps = 0
-
-    def bring(self, act):
-        """What is told of an input."""
-        try:
-            told = "ok" + "".join(of_sending(*sending) for sending in act())
-        except Refusal as refusal:
-            return str(int(refusal.fault))
-        self.steps += 1
-        return told
-
-    def receive(self, data):
-        return self.bring(lambda: self.replica.receive(checks.admit(self.replica.keyring, data)))
-
-    def ask(self, count):
-        frames = (request_of(self.replica.config, 0, number, GET_A) for number in range(1, count + 1))
-        return "%d ok" % sum(self.receive(frame).startswith("ok") for frame in frames)
-
-    def tell(self, given):
-        if given in ("beat", "timeout"):
-            return self.bring(getattr(self.replica, given))
-        head, rest = given.split(":")
-        if head == "requests":
-            return self.ask(int(rest))
-        assert int(head) == self.replica.me
-        return self.receive(bytes.fromhex(rest))
+def step(replica, brought, is_own=True):
+    """What one input is answered. A frame that was checked for another replica is refused before a share that isn't
+    the replica's own."""
+    frame = None
+    if brought not in ("beat", "timeout"):
+        checker, digits = brought.split(":")
+        frame = checks.admit(Keyring(replica.config, int(checker)), bytes.fromhex(digits))
+        if int(checker) != replica.me:
+            raise Refusal(Fault.NOT_MINE)
+    if not is_own:
+        return None
+    if frame:
+        return replica.receive(frame)
+    return replica.beat() if brought == "beat" else replica.timeout()
 
 
-def wanted(line):
-    """What is to be printed of a line, where its replica is alone."""
+def answer(replica, brought, is_own=True):
+    try:
+        out = step(replica, brought, is_own)
+    except Refusal as refusal:
+        return str(int(refusal.fault))
+    return str(NOT_ALL) if out is None else "ok" + "".join(sent(*sending) for sending in out)
+
+
+def executed(history):
+    """How many commands, and a digest of their lines; nothing where there is none."""
+    lines = "".join("c%d %d %s\n" % (client, seq, payload.hex()) for client, seq, payload in history)
+    return ", executed %d %s" % (len(history), sha256(lines.encode()).hexdigest()[:16]) if history else ""
+
+
+def by_shares(replica, count, inputs):
+    """The share behind the last one is a strange one."""
+    counts, told = [0] * (count + 1), ""
+    for item in inputs:
+        share, brought = item.split(":", 1)
+        before = len(replica.chronicle)
+        told += answer(replica, brought, int(share) < count) + ", "
+        counts[int(share)] += len(replica.chronicle) - before
+    told += "[" + "".join(" %d" % made for made in counts) + " ] refused, refused, closed "
+    return told + "%d%s" % (len(replica.chronicle), executed(replica.history))
+
+
+def ask(replica, count):
+    """How many of client 0's requests, 1 to this number, are answered without a refusal."""
+    frames = (request_of(replica.config, 0, number, GET_A) for number in range(1, count + 1))
+    answers = [answer(replica, "%d:%s" % (replica.me, frame.hex())) for frame in frames]
+    return "%d ok" % sum(told.startswith("ok") for told in answers)
+
+
+def alone(replica, inputs):
+    told = ""
+    for brought in inputs:
+        head, _, count = brought.partition(":")
+        told += (ask(replica, int(count)) if head == "requests" else answer(replica, brought)) + ", "
+    return told + "made %d, executed %d" % (len(replica.chronicle), replica.executor.length)
+
+
+def tell(line):
     faults, clients, number, shares, *inputs = line.split(" ")
-    assert shares == "alone"
-    stepped = Stepped(Config(int(faults), int(clients)), int(number))
-    told = [stepped.tell(given) for given in inputs]
-    executed = stepped.replica.executor.length
-    return ", ".join(told + ["made %d" % stepped.steps, "executed %d" % executed])
+    replica = Replica(Config(int(faults), int(clients)), int(number))
+    return alone(replica, inputs) if shares == "alone" else by_shares(replica, int(shares), inputs)

@@ -1,16 +1,20 @@
 -- What is read and told, where the reader's bytes are known.
 use Rattle.std.proofs.Common.{◌≡◌, Option, Some, None, IfSome, Result, Ok, Err, OnOk, Vec, Global, ℕ}
-use Rattle.std.proofs.Common.{inl, inr}
-use Rattle.std.specs.Prelude.{IfOk, is_ok}
+use Rattle.std.proofs.Common.{inl, inr, refl, subst}
+use Rattle.std.specs.Prelude.{IfOk, IfErr, MatchResult, List, is_ok}
+use Rattle.ids.specs.Sizes.{Sizes, AreSizes}
+use Rattle.definitions.specs.Keyrings.{Keys}
+use Rattle.world_schedule.specs.Settings.{Setting, why_not}
 use Rattle.std.specs.Io.KnownBytes.{Appends}
 use Rattle.ids.specs.declared.fault.Fault as refusal
 use Rattle.definitions.specs.Bytes.{Bytes}
 use Rattle.world_schedule.specs.Running.{IsRunOf}
 use Rattle.world_schedule.specs.declared.outcome.Outcome.{Outcome}
-use Rattle.server.specs.Faults.{IsWhyNot, IsWhyNoOutcome, IsWhyNoRun}
+use Rattle.server.specs.Faults.{IsWhyNot, IsWhyNoOutcome, IsWhyNoRun, IsWhyNoWorld}
 use Rattle.run_report.specs.Reports.{outcome_text}
 use Rattle.server.specs.Schedules.{IsTextOf}
-use Rattle.server.specs.Simulations.{setting_of, IsTextOfRun, IsToldOf}
+use Rattle.server.specs.Simulations.{sizes_of, setting_of, all_keys, IsWorldOf, IsTextOfRun, IsToldOf}
+use Rattle.server.specs.declared.lines.Heading.{Heading}
 use Rattle.server.specs.declared.schedule.Schedule.{Schedule}
 use Rattle.server.specs.declared.sim_fault.SimFault.{SimFault}
 use Rattle.server.specs.declared.sim_fault.SimFault.TheVariants as sim
@@ -20,6 +24,29 @@ pub run_told : (r : Result (Vec ℕ Global) refusal.Fault) (s : Schedule) (o : O
     → IfOk r (λ text. IsTextOfRun s text.items)
 run_told (Ok text) s o is ran = record { outcome = o; ran = ran; tells = is }
 run_told (Err e) s o is ran = tt
+
+-- the world that was made of a heading
+pub world_made : (r : Result Setting refusal.Fault) (h : Heading) (config : Sizes) (keyrings : List Keys)
+    → config ≡ sizes_of h → keyrings ≡ all_keys config → AreSizes (sizes_of h)
+    → IfOk r (λ w. w ≡ record { sizes = config; faulty = h.faulty.items; keyrings = keyrings })
+    → MatchResult r (λ _. why_not config h.faulty.items ≡ None) (λ n. why_not config h.faulty.items ≡ Some n)
+    → IfOk r (IsWorldOf h)
+world_made (Ok w) h config keyrings config_is keyrings_are sizes made no_fault =
+    record {
+      setting_is = rw (made, keyrings_are, config_is) refl;
+      sizes_are = sizes;
+      may_be = subst (λ sizes. why_not sizes h.faulty.items ≡ None) config_is no_fault;
+    }
+world_made (Err n) h config keyrings config_is keyrings_are sizes made no_fault = tt
+
+-- why none was made
+pub why_no_world : (r : Result Setting refusal.Fault) (h : Heading) (config : Sizes)
+    → config ≡ sizes_of h → AreSizes (sizes_of h)
+    → MatchResult r (λ _. why_not config h.faulty.items ≡ None) (λ n. why_not config h.faulty.items ≡ Some n)
+    → IfErr r (IsWhyNoWorld h)
+why_no_world (Ok w) h config config_is sizes no_fault = tt
+why_no_world (Err n) h config config_is sizes fault =
+    inr (inr (sizes, subst (λ sizes. why_not sizes h.faulty.items ≡ Some n) config_is fault))
 
 -- why there is no schedule
 pub why_no_schedule : (known : Option Bytes) (text : Bytes) (fault : SimFault)

@@ -10,6 +10,7 @@ use Rattle.world_schedule.specs.Settings.{why_not}
 use Rattle.world_schedule.specs.Schedules.{IsRefusedFor}
 use Rattle.server.specs.Schedules.{IsFirstBadLine, IsTextOf}
 use Rattle.server.specs.Simulations.{setting_of, sizes_of}
+use Rattle.server.specs.declared.lines.Heading.{Heading}
 use Rattle.server.specs.declared.schedule.Schedule.{Schedule}
 use Rattle.server.specs.declared.words.NotRead.{NotRead}
 use Rattle.server.specs.declared.words.NotRead.TheVariants as not_read
@@ -26,15 +27,19 @@ abbrev pub fault_of_line : NotRead → ℕ → SimFault
 fault_of_line not_read.Bad number = Line number
 fault_of_line not_read.Memory number = Fault Memory
 
--- why a schedule has no run: for want of memory; or its sizes are out of their limits; or else a faulty party
--- isn't there, or more replicas are faulty than are tolerated; or else for the first event that is refused
+-- why a heading has no world: for want of memory; or its sizes are out of their limits; or else a faulty party
+-- isn't there, or more replicas are faulty than are tolerated
+abbrev pub IsWhyNoWorld : Heading → refusal.Fault → Type 0
+IsWhyNoWorld h fault =
+    (fault ≡ Memory)
+    ⊎ (AreSizes (sizes_of h) → ⊥) × (fault ≡ BadSize)
+    ⊎ AreSizes (sizes_of h) × (why_not (sizes_of h) h.faulty.items ≡ Some fault)
+
+-- why a schedule has no run: its heading has no world; or else for the first event that is refused
 abbrev pub IsWhyNoRun : Schedule → refusal.Fault → Type 0
 IsWhyNoRun s fault =
-    let sizes = sizes_of s.heading in
-    (fault ≡ Memory)
-    ⊎ (AreSizes sizes → ⊥) × (fault ≡ BadSize)
-    ⊎ AreSizes sizes × (why_not sizes s.heading.faulty.items ≡ Some fault)
-    ⊎ AreSizes sizes × (why_not sizes s.heading.faulty.items ≡ None)
+    IsWhyNoWorld s.heading fault
+    ⊎ AreSizes (sizes_of s.heading) × (why_not (sizes_of s.heading) s.heading.faulty.items ≡ None)
     × IsRefusedFor (setting_of s.heading) s.events.items fault
 
 -- Why what a reader gives has no outcome, as far as its bytes are known: a line that is named is the text's

@@ -1,12 +1,12 @@
 -- What simulating a schedule tells.
-use Rattle.std.specs.Prelude.{◌≡◌, List, ◌++◌, map, Option}
+use Rattle.std.specs.Prelude.{◌≡◌, List, ◌++◌, map, Option, None}
 use Rattle.std.specs.List.{range_with_len}
 use Rattle.std.specs.Io.KnownBytes.{Appends}
-use Rattle.ids.specs.Sizes.{Sizes, replicas, client_party}
+use Rattle.ids.specs.Sizes.{Sizes, AreSizes, replicas, client_party}
 use Rattle.definitions.specs.Bytes.{Bytes}
 use Rattle.definitions.specs.Keyrings.{Keys}
 use Rattle.simulated_keys.specs.Keys.{simulated_keys}
-use Rattle.world_schedule.specs.Settings.{Setting}
+use Rattle.world_schedule.specs.Settings.{Setting, why_not}
 use Rattle.world_schedule.specs.Running.{IsRunOf}
 use Rattle.world_schedule.specs.declared.outcome.Outcome.{Outcome}
 use Rattle.run_report.specs.Reports.{outcome_text}
@@ -26,6 +26,12 @@ sizes_of h = record { faults = h.faults; clients = h.clients }
 
 abbrev pub setting_of : Heading → Setting
 setting_of h = record { sizes = sizes_of h; faulty = h.faulty.items; keyrings = all_keys (sizes_of h) }
+
+-- the setting is the heading's, and its sizes and faulty parties may be such
+pub record IsWorldOf (h : Heading) (setting : Setting) : Type 0 where
+  pub setting_is : setting ≡ setting_of h
+  pub sizes_are : AreSizes (sizes_of h)
+  pub may_be : why_not (sizes_of h) h.faulty.items ≡ None
 
 -- the text tells of an outcome of the schedule's run
 pub record IsTextOfRun (s : Schedule) (text : Bytes) : Type 0 where

@@ -7,5 +7,7 @@ mod sim_fault;
 mod simulation;
 mod words;
 
+pub use lines::Heading;
+pub use schedule::{Schedule, parse};
 pub use sim_fault::SimFault;
-pub use simulation::{read_fault, simulate};
+pub use simulation::{read_fault, simulate, world_of};

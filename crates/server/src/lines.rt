@@ -16,7 +16,7 @@ use world_schedule::Event;
 
 /// What the first line says, with sizes as they were written: no limit but that of the numbers was tested.
 #[derive(Drop)]
-pub(crate) struct Heading {
+pub struct Heading {
     /// How many faulty replicas are tolerated.
     pub faults: u64,
     /// How many clients there are.

@@ -25,7 +25,7 @@ use world_schedule::Event;
 
 /// A schedule.
 #[derive(Drop)]
-pub(crate) struct Schedule {
+pub struct Schedule {
     pub heading: Heading,
     pub events: Vec<Event>,
 }
@@ -58,7 +58,7 @@ fn fault_of(why: NotRead, line: u64) -> SimFault
 
 /// The schedule that a text is; else the first line that isn't one of a schedule. An empty text is
 /// bad at line 1.
-pub(crate) fn parse(alloc: Global, text: &[u8]) -> Result<Schedule, SimFault>
+pub fn parse(alloc: Global, text: &[u8]) -> Result<Schedule, SimFault>
     ensures ok { IfOk result (λ schedule. IsTextOf schedule text.now) }
     ensures bad { IfErr result (IsWhyNot text.now) }
 {

@@ -1,8 +1,9 @@
 ghost use Rattle.std.specs.Prelude.{◌≡◌, ◌≢◌, ◌⊎◌, Err, IfSome, IfOk, IfErr, OnOk, OnErr};
 ghost use Rattle.std.specs.IoError.{error_kind};
-ghost use Rattle.server.specs.Faults.{IsWhyNoOutcome, IsWhyNoRun, read_fault_of};
-ghost use Rattle.server.specs.Simulations.{all_keys, IsTextOfRun, IsToldOf};
+ghost use Rattle.server.specs.Faults.{IsWhyNoOutcome, IsWhyNoRun, IsWhyNoWorld, read_fault_of};
+ghost use Rattle.server.specs.Simulations.{all_keys, IsWorldOf, IsTextOfRun, IsToldOf};
 
+use crate::lines::Heading;
 use crate::schedule::{Schedule, parse};
 use crate::sim_fault::SimFault;
 use authenticators::Keyring;
@@ -72,11 +73,23 @@ fn tell_run(alloc: Global, schedule: Schedule) -> Result<Vec<u8>, Fault>
     ensures told { IfOk result (λ text. IsTextOfRun schedule text.items) }
     ensures refused { IfErr result (IsWhyNoRun schedule) }
 {
-    let config = schedule.heading.config()?;
-    let keyrings = keyrings_of(alloc, config)?;
-    let world = World::new(alloc, config, schedule.heading.faulty, keyrings)?;
-    let outcome = run(&world, schedule.events.as_slice())?;
+    let Schedule { heading, events } = schedule;
+    let world = world_of(alloc, heading)?;
+    let outcome = run(&world, events.as_slice())?;
     text_of(alloc, &outcome)
+}
+
+/// The world of a schedule's heading, with the keys of simulations.
+///
+/// `BadSize` comes where its sizes are out of their limits; then `NoSuchParty` where a faulty party isn't
+/// there, and `TooManyFaulty` where more replicas are faulty than are tolerated.
+pub fn world_of(alloc: Global, heading: Heading) -> Result<World, Fault>
+    ensures made { IfOk result (IsWorldOf heading) }
+    ensures refused { IfErr result (IsWhyNoWorld heading) }
+{
+    let config = heading.config()?;
+    let keyrings = keyrings_of(alloc, config)?;
+    World::new(alloc, config, heading.faulty, keyrings)
 }
 
 /// The keyrings of all parties, replicas first.

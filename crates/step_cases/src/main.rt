@@ -12,7 +12,8 @@
 //! input is told, behind the one before and with a comma between them: the number of its refusal,
 //! or `ok` and the frames that go out, each with its length, where it goes, and the first 8 bytes
 //! of its SHA-256 digest. At the end stand the count of each share, in brackets, and what closing
-//! answers as `shares` tells it.
+//! answers as `shares` tells it: how many steps stand, and where commands were executed, how many
+//! they are and a digest of them.
 //!
 //! Where `alone` stands for SHARES, the inputs come to a replica that keeps no past and has no shares. Then
 //! an input is `beat`, `timeout` or `CHECKER:BYTES`, and at the end stand how many steps it made and how

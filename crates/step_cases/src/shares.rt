@@ -8,6 +8,7 @@ ghost use Rattle.std.specs.Prelude.{◌≡◌, ◌<◌};
 ghost use Rattle.marks.specs.Eyes.{first_eye, first_eyes};
 ghost use Rattle.ids.specs.Sizes.{replicas};
 
+use crate::told::tell_past;
 use ids::{Config, Fault, PartyId, ReplicaId};
 use locked_replica::{Kept, NotAll, Share};
 use marks::{Eye, Marks};
@@ -89,10 +90,15 @@ fn refused(kept: Kept<'_>, shares: Vec<Share>) -> Result<NotAll<'_>, Fault> {
     kept.close(shares).err().ok_or(Fault::NotAll)
 }
 
-/// How many steps the replica counts that closing gives back.
-fn closed(kept: Kept<'_>, shares: Vec<Share>) -> Result<usize, Fault> {
+/// Tells what the replica did that closing gives back.
+fn tell_closed(
+    alloc: Global,
+    kept: Kept<'_>,
+    shares: Vec<Share>,
+    text: &mut String,
+) -> Result<(), Fault> {
     let closed = kept.close(shares).ok().ok_or(Fault::NotAll)?;
-    Ok(closed.replica.replica().steps())
+    tell_past(alloc, &closed.replica, text)
 }
 
 /// A value with what a call gave; where the call was refused, the value is dropped.
@@ -115,20 +121,28 @@ fn joined(mut shares: Vec<Share>, last: Share) -> Result<Vec<Share>, Fault> {
     Ok(shares)
 }
 
-/// Closes with all shares but the last, which is refused, and then with all. How many steps the
-/// replica counts.
-fn close_again(kept: Kept<'_>, shares: Vec<Share>, last: Share) -> Result<usize, Fault> {
+/// Closes with all shares but the last, which is refused, and then with all.
+fn close_again(
+    alloc: Global,
+    kept: Kept<'_>,
+    shares: Vec<Share>,
+    last: Share,
+    text: &mut String,
+) -> Result<(), Fault> {
     let NotAll { kept, shares } = refused(kept, shares)?;
     let (kept, shares) = beside(kept, joined(shares, last))?;
-    closed(kept, shares)
+    tell_closed(alloc, kept, shares, text)
 }
 
 /// Closes three times; the last share is the strange one.
-pub(crate) fn close(kept: Kept<'_>, shares: Vec<Share>, text: &mut String) -> Result<(), Fault> {
+pub(crate) fn close(
+    alloc: Global,
+    kept: Kept<'_>,
+    shares: Vec<Share>,
+    text: &mut String,
+) -> Result<(), Fault> {
     let NotAll { kept, shares } = refused(kept, shares)?;
     let (kept, (own, _strange)) = beside(kept, split_last(shares))?;
     let (kept, (own, last)) = beside(kept, split_last(own))?;
-    let steps = close_again(kept, own, last)?;
-    write!(text, " refused, refused, closed {steps}")?;
-    Ok(())
+    close_again(alloc, kept, own, last, text)
 }

@@ -127,6 +127,6 @@ impl<'a> Stepped<'a> {
     ) -> Result<(), Fault> {
         self.tell_all(alloc, inputs, text)?;
         let Stepped { kept, shares, .. } = self;
-        close(kept, shares, text)
+        close(alloc, kept, shares, text)
     }
 }

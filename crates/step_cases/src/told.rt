@@ -1,7 +1,8 @@
-//! What a replica answers, in words.
+//! What a replica answers, and what it did, in words.
 
+use executor::Entries;
 use ids::Fault;
-use replica::{Out, Sending, To};
+use replica::{Archived, Out, Sending, To};
 use sha2::{Digest, Sha256};
 use std::alloc::Global;
 
@@ -34,4 +35,31 @@ pub(crate) fn tell_answer(
         Err(fault) => write!(text, "{}", fault.number())?,
     }
     Ok(())
+}
+
+/// What was executed: how many commands, and the first 8 bytes of the SHA-256 digest of their lines, each
+/// with client, number and payload.
+fn tell_history(alloc: Global, history: &Entries, text: &mut String) -> Result<(), Fault> {
+    let mut told = Sha256::new();
+    for entry in history {
+        let payload = hex::encode(alloc, entry.payload())?;
+        let line = format!(in alloc; "{} {} {payload}\n", entry.client(), entry.seq())?;
+        told.update(&line);
+    }
+    let digest = hex::encode(alloc, &told.finalize()[..8])?;
+    write!(text, ", executed {} {digest}", history.len())?;
+    Ok(())
+}
+
+/// What a replica did that was closed: how many steps stand, and what it executed, if anything.
+pub(crate) fn tell_past(alloc: Global, replica: &Archived, text: &mut String) -> Result<(), Fault> {
+    write!(
+        text,
+        " refused, refused, closed {}",
+        replica.replica().steps()
+    )?;
+    match replica.whole() {
+        Some(whole) if !whole.history().is_empty() => tell_history(alloc, whole.history(), text),
+        _ => Ok(()),
+    }
 }

@@ -1,0 +1,22 @@
+use Rattle.std.proofs.Common.{◌≤◌, arith, refl}
+use Rattle.ids.specs.Sizes.{replicas}
+use Rattle.server.proofs.Keyrings.{are_keyrings}
+use Rattle.server.proofs.Told.{world_made, why_no_world}
+use Rattle.server.proofs.simulation.world_of.Goals as goal
+
+pub new-requires : goal.new-requires
+new-requires c =
+    let are = c.in_ok-config.ensures.only.0 refl in
+    let few : replicas c.in_ok-config.config ≤ 256 = rw c.in_ok-config.ensures.made (omega (arith, are.1)) in
+    rw c.in_ok-keyrings.ensures.made (are_keyrings c.in_ok-config.config few)
+
+pub returns-clause-made : goal.returns-clause-made
+returns-clause-made c =
+    world_made c.new.result c.args.heading c.in_ok-config.config c.in_ok-keyrings.keyrings.items
+    c.in_ok-config.ensures.made c.in_ok-keyrings.ensures.made (c.in_ok-config.ensures.only.0 refl)
+    c.new.ensures.made c.new.ensures.refused
+
+pub returns-clause-refused : goal.returns-clause-refused
+returns-clause-refused c =
+    why_no_world c.new.result c.args.heading c.in_ok-config.config c.in_ok-config.ensures.made
+    (c.in_ok-config.ensures.only.0 refl) c.new.ensures.refused
