@@ -1,7 +1,8 @@
 """The run of one set and a view change, judged by `judged_runs`, is refused each request for memory in turn. Each time
 the world or the run has to be refused with 19; or a frame that wasn't sent moves the numbers of those behind it,
 until one isn't there (40); or events are answered 19, later inputs of the replicas concerned 20, and the run is
-linear, as the program finds it from the outcome. All three have to come."""
+linear, as the program finds it from the outcome. All three have to come. It is run as it stands, and with a timeout
+of each replica behind it, so that a replica that stopped in its last step is asked once more."""
 import os
 from collections import Counter
 
@@ -31,6 +32,12 @@ def kind_of(ran):
 def check(program):
     with open(SCHEDULE) as schedule:
         text = ": a view change\n" + schedule.read()
+    behind = "".join("timeout r%d\n" % replica for replica in range(4))
+    return "\n".join(["as it stands: " + judged(program, text),
+                      "with a timeout of each replica behind it: " + judged(program, text + behind)])
+
+
+def judged(program, text):
     asked, kinds, told = program.full(text).asked, Counter(), Counter()
     for number, ran in program.refusals(text):
         kind = kind_of(ran)

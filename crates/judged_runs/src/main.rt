@@ -1,0 +1,94 @@
+//! Runs schedules, and judges by itself what came of each: whether the run is linear, and whether replicas
+//! that were refused memory did nothing more. What is wanted of each was computed by an independent program.
+//!
+//! On standard input stand schedules, each behind a line `: NAME`. By `:E NAME` the answer of event E is
+//! taken to be a refusal of memory when the run is judged, whatever it was. Printed are, of each:
+//!
+//! - `: NAME`, once the schedule was read;
+//! - `no run: N`, where the world or the run was refused with N; else
+//! - how many events there were, how many frames were sent, and how many events were answered 19 and 20;
+//! - the length of each correct replica's history, and each receipt with its place;
+//! - `linear`, or a line for each rule that doesn't hold.
+//!
+//! Where this program itself is refused memory, before a run or after it, it ends with status 1, and what
+//! it printed tells how far it was.
+#![tactic(auto)]
+
+mod answers;
+mod case;
+mod history;
+mod receipts;
+mod run;
+mod told;
+mod wrong;
+
+use crate::case::Case;
+use crate::run::Run;
+use crate::told::tell;
+use anyhow::Result;
+use ids::Fault;
+use server::{Heading, Schedule, parse, world_of};
+use std::io::Read as _;
+use world_schedule::{Event, Outcome, World};
+
+/// Takes the answer of an event to be a refusal of memory.
+fn refuse(outcome: &mut Outcome, event: Option<usize>) {
+    let Some(before) = event.and_then(|event| event.checked_sub(1)) else {
+        return;
+    };
+    if let Some(answer) = outcome.answers.get_mut(before) {
+        *answer = Some(Fault::Memory);
+    }
+}
+
+/// Tells why there is no run.
+fn tell_refusal(rt: &HostRuntime, fault: Fault) -> Result<()> {
+    println!(rt; "no run: {}", fault.number())?;
+    Ok(())
+}
+
+/// Runs events in a world, and tells what is judged of the run.
+fn judge_events(
+    rt: &HostRuntime,
+    world: &World,
+    events: &[Event],
+    refused: Option<usize>,
+) -> Result<()> {
+    match world_schedule::run(world, events) {
+        Ok(outcome) => {
+            let mut outcome = outcome;
+            refuse(&mut outcome, refused);
+            tell(rt, &Run::new(world, events, &outcome))
+        }
+        Err(fault) => tell_refusal(rt, fault),
+    }
+}
+
+/// Makes the world of a heading, and judges the run of events in it.
+fn judge_schedule(
+    rt: &HostRuntime,
+    heading: Heading,
+    events: &[Event],
+    refused: Option<usize>,
+) -> Result<()> {
+    match world_of(rt.alloc(), heading) {
+        Ok(world) => judge_events(rt, &world, events, refused),
+        Err(fault) => tell_refusal(rt, fault),
+    }
+}
+
+/// Judges the run of a case.
+fn judge(rt: &HostRuntime, case: &Case<'_>) -> Result<()> {
+    let Schedule { heading, events } = parse(rt.alloc(), case.schedule)?;
+    println!(rt; ": {}", case.name)?;
+    judge_schedule(rt, heading, &events, case.refused)
+}
+
+fn main(rt: HostRuntime) -> Result<()> {
+    let mut input = Vec::new(rt.alloc());
+    rt.reader().read_to_end(&mut input)?;
+    for text in input.split(|byte| *byte == b':').skip(1) {
+        judge(&rt, &Case::read(text)?)?;
+    }
+    Ok(())
+}
