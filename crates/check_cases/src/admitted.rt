@@ -53,27 +53,21 @@ fn add_changes(ring: &Keyring, bytes: &mut [u8], row: &mut Row)
     }
 }
 
-/// What each proper beginning of a frame is answered.
-pub(crate) fn cuts(
-    alloc: Global,
-    config: Config,
-    receiver: ReplicaId,
-    digits: &str,
-) -> Result<String, Fault>
-    requires { receiver < replicas config }
-{
-    let bytes = bytes_of(alloc, digits)?;
-    let ring = keyring_of(alloc, config, PartyId::from(receiver))?;
-    let mut row = Row::new();
-    add_cuts(&ring, &bytes, &mut row);
-    row.into_text(alloc)
+/// How a frame is spoilt.
+#[derive(Clone, Copy)]
+pub(crate) enum Spoiling {
+    /// It is cut, anywhere.
+    Cut,
+    /// Any one of its bytes is changed to any other value.
+    Change,
 }
 
-/// What a frame is answered with any one of its bytes changed to any other value.
-pub(crate) fn every_change(
+/// What a frame is answered that is spoilt so, in each way.
+pub(crate) fn spoilt(
     alloc: Global,
     config: Config,
     receiver: ReplicaId,
+    spoiling: Spoiling,
     digits: &str,
 ) -> Result<String, Fault>
     requires { receiver < replicas config }
@@ -81,6 +75,9 @@ pub(crate) fn every_change(
     let mut bytes = bytes_of(alloc, digits)?;
     let ring = keyring_of(alloc, config, PartyId::from(receiver))?;
     let mut row = Row::new();
-    add_changes(&ring, &mut bytes, &mut row);
+    match spoiling {
+        Spoiling::Cut => add_cuts(&ring, &bytes, &mut row),
+        Spoiling::Change => add_changes(&ring, &mut bytes, &mut row),
+    }
     row.into_text(alloc)
 }

@@ -24,7 +24,7 @@ mod answers;
 mod row;
 mod votes;
 
-use crate::admitted::{cuts, every_change};
+use crate::admitted::{Spoiling, spoilt};
 use crate::answers::check;
 use crate::row::changes;
 use crate::votes::votes;
@@ -83,8 +83,8 @@ fn answer(
     match ask {
         "check" => check(alloc, config, receiver, &bytes_of(alloc, rest)?),
         "changes" => changes(alloc, config, receiver, rest),
-        "cuts" => cuts(alloc, config, receiver, rest),
-        "every-change" => every_change(alloc, config, receiver, rest),
+        "cuts" => spoilt(alloc, config, receiver, Spoiling::Cut, rest),
+        "every-change" => spoilt(alloc, config, receiver, Spoiling::Change, rest),
         "votes" => votes(alloc, config, receiver, rest),
         _ => Err(Fault::BadFields),
     }
