@@ -15,10 +15,11 @@ use Rattle.definitions.specs.Tags.{tag_len}
 use Rattle.definitions.specs.FrameLimits.{IsReadAs}
 use Rattle.definitions.specs.Replies.{reply_text, exists}
 use Rattle.definitions.specs.Histories.{Answer}
-use Rattle.definitions.specs.Sendings.{to_party, reply_to}
+use Rattle.definitions.specs.Sendings.{to_all, to_party, reply_to}
 use Rattle.signed_frames.specs.Outs.{SentBytes}
+use Rattle.liars.specs.declared.lying.TheConstants.{REPEATS}
 use Rattle.liars.specs.declared.lying.Liar.{Liar}
-use Rattle.liars.specs.declared.lying.Liar.TheVariants.{Mute, TwoFaced, BadReply, Crowder}
+use Rattle.liars.specs.declared.lying.Liar.TheVariants.{Mute, TwoFaced, BadReply, Crowder, Flooder}
 
 -- the proposal of a block that has no commands, with a replica's tags
 abbrev pub empty_proposal : Keys → ℕ → Core → Certificate → Frame
@@ -79,6 +80,10 @@ crowded ring sent (Some (proposal view core q vector)) =
     sent ∷ map (crowd_to ring core q) (range_with_len 0 (MOST_OF_HEIGHT * replicas ring.sizes))
 crowded ring sent read = sent ∷ []
 
+-- what a flooder sends in place of a frame: the frame, and the same so many times more, to all replicas
+abbrev pub flooded : SentBytes → List SentBytes
+flooded sent = sent ∷ replicate REPEATS (to_all, sent.1, sent.2)
+
 -- it is sent in place of a frame, by what the frame's bytes are read as
 abbrev pub IsTold : (SentBytes → Option Frame → List SentBytes) → Sizes → SentBytes → List SentBytes → Type 0
 IsTold told sizes sent out = (read : Option Frame) × IsReadAs sizes sent.2 read × (out ≡ told sent read)
@@ -89,3 +94,4 @@ IsLie ring Mute sent out = out ≡ []
 IsLie ring TwoFaced sent out = IsTold (two_faced ring) ring.sizes sent out
 IsLie ring BadReply sent out = IsTold (bad_reply ring) ring.sizes sent out
 IsLie ring Crowder sent out = IsTold (crowded ring) ring.sizes sent out
+IsLie ring Flooder sent out = out ≡ flooded sent

@@ -8,7 +8,7 @@ ghost use Rattle.definitions.specs.Checks.{identity_of};
 ghost use Rattle.definitions.specs.Sendings.{reply_to};
 ghost use Rattle.frames_view.specs.Views.{reply_of, proposal_of, core_of, certificate_of};
 ghost use Rattle.signed_frames.specs.Outs.{sent_of};
-ghost use Rattle.liars.specs.Lies.{IsLie, IsTold, bad_reply, crowded, empty_proposal, faces, two_faced};
+ghost use Rattle.liars.specs.Lies.{IsLie, IsTold, bad_reply, crowded, empty_proposal, faces, flooded, two_faced};
 
 use crate::crowd::crowd;
 use authenticators::Keyring;
@@ -34,7 +34,12 @@ pub enum Liar {
     /// As a leader it sends all replicas, behind each proposal, 64 different blocks of the next height, on
     /// the proposed one: as many as a tree takes. Each has one command that nobody sent.
     Crowder,
+    /// It sends each frame 64 times more, to all replicas.
+    Flooder,
 }
+
+/// How many times more a flooder sends each frame.
+const REPEATS: usize = 64;
 
 /// What goes out where a replica of this keyring wants to send a frame.
 ///
@@ -54,6 +59,7 @@ pub fn lie(
         Liar::TwoFaced => with_two_faces(alloc, keyring, sending),
         Liar::BadReply => with_bad_reply(alloc, keyring, sending),
         Liar::Crowder => with_crowd(alloc, keyring, sending),
+        Liar::Flooder => with_flood(alloc, sending),
     }
 }
 
@@ -116,6 +122,25 @@ fn with_crowd(alloc: Global, keyring: &Keyring, sending: Sending) -> Result<Vec<
         }
         _ => one(alloc, sending),
     }
+}
+
+/// What a flooder sends.
+fn with_flood(alloc: Global, sending: Sending) -> Result<Vec<Sending>, Fault>
+    ensures lies { IfOk result (λ out. map sent_of out.items ≡ flooded (sent_of sending)) }
+    ensures memory { OnErr result (result ≡ Err Fault.Memory) }
+{
+    let kind = sending.kind;
+    let mut out = Vec::new(alloc);
+    for _ in 0..REPEATS {
+        let frame = Vec::from_slice(alloc, &sending.frame)?;
+        out.push(Sending {
+            to: To::All,
+            kind,
+            frame,
+        })?;
+    }
+    out.insert(0, sending)?;
+    Ok(out)
 }
 
 /// The proposal of a block without commands in place of this one's.

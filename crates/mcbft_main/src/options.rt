@@ -19,7 +19,7 @@ and in another terminal:
   printf 'set a 0 0 1\\r\\nx\\r\\nget a\\r\\nquit\\r\\n' | nc 127.0.0.1 11211";
 
 /// The names of the lies.
-const LIARS: [&str; 4] = ["mute", "two-faced", "bad-reply", "crowder"];
+const LIARS: [&str; 5] = ["mute", "two-faced", "bad-reply", "crowder", "flooder"];
 
 /// What the words of a command line say.
 pub(crate) fn matches_of(alloc: Global, words: &[String]) -> Result<ArgMatches<'_>, Error> {
@@ -179,6 +179,7 @@ fn liar_of(name: &str) -> Option<Liar> {
         "two-faced" => Some(Liar::TwoFaced),
         "bad-reply" => Some(Liar::BadReply),
         "crowder" => Some(Liar::Crowder),
+        "flooder" => Some(Liar::Flooder),
         _ => None,
     }
 }

@@ -110,6 +110,7 @@ fn main(rt: HostRuntime) -> Result<()> {
         (Some(Liar::TwoFaced), None),
         (Some(Liar::BadReply), None),
         (Some(Liar::Crowder), None),
+        (Some(Liar::Flooder), None),
         (None, Some(4)),
     ] {
         match window {
