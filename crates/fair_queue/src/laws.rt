@@ -1,0 +1,9 @@
+//! What the turns are for. Each law stands as the contract of a function with an empty body.
+
+ghost use Rattle.fair_queue.specs.Laws.{ComeNearer};
+
+/// A row from which something may be taken, and isn't, is nearer to the turn afterwards. So it is served before
+/// any other row is served twice.
+pub fn others_come_nearer<T>()
+    ensures { ComeNearer T }
+{}

@@ -1,0 +1,118 @@
+//! What one sender has waiting.
+
+ghost use Rattle.std.specs.Prelude.{◌≡◌, ◌+◌, ◌-◌, ◌<◌, ◌≤◌, [], ◌∷◌, ◌++◌, nat_lt, OnOk, OnErr, IfSome, IfNone, MatchBool, List, ℕ, is_some};
+ghost use Rattle.fair_queue.specs.Queues.{size_of, is_ready, after_one, refilled};
+ghost use Rattle.fair_queue.specs.declared.refusal.Refusal.TheVariants.{Full, Memory};
+
+use crate::refusal::Refusal;
+use std::alloc::Global;
+use std::collections::VecDeque;
+use std::marker::Model;
+
+/// How much size may wait in a row.
+pub const MOST_SIZE: usize = 16_777_216;
+
+/// How many values may be taken from a row between two refills.
+pub const COUNT_ALLOWED: usize = 256;
+
+/// How much size may be taken from a row between two refills, beside that of one value more.
+pub const SIZE_ALLOWED: usize = 524_288;
+
+/// The values of one sender that wait, oldest first.
+#[derive(Drop)]
+pub(crate) struct Row<T> {
+    /// Each value, with its size.
+    items: VecDeque<(usize, T)>,
+    /// How much size waits.
+    size: usize,
+    count_left: usize,
+    size_left: usize,
+}
+
+impl<T> Model for Row<T> {
+    ghost use Rattle.std.specs.Prelude.{◌≡◌, ◌≤◌};
+    ghost use Rattle.fair_queue.specs.Queues as queues;
+    ghost use Rattle.fair_queue.specs.declared.row.TheConstants.{MOST_SIZE};
+
+    ghost Value = { queues.Row T };
+
+    ghost view = { λ row. record {
+      items = row.items.items;
+      count_left = row.count_left;
+      size_left = row.size_left;
+    } };
+
+    ghost invariant = { λ row. (row.size ≡ queues.size_of row.items.items) × (row.size ≤ MOST_SIZE) };
+}
+
+impl<T: Drop> Row<T> {
+    /// Nothing waits, and the whole allowance is left.
+    pub(crate) fn new(alloc: Global) -> Row<T>
+        ensures { result ≡ record { items = []; count_left = COUNT_ALLOWED; size_left = SIZE_ALLOWED } }
+    {
+        Row {
+            items: VecDeque::new(alloc),
+            size: 0,
+            count_left: COUNT_ALLOWED,
+            size_left: SIZE_ALLOWED,
+        }
+    }
+
+    /// Whether something may be taken.
+    pub(crate) fn is_ready(&self) -> bool
+        ensures { result ≡ is_ready self.now }
+    {
+        !self.items.is_empty() && self.count_left > 0 && self.size_left > 0
+    }
+
+    /// How much size waits.
+    pub(crate) fn size(&self) -> usize
+        ensures size { result ≡ size_of self.now.items }
+        ensures share { result ≤ MOST_SIZE }
+    {
+        self.size
+    }
+
+    /// A value more waits, at the end.
+    pub(crate) fn put(&mut self, size: usize, value: T) -> Result<(), Refusal>
+        ensures put { OnOk result
+            (self.new ≡ record self.old { items = self.old.items ++ (size, value) ∷ [] }) }
+        ensures unchanged { OnErr result (self.new ≡ self.old) }
+        ensures share { MatchBool (nat_lt MOST_SIZE (size_of self.old.items + size))
+            (result ≡ Err Full) (OnErr result (result ≡ Err Memory)) }
+    {
+        if size > MOST_SIZE - self.size {
+            return Err(Refusal::Full);
+        }
+        if self.items.push_back((size, value)).is_err() {
+            return Err(Refusal::Memory);
+        }
+        self.size += size;
+        Ok(())
+    }
+
+    /// Takes the oldest value, where that may be taken, and lowers what is left of the allowance.
+    pub(crate) fn take(&mut self) -> Option<T>
+        ensures taken { IfSome result (λ value. (size : ℕ) × (rest : List (ℕ × T))
+            × (self.old.items ≡ (size, value) ∷ rest) × (self.new ≡ after_one self.old size rest)) }
+        ensures ready { is_some result ≡ is_ready self.old }
+        ensures unchanged { IfNone result (self.new ≡ self.old) }
+    {
+        if !self.is_ready() {
+            return None;
+        }
+        let (size, value) = self.items.pop_front()?;
+        self.size -= size;
+        self.count_left -= 1;
+        self.size_left = self.size_left.saturating_sub(size);
+        Some(value)
+    }
+
+    /// The whole allowance is left again.
+    pub(crate) fn refill(&mut self)
+        ensures { self.new ≡ refilled self.old }
+    {
+        self.count_left = COUNT_ALLOWED;
+        self.size_left = SIZE_ALLOWED;
+    }
+}
