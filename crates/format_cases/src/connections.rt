@@ -19,10 +19,10 @@ mod feeding;
 mod patience;
 mod serving;
 
-use anyhow::Result;
 use crate::connections::feeding::{cut_in_two, in_pieces};
 use crate::connections::patience::holds_texts_back;
 use crate::connections::serving::{Plan, served};
+use anyhow::Result;
 use std::alloc::Global;
 
 /// What is printed of a case.
