@@ -14,7 +14,7 @@ use std::time::{Clock, Duration, Instant};
 /// For how many milliseconds a client waits before it sends its request again.
 const PATIENCE_MILLIS: u64 = 1000;
 
-/// How many parcels may wait at a replica's link without a client's holding back.
+/// How many requests may wait at a replica's link without a client's holding back.
 const MOST_WAITING: usize = 1024;
 
 /// For how many milliseconds at most a client holds back a request.
@@ -48,8 +48,8 @@ impl<R: Wait + Clock + AllocGlobal> ClientLink<R> {
         }
     }
 
-    /// While much waits at a replica's link, lets it catch up, so that links don't grow without end where
-    /// processors are too few for all. Not for long: a faulty replica could be slow for ever.
+    /// While many requests wait at a replica's link, lets it catch up, where processors are too few for all. Not
+    /// for long: a faulty replica could be slow for ever.
     fn hold_back(&self) {
         for _ in 0..MOST_HELD_MILLIS {
             if self.links.longest() <= MOST_WAITING {

@@ -95,8 +95,8 @@ impl<'a, 's, S: Drop> Board<'a, 's, S> {
         now.executed
     }
 
-    /// Warns of replicas that fall behind or send too much, and tells a line each so many seconds, if any, until it is told
-    /// to stop.
+    /// Warns of replicas that fall behind or send too much, and tells a line each so many seconds, if any, until
+    /// it is told to stop.
     pub(crate) fn keep<R: Wait + Clock + Log>(
         &self,
         rt: &R,

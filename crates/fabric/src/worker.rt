@@ -219,8 +219,8 @@ impl<'a, G: Gate, O: Outgoing> Post<'a, G, O> {
         }
     }
 
-    /// Takes what comes over the replica's link until it is told to stop. It
-    /// gives the share back, with the steps that it made.
+    /// Takes what comes over the replica's link until it is told to stop. It gives the share back, with the steps
+    /// that it made.
     pub fn work<R: Wait + Clock, S: Steps>(self, rt: &R, steps: &mut S, mut share: Share) -> Share
         ensures { HasGrown share result }
     {
