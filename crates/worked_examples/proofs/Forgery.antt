@@ -50,7 +50,7 @@ were_sent is_faulty sent (x ∷ xs) =
     (is_faulty x.sender || was_sent sent x) && were_sent is_faulty sent xs
 
 -- so were those of what an event brings to a correct party
-abbrev none_forged_in : World → Event → Option Frame → Bool
+abbrev pub none_forged_in : World → Event → Option Frame → Bool
 none_forged_in w e None = true
 none_forged_in w e (Some f) = w.is_faulty (party_of e)
     || were_sent w.is_faulty w.sent (accepted_tags (self_of w (party_of e)) f)
@@ -119,7 +119,7 @@ cores_of (frame.proposal v core q t) = core ∷ []
 cores_of (frame.block s core q t) = core ∷ []
 cores_of f = []
 
-abbrev cores_in : Option Frame → List Core
+abbrev pub cores_in : Option Frame → List Core
 cores_in None = []
 cores_in (Some f) = cores_of f
 
@@ -164,7 +164,7 @@ brought-among (h ∷ hs) w c (inr k) =
 -- ---- one walk through a schedule
 
 -- the run takes the event
-abbrev is_taken : Option Fault → Bool
+abbrev pub is_taken : Option Fault → Bool
 is_taken None = true
 is_taken (Some n) = false
 
@@ -176,7 +176,7 @@ pub record Seen : Type 0 where
   pub brought : List Core
   pub last : World
 
-abbrev seen_with : World → Happening → Seen → Seen
+abbrev pub seen_with : World → Happening → Seen → Seen
 seen_with w h rest = record {
   taken = is_taken (refusal w h.0) && rest.taken;
   honest = none_forged_in w h.0 (brought w h.0) && rest.honest;
@@ -215,7 +215,7 @@ seen-brought [] w = refl
 seen-brought (h ∷ hs) w =
     ap (λ (l : List Core). cores_in (brought w h.0) ++ l) (seen-brought hs (happens w h))
 
-seen-last : (hs : List Happening) (w : World) → (seen w hs).last ≡ after w hs
+pub seen-last : (hs : List Happening) (w : World) → (seen w hs).last ≡ after w hs
 unfolding after
 seen-last [] w = refl
 seen-last (h ∷ hs) w = seen-last hs (happens w h)

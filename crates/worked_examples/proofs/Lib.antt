@@ -6,4 +6,8 @@ mod OnePruned
 mod Rounds
 mod PrunedTree
 mod Forgery
+mod Computed
+mod Snapshots
+mod LiarTags
+mod LiarWorlds
 mod LiarRun

@@ -1,29 +1,12 @@
 -- A small run, computed.
 use Rattle.std.proofs.Common.{refl}
-use Rattle.sha2.specs.Sha256.{sha256, digest_bytes, hash_after, compress, rounds, schedule, first_words}
-use Rattle.definitions.specs.Lists.{beginning, greatest, count_below}
-use Rattle.definitions.specs.Tags.{hmac}
-use Rattle.definitions.specs.Keyrings.{tag_for, verify, tags_for}
-use Rattle.definitions.specs.Branches.{justify_height, just1, just2, just3, command_eq, block_eq, branch_eq}
-use Rattle.definitions.specs.Branches.{extends, highest}
+use Rattle.definitions.specs.Lists.{count_below}
 use Rattle.definitions.specs.Digests.{digest, core_over, digest_of, core_of}
-use Rattle.definitions.specs.Histories.{history_of, answers, last_seq}
-use Rattle.definitions.specs.Chronicles.{voted_blocks, taken_blocks, tree, vheight, lock, decides}
-use Rattle.definitions.specs.Chronicles.{decided_by, decided}
-use Rattle.definitions.specs.Chronicles.{executed, history, stored_blocks, horizon, standing_blocks}
-use Rattle.definitions.specs.Chronicles.{window, is_safe}
-use Rattle.definitions.specs.Checks.{counted_voters, is_good, is_clear_core}
-use Rattle.definitions.specs.States.{find_block, view, announcements, announced, reached_view, votes, raised}
-use Rattle.definitions.specs.States.{qc_high, is_due, pending, leads, is_known, picks, child, leaf}
-use Rattle.definitions.specs.States.{proposed}
-use Rattle.definitions.specs.Trees.{is_clear, clear_above, placing_known, placing_new, placing}
-use Rattle.definitions.specs.Rulings.{admitted, votes_for, on_placing, ruling, conflicts}
-use Rattle.definitions.specs.Sendings.{vote_frame, proposal_frame, new_replies, sendings}
-use Rattle.definitions.specs.Replicas.{on_step, on_ruling, step}
-use Rattle.definitions.specs.Admission.{check}
+use Rattle.definitions.specs.Checks.{is_good}
+use Rattle.definitions.specs.Sendings.{vote_frame, proposal_frame}
 use Rattle.definitions.specs.Worlds.{new_world}
-use Rattle.definitions.specs.Events.{nothing, stepped, comes, party_of, brought, acts, effect, happens}
-use Rattle.definitions.specs.Runs.{refusal, run, after}
+use Rattle.definitions.specs.Events.{party_of, brought, happens}
+use Rattle.definitions.specs.Runs.{after}
 use Rattle.std.specs.Prelude.{◌≡◌, [], ◌∷◌}
 use Rattle.definitions.specs.Replicas.{ample}
 use Rattle.definitions.specs.Sendings.{to_all, to_party}
@@ -41,6 +24,7 @@ use Rattle.definitions.specs.Bytes.{Bytes}
 use Rattle.worked_examples.specs.Runs.{IsTakenWhole, SendsOneVote, Lengths, Answers, PremisesHold, sizes}
 use Rattle.worked_examples.specs.Runs.{start}
 use Rattle.worked_examples.specs.Runs as example
+use Rattle.worked_examples.proofs.Computed.{of_steps}
 
 -- the proposal in the record
 abbrev proposal_sent : Sent
@@ -48,94 +32,34 @@ proposal_sent = record { event = 1; sender = 0; to = to_all; frame = example.pro
 
 -- what the run sends
 pub sends : SendsOneVote
-unfolding sha256 digest_bytes hash_after compress rounds schedule first_words beginning greatest count_below
-    hmac tag_for verify tags_for justify_height just1 just2 just3 command_eq block_eq branch_eq extends
-    highest digest core_over digest_of core_of history_of answers last_seq voted_blocks taken_blocks tree
-    vheight lock
-    decides decided_by decided executed history stored_blocks horizon standing_blocks window is_clear
-    clear_above is_safe counted_voters
-    is_good
-    is_clear_core view announcements announced reached_view votes raised qc_high is_due pending leads is_known
-    picks child leaf proposed find_block admitted votes_for placing_known placing_new placing on_placing
-    ruling conflicts vote_frame proposal_frame new_replies sendings on_step on_ruling step check new_world
-    nothing stepped comes party_of brought acts effect happens refusal run after
+unfolding of_steps
 sends = refl
 
 -- no event is refused by the run
 pub taken_whole : IsTakenWhole
-unfolding sha256 digest_bytes hash_after compress rounds schedule first_words beginning greatest count_below
-    hmac tag_for verify tags_for justify_height just1 just2 just3 command_eq block_eq branch_eq extends
-    highest digest core_over digest_of core_of history_of answers last_seq voted_blocks taken_blocks tree
-    vheight lock
-    decides decided_by decided executed history stored_blocks horizon standing_blocks window is_clear
-    clear_above is_safe counted_voters
-    is_good
-    is_clear_core view announcements announced reached_view votes raised qc_high is_due pending leads is_known
-    picks child leaf proposed find_block admitted votes_for placing_known placing_new placing on_placing
-    ruling conflicts vote_frame proposal_frame new_replies sendings on_step on_ruling step check new_world
-    nothing stepped comes party_of brought acts effect happens refusal run after
+unfolding of_steps
 taken_whole = refl
 
 -- how long its frames are
 pub lengths : Lengths
-unfolding sha256 digest_bytes hash_after compress rounds schedule first_words beginning greatest count_below
-    hmac tag_for verify tags_for justify_height just1 just2 just3 command_eq block_eq branch_eq extends
-    highest digest core_over digest_of core_of history_of answers last_seq voted_blocks taken_blocks tree
-    vheight lock
-    decides decided_by decided executed history stored_blocks horizon standing_blocks window is_clear
-    clear_above is_safe counted_voters
-    is_good
-    is_clear_core view announcements announced reached_view votes raised qc_high is_due pending leads is_known
-    picks child leaf proposed find_block admitted votes_for placing_known placing_new placing on_placing
-    ruling conflicts vote_frame proposal_frame new_replies sendings on_step on_ruling step check new_world
-    nothing stepped comes party_of brought acts effect happens refusal run after
+unfolding of_steps
 lengths = refl
 
 -- nor by a party
 pub answered : Answers
-unfolding sha256 digest_bytes hash_after compress rounds schedule first_words beginning greatest count_below
-    hmac tag_for verify tags_for justify_height just1 just2 just3 command_eq block_eq branch_eq extends
-    highest digest core_over digest_of core_of history_of answers last_seq voted_blocks taken_blocks tree
-    vheight lock
-    decides decided_by decided executed history stored_blocks horizon standing_blocks window is_clear
-    clear_above is_safe counted_voters
-    is_good
-    is_clear_core view announcements announced reached_view votes raised qc_high is_due pending leads is_known
-    picks child leaf proposed find_block admitted votes_for placing_known placing_new placing on_placing
-    ruling conflicts vote_frame proposal_frame new_replies sendings on_step on_ruling step check new_world
-    nothing stepped comes party_of brought acts effect happens refusal run after
+unfolding of_steps
 answered = refl
 
 -- ---- the premises
 
 -- the record after the beat and after the vote
 after_beat : (after start ((beat 0, ample) ∷ [])).sent ≡ proposal_sent ∷ []
-unfolding sha256 digest_bytes hash_after compress rounds schedule first_words beginning greatest count_below
-    hmac tag_for verify tags_for justify_height just1 just2 just3 command_eq block_eq branch_eq extends
-    highest digest core_over digest_of core_of history_of answers last_seq voted_blocks taken_blocks tree
-    vheight lock
-    decides decided_by decided executed history stored_blocks horizon standing_blocks window is_clear
-    clear_above is_safe counted_voters
-    is_good
-    is_clear_core view announcements announced reached_view votes raised qc_high is_due pending leads is_known
-    picks child leaf proposed find_block admitted votes_for placing_known placing_new placing on_placing
-    ruling conflicts vote_frame proposal_frame new_replies sendings on_step on_ruling step check new_world
-    nothing stepped comes party_of brought acts effect happens refusal run after
+unfolding of_steps
 after_beat = refl
 
 after_vote : (after start ((beat 0, ample) ∷ (relay 0 1, ample) ∷ [])).sent
     ≡ proposal_sent ∷ record { event = 2; sender = 1; to = to_party 0; frame = example.voted } ∷ []
-unfolding sha256 digest_bytes hash_after compress rounds schedule first_words beginning greatest count_below
-    hmac tag_for verify tags_for justify_height just1 just2 just3 command_eq block_eq branch_eq extends
-    highest digest core_over digest_of core_of history_of answers last_seq voted_blocks taken_blocks tree
-    vheight lock
-    decides decided_by decided executed history stored_blocks horizon standing_blocks window is_clear
-    clear_above is_safe counted_voters
-    is_good
-    is_clear_core view announcements announced reached_view votes raised qc_high is_due pending leads is_known
-    picks child leaf proposed find_block admitted votes_for placing_known placing_new placing on_placing
-    ruling conflicts vote_frame proposal_frame new_replies sendings on_step on_ruling step check new_world
-    nothing stepped comes party_of brought acts effect happens refusal run after
+unfolding of_steps
 after_vote = refl
 
 -- the proposal's own tag for replica 1 is all that replica 1 relies on, and it was sent
@@ -167,11 +91,11 @@ none_forged w rest same sent f b ok ad x k okx =
 
 -- the digests of the two cores begin with other bytes
 genesis_first : get_or (digest genesis_core) 0 0 ≡ 120
-unfolding sha256 digest_bytes hash_after compress rounds schedule first_words digest
+unfolding of_steps
 genesis_first = refl
 
 block_first : get_or (digest_of example.block1) 0 0 ≡ 91
-unfolding sha256 digest_bytes hash_after compress rounds schedule first_words digest core_over digest_of
+unfolding of_steps
 block_first = refl
 
 digests_apart : digest genesis_core ≡ digest_of example.block1 → ⊥

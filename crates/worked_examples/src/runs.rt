@@ -1,7 +1,8 @@
-//! A small run of a world, with real digests and tags, computed.
+//! Runs of a world, with real digests and tags, computed.
 
 ghost use Rattle.worked_examples.specs.Liar.{IsTakenWhole as IsTakenWithALiar};
 ghost use Rattle.worked_examples.specs.Liar.{PremisesHold as PremisesHoldWithALiar};
+ghost use Rattle.worked_examples.specs.Liar.{LiarVotes, LiarTells, Accepts, IsOfTheCache};
 ghost use Rattle.worked_examples.specs.Rounds.{SentSizes, SentIn};
 ghost use Rattle.worked_examples.specs.Runs.{IsTakenWhole, SendsOneVote, Lengths, Answers, PremisesHold};
 
@@ -24,9 +25,18 @@ pub fn the_premises_of_runs_can_be_met()
     ensures { PremisesHold }
 {}
 
-/// They hold of a run with a faulty replica, too, of which a frame is injected: what carries its own
+/// They hold of a run with a faulty replica, too, which ends with a receipt: a frame of the liar's with its own
 /// tags forges nothing.
 pub fn the_premises_can_be_met_beside_a_liar()
     ensures whole { IsTakenWithALiar }
     ensures premises { PremisesHoldWithALiar }
+{}
+
+/// In that run the liar's votes count, and the client counts its reply, too, which tells another text. The
+/// client accepts what the sequential cache replies.
+pub fn a_receipt_is_right_beside_a_liar()
+    ensures votes { LiarVotes }
+    ensures tells { LiarTells }
+    ensures accepted { Accepts }
+    ensures reply { IsOfTheCache }
 {}
