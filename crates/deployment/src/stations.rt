@@ -115,14 +115,7 @@ pub(crate) fn man<R: Wait + Clock + AllocGlobal>(
     };
     let _share = match tongue {
         None => {
-            let post = Post::new(
-                alloc,
-                keyring,
-                &gate,
-                &station.inbox,
-                links,
-                &station.room,
-            );
+            let post = Post::new(alloc, keyring, &gate, &station.inbox, links, &station.room);
             post.work(rt, &mut steps, share)
         }
         Some(tongue) => {
