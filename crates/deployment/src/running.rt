@@ -22,7 +22,7 @@ use std::sync::{Arc, Wait};
 use std::thread;
 use std::thread::Threads;
 use std::time::Clock;
-use tcp_front::{Closer, Seats, front};
+use tcp_front::{Closer, SharedSeats, front};
 
 /// How a deployment ended.
 #[derive(Clone, Copy, Debug)]
@@ -46,7 +46,7 @@ fn stop_all<R: Wait>(rt: &R, links: &Links) {
 struct Bell<'a, S> {
     links: &'a Links,
     roll: &'a Roll,
-    seats: &'a Seats<S>,
+    seats: &'a SharedSeats<S>,
     closer: &'a Closer,
 }
 
@@ -147,7 +147,7 @@ pub fn run<R: Threads + Wait + Clock + Sync + Send + AllocGlobal + Log + Clone +
     let bell = Bell {
         links: &links,
         roll: &roll,
-        seats: &seats,
+        seats: seats.shared(),
         closer: &closer,
     };
     let served = serve_at(rt, stations.as_slice(), crews, &bell, listener, terms);

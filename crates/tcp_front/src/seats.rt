@@ -1,8 +1,9 @@
-ghost use Rattle.std.specs.Prelude.{◌≡◌, map, Some, IfOk, OnErr, Err, vec_len};
+ghost use Rattle.std.specs.Prelude.{◌≡◌, length, IfOk, OnErr, Err};
 ghost use Rattle.ids.specs.declared.fault.Fault.TheVariants.{Memory};
 
 use client_service::{ClientService, Link};
 use connection::Service;
+use ghost_list::{GhostList, Tells};
 use ids::Fault;
 use std::alloc::Global;
 use std::marker::Model;
@@ -29,12 +30,68 @@ pub(crate) struct Taken<S> {
     pub(crate) seat: S,
 }
 
-/// The seats of a server. Each is free, or a connection has it, or it is lost.
+/// A seat that is put under its lock.
+#[derive(Drop)]
+struct Seated<'a, S> {
+    seat: &'a S,
+}
+
+impl<'a, S> Tells<S> for Seated<'a, S> {
+    ghost tells = { λ seated. seated.seat.now };
+}
+
+/// The seats of a server, as they were made: contracts see them in their order.
 ///
-/// Threads share it by reference. Contracts see how many seats there are: a lock shows nothing of what lies
-/// under it.
+/// Each is free, or a connection has it, or it is lost. What threads share of them is `shared`.
 #[derive(Drop)]
 pub struct Seats<S> {
+    shared: SharedSeats<S>,
+    /// What was put into the slots when they were made, the last one first.
+    made_with: GhostList<S>,
+}
+
+impl<S> Model for Seats<S> {
+    ghost use Rattle.std.specs.Prelude.{List, length, reverse, ◌≡◌};
+
+    ghost Value = { List S };
+
+    ghost view = { λ seats. reverse seats.made_with.items };
+
+    ghost invariant = { λ seats. length seats.made_with.items ≡ seats.shared };
+}
+
+impl<S: Drop> Seats<S> {
+    /// These seats, all free. Refused for want of memory alone.
+    pub fn new(alloc: Global, seats: Vec<S>) -> Result<Seats<S>, Fault>
+        ensures all { IfOk result (λ made. made ≡ seats.items) }
+        ensures memory { OnErr result (result ≡ Err Memory) }
+    {
+        let mut slots = Vec::with_capacity(alloc, seats.len())?;
+        let mut made_with = GhostList::new();
+        for seat in seats {
+            made_with = made_with.with(&Seated { seat: &seat });
+            slots.push_reserved(Mutex::new(Some(seat)));
+        }
+        let shared = SharedSeats {
+            slots,
+            taken: AtomicU64::new(0),
+            is_closed: AtomicBool::new(false),
+        };
+        Ok(Seats { shared, made_with })
+    }
+
+    /// What the front and the threads of its connections share.
+    pub fn shared(&self) -> &SharedSeats<S>
+        ensures { result.now ≡ length self.now }
+    {
+        &self.shared
+    }
+}
+
+/// Seats that threads share by reference. Contracts see how many there are: a lock shows nothing of what lies
+/// under it.
+#[derive(Drop)]
+pub struct SharedSeats<S> {
     /// By number. A free one stands in its slot.
     slots: Vec<Mutex<Option<S>>>,
     /// How many are taken now.
@@ -42,7 +99,7 @@ pub struct Seats<S> {
     is_closed: AtomicBool,
 }
 
-impl<S> Model for Seats<S> {
+impl<S> Model for SharedSeats<S> {
     ghost use Rattle.std.specs.Prelude.{ℕ, vec_len};
 
     ghost Value = { ℕ };
@@ -50,35 +107,7 @@ impl<S> Model for Seats<S> {
     ghost view = { λ seats. vec_len seats.slots };
 }
 
-/// What stands in the slots of these seats: each in its own, in their order.
-fn all_free<S: Drop>(alloc: Global, seats: Vec<S>) -> Result<Vec<Option<S>>, Fault>
-    ensures all { IfOk result (λ free. free.items ≡ map Some seats.items) }
-    ensures memory { OnErr result (result ≡ Err Memory) }
-{
-    Ok(seats.into_iter().map(Some).collect(alloc)?)
-}
-
-/// A lock round each of these, in their order.
-fn locked<T: Drop>(alloc: Global, all: Vec<T>) -> Result<Vec<Mutex<T>>, Fault>
-    ensures all { IfOk result (λ locks. vec_len locks ≡ vec_len all) }
-    ensures memory { OnErr result (result ≡ Err Memory) }
-{
-    Ok(all.into_iter().map(Mutex::new).collect(alloc)?)
-}
-
-impl<S: Drop> Seats<S> {
-    /// These seats, all free. Refused for want of memory alone.
-    pub fn new(alloc: Global, seats: Vec<S>) -> Result<Seats<S>, Fault>
-        ensures all { IfOk result (λ made. made ≡ vec_len seats) }
-        ensures memory { OnErr result (result ≡ Err Memory) }
-    {
-        Ok(Seats {
-            slots: locked(alloc, all_free(alloc, seats)?)?,
-            taken: AtomicU64::new(0),
-            is_closed: AtomicBool::new(false),
-        })
-    }
-
+impl<S: Drop> SharedSeats<S> {
     /// How many seats there are, lost ones included.
     pub fn len(&self) -> usize
         ensures { result ≡ self.now }
