@@ -6,6 +6,7 @@ mod bounded;
 mod crew;
 mod desk;
 mod ending;
+mod floods;
 mod guarded;
 mod laggards;
 mod link;

@@ -5,6 +5,7 @@ ghost use Rattle.ids.specs.Sizes.{replicas};
 
 use authenticators::Keyring;
 use fabric::{Links, Outgoing};
+use ids::ReplicaId;
 use liars::{Liar, lie};
 use signed_frames::Sending;
 use std::alloc::Global;
@@ -27,13 +28,13 @@ pub(crate) struct LyingOut<'a> {
 }
 
 impl<'a> Outgoing for LyingOut<'a> {
-    fn send<R: Wait>(&self, rt: &R, sending: Sending) {
+    fn send<R: Wait>(&self, rt: &R, from: ReplicaId, sending: Sending) {
         let tongue = &self.tongue;
         let Ok(lies) = lie(tongue.alloc, &tongue.keyring, tongue.liar, sending) else {
             return;
         };
         for sending in lies {
-            self.links.send(rt, sending);
+            self.links.send(rt, from, sending);
         }
     }
 }

@@ -15,9 +15,8 @@ use crate::lying::{LyingOut, Tongue};
 use crate::terms::Terms;
 use crate::watching::Progress;
 use clock::{Pulse, Watched, keep_time};
-use crossbeam_channel::Receiver;
 use doorkeeper::Doorkeeper;
-use fabric::{Links, Parcel, Post, WaitingRoom};
+use fabric::{Inbox, Links, Post, WaitingRoom};
 use ids::{Fault, ReplicaId};
 use key_file::PairKeys;
 use liars::Liar;
@@ -26,7 +25,7 @@ use marks::{Eye, Marks};
 use replica::Archived;
 use std::alloc::Global;
 use std::sync::atomic::AtomicBool;
-use std::sync::{Mutex, Wait};
+use std::sync::{Arc, Mutex, Wait};
 use std::time::Clock;
 use turns::Open;
 
@@ -39,7 +38,7 @@ pub(crate) struct Station<'a> {
     most_blocks: usize,
     /// How many heights it keeps, if it is to forget others.
     window: Option<u64>,
-    parcels: Receiver<Parcel>,
+    inbox: Arc<Inbox>,
     room: WaitingRoom,
 }
 
@@ -116,19 +115,12 @@ pub(crate) fn man<R: Wait + Clock + AllocGlobal>(
     };
     let _share = match tongue {
         None => {
-            let post = Post::new(
-                alloc,
-                keyring,
-                &gate,
-                &station.parcels,
-                links,
-                &station.room,
-            );
+            let post = Post::new(alloc, keyring, &gate, &station.inbox, links, &station.room);
             post.work(rt, &mut steps, share)
         }
         Some(tongue) => {
             let out = LyingOut { tongue, links };
-            let post = Post::new(alloc, keyring, &gate, &station.parcels, &out, &station.room);
+            let post = Post::new(alloc, keyring, &gate, &station.inbox, &out, &station.room);
             post.work(rt, &mut steps, share)
         }
     };
@@ -231,7 +223,7 @@ fn build_station<'a>(
     number: ReplicaId,
     eye: Eye,
     marks: &'a Marks,
-    parcels: Receiver<Parcel>,
+    inbox: Arc<Inbox>,
     terms: &Terms,
 ) -> Result<(Station<'a>, Crew), Fault>
     requires number { number < replicas keys.now.sizes }
@@ -250,7 +242,7 @@ fn build_station<'a>(
         }),
         most_blocks: terms.most_blocks(),
         window: terms.window,
-        parcels,
+        inbox,
         room: WaitingRoom::new(alloc),
     };
     Ok((station, crew))
@@ -262,7 +254,7 @@ pub(crate) fn stations<'a>(
     keys: &PairKeys,
     marks: &'a Marks,
     owners: Vec<Eye>,
-    ends: Vec<Receiver<Parcel>>,
+    ends: Vec<Arc<Inbox>>,
     terms: &Terms,
 ) -> Result<(Vec<Station<'a>>, Vec<Crew>), Fault>
     requires words { marks.now.words ≡ replicas keys.now.sizes }
@@ -273,7 +265,7 @@ pub(crate) fn stations<'a>(
     let mut stations = Vec::new(alloc);
     let mut crews = Vec::new(alloc);
     for (number, eye) in owners.into_iter().enumerate() {
-        let (Ok(number), Some(parcels)) = (u8::try_from(number), ends.next()) else {
+        let (Ok(number), Some(inbox)) = (u8::try_from(number), ends.next()) else {
             return Err(Fault::NoSuchParty);
         };
         stations.reserve(1)?;
@@ -284,7 +276,7 @@ pub(crate) fn stations<'a>(
             ReplicaId(number),
             eye,
             marks,
-            parcels,
+            inbox,
             terms,
         )?;
         stations.push_reserved(station);

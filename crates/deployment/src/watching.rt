@@ -2,6 +2,7 @@
 
 ghost use Rattle.std.specs.Prelude.{◌≡◌, max};
 
+use crate::floods::Floods;
 use crate::laggards::Laggards;
 use crate::roll::Roll;
 use crate::stations::Station;
@@ -94,7 +95,7 @@ impl<'a, 's, S: Drop> Board<'a, 's, S> {
         now.executed
     }
 
-    /// Warns of replicas that fall behind, and tells a line each so many seconds, if any, until it is told
+    /// Warns of replicas that fall behind or send too much, and tells a line each so many seconds, if any, until it is told
     /// to stop.
     pub(crate) fn keep<R: Wait + Clock + Log>(
         &self,
@@ -105,12 +106,14 @@ impl<'a, 's, S: Drop> Board<'a, 's, S> {
         let each = seconds.unwrap_or(u64::MAX).max(1);
         let (mut passed, mut executed) = (0u64, 0);
         let mut laggards = Laggards::none();
+        let mut floods = Floods::none();
         for _ in rt.forever() {
             if !sleep_a_second(rt, stop) {
                 break;
             }
             passed = passed.saturating_add(1);
             laggards.look(rt, self.stations);
+            floods.look(rt, self.links, passed);
             if passed % each == 0 {
                 executed = self.tell(rt, executed, each);
             }

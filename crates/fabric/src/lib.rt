@@ -2,11 +2,15 @@
 //! frames to replicas.
 #![tactic(auto)]
 
+mod inbox;
 mod links;
+mod parcel;
 mod queue;
 mod waiting;
 mod worker;
 
-pub use links::{Ends, Links, Parcel, WORKERS};
+pub use inbox::Inbox;
+pub use links::{Ends, Links, WORKERS};
+pub use parcel::Parcel;
 pub use waiting::WaitingRoom;
 pub use worker::{Outgoing, Post};

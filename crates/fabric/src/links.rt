@@ -3,70 +3,42 @@
 ghost use Rattle.std.specs.Prelude.{◌≡◌, ◌⊎◌, IfOk, OnErr, vec_len};
 ghost use Rattle.ids.specs.Sizes.{replicas};
 
+use crate::inbox::{Inbox, Row};
+use crate::parcel::Parcel;
 use bytes::Bytes;
 use crossbeam_channel::{Receiver, SendError, Sender};
-use ids::{ClientId, Config, Fault, Height, ReplicaId};
+use fair_queue::Refusal;
+use ids::{ClientId, Config, Fault, Height, MOST_COMMANDS, ReplicaId};
+use signed_frames::To;
 use std::alloc::Global;
 use std::marker::Model;
-use std::sync::Wait;
 use std::sync::atomic::AtomicU64;
 use std::sync::atomic::Ordering::SeqCst;
+use std::sync::{Arc, Wait};
 
 /// How many workers take from each replica's link.
 pub const WORKERS: usize = 2;
 
-/// What comes to a replica over its link, which its workers share.
-#[derive(Drop)]
-pub enum Parcel {
-    /// A frame, as it was sent.
-    Frame {
-        /// The frames that are handed to one replica's link are numbered from 1. At 2^64 - 1 the
-        /// number stays.
-        number: u64,
-        bytes: Bytes,
-    },
-    /// Leave to make a proposal.
-    Beat,
-    /// The view has lasted too long.
-    Timeout,
-    /// Leave to prune the tree up to this height.
-    Prune(u64),
-    /// The worker that takes it ends.
-    Stop,
-}
-
-/// The end of one replica's link at which frames are handed in.
-#[derive(Drop)]
-struct ReplicaLink {
-    /// How many frames were handed in.
-    handed: AtomicU64,
-    parcels: Sender<Parcel>,
-}
-
-impl ReplicaLink {
-    /// The number of the next frame.
-    fn next_number(&self) -> u64 {
-        let counted = self
-            .handed
-            .fetch_update(SeqCst, SeqCst, |n| n.checked_add(1));
-        match counted {
-            Ok(before) => before.saturating_add(1),
-            Err(last) => last,
-        }
-    }
-}
+/// In how many rows clients' requests wait. A frame comes without its client's number, so they are dealt out: as
+/// many requests get their turn between two frames of a replica as go into one block.
+const CLIENT_ROWS: usize = MOST_COMMANDS;
 
 /// The ends at which parcels are handed in, of the links of all parties. Threads share them by reference.
 ///
-/// A link takes any number of parcels, and a call waits for nobody but those that use the same link
-/// just then.
+/// At a replica's link each replica has a share of its own, and so have the replica's clock and the clients; what
+/// doesn't fit in its sender's share is lost, as on any network, and counted. A client's link takes any number of
+/// frames. A call waits for nobody but those that use the same link just then.
 #[derive(Drop)]
 pub struct Links {
     config: Config,
-    replicas: Vec<ReplicaLink>,
+    replicas: Vec<Arc<Inbox>>,
     clients: Vec<Sender<Bytes>>,
+    /// How many frames of clients were dealt out to rows.
+    dealt: AtomicU64,
     /// How many frames couldn't be handed in.
     lost: AtomicU64,
+    /// How many frames of each replica didn't fit in its share.
+    turned_away: Vec<AtomicU64>,
 }
 
 impl Model for Links {
@@ -80,18 +52,15 @@ impl Model for Links {
 /// The ends at which parcels come out, by number of party.
 ///
 /// A replica's workers share the one of their replica. A client waits at its own with `recv`, or
-/// with `recv_timeout` for at most some time. Once `Links` is dropped and all is taken, they fail.
+/// with `recv_timeout` for at most some time; once `Links` is dropped and all is taken, these fail.
 #[derive(Drop)]
 pub struct Ends {
-    pub replicas: Vec<Receiver<Parcel>>,
+    pub replicas: Vec<Arc<Inbox>>,
     pub clients: Vec<Receiver<Bytes>>,
 }
 
-/// The links of all replicas.
-fn replica_links(
-    alloc: Global,
-    config: Config,
-) -> Result<(Vec<ReplicaLink>, Vec<Receiver<Parcel>>), Fault>
+/// The inboxes of all replicas, twice.
+fn inboxes(alloc: Global, config: Config) -> Result<(Vec<Arc<Inbox>>, Vec<Arc<Inbox>>), Fault>
     ensures links { IfOk result (λ r. (vec_len r.0 ≡ replicas config) × (vec_len r.1 ≡ replicas config)) }
     ensures memory { OnErr result (result ≡ Err Fault.Memory) }
 {
@@ -99,14 +68,23 @@ fn replica_links(
     let mut links = Vec::with_capacity(alloc, count)?;
     let mut ends = Vec::with_capacity(alloc, count)?;
     for _ in 0..count {
-        let (parcels, end) = crossbeam_channel::unbounded(alloc)?;
-        links.push_reserved(ReplicaLink {
-            handed: AtomicU64::new(0),
-            parcels,
-        });
-        ends.push_reserved(end);
+        let inbox = Inbox::new(alloc, count + 1 + CLIENT_ROWS)?;
+        let inbox = Arc::new(alloc, inbox)?;
+        ends.push_reserved(Arc::try_clone(&inbox)?);
+        links.push_reserved(inbox);
     }
     Ok((links, ends))
+}
+
+/// So many counters at 0.
+fn counters(alloc: Global, count: usize) -> Result<Vec<AtomicU64>, Fault>
+    ensures { OnErr result (result ≡ Err Fault.Memory) }
+{
+    let mut counters = Vec::new(alloc);
+    for _ in 0..count {
+        counters.push(AtomicU64::new(0))?;
+    }
+    Ok(counters)
 }
 
 /// The links of all clients.
@@ -139,7 +117,7 @@ fn sent<T: Drop>(answer: Result<(), SendError<T>>) -> Result<(), Fault>
     }
 }
 
-/// Each call refuses with `NoSuchParty` where there is no such party or all its ends were dropped,
+/// Each call refuses with `NoSuchParty` where there is no such party, or all ends of a client's link were dropped,
 /// and with `Memory` where memory was refused; what was to be handed in is then lost, as on any
 /// network.
 impl Links {
@@ -150,13 +128,16 @@ impl Links {
         ensures clients { IfOk result (λ r. vec_len r.1.clients ≡ config.clients) }
         ensures memory { OnErr result (result ≡ Err Fault.Memory) }
     {
-        let (replicas, replica_ends) = replica_links(alloc, config)?;
+        let turned_away = counters(alloc, usize::from(config.n()))?;
+        let (replicas, replica_ends) = inboxes(alloc, config)?;
         let (clients, client_ends) = client_links(alloc, config)?;
         let links = Links {
             config,
             replicas,
             clients,
+            dealt: AtomicU64::new(0),
             lost: AtomicU64::new(0),
+            turned_away,
         };
         let ends = Ends {
             replicas: replica_ends,
@@ -172,9 +153,18 @@ impl Links {
         self.config
     }
 
-    /// How many frames were to be sent and are lost, for want of memory. One that is for all counts once.
+    /// How many frames were to be sent and are lost: for want of memory, where one that is for all counts once; or
+    /// since they didn't fit in their sender's share, where each counts that didn't come to a replica.
     pub fn lost(&self) -> u64 {
         self.lost.load(SeqCst)
+    }
+
+    /// How many of them didn't fit in the share of this replica at some link. 0 where there is no such replica.
+    pub fn turned_away(&self, from: ReplicaId) -> u64 {
+        match self.turned_away.get(usize::from(from.0)) {
+            Some(count) => count.load(SeqCst),
+            None => 0,
+        }
     }
 
     /// A frame that was to be sent is lost.
@@ -182,60 +172,144 @@ impl Links {
         self.lost.fetch_add(1, SeqCst);
     }
 
-    /// How many parcels wait at the link of the replica that is furthest behind.
-    pub fn longest(&self) -> usize {
-        let lengths = self.replicas.iter().map(|link| link.parcels.len());
-        lengths.max().unwrap_or(0)
+    /// A frame didn't fit in its row.
+    fn turn_away(&self, row: Row) {
+        self.lose();
+        if let Some(count) = self.turned_away.get(row.number) {
+            count.fetch_add(1, SeqCst);
+        }
     }
 
-    /// Hands in a parcel at a replica's link.
+    /// How many requests of clients wait at the link of the replica that is furthest behind. No replica can
+    /// raise it.
+    pub fn longest(&self) -> usize {
+        let counts = self.replicas.iter().map(|inbox| inbox.requests() as usize);
+        counts.max().unwrap_or(0)
+    }
+
+    /// The row of a replica's frames.
+    fn replica_row(&self, from: ReplicaId) -> Row {
+        Row {
+            number: usize::from(from.0),
+            is_request: false,
+        }
+    }
+
+    /// The row of what a replica's clock tells it.
+    fn clock_row(&self) -> Row {
+        Row {
+            number: usize::from(self.config.n()),
+            is_request: false,
+        }
+    }
+
+    /// The row of the next request.
+    fn client_row(&self) -> Row {
+        let place = self.dealt.fetch_add(1, SeqCst) as usize % CLIENT_ROWS;
+        Row {
+            number: usize::from(self.config.n()) + 1 + place,
+            is_request: true,
+        }
+    }
+
+    /// What a call at a replica's link came to.
+    fn handed(&self, row: Row, answer: Result<(), Refusal>) -> Result<(), Fault>
+        ensures { OnErr result (result ≡ Err Fault.Memory) }
+    {
+        match answer {
+            Ok(()) => Ok(()),
+            Err(Refusal::Memory) => Err(Fault::Memory),
+            Err(Refusal::Full) => {
+                self.turn_away(row);
+                Ok(())
+            }
+        }
+    }
+
+    /// Hands in at a replica's link what its clock tells it.
     fn hand_in<R: Wait>(&self, rt: &R, to: ReplicaId, parcel: Parcel) -> Result<(), Fault>
         ensures { OnErr result ((result ≡ Err Fault.Memory) ⊎ (result ≡ Err Fault.NoSuchParty)) }
     {
+        let row = self.clock_row();
         match self.replicas.get(usize::from(to.0)) {
-            Some(link) => sent(link.parcels.send(rt, parcel)),
+            Some(inbox) => self.handed(row, inbox.hand_in(rt, row, parcel)),
             None => Err(Fault::NoSuchParty),
         }
     }
 
-    /// Hands in a frame at a replica's link, which numbers it.
-    pub fn to_replica<R: Wait>(&self, rt: &R, to: ReplicaId, frame: Bytes) -> Result<(), Fault>
+    /// Hands in a frame at a replica's link.
+    fn hand_in_frame<R: Wait>(
+        &self,
+        rt: &R,
+        row: Row,
+        to: ReplicaId,
+        frame: Bytes,
+    ) -> Result<(), Fault>
         ensures { OnErr result ((result ≡ Err Fault.Memory) ⊎ (result ≡ Err Fault.NoSuchParty)) }
     {
-        let Some(link) = self.replicas.get(usize::from(to.0)) else {
-            return Err(Fault::NoSuchParty);
-        };
-        let number = link.next_number();
-        sent(
-            link.parcels.send(
-                rt,
-                Parcel::Frame {
-                    number,
-                    bytes: frame,
-                },
-            ),
-        )
+        match self.replicas.get(usize::from(to.0)) {
+            Some(inbox) => self.handed(row, inbox.hand_in_frame(rt, row, frame)),
+            None => Err(Fault::NoSuchParty),
+        }
     }
 
     /// Hands in one more copy of a frame at a replica's link. Its bytes are shared.
-    fn share_with<R: Wait>(&self, rt: &R, to: ReplicaId, frame: &Bytes) -> Result<(), Fault>
+    fn share_with<R: Wait>(
+        &self,
+        rt: &R,
+        row: Row,
+        to: ReplicaId,
+        frame: &Bytes,
+    ) -> Result<(), Fault>
         ensures { OnErr result ((result ≡ Err Fault.Memory) ⊎ (result ≡ Err Fault.NoSuchParty)) }
     {
         let copy = frame.clone()?;
-        self.to_replica(rt, to, copy)
+        self.hand_in_frame(rt, row, to, copy)
     }
 
     /// Hands in a frame at each replica's link. One that can't take it doesn't keep it from the others.
-    pub fn to_all<R: Wait>(&self, rt: &R, frame: Bytes) -> Result<(), Fault>
+    fn share_with_all<R: Wait>(&self, rt: &R, row: Row, frame: Bytes) -> Result<(), Fault>
         ensures { OnErr result ((result ≡ Err Fault.Memory) ⊎ (result ≡ Err Fault.NoSuchParty)) }
     {
         let mut all = Ok(());
         for number in 0..self.config.n() {
-            if let Err(fault) = self.share_with(rt, ReplicaId(number), &frame) {
+            if let Err(fault) = self.share_with(rt, row, ReplicaId(number), &frame) {
                 all = Err(fault);
             }
         }
         all
+    }
+
+    /// Hands in a client's frame at a replica's link, which numbers it.
+    pub fn to_replica<R: Wait>(&self, rt: &R, to: ReplicaId, frame: Bytes) -> Result<(), Fault>
+        ensures { OnErr result ((result ≡ Err Fault.Memory) ⊎ (result ≡ Err Fault.NoSuchParty)) }
+    {
+        self.hand_in_frame(rt, self.client_row(), to, frame)
+    }
+
+    /// Hands in a client's frame at each replica's link.
+    pub fn to_all<R: Wait>(&self, rt: &R, frame: Bytes) -> Result<(), Fault>
+        ensures { OnErr result ((result ≡ Err Fault.Memory) ⊎ (result ≡ Err Fault.NoSuchParty)) }
+    {
+        self.share_with_all(rt, self.client_row(), frame)
+    }
+
+    /// Hands in a frame of a replica where it goes.
+    pub(crate) fn send_from<R: Wait>(
+        &self,
+        rt: &R,
+        from: ReplicaId,
+        to: To,
+        frame: Bytes,
+    ) -> Result<(), Fault>
+        ensures { OnErr result ((result ≡ Err Fault.Memory) ⊎ (result ≡ Err Fault.NoSuchParty)) }
+    {
+        let row = self.replica_row(from);
+        match to {
+            To::All => self.share_with_all(rt, row, frame),
+            To::Replica(replica) => self.hand_in_frame(rt, row, replica, frame),
+            To::Client(client) => self.to_client(rt, client, frame),
+        }
     }
 
     /// Hands in a frame at a client's link.
@@ -269,15 +343,16 @@ impl Links {
         self.hand_in(rt, to, Parcel::Prune(height.0))
     }
 
-    /// Tells a replica's workers to end, once they have taken what was handed in before.
-    ///
-    /// After a refusal some may not know it: call it again, or they never end.
+    /// Tells a replica's workers to end, once they have taken what was handed in before. It takes no memory.
     pub fn stop<R: Wait>(&self, rt: &R, to: ReplicaId) -> Result<(), Fault>
-        ensures { OnErr result ((result ≡ Err Fault.Memory) ⊎ (result ≡ Err Fault.NoSuchParty)) }
+        ensures { OnErr result (result ≡ Err Fault.NoSuchParty) }
     {
-        for _ in 0..WORKERS {
-            self.hand_in(rt, to, Parcel::Stop)?;
+        match self.replicas.get(usize::from(to.0)) {
+            Some(inbox) => {
+                inbox.stop(rt, WORKERS);
+                Ok(())
+            }
+            None => Err(Fault::NoSuchParty),
         }
-        Ok(())
     }
 }

@@ -5,13 +5,14 @@ ghost use Rattle.ids.specs.Sizes.{replicas};
 ghost use Rattle.turns.specs.Shares.{Counts};
 ghost use Rattle.fabric.specs.Shares.{HasGrown};
 
-use crate::links::{Links, Parcel};
+use crate::inbox::Inbox;
+use crate::links::Links;
+use crate::parcel::Parcel;
 use crate::queue::Question;
 use crate::waiting::{Brought, Waiting, WaitingRoom};
 use admission::Input;
 use authenticators::Keyring;
 use bytes::Bytes;
-use crossbeam_channel::Receiver;
 use ids::{Digest, Fault, Height, Kind, ReplicaId};
 use signed_frames::{Out, Sending, To, fetch_frame};
 use std::alloc::Global;
@@ -25,7 +26,7 @@ pub struct Post<'a, G, O = Links> {
     alloc: Global,
     keyring: Keyring,
     gate: &'a G,
-    parcels: &'a Receiver<Parcel>,
+    inbox: &'a Inbox,
     out: &'a O,
     room: &'a WaitingRoom,
     ghost is_a_replica: { keyring.party < replicas keyring.sizes },
@@ -33,33 +34,29 @@ pub struct Post<'a, G, O = Links> {
 
 /// What takes the frames that a replica sends.
 pub trait Outgoing {
-    /// Sends a frame where it goes. One that can't be taken is lost, as on any network.
-    fn send<R: Wait>(&self, rt: &R, sending: Sending);
+    /// Sends a frame of a replica of the deployment where it goes. One that can't be taken is lost, as on any
+    /// network.
+    fn send<R: Wait>(&self, rt: &R, from: ReplicaId, sending: Sending);
 }
 
 /// The links take them as they are.
 impl Outgoing for Links {
-    fn send<R: Wait>(&self, rt: &R, sending: Sending) {
+    fn send<R: Wait>(&self, rt: &R, from: ReplicaId, sending: Sending) {
         let Sending { to, frame, .. } = sending;
         let Ok(bytes) = Bytes::from_vec(frame) else {
             self.lose();
             return;
         };
-        let sent = match to {
-            To::All => self.to_all(rt, bytes),
-            To::Replica(replica) => self.to_replica(rt, replica, bytes),
-            To::Client(client) => self.to_client(rt, client, bytes),
-        };
-        if sent.is_err() {
+        if self.send_from(rt, from, to, bytes).is_err() {
             self.lose();
         }
     }
 }
 
-/// Sends all frames of a step.
-fn send_all<R: Wait, O: Outgoing>(rt: &R, to: &O, out: Out) {
+/// Sends all frames of a step of a replica.
+fn send_all<R: Wait, O: Outgoing>(rt: &R, to: &O, from: ReplicaId, out: Out) {
     for sending in out.into_sendings() {
-        to.send(rt, sending);
+        to.send(rt, from, sending);
     }
 }
 
@@ -69,7 +66,7 @@ impl<'a, G: Gate, O: Outgoing> Post<'a, G, O> {
         alloc: Global,
         keyring: Keyring,
         gate: &'a G,
-        parcels: &'a Receiver<Parcel>,
+        inbox: &'a Inbox,
         out: &'a O,
         room: &'a WaitingRoom,
     ) -> Post<'a, G, O>
@@ -79,7 +76,7 @@ impl<'a, G: Gate, O: Outgoing> Post<'a, G, O> {
             alloc,
             keyring,
             gate,
-            parcels,
+            inbox,
             out,
             room,
         }
@@ -99,7 +96,7 @@ impl<'a, G: Gate, O: Outgoing> Post<'a, G, O> {
                 kind: Kind::Fetch,
                 frame,
             };
-            self.out.send(rt, sending);
+            self.out.send(rt, self.keyring.replica(), sending);
         }
     }
 
@@ -124,7 +121,7 @@ impl<'a, G: Gate, O: Outgoing> Post<'a, G, O> {
             &self.keyring.config(),
             bytes,
         )?;
-        send_all(rt, self.out, out);
+        send_all(rt, self.out, self.keyring.replica(), out);
         Ok(())
     }
 
@@ -209,7 +206,7 @@ impl<'a, G: Gate, O: Outgoing> Post<'a, G, O> {
         ensures { HasGrown share.old share.new }
     {
         if let Ok(out) = steps.step(rt, share, input) {
-            send_all(rt, self.out, out);
+            send_all(rt, self.out, self.keyring.replica(), out);
         }
     }
 
@@ -218,29 +215,29 @@ impl<'a, G: Gate, O: Outgoing> Post<'a, G, O> {
         ensures { HasGrown share.old share.new }
     {
         if let Some(Ok(out)) = steps.beat_now(rt, share) {
-            send_all(rt, self.out, out);
+            send_all(rt, self.out, self.keyring.replica(), out);
         }
     }
 
-    /// Takes what comes over the replica's link until it is told to stop, or the links are gone. It
+    /// Takes what comes over the replica's link until it is told to stop. It
     /// gives the share back, with the steps that it made.
     pub fn work<R: Wait + Clock, S: Steps>(self, rt: &R, steps: &mut S, mut share: Share) -> Share
         ensures { HasGrown share result }
     {
         for _ in rt.forever() {
             self.room.hold_back(rt);
-            let parcel = self.parcels.recv(rt);
+            let parcel = self.inbox.recv(rt);
             self.room.begin();
             match parcel {
-                Ok(Parcel::Frame { number, bytes }) => {
+                Parcel::Frame { number, bytes } => {
                     self.take(rt, steps, &mut share, number, bytes);
                 }
-                Ok(Parcel::Beat) => self.step(rt, steps, &mut share, Input::Beat),
-                Ok(Parcel::Timeout) => self.step(rt, steps, &mut share, Input::Timeout),
-                Ok(Parcel::Prune(height)) => {
+                Parcel::Beat => self.step(rt, steps, &mut share, Input::Beat),
+                Parcel::Timeout => self.step(rt, steps, &mut share, Input::Timeout),
+                Parcel::Prune(height) => {
                     self.step(rt, steps, &mut share, Input::Prune(Height(height)));
                 }
-                Ok(Parcel::Stop) | Err(_) => break,
+                Parcel::Stop => break,
             }
             self.propose(rt, steps, &mut share);
             self.end(rt);

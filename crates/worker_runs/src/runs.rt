@@ -6,7 +6,7 @@ use crate::seen::Seen;
 use crate::stations::{Station, stations};
 use bytes::Bytes;
 use crossbeam_channel::Receiver;
-use fabric::{Ends, Links, Parcel, Post};
+use fabric::{Ends, Inbox, Links, Parcel, Post};
 use ids::{Config, Fault, ReplicaId};
 use locked_replica::Share;
 use marks::Marks;
@@ -113,7 +113,7 @@ fn work<R: Wait + Clock, G: Gate>(
     share: Share,
 ) -> Share {
     let (alloc, number) = (stage.alloc, station.number);
-    let Some(parcels) = stage.ends.replicas.get(usize::from(number.0)) else {
+    let Some(inbox) = stage.ends.replicas.get(usize::from(number.0)) else {
         return share;
     };
     if number.0 >= stage.config.n() {
@@ -131,7 +131,7 @@ fn work<R: Wait + Clock, G: Gate>(
         alloc,
         keyring,
         stage.gate,
-        parcels,
+        inbox,
         stage.links,
         &station.room,
     );
@@ -206,13 +206,13 @@ fn close_all(stations: Vec<Station<'_>>, worked: Result<(), Fault>) -> Result<us
 }
 
 /// How many frames are left at a replica's link.
-fn left_at<R: Wait>(rt: &R, end: &Receiver<Parcel>) -> usize {
+fn left_at<R: Wait>(rt: &R, end: &Inbox) -> usize {
     let mut left = 0usize;
     for _ in 0..10_000 {
         match end.try_recv(rt) {
-            Ok(Parcel::Frame { .. }) => left = left.wrapping_add(1),
-            Ok(_) => {}
-            Err(_) => break,
+            Some(Parcel::Frame { .. }) => left = left.wrapping_add(1),
+            Some(_) => {}
+            None => break,
         }
     }
     left

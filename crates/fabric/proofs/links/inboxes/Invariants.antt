@@ -1,5 +1,5 @@
 use Rattle.std.proofs.Common.{◌≡◌, ◌≤◌, vec_len, vec_capacity}
-use Rattle.fabric.proofs.links.replica_links.Given as goal
+use Rattle.fabric.proofs.links.inboxes.Given as goal
 
 -- both have as many as were made, and room for all
 abbrev pub invariant-loop : goal.invariant-loop

@@ -1,0 +1,254 @@
+//! Where the parcels of one replica's link wait.
+
+ghost use Rattle.std.specs.Prelude.{◌<◌};
+
+use crate::parcel::Parcel;
+use bytes::Bytes;
+use fair_queue::{FairQueue, Refusal};
+use std::alloc::{AllocError, Global};
+use std::hint::spin_loop;
+use std::sync::atomic::AtomicU64;
+use std::sync::atomic::Ordering::SeqCst;
+use std::sync::{Condvar, Mutex, MutexGuard, Wait};
+use std::time::{Clock, Duration, Instant};
+
+/// For how many milliseconds at least what each sender is allowed has to last.
+const PERIOD_MILLIS: u64 = 10;
+
+/// How often a worker looks whether something came, before it sleeps.
+const LOOKS: u32 = 100;
+
+/// In which row a parcel waits, and whether it is a client's request.
+#[derive(Clone, Copy)]
+pub(crate) struct Row {
+    pub(crate) number: usize,
+    pub(crate) is_request: bool,
+}
+
+/// A parcel that waits.
+#[derive(Drop)]
+struct Handed {
+    is_request: bool,
+    parcel: Parcel,
+}
+
+/// What waits, and for what the workers wait.
+#[derive(Drop)]
+struct Inside {
+    queue: FairQueue<Handed>,
+    /// How many parcels wait.
+    waiting: usize,
+    /// How many frames were handed in.
+    numbered: u64,
+    /// How many workers are to be told to end, and how many parcels are to be taken before.
+    stops: usize,
+    before_stop: usize,
+    /// When each sender was allowed its part again. None before that, and where the clock can't be read.
+    refilled: Option<Instant>,
+    /// How many workers sleep until the next time.
+    timed: usize,
+}
+
+impl Inside {
+    /// The number of the next frame.
+    fn next_number(&mut self) -> u64 {
+        self.numbered = self.numbered.saturating_add(1);
+        self.numbered
+    }
+
+    /// A parcel more waits. Whether a sleeping worker is to look at it: it may be taken, or it is the first that
+    /// waits for the next time.
+    fn add(&mut self, row: Row, parcel: Parcel) -> Result<bool, Refusal> {
+        if row.number >= self.queue.rows() {
+            return Err(Refusal::Full);
+        }
+        let (number, size, is_request) = (row.number, parcel.size(), row.is_request);
+        self.queue.put(number, size, Handed { is_request, parcel })?;
+        self.waiting = self.waiting.saturating_add(1);
+        Ok(self.waiting == 1 || self.queue.is_ready_at(number))
+    }
+
+    /// Takes the parcel whose turn it is; and a stop once all was taken that was handed in before it.
+    fn next(&mut self) -> Option<Handed> {
+        if self.stops > 0 && self.before_stop == 0 {
+            self.stops -= 1;
+            return Some(Handed {
+                is_request: false,
+                parcel: Parcel::Stop,
+            });
+        }
+        let handed = self.queue.take()?;
+        self.waiting = self.waiting.saturating_sub(1);
+        self.before_stop = self.before_stop.saturating_sub(1);
+        Some(handed)
+    }
+
+    /// Whether something can be taken.
+    fn has_next(&self) -> bool {
+        (self.stops > 0 && self.before_stop == 0) || self.queue.is_ready()
+    }
+
+    /// Whether another worker has something to do or to wait for.
+    fn leaves_more(&self) -> bool {
+        self.stops > 0 || (self.waiting > 0 && self.timed == 0)
+    }
+
+    /// Each sender is allowed its part again.
+    fn refill(&mut self, now: Option<Instant>) {
+        self.queue.refill();
+        self.refilled = now;
+    }
+}
+
+/// How long it is until each sender is allowed its part again. None where the time has come, and where the clock
+/// can't be read.
+fn until_refill<R: Clock>(rt: &R, refilled: Option<Instant>) -> Option<Duration> {
+    let passed = refilled.and_then(|since| since.elapsed(rt).ok())?;
+    Duration::from_millis(PERIOD_MILLIS).checked_sub(passed)
+}
+
+/// Where the parcels of one replica's link wait. Threads share it by reference.
+///
+/// Each sender has a row with a share of its own (`fair_queue`). Senders take turns, and in ten milliseconds no more
+/// is taken from one than its allowance.
+#[derive(Drop)]
+pub struct Inbox {
+    inside: Mutex<Inside>,
+    bell: Condvar,
+    /// How many requests wait.
+    requests: AtomicU64,
+}
+
+impl Inbox {
+    /// An inbox of so many rows, in which nothing waits.
+    pub(crate) fn new(alloc: Global, rows: usize) -> Result<Inbox, AllocError>
+        requires { 0 < rows }
+    {
+        let queue = FairQueue::new(alloc, rows)?;
+        Ok(Inbox {
+            inside: Mutex::new(Inside {
+                queue,
+                waiting: 0,
+                numbered: 0,
+                stops: 0,
+                before_stop: 0,
+                refilled: None,
+                timed: 0,
+            }),
+            bell: Condvar::new(),
+            requests: AtomicU64::new(0),
+        })
+    }
+
+    /// How many requests wait.
+    pub(crate) fn requests(&self) -> u64 {
+        self.requests.load(SeqCst)
+    }
+
+    /// What was asked for was done: a request more may wait, and a sleeping worker may have to look.
+    fn note(&self, row: Row, wakes: bool) {
+        if row.is_request {
+            self.requests.fetch_add(1, SeqCst);
+        }
+        if wakes {
+            self.bell.notify_one();
+        }
+    }
+
+    /// Hands in a frame, which gets its number here.
+    pub(crate) fn hand_in_frame<R: Wait>(
+        &self,
+        rt: &R,
+        row: Row,
+        bytes: Bytes,
+    ) -> Result<(), Refusal> {
+        let mut inside = self.inside.lock(rt);
+        let number = inside.next_number();
+        let wakes = inside.add(row, Parcel::Frame { number, bytes })?;
+        drop(inside);
+        self.note(row, wakes);
+        Ok(())
+    }
+
+    /// Hands in another parcel.
+    pub(crate) fn hand_in<R: Wait>(&self, rt: &R, row: Row, parcel: Parcel) -> Result<(), Refusal> {
+        let wakes = self.inside.lock(rt).add(row, parcel)?;
+        self.note(row, wakes);
+        Ok(())
+    }
+
+    /// So many workers end, once all was taken that was handed in before. It takes no memory.
+    pub(crate) fn stop<R: Wait>(&self, rt: &R, workers: usize) {
+        let mut inside = self.inside.lock(rt);
+        inside.stops = inside.stops.saturating_add(workers);
+        inside.before_stop = inside.waiting;
+        drop(inside);
+        self.bell.notify_all();
+    }
+
+    /// Takes a parcel, where one may be taken now.
+    pub fn try_recv<R: Wait>(&self, rt: &R) -> Option<Parcel> {
+        let mut inside = self.inside.lock(rt);
+        let Handed { is_request, parcel } = inside.next()?;
+        let leaves_more = inside.leaves_more();
+        drop(inside);
+        if is_request {
+            self.requests.fetch_sub(1, SeqCst);
+        }
+        if leaves_more {
+            self.bell.notify_one();
+        }
+        Some(parcel)
+    }
+
+    /// Takes a parcel, as soon as one may be taken.
+    pub fn recv<R: Wait + Clock>(&self, rt: &R) -> Parcel {
+        for _ in rt.forever() {
+            if let Some(parcel) = self.try_recv(rt) {
+                return parcel;
+            }
+            if !self.comes_soon() {
+                self.sleep(rt);
+            }
+        }
+        Parcel::Stop
+    }
+
+    /// Whether something is told of within a few looks.
+    fn comes_soon(&self) -> bool {
+        let seen = self.bell.notifications();
+        for _ in 0..LOOKS {
+            if self.bell.notifications() != seen {
+                return true;
+            }
+            spin_loop();
+        }
+        false
+    }
+
+    /// Sleeps until something is told of, where nothing can be taken; and not longer than until each sender is
+    /// allowed its part again, where something waits for that.
+    fn sleep<R: Wait + Clock>(&self, rt: &R) {
+        let inside = self.inside.lock(rt);
+        if inside.has_next() {
+            return;
+        }
+        if inside.waiting == 0 {
+            drop(self.bell.wait(rt, inside));
+        } else {
+            self.sleep_a_while(rt, inside);
+        }
+    }
+
+    /// Allows each sender its part again, or sleeps until it is time for that.
+    fn sleep_a_while<R: Wait + Clock>(&self, rt: &R, mut inside: MutexGuard<'_, Inside>) {
+        let Some(left) = until_refill(rt, inside.refilled) else {
+            let now = Instant::now(rt).ok();
+            inside.refill(now);
+            return;
+        };
+        inside.timed = inside.timed.saturating_add(1);
+        let (mut inside, _) = self.bell.wait_timeout(rt, inside, left);
+        inside.timed = inside.timed.saturating_sub(1);
+    }
+}

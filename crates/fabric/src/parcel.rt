@@ -1,0 +1,36 @@
+//! What comes to a replica over its link.
+
+use bytes::Bytes;
+
+/// How much a parcel counts beside its bytes: for the memory that it takes where it waits.
+const PARCEL_SIZE: usize = 128;
+
+/// What comes to a replica over its link, which its workers share.
+#[derive(Drop)]
+pub enum Parcel {
+    /// A frame, as it was sent.
+    Frame {
+        /// The frames that are handed to one replica's link are numbered from 1. At 2^64 - 1 the
+        /// number stays.
+        number: u64,
+        bytes: Bytes,
+    },
+    /// Leave to make a proposal.
+    Beat,
+    /// The view has lasted too long.
+    Timeout,
+    /// Leave to prune the tree up to this height.
+    Prune(u64),
+    /// The worker that takes it ends.
+    Stop,
+}
+
+impl Parcel {
+    /// How much it takes of its sender's share.
+    pub(crate) fn size(&self) -> usize {
+        match self {
+            Parcel::Frame { bytes, .. } => bytes.len().saturating_add(PARCEL_SIZE),
+            _ => PARCEL_SIZE,
+        }
+    }
+}
