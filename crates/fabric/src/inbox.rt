@@ -145,16 +145,6 @@ impl Inbox {
         self.requests.load(SeqCst)
     }
 
-    /// What was asked for was done: a request more may wait, and a sleeping worker may have to look.
-    fn note(&self, row: Row, wakes: bool) {
-        if row.is_request {
-            self.requests.fetch_add(1, SeqCst);
-        }
-        if wakes {
-            self.bell.notify_one();
-        }
-    }
-
     /// Hands in a frame, which gets its number here.
     pub(crate) fn hand_in_frame<R: Wait>(
         &self,
@@ -165,15 +155,22 @@ impl Inbox {
         let mut inside = self.inside.lock(rt);
         let number = inside.next_number();
         let wakes = inside.add(row, Parcel::Frame { number, bytes })?;
+        if row.is_request {
+            self.requests.fetch_add(1, SeqCst);
+        }
         drop(inside);
-        self.note(row, wakes);
+        if wakes {
+            self.bell.notify_one();
+        }
         Ok(())
     }
 
-    /// Hands in another parcel.
+    /// Hands in another parcel, which is no request.
     pub(crate) fn hand_in<R: Wait>(&self, rt: &R, row: Row, parcel: Parcel) -> Result<(), Refusal> {
         let wakes = self.inside.lock(rt).add(row, parcel)?;
-        self.note(row, wakes);
+        if wakes {
+            self.bell.notify_one();
+        }
         Ok(())
     }
 
@@ -191,10 +188,10 @@ impl Inbox {
         let mut inside = self.inside.lock(rt);
         let Handed { is_request, parcel } = inside.next()?;
         let leaves_more = inside.leaves_more();
-        drop(inside);
         if is_request {
             self.requests.fetch_sub(1, SeqCst);
         }
+        drop(inside);
         if leaves_more {
             self.bell.notify_one();
         }
