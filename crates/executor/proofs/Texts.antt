@@ -1,7 +1,7 @@
 -- How long the texts of replies are that come with a change of the cache.
 use Rattle.ids.specs.declared.limits.TheConstants.{MOST_DATA}
 use Rattle.std.proofs.Common.{ℕ, ◌≡◌, ◌⊎◌, ◌≤◌, ◌<◌, ◌+◌, ◌-◌, ◌%◌, ◌^◌, ◌==◌, ◌&&◌, ◌||◌, ◌++◌, [], ◌∷◌}
-use Rattle.std.proofs.Common.{length, length-append, refl, ap, ◌∙◌, arith, Result, Ok, Err, OnErr, inl, inr}
+use Rattle.std.proofs.Common.{length, length-append, refl, ap, ◌∙◌, arith, Result, Ok, Err, OnErr, OnOk, inl, inr}
 use Rattle.std.proofs.Common.{Option, Some, None, nat_lt, nat_le, bytes_eq, decimal}
 use Rattle.std.specs.Option.{option_map_or}
 use Rattle.std.specs.Str.Parse.{digits_value}
@@ -129,3 +129,8 @@ payload-asks_nothing cache payload e =
 pub on_err : {T E P : Type 0} (r : Result T E) → P → OnErr r P
 on_err (Ok x) p = tt
 on_err (Err e) p = p
+
+-- at an answer
+pub on_ok : {T E P : Type 0} (r : Result T E) → P → OnOk r P
+on_ok (Ok x) p = p
+on_ok (Err e) p = tt

@@ -20,7 +20,8 @@ where
     R: Threads + Wait + Clock + Sync + Send + Clone + Drop + AllocGlobal + Log + Files + Print,
     R: Net<Listener = TcpListener, Stream = TcpStream>,
 {
-    let config = Config::new(options.faults, options.clients)?;
+    let sizes = Config::new(options.faults, options.clients)?;
+    let config = sizes.with_most_keys(options.keys_held as usize)?;
     let text = match fs::read(rt, options.keys) {
         Ok(text) => text,
         Err(error) if error.kind() == ErrorKind::OutOfMemory => {
