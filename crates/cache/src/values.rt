@@ -43,11 +43,7 @@ impl Cache {
     }
 
     /// A whole `get` or `gets`.
-    pub(crate) fn retrieve(
-        &mut self,
-        keys: Keys<'_>,
-        with_cas_unique: bool,
-    ) -> Result<Reply, Fault>
+    pub(crate) fn retrieve(&mut self, keys: Keys<'_>, with_cas_unique: bool) -> Result<Reply, Fault>
         ensures left { OnOk result (self.new ≡ fold used self.old (keys_of keys.entry)) }
         ensures told { IfOk result (λ reply. reply_of reply
             ≡ replies.values (values_of self.old (keys_of keys.entry)) with_cas_unique) }
