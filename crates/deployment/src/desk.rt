@@ -19,6 +19,25 @@ use tcp_front::Seats;
 /// The service of a client, over the links of the process.
 pub(crate) type Desk<R> = ClientService<ClientLink<R>>;
 
+/// The seat of a client, at the end where its replies come out.
+fn desk<R: Wait + Clock + AllocGlobal + Clone + Drop>(
+    rt: &R,
+    links: &Arc<Links>,
+    roll: &Arc<Roll>,
+    keys: &PairKeys,
+    client: ClientId,
+    frames: Receiver<Bytes>,
+) -> Result<Desk<R>, Fault>
+    ensures refused { OnErr result ((result ≡ Err Memory) ⊎ (result ≡ Err NoSuchParty)) }
+{
+    let (alloc, config) = (rt.alloc(), keys.config());
+    let (links, roll) = (Arc::try_clone(links)?, Arc::try_clone(roll)?);
+    let link = ClientLink::new(rt.clone()?, links, roll, frames);
+    let keyring = keys.keyring(alloc, client.into())?;
+    let session = Session::new(alloc, config, client, keyring);
+    Ok(ClientService::new(alloc, session, link))
+}
+
 /// A seat for each client, at the ends where their replies come out.
 pub(crate) fn desks<R: Wait + Clock + AllocGlobal + Clone + Drop>(
     rt: &R,
@@ -29,19 +48,15 @@ pub(crate) fn desks<R: Wait + Clock + AllocGlobal + Clone + Drop>(
 ) -> Result<Seats<Desk<R>>, Fault>
     ensures refused { OnErr result ((result ≡ Err Memory) ⊎ (result ≡ Err NoSuchParty)) }
 {
-    let (alloc, config) = (rt.alloc(), keys.config());
+    let alloc = rt.alloc();
     let mut ends = ends.into_iter();
     let mut desks = Vec::new(alloc);
-    for number in 0..config.clients() {
+    for number in 0..keys.config().clients() {
         let Some(frames) = ends.next() else {
             return Err(Fault::NoSuchParty);
         };
-        let client = ClientId(number);
-        let keyring = keys.keyring(alloc, client.into())?;
-        let session = Session::new(alloc, config, client, keyring);
-        let (links, roll) = (Arc::try_clone(links)?, Arc::try_clone(roll)?);
-        let link = ClientLink::new(rt.clone()?, links, roll, frames);
-        desks.push(ClientService::new(alloc, session, link))?;
+        desks.reserve(1)?;
+        desks.push_reserved(desk(rt, links, roll, keys, ClientId(number), frames)?);
     }
     Seats::new(alloc, desks)
 }

@@ -15,7 +15,7 @@ use std::time::{Clock, Duration, Instant};
 const PATIENCE_MILLIS: u64 = 1000;
 
 /// How many parcels may wait at a replica's link without a client's holding back.
-const MOST_WAITING: usize = 4096;
+const MOST_WAITING: usize = 1024;
 
 /// For how many milliseconds at most a client holds back a request.
 const MOST_HELD_MILLIS: u64 = 20;

@@ -14,12 +14,8 @@ use std::sync::Wait;
 use std::thread::Threads;
 use std::time::Clock;
 
-/// Serves as the options ask, to the end.
-pub(crate) fn serve<R>(rt: &R, options: &Options<'_>) -> Result<Ended, MainFault>
-where
-    R: Threads + Wait + Clock + Sync + Send + Clone + Drop + AllocGlobal + Log + Files + Print,
-    R: Net<Listener = TcpListener, Stream = TcpStream>,
-{
+/// The keys of all parties, from their file.
+fn read_keys<R: AllocGlobal + Files>(rt: &R, options: &Options<'_>) -> Result<PairKeys, MainFault> {
     let sizes = Config::new(options.faults, options.clients)?;
     let config = sizes.with_most_keys(options.keys_held as usize)?;
     let text = match fs::read(rt, options.keys) {
@@ -29,13 +25,31 @@ where
         }
         Err(_) => return Err(MainFault::CannotReadKeys),
     };
-    let keys = PairKeys::read(rt.alloc(), config, &text)?;
-    let Ok(listener) = TcpListener::bind(rt, ("127.0.0.1", options.port)) else {
+    Ok(PairKeys::read(rt.alloc(), config, &text)?)
+}
+
+/// Listens, and tells where.
+fn listen<R>(rt: &R, port: u16) -> Result<TcpListener, MainFault>
+where
+    R: AllocGlobal + Print + Net<Listener = TcpListener, Stream = TcpStream>,
+{
+    let Ok(listener) = TcpListener::bind(rt, ("127.0.0.1", port)) else {
         return Err(MainFault::CannotListen);
     };
     let Ok(at) = listener.local_addr() else {
         return Err(MainFault::CannotListen);
     };
     let _ = println!(rt; "listening on {at}");
+    Ok(listener)
+}
+
+/// Serves as the options ask, to the end.
+pub(crate) fn serve<R>(rt: &R, options: &Options<'_>) -> Result<Ended, MainFault>
+where
+    R: Threads + Wait + Clock + Sync + Send + Clone + Drop + AllocGlobal + Log + Files + Print,
+    R: Net<Listener = TcpListener, Stream = TcpStream>,
+{
+    let keys = read_keys(rt, options)?;
+    let listener = listen(rt, options.port)?;
     Ok(run(rt, &keys, &listener, options.terms)?)
 }

@@ -1,11 +1,12 @@
-ghost use Rattle.std.specs.Prelude.{◌≡◌, map, Some, IfOk, OnErr, Err, vec_len};
+ghost use Rattle.std.specs.Prelude.{◌≡◌, length, map, Some, IfOk, OnErr, Err};
 ghost use Rattle.ids.specs.declared.fault.Fault.TheVariants.{Memory};
 
 use client_service::{ClientService, Link};
 use connection::Service;
+use ghost_list::{GhostList, Tells};
 use ids::Fault;
 use std::alloc::Global;
-use std::marker::Model;
+use std::marker::{Model, PhantomData};
 use std::sync::atomic::Ordering::SeqCst;
 use std::sync::atomic::{AtomicBool, AtomicU64};
 use std::sync::{Mutex, Wait};
@@ -29,51 +30,70 @@ pub(crate) struct Taken<S> {
     pub(crate) seat: S,
 }
 
+/// What stands in a slot, as contracts see it; all threads may look at it. No value of it is made.
+struct ASlot<S> {
+    of: PhantomData<Mutex<S>>,
+}
+
+impl<S> Model for ASlot<S> {
+    ghost use Rattle.std.specs.Prelude.{Option, None};
+
+    ghost Value = { Option S };
+
+    ghost view = { λ _. None };
+}
+
+/// What is put under a lock.
+#[derive(Drop)]
+struct Filling<'a, S> {
+    slot: &'a Option<S>,
+}
+
+impl<'a, S> Tells<ASlot<S>> for Filling<'a, S> {
+    ghost tells = { λ filling. filling.slot.now };
+}
+
 /// The seats of a server. Each is free, or a connection has it, or it is lost.
 ///
-/// Threads share it by reference. Contracts see how many seats there are: a lock shows nothing of what lies
-/// under it.
+/// Threads share it by reference. Contracts see what stood in its slots, in their order, when it was made:
+/// later, a lock shows nothing of what lies under it.
 #[derive(Drop)]
 pub struct Seats<S> {
     /// By number. A free one stands in its slot.
     slots: Vec<Mutex<Option<S>>>,
+    /// What was put into the slots when they were made, the last one first.
+    made_with: GhostList<ASlot<S>>,
     /// How many are taken now.
     taken: AtomicU64,
     is_closed: AtomicBool,
 }
 
 impl<S> Model for Seats<S> {
-    ghost use Rattle.std.specs.Prelude.{ℕ, vec_len};
+    ghost use Rattle.std.specs.Prelude.{List, Option, length, reverse, vec_len, ◌≡◌};
 
-    ghost Value = { ℕ };
+    ghost Value = { List (Option S) };
 
-    ghost view = { λ seats. vec_len seats.slots };
-}
+    ghost view = { λ seats. reverse seats.made_with.items };
 
-/// What stands in the slots of these seats: each in its own, in their order.
-fn all_free<S: Drop>(alloc: Global, seats: Vec<S>) -> Result<Vec<Option<S>>, Fault>
-    ensures all { IfOk result (λ free. free.items ≡ map Some seats.items) }
-    ensures memory { OnErr result (result ≡ Err Memory) }
-{
-    Ok(seats.into_iter().map(Some).collect(alloc)?)
-}
-
-/// A lock round each of these, in their order.
-fn locked<T: Drop>(alloc: Global, all: Vec<T>) -> Result<Vec<Mutex<T>>, Fault>
-    ensures all { IfOk result (λ locks. vec_len locks ≡ vec_len all) }
-    ensures memory { OnErr result (result ≡ Err Memory) }
-{
-    Ok(all.into_iter().map(Mutex::new).collect(alloc)?)
+    ghost invariant = { λ seats. length seats.made_with.items ≡ vec_len seats.slots };
 }
 
 impl<S: Drop> Seats<S> {
     /// These seats, all free. Refused for want of memory alone.
     pub fn new(alloc: Global, seats: Vec<S>) -> Result<Seats<S>, Fault>
-        ensures all { IfOk result (λ made. made ≡ vec_len seats) }
+        ensures all { IfOk result (λ made. made ≡ map Some seats.items) }
         ensures memory { OnErr result (result ≡ Err Memory) }
     {
+        let mut slots = Vec::with_capacity(alloc, seats.len())?;
+        let mut made_with = GhostList::new();
+        for seat in seats {
+            let slot = Some(seat);
+            made_with = made_with.with(&Filling { slot: &slot });
+            slots.push_reserved(Mutex::new(slot));
+        }
         Ok(Seats {
-            slots: locked(alloc, all_free(alloc, seats)?)?,
+            slots,
+            made_with,
             taken: AtomicU64::new(0),
             is_closed: AtomicBool::new(false),
         })
@@ -81,7 +101,7 @@ impl<S: Drop> Seats<S> {
 
     /// How many seats there are, lost ones included.
     pub fn len(&self) -> usize
-        ensures { result ≡ self.now }
+        ensures { result ≡ length self.now }
     {
         self.slots.len()
     }

@@ -1,4 +1,4 @@
-use crate::devices::{Sink, Source, Stored};
+use crate::connections::devices::{Sink, Source, Stored};
 use connection::{Counted, End, serve};
 use ids::Fault;
 use sha2::{Digest, Sha256};

@@ -1,4 +1,4 @@
-//! Runs the feed and the service of a connection over cases, one a line of standard input:
+//! Runs the feed and the service of a connection over cases, each a line:
 //!
 //! - A text in hexadecimal, pushed into a feed in pieces of 1, 2, 3, 5, 8 and 13 bytes. Printed is
 //!   how many items were given and the first half of the SHA-256 digest of what they are, if all
@@ -12,24 +12,23 @@
 //!   and how often reader and writer failed.
 //! - `waits` and a text of requests, each of which is sent only when the answers to all before it were seen.
 //!
-//! The service answers `STORED`. What is wanted of each case was computed by an independent program.
-#![tactic(auto)]
+//! The service answers `STORED`.
 
 mod devices;
 mod feeding;
 mod patience;
 mod serving;
 
+use crate::connections::feeding::{cut_in_two, in_pieces};
+use crate::connections::patience::holds_texts_back;
+use crate::connections::serving::{Plan, served};
 use anyhow::Result;
-use feeding::{cut_in_two, in_pieces};
-use patience::holds_texts_back;
-use serving::{Plan, served};
 use std::alloc::Global;
 
 /// What is printed of a case.
-fn case(alloc: Global, line: &str) -> Result<String> {
-    let Some((how, text)) = line.split_once(' ') else {
-        let text = hex::decode(alloc, line)?;
+pub(crate) fn case_told(alloc: Global, case: &str) -> Result<String> {
+    let Some((how, text)) = case.split_once(' ') else {
+        let text = hex::decode(alloc, case)?;
         let items = in_pieces(alloc, &text)?;
         let plan = Plan::in_pieces(7);
         let served = served(alloc, &plan, &text)?;
@@ -44,13 +43,4 @@ fn case(alloc: Global, line: &str) -> Result<String> {
     }
     let plan = Plan::parse(how)?;
     Ok(served(alloc, &plan, &text)?)
-}
-
-fn main(rt: HostRuntime) -> Result<()> {
-    let alloc = rt.alloc();
-    for line in rt.lines(alloc) {
-        let line = line?;
-        println!(rt; "{}", case(alloc, line.as_str())?)?;
-    }
-    Ok(())
 }

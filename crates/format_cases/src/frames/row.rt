@@ -1,6 +1,6 @@
 //! Many cases that are told in one line.
 
-use crate::Outcome;
+use crate::frames::Outcome;
 use anyhow::Result;
 use sha2::{Digest, Sha256};
 use std::alloc::Global;

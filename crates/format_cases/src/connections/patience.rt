@@ -1,8 +1,8 @@
 //! A connection whose other side waits: it sends its next request only when it has seen the answers
 //! to all before.
 
-use crate::devices::Stored;
-use crate::serving::in_words;
+use crate::connections::devices::Stored;
+use crate::connections::serving::in_words;
 use connection::{Counted, serve};
 use std::alloc::Global;
 use std::cell::Cell;

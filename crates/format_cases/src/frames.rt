@@ -1,5 +1,4 @@
-//! Reads frames and prints what they are: each line of standard input is a case, or a whole row of
-//! them. What is wanted of each was computed by an independent program.
+//! Reads frames and prints what they are: each line is a case, or a whole row of them.
 //!
 //! A line is `FAULTS CLIENTS whole BYTES`: the sizes, and bytes. Printed is the number of the
 //! refusal, where there are no such sizes or the bytes are no frame at them, and else what `show`
@@ -11,17 +10,16 @@
 //!
 //! Bytes are hexadecimal, or parts with `+` between them, of which a part `HH*COUNT` is one byte so
 //! many times.
-#![tactic(auto)]
 
 mod again;
 mod bytes;
 mod row;
 mod show;
 
-use crate::again::is_written_again;
-use crate::bytes::{parse_byte, parse_bytes};
-use crate::row::Row;
-use crate::show::Line;
+use crate::frames::again::is_written_again;
+use crate::frames::bytes::{parse_byte, parse_bytes};
+use crate::frames::row::Row;
+use crate::frames::show::Line;
 use anyhow::{Result, bail};
 use frames_view::read;
 use ids::{Config, Fault};
@@ -29,7 +27,7 @@ use std::alloc::Global;
 
 /// What bytes are to a reader of frames, and to the writers.
 #[derive(Clone, Copy)]
-enum Outcome {
+pub(crate) enum Outcome {
     Refused,
     Again,
     Different,
@@ -102,9 +100,9 @@ fn answer(alloc: Global, config: &Config, ask: &str, fields: [&str; 2]) -> Resul
     }
 }
 
-/// The line for a line of the input.
-fn tell(alloc: Global, input: &str) -> Result<String> {
-    let mut fields = input.split(' ');
+/// What is printed of a case.
+pub(crate) fn case_told(alloc: Global, case: &str) -> Result<String> {
+    let mut fields = case.split(' ');
     let faults: u8 = fields.next().unwrap_or("").parse()?;
     let clients: u8 = fields.next().unwrap_or("").parse()?;
     let ask = fields.next().unwrap_or("");
@@ -117,13 +115,4 @@ fn tell(alloc: Global, input: &str) -> Result<String> {
             Ok(line.into_text())
         }
     }
-}
-
-fn main(rt: HostRuntime) -> Result<()> {
-    let alloc = rt.alloc();
-    for line in rt.lines(alloc) {
-        let line = line?;
-        println!(rt; "{}", tell(alloc, line.as_str())?)?;
-    }
-    Ok(())
 }

@@ -1,12 +1,10 @@
-//! Runs the reader of request lines and the cache over cases: each line of standard input is a text
-//! in hexadecimal. Printed are what is read at its beginning, whether the whole text is a canonical
-//! request (`DIFFERENT` where it is one and is written otherwise), how many items stand in it, and
-//! the length and the first 8 bytes of the SHA-256 digest of what a connection would be written,
-//! where a cache with room for two keys answers. Of a line `cuts TEXT` what is read at each proper
-//! beginning of the text is a case: printed are how many there are, how many are unfinished, and
-//! the first 8 bytes of the digest of what would be printed of all of them, line by line. What is
-//! wanted of each case was computed by an independent program.
-#![tactic(auto)]
+//! Runs the reader of request lines and the cache over cases, each a text in hexadecimal. Printed
+//! are what is read at its beginning, whether the whole text is a canonical request (`DIFFERENT`
+//! where it is one and is written otherwise), how many items stand in it, and the length and the
+//! first 8 bytes of the SHA-256 digest of what a connection would be written, where a cache with
+//! room for two keys answers. Of `cuts TEXT` what is read at each proper beginning of the text is a
+//! case: printed are how many there are, how many are unfinished, and the first 8 bytes of the
+//! digest of what would be printed of all of them, line by line.
 
 use anyhow::Result;
 use cache::Cache;
@@ -137,16 +135,10 @@ fn tell_cuts(alloc: Global, bytes: &[u8]) -> Result<String> {
     Ok(format!(in alloc; "{} beginnings, {unfinished} more, {start}", bytes.len())?)
 }
 
-fn main(rt: HostRuntime) -> Result<()> {
-    let alloc = rt.alloc();
-    let hasher = RandomState::new(&rt)?;
-    for line in rt.lines(alloc) {
-        let line = line?;
-        let told = match line.strip_prefix("cuts ") {
-            Some(digits) => tell_cuts(alloc, &hex::decode(alloc, digits)?)?,
-            None => tell_text(alloc, hasher, &hex::decode(alloc, line.as_str())?)?,
-        };
-        println!(rt; "{told}")?;
+/// What is printed of a case.
+pub(crate) fn case_told(alloc: Global, hasher: RandomState, case: &str) -> Result<String> {
+    match case.strip_prefix("cuts ") {
+        Some(digits) => tell_cuts(alloc, &hex::decode(alloc, digits)?),
+        None => tell_text(alloc, hasher, &hex::decode(alloc, case)?),
     }
-    Ok(())
 }
