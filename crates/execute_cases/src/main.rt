@@ -22,10 +22,11 @@ use crate::pending::{ask, bytes_of, client, drop_executed, fill, key_of, pick};
 use anyhow::Result;
 use executor::{Answer, Entries, Executor};
 use frames_view::{CommandView, Commands, Frame, read};
-use ids::{Config, Fault};
+use ids::{Config, Fault, MOST_KEYS};
 use mempool::Mempool;
 use sha2::{Digest, Sha256};
 use std::alloc::Global;
+use std::hash::RandomState;
 
 /// What an answer says.
 fn answer_text(alloc: Global, answer: &Answer) -> Result<String, Fault> {
@@ -117,16 +118,18 @@ fn tell_last(alloc: Global, executor: &Executor, digits: &str) -> Result<String,
 struct Parts {
     run: Run,
     pool: Mempool,
+    hasher: RandomState,
 }
 
 impl Parts {
-    fn new(alloc: Global) -> Result<Parts, Fault> {
+    fn new(alloc: Global, hasher: RandomState) -> Result<Parts, Fault> {
         Ok(Parts {
             run: Run {
-                executor: Executor::new(alloc)?,
+                executor: Executor::new(alloc, MOST_KEYS, hasher)?,
                 entries: Entries::new(alloc),
             },
             pool: Mempool::new(alloc),
+            hasher,
         })
     }
 }
@@ -158,7 +161,7 @@ fn tell(alloc: Global, config: &Config, parts: &mut Parts, line: &str) -> Result
         "last" => tell_last(alloc, &run.executor, rest),
         "history" => tell_history(alloc, run),
         "new" => {
-            *parts = Parts::new(alloc)?;
+            *parts = Parts::new(alloc, parts.hasher)?;
             Ok(String::from_str(alloc, "new")?)
         }
         _ => tell_pending(alloc, config, &mut parts.pool, [word, rest]),
@@ -185,6 +188,6 @@ fn answer_all(rt: &HostRuntime, config: &Config, parts: &mut Parts) -> Result<()
 
 fn main(rt: HostRuntime) -> Result<()> {
     let config = Config::new(1, 8)?;
-    let mut parts = Parts::new(rt.alloc())?;
+    let mut parts = Parts::new(rt.alloc(), RandomState::new(&rt)?)?;
     answer_all(&rt, &config, &mut parts)
 }
