@@ -1,5 +1,5 @@
-"""What the program `check_cases` has to print of a line: what checks say of frames, and of frames that were cut
-or changed; votes that are collected; tags and HMACs. The head of crates/check_cases/src/main.rt has the
+"""What `replica_cases` has to print of a case of checks: what checks say of frames, and of frames that were cut
+or changed; votes that are collected; tags and HMACs. The head of crates/replica_cases/src/check.rt has the
 format."""
 import hashlib
 import hmac

@@ -1,4 +1,4 @@
-"""One frame of each kind, that is cut anywhere and changed in any byte, as cases of `check_cases`."""
+"""One frame of each kind, that is cut anywhere and changed in any byte, as cases of checks in `replica_cases`."""
 from . import stated_runs
 from .frames import KIND_NAMES, Kind, read
 from .own_frames import OwnFrames

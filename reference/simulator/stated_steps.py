@@ -1,4 +1,4 @@
-"""Cases of `step_cases` that show one thing each: a replica with its inputs."""
+"""Cases of steps in `replica_cases` that show one thing each: a replica with its inputs."""
 from .frames import GENESIS, Core
 from .signing import certificate_of, command_of, proposal_of, request_of
 from .sizes import Config

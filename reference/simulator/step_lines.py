@@ -1,4 +1,4 @@
-"""The lines of crates/step_cases: replicas that are stepped, by shares or alone."""
+"""The cases of steps in crates/replica_cases: replicas that are stepped, by shares or alone."""
 from hashlib import sha256
 
 from . import checks

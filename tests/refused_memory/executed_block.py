@@ -1,4 +1,4 @@
-"""A block of 16 `set` commands of one client is executed by `execute_cases`, which then tells its history and each
+"""A block of 16 `set` commands of one client is executed by `replica_cases`, which then tells its history and each
 kept answer. Where the block was refused memory, the history has to be the first so many commands of the full run's,
 and the kept answer that of the last of them. Each length from 0 to 15 has to come; all 16 are left where only
 telling the answers was refused."""
@@ -29,7 +29,7 @@ def length_of(lines, answers):
 
 def check(program):
     asked = ["block " + block().hex(), "history"] + [f"reply 0 {k + 1}" for k in range(COMMANDS)]
-    text = "\n".join(asked) + "\n"
+    text = "".join("execute %s\n" % line for line in asked)
     answers = program.full(text).lines[0].split("; ")[1:]
     lengths = set()
     for _, ran in program.refusals(text):

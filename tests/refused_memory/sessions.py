@@ -1,5 +1,5 @@
 """A client submits, hears a first reply, which is counted, and a second one, which makes a receipt, twice over; between
-them `session_cases` tells the frame that is outstanding. An input that was refused memory has to leave the session
+them `replica_cases` tells the frame that is outstanding. An input that was refused memory has to leave the session
 as it was: what comes behind it is answered as if it had never come. Each kind of input has to be refused somewhere."""
 from collections import Counter
 from dataclasses import replace
@@ -31,7 +31,7 @@ def inputs():
 
 
 def text_of(items):
-    return " ".join(["1 1 0 session"] + [item for _, item in items]) + "\n"
+    return " ".join(["session 1 1 0 session"] + [item for _, item in items]) + "\n"
 
 
 def answers_of(ran):

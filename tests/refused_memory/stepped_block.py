@@ -1,4 +1,4 @@
-"""A kept replica gets four proposals, of which the last decides a block of 16 `set` commands; `step_cases` then tells
+"""A kept replica gets four proposals, of which the last decides a block of 16 `set` commands; `replica_cases` then tells
 how many steps stand in its chronicle and what it executed. Where that step was refused memory after it began to
 execute, it stands, no frame goes out, and the history is the first so many commands of the block: each number from
 0 to 16 has to come. Where it was refused before any change, it doesn't stand, and nothing was executed."""
@@ -31,7 +31,7 @@ def judge(answers, steps, executed):
 
 
 def check(program):
-    text = stated_steps.a_whole_block() + "\n"
+    text = "step " + stated_steps.a_whole_block() + "\n"
     kinds, lengths, ends = Counter(), set(), endings()
     full = program.full(text).lines[0]
     for number, ran in program.refusals(text):

@@ -1,0 +1,106 @@
+//! A replica by itself, with no archive and no shares, that is stepped.
+
+ghost use Rattle.std.specs.Prelude.{◌≡◌, ◌<◌, IsTrue};
+ghost use Rattle.admission.specs.Inputs.{is_addressed};
+ghost use Rattle.ids.specs.Sizes.{replicas};
+
+use crate::step::requests::request;
+use crate::step::stepped::number;
+use crate::step::told::tell_answer;
+use admission::admit;
+use ids::{Config, Fault, PartyId, ReplicaId};
+use replica::{Input, Out, Replica};
+use simulated_keys::keyring_of;
+use std::alloc::Global;
+use std::hash::RandomState;
+
+/// What a replica answers to bytes, checked with the keys of the replica CHECKER.
+fn receive(
+    alloc: Global,
+    replica: &mut Replica,
+    checker: u8,
+    bytes: &[u8],
+) -> Result<Result<Out, Fault>, Fault> {
+    let config = replica.config();
+    if checker != replica.number().0 || checker >= config.n() {
+        return Err(Fault::NoSuchParty);
+    }
+    let ring = keyring_of(alloc, config, PartyId::from(ReplicaId(checker)))?;
+    match admit(&ring, &config, bytes) {
+        Ok(input) => Ok(replica.step(input)),
+        Err(fault) => Ok(Err(fault)),
+    }
+}
+
+/// What a replica answers to an input.
+fn take(alloc: Global, replica: &mut Replica, input: &str) -> Result<Result<Out, Fault>, Fault> {
+    match input {
+        "beat" => Ok(replica.step(Input::Beat)),
+        "timeout" => Ok(replica.step(Input::Timeout)),
+        _ => {
+            let (checker, digits) = input.split_once(':').unwrap_or(("", ""));
+            let bytes = hex::decode(alloc, digits).ok().ok_or(Fault::BadFields)?;
+            receive(alloc, replica, number(checker)?, &bytes)
+        }
+    }
+}
+
+/// How many of client 0's requests from 1 to COUNT are answered without a refusal.
+fn ask(alloc: Global, replica: &mut Replica, count: &str) -> Result<u64, Fault> {
+    let count: u64 = count.parse().ok().ok_or(Fault::BadFields)?;
+    let mut stood: u64 = 0;
+    for number in 1..=count {
+        let frame = request(alloc, replica.config(), number)?;
+        let own = replica.number().0;
+        if receive(alloc, replica, own, &frame)?.is_ok() {
+            stood = stood.wrapping_add(1);
+        }
+    }
+    Ok(stood)
+}
+
+/// Tells what an input is answered.
+fn tell(alloc: Global, replica: &mut Replica, input: &str, text: &mut String) -> Result<(), Fault> {
+    if let Some(count) = input.strip_prefix("requests:") {
+        write!(text, "{} ok", ask(alloc, replica, count)?)?;
+        return Ok(());
+    }
+    let answer = take(alloc, replica, input)?;
+    tell_answer(alloc, &answer, text)
+}
+
+/// Tells what the inputs are answered, and then how many steps stand and how many commands were executed.
+fn tell_all(
+    alloc: Global,
+    replica: &mut Replica,
+    inputs: &str,
+    text: &mut String,
+) -> Result<(), Fault> {
+    for input in inputs.split(' ') {
+        tell(alloc, replica, input, text)?;
+        text.push_str(", ")?;
+    }
+    write!(
+        text,
+        "made {}, executed {}",
+        replica.steps(),
+        replica.executed()
+    )?;
+    Ok(())
+}
+
+/// What a replica that has made no step does with its inputs, one after the other.
+pub(crate) fn run(
+    alloc: Global,
+    hasher: RandomState,
+    config: Config,
+    own: ReplicaId,
+    inputs: &str,
+    text: &mut String,
+) -> Result<(), Fault>
+    requires { own < replicas config }
+{
+    let ring = keyring_of(alloc, config, PartyId::from(own))?;
+    let mut replica = Replica::new(alloc, config, own, ring, hasher)?;
+    tell_all(alloc, &mut replica, inputs, text)
+}
