@@ -44,7 +44,7 @@ input_of (Prune height) = rulings.prune_in height
 
 -- the same sizes
 abbrev pub same_sizes : Sizes → Sizes → Bool
-same_sizes a b = (a.faults == b.faults) && (a.clients == b.clients)
+same_sizes a b = (a.faults == b.faults) && (a.clients == b.clients) && (a.most_keys == b.most_keys)
 
 -- they are for the same replica at the same sizes
 abbrev pub same_replica : Keys → Keys → Bool

@@ -16,7 +16,7 @@ use Rattle.definitions.proofs.Orders.{order-grows}
 use Rattle.agreement.specs.Law.{SomeDecision}
 
 abbrev sizes : Sizes
-sizes = record { faults = 1; clients = 0 }
+sizes = record { faults = 1; clients = 0; most_keys = 65536 }
 
 abbrev is_member : ℕ → Bool
 is_member i = nat_lt i 3

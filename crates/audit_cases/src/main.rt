@@ -31,6 +31,7 @@ use anyhow::Result;
 use ids::Fault;
 use replica::Archived;
 use std::alloc::Global;
+use std::hash::RandomState;
 
 /// What an audit of replicas answers.
 fn answer(alloc: Global, replicas: &[Archived], asked: &str) -> Result<String, Fault> {
@@ -59,20 +60,22 @@ fn answer_to(alloc: Global, sizes: Sizes, rest: &str) -> Result<String, Fault> {
 }
 
 /// The line for a line of the input.
-fn tell(alloc: Global, input: &str) -> Result<String, Fault> {
+fn tell(alloc: Global, hasher: RandomState, input: &str) -> Result<String, Fault> {
     let mut fields = input.splitn(3, ' ');
     let sizes = Sizes {
         faults: number(fields.next().unwrap_or(""))?,
         clients: number(fields.next().unwrap_or(""))?,
+        hasher,
     };
     answer_to(alloc, sizes, fields.next().unwrap_or(""))
 }
 
 fn main(rt: HostRuntime) -> Result<()> {
     let alloc = rt.alloc();
+    let hasher = RandomState::new(&rt)?;
     for line in rt.lines(alloc) {
         let line = line?;
-        println!(rt; "{}", tell(alloc, line.as_str())?)?;
+        println!(rt; "{}", tell(alloc, hasher, line.as_str())?)?;
     }
     Ok(())
 }

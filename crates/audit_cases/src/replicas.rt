@@ -9,12 +9,14 @@ use ids::{Config, Fault, Height, PartyId, ReplicaId};
 use replica::{Archived, Input, Replica, Whole};
 use simulated_keys::keyring_of;
 use std::alloc::Global;
+use std::hash::RandomState;
 
-/// The sizes that a line begins with.
+/// The sizes that a line begins with, and the secret by which caches hash keys.
 #[derive(Clone, Copy)]
 pub(crate) struct Sizes {
     pub(crate) faults: u8,
     pub(crate) clients: u8,
+    pub(crate) hasher: RandomState,
 }
 
 /// A number of a line.
@@ -94,11 +96,16 @@ fn bring(alloc: Global, replica: &mut Archived, all: &[Brought]) -> Result<(), F
 }
 
 /// A replica that has made no step.
-fn first(alloc: Global, config: Config, own: ReplicaId) -> Result<Archived, Fault>
+fn first(
+    alloc: Global,
+    hasher: RandomState,
+    config: Config,
+    own: ReplicaId,
+) -> Result<Archived, Fault>
     requires { own < replicas config }
 {
     let ring = keyring_of(alloc, config, PartyId::from(own))?;
-    Archived::new(alloc, config, own, ring)
+    Archived::new(alloc, config, own, ring, hasher)
 }
 
 /// The replica of a field, before its inputs come.
@@ -112,7 +119,7 @@ fn named(alloc: Global, sizes: Sizes, name: &str) -> Result<Archived, Fault> {
     if own >= config.n() {
         return Err(Fault::NoSuchParty);
     }
-    first(alloc, config, ReplicaId(own))
+    first(alloc, sizes.hasher, config, ReplicaId(own))
 }
 
 /// A value with what a call gave; where the call was refused, the value is dropped.

@@ -34,7 +34,7 @@ use Rattle.audit_ground.proofs.Stored.{stored-blocks_are_named}
 
 -- four replicas, of which one may be faulty
 abbrev pub sizes : Sizes
-sizes = record { faults = 1; clients = 2 }
+sizes = record { faults = 1; clients = 2; most_keys = 65536 }
 
 -- a block that was taken as a new one, by its own core and a certificate of the block that it justifies
 abbrev pub admitted : Branch → List ℕ → Bool → Admitted

@@ -1,6 +1,6 @@
-ghost use Rattle.std.specs.Prelude.{◌≡◌, ◌+◌, ◌*◌, ◌<◌, ◌↔◌, [], length, IsTrue, IfOk, OnErr};
+ghost use Rattle.std.specs.Prelude.{◌≡◌, ◌+◌, ◌*◌, ◌<◌, ◌↔◌, [], length, IsTrue, IsOk, IfOk, OnErr};
 ghost use Rattle.definitions.specs.Writing.{IsAppended};
-ghost use Rattle.ids.specs.Sizes.{replicas};
+ghost use Rattle.ids.specs.Sizes.{IsRoom, replicas};
 ghost use Rattle.definitions.specs.Tags.{tag_text};
 ghost use Rattle.definitions.specs.Keyrings.{keys_due, is_peer, place_of, keyring_of, tag_for, verify};
 ghost use Rattle.definitions.specs.Keyrings.{vector_for};
@@ -56,6 +56,18 @@ impl Keyring {
             party: self.party,
             keys: copied(alloc, self.keys.as_slice())?,
         })
+    }
+
+    /// The same keys, in a deployment whose caches have room for so many keys: 1 to `MOST_KEYS`, else
+    /// `BadKeys`.
+    pub fn with_most_keys(self, most_keys: usize) -> Result<Keyring, Fault>
+        ensures made { IfOk result (λ k. k
+            ≡ record self { sizes = record self.sizes { most_keys = most_keys } }) }
+        ensures refused { OnErr result (result ≡ Err Fault.BadKeys) }
+        ensures only { IsOk result ↔ IsRoom most_keys }
+    {
+        let config = self.config.with_most_keys(most_keys)?;
+        Ok(Keyring { config, ..self })
     }
 
     /// The party whose keys these are.

@@ -1,1 +1,4 @@
-pub mod TableLaws
+pub mod Lookups
+pub mod Orders
+pub mod Evictions
+pub mod Edits

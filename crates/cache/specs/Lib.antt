@@ -1,5 +1,4 @@
 pub use Rattle.definitions.specs.Cache
 pub use Rattle.mc_lines.specs.Meaning
-pub mod Bounded
 pub mod Tables
 pub mod Steps

@@ -5,12 +5,14 @@ ghost use Rattle.mc_lines.specs.Meaning.{reply_of};
 
 use crate::cache::Cache;
 use crate::entry::Entry;
+use crate::uses::UsedKey;
 use mc_lines::Reply;
 use std::alloc::AllocError;
 
 impl Cache {
-    /// The key has this data from now on, and a cas unique of its own. After the last change that can
-    /// be counted there is none, and the cache is full.
+    /// The key has this data from now on, and a cas unique of its own. Where it is a new one and there
+    /// is no room, the key goes that was not used for the longest time. After the last change that can
+    /// be counted there is none.
     pub(crate) fn change(
         &mut self,
         key: &[u8],
@@ -19,11 +21,9 @@ impl Cache {
         told: Reply,
     ) -> Result<Reply, AllocError>
         ensures left { OnOk result (
-            let outcome = change self.old.cache key.now flags stored.items (reply_of told) in
-            self.new ≡ record self.old { cache = outcome.0 }) }
+            self.new ≡ (change self.old key.now flags stored.items (reply_of told)).0) }
         ensures told { IfOk result (λ reply.
-            let outcome = change self.old.cache key.now flags stored.items (reply_of told) in
-            reply_of reply ≡ outcome.1) }
+            reply_of reply ≡ (change self.old key.now flags stored.items (reply_of told)).1) }
         ensures unchanged { OnErr result (self.new ≡ self.old) }
     {
         if self.changes == u64::MAX {
@@ -35,7 +35,8 @@ impl Cache {
             stored,
             cas_unique,
         };
-        self.table.insert(self.alloc, key, entry)?;
+        self.entries.put(Vec::from_slice(self.alloc, key)?, entry)?;
+        self.uses = self.uses.with(&UsedKey(key));
         self.changes = cas_unique;
         Ok(told)
     }
@@ -49,16 +50,12 @@ impl Cache {
         cas_unique: u64,
     ) -> Result<Reply, AllocError>
         ensures left { OnOk result (
-            let outcome =
-            apply self.old.most self.old.cache (requests.cas key.now flags stored.now cas_unique) in
-            self.new ≡ record self.old { cache = outcome.0 }) }
+            self.new ≡ (apply self.old (requests.cas key.now flags stored.now cas_unique)).0) }
         ensures told { IfOk result (λ reply.
-            let outcome =
-            apply self.old.most self.old.cache (requests.cas key.now flags stored.now cas_unique) in
-            reply_of reply ≡ outcome.1) }
+            reply_of reply ≡ (apply self.old (requests.cas key.now flags stored.now cas_unique)).1) }
         ensures unchanged { OnErr result (self.new ≡ self.old) }
     {
-        let Some(entry) = self.table.get(key) else {
+        let Some(entry) = self.get(key) else {
             return Ok(Reply::NotFound);
         };
         if entry.cas_unique != cas_unique {
@@ -69,15 +66,13 @@ impl Cache {
 
     /// Takes a key out.
     pub(crate) fn delete(&mut self, key: &[u8]) -> Reply
-        ensures left { let outcome = apply self.old.most self.old.cache (requests.delete key.now) in
-            self.new ≡ record self.old { cache = outcome.0 } }
-        ensures told { let outcome = apply self.old.most self.old.cache (requests.delete key.now) in
-            reply_of result ≡ outcome.1 }
+        ensures left { self.new ≡ (apply self.old (requests.delete key.now)).0 }
+        ensures told { reply_of result ≡ (apply self.old (requests.delete key.now)).1 }
     {
-        if self.table.remove(key) {
-            Reply::Deleted
-        } else {
-            Reply::NotFound
+        if !self.has(key) {
+            return Reply::NotFound;
         }
+        self.remove(key);
+        Reply::Deleted
     }
 }

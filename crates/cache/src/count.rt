@@ -30,13 +30,12 @@ impl Step {
 impl Cache {
     /// Moves the number under a key.
     pub(crate) fn count(&mut self, key: &[u8], step: Step) -> Result<Reply, AllocError>
-        ensures left { OnOk result (
-            self.new ≡ record self.old { cache = (count_it self.old.cache key.now (after_step step)).0 }) }
+        ensures left { OnOk result (self.new ≡ (count_it self.old key.now (after_step step)).0) }
         ensures told { IfOk result (λ reply.
-            reply_of reply ≡ (count_it self.old.cache key.now (after_step step)).1) }
+            reply_of reply ≡ (count_it self.old key.now (after_step step)).1) }
         ensures unchanged { OnErr result (self.new ≡ self.old) }
     {
-        let Some(entry) = self.table.get(key) else {
+        let Some(entry) = self.get(key) else {
             return Ok(Reply::NotFound);
         };
         let Some(n) = read_number(&entry.stored) else {

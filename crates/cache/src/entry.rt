@@ -1,4 +1,4 @@
-/// What stands under a key.
+/// What stands under a key. When the key was used last is not written down: the order of entries says it.
 #[derive(Drop)]
 pub(crate) struct Entry {
     /// What the client gave with the data. It means nothing here.

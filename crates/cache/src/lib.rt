@@ -9,9 +9,11 @@ mod cache;
 mod change;
 mod count;
 mod entry;
+mod items;
 mod number;
+mod room;
 mod store;
-mod table;
+mod uses;
 mod values;
 
 pub use cache::Cache;

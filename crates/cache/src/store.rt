@@ -28,30 +28,19 @@ impl Cache {
         stored: &[u8],
     ) -> Result<Reply, AllocError>
         ensures left { OnOk result (
-            let outcome = store_it self.old.most self.old.cache (verb_of verb) key.now flags stored.now in
-            self.new ≡ record self.old { cache = outcome.0 }) }
+            self.new ≡ (store_it self.old (verb_of verb) key.now flags stored.now).0) }
         ensures told { IfOk result (λ reply.
-            let outcome = store_it self.old.most self.old.cache (verb_of verb) key.now flags stored.now in
-            reply_of reply ≡ outcome.1) }
+            reply_of reply ≡ (store_it self.old (verb_of verb) key.now flags stored.now).1) }
         ensures unchanged { OnErr result (self.new ≡ self.old) }
     {
-        let present = self.table.has(key);
-        let has_room = self.table.len() < self.most_keys;
+        let present = self.has(key);
         match verb {
-            Verb::Set => if present || has_room {
-                self.put(key, flags, stored)
+            Verb::Set => self.put(key, flags, stored),
+            Verb::Add => if present {
+                Ok(Reply::NotStored)
             } else {
-                Ok(Reply::OutOfMemory)
+                self.put(key, flags, stored)
             },
-            Verb::Add => {
-                if present {
-                    Ok(Reply::NotStored)
-                } else if has_room {
-                    self.put(key, flags, stored)
-                } else {
-                    Ok(Reply::OutOfMemory)
-                }
-            }
             Verb::Replace => if present {
                 self.put(key, flags, stored)
             } else {
@@ -65,11 +54,9 @@ impl Cache {
     /// Puts data under a key.
     pub(crate) fn put(&mut self, key: &[u8], flags: u32, stored: &[u8]) -> Result<Reply, AllocError>
         ensures left { OnOk result (
-            let outcome = change self.old.cache key.now flags stored.now replies.stored in
-            self.new ≡ record self.old { cache = outcome.0 }) }
+            self.new ≡ (change self.old key.now flags stored.now replies.stored).0) }
         ensures told { IfOk result (λ reply.
-            let outcome = change self.old.cache key.now flags stored.now replies.stored in
-            reply_of reply ≡ outcome.1) }
+            reply_of reply ≡ (change self.old key.now flags stored.now replies.stored).1) }
         ensures unchanged { OnErr result (self.new ≡ self.old) }
     {
         let stored = Vec::from_slice(self.alloc, stored)?;
@@ -79,14 +66,12 @@ impl Cache {
     /// Puts data behind what a key has. The flags stay.
     fn append(&mut self, key: &[u8], stored: &[u8]) -> Result<Reply, AllocError>
         ensures left { OnOk result (
-            let outcome = store_it self.old.most self.old.cache requests.append key.now 0 stored.now in
-            self.new ≡ record self.old { cache = outcome.0 }) }
+            self.new ≡ (store_it self.old requests.append key.now 0 stored.now).0) }
         ensures told { IfOk result (λ reply.
-            let outcome = store_it self.old.most self.old.cache requests.append key.now 0 stored.now in
-            reply_of reply ≡ outcome.1) }
+            reply_of reply ≡ (store_it self.old requests.append key.now 0 stored.now).1) }
         ensures unchanged { OnErr result (self.new ≡ self.old) }
     {
-        let Some(entry) = self.table.get(key) else {
+        let Some(entry) = self.get(key) else {
             return Ok(Reply::NotStored);
         };
         if entry.stored.len() + stored.len() > MOST_DATA {
@@ -100,14 +85,12 @@ impl Cache {
     /// Puts data before what a key has. The flags stay.
     fn prepend(&mut self, key: &[u8], stored: &[u8]) -> Result<Reply, AllocError>
         ensures left { OnOk result (
-            let outcome = store_it self.old.most self.old.cache requests.prepend key.now 0 stored.now in
-            self.new ≡ record self.old { cache = outcome.0 }) }
+            self.new ≡ (store_it self.old requests.prepend key.now 0 stored.now).0) }
         ensures told { IfOk result (λ reply.
-            let outcome = store_it self.old.most self.old.cache requests.prepend key.now 0 stored.now in
-            reply_of reply ≡ outcome.1) }
+            reply_of reply ≡ (store_it self.old requests.prepend key.now 0 stored.now).1) }
         ensures unchanged { OnErr result (self.new ≡ self.old) }
     {
-        let Some(entry) = self.table.get(key) else {
+        let Some(entry) = self.get(key) else {
             return Ok(Reply::NotStored);
         };
         if stored.len() + entry.stored.len() > MOST_DATA {

@@ -1,14 +1,15 @@
 -- How long the text of a reply can be: what a cache holds stays within the limits of requests.
-use Rattle.ids.specs.declared.limits.TheConstants.{MOST_DATA, MOST_KEYS, MOST_TEXT}
+use Rattle.ids.specs.declared.limits.TheConstants.{MOST_DATA, MOST_TEXT}
 use Rattle.std.proofs.Common.{ℕ, ◌≡◌, ◌+◌, ◌*◌, ◌^◌, ◌%◌, ◌-◌, ◌<◌, ◌≤◌, ◌&&◌, ◌||◌, ◌==◌, Bool, true}
 use Rattle.std.proofs.Common.{false, List, [], ◌∷◌, ◌++◌, length, cond, refl, sym, subst, ◌∙◌, arith, inl}
 use Rattle.std.proofs.Common.{inr, Option, Some, None, nat_lt, nat_le, length-append, bytes_eq, decimal}
-use Rattle.std.proofs.Common.{codes}
+use Rattle.std.proofs.Common.{codes, fold}
 use Rattle.std.specs.Bool.{⊤}
 use Rattle.std.specs.Ordering.{eq_by_cmp}
 use Rattle.std.specs.List.{AllByRecursion, flat_map, cons_option}
 use Rattle.std.specs.Option.{option_map, option_map_or}
 use Rattle.std.specs.FinMap as map
+use Rattle.std.specs.FinMap.{FinMap}
 use Rattle.std.specs.Cmp.Lexicographic.{nat_list_cmp_total}
 use Rattle.std.specs.Str.Parse.{digits_value}
 use Rattle.std.proofs.lemmas.Bool.{and_parts, cond_both, ltb-true, leb-true, eqb-false}
@@ -21,8 +22,8 @@ use Rattle.definitions.specs.Canonical.{request_of}
 use Rattle.definitions.specs.Replies.{Value, Reply, value_text, reply_text}
 use Rattle.definitions.specs.Replies as reply
 use Rattle.definitions.specs.Cache.{CacheItem, Cache, key_cmp, most_changes, find, has, Outcome, change}
-use Rattle.definitions.specs.Cache.{number_in, if_present, store_it, count_it, values_of, apply}
-use Rattle.definitions.specs.Cache.{apply_payload}
+use Rattle.definitions.specs.Cache.{least_used, beside, used, number_in, if_present, store_it, count_it}
+use Rattle.definitions.specs.Cache.{values_of, apply, apply_payload}
 use Rattle.definitions.specs.Histories.{History, Answer, answers, cache_after, is_fresh}
 use Rattle.definitions.proofs.Certificates.{all-implied}
 use Rattle.definitions.proofs.RequestTexts.{request_of_some}
@@ -57,9 +58,13 @@ pub record IsEntryWithin (e : CacheItem) : Type 0 where
   pub stored : length e.stored ≤ MOST_DATA
   pub cas_unique : e.cas_unique < 2 ^ 64
 
+-- entries that are
+abbrev pub AreWithin : FinMap key_cmp CacheItem → Type 0
+AreWithin entries = (key : Bytes) (e : CacheItem) → map.get entries key ≡ Some e → IsEntryWithin e
+
 -- a cache all of whose entries are
 pub record IsCacheWithin (cache : Cache) : Type 0 where
-  pub entries : (key : Bytes) (e : CacheItem) → find cache key ≡ Some e → IsEntryWithin e
+  pub entries : AreWithin cache.entries
   pub changes : cache.changes < 2 ^ 64
 
 -- a text that a reply may have
@@ -83,34 +88,61 @@ number-fits n l =
     length-append (decimal n) (13 ∷ 10 ∷ []) in omega (arith, k, a)
 
 -- an entry more
-insert-within : (cache : Cache) (key : Bytes) (e : CacheItem) (changes : ℕ) → IsCacheWithin cache
-    → IsEntryWithin e → changes < 2 ^ 64
-    → IsCacheWithin (record { entries = map.insert cache.entries key e; changes = changes })
-insert-within cache key e changes h k l = record {
-  entries = λ q x f. by (eq_by_cmp key_cmp q key) q x
-      (sym (map.get-insert nat_list_cmp_total cache.entries key e q) ∙ f);
-  changes = l;
-}
+insert-within : (entries : FinMap key_cmp CacheItem) (key : Bytes) (e : CacheItem) → AreWithin entries
+    → IsEntryWithin e → AreWithin (map.insert entries key e)
+insert-within entries key e h k q x f =
+    by (eq_by_cmp key_cmp q key) (sym (map.get-insert nat_list_cmp_total entries key e q) ∙ f)
   where
-    by : (t : Bool) (q : Bytes) (x : CacheItem) → cond t (Some e) (find cache q) ≡ Some x → IsEntryWithin x
-    by true q x f = let i : e ≡ x = cc in subst IsEntryWithin i k
-    by false q x f = h.entries q x f
+    by : (t : Bool) → cond t (Some e) (map.get entries q) ≡ Some x → IsEntryWithin x
+    by true f = let i : e ≡ x = cc in subst IsEntryWithin i k
+    by false f = h q x f
 
 -- an entry less
-remove-within : (cache : Cache) (key : Bytes) → IsCacheWithin cache
-    → IsCacheWithin (record cache { entries = map.remove cache.entries key })
-remove-within cache key h = record {
-  entries = λ q x f. by (eq_by_cmp key_cmp q key) q x
-      (sym (map.get-remove nat_list_cmp_total cache.entries key q) ∙ f);
-  changes = h.changes;
-}
+remove-within : (entries : FinMap key_cmp CacheItem) (key : Bytes) → AreWithin entries
+    → AreWithin (map.remove entries key)
+remove-within entries key h q x f =
+    by (eq_by_cmp key_cmp q key) (sym (map.get-remove nat_list_cmp_total entries key q) ∙ f)
   where
-    by : (t : Bool) (q : Bytes) (x : CacheItem) → cond t None (find cache q) ≡ Some x → IsEntryWithin x
-    by true q x f = absurd (none f)
+    by : (t : Bool) → cond t None (map.get entries q) ≡ Some x → IsEntryWithin x
+    by true f = absurd (none f)
       where
         none : None ≡ Some x → ⊥
         none j = cc
-    by false q x f = h.entries q x f
+    by false f = h q x f
+
+-- what stays beside a key
+beside-within : (cache : Cache) (key : Bytes) → IsCacheWithin cache → AreWithin (beside cache key)
+beside-within cache key h =
+    cond_both (has cache key || nat_lt (map.len cache.entries) cache.most_keys) _ _ AreWithin
+    (λ e. h.entries) (λ e. by (least_used cache))
+  where
+    by : (o : Option Bytes) → AreWithin (option_map_or (map.remove cache.entries) o cache.entries)
+    by None = h.entries
+    by (Some key) = remove-within cache.entries key h.entries
+
+-- a use of a key
+used-within : (cache : Cache) (key : Bytes) → IsCacheWithin cache → IsCacheWithin (used cache key)
+used-within cache key h = by (find cache key) refl
+  where
+    by : (o : Option CacheItem) → find cache key ≡ o → IsCacheWithin (option_map_or
+        (λ e. record cache {
+          entries = map.insert cache.entries key (record e { last_use = cache.uses + 1 });
+          uses = cache.uses + 1;
+        }) o cache)
+    by None f = h
+    by (Some e) f =
+        let k = h.entries key e f in
+        record {
+          entries = insert-within cache.entries key (record e { last_use = cache.uses + 1 }) h.entries
+              (record { flags = k.flags; stored = k.stored; cas_unique = k.cas_unique });
+          changes = h.changes;
+        }
+
+-- uses of some keys
+all_used-within : (cache : Cache) (keys : List Bytes) → IsCacheWithin cache
+    → IsCacheWithin (fold used cache keys)
+all_used-within cache [] h = h
+all_used-within cache (key ∷ keys) h = all_used-within (used cache key) keys (used-within cache key h)
 
 -- a cache that stays, with a text that fits
 stays-within : (cache : Cache) (r : Reply) → IsCacheWithin cache → FitsReply r → IsOutcomeWithin (cache, r)
@@ -126,9 +158,15 @@ change-within cache key flags stored told h f l t =
     (λ e. let n = eqb-false cache.changes most_changes e in let c = h.changes in
     let more : cache.changes + 1 < 2 ^ 64 = omega (arith, n, c) in
     record {
-      cache = insert-within cache key
-          (record { flags = flags; stored = stored; cas_unique = cache.changes + 1 }) (cache.changes + 1) h
-          (record { flags = f; stored = l; cas_unique = more }) more;
+      cache = record {
+        entries = insert-within (beside cache key) key (record {
+          flags = flags;
+          stored = stored;
+          cas_unique = cache.changes + 1;
+          last_use = cache.uses + 1;
+        }) (beside-within cache key h) (record { flags = f; stored = l; cas_unique = more });
+        changes = more;
+      };
       text = t;
     })
 
@@ -146,30 +184,26 @@ present-within cache key absent present h a p = by (find cache key) refl
 -- ---- what a request does
 
 -- a storage command keeps the limits
-store-within : (most : ℕ) (cache : Cache) (verb : Verb) (key : Bytes) (flags : ℕ) (stored : Bytes)
+store-within : (cache : Cache) (verb : Verb) (key : Bytes) (flags : ℕ) (stored : Bytes)
     → IsCacheWithin cache → flags < 2 ^ 32 → length stored ≤ MOST_DATA
-    → IsOutcomeWithin (store_it most cache verb key flags stored)
-store-within most cache set key flags stored h f l =
-    cond_both (has cache key || nat_lt (map.len cache.entries) most) _ _ IsOutcomeWithin
-    (λ e. change-within cache key flags stored reply.stored h f l stored-fits)
-    (λ e. stays-within cache reply.out_of_memory h (omega arith))
-store-within most cache add key flags stored h f l =
+    → IsOutcomeWithin (store_it cache verb key flags stored)
+store-within cache set key flags stored h f l =
+    change-within cache key flags stored reply.stored h f l stored-fits
+store-within cache add key flags stored h f l =
     cond_both (has cache key) _ _ IsOutcomeWithin
     (λ e. stays-within cache reply.not_stored h (omega arith))
-    (λ e. cond_both (nat_lt (map.len cache.entries) most) _ _ IsOutcomeWithin
     (λ e. change-within cache key flags stored reply.stored h f l stored-fits)
-    (λ e. stays-within cache reply.out_of_memory h (omega arith)))
-store-within most cache replace key flags stored h f l =
+store-within cache replace key flags stored h f l =
     cond_both (has cache key) _ _ IsOutcomeWithin
     (λ e. change-within cache key flags stored reply.stored h f l stored-fits)
     (λ e. stays-within cache reply.not_stored h (omega arith))
-store-within most cache append key flags stored h f l =
+store-within cache append key flags stored h f l =
     present-within cache key _ _ h (stays-within cache reply.not_stored h (omega arith)) (λ x k.
     cond_both (nat_le (length (x.stored ++ stored)) MOST_DATA) _ _ IsOutcomeWithin
     (λ e. change-within cache key x.flags (x.stored ++ stored) reply.stored h k.flags (leb-true _ _ e)
     stored-fits)
     (λ e. stays-within cache reply.too_large h (omega arith)))
-store-within most cache prepend key flags stored h f l =
+store-within cache prepend key flags stored h f l =
     present-within cache key _ _ h (stays-within cache reply.not_stored h (omega arith)) (λ x k.
     cond_both (nat_le (length (stored ++ x.stored)) MOST_DATA) _ _ IsOutcomeWithin
     (λ e. change-within cache key x.flags (stored ++ x.stored) reply.stored h k.flags (leb-true _ _ e)
@@ -262,71 +296,76 @@ values-fit u cache (key ∷ keys) h k = by (values-fit u cache keys h k.1) (find
 -- a retrieval of at most 16 keys
 get-within : (u : Bool) (cache : Cache) (keys : List Bytes) → IsCacheWithin cache → length keys ≤ 16
     → AllByRecursion (λ key. length key ≤ 250) keys
-    → IsOutcomeWithin (cache, reply.values (values_of cache keys) u)
+    → IsOutcomeWithin (fold used cache keys, reply.values (values_of cache keys) u)
 get-within u cache keys h n k =
     let l = values-fit u cache keys h k in
     let a = length-append (flat_map (value_text u) (values_of cache keys)) (codes "END" ++ 13 ∷ 10 ∷ []) in
-    stays-within cache (reply.values (values_of cache keys) u) h (omega (arith, l, a, n))
+    record { cache = all_used-within cache keys h; text = omega (arith, l, a, n) }
 
 -- what a request within the limits does
-apply-within : (most : ℕ) (cache : Cache) (r : Asked) → IsCacheWithin cache → IsWithin r
-    → IsOutcomeWithin (apply most cache r)
-apply-within most cache (store verb key flags stored) h w =
-    store-within most cache verb key flags stored h w.0 w.1
-apply-within most cache (cas key flags stored cas_unique) h w =
+apply-within : (cache : Cache) (r : Asked) → IsCacheWithin cache → IsWithin r
+    → IsOutcomeWithin (apply cache r)
+apply-within cache (store verb key flags stored) h w =
+    store-within cache verb key flags stored h w.0 w.1
+apply-within cache (cas key flags stored cas_unique) h w =
     present-within cache key _ _ h (stays-within cache reply.not_found h (omega arith)) (λ x k.
     cond_both (x.cas_unique == cas_unique) _ _ IsOutcomeWithin
     (λ e. change-within cache key flags stored reply.stored h w.0 w.1 stored-fits)
     (λ e. stays-within cache reply.exists h (omega arith)))
-apply-within most cache (incr key value) h w =
+apply-within cache (incr key value) h w =
     count-within cache key (λ n. (n + value) % 2 ^ 64) h (λ n l. omega arith)
-apply-within most cache (decr key value) h w =
+apply-within cache (decr key value) h w =
     count-within cache key (λ n. n - value) h (λ n l. omega (arith, l))
-apply-within most cache (delete key) h w =
+apply-within cache (delete key) h w =
     cond_both (has cache key) _ _ IsOutcomeWithin
-    (λ e. record { cache = remove-within cache key h; text = omega arith })
+    (λ e. record {
+      cache = record { entries = remove-within cache.entries key h.entries; changes = h.changes };
+      text = omega arith;
+    })
     (λ e. stays-within cache reply.not_found h (omega arith))
-apply-within most cache (get keys) h w = get-within false cache keys h w.0 w.1
-apply-within most cache (gets keys) h w = get-within true cache keys h w.0 w.1
+apply-within cache (get keys) h w = get-within false cache keys h w.0 w.1
+apply-within cache (gets keys) h w = get-within true cache keys h w.0 w.1
 
 -- what a payload does
-pub payload-within : (most : ℕ) (cache : Cache) (payload : Bytes) → IsCacheWithin cache
-    → IsOutcomeWithin (apply_payload most cache payload)
+pub payload-within : (cache : Cache) (payload : Bytes) → IsCacheWithin cache
+    → IsOutcomeWithin (apply_payload cache payload)
 unfolding apply_payload
-payload-within most cache payload h = by (request_of payload) refl
+payload-within cache payload h = by (request_of payload) refl
   where
     by : (o : Option Asked) → request_of payload ≡ o
-        → IsOutcomeWithin (option_map_or (apply most cache) o (cache, reply.no_request))
+        → IsOutcomeWithin (option_map_or (apply cache) o (cache, reply.no_request))
     by None e = stays-within cache reply.no_request h (omega arith)
-    by (Some r) e = apply-within most cache r h (request-within r (request_of_some payload r e).0)
+    by (Some r) e = apply-within cache r h (request-within r (request_of_some payload r e).0)
 
 -- ---- histories
 
 -- the cache after a history keeps the limits
-pub cache_after-within : (h : History) → IsCacheWithin (cache_after h)
+pub cache_after-within : (most_keys : ℕ) (h : History) → IsCacheWithin (cache_after most_keys h)
 unfolding cache_after
-cache_after-within [] = record {
+cache_after-within most_keys [] = record {
   entries = λ key e f. absurd (none e (sym (map.get-empty key_cmp key) ∙ f));
   changes = omega arith;
 }
   where
     none : (e : CacheItem) → None ≡ Some e → ⊥
     none e j = cc
-cache_after-within (e ∷ h) =
+cache_after-within most_keys (e ∷ h) =
     cond_both (is_fresh e h) _ _ IsCacheWithin
-    (λ t. (payload-within MOST_KEYS (cache_after h) e.payload (cache_after-within h)).cache)
-    (λ t. cache_after-within h)
+    (λ t. (payload-within (cache_after most_keys h) e.payload (cache_after-within most_keys h)).cache)
+    (λ t. cache_after-within most_keys h)
 
 -- the text of each answer is one that a reply may have
-pub answer-text : (h : History) (a : Answer) → Among a (answers h) → length a.text ≤ MOST_TEXT
+pub answer-text : (most_keys : ℕ) (h : History) (a : Answer) → Among a (answers most_keys h)
+    → length a.text ≤ MOST_TEXT
 unfolding answers
-answer-text [] a m = absurd m
-answer-text (e ∷ h) a m =
-    by (answer-text h a) (is_fresh e h) _
-    (payload-within MOST_KEYS (cache_after h) e.payload (cache_after-within h)).text m
+answer-text most_keys [] a m = absurd m
+answer-text most_keys (e ∷ h) a m =
+    by (answer-text most_keys h a) (is_fresh e h) _
+    (payload-within (cache_after most_keys h) e.payload (cache_after-within most_keys h)).text m
   where
-    by : (Among a (answers h) → length a.text ≤ MOST_TEXT) → (t : Bool) (new : Answer)
-        → length new.text ≤ MOST_TEXT → Among a (cond t (new ∷ answers h) (answers h))
+    by : (Among a (answers most_keys h) → length a.text ≤ MOST_TEXT) → (t : Bool) (new : Answer)
+        → length new.text ≤ MOST_TEXT
+        → Among a (cond t (new ∷ answers most_keys h) (answers most_keys h))
         → length a.text ≤ MOST_TEXT
     by older true new l (inl i) = subst (λ (x : Answer). length x.text ≤ MOST_TEXT) (sym i) l
     by older true new l (inr k) = older k

@@ -3,7 +3,6 @@
 use Rattle.std.specs.Prelude.{ℕ, suc, ◌==◌, ◌||◌, not, Bool, List, [], ◌∷◌, ◌++◌, map, filter, reverse}
 use Rattle.std.specs.Prelude.{length, if◌then◌else◌, nat_lt, Option, Some, None, find}
 use Rattle.std.specs.List.{list_all}
-use Rattle.ids.specs.declared.limits.TheConstants.{MOST_KEYS}
 use Rattle.definitions.specs.Lists.{greatest}
 use Rattle.definitions.specs.Frames.{Command}
 use Rattle.definitions.specs.Branches.{Branch}
@@ -40,12 +39,13 @@ last_seq client h = greatest (map (λ e. e.seq) (filter (λ e. e.client == clien
 
 -- ---- the cache
 
--- the cache after the fresh entries
-unfoldable pub cache_after : History → Cache
-cache_after [] = empty_cache
-cache_after (e ∷ earlier) =
-    if is_fresh e earlier then (apply_payload MOST_KEYS (cache_after earlier) e.payload).0 else cache_after
-    earlier
+-- the cache after the fresh entries, with room for so many keys
+unfoldable pub cache_after : ℕ → History → Cache
+cache_after most_keys [] = empty_cache most_keys
+cache_after most_keys (e ∷ earlier) =
+    if is_fresh e earlier
+    then (apply_payload (cache_after most_keys earlier) e.payload).0
+    else cache_after most_keys earlier
 
 -- the reply to an entry, and its place
 pub record Answer : Type 0 where
@@ -55,25 +55,25 @@ pub record Answer : Type 0 where
   pub text : Bytes
 
 -- the answer to an entry that is fresh after these, whose place is counted from 1
-abbrev pub answer_in : Entry → History → Answer
-answer_in e earlier = record {
+abbrev pub answer_in : ℕ → Entry → History → Answer
+answer_in most_keys e earlier = record {
   client = e.client;
   seq = e.seq;
   place = suc (length earlier);
-  text = reply_text (apply_payload MOST_KEYS (cache_after earlier) e.payload).1;
+  text = reply_text (apply_payload (cache_after most_keys earlier) e.payload).1;
 }
 
 -- the answers to the fresh entries
-unfoldable pub answers : History → List Answer
-answers [] = []
-answers (e ∷ earlier) =
+unfoldable pub answers : ℕ → History → List Answer
+answers most_keys [] = []
+answers most_keys (e ∷ earlier) =
     if is_fresh e earlier
-    then answer_in e earlier ∷ answers earlier
-    else answers earlier
+    then answer_in most_keys e earlier ∷ answers most_keys earlier
+    else answers most_keys earlier
 
 -- the answer to a client's last fresh entry
-unfoldable pub last_answer : ℕ → History → Option Answer
-last_answer client h = find (λ a. a.client == client) (answers h)
+unfoldable pub last_answer : ℕ → ℕ → History → Option Answer
+last_answer most_keys client h = find (λ a. a.client == client) (answers most_keys h)
 
 -- an answer, where it has this number
 abbrev pub if_numbered : ℕ → Option Answer → Option Answer
@@ -81,5 +81,5 @@ if_numbered seq None = None
 if_numbered seq (Some a) = if a.seq == seq then Some a else None
 
 -- the answer to a client's last fresh entry, where that has this number
-unfoldable pub answer_to : ℕ → ℕ → History → Option Answer
-answer_to client seq h = if_numbered seq (last_answer client h)
+unfoldable pub answer_to : ℕ → ℕ → ℕ → History → Option Answer
+answer_to most_keys client seq h = if_numbered seq (last_answer most_keys client h)

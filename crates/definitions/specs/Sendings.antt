@@ -68,8 +68,9 @@ fetch_frame self to d = frame.fetch (me self) d (tag_for self.ring kind.Fetch to
 -- the replies to what a step executed, by place
 unfoldable pub new_replies : Identity → Step → Chronicle → List Sending
 new_replies self s c =
-    let told = answers (history (s ∷ c)) in
-    map (reply_to self) (reverse (take (length told - length (answers (history c))) told))
+    let told = answers self.sizes.most_keys (history (s ∷ c)) in
+    let before = answers self.sizes.most_keys (history c) in
+    map (reply_to self) (reverse (take (length told - length before) told))
 
 -- a block of the tree as it was taken; genesis never was
 abbrev pub as_taken : Option Branch → Chronicle → Option Admitted
@@ -104,7 +105,9 @@ sendings self (noted (got_new_view w sender q b)) c =
     then (to_all, new_view_frame self (noted (got_new_view w sender q b) ∷ c)) ∷ []
     else []
 sendings self (noted (got_request r)) c =
-    if r.seq == last_seq r.client (history c) then again self (answer_to r.client r.seq (history c)) else []
+    if r.seq == last_seq r.client (history c)
+    then again self (answer_to self.sizes.most_keys r.client r.seq (history c))
+    else []
 sendings self (noted (got_fetch to b)) c = supplies self to (as_taken b c)
 sendings self (noted timed_out) c = (to_all, new_view_frame self (noted timed_out ∷ c)) ∷ []
 sendings self (noted beat) c =

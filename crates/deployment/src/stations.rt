@@ -188,6 +188,7 @@ fn new_kept<'a>(
     number: ReplicaId,
     eye: Eye,
     marks: &'a Marks,
+    hasher: RandomState,
 ) -> Result<Kept<'a>, Fault>
     requires number { number < replicas keys.now.sizes }
     requires words { marks.now.words ≡ replicas keys.now.sizes }
@@ -195,7 +196,7 @@ fn new_kept<'a>(
     ensures memory { OnErr result (result ≡ Err Memory) }
 {
     let keyring = keys.keyring(alloc, number.into())?;
-    let replica = Archived::new(alloc, keys.config(), number, keyring)?;
+    let replica = Archived::new(alloc, keys.config(), number, keyring, hasher)?;
     Ok(Kept::new(alloc, replica, eye, marks))
 }
 
@@ -232,7 +233,7 @@ fn build_station<'a>(
     ensures lies { IfOk result (λ made. LiesBy (if number == 0 then terms.now.liar else None) made.1) }
     ensures memory { OnErr result (result ≡ Err Memory) }
 {
-    let mut kept = new_kept(alloc, keys, number, eye, marks)?;
+    let mut kept = new_kept(alloc, keys, number, eye, marks, terms.hasher)?;
     let crew = hire_crew(alloc, keys, &mut kept, number, terms.liar_of(number))?;
     let station = Station {
         number,

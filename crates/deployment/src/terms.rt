@@ -4,6 +4,7 @@ ghost use Rattle.std.specs.Prelude.{◌≡◌, ◌==◌, ◌^◌, ◌-◌, None,
 
 use ids::ReplicaId;
 use liars::Liar;
+use std::hash::RandomState;
 
 /// How a deployment is to run.
 #[derive(Clone, Copy, Debug)]
@@ -20,6 +21,8 @@ pub struct Terms {
     pub window: Option<u64>,
     /// Each how many seconds a line is logged that tells how it goes. None for no lines.
     pub watch: Option<u64>,
+    /// The secret by which the replicas' caches hash keys.
+    pub hasher: RandomState,
 }
 
 impl Terms {

@@ -1,18 +1,17 @@
 -- How long the texts of replies are that come with a change of the cache.
 use Rattle.ids.specs.declared.limits.TheConstants.{MOST_DATA}
 use Rattle.std.proofs.Common.{ℕ, ◌≡◌, ◌⊎◌, ◌≤◌, ◌<◌, ◌+◌, ◌-◌, ◌%◌, ◌^◌, ◌==◌, ◌&&◌, ◌||◌, ◌++◌, [], ◌∷◌}
-use Rattle.std.proofs.Common.{length, length-append, refl, ap, ◌∙◌, arith, Result, Ok, Err, OnErr, inl, inr}
+use Rattle.std.proofs.Common.{length, length-append, refl, ap, ◌∙◌, arith, Result, Ok, Err, OnErr, OnOk, inl, inr}
 use Rattle.std.proofs.Common.{Option, Some, None, nat_lt, nat_le, bytes_eq, decimal}
 use Rattle.std.specs.Option.{option_map_or}
 use Rattle.std.specs.Str.Parse.{digits_value}
 use Rattle.std.proofs.lemmas.Fmt.{length-decimal-le}
 use Rattle.std.proofs.lemmas.Bool.{cond_both, ltb-true, and_parts}
-use Rattle.std.specs.FinMap as map
-use Rattle.cache.specs.Bounded.{Bounded}
 use Rattle.definitions.specs.Bytes.{Bytes}
 use Rattle.definitions.specs.Requests.{Asked, Verb, set, add, replace, append, prepend, store, cas, get}
 use Rattle.definitions.specs.Requests.{gets, delete, incr, decr}
 use Rattle.definitions.specs.Canonical.{request_of}
+use Rattle.executor.specs.Changing.{IsChanging}
 use Rattle.definitions.specs.Replies.{Reply, reply_text}
 use Rattle.definitions.specs.Replies as reply
 use Rattle.definitions.specs.Cache.{Cache, CacheItem, Outcome, find, has, change, most_changes, number_in}
@@ -43,22 +42,19 @@ present-short cache key r present p = by (find cache key)
     by (Some e) = p e
 
 -- a storage command
-store-short : (most : ℕ) (cache : Cache) (verb : Verb) (key : Bytes) (flags : ℕ) (stored : Bytes)
-    → IsShortOrSame cache (store_it most cache verb key flags stored)
-store-short most cache set key flags stored =
-    cond_both (has cache key || nat_lt (map.len cache.entries) most) _ _ (IsShortOrSame cache)
-    (λ e. stored-short cache key flags stored) (λ e. inr refl)
-store-short most cache add key flags stored =
+store-short : (cache : Cache) (verb : Verb) (key : Bytes) (flags : ℕ) (stored : Bytes)
+    → IsShortOrSame cache (store_it cache verb key flags stored)
+store-short cache set key flags stored = stored-short cache key flags stored
+store-short cache add key flags stored =
     cond_both (has cache key) _ _ (IsShortOrSame cache) (λ e. inr refl)
-    (λ e. cond_both (nat_lt (map.len cache.entries) most) _ _ (IsShortOrSame cache)
-    (λ k. stored-short cache key flags stored) (λ k. inr refl))
-store-short most cache replace key flags stored =
+    (λ e. stored-short cache key flags stored)
+store-short cache replace key flags stored =
     cond_both (has cache key) _ _ (IsShortOrSame cache) (λ e. stored-short cache key flags stored)
     (λ e. inr refl)
-store-short most cache append key flags stored = present-short cache key reply.not_stored _ (λ x.
+store-short cache append key flags stored = present-short cache key reply.not_stored _ (λ x.
     cond_both (nat_le (length (x.stored ++ stored)) MOST_DATA) _ _ (IsShortOrSame cache)
     (λ e. stored-short cache key x.flags (x.stored ++ stored)) (λ e. inr refl))
-store-short most cache prepend key flags stored = present-short cache key reply.not_stored _ (λ x.
+store-short cache prepend key flags stored = present-short cache key reply.not_stored _ (λ x.
     cond_both (nat_le (length (stored ++ x.stored)) MOST_DATA) _ _ (IsShortOrSame cache)
     (λ e. stored-short cache key x.flags (stored ++ x.stored)) (λ e. inr refl))
 
@@ -92,62 +88,49 @@ count-short cache key f small =
     by e (Some n) i = changed-short cache key e.flags (decimal (f n)) (reply.number (f n))
         (number-short (f n) (small n (number_in-small e.stored n i)))
 
--- what a request does
-apply-short : (most : ℕ) (cache : Cache) (r : Asked) → IsShortOrSame cache (apply most cache r)
-apply-short most cache (store verb key flags stored) = store-short most cache verb key flags stored
-apply-short most cache (cas key flags stored cas_unique) = present-short cache key reply.not_found _ (λ x.
+-- what such a request does
+apply-short : (cache : Cache) (r : Asked) → IsChanging r → IsShortOrSame cache (apply cache r)
+apply-short cache (store verb key flags stored) h = store-short cache verb key flags stored
+apply-short cache (cas key flags stored cas_unique) h = present-short cache key reply.not_found _ (λ x.
     cond_both (x.cas_unique == cas_unique) _ _ (IsShortOrSame cache)
     (λ e. stored-short cache key flags stored)
     (λ e. inr refl))
-apply-short most cache (incr key value) =
+apply-short cache (incr key value) h =
     count-short cache key (λ n. (n + value) % 2 ^ 64) (λ n l. omega arith)
-apply-short most cache (decr key value) = count-short cache key (λ n. n - value) (λ n l. omega (arith, l))
-apply-short most cache (delete key) =
+apply-short cache (decr key value) h = count-short cache key (λ n. n - value) (λ n l. omega (arith, l))
+apply-short cache (delete key) h =
     cond_both (has cache key) _ _ (IsShortOrSame cache) (λ e. inl (omega arith)) (λ e. inr refl)
-apply-short most cache (get keys) = inr refl
-apply-short most cache (gets keys) = inr refl
-
--- what a payload does
-pub payload-short : (most : ℕ) (cache : Cache) (payload : Bytes)
-    → IsShortOrSame cache (apply_payload most cache payload)
-unfolding apply_payload
-payload-short most cache payload = by (request_of payload)
-  where
-    by : (o : Option Asked)
-        → IsShortOrSame cache (option_map_or (apply most cache) o (cache, reply.no_request))
-    by None = inr refl
-    by (Some r) = apply-short most cache r
+apply-short cache (get keys) h = absurd h
+apply-short cache (gets keys) h = absurd h
 
 -- where the text is long, the cache is left
-payload-same : (most : ℕ) (cache : Cache) (payload : Bytes)
-    → 22 < length (reply_text (apply_payload most cache payload).1)
-    → (apply_payload most cache payload).0 ≡ cache
-payload-same most cache payload long = by (payload-short most cache payload)
+pub left-same : (old new : Cache) (r : Asked) → IsChanging r → new ≡ (apply old r).0
+    → 22 < length (reply_text (apply old r).1) → new ≡ old
+left-same old new r h e long = e ∙ by (apply-short old r h)
   where
-    by : IsShortOrSame cache (apply_payload most cache payload) → (apply_payload most cache payload).0 ≡ cache
+    by : IsShortOrSame old (apply old r) → (apply old r).0 ≡ old
     by (inl s) = absurd (omega (arith, s, long))
-    by (inr e) = e
-
-pub left-same : (old new : Bounded) (payload : Bytes)
-    → new ≡ record old { cache = (apply_payload old.most old.cache payload).0 }
-    → 22 < length (reply_text (apply_payload old.most old.cache payload).1) → new ≡ old
-left-same old new payload e long = e
-    ∙ ap (λ (c : Cache). record old { cache = c }) (payload-same old.most old.cache payload long)
+    by (inr k) = k
 
 -- what a payload does that is a request, and one that isn't
-pub payload-asks : (most : ℕ) (cache : Cache) (payload : Bytes) (r : Asked) → request_of payload ≡ Some r
-    → apply_payload most cache payload ≡ apply most cache r
+pub payload-asks : (cache : Cache) (payload : Bytes) (r : Asked) → request_of payload ≡ Some r
+    → apply_payload cache payload ≡ apply cache r
 unfolding apply_payload
-payload-asks most cache payload r e =
-    ap (λ (o : Option Asked). option_map_or (apply most cache) o (cache, reply.no_request)) e
+payload-asks cache payload r e =
+    ap (λ (o : Option Asked). option_map_or (apply cache) o (cache, reply.no_request)) e
 
-pub payload-asks_nothing : (most : ℕ) (cache : Cache) (payload : Bytes) → request_of payload ≡ None
-    → apply_payload most cache payload ≡ (cache, reply.no_request)
+pub payload-asks_nothing : (cache : Cache) (payload : Bytes) → request_of payload ≡ None
+    → apply_payload cache payload ≡ (cache, reply.no_request)
 unfolding apply_payload
-payload-asks_nothing most cache payload e =
-    ap (λ (o : Option Asked). option_map_or (apply most cache) o (cache, reply.no_request)) e
+payload-asks_nothing cache payload e =
+    ap (λ (o : Option Asked). option_map_or (apply cache) o (cache, reply.no_request)) e
 
 -- at a refusal
 pub on_err : {T E P : Type 0} (r : Result T E) → P → OnErr r P
 on_err (Ok x) p = tt
 on_err (Err e) p = p
+
+-- at an answer
+pub on_ok : {T E P : Type 0} (r : Result T E) → P → OnOk r P
+on_ok (Ok x) p = p
+on_ok (Err e) p = tt

@@ -51,26 +51,26 @@ number-one e (Some a) new i false h = let l = ltb-false a.seq e h in omega (arit
 -- ---- the last answer
 
 -- of an entry of another client
-other-answer : (client : ℕ) (e : Entry) (h : History) → (e.client == client) ≡ false
-    → last_answer client (e ∷ h) ≡ last_answer client h
+other-answer : (most_keys client : ℕ) (e : Entry) (h : History) → (e.client == client) ≡ false
+    → last_answer most_keys client (e ∷ h) ≡ last_answer most_keys client h
 unfolding last_answer answers
-other-answer client e h k = by (is_fresh e h)
+other-answer most_keys client e h k = by (is_fresh e h)
   where
     by : (t : Bool)
-        → find (λ a. a.client == client) (cond t (answer_in e h ∷ answers h) (answers h))
-        ≡ find (λ a. a.client == client) (answers h)
+        → find (λ a. a.client == client) (cond t (answer_in most_keys e h ∷ answers most_keys h) (answers most_keys h))
+        ≡ find (λ a. a.client == client) (answers most_keys h)
     by true = cond-false _ _ _ k
     by false = refl
 
 -- of an entry of the client
-own-answer : (client : ℕ) (e : Entry) (h : History) → (e.client == client) ≡ true
-    → last_answer client (e ∷ h) ≡ cond (is_fresh e h) (Some (answer_in e h)) (last_answer client h)
+own-answer : (most_keys client : ℕ) (e : Entry) (h : History) → (e.client == client) ≡ true
+    → last_answer most_keys client (e ∷ h) ≡ cond (is_fresh e h) (Some (answer_in most_keys e h)) (last_answer most_keys client h)
 unfolding last_answer answers
-own-answer client e h k = by (is_fresh e h)
+own-answer most_keys client e h k = by (is_fresh e h)
   where
     by : (t : Bool)
-        → find (λ a. a.client == client) (cond t (answer_in e h ∷ answers h) (answers h))
-        ≡ cond t (Some (answer_in e h)) (find (λ a. a.client == client) (answers h))
+        → find (λ a. a.client == client) (cond t (answer_in most_keys e h ∷ answers most_keys h) (answers most_keys h))
+        ≡ cond t (Some (answer_in most_keys e h)) (find (λ a. a.client == client) (answers most_keys h))
     by true = cond-true _ _ _ k
     by false = refl
 
@@ -84,82 +84,82 @@ is_after client seq h = list_all (λ x. not (x.client == client) || nat_lt x.seq
 abbrev numbers : ℕ → History → List ℕ
 numbers client h = map (λ e. e.seq) (filter (λ e. e.client == client) h)
 
-record IsTold (client : ℕ) (h : History) : Type 0 where
-  fresh : (seq : ℕ) → is_after client seq h ≡ numbered_after seq (last_answer client h)
-  number : greatest (numbers client h) ≡ number_in (last_answer client h)
+record IsTold (most_keys client : ℕ) (h : History) : Type 0 where
+  fresh : (seq : ℕ) → is_after client seq h ≡ numbered_after seq (last_answer most_keys client h)
+  number : greatest (numbers client h) ≡ number_in (last_answer most_keys client h)
 
-told-other : (client : ℕ) (e : Entry) (h : History) → (e.client == client) ≡ false → IsTold client h
-    → IsTold client (e ∷ h)
+told-other : (most_keys client : ℕ) (e : Entry) (h : History) → (e.client == client) ≡ false → IsTold most_keys client h
+    → IsTold most_keys client (e ∷ h)
 unfolding greatest
-told-other client e h k t = record {
+told-other most_keys client e h k t = record {
   fresh = λ seq. ap (λ b. (not b || nat_lt e.seq seq) && is_after client seq h) k ∙ t.fresh seq
-      ∙ ap (numbered_after seq) (sym (other-answer client e h k));
+      ∙ ap (numbered_after seq) (sym (other-answer most_keys client e h k));
   number = ap (λ b. greatest (map (λ x. x.seq)
       (cond b (e ∷ filter (λ x. x.client == client) h) (filter (λ x. x.client == client) h)))) k
-      ∙ t.number ∙ ap number_in (sym (other-answer client e h k));
+      ∙ t.number ∙ ap number_in (sym (other-answer most_keys client e h k));
 }
 
-told-own : (client : ℕ) (e : Entry) (h : History) → (e.client == client) ≡ true
-    → is_fresh e h ≡ numbered_after e.seq (last_answer client h) → IsTold client h → IsTold client (e ∷ h)
+told-own : (most_keys client : ℕ) (e : Entry) (h : History) → (e.client == client) ≡ true
+    → is_fresh e h ≡ numbered_after e.seq (last_answer most_keys client h) → IsTold most_keys client h → IsTold most_keys client (e ∷ h)
 unfolding greatest
-told-own client e h k f t = record {
+told-own most_keys client e h k f t = record {
   fresh = λ seq. ap (λ b. (not b || nat_lt e.seq seq) && is_after client seq h) k
       ∙ ap (λ b. nat_lt e.seq seq && b) (t.fresh seq)
-      ∙ after-one e.seq seq (last_answer client h) (answer_in e h) refl (is_fresh e h) (sym f)
-      ∙ ap (numbered_after seq) (sym (own-answer client e h k));
+      ∙ after-one e.seq seq (last_answer most_keys client h) (answer_in most_keys e h) refl (is_fresh e h) (sym f)
+      ∙ ap (numbered_after seq) (sym (own-answer most_keys client e h k));
   number = ap (λ b. greatest (map (λ x. x.seq)
       (cond b (e ∷ filter (λ x. x.client == client) h) (filter (λ x. x.client == client) h)))) k
       ∙ ap (max e.seq) t.number
-      ∙ number-one e.seq (last_answer client h) (answer_in e h) refl (is_fresh e h) (sym f)
-      ∙ ap number_in (sym (own-answer client e h k));
+      ∙ number-one e.seq (last_answer most_keys client h) (answer_in most_keys e h) refl (is_fresh e h) (sym f)
+      ∙ ap number_in (sym (own-answer most_keys client e h k));
 }
 
 fresh-of : (e : Entry) (h : History) → is_fresh e h ≡ is_after e.client e.seq h
 unfolding is_fresh
 fresh-of e h = refl
 
-told-entry : (client : ℕ) (e : Entry) (h : History) → IsTold client h → IsTold client (e ∷ h)
-told-entry client e h t = by (e.client == client) refl
+told-entry : (most_keys client : ℕ) (e : Entry) (h : History) → IsTold most_keys client h → IsTold most_keys client (e ∷ h)
+told-entry most_keys client e h t = by (e.client == client) refl
   where
-    by : (b : Bool) → (e.client == client) ≡ b → IsTold client (e ∷ h)
-    by false k = told-other client e h k t
+    by : (b : Bool) → (e.client == client) ≡ b → IsTold most_keys client (e ∷ h)
+    by false k = told-other most_keys client e h k t
     by true k =
         let same = eqb-true e.client client k in
-        told-own client e h k (fresh-of e h ∙ ap (λ c. is_after c e.seq h) same ∙ t.fresh e.seq) t
+        told-own most_keys client e h k (fresh-of e h ∙ ap (λ c. is_after c e.seq h) same ∙ t.fresh e.seq) t
 
-told : (client : ℕ) (h : History) → IsTold client h
+told : (most_keys client : ℕ) (h : History) → IsTold most_keys client h
 unfolding greatest last_answer answers
-told client [] = record { fresh = λ seq. refl; number = refl }
-told client (e ∷ h) = told-entry client e h (told client h)
+told most_keys client [] = record { fresh = λ seq. refl; number = refl }
+told most_keys client (e ∷ h) = told-entry most_keys client e h (told most_keys client h)
 
 -- an entry is fresh where its number is greater than that of the client's last answer
-pub fresh-is : (e : Entry) (h : History) → is_fresh e h ≡ numbered_after e.seq (last_answer e.client h)
-fresh-is e h = fresh-of e h ∙ (told e.client h).fresh e.seq
+pub fresh-is : (most_keys : ℕ) (e : Entry) (h : History) → is_fresh e h ≡ numbered_after e.seq (last_answer most_keys e.client h)
+fresh-is most_keys e h = fresh-of e h ∙ (told most_keys e.client h).fresh e.seq
 
 -- the last number is that of the last answer
-pub number-is : (client : ℕ) (h : History) → last_seq client h ≡ number_in (last_answer client h)
+pub number-is : (most_keys client : ℕ) (h : History) → last_seq client h ≡ number_in (last_answer most_keys client h)
 unfolding last_seq
-number-is client h = (told client h).number
+number-is most_keys client h = (told most_keys client h).number
 
 -- nothing is answered at the start
-pub first-answer : (client : ℕ) → last_answer client [] ≡ None
+pub first-answer : (most_keys client : ℕ) → last_answer most_keys client [] ≡ None
 unfolding last_answer answers
-first-answer client = refl
+first-answer most_keys client = refl
 
 -- ---- the last answers after one more entry
 
 -- after one that isn't fresh
-pub stale-answer : (client : ℕ) (e : Entry) (h : History) → is_fresh e h ≡ false
-    → last_answer client (e ∷ h) ≡ last_answer client h
+pub stale-answer : (most_keys client : ℕ) (e : Entry) (h : History) → is_fresh e h ≡ false
+    → last_answer most_keys client (e ∷ h) ≡ last_answer most_keys client h
 unfolding last_answer answers
-stale-answer client e h k = ap (find (λ a. a.client == client)) (cond-false _ _ _ k)
+stale-answer most_keys client e h k = ap (find (λ a. a.client == client)) (cond-false _ _ _ k)
 
 -- after a fresh one, of its client
-pub fresh-answer : (e : Entry) (h : History) → is_fresh e h ≡ true
-    → last_answer e.client (e ∷ h) ≡ Some (answer_in e h)
-fresh-answer e h k = own-answer e.client e h (eq-eqb e.client e.client refl) ∙ cond-true _ _ _ k
+pub fresh-answer : (most_keys : ℕ) (e : Entry) (h : History) → is_fresh e h ≡ true
+    → last_answer most_keys e.client (e ∷ h) ≡ Some (answer_in most_keys e h)
+fresh-answer most_keys e h k = own-answer most_keys e.client e h (eq-eqb e.client e.client refl) ∙ cond-true _ _ _ k
 
 -- and of the others
-pub others-answer : (client : ℕ) (e : Entry) (h : History) → client ≢ e.client
-    → last_answer client (e ∷ h) ≡ last_answer client h
-others-answer client e h k = other-answer client e h (ne_eqb e.client client (λ i. k (sym i)))
+pub others-answer : (most_keys client : ℕ) (e : Entry) (h : History) → client ≢ e.client
+    → last_answer most_keys client (e ∷ h) ≡ last_answer most_keys client h
+others-answer most_keys client e h k = other-answer most_keys client e h (ne_eqb e.client client (λ i. k (sym i)))

@@ -1,3 +1,4 @@
 pub mod Rows
 pub mod State
 pub mod Payloads
+pub mod Changing

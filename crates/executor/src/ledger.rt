@@ -36,12 +36,11 @@ pub trait Ledger {
         ensures written { OnOk result
             ((h : History) → holds self.old h → holds self.new (entry.now ∷ h)) }
         ensures left { OnOk result (
-            let outcome = apply_payload cache.old.most cache.old.cache entry.now.payload in
-            cache.new ≡ record cache.old { cache = outcome.0 }) }
+            cache.new ≡ (apply_payload cache.old entry.now.payload).0) }
         ensures told { IfOk result (λ texts. texts.told.items
-            ≡ reply_text (apply_payload cache.old.most cache.old.cache entry.now.payload).1) }
+            ≡ reply_text (apply_payload cache.old entry.now.payload).1) }
         ensures kept { IfOk result (λ texts. texts.kept.items
-            ≡ reply_text (apply_payload cache.old.most cache.old.cache entry.now.payload).1) }
+            ≡ reply_text (apply_payload cache.old entry.now.payload).1) }
         ensures unchanged { OnErr result ((self.new ≡ self.old) × (cache.new ≡ cache.old)) }
         ensures memory { OnErr result (result ≡ Err Fault.Memory) };
 }

@@ -12,6 +12,7 @@ use ids::{Fault, LineFault};
 use mc_lines::{Read, fault_text, read_canonical, read_request, write_reply, write_request};
 use sha2::{Digest, Sha256};
 use std::alloc::Global;
+use std::hash::RandomState;
 
 /// What a connection is written, and how many items it had.
 #[derive(Drop)]
@@ -52,8 +53,8 @@ impl Told {
 
 /// The items of a text up to the one that ends the connection, each answered by a cache with room
 /// for two keys.
-fn tell(alloc: Global, bytes: &[u8]) -> Result<Told, Fault> {
-    let mut cache = Cache::new(alloc, 2);
+fn tell(alloc: Global, hasher: RandomState, bytes: &[u8]) -> Result<Told, Fault> {
+    let mut cache = Cache::new(alloc, 2, hasher)?;
     let mut told = Told {
         items: 0,
         text: Vec::new(alloc),
@@ -105,8 +106,8 @@ fn canonical(alloc: Global, bytes: &[u8]) -> Result<&'static str> {
 }
 
 /// What is told of a text.
-fn tell_text(alloc: Global, bytes: &[u8]) -> Result<String> {
-    let told = tell(alloc, bytes)?;
+fn tell_text(alloc: Global, hasher: RandomState, bytes: &[u8]) -> Result<String> {
+    let told = tell(alloc, hasher, bytes)?;
     let digest = Sha256::digest(&told.text);
     let start = hex::encode(alloc, &digest[..8])?;
     Ok(format!(in alloc;
@@ -135,9 +136,9 @@ fn tell_cuts(alloc: Global, bytes: &[u8]) -> Result<String> {
 }
 
 /// What is printed of a case.
-pub(crate) fn case_told(alloc: Global, case: &str) -> Result<String> {
+pub(crate) fn case_told(alloc: Global, hasher: RandomState, case: &str) -> Result<String> {
     match case.strip_prefix("cuts ") {
         Some(digits) => tell_cuts(alloc, &hex::decode(alloc, digits)?),
-        None => tell_text(alloc, &hex::decode(alloc, case)?),
+        None => tell_text(alloc, hasher, &hex::decode(alloc, case)?),
     }
 }

@@ -13,14 +13,15 @@ mod lines;
 
 use anyhow::{Result, bail};
 use std::alloc::Global;
+use std::hash::RandomState;
 
 /// What is printed of a line of the input.
-fn case_told(alloc: Global, line: &str) -> Result<String> {
+fn case_told(alloc: Global, hasher: RandomState, line: &str) -> Result<String> {
     let Some((subject, case)) = line.split_once(' ') else {
         bail!("a case without a subject");
     };
     match subject {
-        "line" => lines::case_told(alloc, case),
+        "line" => lines::case_told(alloc, hasher, case),
         "connection" => connections::case_told(alloc, case),
         "frame" => frames::case_told(alloc, case),
         _ => bail!("no such subject"),
@@ -29,9 +30,10 @@ fn case_told(alloc: Global, line: &str) -> Result<String> {
 
 fn main(rt: HostRuntime) -> Result<()> {
     let alloc = rt.alloc();
+    let hasher = RandomState::new(&rt)?;
     for line in rt.lines(alloc) {
         let line = line?;
-        println!(rt; "{}", case_told(alloc, line.as_str())?)?;
+        println!(rt; "{}", case_told(alloc, hasher, line.as_str())?)?;
     }
     Ok(())
 }

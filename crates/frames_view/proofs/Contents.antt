@@ -53,7 +53,7 @@ IsFront-certificate : (sizes : Sizes) → replicas sizes < 256
 unfolding certificate_in votes_in
 IsFront-certificate sizes few bytes front mid q rest fits so_far e =
     IsFront-read _ _ _
-    (IsExact-certificate (record { faults = sizes.faults; clients = 0 }) (few, omega arith)) bytes front
+    (IsExact-certificate (record sizes { clients = 0 }) (few, omega arith)) bytes front
     mid q rest fits so_far e
 
 module _ (bytes : Bytes) (fits : IsBytes bytes) where

@@ -9,6 +9,7 @@ use clap::{Arg, ArgMatches, Command, Error};
 use ids::Fault;
 use server::{SimFault, read_fault, simulate};
 use std::alloc::Global;
+use std::hash::RandomState;
 use std::process::ExitCode;
 use std::rt::Files;
 use std::{env, fs, io};
@@ -48,15 +49,19 @@ fn matches_of(alloc: Global, words: &[String]) -> Result<ArgMatches<'_>, Error> 
 }
 
 /// Runs the schedule of a file, or of standard input.
-fn run<R: Files + Input + Print + AllocGlobal>(rt: &R, file: Option<&str>) -> Result<(), SimFault> {
+fn run<R: Files + Input + Print + AllocGlobal>(
+    rt: &R,
+    hasher: RandomState,
+    file: Option<&str>,
+) -> Result<(), SimFault> {
     let mut writer = io::writer(rt);
     match file {
         Some(path) => {
             let opened = fs::open(rt, path);
             let mut reader = opened.map_err(|error| read_fault(&error))?;
-            simulate(rt.alloc(), &mut reader, &mut writer)
+            simulate(rt.alloc(), hasher, &mut reader, &mut writer)
         }
-        None => simulate(rt.alloc(), &mut rt.reader(), &mut writer),
+        None => simulate(rt.alloc(), hasher, &mut rt.reader(), &mut writer),
     }
 }
 
@@ -84,7 +89,7 @@ fn main(rt: HostRuntime) -> io::Result<ExitCode> {
         }
     };
     let file = matches.get_str("FILE");
-    match run(&rt, file) {
+    match run(&rt, RandomState::new(&rt)?, file) {
         Ok(()) => Ok(ExitCode::SUCCESS),
         Err(fault) => {
             tell(&rt, file, fault)?;

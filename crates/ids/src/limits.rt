@@ -37,7 +37,7 @@ pub const MOST_DATA: usize = 4096;
 /// The most bytes of a request line with its CR LF.
 pub const MOST_LINE: usize = 4096;
 
-/// The most keys that a replica's cache has room for.
+/// The most keys that a cache may have room for.
 pub const MOST_KEYS: usize = 65_536;
 
 /// The most bytes that a connection holds of what was read and not yet taken.

@@ -28,6 +28,7 @@ use crate::told::tell;
 use anyhow::Result;
 use ids::Fault;
 use server::{Heading, Schedule, parse, world_of};
+use std::hash::RandomState;
 use std::io::Read as _;
 use world_schedule::{Event, Outcome, World};
 
@@ -71,7 +72,7 @@ fn judge_schedule(
     events: &[Event],
     refused: Option<usize>,
 ) -> Result<()> {
-    match world_of(rt.alloc(), heading) {
+    match world_of(rt.alloc(), RandomState::new(rt)?, heading) {
         Ok(world) => judge_events(rt, &world, events, refused),
         Err(fault) => tell_refusal(rt, fault),
     }

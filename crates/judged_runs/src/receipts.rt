@@ -5,10 +5,10 @@ use crate::run::{Run, number_of};
 use crate::wrong::Wrong;
 use cache::Cache;
 use executor::{Entries, Entry};
-use ids::{Fault, MOST_KEYS};
+use ids::Fault;
 use mc_lines::{Reply, read_canonical, write_reply};
 use std::alloc::Global;
-use world_schedule::Accepted;
+use world_schedule::{Accepted, World};
 
 /// Does what a payload asks, and writes the reply.
 fn answer(cache: &mut Cache, payload: &[u8], text: &mut Vec<u8>) -> Result<(), Fault> {
@@ -36,8 +36,14 @@ fn answer_all(
 }
 
 /// Whether the sequential cache replies so to the last of so many entries, which is fresh.
-fn is_reply(alloc: Global, whole: &Entries, count: usize, told: &[u8]) -> Result<bool, Fault> {
-    let mut cache = Cache::new(alloc, MOST_KEYS);
+fn is_reply(
+    alloc: Global,
+    world: &World,
+    whole: &Entries,
+    count: usize,
+    told: &[u8],
+) -> Result<bool, Fault> {
+    let mut cache = Cache::new(alloc, world.config().most_keys(), world.hasher())?;
     let mut text = Vec::new(alloc);
     answer_all(&mut cache, whole, count, &mut text)?;
     Ok(text.as_slice() == told)
@@ -63,13 +69,14 @@ fn count_to(whole: &Entries, accepted: &Accepted) -> Option<usize> {
 /// The receipt stands at its place in the one history, with the text that the cache gives there.
 pub(crate) fn check_receipt(
     alloc: Global,
+    world: &World,
     whole: &Entries,
     accepted: &Accepted,
 ) -> Result<Result<(), Wrong>, Fault> {
     let Some(count) = count_to(whole, accepted) else {
         return Ok(Err(Wrong::Misplaced(accepted.event)));
     };
-    if is_reply(alloc, whole, count, &accepted.receipt.text)? {
+    if is_reply(alloc, world, whole, count, &accepted.receipt.text)? {
         Ok(Ok(()))
     } else {
         Ok(Err(Wrong::Misread(accepted.event)))

@@ -61,7 +61,7 @@ fn is_right(rt: &HostRuntime, found: Result<(), Wrong>) -> Result<bool> {
 fn are_receipts_right(rt: &HostRuntime, run: &Run<'_>, whole: &Entries) -> Result<bool> {
     let mut right = true;
     for accepted in &run.outcome.receipts {
-        right &= is_right(rt, check_receipt(rt.alloc(), whole, accepted)?)?;
+        right &= is_right(rt, check_receipt(rt.alloc(), run.world, whole, accepted)?)?;
         right &= is_right(rt, check_order(run, whole, accepted))?;
     }
     Ok(right)

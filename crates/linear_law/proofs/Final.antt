@@ -45,7 +45,7 @@ pub record ReceiptHolds (w : World) (r : AcceptedBy) : Type 0 where
   pub is_correct : is_member w member ≡ true
   pub past : History
   pub begins : IsBeginning past (held w member)
-  pub answer : Among (answer_at r.client r.receipt.seq r.receipt.place r.receipt.text) (answers past)
+  pub answer : Among (answer_at r.client r.receipt.seq r.receipt.place r.receipt.text) (answers w.sizes.most_keys past)
   pub sent : (e : Entry) → Among e past → w.is_faulty (client_party e.client) ≡ false → SentBefore w e r.event
 
 pub record IsAccount (w : World) : Type 0 where
@@ -73,7 +73,7 @@ module _ (Known : Core → Type 0) where
     sessions = λ cl. (let s =
         k.sessions cl in
         record {
-          true_ones = λ t n mem. answers-grow _ _ (h.grows t.replica) _ (s.true_ones t n mem);
+          true_ones = λ t n mem. answers-grow w.sizes.most_keys _ _ (h.grows t.replica) _ (s.true_ones t n mem);
           distinct = s.distinct;
           within = s.within;
         });
@@ -195,23 +195,25 @@ module _ (Known : Core → Type 0) where
 
 -- ---- answers and places
 
-within-step : (h : History) (new a : Answer) (t : Bool) → new.place ≡ suc (length h) → a.place ≤ length h
-    → Among a (cond t (new ∷ answers h) (answers h)) → Among a (answers h)
-within-step h new a true p l (inl i) =
+within-step : (most_keys : ℕ) (h : History) (new a : Answer) (t : Bool) → new.place ≡ suc (length h) → a.place ≤ length h
+    → Among a (cond t (new ∷ answers most_keys h) (answers most_keys h)) → Among a (answers most_keys h)
+within-step most_keys h new a true p l (inl i) =
     absurd (let q = ap (λ (x : Answer). x.place) i in omega (arith, q, p, l))
-within-step h new a true p l (inr m) = m
-within-step h new a false p l m = m
+within-step most_keys h new a true p l (inr m) = m
+within-step most_keys h new a false p l m = m
 
-answers-within : (old new : History) → IsBeginning old new → (a : Answer) → Among a (answers new)
-    → a.place ≤ length old → Among a (answers old)
+answers-within : (most_keys : ℕ) (old new : History) → IsBeginning old new → (a : Answer)
+    → Among a (answers most_keys new) → a.place ≤ length old → Among a (answers most_keys old)
 unfolding answers
-answers-within old new ([], e) a m l = subst (λ (h : History). Among a (answers h)) (sym e) m
-answers-within old [] (y ∷ added, e) a m l = absurd m
-answers-within old (z ∷ new) (y ∷ added, e) a m l =
+answers-within most_keys old new ([], e) a m l =
+    subst (λ (h : History). Among a (answers most_keys h)) (sym e) m
+answers-within most_keys old [] (y ∷ added, e) a m l = absurd m
+answers-within most_keys old (z ∷ new) (y ∷ added, e) a m l =
     let b : IsBeginning old new = (added, (cc)) in
     let n = length-added b.0 old in
     let k = ap (λ (h : History). length h) b.1 in
-    answers-within old new b a (within-step new _ a (is_fresh z new) refl (omega (arith, n, k, l)) m) l
+    answers-within most_keys old new b a
+    (within-step most_keys new _ a (is_fresh z new) refl (omega (arith, n, k, l)) m) l
 
 -- ---- the theorem
 
@@ -233,15 +235,16 @@ new-account sizes is_faulty ring = record {
 order-holds : (w : World) (h : History) (r : AcceptedBy) (e : Entry) (event place : ℕ) → IsAccount w
     → ReceiptHolds w r → ((v : ℕ) → is_member w v ≡ true → IsBeginning (held w v) h)
     → w.is_faulty (client_party e.client) ≡ false → WasSubmitted w e event → r.event < event
-    → HasPlace h e.client e.seq place → place ≤ r.receipt.place → ⊥
+    → HasPlace w h e.client e.seq place → place ≤ r.receipt.place → ⊥
 order-holds w h r e event place a x all ok sub later has l =
     let b : IsBeginning x.past h =
     IsBeginning-trans x.past (held w x.member) h x.begins (all x.member x.is_correct) in
-    let i = answers-entry x.past _ x.answer in
+    let i = answers-entry w.sizes.most_keys x.past _ x.answer in
     let p = i.place in
     let q = has.4 in
-    let m : Among has.0 (answers x.past) = answers-within x.past h b has.0 has.1 (omega (arith, p, q, l)) in
-    let y = answers-entry x.past has.0 m in
+    let m : Among has.0 (answers w.sizes.most_keys x.past) =
+    answers-within w.sizes.most_keys x.past h b has.0 has.1 (omega (arith, p, q, l)) in
+    let y = answers-entry w.sizes.most_keys x.past has.0 m in
     let client : y.entry.client ≡ e.client = y.client ∙ has.2 in
     let s = x.sent y.entry y.among (ap (λ (c : ℕ). w.is_faulty (client_party c)) client ∙ ok) in
     let same = a.once s.0 sub.sent s.1 sub.command s.2 sub.recorded s.4 sub.is_request
@@ -261,7 +264,7 @@ linear-by Known w g a h all from = record {
   histories = all;
   receipts = λ r n. (let x =
       a.receipts r n in
-      answers-grow x.past h
+      answers-grow w.sizes.most_keys x.past h
       (IsBeginning-trans x.past (held w x.member) h x.begins (all x.member x.is_correct)) _ x.answer);
   submitted = λ e earlier b fresh c ok. from e (at-beginning e earlier h b) ok;
   in_order = λ r e event place n ok sub later has. not-above r.receipt.place place

@@ -17,13 +17,13 @@ use Rattle.definitions.proofs.Held.{executed-tree}
 use Rattle.linear_law.proofs.SentFrames.{IsFitAnswer}
 
 -- places are counted from 1
-answers-place : (h : History) (a : Answer) → Among a (answers h) → 1 ≤ a.place
+answers-place : (most_keys : ℕ) (h : History) (a : Answer) → Among a (answers most_keys h) → 1 ≤ a.place
 unfolding answers
-answers-place [] a m = absurd m
-answers-place (e ∷ h) a m = by (answers-place h a) (is_fresh e h) _ refl m
+answers-place most_keys [] a m = absurd m
+answers-place most_keys (e ∷ h) a m = by (answers-place most_keys h a) (is_fresh e h) _ refl m
   where
-    by : (Among a (answers h) → 1 ≤ a.place) → (t : Bool) (new : Answer) → new.place ≡ suc (length h)
-        → Among a (cond t (new ∷ answers h) (answers h)) → 1 ≤ a.place
+    by : (Among a (answers most_keys h) → 1 ≤ a.place) → (t : Bool) (new : Answer) → new.place ≡ suc (length h)
+        → Among a (cond t (new ∷ answers most_keys h) (answers most_keys h)) → 1 ≤ a.place
     by older true new p (inl i) = let q = ap (λ (x : Answer). x.place) i in omega (arith, p, q)
     by older true new p (inr k) = older k
     by older false new p k = older k
@@ -43,12 +43,12 @@ module _ (Known : Core → Type 0) (s : Sizes) (cores : (c : Core) → Known c �
 
   -- each answer of a chronicle can be a reply
   pub answers-fit : (c : Chronicle) → IsSound s c → ((x : Branch) → Among x (tree c) → AllKnown Known x)
-      → (a : Answer) → Among a (answers (history c)) → IsFitAnswer s a
+      → (a : Answer) → Among a (answers s.most_keys (history c)) → IsFitAnswer s a
   unfolding history
   answers-fit c so known a m =
       let x : Branch = executed c in
       let t : Among x (tree c) = executed-tree s c so.lawful in
-      let i = answers-entry (history_of x) a m in
+      let i = answers-entry s.most_keys (history_of x) a m in
       let k = history-command x (known x t) i.entry i.among in
       let client : k.0.client ≡ a.client = sym (ap (λ (e : Entry). e.client) k.2) ∙ i.client in
       let seq : k.0.seq ≡ a.seq = sym (ap (λ (e : Entry). e.seq) k.2) ∙ i.seq in
@@ -58,6 +58,6 @@ module _ (Known : Core → Type 0) (s : Sizes) (cores : (c : Core) → Known c �
       record {
         client = subst (λ (n : ℕ). n < s.clients) client k.1.client;
         seq = (subst (λ (n : ℕ). 1 ≤ n) seq k.1.seq.0, subst (λ (n : ℕ). n < 2 ^ 64) seq k.1.seq.1);
-        place = (answers-place (history_of x) a m, omega (arith, l, h, q));
-        text = answer-text (history_of x) a m;
+        place = (answers-place s.most_keys (history_of x) a m, omega (arith, l, h, q));
+        text = answer-text s.most_keys (history_of x) a m;
       }

@@ -94,10 +94,10 @@ later-answer a e h x = record {
   place = (let p = x.place in omega (arith, p));
 }
 
-answer-step : (e : Entry) (h : History) (new a : Answer) (t : Bool) → new.client ≡ e.client
-    → new.seq ≡ e.seq → new.place ≡ suc (length h) → (Among a (answers h) → IsAnswerOf a h)
-    → Among a (cond t (new ∷ answers h) (answers h)) → IsAnswerOf a (e ∷ h)
-answer-step e h new a true c s p rest (inl i) =
+answer-step : (most_keys : ℕ) (e : Entry) (h : History) (new a : Answer) (t : Bool) → new.client ≡ e.client
+    → new.seq ≡ e.seq → new.place ≡ suc (length h) → (Among a (answers most_keys h) → IsAnswerOf a h)
+    → Among a (cond t (new ∷ answers most_keys h) (answers most_keys h)) → IsAnswerOf a (e ∷ h)
+answer-step most_keys e h new a true c s p rest (inl i) =
     record {
       entry = e;
       among = inl refl;
@@ -105,18 +105,20 @@ answer-step e h new a true c s p rest (inl i) =
       seq = sym s ∙ ap (λ (x : Answer). x.seq) (sym i);
       place = (let q = ap (λ (x : Answer). x.place) i in omega (arith, q, p));
     }
-answer-step e h new a true c s p rest (inr m) = later-answer a e h (rest m)
-answer-step e h new a false c s p rest m = later-answer a e h (rest m)
+answer-step most_keys e h new a true c s p rest (inr m) = later-answer a e h (rest m)
+answer-step most_keys e h new a false c s p rest m = later-answer a e h (rest m)
 
-pub answers-entry : (h : History) (a : Answer) → Among a (answers h) → IsAnswerOf a h
+pub answers-entry : (most_keys : ℕ) (h : History) (a : Answer) → Among a (answers most_keys h)
+    → IsAnswerOf a h
 unfolding answers
-answers-entry [] a m = absurd m
-answers-entry (e ∷ h) a m = answer-step e h _ a (is_fresh e h) refl refl refl (answers-entry h a) m
+answers-entry most_keys [] a m = absurd m
+answers-entry most_keys (e ∷ h) a m =
+    answer-step most_keys e h _ a (is_fresh e h) refl refl refl (answers-entry most_keys h a) m
 
 -- the seq and the place of each answer of a member
 abbrev pub AnswersFit : World → Type 0
 AnswersFit w =
-    (p : ℕ) → is_member w p ≡ true → (a : Answer) → Among a (answers (held_history (w.replica p)))
+    (p : ℕ) → is_member w p ≡ true → (a : Answer) → Among a (answers w.sizes.most_keys (held_history (w.replica p)))
     → (a.seq < 2 ^ 64) × (a.place < 2 ^ 64)
 
 pub answers-fit : (Known : Core → Type 0) (w : World) → IsRun Known w
@@ -129,8 +131,8 @@ answers-fit Known w run cores p mp a m =
     let t : Among x (tree c) = executed-tree w.sizes c so.lawful in
     let known : AllKnown Known x = run.row.known p mp x t in
     let i : IsAnswerOf a (history_of x) =
-    answers-entry (history_of x) a
-    (answers-grow (held_history (w.replica p)) (history c) (held-begins (w.replica p)) a m) in
+    answers-entry w.sizes.most_keys (history_of x) a
+    (answers-grow w.sizes.most_keys (held_history (w.replica p)) (history c) (held-begins (w.replica p)) a m) in
     let l = history-length Known w.sizes cores x known in
     let h = so.heights x t in
     let q = i.place in (

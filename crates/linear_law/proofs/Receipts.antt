@@ -50,7 +50,8 @@ held w p = held_history (w.replica p)
 -- a member's replies are those of what it holds
 abbrev pub RepliesStand : World → Type 0
 RepliesStand w =
-    (s : Sent) → Among s w.sent → is_member w s.sender ≡ true → ReplyStands (held w s.sender) (s.to, s.frame)
+    (s : Sent) → Among s w.sent → is_member w s.sender ≡ true
+    → ReplyStands w.sizes.most_keys (held w s.sender) (s.to, s.frame)
 
 -- ---- replies, through an event
 
@@ -61,7 +62,7 @@ put-held p r row P i here there =
     (λ e. there)
 
 fetch-reply : (self : Identity) (sender : ℕ) (d : Bytes) (h : History) (o : Sending)
-    → Among o ((to_party sender, fetch_frame self sender d) ∷ []) → ReplyStands h o
+    → Among o ((to_party sender, fetch_frame self sender d) ∷ []) → ReplyStands self.sizes.most_keys h o
 unfolding fetch_frame
 fetch-reply self sender d h o (inl i) r c s p x t k = absurd (apart (sym (ap (λ (y : Sending). y.1) i) ∙ k))
   where
@@ -69,21 +70,21 @@ fetch-reply self sender d h o (inl i) r c s p x t k = absurd (apart (sym (ap (λ
     apart e = cc
 fetch-reply self sender d h o (inr m) r c s p x t k = absurd m
 
-nothing-replies : (h : History) (o : Sending) → Among o [] → ReplyStands h o
-nothing-replies h o m = absurd m
+nothing-replies : (most_keys : ℕ) (h : History) (o : Sending) → Among o [] → ReplyStands most_keys h o
+nothing-replies most_keys h o m = absurd m
 
 outcome-replies : (self : Identity) (m : MemorySupply) (v : Ruling) (old : Replica) (r : Replica × Reaction)
     → Outcome self old.chronicle v old r → (o : Sending) → Among o (out_of self m r.1)
-    → ReplyStands (held_history r.0) o
+    → ReplyStands self.sizes.most_keys (held_history r.0) o
 unfolding held_history
 outcome-replies self m v old r (unchanged n l) o k = absurd k
 outcome-replies self m v old r (refused s n u l) o k = absurd k
 outcome-replies self m v old r (lacks sender d u) o k =
     cond_both (is_ample m && not (sender == self.ring.party))
     ((to_party sender, fetch_frame self sender d) ∷ []) []
-    (λ (l : List Sending). Among o l → ReplyStands (history old.chronicle) o)
+    (λ (l : List Sending). Among o l → ReplyStands self.sizes.most_keys (history old.chronicle) o)
     (λ e y. fetch-reply self sender d (history old.chronicle) o y)
-    (λ e y. nothing-replies (history old.chronicle) o y) k
+    (λ e y. nothing-replies self.sizes.most_keys (history old.chronicle) o y) k
 outcome-replies self m v old r (conflict st u e h) o k = absurd k
 outcome-replies self m v old r (stood st u e h) o k =
     sends-reply self st old.chronicle h o (sends self st old.chronicle o k)
@@ -93,7 +94,7 @@ outcome-replies self m v old r (cut st n u e h) o k = absurd k
 pub record KeepsHeld (w : World) (e : Event) (f : Effect) : Type 0 where
   pub grows : (i : ℕ) → IsBeginning (held w i) (held_history (f.replica i))
   pub out : is_member w (party_of e) ≡ true → (o : Sending) → Among o f.out
-      → ReplyStands (held_history (f.replica (party_of e))) o
+      → ReplyStands w.sizes.most_keys (held_history (f.replica (party_of e))) o
 
 put-held-own : (p : ℕ) (r : Replica) (row : ℕ → Replica) (P : History → Type 0) → P (held_history r)
     → P (held_history (put p r row p))
@@ -108,22 +109,24 @@ step-held w e m r v o = record {
   grows = λ i. put-held (party_of e) r.0 w.replica (λ (h : History). IsBeginning (held w i) h) i
       (λ k. subst (λ (p : ℕ). IsBeginning (held w p) (held_history r.0)) (sym k)
       (held-grows (self_of w (party_of e)) v (w.replica (party_of e)) r o)) ([], refl);
-  out = λ me x k. put-held-own (party_of e) r.0 w.replica (λ (h : History). ReplyStands h x)
+  out = λ me x k. put-held-own (party_of e) r.0 w.replica (λ (h : History). ReplyStands w.sizes.most_keys h x)
       (outcome-replies (self_of w (party_of e)) m v (w.replica (party_of e)) r o x k);
 }
 
-submit-replies : (me : Client) (m : MemorySupply) (payload : Bytes) (s : Session) (h : History) (o : Sending)
-    → Among o (submitted_out (submission me m payload s).1) → ReplyStands h o
+submit-replies : (most_keys : ℕ) (me : Client) (m : MemorySupply) (payload : Bytes) (s : Session)
+    (h : History) (o : Sending) → Among o (submitted_out (submission me m payload s).1)
+    → ReplyStands most_keys h o
 unfolding submission request_frame
-submit-replies me m payload s h o =
+submit-replies most_keys me m payload s h o =
     cond_both s.waiting _ _ P (λ e k. absurd k) (λ e.
     cond_both (s.used == (2 ^ 64 - 1)) _ _ P (λ e k. absurd k) (λ e.
     cond_both (not (is_ample m)) _ _ P (λ e k. absurd k) (λ e k. request k)))
   where
     P : Session × Submitted → Type 0
-    P x = Among o (submitted_out x.1) → ReplyStands h o
+    P x = Among o (submitted_out x.1) → ReplyStands most_keys h o
 
-    request : Among o (submitted_out (sent_request (request_frame me (suc s.used) payload))) → ReplyStands h o
+    request : Among o (submitted_out (sent_request (request_frame me (suc s.used) payload)))
+        → ReplyStands most_keys h o
     request (inl i) r c q p x t k = absurd (apart (sym (ap (λ (y : Sending). y.1) i) ∙ k))
       where
         apart : request_frame me (suc s.used) payload ≡ frame.reply r c q p x t → ⊥
@@ -140,19 +143,19 @@ module _ (Known : Core → Type 0) where
       (arises-checked w e i ar) (run.row.sound (party_of e) me))
   effect-held w e m f run (hearing g b r ok pa) = record { grows = λ i. ([], refl); out = λ me o k. absurd k }
   effect-held w e m f run (submitting c payload i ok) =
-      record { grows = λ j. ([], refl); out = λ me o k. submit-replies _ m payload _ _ o k }
+      record { grows = λ j. ([], refl); out = λ me o k. submit-replies w.sizes.most_keys _ m payload _ _ o k }
 
   pub happens-replies : (w : World) (e : Event) (m : MemorySupply) → IsRun Known w → IsHonest Known w e
       → refusal w e ≡ None → RepliesStand w → RepliesStand (happens w (e, m))
   unfolding happens
   happens-replies w e m run honest ok old s n me =
       elim (Among-either s w.sent _ n) [
-        | inl k ↦ (λ r c q p x t y. answers-grow _ _ (h.grows s.sender) _ (old s k me r c q p x t y))
+        | inl k ↦ (λ r c q p x t y. answers-grow w.sizes.most_keys _ _ (h.grows s.sender) _ (old s k me r c q p x t y))
         | inr k ↦ (
             let i = Among-map sent (effect w (e, m)).out s k in
             let by : s.sender ≡ party_of e = ap (λ (y : Sent). y.sender) i.2 in
             λ r c q p x t y. subst
-            (λ (z : ℕ). Among (answer_at c q p x) (answers (held_history ((effect w (e, m)).replica z))))
+            (λ (z : ℕ). Among (answer_at c q p x) (answers w.sizes.most_keys (held_history ((effect w (e, m)).replica z))))
             (sym by)
             (h.out (sym (ap (is_member w) by) ∙ me) i.0 i.1 r c q p x t
             (sym (ap (λ (z : Sent). z.frame) i.2) ∙ y)))
@@ -180,7 +183,7 @@ reply-tag x s (frame.block r c q t) l h = absurd (let k = h.0 in cc)
 -- what a counted reply says is so, where its replica is a member
 abbrev pub Truth : World → ℕ → ℕ → Told → Type 0
 Truth w cl seq t =
-    is_member w t.replica ≡ true → Among (answer_at cl seq t.place t.text) (answers (held w t.replica))
+    is_member w t.replica ≡ true → Among (answer_at cl seq t.place t.text) (answers w.sizes.most_keys (held w t.replica))
 
 party-number : (p : ℕ) → 256 ≤ p → client_party (client_at p) ≡ p
 party-number p h = omega arith
@@ -211,13 +214,13 @@ counted-true w e r cl q pl tx g rs fit fr nf b rep ok pa mine good mem =
     nf (frame.reply r cl q pl tx g) b ok (and_from _ _ (not_from_false _ rep) (and_from _ _ mine good')) x
     (inl refl) (member-faulty w r mem) in
     let i = reply-tag x sent.0 sent.0.frame refl sent.3 in
-    let a : Among (answer_at i.1 i.2 i.3 i.4) (answers (held w r)) =
-    subst (λ (p : ℕ). Among (answer_at i.1 i.2 i.3 i.4) (answers (held w p))) sent.2
+    let a : Among (answer_at i.1 i.2 i.3 i.4) (answers w.sizes.most_keys (held w r)) =
+    subst (λ (p : ℕ). Among (answer_at i.1 i.2 i.3 i.4) (answers w.sizes.most_keys (held w p))) sent.2
     (rs sent.0 sent.1 (ap (is_member w) sent.2 ∙ mem) i.0 i.1 i.2 i.3 i.4 i.5 i.6) in
     let small = fit r mem (answer_at i.1 i.2 i.3 i.4) a in
     let one = reply_content_injective r cl q pl tx i.0 i.1 i.2 i.3 i.4 fr.2.1 fr.3.1 small.0 small.1 i.7 in
     let client : cl ≡ i.1 = same-party cl i.1 i.8 in
-    subst (λ (y : Answer). Among y (answers (held w r)))
+    subst (λ (y : Answer). Among y (answers w.sizes.most_keys (held w r)))
     (λ k. record { client = sym client k; seq = sym one.0 k; place = sym one.1 k; text = sym one.2 k }) a
 
 -- ---- tallies
@@ -293,7 +296,7 @@ agreed w ts p q d l m =
 -- what a session makes of a reply
 abbrev pub IsTrueReceipt : World → ℕ → Receipt → Type 0
 IsTrueReceipt w cl r =
-    (v : ℕ) × (is_member w v ≡ true) × Among (answer_at cl r.seq r.place r.text) (answers (held w v))
+    (v : ℕ) × (is_member w v ≡ true) × Among (answer_at cl r.seq r.place r.text) (answers w.sizes.most_keys (held w v))
 
 pub record HeardWell (w : World) (cl : ℕ) (x : Session × Heard) : Type 0 where
   pub session : SessionStands w cl x.0
@@ -308,13 +311,13 @@ agrees-parts place text x h =
 
 as-receipt : (w : World) (cl : ℕ) (s : ℕ) (t x : Told) (v : ℕ) (r : Receipt)
     → r ≡ record { seq = s; place = t.place; text = t.text } → (x.place ≡ t.place) × (x.text ≡ t.text)
-    → Among (answer_at cl s x.place x.text) (answers (held w v))
-    → Among (answer_at cl r.seq r.place r.text) (answers (held w v))
+    → Among (answer_at cl s x.place x.text) (answers w.sizes.most_keys (held w v))
+    → Among (answer_at cl r.seq r.place r.text) (answers w.sizes.most_keys (held w v))
 as-receipt w cl s t x v r e p m =
     let seq : s ≡ r.seq = sym (ap (λ (y : Receipt). y.seq) e) in
     let place : x.place ≡ r.place = p.0 ∙ sym (ap (λ (y : Receipt). y.place) e) in
     let text : x.text ≡ r.text = p.1 ∙ sym (ap (λ (y : Receipt). y.text) e) in
-    subst (λ (a : Answer). Among a (answers (held w v)))
+    subst (λ (a : Answer). Among a (answers w.sizes.most_keys (held w v)))
     (λ j. record { client = cl; seq = seq j; place = place j; text = text j }) m
 
 accepted-well : (w : World) (cl : ℕ) (t : Told) (s : Session)

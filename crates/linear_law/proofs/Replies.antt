@@ -99,37 +99,38 @@ beginning-longer {A} a k (x ∷ older) b l =
 
 -- ---- a longer history has the same answers and more
 
-answers-step : (e : Entry) (earlier : History) (x : Answer) (t : Bool) (new : Answer)
-    → Among x (answers earlier) → Among x (cond t (new ∷ answers earlier) (answers earlier))
-answers-step e earlier x true new m = inr m
-answers-step e earlier x false new m = m
+answers-step : (older : List Answer) (x : Answer) (t : Bool) (new : Answer)
+    → Among x older → Among x (cond t (new ∷ older) older)
+answers-step older x true new m = inr m
+answers-step older x false new m = m
 
-pub answers-grow : (old new : History) → IsBeginning old new → (x : Answer) → Among x (answers old)
-    → Among x (answers new)
+pub answers-grow : (most_keys : ℕ) (old new : History) → IsBeginning old new → (x : Answer)
+    → Among x (answers most_keys old) → Among x (answers most_keys new)
 unfolding answers
-answers-grow old new ([], e) x m = subst (λ (h : History). Among x (answers h)) e m
-answers-grow old [] (y ∷ added, e) x m = absurd (nil (sym e))
+answers-grow most_keys old new ([], e) x m = subst (λ (h : History). Among x (answers most_keys h)) e m
+answers-grow most_keys old [] (y ∷ added, e) x m = absurd (nil (sym e))
   where
     nil : [] ≡ y ∷ (added ++ old) → ⊥
     nil k = cc
-answers-grow old (z ∷ new) (y ∷ added, e) x m =
-    answers-step z new x (is_fresh z new) _ (answers-grow old new (added, (cc)) x m)
+answers-grow most_keys old (z ∷ new) (y ∷ added, e) x m =
+    answers-step (answers most_keys new) x (is_fresh z new) _
+    (answers-grow most_keys old new (added, (cc)) x m)
 
 -- ---- what a member replies
 
 abbrev pub answer_at : ℕ → ℕ → ℕ → Bytes → Answer
 answer_at client seq place text = record { client = client; seq = seq; place = place; text = text }
 
-abbrev pub ReplyStands : History → Sending → Type 0
-ReplyStands h o =
+abbrev pub ReplyStands : ℕ → History → Sending → Type 0
+ReplyStands most_keys h o =
     (replica client seq place : ℕ) (text t : Bytes) → o.1 ≡ frame.reply replica client seq place text t
-    → Among (answer_at client seq place text) (answers h)
+    → Among (answer_at client seq place text) (answers most_keys h)
 
-own-reply : (self : Identity) (a : Answer) (h : History) → Among a (answers h) → (o : Sending)
-    → o ≡ reply_to self a → ReplyStands h o
+own-reply : (self : Identity) (a : Answer) (h : History) → Among a (answers self.sizes.most_keys h)
+    → (o : Sending) → o ≡ reply_to self a → ReplyStands self.sizes.most_keys h o
 unfolding reply_to
 own-reply self a h m o e replica client seq place text t k =
-    subst (λ (x : Answer). Among x (answers h)) (same (sym (ap (λ (x : Sending). x.1) e) ∙ k)) m
+    subst (λ (x : Answer). Among x (answers self.sizes.most_keys h)) (same (sym (ap (λ (x : Sending). x.1) e) ∙ k)) m
   where
     same : (reply_to self a).1 ≡ frame.reply replica client seq place text t
         → a ≡ record { client = client; seq = seq; place = place; text = text }
@@ -141,7 +142,7 @@ own-reply self a h m o e replica client seq place text t k =
         cc in λ i. record { client = c i; seq = s i; place = p i; text = x i }
 
 pub sends-reply : (self : Identity) (st : Step) (c : Chronicle) → conflicts st c ≡ false → (o : Sending)
-    → Sends self st c o → ReplyStands (history (st ∷ c)) o
+    → Sends self st c o → ReplyStands self.sizes.most_keys (history (st ∷ c)) o
 unfolding vote_frame new_view_frame block_frame proposal_frame
 sends-reply self st c n o (its_vote a e v to) r cl s p x t h =
     absurd (let k : vote_frame self a.branch ≡ frame.reply r cl s p x t = h in cc)
@@ -149,8 +150,8 @@ sends-reply self st c n o (new_reply a m) r cl s p x t h =
     own-reply self a (history (st ∷ c)) m (reply_to self a) refl r cl s p x t h
 sends-reply self st c n o (old_reply a m) r cl s p x t h =
     own-reply self a (history (st ∷ c))
-    (answers-grow (history c) (history (st ∷ c)) (history-grows st c n) a m) (reply_to self a) refl r cl s p
-    x t h
+    (answers-grow self.sizes.most_keys (history c) (history (st ∷ c)) (history-grows st c n) a m)
+    (reply_to self a) refl r cl s p x t h
 sends-reply self st c n o its_view r cl s p x t h =
     absurd (let k : new_view_frame self (st ∷ c) ≡ frame.reply r cl s p x t = h in cc)
 sends-reply self st c n o (its_block to a m) r cl s p x t h =

@@ -23,8 +23,9 @@ use Rattle.definitions.specs.Sendings.{as_taken, supplies, again, proposes}
 pub data Sends (self : Identity) (st : Step) (c : Chronicle) : Sending → Type 0 where
   its_vote : (a : Admitted) → st ≡ took_block a → a.voted ≡ true → (to : To)
       → Sends self st c (to, vote_frame self a.branch)
-  new_reply : (a : Answer) → Among a (answers (history (st ∷ c))) → Sends self st c (reply_to self a)
-  old_reply : (a : Answer) → Among a (answers (history c)) → Sends self st c (reply_to self a)
+  new_reply : (a : Answer) → Among a (answers self.sizes.most_keys (history (st ∷ c)))
+      → Sends self st c (reply_to self a)
+  old_reply : (a : Answer) → Among a (answers self.sizes.most_keys (history c)) → Sends self st c (reply_to self a)
   its_view : Sends self st c (to_all, new_view_frame self (st ∷ c))
   its_block : (to : ℕ) (a : Admitted) → Among a (taken_blocks c)
       → Sends self st c (to_party to, block_frame self to a)
@@ -41,11 +42,12 @@ as_taken-among None c a e = absurd (none e)
 as_taken-among (Some b) c a e = (find_some (λ a. branch_eq a.branch b) (taken_blocks c) a e).0
 
 -- a reply that is given again is one of the answers
-pub answer_to-among : (client seq : ℕ) (h : History) (a : Answer) → answer_to client seq h ≡ Some a
-    → Among a (answers h)
+pub answer_to-among : (most_keys client seq : ℕ) (h : History) (a : Answer)
+    → answer_to most_keys client seq h ≡ Some a → Among a (answers most_keys h)
 unfolding answer_to last_answer
-answer_to-among client seq h a e =
-    (find_some (λ a. a.client == client) (answers h) a (numbered-is seq (last_answer client h) a e)).0
+answer_to-among most_keys client seq h a e =
+    (find_some (λ a. a.client == client) (answers most_keys h) a
+    (numbered-is seq (last_answer most_keys client h) a e)).0
 
 module _ (self : Identity) (st : Step) (c : Chronicle) where
   -- one frame alone
@@ -57,10 +59,11 @@ module _ (self : Identity) (st : Step) (c : Chronicle) where
   replies-sent : (o : Sending) → Among o (new_replies self st c) → Sends self st c o
   unfolding new_replies
   replies-sent o m =
-      let n : ℕ = length (answers (history (st ∷ c))) - length (answers (history c)) in
-      let r = Among-map (reply_to self) (reverse (take n (answers (history (st ∷ c))))) o m in
-      subst (Sends self st c) (sym r.2) (new_reply r.0 (Among-take n (answers (history (st ∷ c))) r.0
-      (Among-reverse (take n (answers (history (st ∷ c)))) r.0 r.1)))
+      let now : List Answer = answers self.sizes.most_keys (history (st ∷ c)) in
+      let n : ℕ = length now - length (answers self.sizes.most_keys (history c)) in
+      let r = Among-map (reply_to self) (reverse (take n now)) o m in
+      subst (Sends self st c) (sym r.2)
+      (new_reply r.0 (Among-take n now r.0 (Among-reverse (take n now) r.0 r.1)))
 
   -- the proposal, where there is one
   proposal-sent : (p : Option Justified) (o : Sending) → leads self c ≡ true → proposed self (st ∷ c) ≡ p
@@ -70,7 +73,7 @@ module _ (self : Identity) (st : Step) (c : Chronicle) where
 
   -- a reply that is given again
   again-sent : (r : Option Answer) (o : Sending)
-      → ((a : Answer) → r ≡ Some a → Among a (answers (history c))) → Among o (again self r)
+      → ((a : Answer) → r ≡ Some a → Among a (answers self.sizes.most_keys (history c))) → Among o (again self r)
       → Sends self st c o
   again-sent None o h m = absurd m
   again-sent (Some a) o h m = only _ o (old_reply a (h a refl)) m
@@ -107,8 +110,8 @@ sends self (noted (got_new_view w s q b)) c o m =
     (λ e n. only self (noted (got_new_view w s q b)) c _ o its_view n) m
 sends self (noted (got_request r)) c o m =
     sent-if self (noted (got_request r)) c (r.seq == last_seq r.client (history c)) _ o
-    (λ e n. again-sent self (noted (got_request r)) c (answer_to r.client r.seq (history c)) o
-    (λ a k. answer_to-among r.client r.seq (history c) a k) n) m
+    (λ e n. again-sent self (noted (got_request r)) c (answer_to self.sizes.most_keys r.client r.seq (history c)) o
+    (λ a k. answer_to-among self.sizes.most_keys r.client r.seq (history c) a k) n) m
 sends self (noted (got_fetch to b)) c o m =
     block-sent self (noted (got_fetch to b)) c to (as_taken b c) o (λ a e. as_taken-among b c a e) m
 sends self (noted timed_out) c o m = only self (noted timed_out) c _ o its_view m

@@ -41,8 +41,9 @@ pub record IsFitProposal (s : Sizes) (j : Justified) : Type 0 where
 pub record IsReady (self : Identity) (st : Step) (c : Chronicle) : Type 0 where
   pub stored : AreStored self (st ∷ c)
   pub number : me self < replicas self.sizes
-  pub before : (a : Answer) → Among a (answers (history c)) → IsFitAnswer self.sizes a
-  pub now : (a : Answer) → Among a (answers (history (st ∷ c))) → IsFitAnswer self.sizes a
+  pub before : (a : Answer) → Among a (answers self.sizes.most_keys (history c)) → IsFitAnswer self.sizes a
+  pub now : (a : Answer) → Among a (answers self.sizes.most_keys (history (st ∷ c)))
+      → IsFitAnswer self.sizes a
   pub proposal : (j : Justified) → proposed self (st ∷ c) ≡ Some j → IsFitProposal self.sizes j
 
 -- ---- each kind

@@ -15,6 +15,7 @@ use clap::Error;
 use clap::error::ErrorKind;
 use deployment::{EndAudit, Ended};
 use ids::Fault;
+use std::hash::RandomState;
 use std::process::ExitCode;
 use std::{env, io};
 
@@ -63,7 +64,7 @@ fn main(rt: HostRuntime) -> io::Result<ExitCode> {
         Ok(matches) => matches,
         Err(error) => return tell(&rt, &error),
     };
-    let Some(options) = Options::read(&matches) else {
+    let Some(options) = Options::read(&matches, RandomState::new(&rt)?) else {
         return fail(&rt, MainFault::Fault(Fault::BadSize));
     };
     match serve(&rt, &options) {

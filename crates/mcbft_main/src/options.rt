@@ -4,11 +4,11 @@ use clap::{Arg, ArgAction, ArgMatches, Command, Error, value_parser};
 use deployment::Terms;
 use liars::Liar;
 use std::alloc::Global;
+use std::hash::RandomState;
 
 /// What stands behind the options in `--help`.
 const EXAMPLE: &str = "\
-Limits: keys of 250 bytes, data of 4,096, requests of a line of 4,096 bytes, 16 keys in a get, 65,536 keys
-in all. It listens on 127.0.0.1 alone, keeps all in memory, and a restart empties it. With --archive a
+Limits: keys of 250 bytes, data of 4,096, requests of a line of 4,096 bytes, 16 keys in a get. It listens on 127.0.0.1 alone, keeps all in memory, and a restart empties it. With --archive a
 replica keeps 1,048,576 blocks, which is some hundred thousand commands of one connection, and more of
 many. docs/OPERATING.md tells what comes then.
 
@@ -34,6 +34,7 @@ pub(crate) fn matches_of(alloc: Global, words: &[String]) -> Result<ArgMatches<'
         .arg(port_arg(alloc))?
         .arg(liar_arg(alloc))?
         .arg(serve_arg(alloc))?
+        .arg(keys_held_arg(alloc))?
         .arg(blocks_arg(alloc))?
         .arg(window_arg(alloc))?
         .arg(archive_arg(alloc))?
@@ -93,6 +94,15 @@ fn serve_arg(alloc: Global) -> Arg<'static> {
         .help("Ends after N connections; 0 to go on")
 }
 
+fn keys_held_arg(alloc: Global) -> Arg<'static> {
+    Arg::new(alloc, "keys-held")
+        .long("keys-held")
+        .value_name("N")
+        .value_parser(value_parser!(u32))
+        .default_value("65536")
+        .help("The cache has room for N keys: 1 to 65,536; the least recently used makes way")
+}
+
 fn blocks_arg(alloc: Global) -> Arg<'static> {
     Arg::new(alloc, "blocks")
         .long("blocks")
@@ -134,12 +144,13 @@ pub(crate) struct Options<'a> {
     pub(crate) faults: u8,
     pub(crate) clients: u8,
     pub(crate) port: u16,
+    pub(crate) keys_held: u32,
     pub(crate) terms: Terms,
 }
 
 impl<'a> Options<'a> {
-    /// The options that were read. All have a value, or a default.
-    pub(crate) fn read(matches: &ArgMatches<'a>) -> Option<Options<'a>> {
+    /// The options that were read. All have a value, or a default. The hasher is the caches'.
+    pub(crate) fn read(matches: &ArgMatches<'a>, hasher: RandomState) -> Option<Options<'a>> {
         let most: u64 = matches.get_one("serve")?;
         let watch: u32 = matches.get_one("watch")?;
         let blocks: u32 = matches.get_one("blocks")?;
@@ -149,6 +160,7 @@ impl<'a> Options<'a> {
             faults: matches.get_one("faults")?,
             clients: matches.get_one("clients")?,
             port: matches.get_one("port")?,
+            keys_held: matches.get_one("keys-held")?,
             terms: Terms {
                 liar: matches.get_str("liar").and_then(liar_of),
                 most: if most == 0 { u64::MAX } else { most },
@@ -167,6 +179,7 @@ impl<'a> Options<'a> {
                 } else {
                     Some(u64::from(watch))
                 },
+                hasher,
             },
         })
     }

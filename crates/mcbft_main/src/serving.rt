@@ -16,7 +16,8 @@ use std::time::Clock;
 
 /// The keys of all parties, from their file.
 fn read_keys<R: AllocGlobal + Files>(rt: &R, options: &Options<'_>) -> Result<PairKeys, MainFault> {
-    let config = Config::new(options.faults, options.clients)?;
+    let sizes = Config::new(options.faults, options.clients)?;
+    let config = sizes.with_most_keys(options.keys_held as usize)?;
     let text = match fs::read(rt, options.keys) {
         Ok(text) => text,
         Err(error) if error.kind() == ErrorKind::OutOfMemory => {

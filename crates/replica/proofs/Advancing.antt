@@ -85,7 +85,7 @@ fit-step keys i st c e h so fit =
 -- ---- the replies
 
 pub sendable-is : (keys : Keys) (c : Chronicle) → IsSound keys.sizes c → AreFit keys.sizes c → (a : Answer)
-    → Among a (answers (history c)) → is_sendable keys.sizes a ≡ true
+    → Among a (answers keys.sizes.most_keys (history c)) → is_sendable keys.sizes a ≡ true
 sendable-is keys c so fit a m =
     let f = answers-fit (IsCore keys.sizes) keys.sizes (λ k known. inr known) c so fit a m in
     let client = lt-ltb a.client keys.sizes.clients f.client in
@@ -107,26 +107,27 @@ history-noted n c = refl
 -- what is sent first, and then the replies
 sent-whole : (keys : Keys) (st : Step) (c : Chronicle) → conflicts st c ≡ false
     → IsSound keys.sizes (st ∷ c) → AreFit keys.sizes (st ∷ c)
-    → shown (sent_first (identity_of keys) st c) ++ told keys (new_answers (history c) (history (st ∷ c)))
+    → shown (sent_first (identity_of keys) st c) ++ told keys (new_answers keys.sizes.most_keys (history c) (history (st ∷ c)))
     ≡ shown (sendings (identity_of keys) st c)
 unfolding sendings new_replies told
 sent-whole keys (noted n) c k so fit =
     ap (λ (l : List Answer). shown (sendings (identity_of keys) (noted n) c) ++ told keys l)
-    (new-are (history c) (history (noted n ∷ c)) [] (ap answers (history-noted n c)))
+    (new-are keys.sizes.most_keys (history c) (history (noted n ∷ c)) [] (ap (answers keys.sizes.most_keys) (history-noted n c)))
     ∙ append-nil (shown (sendings (identity_of keys) (noted n) c))
 sent-whole keys (took_block a) c k so fit =
     let self = identity_of keys in
     let st = took_block a in
     let g = history-grows st c k in
-    let z = answers-more g.0 (history c) in
-    let same : answers (history (st ∷ c)) ≡ z.0 ++ answers (history c) = ap answers (sym g.1) ∙ z.1 in
+    let z = answers-more keys.sizes.most_keys g.0 (history c) in
+    let same : answers keys.sizes.most_keys (history (st ∷ c)) ≡ z.0 ++ answers keys.sizes.most_keys (history c) =
+    ap (answers keys.sizes.most_keys) (sym g.1) ∙ z.1 in
     let new = new-are (history c) (history (st ∷ c)) z.0 same in
-    let among : (x : Answer) → Among x (new_answers (history c) (history (st ∷ c)))
-    → Among x (answers (history (st ∷ c))) =
+    let among : (x : Answer) → Among x (new_answers keys.sizes.most_keys (history c) (history (st ∷ c)))
+    → Among x (answers keys.sizes.most_keys (history (st ∷ c))) =
     λ x m. subst (Among x) (sym same)
-    (Among-before x z.0 (answers (history c)) (Among-reverse z.0 x (subst (Among x) new m))) in
+    (Among-before x z.0 (answers keys.sizes.most_keys (history c)) (Among-reverse z.0 x (subst (Among x) new m))) in
     ap (λ (l : List SentBytes). shown (sent_first self st c) ++ l)
-    (told-all keys (new_answers (history c) (history (st ∷ c)))
+    (told-all keys (new_answers keys.sizes.most_keys (history c) (history (st ∷ c)))
     (λ x m. sendable-is keys (st ∷ c) so fit x (among x m)))
     ∙ sym (map-append bytes_of (sent_first self st c) (new_replies self st c))
 
@@ -244,7 +245,7 @@ module _ (keys : Keys) (i : Input) (c : Chronicle) (h : History) (before : h ≡
       ≡ waiting (left_after (history_above s.variables.rules.executed.digest (tree_of s.variables)
       (length (executed c)) (s.variables.rules.executed.height - length (executed c)) []) s.pending)
       s
-      → more ≡ out ++ told keys (new_answers h new) → Advances keys i c (Sends more) after new
+      → more ≡ out ++ told keys (new_answers keys.sizes.most_keys h new) → Advances keys i c (Sends more) after new
   unfolding on_ruling on_step held_history held_pending
   sends-all out more s after new t n a o =
       let self = identity_of keys in
@@ -272,7 +273,7 @@ module _ (keys : Keys) (i : Input) (c : Chronicle) (h : History) (before : h ≡
         };
         standing = refl;
         answer = subst (λ (r : Replica × Reaction). Shows r.1 (Ok more)) (sym done)
-            (o ∙ (λ j. t.sent j ++ told keys (new_answers (before j) (is j)))
+            (o ∙ (λ j. t.sent j ++ told keys (new_answers keys.sizes.most_keys (before j) (is j)))
             ∙ sent-whole keys st c t.calm t.state.sound fits);
       }
 

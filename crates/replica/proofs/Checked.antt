@@ -25,9 +25,11 @@ use Rattle.replica.specs.Inputs.{proposal_offered, block_offered}
 same-sizes : (a b : Sizes) → same_sizes a b ≡ true → a ≡ b
 same-sizes a b h =
     let p = and_parts _ _ h in
-    let f = eqb-true a.faults b.faults p.0 in
-    let c = eqb-true a.clients b.clients p.1 in
-    λ i. record { faults = f i; clients = c i }
+    let q = and_parts _ _ p.0 in
+    let f = eqb-true a.faults b.faults q.0 in
+    let c = eqb-true a.clients b.clients q.1 in
+    let k = eqb-true a.most_keys b.most_keys p.1 in
+    λ i. record { faults = f i; clients = c i; most_keys = k i }
 
 pub addressed-sizes : (a b : Keys) → same_replica a b ≡ true → a.sizes ≡ b.sizes
 addressed-sizes a b h = same-sizes a.sizes b.sizes (and_parts _ _ h).1

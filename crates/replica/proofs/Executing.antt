@@ -50,37 +50,45 @@ told-last keys a = append-nil (option_to_list (told_one keys a))
 
 -- ---- the answers that entries add
 
-one-more : (e : Entry) (h : History) → (z : List Answer) × (answers (e ∷ h) ≡ z ++ answers h)
+one-more : (most_keys : ℕ) (e : Entry) (h : History)
+    → (z : List Answer) × (answers most_keys (e ∷ h) ≡ z ++ answers most_keys h)
 unfolding answers
-one-more e h = by (is_fresh e h)
+one-more most_keys e h = by (is_fresh e h)
   where
-    by : (t : Bool) → (z : List Answer) × (cond t (answer_in e h ∷ answers h) (answers h) ≡ z ++ answers h)
-    by true = (answer_in e h ∷ [], refl)
+    by : (t : Bool) → (z : List Answer)
+        × (cond t (answer_in most_keys e h ∷ answers most_keys h) (answers most_keys h)
+        ≡ z ++ answers most_keys h)
+    by true = (answer_in most_keys e h ∷ [], refl)
     by false = ([], refl)
 
-pub answers-more : (new h : History) → (z : List Answer) × (answers (new ++ h) ≡ z ++ answers h)
-answers-more [] h = ([], refl)
-answers-more (e ∷ new) h =
-    let one = one-more e (new ++ h) in
-    let rest = answers-more new h in (
+pub answers-more : (most_keys : ℕ) (new h : History)
+    → (z : List Answer) × (answers most_keys (new ++ h) ≡ z ++ answers most_keys h)
+answers-more most_keys [] h = ([], refl)
+answers-more most_keys (e ∷ new) h =
+    let one = one-more most_keys e (new ++ h) in
+    let rest = answers-more most_keys new h in (
       one.0 ++ rest.0,
-      one.1 ∙ ap (λ (l : List Answer). one.0 ++ l) rest.1 ∙ sym (append_assoc one.0 rest.0 (answers h)),
+      one.1 ∙ ap (λ (l : List Answer). one.0 ++ l) rest.1
+          ∙ sym (append_assoc one.0 rest.0 (answers most_keys h)),
     )
 
-pub new-are : (old new : History) (z : List Answer) → answers new ≡ z ++ answers old
-    → new_answers old new ≡ reverse z
-new-are old new z e =
-    let size = length-append z (answers old) in
-    let count : length (z ++ answers old) - length (answers old) ≡ length z = omega (arith, size) in
-    ap (λ (l : List Answer). reverse (take (length l - length (answers old)) l)) e
-    ∙ ap reverse (ap (λ (n : ℕ). take n (z ++ answers old)) count ∙ take-append_seam z (answers old))
+pub new-are : (most_keys : ℕ) (old new : History) (z : List Answer)
+    → answers most_keys new ≡ z ++ answers most_keys old → new_answers most_keys old new ≡ reverse z
+new-are most_keys old new z e =
+    let size = length-append z (answers most_keys old) in
+    let count : length (z ++ answers most_keys old) - length (answers most_keys old) ≡ length z =
+    omega (arith, size) in
+    ap (λ (l : List Answer). reverse (take (length l - length (answers most_keys old)) l)) e
+    ∙ ap reverse (ap (λ (n : ℕ). take n (z ++ answers most_keys old)) count
+    ∙ take-append_seam z (answers most_keys old))
 
 -- answers come from commands
-pub some-told : (cs : List Command) (old new : History) → new ≡ with_commands cs old
-    → 1 ≤ length (new_answers old new) → 1 ≤ length cs
-some-told [] old new e l =
-    let n = ap (λ (x : List Answer). length x) (new-are old new [] (ap answers e)) in omega (arith, n, l)
-some-told (c ∷ cs) old new e l = omega arith
+pub some-told : (most_keys : ℕ) (cs : List Command) (old new : History) → new ≡ with_commands cs old
+    → 1 ≤ length (new_answers most_keys old new) → 1 ≤ length cs
+some-told most_keys [] old new e l =
+    let n = ap (λ (x : List Answer). length x) (new-are most_keys old new [] (ap (answers most_keys) e)) in
+    omega (arith, n, l)
+some-told most_keys (c ∷ cs) old new e l = omega arith
 
 pub on-err : {T E : Type 0} {P Q : Type 0} (r : Result T E) → OnErr r P → (P → Q) → OnErr r Q
 on-err (Ok x) h f = tt
@@ -103,7 +111,7 @@ pub record IsUpTo (keys : Keys) (tip : Bytes) (all : TreeState) (from height : �
   pub low : from ≤ height
   pub now_is : now ≡ history_above tip all from (height - from) old
   pub added : List Answer
-  pub answers_are : answers now ≡ added ++ answers old
+  pub answers_are : answers keys.sizes.most_keys now ≡ added ++ answers keys.sizes.most_keys old
   pub told_are : out ≡ first ++ told keys (reverse added)
   pub left_are : left ≡ left_after (history_above tip all from (height - from) []) waits
 
@@ -136,15 +144,15 @@ module _ (keys : Keys) (tip : Bytes) (all : TreeState) (from : ℕ) (old : Histo
       (cs : List Command) → IsUpTo keys tip all from height old now waits left first out
       → commands_at tip (suc height) all ≡ cs
       → new ≡ with_commands cs now → rest ≡ left_after (reverse (map entry_of cs)) left
-      → more ≡ out ++ told keys (new_answers now new)
+      → more ≡ out ++ told keys (new_answers keys.sizes.most_keys now new)
       → IsUpTo keys tip all from (suc height) old new waits rest first more
   unfolding history_above
   goes-up height now new left rest out more cs u e n p t =
       let l = u.low in
-      let z = answers-more (reverse (map entry_of cs)) now in
+      let z = answers-more keys.sizes.most_keys (reverse (map entry_of cs)) now in
       let step : suc (height - from) ≡ suc height - from = omega (arith, l) in
       let at : from + (height - from) ≡ height = omega (arith, l) in
-      let is : answers new ≡ z.0 ++ answers now = ap answers n ∙ z.1 in
+      let is : answers keys.sizes.most_keys new ≡ z.0 ++ answers keys.sizes.most_keys now = ap (answers keys.sizes.most_keys) n ∙ z.1 in
       record {
         low = omega (arith, l);
         now_is = n ∙ (λ i. with_commands (sym e i) (u.now_is i))
@@ -154,8 +162,8 @@ module _ (keys : Keys) (tip : Bytes) (all : TreeState) (from : ℕ) (old : Histo
         added = z.0 ++ u.added;
         answers_are =
             is ∙ ap (λ (l : List Answer). z.0 ++ l) u.answers_are
-            ∙ sym (append_assoc z.0 u.added (answers old));
-        told_are = t ∙ (λ i. u.told_are i ++ told keys (new-are now new z.0 is i))
+            ∙ sym (append_assoc z.0 u.added (answers keys.sizes.most_keys old));
+        told_are = t ∙ (λ i. u.told_are i ++ told keys (new-are keys.sizes.most_keys now new z.0 is i))
             ∙ append_assoc first (told keys (reverse u.added)) (told keys (reverse z.0))
             ∙ ap (λ (l : List SentBytes). first ++ l) (sym (told-append keys (reverse u.added) (reverse z.0))
             ∙ ap (told keys) (sym (reverse-append z.0 u.added)));
@@ -174,15 +182,15 @@ module _ (keys : Keys) (tip : Bytes) (all : TreeState) (from : ℕ) (old : Histo
   unfolding told left_after
   passes-up height now left out u e =
       goes-up height now now left left out out [] u e refl refl
-      (sym (append-nil out) ∙ ap (λ (l : List Answer). out ++ told keys l) (sym (new-are now now [] refl)))
+      (sym (append-nil out) ∙ ap (λ (l : List Answer). out ++ told keys l) (sym (new-are keys.sizes.most_keys now now [] refl)))
 
   -- all blocks were executed
   pub told-up : (to : ℕ) (now : History) (left : List Command) (out : List SentBytes)
       → IsUpTo keys tip all from to old now waits left first out
-      → out ≡ first ++ told keys (new_answers old now)
+      → out ≡ first ++ told keys (new_answers keys.sizes.most_keys old now)
   told-up to now left out u =
       u.told_are
-      ∙ ap (λ (l : List Answer). first ++ told keys l) (sym (new-are old now u.added u.answers_are))
+      ∙ ap (λ (l : List Answer). first ++ told keys l) (sym (new-are keys.sizes.most_keys old now u.added u.answers_are))
 
   -- memory was refused in the next block
   pub cuts-up :

@@ -101,18 +101,18 @@ module _ (keys : Keys) (c : Chronicle) (s : StateParts) (r : Command) (o : IsSta
 
 reply-again : (keys : Keys) (c : Chronicle) (h : History) (client seq : ℕ) → h ≡ history c
     → IsSound keys.sizes c → AreFit keys.sizes c
-    → reply_again keys (answer_to client seq h)
-    ≡ shown (again (identity_of keys) (answer_to client seq (history c)))
+    → reply_again keys (answer_to keys.sizes.most_keys client seq h)
+    ≡ shown (again (identity_of keys) (answer_to keys.sizes.most_keys client seq (history c)))
 reply-again keys c h client seq e so fit =
-    ap (λ (x : History). reply_again keys (answer_to client seq x)) e
-    ∙ by (answer_to client seq (history c)) refl
+    ap (λ (x : History). reply_again keys (answer_to keys.sizes.most_keys client seq x)) e
+    ∙ by (answer_to keys.sizes.most_keys client seq (history c)) refl
   where
-    by : (a : Option Answer) → answer_to client seq (history c) ≡ a
+    by : (a : Option Answer) → answer_to keys.sizes.most_keys client seq (history c) ≡ a
         → reply_again keys a ≡ shown (again (identity_of keys) a)
     by None k = refl
     by (Some a) k = ap
         (λ (b : Bool). option_to_list (cond b (Some (bytes_of (reply_to (identity_of keys) a))) None))
-        (sendable-is keys c so fit a (answer_to-among client seq (history c) a k))
+        (sendable-is keys c so fit a (answer_to-among keys.sizes.most_keys client seq (history c) a k))
 
 again-sent : (keys : Keys) (c : Chronicle) (h : History) (r : Command) → h ≡ history c
     → IsSound keys.sizes c → AreFit keys.sizes c
@@ -123,8 +123,8 @@ again-sent keys c h r e so fit =
     ∙ by (r.seq == last_seq r.client (history c))
   where
     by : (b : Bool)
-        → cond b (shown (again (identity_of keys) (answer_to r.client r.seq (history c)))) []
-        ≡ shown (cond b (again (identity_of keys) (answer_to r.client r.seq (history c))) [])
+        → cond b (shown (again (identity_of keys) (answer_to keys.sizes.most_keys r.client r.seq (history c)))) []
+        ≡ shown (cond b (again (identity_of keys) (answer_to keys.sizes.most_keys r.client r.seq (history c))) [])
     by true = refl
     by false = refl
 
@@ -134,7 +134,7 @@ newer-sent : (keys : Keys) (c : Chronicle) (r : Command) → is_due (history c) 
 unfolding sendings is_due
 newer-sent keys c r e =
     let l = ltb-true (last_seq r.client (history c)) r.seq e in
-    ap (λ (b : Bool). shown (cond b (again (identity_of keys) (answer_to r.client r.seq (history c))) []))
+    ap (λ (b : Bool). shown (cond b (again (identity_of keys) (answer_to keys.sizes.most_keys r.client r.seq (history c))) []))
     (sym (ne_eqb r.seq (last_seq r.client (history c)) (λ k. absurd (omega (arith, k, l)))))
 
 -- what a request is ruled

@@ -43,7 +43,7 @@ reply_again keys (Some a) = option_to_list (told_one keys a)
 
 abbrev pub again_sent : Keys → History → Command → List SentBytes
 again_sent keys h r =
-    if r.seq == last_seq r.client h then reply_again keys (answer_to r.client r.seq h) else []
+    if r.seq == last_seq r.client h then reply_again keys (answer_to keys.sizes.most_keys r.client r.seq h) else []
 
 abbrev pub old_change : Keys → StateParts → History → Command → Change
 old_change keys s h r = noting s.variables (GotRequest r) (again_sent keys h r)

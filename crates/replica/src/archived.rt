@@ -20,6 +20,7 @@ use executor::Entries;
 use ids::{Config, Fault, ReplicaId};
 use signed_frames::Out;
 use std::alloc::Global;
+use std::hash::RandomState;
 use std::marker::Model;
 
 /// What a replica did: each step that stands, and each command that it executed.
@@ -72,6 +73,7 @@ impl Archived {
         config: Config,
         number: ReplicaId,
         keyring: Keyring,
+        hasher: RandomState,
     ) -> Result<Archived, Fault>
         requires sizes { config ≡ keyring.sizes }
         requires number { number ≡ keyring.party }
@@ -80,7 +82,7 @@ impl Archived {
             (λ r. r ≡ record { keys = keyring; replica = record { chronicle = []; standing = running } }) }
         ensures memory { OnErr result (result ≡ Err Fault.Memory) }
     {
-        let replica = Replica::new(alloc, config, number, keyring)?;
+        let replica = Replica::new(alloc, config, number, keyring, hasher)?;
         let archive = Archive {
             steps: Steps::new(alloc),
             entries: Entries::new(alloc),

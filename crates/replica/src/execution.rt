@@ -105,14 +105,19 @@ fn execute_block<L: Ledger>(
     block: &Node,
     out: &mut Out,
 ) -> Result<(), Fault>
-    requires { keyring.now.party < replicas keyring.now.sizes }
-    ensures executed { OnOk result (executor.new ≡ with_commands block.now.core.commands executor.old) }
-    ensures written { L.holds ledger.old executor.old → L.holds ledger.new executor.new }
+    requires replica { keyring.now.party < replicas keyring.now.sizes }
+    requires room { executor.old.most_keys ≡ keyring.now.sizes.most_keys }
+    ensures room { executor.new.most_keys ≡ executor.old.most_keys }
+    ensures executed { OnOk result (executor.new.history
+        ≡ with_commands block.now.core.commands executor.old.history) }
+    ensures written { L.holds ledger.old executor.old.history → L.holds ledger.new executor.new.history }
     ensures left { OnOk result
         (pool.new ≡ left_after (reverse (map entry_of block.now.core.commands)) pool.old) }
     ensures told { OnOk result
-        (out.new ≡ out.old ++ told keyring.now (new_answers executor.old executor.new)) }
-    ensures cut { OnErr result (IsCutIn block.now.core.commands executor.old executor.new pool.old pool.new) }
+        (out.new ≡ out.old ++ told keyring.now
+        (new_answers keyring.now.sizes.most_keys executor.old.history executor.new.history)) }
+    ensures cut { OnErr result (IsCutIn block.now.core.commands executor.old.history
+        executor.new.history pool.old pool.new) }
 {
     let answers = executor.run_block(block.core().commands(), ledger)?;
     forget(pool, block.core().commands());
@@ -133,16 +138,19 @@ fn execute_between<L: Ledger>(
     keyring: &Keyring,
     out: &mut Out,
 ) -> Result<(), Fault>
-    requires { keyring.now.party < replicas keyring.now.sizes }
+    requires replica { keyring.now.party < replicas keyring.now.sizes }
+    requires room { executor.old.most_keys ≡ keyring.now.sizes.most_keys }
+    ensures room { executor.new.most_keys ≡ executor.old.most_keys }
     ensures executed { OnOk result
-        (executor.new ≡ history_above tip.now tree.now from (to - from) executor.old) }
-    ensures written { L.holds ledger.old executor.old → L.holds ledger.new executor.new }
+        (executor.new.history ≡ history_above tip.now tree.now from (to - from) executor.old.history) }
+    ensures written { L.holds ledger.old executor.old.history → L.holds ledger.new executor.new.history }
     ensures left { OnOk result
         (pool.new ≡ left_after (history_above tip.now tree.now from (to - from) []) pool.old) }
     ensures told { OnOk result
-        (out.new ≡ out.old ++ told keyring.now (new_answers executor.old executor.new)) }
+        (out.new ≡ out.old ++ told keyring.now
+        (new_answers keyring.now.sizes.most_keys executor.old.history executor.new.history)) }
     ensures cut { OnErr result
-        (IsCut tip.now tree.now from to executor.old executor.new pool.old pool.new) }
+        (IsCut tip.now tree.now from to executor.old.history executor.new.history pool.old pool.new) }
 {
     for height in from..to {
         if let Some(block) = block_at(tree, tip, Height(height + 1)) {
@@ -162,23 +170,27 @@ pub(crate) fn execute<L: Ledger>(
     ledger: &mut L,
     out: &mut Out,
 ) -> Result<(), Fault>
-    requires { keyring.now.party < replicas keyring.now.sizes }
+    requires replica { keyring.now.party < replicas keyring.now.sizes }
+    requires room { executor.old.most_keys ≡ keyring.now.sizes.most_keys }
+    ensures room { executor.new.most_keys ≡ executor.old.most_keys }
     ensures rest { state.new ≡ waiting state.new.pending state.old }
     ensures executed { OnOk result (
         let last = state.old.variables.rules.executed in
-        executor.new
-        ≡ history_above last.digest (tree_of state.old.variables) from (last.height - from) executor.old) }
-    ensures written { L.holds ledger.old executor.old → L.holds ledger.new executor.new }
+        executor.new.history
+        ≡ history_above last.digest (tree_of state.old.variables) from (last.height - from)
+        executor.old.history) }
+    ensures written { L.holds ledger.old executor.old.history → L.holds ledger.new executor.new.history }
     ensures left { OnOk result (
         let last = state.old.variables.rules.executed in
         state.new.pending
         ≡ left_after (history_above last.digest (tree_of state.old.variables) from (last.height - from) [])
         state.old.pending) }
     ensures told { OnOk result
-        (out.new ≡ out.old ++ told keyring.now (new_answers executor.old executor.new)) }
+        (out.new ≡ out.old ++ told keyring.now
+        (new_answers keyring.now.sizes.most_keys executor.old.history executor.new.history)) }
     ensures cut { OnErr result (
         let last = state.old.variables.rules.executed in
-        IsCut last.digest (tree_of state.old.variables) from last.height executor.old executor.new
+        IsCut last.digest (tree_of state.old.variables) from last.height executor.old.history executor.new.history
         state.old.pending state.new.pending) }
 {
     let last = state.rules.executed();

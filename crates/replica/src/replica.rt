@@ -1,8 +1,9 @@
 //! One replica.
 
-ghost use Rattle.std.specs.Prelude.{◌≡◌, ◌<◌, ◌&&◌, ◌⊎◌, [], length, reverse, suc, IsTrue, IfOk, OnErr};
+ghost use Rattle.std.specs.Prelude.{◌≡◌, ◌<◌, ◌&&◌, ◌⊎◌, [], length, reverse, suc, IsTrue, IsOk, IfOk, IfErr};
+ghost use Rattle.std.specs.Prelude.{OnErr};
 ghost use Rattle.std.specs.Prelude.{◌↔◌, false, IsNone, option_map};
-ghost use Rattle.ids.specs.Sizes.{replicas};
+ghost use Rattle.ids.specs.Sizes.{IsRoom, HasNoRoom, replicas};
 ghost use Rattle.audit_ground.specs.Law.{IsLawfullyKept};
 ghost use Rattle.definitions.specs.Checks.{identity_of};
 ghost use Rattle.definitions.specs.Chronicles.{Chronicle, IsLawful, executed, horizon, standing_blocks};
@@ -52,6 +53,7 @@ use pacemaker::Pacemaker;
 use replica_rules::{BlockRef, Rules};
 use signed_frames::{Out, fetch_frame};
 use std::alloc::Global;
+use std::hash::RandomState;
 use std::marker::Model;
 use vote_collector::Collector;
 
@@ -76,7 +78,7 @@ impl Drop for Replica {
 }
 
 impl Model for Replica {
-    ghost use Rattle.std.specs.Prelude.{◌<◌};
+    ghost use Rattle.std.specs.Prelude.{◌≡◌, ◌<◌};
     ghost use Rattle.ids.specs.Sizes.{replicas};
     ghost use Rattle.replica.specs.Steps.{Held, standing_of};
 
@@ -90,15 +92,16 @@ impl Model for Replica {
       replica =
           record {
             chronicle = r.state.variables.chronicle;
-            standing = standing_of r.standing (length r.executor);
+            standing = standing_of r.standing (length r.executor.history);
           };
     } };
 
     ghost invariant = { λ r. IsWholeOf r.keyring (record {
       chronicle = r.state.variables.chronicle;
-      standing = standing_of r.standing (length r.executor);
-    }) r.state r.executor
-        × (r.keyring.party < replicas r.keyring.sizes) };
+      standing = standing_of r.standing (length r.executor.history);
+    }) r.state r.executor.history
+        × (r.keyring.party < replicas r.keyring.sizes)
+        × (r.executor.most_keys ≡ r.keyring.sizes.most_keys) };
 }
 
 /// What an input comes to: a change that is to be made, or a refusal.
@@ -112,7 +115,8 @@ fn decide(
     requires replica { keyring.now.party < replicas keyring.now.sizes }
     requires sizes { state.now.pace.sizes ≡ keyring.now.sizes }
     requires votes { state.now.votes.sizes ≡ keyring.now.sizes }
-    ensures decided { (c : Chronicle) → IsWholeOf keyring.now (going c) state.now executor.now
+    requires room { executor.now.most_keys ≡ keyring.now.sizes.most_keys }
+    ensures decided { (c : Chronicle) → IsWholeOf keyring.now (going c) state.now executor.now.history
         → StepsTo keyring.now (input_of input.entry) c (answer result) (after result state.now) }
     ensures fits { IfOk result (λ d. Fits state.now d) }
     ensures pruning { IfOk result (λ d. is_pruning d.step ≡ prunes input.entry) }
@@ -147,7 +151,8 @@ fn take<S: StepLog>(
     requires replica { keyring.now.party < replicas keyring.now.sizes }
     requires sizes { state.old.pace.sizes ≡ keyring.now.sizes }
     requires votes { state.old.votes.sizes ≡ keyring.now.sizes }
-    ensures steps { (c : Chronicle) → IsWholeOf keyring.now (going c) state.old executor.now
+    requires room { executor.now.most_keys ≡ keyring.now.sizes.most_keys }
+    ensures steps { (c : Chronicle) → IsWholeOf keyring.now (going c) state.old executor.now.history
         → StepsTo keyring.now (input_of input.entry) c result state.new }
     ensures fit { IsFitInput keyring.now.sizes (input_of input.entry) }
     ensures logged { prunes input.entry ≡ false
@@ -171,12 +176,14 @@ fn advance<S: StepLog, L: Ledger>(
     requires replica { keyring.now.party < replicas keyring.now.sizes }
     requires sizes { state.old.pace.sizes ≡ keyring.now.sizes }
     requires votes { state.old.votes.sizes ≡ keyring.now.sizes }
-    ensures advances { (c : Chronicle) → IsWholeOf keyring.now (going c) state.old executor.old
-        → Advances keyring.now (input_of input.entry) c result state.new executor.new }
+    requires room { executor.old.most_keys ≡ keyring.now.sizes.most_keys }
+    ensures room { executor.new.most_keys ≡ executor.old.most_keys }
+    ensures advances { (c : Chronicle) → IsWholeOf keyring.now (going c) state.old executor.old.history
+        → Advances keyring.now (input_of input.entry) c result state.new executor.new.history }
     ensures logged { prunes input.entry ≡ false
         → Logs (S.holds log.old) state.old.variables.stored state.old.variables.chronicle
         → Logs (S.holds log.new) state.new.variables.stored state.new.variables.chronicle }
-    ensures written { L.holds ledger.old executor.old → L.holds ledger.new executor.new }
+    ensures written { L.holds ledger.old executor.old.history → L.holds ledger.new executor.new.history }
 {
     let from = state.rules.executed().height;
     match take(state, keyring, executor, input, log) {
@@ -218,6 +225,7 @@ impl Replica {
         config: Config,
         number: ReplicaId,
         keyring: Keyring,
+        hasher: RandomState,
     ) -> Result<Replica, Fault>
         requires sizes { config ≡ keyring.sizes }
         requires number { number ≡ keyring.party }
@@ -226,13 +234,37 @@ impl Replica {
             (λ r. r ≡ record { keys = keyring; replica = record { chronicle = []; standing = running } }) }
         ensures memory { OnErr result (result ≡ Err Fault.Memory) }
     {
-        let executor = Executor::new(alloc)?;
+        config.holds();
+        let executor = Executor::new(alloc, config.most_keys(), hasher)?;
         Ok(Replica {
             keyring,
             state: first_state(alloc, config),
             executor,
             standing: Standing::Running,
         })
+    }
+
+    /// The same, where its cache has room for so many keys: 1 to `MOST_KEYS`, else `BadKeys`.
+    pub fn with_keys(
+        alloc: Global,
+        config: Config,
+        number: ReplicaId,
+        keyring: Keyring,
+        most_keys: usize,
+        hasher: RandomState,
+    ) -> Result<Replica, Fault>
+        requires sizes { config ≡ keyring.sizes }
+        requires number { number ≡ keyring.party }
+        requires replica { number < replicas config }
+        ensures made { IfOk result (λ r. r ≡ record {
+          keys = record keyring { sizes = record config { most_keys = most_keys } };
+          replica = record { chronicle = []; standing = running };
+        }) }
+        ensures room { IsOk result → IsRoom most_keys }
+        ensures refused { IfErr result (HasNoRoom most_keys) }
+    {
+        let keyring = keyring.with_most_keys(most_keys)?;
+        Replica::new(alloc, keyring.config(), number, keyring, hasher)
     }
 
     /// Which replica it is.

@@ -39,8 +39,9 @@ fn again(
     executor: &Executor,
     request: &CommandView,
 ) -> Result<Out, Fault>
-    requires { keyring.now.party < replicas keyring.now.sizes }
-    ensures made { IfOk result (λ out. out ≡ again_sent keyring.now executor.now (command_of request.now)) }
+    requires replica { keyring.now.party < replicas keyring.now.sizes }
+    requires room { executor.now.most_keys ≡ keyring.now.sizes.most_keys }
+    ensures made { IfOk result (λ out. out ≡ again_sent keyring.now executor.now.history (command_of request.now)) }
     ensures memory { OnErr result (result ≡ Err Fault.Memory) }
 {
     let mut out = Out::none(state.alloc);
@@ -61,9 +62,10 @@ fn repeat(
     executor: &Executor,
     request: &CommandView,
 ) -> Result<Change, Fault>
-    requires { keyring.now.party < replicas keyring.now.sizes }
+    requires replica { keyring.now.party < replicas keyring.now.sizes }
+    requires room { executor.now.most_keys ≡ keyring.now.sizes.most_keys }
     ensures made { IfOk result
-        (λ d. d ≡ old_change keyring.now state.now executor.now (command_of request.now)) }
+        (λ d. d ≡ old_change keyring.now state.now executor.now.history (command_of request.now)) }
     ensures memory { OnErr result (result ≡ Err Fault.Memory) }
 {
     let out = again(state, keyring, executor, request)?;
@@ -78,8 +80,9 @@ pub(crate) fn decide_request(
     executor: &Executor,
     request: &CommandView,
 ) -> Result<Change, Fault>
-    requires { keyring.now.party < replicas keyring.now.sizes }
-    ensures { IsRequested keyring.now state.now executor.now (command_of request.now) result }
+    requires replica { keyring.now.party < replicas keyring.now.sizes }
+    requires room { executor.now.most_keys ≡ keyring.now.sizes.most_keys }
+    ensures { IsRequested keyring.now state.now executor.now.history (command_of request.now) result }
 {
     if executor.last_seq(request.client()).0 < request.seq().0 {
         wait(state, request)

@@ -18,10 +18,11 @@ mod pending;
 use crate::execute::pending::{ask, bytes_of, client, drop_executed, fill, key_of, pick};
 use executor::{Answer, Entries, Executor};
 use frames_view::{CommandView, Commands, Frame, read};
-use ids::{Config, Fault};
+use ids::{Config, Fault, MOST_KEYS};
 use mempool::Mempool;
 use sha2::{Digest, Sha256};
 use std::alloc::Global;
+use std::hash::RandomState;
 
 /// What an answer says.
 fn answer_text(alloc: Global, answer: &Answer) -> Result<String, Fault> {
@@ -113,17 +114,19 @@ fn tell_last(alloc: Global, executor: &Executor, digits: &str) -> Result<String,
 pub(crate) struct Parts {
     run: Run,
     pool: Mempool,
+    hasher: RandomState,
 }
 
 impl Parts {
     /// Nothing was executed, and nothing is pending.
-    pub(crate) fn new(alloc: Global) -> Result<Parts, Fault> {
+    pub(crate) fn new(alloc: Global, hasher: RandomState) -> Result<Parts, Fault> {
         Ok(Parts {
             run: Run {
-                executor: Executor::new(alloc)?,
+                executor: Executor::new(alloc, MOST_KEYS, hasher)?,
                 entries: Entries::new(alloc),
             },
             pool: Mempool::new(alloc),
+            hasher,
         })
     }
 }
@@ -155,7 +158,7 @@ fn tell(alloc: Global, config: &Config, parts: &mut Parts, line: &str) -> Result
         "last" => tell_last(alloc, &run.executor, rest),
         "history" => tell_history(alloc, run),
         "new" => {
-            *parts = Parts::new(alloc)?;
+            *parts = Parts::new(alloc, parts.hasher)?;
             Ok(String::from_str(alloc, "new")?)
         }
         _ => tell_pending(alloc, config, &mut parts.pool, [word, rest]),

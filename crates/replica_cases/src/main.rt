@@ -21,11 +21,13 @@ use crate::tree::blocks::{Blocks, tree_of};
 use anyhow::{Result, bail};
 use ids::Config;
 use std::alloc::Global;
+use std::hash::RandomState;
 
 /// What cases after one another speak of.
 #[derive(Drop)]
 struct Known {
     config: Config,
+    hasher: RandomState,
     blocks: Blocks,
     parts: Parts,
 }
@@ -38,7 +40,7 @@ fn case_told(alloc: Global, known: &mut Known, line: &str) -> Result<String> {
     match subject {
         "tree" => Ok(tree::tell(alloc, &mut known.blocks, case)?),
         "check" => Ok(check::tell(alloc, case)?),
-        "step" => Ok(step::tell(alloc, case)?),
+        "step" => Ok(step::tell(alloc, known.hasher, case)?),
         "execute" => Ok(execute::answer(alloc, &known.config, &mut known.parts, case)?),
         "session" => session::tell(alloc, case),
         _ => bail!("no such subject"),
@@ -58,9 +60,11 @@ fn tell_all(rt: &HostRuntime, known: &mut Known) -> Result<()> {
 fn main(rt: HostRuntime) -> Result<()> {
     let config = Config::new(1, 8)?;
     let blocks = tree_of(rt.alloc(), 1)?;
-    let parts = Parts::new(rt.alloc())?;
+    let hasher = RandomState::new(&rt)?;
+    let parts = Parts::new(rt.alloc(), hasher)?;
     let mut known = Known {
         config,
+        hasher,
         blocks,
         parts,
     };

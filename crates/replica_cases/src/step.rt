@@ -29,10 +29,12 @@ use crate::step::stepped::{Stepped, number};
 use ids::{Config, Fault, ReplicaId};
 use marks::Marks;
 use std::alloc::Global;
+use std::hash::RandomState;
 
 /// What a replica does with its inputs, one after the other.
 fn steps(
     alloc: Global,
+    hasher: RandomState,
     config: Config,
     replica: u8,
     shares: &str,
@@ -44,22 +46,22 @@ fn steps(
     let own = ReplicaId(replica);
     let mut text = String::new(alloc);
     if shares == "alone" {
-        bare::run(alloc, config, own, inputs, &mut text)?;
+        bare::run(alloc, hasher, config, own, inputs, &mut text)?;
         return Ok(text);
     }
     let (marks, eyes) = Marks::new(alloc, config.n())?;
-    let stepped = Stepped::new(alloc, config, own, number(shares)?, &marks, eyes)?;
+    let stepped = Stepped::new(alloc, hasher, config, own, number(shares)?, &marks, eyes)?;
     stepped.run(alloc, inputs, &mut text)?;
     Ok(text)
 }
 
 /// What is told of a case.
-pub(crate) fn tell(alloc: Global, input: &str) -> Result<String, Fault> {
+pub(crate) fn tell(alloc: Global, hasher: RandomState, input: &str) -> Result<String, Fault> {
     let mut fields = input.splitn(5, ' ');
     let faults = number(fields.next().unwrap_or(""))?;
     let clients = number(fields.next().unwrap_or(""))?;
     let replica = number(fields.next().unwrap_or(""))?;
     let shares = fields.next().unwrap_or("");
     let config = Config::new(faults, clients)?;
-    steps(alloc, config, replica, shares, fields.next().unwrap_or(""))
+    steps(alloc, hasher, config, replica, shares, fields.next().unwrap_or(""))
 }

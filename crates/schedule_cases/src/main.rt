@@ -16,25 +16,36 @@ use crate::failing::Failing;
 use anyhow::Result;
 use server::{SimFault, simulate};
 use std::alloc::Global;
+use std::hash::RandomState;
 use std::io::{self, Read as _, Write as _};
 
 /// What is written where there is room for so many bytes.
-fn run_in(alloc: Global, mut text: &[u8], room: &mut [u8]) -> (usize, Result<(), SimFault>) {
+fn run_in(
+    alloc: Global,
+    hasher: RandomState,
+    mut text: &[u8],
+    room: &mut [u8],
+) -> (usize, Result<(), SimFault>) {
     let most = room.len();
     let mut left = room;
-    let outcome = simulate(alloc, &mut text, &mut left);
+    let outcome = simulate(alloc, hasher, &mut text, &mut left);
     (most.saturating_sub(left.len()), outcome)
 }
 
 /// Runs a case, and appends what is written.
-fn run(alloc: Global, case: &Case, out: &mut Vec<u8>) -> Result<Result<(), SimFault>> {
+fn run(
+    alloc: Global,
+    hasher: RandomState,
+    case: &Case,
+    out: &mut Vec<u8>,
+) -> Result<Result<(), SimFault>> {
     let mut text = case.text.as_slice();
     match case.trouble {
-        Trouble::Nothing => Ok(simulate(alloc, &mut text, out)),
-        Trouble::ReaderFails => Ok(simulate(alloc, &mut Failing(text), out)),
+        Trouble::Nothing => Ok(simulate(alloc, hasher, &mut text, out)),
+        Trouble::ReaderFails => Ok(simulate(alloc, hasher, &mut Failing(text), out)),
         Trouble::Room(most) => {
             let mut room = vec![in alloc; 0; most]?;
-            let (written, outcome) = run_in(alloc, text, room.as_mut_slice());
+            let (written, outcome) = run_in(alloc, hasher, text, room.as_mut_slice());
             out.extend_from_slice(room.get(..written).unwrap_or(&[]))?;
             out.push(b'\n')?;
             Ok(outcome)
@@ -43,10 +54,10 @@ fn run(alloc: Global, case: &Case, out: &mut Vec<u8>) -> Result<Result<(), SimFa
 }
 
 /// What is told of a case.
-fn tell(alloc: Global, case: &Case) -> Result<Vec<u8>> {
+fn tell(alloc: Global, hasher: RandomState, case: &Case) -> Result<Vec<u8>> {
     let mut out = Vec::new(alloc);
     writeln!(out, ": {}", case.name)?;
-    if let Err(fault) = run(alloc, case, &mut out)? {
+    if let Err(fault) = run(alloc, hasher, case, &mut out)? {
         writeln!(out, "hsim: {fault}")?;
     }
     Ok(out)
@@ -57,8 +68,9 @@ fn main(rt: HostRuntime) -> Result<()> {
     let mut input = Vec::new(alloc);
     rt.reader().read_to_end(&mut input)?;
     let mut writer = io::writer(&rt);
+    let hasher = RandomState::new(&rt)?;
     for case in &parse(alloc, &input)? {
-        writer.write_all(&tell(alloc, case)?)?;
+        writer.write_all(&tell(alloc, hasher, case)?)?;
     }
     Ok(())
 }

@@ -2,6 +2,7 @@
 use Rattle.std.specs.Prelude.{◌≡◌, List, ◌++◌, map, Option, None}
 use Rattle.std.specs.List.{range_with_len}
 use Rattle.std.specs.Io.KnownBytes.{Appends}
+use Rattle.ids.specs.declared.limits.TheConstants.{MOST_KEYS}
 use Rattle.ids.specs.Sizes.{Sizes, AreSizes, replicas, client_party}
 use Rattle.definitions.specs.Bytes.{Bytes}
 use Rattle.definitions.specs.Keyrings.{Keys}
@@ -22,7 +23,7 @@ all_keys sizes =
 
 -- the sizes, the faulty parties and the keys of a schedule's world
 abbrev pub sizes_of : Heading → Sizes
-sizes_of h = record { faults = h.faults; clients = h.clients }
+sizes_of h = record { faults = h.faults; clients = h.clients; most_keys = MOST_KEYS }
 
 abbrev pub setting_of : Heading → Setting
 setting_of h = record { sizes = sizes_of h; faulty = h.faulty.items; keyrings = all_keys (sizes_of h) }

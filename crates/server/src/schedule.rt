@@ -15,6 +15,7 @@ ghost use Rattle.definitions.specs.Bytes.{Bytes};
 ghost use Rattle.server.specs.Lines.{IsHeading, heading_text, IsEvent, event_text};
 ghost use Rattle.server.specs.Schedules.{BeginsWith, IsPlain, is_lf, IsTextOf, HasNoHeading, HasNoEvent};
 ghost use Rattle.server.specs.Faults.{IsWhyNot, fault_of_line};
+ghost use Rattle.server.specs.Simulations.{sizes_of};
 
 use crate::lines::{Heading, event_of, heading_of};
 use crate::sim_fault::SimFault;
@@ -33,10 +34,8 @@ pub struct Schedule {
 impl Heading {
     /// The sizes as a world may have them, else `BadSize`.
     pub(crate) fn config(&self) -> Result<Config, Fault>
-        ensures made { IfOk result
-            (λ config. config ≡ record { faults = self.now.faults; clients = self.now.clients }) }
-        ensures only { IsOk result
-            ↔ AreSizes (record { faults = self.now.faults; clients = self.now.clients }) }
+        ensures made { IfOk result (λ config. config ≡ sizes_of self.now) }
+        ensures only { IsOk result ↔ AreSizes (sizes_of self.now) }
         ensures refused { OnErr result (result ≡ Err Fault.BadSize) }
     {
         match (u8::try_from(self.faults), u8::try_from(self.clients)) {

@@ -11,6 +11,7 @@ use ids::{ClientId, Config, Fault, ReplicaId};
 use run_report::text_of;
 use simulated_keys::keyring_of;
 use std::alloc::Global;
+use std::hash::RandomState;
 use std::io::{self, ErrorKind, Read, Write};
 use world_schedule::{World, run};
 
@@ -28,6 +29,7 @@ use world_schedule::{World, run};
 /// that is no request; or of what failed of memory, reader and writer.
 pub fn simulate<R: Read, W: Write>(
     alloc: Global,
+    hasher: RandomState,
     reader: &mut R,
     writer: &mut W,
 ) -> Result<(), SimFault>
@@ -41,7 +43,7 @@ pub fn simulate<R: Read, W: Write>(
         (λ fault. fault ≢ SimFault.Fault Fault.WriteFailed → writer.new ≡ writer.old) }
 {
     let schedule = parse(alloc, &read_all(alloc, reader)?)?;
-    let text = tell_run(alloc, schedule)?;
+    let text = tell_run(alloc, hasher, schedule)?;
     let written = writer.write_all(&text);
     written.map_err(|_error| SimFault::Fault(Fault::WriteFailed))
 }
@@ -69,12 +71,12 @@ pub fn read_fault(error: &io::Error) -> Fault
 }
 
 /// What is told of the run of a schedule.
-fn tell_run(alloc: Global, schedule: Schedule) -> Result<Vec<u8>, Fault>
+fn tell_run(alloc: Global, hasher: RandomState, schedule: Schedule) -> Result<Vec<u8>, Fault>
     ensures told { IfOk result (λ text. IsTextOfRun schedule text.items) }
     ensures refused { IfErr result (IsWhyNoRun schedule) }
 {
     let Schedule { heading, events } = schedule;
-    let world = world_of(alloc, heading)?;
+    let world = world_of(alloc, hasher, heading)?;
     let outcome = run(&world, events.as_slice())?;
     text_of(alloc, &outcome)
 }
@@ -83,13 +85,17 @@ fn tell_run(alloc: Global, schedule: Schedule) -> Result<Vec<u8>, Fault>
 ///
 /// `BadSize` comes where its sizes are out of their limits; then `NoSuchParty` where a faulty party isn't
 /// there, and `TooManyFaulty` where more replicas are faulty than are tolerated.
-pub fn world_of(alloc: Global, heading: Heading) -> Result<World, Fault>
+pub fn world_of(
+    alloc: Global,
+    hasher: RandomState,
+    heading: Heading,
+) -> Result<World, Fault>
     ensures made { IfOk result (IsWorldOf heading) }
     ensures refused { IfErr result (IsWhyNoWorld heading) }
 {
     let config = heading.config()?;
     let keyrings = keyrings_of(alloc, config)?;
-    World::new(alloc, config, heading.faulty, keyrings)
+    World::new(alloc, config, heading.faulty, keyrings, hasher)
 }
 
 /// The keyrings of all parties, replicas first.

@@ -9,7 +9,9 @@ use log::span::Spans;
 use log::{Level, Line, Log, Logged, Metadata, Record};
 use std::alloc::Global;
 use std::fmt::Display;
+use std::hash::RandomState;
 use std::net::{Net, SocketAddr, TcpListener, TcpStream};
+use std::random::RandomSource;
 use std::sync::Wait;
 use std::sync::atomic::AtomicU64;
 use std::sync::atomic::Ordering::SeqCst;
@@ -68,7 +70,7 @@ fn ask_until_refused<R: Net<Stream = TcpStream> + AllocGlobal>(
 /// whether more than one replica was told to have stopped, and how the deployment ended.
 pub(crate) fn end_of_few_blocks<R>(rt: &R, keys: &PairKeys) -> Result<()>
 where
-    R: Threads + Wait + Clock + Sync + Send + Clone + Drop + AllocGlobal + Print,
+    R: Threads + Wait + Clock + Sync + Send + Clone + Drop + AllocGlobal + Print + RandomSource,
     R: Net<Listener = TcpListener, Stream = TcpStream>,
 {
     let listener = TcpListener::bind(rt, "127.0.0.1:0")?;
@@ -85,6 +87,7 @@ where
         blocks: Some(BLOCKS),
         window: None,
         watch: None,
+        hasher: RandomState::new(rt)?,
     };
     let (ended, read) = join(
         rt,

@@ -12,6 +12,7 @@ use ids::Config;
 use key_file::PairKeys;
 use liars::Liar;
 use std::alloc::Global;
+use std::hash::RandomState;
 use std::io::{Read, Write};
 use std::net::{Net, SocketAddr, TcpListener, TcpStream};
 use std::thread::join;
@@ -125,6 +126,7 @@ fn main(rt: HostRuntime) -> Result<()> {
             blocks: None,
             window,
             watch: None,
+            hasher: RandomState::new(&rt)?,
         };
         let (ended, read) = join(
             &rt,

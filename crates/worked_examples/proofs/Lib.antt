@@ -1,3 +1,4 @@
+pub mod Maps
 pub mod FrameSizes
 pub mod LineSteps
 mod SmallRun

@@ -1,20 +1,21 @@
 -- What the sequential cache replies, request by request.
 use Rattle.std.specs.Prelude.{◌≡◌, ℕ, ◌-◌, ◌^◌, List, [], ◌∷◌, ◌++◌, codes}
+use Rattle.std.specs.FinMap as map
 use Rattle.definitions.specs.Bytes.{Bytes}
 use Rattle.definitions.specs.Requests.{Asked, set, add, replace, append, prepend, store, cas, get, gets}
 use Rattle.definitions.specs.Requests.{delete, incr, decr, crlf}
 use Rattle.definitions.specs.Replies.{reply_text}
 use Rattle.definitions.specs.Cache.{Cache, apply, empty_cache}
 
--- the texts of the replies to requests in turn, with room for so many keys
-abbrev pub replies : ℕ → Cache → List Asked → Bytes
-replies most cache [] = []
-replies most cache (request ∷ requests) =
-    let after = apply most cache request in reply_text after.1 ++ replies most after.0 requests
+-- the texts of the replies to requests in turn
+abbrev pub replies : Cache → List Asked → Bytes
+replies cache [] = []
+replies cache (request ∷ requests) =
+    let after = apply cache request in reply_text after.1 ++ replies after.0 requests
 
--- the same from the empty cache, with a replica's room
+-- the same from the empty cache, with the most room
 abbrev pub replies_to : List Asked → Bytes
-replies_to requests = replies 65536 empty_cache requests
+replies_to requests = replies (empty_cache 65536) requests
 
 -- lines, each with its end
 abbrev pub text : List Bytes → Bytes
@@ -81,16 +82,49 @@ abbrev pub RepeatsKeys : Type 0
 RepeatsKeys = replies_to (store set (codes "k") 0 [] ∷ get (codes "k" ∷ codes "m" ∷ codes "k" ∷ []) ∷ [])
     ≡ text (codes "STORED" ∷ codes "VALUE k 0 0" ∷ [] ∷ codes "VALUE k 0 0" ∷ [] ∷ codes "END" ∷ [])
 
--- a full cache stores under a key that it has, and under no other
-abbrev pub IsFull : Type 0
-IsFull = replies 1 empty_cache (store set (codes "a") 0 (codes "x") ∷ store set (codes "b") 0 (codes "x")
-    ∷ store add (codes "b") 0 (codes "x") ∷ store set (codes "a") 0 (codes "y") ∷ [])
-    ≡ text (codes "STORED" ∷ codes "SERVER_ERROR out of memory storing object"
-    ∷ codes "SERVER_ERROR out of memory storing object" ∷ codes "STORED" ∷ [])
+-- one byte of data under a key
+abbrev pub stored_at : Bytes → Asked
+stored_at key = store set key 0 (codes "x")
+
+abbrev pub added_at : Bytes → Asked
+added_at key = store add key 0 (codes "x")
+
+-- With room for two keys: a new one takes the place of the one that was not used for the longest time. To be
+-- got is a use, not to be stored is none.
+abbrev pub Evicts : Type 0
+Evicts = replies (empty_cache 2) (stored_at (codes "a") ∷ stored_at (codes "b") ∷ get (codes "a" ∷ [])
+    ∷ stored_at (codes "c") ∷ get (codes "a" ∷ codes "b" ∷ codes "c" ∷ []) ∷ added_at (codes "d")
+    ∷ gets (codes "c" ∷ codes "d" ∷ []) ∷ added_at (codes "c") ∷ stored_at (codes "e")
+    ∷ get (codes "c" ∷ []) ∷ [])
+    ≡ text (codes "STORED" ∷ codes "STORED" ∷ codes "VALUE a 0 1" ∷ codes "x" ∷ codes "END" ∷ codes "STORED"
+    ∷ codes "VALUE a 0 1" ∷ codes "x" ∷ codes "VALUE c 0 1" ∷ codes "x" ∷ codes "END" ∷ codes "STORED"
+    ∷ codes "VALUE c 0 1 3" ∷ codes "x" ∷ codes "VALUE d 0 1 4" ∷ codes "x" ∷ codes "END"
+    ∷ codes "NOT_STORED" ∷ codes "STORED" ∷ codes "END" ∷ [])
+
+-- with room for one key
+abbrev pub HoldsOne : Type 0
+HoldsOne = replies (empty_cache 1) (stored_at (codes "a") ∷ stored_at (codes "b") ∷ get (codes "a" ∷ [])
+    ∷ stored_at (codes "a") ∷ [])
+    ≡ text (codes "STORED" ∷ codes "STORED" ∷ codes "END" ∷ codes "STORED" ∷ [])
 
 -- when all changes are counted none is made, and what wouldn't change answers as ever
 abbrev pub IsSpent : Type 0
-IsSpent = replies 65536 (record { entries = empty_cache.entries; changes = 2 ^ 64 - 1 })
+IsSpent = replies
+    (record { entries = map.empty; changes = 2 ^ 64 - 1; uses = 0; most_keys = 65536 })
     (store set (codes "a") 0 (codes "x") ∷ store replace (codes "a") 0 (codes "x") ∷ get (codes "a" ∷ [])
     ∷ [])
     ≡ text (codes "SERVER_ERROR out of memory storing object" ∷ codes "NOT_STORED" ∷ codes "END" ∷ [])
+
+-- nor does a key make room then
+abbrev pub KeepsItsKey : Type 0
+KeepsItsKey = replies
+    (record {
+      entries = map.insert map.empty (codes "a")
+          (record { flags = 0; stored = codes "x"; cas_unique = 1; last_use = 1 });
+      changes = 2 ^ 64 - 1;
+      uses = 1;
+      most_keys = 1;
+    })
+    (stored_at (codes "b") ∷ get (codes "a" ∷ []) ∷ [])
+    ≡ text (codes "SERVER_ERROR out of memory storing object" ∷ codes "VALUE a 0 1" ∷ codes "x"
+    ∷ codes "END" ∷ [])

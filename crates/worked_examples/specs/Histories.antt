@@ -20,21 +20,21 @@ history =
 
 -- Fresh are the first and the fourth: each exceeds all earlier numbers of its client. The others aren't run.
 abbrev pub FreshPlaces : Type 0
-FreshPlaces = answers history ≡
+FreshPlaces = answers 65536 history ≡
     record { client = 1; seq = 1; place = 4; text = codes "ERROR" ++ crlf }
     ∷ record { client = 0; seq = 2; place = 1; text = codes "STORED" ++ crlf } ∷ []
 
 -- a later get finds what the fresh one stored
 abbrev pub StoredOnce : Type 0
-StoredOnce = map (λ a. a.text) (answers (asks 1 2 (codes "get a" ++ crlf) ∷ history)) ≡
+StoredOnce = map (λ a. a.text) (answers 65536 (asks 1 2 (codes "get a" ++ crlf) ∷ history)) ≡
     (codes "VALUE a 0 1" ++ crlf ++ codes "x" ++ crlf ++ codes "END" ++ crlf) ∷ (codes "ERROR" ++ crlf)
     ∷ (codes "STORED" ++ crlf) ∷ []
 
 -- only a client's last fresh number has an answer: not one that it skipped, nor one that it hasn't reached
 abbrev pub AnswersLast : Type 0
 AnswersLast =
-    (option_map (λ a. a.place) (answer_to 0 2 history) ≡ Some 1) × (answer_to 0 1 history ≡ None)
-    × (answer_to 0 3 history ≡ None)
+    (option_map (λ a. a.place) (answer_to 65536 0 2 history) ≡ Some 1) × (answer_to 65536 0 1 history ≡ None)
+    × (answer_to 65536 0 3 history ≡ None)
 
 -- the last number of each client
 abbrev pub LastNumbers : Type 0

@@ -14,7 +14,7 @@ use Rattle.definitions.specs.Premises.{ArePremises}
 
 -- four replicas and a client, none of them faulty
 abbrev pub sizes : Sizes
-sizes = record { faults = 1; clients = 1 }
+sizes = record { faults = 1; clients = 1; most_keys = 65536 }
 
 -- the key of two parties is their two numbers, the lower one first
 abbrev pub ring : ℕ → Keyring

@@ -6,7 +6,7 @@ use Rattle.definitions.specs.States.{view}
 
 -- four replicas
 abbrev pub four : Sizes
-four = record { faults = 1; clients = 1 }
+four = record { faults = 1; clients = 1; most_keys = 65536 }
 
 -- a replica announced this view
 abbrev pub announces : ℕ → ℕ → Step

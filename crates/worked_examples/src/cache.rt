@@ -2,7 +2,7 @@
 
 ghost use Rattle.worked_examples.specs.Cache.{Wraps, StopsAtZero, StaysNonNumeric, StaysPadded};
 ghost use Rattle.worked_examples.specs.Cache.{ComparesUniques, Joins, WantsPresence, DeletesOnce};
-ghost use Rattle.worked_examples.specs.Cache.{RepeatsKeys, IsFull, IsSpent};
+ghost use Rattle.worked_examples.specs.Cache.{RepeatsKeys, Evicts, HoldsOne, IsSpent, KeepsItsKey};
 
 /// `18446744073709551615`, raised by 1, is `0`.
 pub fn incr_wraps()
@@ -45,12 +45,23 @@ pub fn a_key_asked_twice_is_told_twice()
     ensures { RepeatsKeys }
 {}
 
-/// A cache of one key.
-pub fn a_full_cache_takes_no_new_key()
-    ensures { IsFull }
+/// `set a`, `set b`, `get a`, `set c`, `get a b c`, `add d`, `gets c d`, `add c`, `set e`, `get c` with room
+/// for two keys.
+pub fn a_full_cache_evicts()
+    ensures { Evicts }
+{}
+
+/// `set a`, `set b`, `get a`, `set a` with room for one.
+pub fn a_cache_of_one_key_evicts()
+    ensures { HoldsOne }
 {}
 
 /// The count of changes ends at 2^64 - 1.
 pub fn no_change_is_made_past_the_count()
     ensures { IsSpent }
+{}
+
+/// A full cache whose changes are all counted.
+pub fn nothing_is_evicted_past_the_count()
+    ensures { KeepsItsKey }
 {}

@@ -12,6 +12,7 @@ use locked_replica::Share;
 use marks::Marks;
 use simulated_keys::keyring_of;
 use std::alloc::Global;
+use std::hash::RandomState;
 use std::ops::Range;
 use std::sync::Wait;
 use std::thread;
@@ -48,6 +49,7 @@ pub(crate) enum Until {
 struct Stage<'a, G> {
     alloc: Global,
     config: Config,
+    hasher: RandomState,
     links: &'a Links,
     ends: &'a Ends,
     gate: &'a G,
@@ -281,7 +283,14 @@ fn run_at<R: Threads + Wait + Clock + Sync, G: Gate + Sync>(
         return Err(Fault::NotAll);
     };
     let onlooker = Onlooker::new(stage.config, &marks, eye);
-    let stations = stations(stage.alloc, stage.config, &marks, eyes, replicas)?;
+    let stations = stations(
+        stage.alloc,
+        stage.config,
+        &marks,
+        eyes,
+        replicas,
+        stage.hasher,
+    )?;
     look_on(rt, stage, onlooker, stations, handed, until)
 }
 
@@ -290,6 +299,7 @@ pub(crate) fn run<R: Threads + Wait + Clock + Sync, G: Gate + Sync>(
     rt: &R,
     alloc: Global,
     config: Config,
+    hasher: RandomState,
     replicas: Range<u8>,
     gate: &G,
     seen: &Seen,
@@ -300,6 +310,7 @@ pub(crate) fn run<R: Threads + Wait + Clock + Sync, G: Gate + Sync>(
     let stage = Stage {
         alloc,
         config,
+        hasher,
         links: &links,
         ends: &ends,
         gate,

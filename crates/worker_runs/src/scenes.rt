@@ -11,7 +11,9 @@ use anyhow::Result;
 use bytes::Bytes;
 use ids::{Config, ReplicaId};
 use std::alloc::Global;
+use std::hash::RandomState;
 use std::ops::Range;
+use std::random::RandomSource;
 use std::sync::Wait;
 use std::thread::Threads;
 use std::time::Clock;
@@ -118,7 +120,7 @@ impl Scene {
     }
 
     /// Plays the scene, and tells what came of it.
-    pub(crate) fn play<R: Threads + Wait + Clock + Sync>(
+    pub(crate) fn play<R: Threads + Wait + Clock + Sync + RandomSource>(
         self,
         rt: &R,
         alloc: Global,
@@ -129,7 +131,8 @@ impl Scene {
         let answers = frames::answers(alloc, config)?;
         let seen = Seen::new(alloc, self == Scene::TwoCalls, answers)?;
         let (replicas, until) = (self.replicas(), self.until());
-        let told = run(rt, alloc, config, replicas, &gate, &seen, handed, until)?;
+        let hasher = RandomState::new(rt)?;
+        let told = run(rt, alloc, config, hasher, replicas, &gate, &seen, handed, until)?;
         self.tell(alloc, &gate, &seen, &told)
     }
 }

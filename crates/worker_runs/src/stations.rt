@@ -12,6 +12,7 @@ use marks::{Eye, Marks};
 use replica::Archived;
 use simulated_keys::keyring_of;
 use std::alloc::Global;
+use std::hash::RandomState;
 use std::ops::Range;
 use std::sync::Mutex;
 
@@ -33,12 +34,13 @@ fn new_kept<'a>(
     number: ReplicaId,
     eye: Eye,
     marks: &'a Marks,
+    hasher: RandomState,
 ) -> Result<Kept<'a>, Fault>
     requires eye { eye ≡ first_eye marks.now number }
     requires number { (number < replicas config) × (number < marks.now.words) }
 {
     let keyring = keyring_of(alloc, config, number.into())?;
-    let replica = Archived::new(alloc, config, number, keyring)?;
+    let replica = Archived::new(alloc, config, number, keyring, hasher)?;
     Ok(Kept::new(alloc, replica, eye, marks))
 }
 
@@ -66,11 +68,12 @@ fn make_station<'a>(
     number: ReplicaId,
     eye: Eye,
     marks: &'a Marks,
+    hasher: RandomState,
 ) -> Result<Station<'a>, Fault>
     requires eye { eye ≡ first_eye marks.now number }
     requires number { (number < replicas config) × (number < marks.now.words) }
 {
-    let mut kept = new_kept(alloc, config, number, eye, marks)?;
+    let mut kept = new_kept(alloc, config, number, eye, marks, hasher)?;
     let shares = two_shares(alloc, &mut kept);
     let (kept, shares) = beside(kept, shares)?;
     Ok(Station {
@@ -88,6 +91,7 @@ pub(crate) fn stations<'a>(
     marks: &'a Marks,
     owners: Vec<Eye>,
     wanted: Range<u8>,
+    hasher: RandomState,
 ) -> Result<Vec<Station<'a>>, Fault>
     requires words { marks.now.words ≡ replicas config }
     requires owners { owners.items ≡ map (first_eye marks.now) (range_with_len 0 marks.now.words) }
@@ -97,7 +101,7 @@ pub(crate) fn stations<'a>(
     for (i, eye) in owners.into_iter().enumerate() {
         let number = i as u8;
         if wanted.contains(&number) {
-            stations.push(make_station(alloc, config, ReplicaId(number), eye, marks)?)?;
+            stations.push(make_station(alloc, config, ReplicaId(number), eye, marks, hasher)?)?;
         }
     }
     Ok(stations)

@@ -3,3 +3,4 @@ pub mod Clients
 pub mod Seated
 pub mod Runs
 pub mod Telling
+pub mod Rooms

@@ -1,10 +1,10 @@
 -- What a world is: its sizes, which parties are faulty, and the keys of all.
 use Rattle.ids.specs.declared.fault.Fault.{Fault}
 use Rattle.ids.specs.declared.fault.Fault.TheVariants as fault
-use Rattle.std.specs.Prelude.{ℕ, ◌≡◌, ◌+◌, ◌==◌, ◌≤◌, Bool, not, true, List, [], length, Option, Some, None}
+use Rattle.std.specs.Prelude.{ℕ, ◌≡◌, ◌⊎◌, ◌+◌, ◌==◌, ◌≤◌, Bool, not, true, List, [], length, Option, Some, None}
 use Rattle.std.specs.Prelude.{if◌then◌else◌, nat_lt, slice_index_or}
 use Rattle.std.specs.List.{list_any, list_all}
-use Rattle.ids.specs.Sizes.{Sizes, AreSizes, replicas}
+use Rattle.ids.specs.Sizes.{Sizes, IsRoom, HasNoRoom, AreSizes, replicas}
 use Rattle.definitions.specs.Lists.{count_below}
 use Rattle.definitions.specs.Keyrings.{Keyring, Keys, keyring_of, place_of, is_party_of}
 use Rattle.definitions.specs.Worlds.{World, new_world}
@@ -49,6 +49,10 @@ pub record AreKeyrings (sizes : Sizes) (keyrings : List Keys) : Type 0 where
   pub count : length keyrings ≡ replicas sizes + sizes.clients
   pub each : (p : ℕ) → is_party_of sizes p ≡ true → IsKeyringOf sizes p (keys_at sizes keyrings p)
 
+-- the same keys, where caches have room for so many keys
+abbrev pub with_room : ℕ → Keys → Keys
+with_room most_keys keys = record keys { sizes = record keys.sizes { most_keys = most_keys } }
+
 -- why there is no world with these faulty parties: one isn't a party, or more replicas are faulty than are
 -- tolerated
 abbrev pub why_not : Sizes → List ℕ → Option Fault
@@ -56,6 +60,12 @@ why_not sizes faulty =
     if not (list_all (λ party. is_party_of sizes party) faulty) then Some fault.NoSuchParty
     else (if nat_lt sizes.faults (count_below (replicas sizes) (is_named faulty)) then Some
     fault.TooManyFaulty else None)
+
+-- why there is no such world with this room: the room is out of its limits; or else the faulty parties are wrong,
+-- or memory was refused
+abbrev pub HasNoWorld : Sizes → List ℕ → ℕ → Fault → Type 0
+HasNoWorld sizes faulty most_keys fault =
+    HasNoRoom most_keys fault ⊎ ((IsRoom most_keys) × (why_not sizes faulty ≡ Some fault))
 
 -- what holds of each world, as a setting: at most f replicas are faulty, and each party has its own keys
 pub record Holds (s : Setting) : Type 0 where

@@ -37,7 +37,13 @@ fn new_replica(world: &World, number: ReplicaId) -> Result<Archived, Fault>
     ensures memory { OnErr result (result ≡ Err Fault.Memory) }
 {
     let keyring = world.keyring(number.into()).duplicate(world.alloc())?;
-    Archived::new(world.alloc(), world.config(), number, keyring)
+    Archived::new(
+        world.alloc(),
+        world.config(),
+        number,
+        keyring,
+        world.hasher(),
+    )
 }
 
 /// The session of a client that has sent nothing.

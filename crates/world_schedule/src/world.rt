@@ -1,17 +1,19 @@
 //! A world: its sizes, its faulty parties, and the keys of all.
 
-ghost use Rattle.std.specs.Prelude.{◌≡◌, ◌<◌, ◌≤◌, ◌==◌, IsTrue, IfOk, OnErr, MatchResult, None, Some};
+ghost use Rattle.std.specs.Prelude.{◌≡◌, ◌<◌, ◌≤◌, ◌==◌, map, IsTrue, IsOk, IfOk, IfErr, OnErr, MatchResult};
+ghost use Rattle.std.specs.Prelude.{None, Some};
 ghost use Rattle.std.specs.List.{list_all, list_any};
-ghost use Rattle.ids.specs.Sizes.{replicas};
+ghost use Rattle.ids.specs.Sizes.{IsRoom, replicas};
 ghost use Rattle.definitions.specs.Lists.{count_below};
 ghost use Rattle.definitions.specs.Keyrings.{is_party_of, keyring_of};
 ghost use Rattle.world_schedule.specs.Seats.{HasKeysOf};
 ghost use Rattle.world_schedule.specs.Settings.{AreKeyrings, Holds, IsKeyringOf, is_faulty_in, is_named};
-ghost use Rattle.world_schedule.specs.Settings.{why_not};
+ghost use Rattle.world_schedule.specs.Settings.{HasNoWorld, why_not, with_room};
 
 use authenticators::Keyring;
 use ids::{Config, Fault, PartyId};
 use std::alloc::Global;
+use std::hash::RandomState;
 use std::marker::Model;
 
 /// A world of replicas and clients, some of which may be faulty: whatever a schedule has them send
@@ -22,6 +24,7 @@ pub struct World {
     config: Config,
     faulty: Vec<PartyId>,
     keyrings: Vec<Keyring>,
+    hasher: RandomState,
 }
 
 impl Model for World {
@@ -86,6 +89,23 @@ fn why_not(config: &Config, faulty: &[PartyId]) -> Result<(), Fault>
     Ok(())
 }
 
+/// The same keyrings, where caches have room for so many keys.
+fn with_room(
+    alloc: Global,
+    keyrings: Vec<Keyring>,
+    most_keys: usize,
+) -> Result<Vec<Keyring>, Fault>
+    requires { IsRoom most_keys }
+    ensures made { IfOk result (λ all. all.items ≡ map (with_room most_keys) keyrings.items) }
+    ensures memory { OnErr result (result ≡ Err Fault.Memory) }
+{
+    let mut all = Vec::new(alloc);
+    for keyring in keyrings {
+        all.push(keyring.with_most_keys(most_keys)?)?;
+    }
+    Ok(all)
+}
+
 impl World {
     /// A world of these sizes. The keyrings are those of the replicas in order, and then of the clients.
     ///
@@ -96,6 +116,7 @@ impl World {
         config: Config,
         faulty: Vec<PartyId>,
         keyrings: Vec<Keyring>,
+        hasher: RandomState,
     ) -> Result<World, Fault>
         requires { AreKeyrings config keyrings.items }
         ensures made { IfOk result
@@ -109,12 +130,41 @@ impl World {
             config,
             faulty,
             keyrings,
+            hasher,
         })
+    }
+
+    /// The same, where the replicas' caches have room for so many keys: 1 to `MOST_KEYS`, else `BadKeys`.
+    pub fn with_keys(
+        alloc: Global,
+        config: Config,
+        faulty: Vec<PartyId>,
+        keyrings: Vec<Keyring>,
+        most_keys: usize,
+        hasher: RandomState,
+    ) -> Result<World, Fault>
+        requires { AreKeyrings config keyrings.items }
+        ensures made { IfOk result (λ w. w ≡ record {
+          sizes = record config { most_keys = most_keys };
+          faulty = faulty.items;
+          keyrings = map (with_room most_keys) keyrings.items;
+        }) }
+        ensures room { IsOk result → IsRoom most_keys }
+        ensures refused { IfErr result (HasNoWorld config faulty.items most_keys) }
+    {
+        let config = config.with_most_keys(most_keys)?;
+        let keyrings = with_room(alloc, keyrings, most_keys)?;
+        World::new(alloc, config, faulty, keyrings, hasher)
     }
 
     /// Where its memory comes from.
     pub(crate) fn alloc(&self) -> Global {
         self.alloc
+    }
+
+    /// The secret by which caches hash keys.
+    pub fn hasher(&self) -> RandomState {
+        self.hasher
     }
 
     /// The sizes of the world.

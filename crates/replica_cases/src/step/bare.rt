@@ -12,6 +12,7 @@ use ids::{Config, Fault, PartyId, ReplicaId};
 use replica::{Input, Out, Replica};
 use simulated_keys::keyring_of;
 use std::alloc::Global;
+use std::hash::RandomState;
 
 /// What a replica answers to bytes, checked with the keys of the replica CHECKER.
 fn receive(
@@ -91,6 +92,7 @@ fn tell_all(
 /// What a replica that has made no step does with its inputs, one after the other.
 pub(crate) fn run(
     alloc: Global,
+    hasher: RandomState,
     config: Config,
     own: ReplicaId,
     inputs: &str,
@@ -99,6 +101,6 @@ pub(crate) fn run(
     requires { own < replicas config }
 {
     let ring = keyring_of(alloc, config, PartyId::from(own))?;
-    let mut replica = Replica::new(alloc, config, own, ring)?;
+    let mut replica = Replica::new(alloc, config, own, ring, hasher)?;
     tell_all(alloc, &mut replica, inputs, text)
 }

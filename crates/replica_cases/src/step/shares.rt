@@ -15,6 +15,7 @@ use marks::{Eye, Marks};
 use replica::Archived;
 use simulated_keys::keyring_of;
 use std::alloc::Global;
+use std::hash::RandomState;
 
 /// The eye that owns the word of a replica.
 fn eye_of(marks: &Marks, eyes: Vec<Eye>, number: ReplicaId) -> Eye
@@ -29,6 +30,7 @@ fn eye_of(marks: &Marks, eyes: Vec<Eye>, number: ReplicaId) -> Eye
 /// A kept replica that has made no step.
 fn kept_of<'a>(
     alloc: Global,
+    hasher: RandomState,
     config: Config,
     number: ReplicaId,
     marks: &'a Marks,
@@ -39,7 +41,7 @@ fn kept_of<'a>(
     requires words { marks.now.words ≡ replicas config }
 {
     let keys = keyring_of(alloc, config, PartyId::from(number))?;
-    let replica = Archived::new(alloc, config, number, keys)?;
+    let replica = Archived::new(alloc, config, number, keys, hasher)?;
     let eye = eye_of(marks, eyes, number);
     Ok(Kept::new(alloc, replica, eye, marks))
 }
@@ -56,6 +58,7 @@ fn shares_of(alloc: Global, kept: &mut Kept<'_>, count: u8) -> Result<Vec<Share>
 /// A kept replica and so many shares of it.
 pub(crate) fn kept_with<'a>(
     alloc: Global,
+    hasher: RandomState,
     config: Config,
     number: ReplicaId,
     count: u8,
@@ -66,7 +69,7 @@ pub(crate) fn kept_with<'a>(
     requires eyes { eyes.items ≡ first_eyes marks.now }
     requires words { marks.now.words ≡ replicas config }
 {
-    let mut kept = kept_of(alloc, config, number, marks, eyes)?;
+    let mut kept = kept_of(alloc, hasher, config, number, marks, eyes)?;
     let shares = shares_of(alloc, &mut kept, count)?;
     Ok((kept, shares))
 }
@@ -74,6 +77,7 @@ pub(crate) fn kept_with<'a>(
 /// A share of another kept replica of this number, of which one more is made.
 pub(crate) fn strange_share(
     alloc: Global,
+    hasher: RandomState,
     config: Config,
     number: ReplicaId,
     count: u8,
@@ -81,7 +85,7 @@ pub(crate) fn strange_share(
     requires { number < replicas config }
 {
     let (marks, eyes) = Marks::new(alloc, config.n())?;
-    let (mut other, _) = kept_with(alloc, config, number, count, &marks, eyes)?;
+    let (mut other, _) = kept_with(alloc, hasher, config, number, count, &marks, eyes)?;
     other.share()
 }
 

@@ -13,6 +13,7 @@ use marks::{Eye, Marks};
 use replica::{Input, Out};
 use simulated_keys::keyring_of;
 use std::alloc::Global;
+use std::hash::RandomState;
 
 /// A number of a line.
 pub(crate) fn number(digits: &str) -> Result<u8, Fault> {
@@ -31,6 +32,7 @@ impl<'a> Stepped<'a> {
     /// A replica that has made no step.
     pub(crate) fn new(
         alloc: Global,
+        hasher: RandomState,
         config: Config,
         number: ReplicaId,
         count: u8,
@@ -41,8 +43,8 @@ impl<'a> Stepped<'a> {
         requires eyes { eyes.items ≡ first_eyes marks.now }
         requires words { marks.now.words ≡ replicas config }
     {
-        let strange = strange_share(alloc, config, number, count)?;
-        let (kept, mut shares) = kept_with(alloc, config, number, count, marks, eyes)?;
+        let strange = strange_share(alloc, hasher, config, number, count)?;
+        let (kept, mut shares) = kept_with(alloc, hasher, config, number, count, marks, eyes)?;
         shares.push(strange)?;
         Ok(Stepped {
             config,

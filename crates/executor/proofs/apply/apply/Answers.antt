@@ -1,42 +1,49 @@
-use Rattle.std.proofs.Common.{◌<◌, [], length, length-append, ap, arith}
-use Rattle.std.proofs.lemmas.Result.{IfErr-at_err, MatchResult-at_ok}
-use Rattle.mc_lines.specs.Meaning.{reply_of}
-use Rattle.definitions.specs.Replies.{Reply, reply_text}
-use Rattle.definitions.specs.Cache.{apply_payload}
-use Rattle.executor.proofs.Texts.{left-same, on_err}
+use Rattle.std.proofs.Common.{◌≡◌, Some, None, IfOk, OnOk, sym, ap, ◌∙◌, subst, option_map}
+use Rattle.definitions.specs.Canonical.{request_of}
+use Rattle.definitions.specs.Cache.{Outcome}
+use Rattle.definitions.specs.Replies.{reply_text}
+use Rattle.mc_lines.specs.Meaning.{asked_of}
+use Rattle.mc_lines.specs.declared.request.Request.{Request}
+use Rattle.executor.proofs.Texts.{payload-asks, payload-asks_nothing, on_ok}
 use Rattle.executor.proofs.apply.apply.Goals as goal
 
-pub returns-in_err-write_reply-clause-unchanged : goal.returns-in_err-write_reply-clause-unchanged
-returns-in_err-write_reply-clause-unchanged c =
-    let old = c.args.cache.now in
-    let grown = IfErr-at_err _ c.in_err-write_reply.was c.write_reply.ensures.grown in
-    let text = ap (λ (r : Reply). length (reply_text r)) c.in_ok-reply.ensures.told in
-    let room = c.in_ok-told.ensures.exact in
-    let empty = c.in_ok-told.ensures.len in
-    let long : 22 < length (reply_text (apply_payload old.most old.cache c.args.payload.now).1) =
-    omega (arith, grown, text, room, empty) in
-    on_err _ (left-same old _ c.args.payload.now c.in_ok-reply.ensures.left long)
+pub returns-in-Some-clause-left : goal.returns-in-Some-clause-left
+returns-in-Some-clause-left c =
+    let asks = sym c.read_canonical.ensures.value
+    ∙ ap (option_map (λ (r : Request). asked_of r)) c.in-Some.is in
+    subst (λ (o : Outcome). OnOk c.perform.result (c.perform.new.cache ≡ o.0))
+    (sym (payload-asks c.args.cache.now _ _ asks)) c.perform.ensures.left
 
-pub returns-in_err-append-clause-unchanged : goal.returns-in_err-append-clause-unchanged
-returns-in_err-append-clause-unchanged c =
-    let old = c.args.cache.now in
-    let grown = IfErr-at_err _ c.in_err-append.was c.append.ensures.grown in
-    let text = ap (λ (r : Reply). length (reply_text r)) c.in_ok-reply.ensures.told in
-    let items = MatchResult-at_ok _ _ _ c.in_ok-write_reply.was c.write_reply.ensures.appended in
-    let none = c.in_ok-told.ensures.items in
-    let room = c.in_ok-kept.ensures.exact in
-    let empty = c.in_ok-kept.ensures.len in
-    let long : 22 < length (reply_text (apply_payload old.most old.cache c.args.payload.now).1) =
-    omega (
-      arith,
-      grown,
-      text,
-      room,
-      empty,
-      ap length c.as_slice.ensures.value,
-      ap length items,
-      ap length none,
-      length-append c.as_slice.result.now [],
-      length-append c.in_ok-told.told.items (reply_text (reply_of c.in_ok-reply.reply)),
-    ) in
-    on_err _ (left-same old _ c.args.payload.now c.in_ok-reply.ensures.left long)
+pub returns-in-Some-clause-told : goal.returns-in-Some-clause-told
+returns-in-Some-clause-told c =
+    let asks = sym c.read_canonical.ensures.value
+    ∙ ap (option_map (λ (r : Request). asked_of r)) c.in-Some.is in
+    subst (λ (o : Outcome). IfOk c.perform.result (λ t. t.told.items ≡ reply_text o.1))
+    (sym (payload-asks c.args.cache.now _ _ asks)) c.perform.ensures.told
+
+pub returns-in-Some-clause-kept : goal.returns-in-Some-clause-kept
+returns-in-Some-clause-kept c =
+    let asks = sym c.read_canonical.ensures.value
+    ∙ ap (option_map (λ (r : Request). asked_of r)) c.in-Some.is in
+    subst (λ (o : Outcome). IfOk c.perform.result (λ t. t.kept.items ≡ reply_text o.1))
+    (sym (payload-asks c.args.cache.now _ _ asks)) c.perform.ensures.kept
+
+pub returns-in-None-clause-left : goal.returns-in-None-clause-left
+returns-in-None-clause-left c =
+    let nothing = sym c.read_canonical.ensures.value
+    ∙ ap (option_map (λ (r : Request). asked_of r)) c.in-None.is in
+    on_ok _ (sym (ap (λ (o : Outcome). o.0) (payload-asks_nothing c.args.cache.now _ nothing)))
+
+pub returns-in-None-clause-told : goal.returns-in-None-clause-told
+returns-in-None-clause-told c =
+    let nothing = sym c.read_canonical.ensures.value
+    ∙ ap (option_map (λ (r : Request). asked_of r)) c.in-None.is in
+    subst (λ (o : Outcome). IfOk c.texts_of.result (λ t. t.told.items ≡ reply_text o.1))
+    (sym (payload-asks_nothing c.args.cache.now _ nothing)) c.texts_of.ensures.told
+
+pub returns-in-None-clause-kept : goal.returns-in-None-clause-kept
+returns-in-None-clause-kept c =
+    let nothing = sym c.read_canonical.ensures.value
+    ∙ ap (option_map (λ (r : Request). asked_of r)) c.in-None.is in
+    subst (λ (o : Outcome). IfOk c.texts_of.result (λ t. t.kept.items ≡ reply_text o.1))
+    (sym (payload-asks_nothing c.args.cache.now _ nothing)) c.texts_of.ensures.kept

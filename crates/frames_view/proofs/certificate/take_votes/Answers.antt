@@ -10,7 +10,7 @@ use Rattle.frames_view.proofs.certificate.take_votes.Goals as goal
 
 -- The sizes without their clients: votes are of replicas.
 of_replicas : Sizes → Sizes
-of_replicas sizes = record { faults = sizes.faults; clients = 0 }
+of_replicas sizes = record sizes { clients = 0 }
 
 pub overflow_sub-bytes : goal.overflow_sub-bytes
 unfolding of_replicas

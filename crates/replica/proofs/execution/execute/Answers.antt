@@ -7,13 +7,13 @@ use Rattle.replica.proofs.execution.execute.Goals as goal
 pub returns-clause-cut : goal.returns-clause-cut
 returns-clause-cut g c =
     let tree = c.state.inside.tree in
-    let was = c.args.executor.now in
+    let was = c.args.executor.now.history in
     let waits = c.state.inside.pool in
     let Cut : ℕ → BlockRef → Type 0 = λ from last.
     OnErr c.execute_between.result (IsCut last.digest tree from last.height was
-    c.execute_between.new.executor waits c.execute_between.new.pool) in
+    c.execute_between.new.executor.history waits c.execute_between.new.pool) in
     subst (λ (s : StateParts). OnErr c.execute_between.result (IsCut s.variables.rules.executed.digest
-    (tree_of s.variables) c.args.from s.variables.rules.executed.height was c.execute_between.new.executor
+    (tree_of s.variables) c.args.from s.variables.rules.executed.height was c.execute_between.new.executor.history
     s.pending c.execute_between.new.pool)) c.state.view_is
     (subst (λ (from : ℕ). Cut from c.state.inside.rules.executed) c.from.view_is
     (subst (Cut _) (c.last.view_is ∙ c.executed-last.ensures) c.execute_between.ensures.cut))

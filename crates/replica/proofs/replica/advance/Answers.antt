@@ -12,8 +12,8 @@ use Rattle.replica.proofs.replica.advance.Goals as goal
 
 pub returns-in-Err-clause-advances : goal.returns-in-Err-clause-advances
 returns-in-Err-clause-advances g c c' o =
-    refuses c.args.keyring.now (input_of c.args.input) c' c.args.executor.now
-    (history-going c.args.keyring.now c' c.args.state.now c.args.executor.now o) o.fit o.stored
+    refuses c.args.keyring.now (input_of c.args.input) c' c.args.executor.now.history
+    (history-going c.args.keyring.now c' c.args.state.now c.args.executor.now.history o) o.fit o.stored
     c.in-Err.ensures.fit c.in-Err.fault c.take.new.state (c.in-Err.ensures.steps c' o)
 
 pub returns-in-Ok-execute-clause-advances : goal.returns-in-Ok-execute-clause-advances
@@ -23,13 +23,13 @@ returns-in-Ok-execute-clause-advances g c c' o =
     ap (λ (b : BlockRef). b.height) (c.executed-from.ensures
     ∙ ap (λ (k : StateParts). k.variables.rules.executed) c.state.view_is
     ∙ ap (λ (v : Variables). v.rules.executed) o.state.same) in
-    sends-all c.args.keyring.now (input_of c.args.input) c' c.args.executor.now
-    (history-going c.args.keyring.now c' c.args.state.now c.args.executor.now o) o.fit o.stored
+    sends-all c.args.keyring.now (input_of c.args.input) c' c.args.executor.now.history
+    (history-going c.args.keyring.now c' c.args.state.now c.args.executor.now.history o) o.fit o.stored
     c.in-Ok.ensures.fit c.in-Ok.out c.execute.new.out c.take.new.state c.execute.new.state
-    c.execute.new.executor (c.in-Ok.ensures.steps c' o)
-    (subst (λ (n : ℕ). c.execute.new.executor
+    c.execute.new.executor.history (c.in-Ok.ensures.steps c' o)
+    (subst (λ (n : ℕ). c.execute.new.executor.history
     ≡ history_above last.digest (tree_of c.take.new.state.variables) n (last.height - n)
-    c.args.executor.now) from c.in-Ok-execute.ensures.executed)
+    c.args.executor.now.history) from c.in-Ok-execute.ensures.executed)
     (subst (λ (n : ℕ). c.execute.new.state
     ≡ waiting (left_after
     (history_above last.digest (tree_of c.take.new.state.variables) n (last.height - n) [])
@@ -45,13 +45,13 @@ returns-in-Err-execute-clause-advances g c c' o =
     ap (λ (b : BlockRef). b.height) (c.executed-from.ensures
     ∙ ap (λ (k : StateParts). k.variables.rules.executed) c.state.view_is
     ∙ ap (λ (v : Variables). v.rules.executed) o.state.same) in
-    stops-short c.args.keyring.now (input_of c.args.input) c' c.args.executor.now
-    (history-going c.args.keyring.now c' c.args.state.now c.args.executor.now o) o.fit o.stored
-    c.in-Ok.ensures.fit c.in-Ok.out c.take.new.state c.execute.new.state c.execute.new.executor
+    stops-short c.args.keyring.now (input_of c.args.input) c' c.args.executor.now.history
+    (history-going c.args.keyring.now c' c.args.state.now c.args.executor.now.history o) o.fit o.stored
+    c.in-Ok.ensures.fit c.in-Ok.out c.take.new.state c.execute.new.state c.execute.new.executor.history
     (c.in-Ok.ensures.steps c' o)
     c.execute.ensures.rest
     (subst (λ (n : ℕ). IsCut last.digest (tree_of c.take.new.state.variables) n last.height
-    c.args.executor.now c.execute.new.executor c.take.new.state.pending c.execute.new.state.pending) from
+    c.args.executor.now.history c.execute.new.executor.history c.take.new.state.pending c.execute.new.state.pending) from
     c.in-Err-execute.ensures.cut)
 
 pub returns-in-Ok-execute-clause-logged : goal.returns-in-Ok-execute-clause-logged

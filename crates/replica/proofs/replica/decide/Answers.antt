@@ -37,7 +37,7 @@ use Rattle.replica.proofs.replica.decide.Goals as goal
 pub returns-in-Proposal-clause-decided : goal.returns-in-Proposal-clause-decided
 unfolding ruling
 returns-in-Proposal-clause-decided c c' w =
-    let o = state-going c.args.keyring.now c' c.args.state.now c.args.executor.now w in
+    let o = state-going c.args.keyring.now c' c.args.state.now c.args.executor.now.history w in
     let keys = c.args.keyring.now in
     let p = c.in-Proposal.proposal in
     let own : same_replica p.keys keys ≡ true = rw c.in-Proposal.is at c.requires.own in
@@ -51,7 +51,7 @@ returns-in-Proposal-clause-decided c c' w =
 pub returns-in-Block-clause-decided : goal.returns-in-Block-clause-decided
 unfolding ruling
 returns-in-Block-clause-decided c c' w =
-    let o = state-going c.args.keyring.now c' c.args.state.now c.args.executor.now w in
+    let o = state-going c.args.keyring.now c' c.args.state.now c.args.executor.now.history w in
     let keys = c.args.keyring.now in
     let b = c.in-Block.block in
     let own : same_replica b.keys keys ≡ true = rw c.in-Block.is at c.requires.own in
@@ -64,7 +64,7 @@ returns-in-Block-clause-decided c c' w =
 
 pub returns-in-NewView-clause-decided : goal.returns-in-NewView-clause-decided
 returns-in-NewView-clause-decided c c' w =
-    let o = state-going c.args.keyring.now c' c.args.state.now c.args.executor.now w in
+    let o = state-going c.args.keyring.now c' c.args.state.now c.args.executor.now.history w in
     let keys = c.args.keyring.now in
     let n = c.in-NewView.announced in
     let decided = subst
@@ -75,7 +75,7 @@ returns-in-NewView-clause-decided c c' w =
 
 pub returns-in-Fetch-clause-decided : goal.returns-in-Fetch-clause-decided
 returns-in-Fetch-clause-decided c c' w =
-    let o = state-going c.args.keyring.now c' c.args.state.now c.args.executor.now w in
+    let o = state-going c.args.keyring.now c' c.args.state.now c.args.executor.now.history w in
     let keys = c.args.keyring.now in
     let s = c.args.state.now in
     let f = c.in-Fetch.asked in
@@ -87,13 +87,13 @@ returns-in-Fetch-clause-decided c c' w =
 
 pub returns-in-Timeout-clause-decided : goal.returns-in-Timeout-clause-decided
 returns-in-Timeout-clause-decided c c' w =
-    let o = state-going c.args.keyring.now c' c.args.state.now c.args.executor.now w in
+    let o = state-going c.args.keyring.now c' c.args.state.now c.args.executor.now.history w in
     rw c.in-Timeout.is (timeout-decided c.args.keyring.now c' c.args.state.now c.decide_timeout.result
     c.decide_timeout.ensures.made c.decide_timeout.ensures.memory o)
 
 pub returns-in-Beat-clause-decided : goal.returns-in-Beat-clause-decided
 returns-in-Beat-clause-decided c c' w =
-    let o = state-going c.args.keyring.now c' c.args.state.now c.args.executor.now w in
+    let o = state-going c.args.keyring.now c' c.args.state.now c.args.executor.now.history w in
     let chronicle =
     c.state.invariant.0 ∙ ap (λ (k : StateParts). length k.variables.chronicle) c.state.view_is
     ∙ ap (λ (v : Variables). length v.chronicle) o.same in
@@ -122,7 +122,7 @@ returns-in-Timeout-clause-fits c =
 
 pub returns-in-Vote-clause-decided : goal.returns-in-Vote-clause-decided
 returns-in-Vote-clause-decided c c' w =
-    let o = state-going c.args.keyring.now c' c.args.state.now c.args.executor.now w in
+    let o = state-going c.args.keyring.now c' c.args.state.now c.args.executor.now.history w in
     let v = c.in-Vote.vote in
     let decided = subst (λ (x : VoteFrameView). IsVoteDecided c.args.state.now
     (frame_digest (vote_frame_of x)) (frame_vote (vote_frame_of x)) c.decide_vote.result)
@@ -165,7 +165,7 @@ unfolding ruling
 returns-in-Request-clause-decided c c' w =
     let keys = c.args.keyring.now in
     let s = c.args.state.now in
-    let h = c.args.executor.now in
+    let h = c.args.executor.now.history in
     let r = c.in-Request.asked in
     let o = state-going keys c' s h w in
     let made = subst (λ (x : CommandView). IsRequested keys s h (command_of x) c.decide_request.result)
@@ -177,6 +177,6 @@ pub returns-in-Prune-clause-decided : goal.returns-in-Prune-clause-decided
 returns-in-Prune-clause-decided c c' w =
     let keys = c.args.keyring.now in
     let s = c.args.state.now in
-    let o = state-going keys c' s c.args.executor.now w in
+    let o = state-going keys c' s c.args.executor.now.history w in
     rw c.in-Prune.is (subst (λ (d : Change). StepsTo keys (prune_in c.in-Prune.height) c' (answer (Ok d))
     (after (Ok d) s)) (sym c.decide_prune.ensures) (prune-decided keys c' c.in-Prune.height s o))

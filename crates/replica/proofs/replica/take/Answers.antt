@@ -11,5 +11,5 @@ returns-clause-steps g c c' o =
     let d = c.in_ok-change.change in
     committed keys (ruling (identity_of keys) (input_of c.args.input) c') c' d c.args.state.now
     c.commit.new.self c.commit.result
-    (c.in_ok-change.ensures.decided c' o) (state-going keys c' c.args.state.now c.args.executor.now o)
+    (c.in_ok-change.ensures.decided c' o) (state-going keys c' c.args.state.now c.args.executor.now.history o)
     c.commit.ensures.made c.commit.ensures.out c.commit.ensures.unchanged c.commit.ensures.memory

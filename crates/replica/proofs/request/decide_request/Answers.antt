@@ -11,7 +11,7 @@ pub returns-then-last_seq-seq : goal.returns-then-last_seq-seq
 unfolding is_due
 returns-then-last_seq-seq c =
     let r = command_of c.args.request.now in
-    let h = c.args.executor.now in
+    let h = c.args.executor.now.history in
     let due : is_due h r ≡ true =
     lt-ltb (last_seq r.client h) r.seq (omega (
       arith,
@@ -27,7 +27,7 @@ pub returns-else-last_seq-seq : goal.returns-else-last_seq-seq
 unfolding is_due
 returns-else-last_seq-seq c =
     let r = command_of c.args.request.now in
-    let h = c.args.executor.now in
+    let h = c.args.executor.now.history in
     let late : is_due h r ≡ false =
     le-ltb (last_seq r.client h) r.seq (omega (
       arith,

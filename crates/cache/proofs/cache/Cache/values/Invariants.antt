@@ -6,5 +6,5 @@ use Rattle.cache.proofs.cache.Cache.values.Given as goal
 -- what is told so far, and what the keys that are left have
 abbrev pub invariant-loop-key : goal.invariant-loop-key
 invariant-loop-key l =
-    map value_of l.values.items ++ values_of l.self.cache (keys_left l.key-iterator)
-    ≡ values_of l.self.cache (keys_of l.fn.keys)
+    map value_of l.values.items ++ values_of l.self (keys_left l.key-iterator)
+    ≡ values_of l.self (keys_of l.fn.keys)

@@ -19,7 +19,7 @@ pub returns-then-not-is_running-clause-stepped : goal.returns-then-not-is_runnin
 returns-then-not-is_running-clause-stepped g c =
     let r = c.self.inside in
     stepped-not c.args.self.now.keys (input_of c.args.input) c.args.self.now.replica
-    r.state.variables.chronicle r.standing (length r.executor)
+    r.state.variables.chronicle r.standing (length r.executor.history)
     (ap (λ (h : Held). h.replica) (sym c.self.view_is))
     (sym c.if-not-is_running.ensures)
 
@@ -27,16 +27,17 @@ pub invariant_of-self : goal.invariant_of-self
 invariant_of-self g c =
     let r = c.self.inside in
     let c' = r.state.variables.chronicle in
-    let on = goes-on c' r.standing (length r.executor) (sym c.if-not-is_running.ensures) in
+    let on = goes-on c' r.standing (length r.executor.history) (sym c.if-not-is_running.ensures) in
     let t = c.advance-taken.ensures.advances c'
-    (subst (λ (x : Replica). IsWholeOf r.keyring x r.state r.executor) on c.self.invariant.0) in (
+    (subst (λ (x : Replica). IsWholeOf r.keyring x r.state r.executor.history) on c.self.invariant.0) in (
       kept-from r.keyring (input_of c.args.input) c' c.advance-taken.result c.advance-taken.new.state
-          c.advance-taken.new.executor _ t
+          c.advance-taken.new.executor.history _ t
           (subst (λ (z : ℕ). standing_of c.standing-self-inside.result
-          (length c.advance-taken.new.executor)
-          ≡ standing_after z c.advance-taken.result (length c.advance-taken.new.executor)) c.horizon.ensures
-          (c.standing-self-inside.ensures (length c.advance-taken.new.executor))),
+          (length c.advance-taken.new.executor.history)
+          ≡ standing_after z c.advance-taken.result (length c.advance-taken.new.executor.history)) c.horizon.ensures
+          (c.standing-self-inside.ensures (length c.advance-taken.new.executor.history))),
       c.self.invariant.1,
+      c.advance-taken.ensures.room ∙ c.self.invariant.2,
     )
 
 pub returns-clause-stepped : goal.returns-clause-stepped
@@ -45,18 +46,18 @@ returns-clause-stepped g c =
     let c' = r.state.variables.chronicle in
     let new : Replica = record {
       chronicle = c.advance-taken.new.state.variables.chronicle;
-      standing = standing_of c.standing-self-inside.result (length c.advance-taken.new.executor);
+      standing = standing_of c.standing-self-inside.result (length c.advance-taken.new.executor.history);
     } in
-    let on = goes-on c' r.standing (length r.executor) (sym c.if-not-is_running.ensures) in
+    let on = goes-on c' r.standing (length r.executor.history) (sym c.if-not-is_running.ensures) in
     let t = c.advance-taken.ensures.advances c'
-    (subst (λ (x : Replica). IsWholeOf r.keyring x r.state r.executor) on c.self.invariant.0) in
+    (subst (λ (x : Replica). IsWholeOf r.keyring x r.state r.executor.history) on c.self.invariant.0) in
     let step = stepped-from r.keyring (input_of c.args.input) c.args.self.now.replica c'
-    c.advance-taken.result c.advance-taken.new.state c.advance-taken.new.executor _
+    c.advance-taken.result c.advance-taken.new.state c.advance-taken.new.executor.history _
     (ap (λ (h : Held). h.replica) (sym c.self.view_is) ∙ on) t
     (subst (λ (z : ℕ). standing_of c.standing-self-inside.result
-    (length c.advance-taken.new.executor)
-    ≡ standing_after z c.advance-taken.result (length c.advance-taken.new.executor)) c.horizon.ensures
-    (c.standing-self-inside.ensures (length c.advance-taken.new.executor))) in
+    (length c.advance-taken.new.executor.history)
+    ≡ standing_after z c.advance-taken.result (length c.advance-taken.new.executor.history)) c.horizon.ensures
+    (c.standing-self-inside.ensures (length c.advance-taken.new.executor.history))) in
     subst (λ (k : Keys). Stepped (identity_of k) (input_of c.args.input) c.args.self.now.replica
     c.into_answer.result new) (ap (λ (h : Held). h.keys) c.self.view_is)
     (subst (λ (x : Result (List SentBytes) Fault). Stepped (identity_of r.keyring) (input_of c.args.input)
@@ -66,14 +67,14 @@ pub returns-clause-grows : goal.returns-clause-grows
 returns-clause-grows g c =
     let r = c.self.inside in
     let c' = r.state.variables.chronicle in
-    let on = goes-on c' r.standing (length r.executor) (sym c.if-not-is_running.ensures) in
+    let on = goes-on c' r.standing (length r.executor.history) (sym c.if-not-is_running.ensures) in
     let t = c.advance-taken.ensures.advances c'
-    (subst (λ (x : Replica). IsWholeOf r.keyring x r.state r.executor) on c.self.invariant.0) in
+    (subst (λ (x : Replica). IsWholeOf r.keyring x r.state r.executor.history) on c.self.invariant.0) in
     subst (λ (x : Chronicle). (length c.advance-taken.new.state.variables.chronicle ≡ length x)
     ⊎ (length c.advance-taken.new.state.variables.chronicle ≡ suc (length x)))
     (ap (λ (h : Held). h.replica.chronicle) c.self.view_is)
     (grows-from r.keyring (input_of c.args.input) c' c.advance-taken.result c.advance-taken.new.state
-    c.advance-taken.new.executor t)
+    c.advance-taken.new.executor.history t)
 
 pub returns-clause-logged : goal.returns-clause-logged
 returns-clause-logged g c stays l =

@@ -1,8 +1,0 @@
--- The definitions compute, with the laws of finite maps.
-use Rattle.std.specs.FinMap.{gets as map_laws}
-use Rattle.std.specs.Fmt.{digits}
-use Rattle.worked_examples.proofs.cache.a_full_cache_takes_no_new_key.Goals as goal
-
-pub returns : goal.returns
-unfolding digits
-returns c = simp map_laws
