@@ -3,7 +3,7 @@ more. What is judged is what the parties answered, sent, accepted and executed."
 from . import frames, schedule
 from .cache import Cache
 from .frames import Kind
-from .sizes import FIRST_CLIENT, Config, Fault, Refusal, party_name
+from .sizes import FIRST_CLIENT, MOST_KEYS, Config, Fault, Refusal, party_name
 from .world import Submit, World
 
 MEMORY = 19
@@ -14,9 +14,9 @@ OF_STOPPED = {Fault.STOPPED, Fault.NOT_A_FRAME, Fault.BAD_TAG, Fault.NOT_MINE}
 class Run:
     """A schedule that was run; a refusal that ends it comes as an exception."""
 
-    def __init__(self, head, events):
+    def __init__(self, head, events, most_keys):
         f, clients, faulty = head
-        self.world = World(Config(f, clients), faulty)
+        self.world = World(Config(f, clients, most_keys=most_keys), faulty)
         self.events = events
         self.answers, self.receipts = [], []
         for event in events:
@@ -45,9 +45,9 @@ class Run:
                 yield number, event.party, answer
 
 
-def fresh_places(history):
+def fresh_places(history, most_keys):
     """place -> the text that the sequential cache replies there"""
-    cache, last, texts = Cache(), {}, {}
+    cache, last, texts = Cache(most_keys), {}, {}
     for place, (client, seq, payload) in enumerate(history, 1):
         if seq > last.get(client, 0):
             last[client] = seq
@@ -127,7 +127,7 @@ def wrong_order(run, accepted, whole, texts):
 def faults_of(run):
     """What is wrong with a run, rule by rule."""
     whole = max(run.histories.values(), key=len)
-    texts = fresh_places(whole)
+    texts = fresh_places(whole, run.world.config.most_keys)
     yield wrong_answers(run)
     yield wrong_frames(run)
     yield wrong_histories(run, whole)
@@ -148,10 +148,11 @@ def judgement(run):
     yield from ["wrong: " + fault for fault in found] or ["linear"]
 
 
-def judge(text, refused=None):
-    """The lines that are told of a schedule, where the answer of an event is taken to be a refusal of memory."""
+def judge(text, refused=None, most_keys=MOST_KEYS):
+    """The lines that are told of a schedule, where the answer of an event is taken to be a refusal of memory, and
+    caches have room for so many keys."""
     try:
-        run = Run(*schedule.read(text))
+        run = Run(*schedule.read(text), most_keys)
     except Refusal as refusal:
         return ["no run: %d" % refusal.fault]
     if refused and refused <= len(run.answers):

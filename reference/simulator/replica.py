@@ -41,8 +41,8 @@ class Executor:
     """The history, and each client's last answer. A command is fresh where its number exceeds its client's
     earlier ones in the history; only fresh ones are applied and answered."""
 
-    def __init__(self):
-        self.cache = Cache()
+    def __init__(self, most_keys):
+        self.cache = Cache(most_keys)
         self.history = []           # None once it was forgotten
         self.length = 0
         self.last = {}
@@ -104,7 +104,7 @@ class Replica:
         self.own_proposal = None
         self.pacemaker = Pacemaker(config)
         self.pending = {}           # (client, seq) -> command, in order of arrival
-        self.executor = Executor()
+        self.executor = Executor(config.most_keys)
         self.chronicle = []         # the steps that stand; None once they were forgotten
         self.stopped = False
         self.came = None            # what the step under way brings

@@ -128,6 +128,41 @@ def a_conflict():
     return run
 
 
+# What is asked of a cache with room for two keys, of which each new one takes the place of another.
+ASKED = [b"set a 0 0 1\r\nx\r\n", b"set b 0 0 1\r\nx\r\n", b"get a\r\n", b"set c 0 0 1\r\nx\r\n", b"get a b c\r\n",
+         b"add d 0 0 1\r\nx\r\n", b"gets c d\r\n", b"add c 0 0 1\r\nx\r\n", b"set e 0 0 1\r\nx\r\n", b"get c\r\n"]
+
+
+def asked_of_two_keys():
+    """Clients each ask one thing, in turn."""
+    run = Run(clients=len(ASKED), most_keys=2)
+    for client, payload in enumerate(ASKED):
+        [request] = run.do(Submit(client, payload))
+        run.relay(request, REPLICAS)
+    return run
+
+
+def in_a_full_cache():
+    """Each client accepts its reply."""
+    run = asked_of_two_keys()
+    told = {}
+    for number in ordered(run):
+        client = frames.read(run.config, run.world.record[number].data).client
+        told[client] = told.get(client, 0) + 1
+        if told[client] <= 2:
+            run.relay(number, [FIRST_CLIENT + client])
+    return run
+
+
+def as_if_nothing_made_room():
+    """The last client accepts a reply that it would get of a larger cache."""
+    run = asked_of_two_keys()
+    place = len(ASKED)
+    convince(run, place - 1, 1, place, b"VALUE c 0 1\r\nx\r\nEND\r\n")
+    ordered(run)
+    return run
+
+
 def a_frame_that_was_not_sent():
     run = Run()
     run.do(Submit(0, SET_A))
@@ -147,7 +182,7 @@ def garbage_behind_a_refusal():
 
 
 def all_cases():
-    """(name, the event that is taken to be refused or none, schedule)"""
+    """(what stands before the name: the event that is taken to be refused, or the room of caches; name, schedule)"""
     view_change = stated_runs.view_change()
     last_input = max(number for number, event in enumerate(view_change.events, 1) if event.party == 3)
     last_reply = len(view_change.events)
@@ -166,11 +201,17 @@ def all_cases():
         ("two histories", two_histories()),
         ("a replica that stopped at a conflict", a_conflict()),
     ]
-    cases = [(name, None, run.schedule()) for name, run in plain]
-    cases.append(("a frame that was not sent", None, a_frame_that_was_not_sent()))
-    cases.append(("two faulty replicas of four", None, ((1, 1, [0, 1]), [])))
-    cases.append(("garbage behind a refusal", 2, garbage_behind_a_refusal().schedule()))
-    cases.append(("a refused replica goes on", 9, view_change.schedule()))
-    cases.append(("a refused replica sends", last_input, view_change.schedule()))
-    cases.append(("a refused client does nothing wrong", last_reply, view_change.schedule()))
+    cases = [("", name, run.schedule()) for name, run in plain]
+    cases.append(("", "a frame that was not sent", a_frame_that_was_not_sent()))
+    cases.append(("", "two faulty replicas of four", ((1, 1, [0, 1]), [])))
+    cases.append(("2", "garbage behind a refusal", garbage_behind_a_refusal().schedule()))
+    cases.append(("9", "a refused replica goes on", view_change.schedule()))
+    cases.append((str(last_input), "a refused replica sends", view_change.schedule()))
+    cases.append((str(last_reply), "a refused client does nothing wrong", view_change.schedule()))
+    cases.append(("keys=2", "in a full cache", in_a_full_cache().schedule()))
+    cases.append(("keys=2", "as if nothing made room", as_if_nothing_made_room().schedule()))
+    cases.append(("", "the same with more room", in_a_full_cache().schedule()))
+    cases.append(("keys=0", "no room", ((1, 1, []), [])))
+    cases.append(("keys=65536", "the most room", ((1, 1, []), [])))
+    cases.append(("keys=65537", "more than the most room", ((1, 1, []), [])))
     return cases

@@ -5,7 +5,7 @@ from . import checks
 from .own_frames import ALL
 from .replica import Replica
 from .signing import request_of
-from .sizes import Config, Fault, Refusal, party_name
+from .sizes import MOST_KEYS, Config, Fault, Refusal, party_name
 from .stated_runs import GET_A
 from .tags import Keyring
 
@@ -73,7 +73,17 @@ def alone(replica, inputs):
     return told + "made %d, executed %d" % (len(replica.chronicle), replica.executor.length)
 
 
+def tell_alone(faults, clients, number, most_keys, inputs):
+    try:
+        config = Config(faults, clients, most_keys=most_keys)
+    except Refusal as refusal:
+        return "refused %d" % refusal.fault
+    return alone(Replica(config, number), inputs)
+
+
 def tell(line):
     faults, clients, number, shares, *inputs = line.split(" ")
-    replica = Replica(Config(int(faults), int(clients)), int(number))
-    return alone(replica, inputs) if shares == "alone" else by_shares(replica, int(shares), inputs)
+    if shares.startswith("alone"):
+        most_keys = int(shares[len("alone="):] or MOST_KEYS)
+        return tell_alone(int(faults), int(clients), int(number), most_keys, inputs)
+    return by_shares(Replica(Config(int(faults), int(clients)), int(number)), int(shares), inputs)

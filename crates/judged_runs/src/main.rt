@@ -2,7 +2,8 @@
 //! that were refused memory did nothing more. What is wanted of each was computed by an independent program.
 //!
 //! On standard input stand schedules, each behind a line `: NAME`. By `:E NAME` the answer of event E is
-//! taken to be a refusal of memory when the run is judged, whatever it was. Printed are, of each:
+//! taken to be a refusal of memory when the run is judged, whatever it was. By `:keys=N NAME` the replicas'
+//! caches have room for N keys. Printed are, of each:
 //!
 //! - `: NAME`, once the schedule was read;
 //! - `no run: N`, where the world or the run was refused with N; else
@@ -27,7 +28,8 @@ use crate::run::Run;
 use crate::told::tell;
 use anyhow::Result;
 use ids::Fault;
-use server::{Heading, Schedule, parse, world_of};
+use server::{Heading, Schedule, keyrings_of, parse};
+use std::alloc::Global;
 use std::hash::RandomState;
 use std::io::Read as _;
 use world_schedule::{Event, Outcome, World};
@@ -65,24 +67,26 @@ fn judge_events(
     }
 }
 
-/// Makes the world of a heading, and judges the run of events in it.
-fn judge_schedule(
-    rt: &HostRuntime,
+/// The world of a heading, in which caches have room for so many keys.
+fn world_of(
+    alloc: Global,
+    hasher: RandomState,
     heading: Heading,
-    events: &[Event],
-    refused: Option<usize>,
-) -> Result<()> {
-    match world_of(rt.alloc(), RandomState::new(rt)?, heading) {
-        Ok(world) => judge_events(rt, &world, events, refused),
-        Err(fault) => tell_refusal(rt, fault),
-    }
+    most_keys: usize,
+) -> Result<World, Fault> {
+    let config = heading.config()?;
+    let keyrings = keyrings_of(alloc, config)?;
+    World::with_keys(alloc, config, heading.faulty, keyrings, most_keys, hasher)
 }
 
 /// Judges the run of a case.
 fn judge(rt: &HostRuntime, case: &Case<'_>) -> Result<()> {
     let Schedule { heading, events } = parse(rt.alloc(), case.schedule)?;
     println!(rt; ": {}", case.name)?;
-    judge_schedule(rt, heading, &events, case.refused)
+    match world_of(rt.alloc(), RandomState::new(rt)?, heading, case.most_keys) {
+        Ok(world) => judge_events(rt, &world, &events, case.refused),
+        Err(fault) => tell_refusal(rt, fault),
+    }
 }
 
 fn main(rt: HostRuntime) -> Result<()> {

@@ -10,7 +10,7 @@
 //! `fill COUNT BYTES` adds so many, all as this one but for their numbers from 1, and prints how
 //! many were new; `pick CLIENT SEQ` prints how many of them a block takes on whose branch this
 //! request stands, and these, each with its length; `drop CLIENT SEQ` drops those of a client up to
-//! a number, and says how many are left. `new` begins anew. Bytes and texts are hexadecimal. A line
+//! a number, and says how many are left. `new` begins anew, and `room N` with a cache for N keys. Bytes and texts are hexadecimal. A line
 //! that is refused prints `refused` and the number of the refusal.
 
 mod pending;
@@ -118,11 +118,15 @@ pub(crate) struct Parts {
 }
 
 impl Parts {
-    /// Nothing was executed, and nothing is pending.
-    pub(crate) fn new(alloc: Global, hasher: RandomState) -> Result<Parts, Fault> {
+    /// Nothing was executed, and nothing is pending. The cache has room for so many keys.
+    pub(crate) fn new(
+        alloc: Global,
+        most_keys: usize,
+        hasher: RandomState,
+    ) -> Result<Parts, Fault> {
         Ok(Parts {
             run: Run {
-                executor: Executor::new(alloc, MOST_KEYS, hasher)?,
+                executor: Executor::new(alloc, most_keys, hasher)?,
                 entries: Entries::new(alloc),
             },
             pool: Mempool::new(alloc),
@@ -148,6 +152,14 @@ fn tell_pending(
     }
 }
 
+/// For how many keys there is to be room.
+fn room_of(digits: &str) -> Result<usize, Fault> {
+    match digits {
+        "" => Ok(MOST_KEYS),
+        _ => digits.parse().ok().ok_or(Fault::BadFields),
+    }
+}
+
 /// What is told of a line.
 fn tell(alloc: Global, config: &Config, parts: &mut Parts, line: &str) -> Result<String, Fault> {
     let (word, rest) = line.split_once(' ').unwrap_or((line, ""));
@@ -157,9 +169,10 @@ fn tell(alloc: Global, config: &Config, parts: &mut Parts, line: &str) -> Result
         "reply" => tell_reply(alloc, &run.executor, rest),
         "last" => tell_last(alloc, &run.executor, rest),
         "history" => tell_history(alloc, run),
-        "new" => {
-            *parts = Parts::new(alloc, parts.hasher)?;
-            Ok(String::from_str(alloc, "new")?)
+        "new" | "room" => {
+            let most_keys = room_of(rest)?;
+            *parts = Parts::new(alloc, most_keys, parts.hasher)?;
+            Ok(String::from_str(alloc, word)?)
         }
         _ => tell_pending(alloc, config, &mut parts.pool, [word, rest]),
     }

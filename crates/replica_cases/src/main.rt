@@ -19,7 +19,7 @@ mod tree;
 use crate::execute::Parts;
 use crate::tree::blocks::{Blocks, tree_of};
 use anyhow::{Result, bail};
-use ids::Config;
+use ids::{Config, MOST_KEYS};
 use std::alloc::Global;
 use std::hash::RandomState;
 
@@ -61,7 +61,7 @@ fn main(rt: HostRuntime) -> Result<()> {
     let config = Config::new(1, 8)?;
     let blocks = tree_of(rt.alloc(), 1)?;
     let hasher = RandomState::new(&rt)?;
-    let parts = Parts::new(rt.alloc(), hasher)?;
+    let parts = Parts::new(rt.alloc(), MOST_KEYS, hasher)?;
     let mut known = Known {
         config,
         hasher,

@@ -14,8 +14,8 @@
 //! answers as `shares` tells it: how many steps stand, and where commands were executed, how many
 //! they are and a digest of them.
 //!
-//! Where `alone` stands for SHARES, the inputs come to a replica that keeps no past and has no shares. Then
-//! an input is `beat`, `timeout` or `CHECKER:BYTES`, and at the end stand how many steps it made and how
+//! Where `alone` stands for SHARES, the inputs come to a replica that keeps no past and has no shares; by
+//! `alone=N` its cache has room for N keys, or it is told that there is no such replica. Then an input is `beat`, `timeout` or `CHECKER:BYTES`, and at the end stand how many steps it made and how
 //! many commands it executed. Or it is `requests:COUNT`: client 0's requests 1 to COUNT come, each `get a`,
 //! and how many of them are answered without a refusal is told.
 
@@ -26,10 +26,21 @@ mod stepped;
 mod told;
 
 use crate::step::stepped::{Stepped, number};
-use ids::{Config, Fault, ReplicaId};
+use ids::{Config, Fault, MOST_KEYS, ReplicaId};
 use marks::Marks;
 use std::alloc::Global;
 use std::hash::RandomState;
+
+/// For how many keys there is room, where a replica is to be alone.
+fn room_of(shares: &str) -> Result<Option<usize>, Fault> {
+    if shares == "alone" {
+        return Ok(Some(MOST_KEYS));
+    }
+    match shares.strip_prefix("alone=") {
+        Some(number) => Ok(Some(number.parse().ok().ok_or(Fault::BadFields)?)),
+        None => Ok(None),
+    }
+}
 
 /// What a replica does with its inputs, one after the other.
 fn steps(
@@ -45,8 +56,8 @@ fn steps(
     }
     let own = ReplicaId(replica);
     let mut text = String::new(alloc);
-    if shares == "alone" {
-        bare::run(alloc, hasher, config, own, inputs, &mut text)?;
+    if let Some(most_keys) = room_of(shares)? {
+        bare::run(alloc, hasher, config, own, most_keys, inputs, &mut text)?;
         return Ok(text);
     }
     let (marks, eyes) = Marks::new(alloc, config.n())?;

@@ -10,4 +10,4 @@ mod words;
 pub use lines::Heading;
 pub use schedule::{Schedule, parse};
 pub use sim_fault::SimFault;
-pub use simulation::{read_fault, simulate, world_of};
+pub use simulation::{keyrings_of, read_fault, simulate, world_of};

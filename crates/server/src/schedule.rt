@@ -32,8 +32,8 @@ pub struct Schedule {
 }
 
 impl Heading {
-    /// The sizes as a world may have them, else `BadSize`.
-    pub(crate) fn config(&self) -> Result<Config, Fault>
+    /// The sizes as a world may have them, else `BadSize`. A cache has room for `MOST_KEYS` keys.
+    pub fn config(&self) -> Result<Config, Fault>
         ensures made { IfOk result (λ config. config ≡ sizes_of self.now) }
         ensures only { IsOk result ↔ AreSizes (sizes_of self.now) }
         ensures refused { OnErr result (result ≡ Err Fault.BadSize) }

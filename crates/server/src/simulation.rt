@@ -1,6 +1,7 @@
 ghost use Rattle.std.specs.Prelude.{◌≡◌, ◌≢◌, ◌⊎◌, Err, IfSome, IfOk, IfErr, OnOk, OnErr};
 ghost use Rattle.std.specs.IoError.{error_kind};
 ghost use Rattle.server.specs.Faults.{IsWhyNoOutcome, IsWhyNoRun, IsWhyNoWorld, read_fault_of};
+ghost use Rattle.world_schedule.specs.Settings.{AreKeyrings};
 ghost use Rattle.server.specs.Simulations.{all_keys, IsWorldOf, IsTextOfRun, IsToldOf};
 
 use crate::lines::Heading;
@@ -99,10 +100,12 @@ pub fn world_of(
 }
 
 /// The keyrings of all parties, replicas first.
-fn keyrings_of(alloc: Global, config: Config) -> Result<Vec<Keyring>, Fault>
+pub fn keyrings_of(alloc: Global, config: Config) -> Result<Vec<Keyring>, Fault>
     ensures made { IfOk result (λ keyrings. keyrings.items ≡ all_keys config) }
+    ensures each { IfOk result (λ keyrings. AreKeyrings config keyrings.items) }
     ensures memory { OnErr result (result ≡ Err Fault.Memory) }
 {
+    config.holds();
     let mut keyrings = Vec::new(alloc);
     for replica in 0..config.n() {
         keyrings.push(keyring_of(alloc, config, ReplicaId(replica).into())?)?;

@@ -89,18 +89,25 @@ fn tell_all(
     Ok(())
 }
 
-/// What a replica that has made no step does with its inputs, one after the other.
+/// What a replica that has made no step, with room for so many keys, does with its inputs, one after the other.
+/// Or why there is none.
 pub(crate) fn run(
     alloc: Global,
     hasher: RandomState,
     config: Config,
     own: ReplicaId,
+    most_keys: usize,
     inputs: &str,
     text: &mut String,
 ) -> Result<(), Fault>
     requires { own < replicas config }
 {
     let ring = keyring_of(alloc, config, PartyId::from(own))?;
-    let mut replica = Replica::new(alloc, config, own, ring, hasher)?;
-    tell_all(alloc, &mut replica, inputs, text)
+    match Replica::with_keys(alloc, config, own, ring, most_keys, hasher) {
+        Ok(made) => {
+            let mut replica = made;
+            tell_all(alloc, &mut replica, inputs, text)
+        }
+        Err(fault) => Ok(write!(text, "refused {}", fault.number())?),
+    }
 }

@@ -1,6 +1,6 @@
-use Rattle.std.proofs.Common.{rules}
+use Rattle.std.proofs.Common.{◌≤◌, arith, rules}
 use Rattle.ids.specs.Sizes.{replicas}
-use Rattle.server.proofs.Keyrings.{replicas_keys, one_more_replica, one_more_client}
+use Rattle.server.proofs.Keyrings.{replicas_keys, one_more_replica, one_more_client, are_keyrings}
 use Rattle.server.proofs.simulation.keyrings_of.Goals as goal
 
 pub loop-replica-preserved : goal.loop-replica-preserved
@@ -22,3 +22,9 @@ loop-client-preserved c = rw (one_more_client c.args.config
       c.in_ok-keyring_of-2.ensures.made,
       c.into-in-loop-client.ensures,
     ))
+
+-- (to be mended by the first check)
+pub returns-clause-each : goal.returns-clause-each
+returns-clause-each c =
+    let few : replicas c.args.config ≤ 256 = omega (arith, c.holds.ensures.1) in
+    are_keyrings c.args.config few

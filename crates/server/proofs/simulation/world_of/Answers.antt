@@ -1,14 +1,6 @@
-use Rattle.std.proofs.Common.{◌≤◌, arith, refl}
-use Rattle.ids.specs.Sizes.{replicas}
-use Rattle.server.proofs.Keyrings.{are_keyrings}
+use Rattle.std.proofs.Common.{refl}
 use Rattle.server.proofs.Told.{world_made, why_no_world}
 use Rattle.server.proofs.simulation.world_of.Goals as goal
-
-pub new-requires : goal.new-requires
-new-requires c =
-    let are = c.in_ok-config.ensures.only.0 refl in
-    let few : replicas c.in_ok-config.config ≤ 256 = rw c.in_ok-config.ensures.made (omega (arith, are.1)) in
-    rw c.in_ok-keyrings.ensures.made (are_keyrings c.in_ok-config.config few)
 
 pub returns-clause-made : goal.returns-clause-made
 returns-clause-made c =
