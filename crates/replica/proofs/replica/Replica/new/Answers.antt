@@ -1,4 +1,4 @@
-use Rattle.std.proofs.Common.{◌≡◌, [], sym, ap, subst}
+use Rattle.std.proofs.Common.{◌≡◌, [], sym, ap, subst, ◌∙◌}
 use Rattle.ids.specs.Sizes.{Sizes}
 use Rattle.definitions.specs.Chronicles.{Chronicle}
 use Rattle.executor.specs.State.{Execution}
