@@ -121,7 +121,7 @@ sent-whole keys (took_block a) c k so fit =
     let z = answers-more keys.sizes.most_keys g.0 (history c) in
     let same : answers keys.sizes.most_keys (history (st ∷ c)) ≡ z.0 ++ answers keys.sizes.most_keys (history c) =
     ap (answers keys.sizes.most_keys) (sym g.1) ∙ z.1 in
-    let new = new-are (history c) (history (st ∷ c)) z.0 same in
+    let new = new-are keys.sizes.most_keys (history c) (history (st ∷ c)) z.0 same in
     let among : (x : Answer) → Among x (new_answers keys.sizes.most_keys (history c) (history (st ∷ c)))
     → Among x (answers keys.sizes.most_keys (history (st ∷ c))) =
     λ x m. subst (Among x) (sym same)
