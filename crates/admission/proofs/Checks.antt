@@ -40,8 +40,9 @@ taken wrap (Err n) = Err n
 own : (keys : Keys) → IsTrue (same_replica keys keys)
 own keys =
     and_from _ _ (eq-eqb keys.party keys.party refl)
-    (and_from _ _ (eq-eqb keys.sizes.faults keys.sizes.faults refl)
+    (and_from _ _ (and_from _ _ (eq-eqb keys.sizes.faults keys.sizes.faults refl)
     (eq-eqb keys.sizes.clients keys.sizes.clients refl))
+    (eq-eqb keys.sizes.most_keys keys.sizes.most_keys refl))
 
 -- a view that is given exactly where it passes
 given : {X : Type 0} (wrap : CheckedView X → Input) (keys : Keys) (bytes : Bor Bytes) (ok : Bool)
