@@ -1,1 +1,2 @@
 pub mod Shares
+pub mod Inboxes

@@ -1,6 +1,10 @@
 //! Where the parcels of one replica's link wait.
 
-ghost use Rattle.std.specs.Prelude.{◌<◌};
+ghost use Rattle.std.specs.Prelude.{◌≡◌, ◌-◌, ◌<◌, ◌≤◌, ℕ, false, IfNone, IfSome, MatchBool, OnErr, OnOk, OnSome, Some, map, option_map};
+ghost use Rattle.std.specs.Bool.{OnFalse};
+ghost use Rattle.std.specs.Option.{ForSome};
+ghost use Rattle.fair_queue.specs.Queues.{NoneReady, Puts, Takes, refilled};
+ghost use Rattle.fabric.specs.Inboxes.{count_of, is_over};
 
 use crate::parcel::Parcel;
 use bytes::Bytes;
@@ -40,9 +44,10 @@ struct Inside {
     waiting: usize,
     /// How many frames were handed in.
     numbered: u64,
-    /// How many workers are to be told to end, and how many parcels are to be taken before.
-    stops: usize,
-    before_stop: usize,
+    /// How many parcels are to be taken before the workers end. None while they go on.
+    before_stop: Option<usize>,
+    ghost counted: { waiting ≡ count_of queue },
+    ghost still_wait: { ForSome before_stop (λ before. before ≤ waiting) },
     /// When each sender was allowed its part again. None before that, and where the clock can't be read.
     refilled: Option<Instant>,
     /// How many workers sleep until the next time.
@@ -58,43 +63,78 @@ impl Inside {
 
     /// A parcel more waits. Whether a sleeping worker is to look at it: it may be taken, or it is the first that
     /// waits for the next time.
-    fn add(&mut self, row: Row, parcel: Parcel) -> Result<bool, Refusal> {
+    #[tactic(auto, using(crate::proofs::Counting::one_more))]
+    fn add(&mut self, row: Row, parcel: Parcel) -> Result<bool, Refusal>
+        ensures put { OnOk result ((size : ℕ) × Puts self.old.queue row.number size
+            (record { is_request = row.is_request; parcel = parcel }) self.new.queue) }
+        ensures unchanged { OnErr result (self.new ≡ self.old) }
+    {
         if row.number >= self.queue.rows() {
             return Err(Refusal::Full);
         }
+        let Some(waiting) = self.waiting.checked_add(1) else {
+            return Err(Refusal::Full);
+        };
         let (number, size, is_request) = (row.number, parcel.size(), row.is_request);
         self.queue.put(number, size, Handed { is_request, parcel })?;
-        self.waiting = self.waiting.saturating_add(1);
-        Ok(self.waiting == 1 || self.queue.is_ready_at(number))
+        self.waiting = waiting;
+        Ok(waiting == 1 || self.queue.is_ready_at(number))
     }
 
-    /// Takes the parcel whose turn it is; and a stop once all was taken that was handed in before it.
-    fn next(&mut self) -> Option<Handed> {
-        if self.stops > 0 && self.before_stop == 0 {
-            self.stops -= 1;
+    /// Whether who asks next is told to end.
+    fn is_over(&self) -> bool
+        ensures { result ≡ is_over self.now.before_stop }
+    {
+        self.before_stop == Some(0)
+    }
+
+    /// Takes the parcel whose turn it is. Once all was taken that was handed in before the workers were told to
+    /// end, it is a stop, for each worker that asks.
+    #[tactic(auto, using(crate::proofs::Counting::one_less))]
+    fn next(&mut self) -> Option<Handed>
+        ensures taken { MatchBool (is_over self.old.before_stop)
+            ((result ≡ Some (record { is_request = false; parcel = Parcel.Stop })) × (self.new ≡ self.old))
+            (IfSome result (λ handed. Takes self.old.queue handed self.new.queue)) }
+        ensures none { IfNone result ((self.new ≡ self.old) × NoneReady self.old.queue) }
+        ensures left { OnSome result
+            (self.new.before_stop ≡ option_map (λ before. before - 1) self.old.before_stop) }
+    {
+        if self.is_over() {
             return Some(Handed {
                 is_request: false,
                 parcel: Parcel::Stop,
             });
         }
         let handed = self.queue.take()?;
-        self.waiting = self.waiting.saturating_sub(1);
-        self.before_stop = self.before_stop.saturating_sub(1);
+        self.waiting -= 1;
+        self.before_stop = self.before_stop.map(|before| before.saturating_sub(1));
         Some(handed)
     }
 
+    /// The workers are to end once all was taken that waits now.
+    fn stop(&mut self)
+        ensures before { self.new.before_stop ≡ Some (count_of self.old.queue) }
+        ensures queue { self.new.queue ≡ self.old.queue }
+    {
+        self.before_stop = Some(self.waiting);
+    }
+
     /// Whether something can be taken.
-    fn has_next(&self) -> bool {
-        (self.stops > 0 && self.before_stop == 0) || self.queue.is_ready()
+    fn has_next(&self) -> bool
+        ensures { OnFalse result ((is_over self.now.before_stop ≡ false) × NoneReady self.now.queue) }
+    {
+        self.is_over() || self.queue.is_ready()
     }
 
     /// Whether another worker has something to do or to wait for.
     fn leaves_more(&self) -> bool {
-        self.stops > 0 || (self.waiting > 0 && self.timed == 0)
+        self.before_stop.is_some() || (self.waiting > 0 && self.timed == 0)
     }
 
     /// Each sender is allowed its part again.
-    fn refill(&mut self, now: Option<Instant>) {
+    fn refill(&mut self, now: Option<Instant>)
+        ensures { self.new.queue.rows ≡ map refilled self.old.queue.rows }
+    {
         self.queue.refill();
         self.refilled = now;
     }
@@ -130,8 +170,7 @@ impl Inbox {
                 queue,
                 waiting: 0,
                 numbered: 0,
-                stops: 0,
-                before_stop: 0,
+                before_stop: None,
                 refilled: None,
                 timed: 0,
             }),
@@ -174,17 +213,19 @@ impl Inbox {
         Ok(())
     }
 
-    /// So many workers end, once all was taken that was handed in before. It takes no memory.
-    pub(crate) fn stop<R: Wait>(&self, rt: &R, workers: usize) {
-        let mut inside = self.inside.lock(rt);
-        inside.stops = inside.stops.saturating_add(workers);
-        inside.before_stop = inside.waiting;
-        drop(inside);
+    /// All workers end, however many there are, once all was taken that was handed in before. It takes no memory.
+    pub(crate) fn stop<R: Wait>(&self, rt: &R) {
+        self.inside.lock(rt).stop();
         self.bell.notify_all();
     }
 
+    /// How many parcels wait.
+    pub fn waiting<R: Wait>(&self, rt: &R) -> usize {
+        self.inside.lock(rt).waiting
+    }
+
     /// Takes a parcel, where one may be taken now.
-    pub fn try_recv<R: Wait>(&self, rt: &R) -> Option<Parcel> {
+    fn try_recv<R: Wait>(&self, rt: &R) -> Option<Parcel> {
         let mut inside = self.inside.lock(rt);
         let Handed { is_request, parcel } = inside.next()?;
         let leaves_more = inside.leaves_more();

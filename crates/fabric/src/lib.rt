@@ -10,7 +10,7 @@ mod waiting;
 mod worker;
 
 pub use inbox::Inbox;
-pub use links::{Ends, Links, WORKERS};
+pub use links::{Ends, Links};
 pub use parcel::Parcel;
 pub use waiting::WaitingRoom;
 pub use worker::{Outgoing, Post};

@@ -1,6 +1,6 @@
 //! The links of all parties: what goes to whom.
 
-ghost use Rattle.std.specs.Prelude.{◌≡◌, ◌⊎◌, IfOk, OnErr, vec_len};
+ghost use Rattle.std.specs.Prelude.{◌≡◌, ◌+◌, ◌<◌, ◌≤◌, ◌⊎◌, IfOk, OnErr, false, true, vec_len};
 ghost use Rattle.ids.specs.Sizes.{replicas};
 
 use crate::inbox::{Inbox, Row};
@@ -15,9 +15,6 @@ use std::marker::Model;
 use std::sync::atomic::AtomicU64;
 use std::sync::atomic::Ordering::SeqCst;
 use std::sync::{Arc, Wait};
-
-/// How many workers take from each replica's link.
-pub const WORKERS: usize = 2;
 
 /// In how many rows clients' requests wait. A frame comes without its client's number, so they are dealt out: as
 /// many requests get their turn between two frames of a replica as go into one block.
@@ -188,7 +185,9 @@ impl Links {
     }
 
     /// The row of a replica's frames.
-    fn replica_row(&self, from: ReplicaId) -> Row {
+    fn replica_row(&self, from: ReplicaId) -> Row
+        ensures { result ≡ record { number = from; is_request = false } }
+    {
         Row {
             number: usize::from(from.0),
             is_request: false,
@@ -196,7 +195,9 @@ impl Links {
     }
 
     /// The row of what a replica's clock tells it.
-    fn clock_row(&self) -> Row {
+    fn clock_row(&self) -> Row
+        ensures { result ≡ record { number = replicas self.now; is_request = false } }
+    {
         Row {
             number: usize::from(self.config.n()),
             is_request: false,
@@ -204,7 +205,11 @@ impl Links {
     }
 
     /// The row of the next request.
-    fn client_row(&self) -> Row {
+    fn client_row(&self) -> Row
+        ensures above { replicas self.now < result.number }
+        ensures most { result.number ≤ replicas self.now + CLIENT_ROWS }
+        ensures request { result.is_request ≡ true }
+    {
         let place = self.dealt.fetch_add(1, SeqCst) as usize % CLIENT_ROWS;
         Row {
             number: usize::from(self.config.n()) + 1 + place,
@@ -343,13 +348,14 @@ impl Links {
         self.hand_in(rt, to, Parcel::Prune(height.0))
     }
 
-    /// Tells a replica's workers to end, once they have taken what was handed in before. It takes no memory.
+    /// Tells a replica's workers to end, all that there are, once they have taken what was handed in before. It
+    /// takes no memory.
     pub fn stop<R: Wait>(&self, rt: &R, to: ReplicaId) -> Result<(), Fault>
         ensures { OnErr result (result ≡ Err Fault.NoSuchParty) }
     {
         match self.replicas.get(usize::from(to.0)) {
             Some(inbox) => {
-                inbox.stop(rt, WORKERS);
+                inbox.stop(rt);
                 Ok(())
             }
             None => Err(Fault::NoSuchParty),
