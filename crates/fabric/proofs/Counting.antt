@@ -1,5 +1,5 @@
 -- How many values wait after one was put or taken.
-use Rattle.std.proofs.Common.{◌≡◌, ◌+◌, ℕ, length, ◌++◌, [], ◌∷◌, List, set, ap, get_or, arith, subst, sym, ◌∙◌, add-one}
+use Rattle.std.proofs.Common.{◌≡◌, ◌+◌, ℕ, length, ◌++◌, [], ◌∷◌, List, set, ap, arith, subst, ◌∙◌, add-one}
 use Rattle.std.specs.Prelude.{sum_by, slice_get, Some}
 use Rattle.std.proofs.lemmas.List.Sums.{sum_by-set}
 use Rattle.std.proofs.lemmas.List.{length-append}

@@ -1,10 +1,13 @@
 //! Where the parcels of one replica's link wait.
 
-ghost use Rattle.std.specs.Prelude.{◌≡◌, ◌-◌, ◌<◌, ◌≤◌, ℕ, false, IfNone, IfSome, MatchBool, OnErr, OnOk, OnSome, Some, map, option_map};
-ghost use Rattle.std.specs.Bool.{OnFalse};
+ghost use Rattle.std.specs.Prelude.{◌≡◌, ◌+◌, ◌-◌, ◌^◌, ◌<◌, ◌≤◌, ◌⊎◌, ◌==◌, ◌&&◌, ◌||◌, ℕ, false, true, is_some, length};
+ghost use Rattle.std.specs.Prelude.{IfNone, IfOk, IfSome, MatchBool, OnErr, OnOk, OnSome, Some, map, min, nat_lt, option_map};
+ghost use Rattle.std.specs.Bool.{OnFalse, OnTrue};
 ghost use Rattle.std.specs.Option.{ForSome};
-ghost use Rattle.fair_queue.specs.Queues.{NoneReady, Puts, Takes, refilled};
+ghost use Rattle.fair_queue.specs.Queues.{IsNext, NoneReady, Puts, Takes, ready_at, refilled, waiting_in};
+ghost use Rattle.fair_queue.specs.declared.row.TheConstants.{MOST_SIZE};
 ghost use Rattle.fabric.specs.Inboxes.{count_of, is_over};
+ghost use Rattle.fabric.specs.Parcels.{size_of};
 
 use crate::parcel::Parcel;
 use bytes::Bytes;
@@ -56,7 +59,11 @@ struct Inside {
 
 impl Inside {
     /// The number of the next frame.
-    fn next_number(&mut self) -> u64 {
+    fn next_number(&mut self) -> u64
+        ensures number { result ≡ min (self.old.numbered + 1) (2 ^ 64 - 1) }
+        ensures kept { self.new.numbered ≡ result }
+        ensures queue { self.new.queue ≡ self.old.queue }
+    {
         self.numbered = self.numbered.saturating_add(1);
         self.numbered
     }
@@ -65,9 +72,14 @@ impl Inside {
     /// waits for the next time.
     #[tactic(auto, using(crate::proofs::Counting::one_more))]
     fn add(&mut self, row: Row, parcel: Parcel) -> Result<bool, Refusal>
-        ensures put { OnOk result ((size : ℕ) × Puts self.old.queue row.number size
+        ensures put { OnOk result (Puts self.old.queue row.number (size_of parcel)
             (record { is_request = row.is_request; parcel = parcel }) self.new.queue) }
+        ensures wakes { IfOk result (λ wakes.
+            wakes ≡ (count_of self.old.queue == 0 || ready_at self.new.queue.rows row.number)) }
         ensures unchanged { OnErr result (self.new ≡ self.old) }
+        ensures room { row.number < length self.old.queue.rows → count_of self.old.queue < 2 ^ 64 - 1
+            → waiting_in self.old.queue.rows row.number + size_of parcel ≤ MOST_SIZE
+            → OnErr result (result ≡ Err Refusal.Memory) }
     {
         if row.number >= self.queue.rows() {
             return Err(Refusal::Full);
@@ -121,13 +133,18 @@ impl Inside {
 
     /// Whether something can be taken.
     fn has_next(&self) -> bool
-        ensures { OnFalse result ((is_over self.now.before_stop ≡ false) × NoneReady self.now.queue) }
+        ensures some { OnTrue result ((is_over self.now.before_stop ≡ true)
+            ⊎ ((number : ℕ) × (place : ℕ) × IsNext self.now.queue number place)) }
+        ensures none { OnFalse result ((is_over self.now.before_stop ≡ false) × NoneReady self.now.queue) }
     {
         self.is_over() || self.queue.is_ready()
     }
 
     /// Whether another worker has something to do or to wait for.
-    fn leaves_more(&self) -> bool {
+    fn leaves_more(&self) -> bool
+        ensures { result ≡ (is_some self.now.before_stop
+            || (nat_lt 0 (count_of self.now.queue) && self.now.timed == 0)) }
+    {
         self.before_stop.is_some() || (self.waiting > 0 && self.timed == 0)
     }
 

@@ -1,5 +1,7 @@
 //! What comes to a replica over its link.
 
+ghost use Rattle.std.specs.Prelude.{◌≡◌};
+
 use bytes::Bytes;
 
 /// How much a parcel counts beside its bytes: for the memory that it takes where it waits.
@@ -26,10 +28,14 @@ pub enum Parcel {
 }
 
 impl Parcel {
+    ghost use Rattle.fabric.specs.Parcels.{size_of};
+
     /// How much it takes of its sender's share.
-    pub(crate) fn size(&self) -> usize {
+    pub(crate) fn size(&self) -> usize
+        ensures { result ≡ size_of self.now }
+    {
         match self {
-            Parcel::Frame { bytes, .. } => bytes.len().saturating_add(PARCEL_SIZE),
+            Parcel::Frame { bytes, .. } => bytes.len() + PARCEL_SIZE,
             _ => PARCEL_SIZE,
         }
     }
