@@ -5,11 +5,9 @@ ghost use Rattle.ids.specs.declared.fault.Fault.TheVariants.{Memory, NoSuchParty
 
 use crate::link::ClientLink;
 use crate::roll::Roll;
-use bytes::Bytes;
 use client_accept::Session;
 use client_service::ClientService;
-use crossbeam_channel::Receiver;
-use fabric::Links;
+use fabric::{ClientEnd, Links};
 use ids::{ClientId, Fault};
 use key_file::PairKeys;
 use std::sync::{Arc, Wait};
@@ -26,7 +24,7 @@ fn desk<R: Wait + Clock + AllocGlobal + Clone + Drop>(
     roll: &Arc<Roll>,
     keys: &PairKeys,
     client: ClientId,
-    frames: Receiver<Bytes>,
+    frames: ClientEnd,
 ) -> Result<Desk<R>, Fault>
     ensures refused { OnErr result ((result ≡ Err Memory) ⊎ (result ≡ Err NoSuchParty)) }
 {
@@ -44,7 +42,7 @@ pub(crate) fn desks<R: Wait + Clock + AllocGlobal + Clone + Drop>(
     links: &Arc<Links>,
     roll: &Arc<Roll>,
     keys: &PairKeys,
-    ends: Vec<Receiver<Bytes>>,
+    ends: Vec<ClientEnd>,
 ) -> Result<Seats<Desk<R>>, Fault>
     ensures refused { OnErr result ((result ≡ Err Memory) ⊎ (result ≡ Err NoSuchParty)) }
 {

@@ -5,8 +5,7 @@ ghost use Rattle.std.specs.Prelude.{⊤};
 use crate::roll::Roll;
 use bytes::Bytes;
 use client_service::Link;
-use crossbeam_channel::Receiver;
-use fabric::Links;
+use fabric::{ClientEnd, Links};
 use std::sync::{Arc, Wait};
 use std::thread;
 use std::time::{Clock, Duration, Instant};
@@ -26,7 +25,7 @@ pub(crate) struct ClientLink<R: Wait + Clock + AllocGlobal> {
     rt: R,
     links: Arc<Links>,
     roll: Arc<Roll>,
-    frames: Receiver<Bytes>,
+    frames: ClientEnd,
     /// Until when the client waits. None before its first request, and where the clock can't be read.
     until: Option<Instant>,
 }
@@ -37,7 +36,7 @@ impl<R: Wait + Clock + AllocGlobal> ClientLink<R> {
         rt: R,
         links: Arc<Links>,
         roll: Arc<Roll>,
-        frames: Receiver<Bytes>,
+        frames: ClientEnd,
     ) -> ClientLink<R> {
         ClientLink {
             rt,
@@ -84,8 +83,8 @@ impl<R: Wait + Clock + AllocGlobal> Link for ClientLink<R> {
             return false;
         };
         match self.frames.recv_deadline(&self.rt, until) {
-            Ok(bytes) => frame.extend_from_slice(bytes.as_slice()).is_ok(),
-            Err(_) => false,
+            Some(bytes) => frame.extend_from_slice(bytes.as_slice()).is_ok(),
+            None => false,
         }
     }
 }

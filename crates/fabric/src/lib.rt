@@ -2,6 +2,7 @@
 //! frames to replicas.
 #![tactic(auto)]
 
+mod client_end;
 mod inbox;
 mod links;
 mod parcel;
@@ -9,6 +10,7 @@ mod queue;
 mod waiting;
 mod worker;
 
+pub use client_end::ClientEnd;
 pub use inbox::Inbox;
 pub use links::{Ends, Links};
 pub use parcel::Parcel;

@@ -3,10 +3,10 @@
 ghost use Rattle.std.specs.Prelude.{◌≡◌, ◌+◌, ◌<◌, ◌≤◌, ◌⊎◌, IfOk, OnErr, false, true, vec_len};
 ghost use Rattle.ids.specs.Sizes.{replicas};
 
+use crate::client_end::{ClientEnd, ClientStart, NotTold, client_link};
 use crate::inbox::{Inbox, Row};
 use crate::parcel::Parcel;
 use bytes::Bytes;
-use crossbeam_channel::{Receiver, SendError, Sender};
 use fair_queue::Refusal;
 use ids::{ClientId, Config, Fault, Height, MOST_COMMANDS, ReplicaId};
 use signed_frames::To;
@@ -23,13 +23,13 @@ const CLIENT_ROWS: usize = MOST_COMMANDS;
 /// The ends at which parcels are handed in, of the links of all parties. Threads share them by reference.
 ///
 /// At a replica's link each replica has a share of its own, and so have the replica's clock and the clients; what
-/// doesn't fit in its sender's share is lost, as on any network, and counted. A client's link takes any number of
-/// frames. A call waits for nobody but those that use the same link just then.
+/// doesn't fit in its sender's share is lost, as on any network, and counted. At a client's link each replica has a
+/// share, too. A call waits for nobody but those that use the same link just then.
 #[derive(Drop)]
 pub struct Links {
     config: Config,
     replicas: Vec<Arc<Inbox>>,
-    clients: Vec<Sender<Bytes>>,
+    clients: Vec<ClientStart>,
     /// How many frames of clients were dealt out to rows.
     dealt: AtomicU64,
     /// How many frames couldn't be handed in.
@@ -48,12 +48,12 @@ impl Model for Links {
 
 /// The ends at which parcels come out, by number of party.
 ///
-/// A replica's workers share the one of their replica. A client waits at its own with `recv`, or
-/// with `recv_timeout` for at most some time; once `Links` is dropped and all is taken, these fail.
+/// A replica's workers share the one of their replica. A client waits at its own until a moment at most; once
+/// `Links` is dropped and all is taken, nothing comes out.
 #[derive(Drop)]
 pub struct Ends {
     pub replicas: Vec<Arc<Inbox>>,
-    pub clients: Vec<Receiver<Bytes>>,
+    pub clients: Vec<ClientEnd>,
 }
 
 /// The inboxes of all replicas, twice.
@@ -88,7 +88,7 @@ fn counters(alloc: Global, count: usize) -> Result<Vec<AtomicU64>, Fault>
 fn client_links(
     alloc: Global,
     config: Config,
-) -> Result<(Vec<Sender<Bytes>>, Vec<Receiver<Bytes>>), Fault>
+) -> Result<(Vec<ClientStart>, Vec<ClientEnd>), Fault>
     ensures links { IfOk result (λ r. (vec_len r.0 ≡ config.clients) × (vec_len r.1 ≡ config.clients)) }
     ensures memory { OnErr result (result ≡ Err Fault.Memory) }
 {
@@ -96,25 +96,15 @@ fn client_links(
     let mut links = Vec::with_capacity(alloc, count)?;
     let mut ends = Vec::with_capacity(alloc, count)?;
     for _ in 0..count {
-        let (frames, end) = crossbeam_channel::unbounded(alloc)?;
-        links.push_reserved(frames);
+        let counters = counters(alloc, usize::from(config.n()))?;
+        let (start, end) = client_link(alloc, counters)?;
+        links.push_reserved(start);
         ends.push_reserved(end);
     }
     Ok((links, ends))
 }
 
-/// What a send came to.
-fn sent<T: Drop>(answer: Result<(), SendError<T>>) -> Result<(), Fault>
-    ensures { OnErr result ((result ≡ Err Fault.Memory) ⊎ (result ≡ Err Fault.NoSuchParty)) }
-{
-    match answer {
-        Ok(()) => Ok(()),
-        Err(SendError::OutOfMemory(_)) => Err(Fault::Memory),
-        Err(SendError::Disconnected(_)) => Err(Fault::NoSuchParty),
-    }
-}
-
-/// Each call refuses with `NoSuchParty` where there is no such party, or all ends of a client's link were dropped,
+/// Each call refuses with `NoSuchParty` where there is no such party, or the end of a client's link was dropped,
 /// and with `Memory` where memory was refused; what was to be handed in is then lost, as on any
 /// network.
 impl Links {
@@ -156,7 +146,7 @@ impl Links {
         self.lost.load(SeqCst)
     }
 
-    /// How many of them didn't fit in the share of this replica at some link. 0 where there is no such replica.
+    /// How many of them didn't fit in the share of this replica at some link, a client's too. 0 where there is no such replica.
     pub fn turned_away(&self, from: ReplicaId) -> u64 {
         match self.turned_away.get(usize::from(from.0)) {
             Some(count) => count.load(SeqCst),
@@ -169,7 +159,7 @@ impl Links {
         self.lost.fetch_add(1, SeqCst);
     }
 
-    /// A frame didn't fit in its row.
+    /// A frame of this row didn't fit in its share.
     fn turn_away(&self, row: Row) {
         self.lose();
         if let Some(count) = self.turned_away.get(row.number) {
@@ -313,17 +303,31 @@ impl Links {
         match to {
             To::All => self.share_with_all(rt, row, frame),
             To::Replica(replica) => self.hand_in_frame(rt, row, replica, frame),
-            To::Client(client) => self.to_client(rt, client, frame),
+            To::Client(client) => self.to_client(rt, from, client, frame),
         }
     }
 
-    /// Hands in a frame at a client's link.
-    pub fn to_client<R: Wait>(&self, rt: &R, to: ClientId, frame: Bytes) -> Result<(), Fault>
+    /// Hands in a frame of a replica at a client's link.
+    fn to_client<R: Wait>(
+        &self,
+        rt: &R,
+        from: ReplicaId,
+        to: ClientId,
+        frame: Bytes,
+    ) -> Result<(), Fault>
         ensures { OnErr result ((result ≡ Err Fault.Memory) ⊎ (result ≡ Err Fault.NoSuchParty)) }
     {
-        match self.clients.get(usize::from(to.0)) {
-            Some(link) => sent(link.send(rt, frame)),
-            None => Err(Fault::NoSuchParty),
+        let Some(link) = self.clients.get(usize::from(to.0)) else {
+            return Err(Fault::NoSuchParty);
+        };
+        match link.hand_in(rt, from, frame) {
+            Ok(()) => Ok(()),
+            Err(NotTold::Memory) => Err(Fault::Memory),
+            Err(NotTold::Closed) => Err(Fault::NoSuchParty),
+            Err(NotTold::Full) => {
+                self.turn_away(self.replica_row(from));
+                Ok(())
+            }
         }
     }
 

@@ -5,8 +5,7 @@ use crate::onlooker::Onlooker;
 use crate::seen::Seen;
 use crate::stations::{Station, stations};
 use bytes::Bytes;
-use crossbeam_channel::Receiver;
-use fabric::{Ends, Inbox, Links, Parcel, Post};
+use fabric::{ClientEnd, Ends, Inbox, Links, Parcel, Post};
 use ids::{Config, Fault, ReplicaId};
 use locked_replica::Share;
 use marks::Marks;
@@ -221,12 +220,12 @@ fn left_at<R: Wait>(rt: &R, end: &Inbox) -> usize {
 }
 
 /// How many frames came to a client.
-fn came_to<R: Wait>(rt: &R, end: &Receiver<Bytes>) -> usize {
+fn came_to<R: Wait>(rt: &R, end: &ClientEnd) -> usize {
     let mut came = 0usize;
     for _ in 0..10_000 {
         match end.try_recv(rt) {
-            Ok(_) => came = came.wrapping_add(1),
-            Err(_) => break,
+            Some(_) => came = came.wrapping_add(1),
+            None => break,
         }
     }
     came
