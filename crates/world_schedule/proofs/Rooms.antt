@@ -16,7 +16,7 @@ index-map f (x ∷ xs) (suc i) d = index-map f xs i d
 pub keyrings-with_room : (sizes : Sizes) (keyrings : List Keys) (most_keys : ℕ) → AreKeyrings sizes keyrings
     → AreKeyrings (record sizes { most_keys = most_keys }) (map (with_room most_keys) keyrings)
 keyrings-with_room sizes keyrings most_keys a = record {
-  count = length-map (with_room most_keys) keyrings ∙ a.count;
+  count = length-map keyrings (with_room most_keys) ∙ a.count;
   each = λ p h. (let k = a.each p h in
       subst (λ (x : Keys). IsKeyringOf (record sizes { most_keys = most_keys }) p x)
       (sym (index-map (with_room most_keys) keyrings (place_of sizes p) (no_keys sizes p)))
