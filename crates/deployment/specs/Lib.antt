@@ -1,2 +1,2 @@
 pub mod Ends
-pub mod Crews
+pub mod Workers

@@ -3,7 +3,6 @@
 #![tactic(auto)]
 
 mod bounded;
-mod crew;
 mod desk;
 mod ending;
 mod floods;
@@ -16,7 +15,8 @@ mod running;
 mod stations;
 mod terms;
 mod watching;
+mod worker;
 
 pub use ending::EndAudit;
 pub use running::{Ended, run};
-pub use terms::Terms;
+pub use terms::{Terms, Workers};

@@ -3,13 +3,13 @@
 ghost use Rattle.std.specs.Prelude.{◌≡◌, IfOk, IfErr, None};
 ghost use Rattle.deployment.specs.Ends.{IsEndAudit, IsWhole, IsNoRun};
 
-use crate::crew::Crew;
 use crate::desk::{Desk, desks};
 use crate::ending::{EndAudit, judge_by_terms};
 use crate::roll::Roll;
-use crate::stations::{Station, man, stations, watch};
+use crate::stations::{Station, run_worker, stations, watch};
 use crate::terms::Terms;
 use crate::watching::Board;
+use crate::worker::Worker;
 use fabric::{Ends, Links};
 use ids::{Fault, ReplicaId};
 use key_file::PairKeys;
@@ -20,7 +20,7 @@ use std::sync::atomic::AtomicBool;
 use std::sync::atomic::Ordering::SeqCst;
 use std::sync::{Arc, Wait};
 use std::thread;
-use std::thread::Threads;
+use std::thread::{Scope, Threads};
 use std::time::Clock;
 use tcp_front::{Closer, SharedSeats, front};
 
@@ -67,11 +67,28 @@ impl<'a, S: Drop> Bell<'a, S> {
     }
 }
 
-/// Mans the stations, and serves so many connections. All threads have ended when it returns.
+/// Starts a thread for each of a station's workers. Whether all could be had.
+fn start_workers<'s, E, R: Wait + Clock + Sync + AllocGlobal>(
+    rt: &'s R,
+    scope: &Scope<'s, E>,
+    station: &'s Station<'_>,
+    links: &'s Links,
+    workers: Vec<Worker>,
+) -> bool {
+    let mut all_started = true;
+    for worker in workers {
+        let started = scope.spawn(move || run_worker(rt, station, links, worker));
+        all_started = all_started && started.is_ok();
+    }
+    all_started
+}
+
+/// Starts workers and clock of each station, and serves so many connections. All threads have ended when it
+/// returns.
 fn serve_at<R: Threads + Wait + Clock + Sync + Send + AllocGlobal + Log + Clone + Drop>(
     rt: &R,
     stations: &[Station<'_>],
-    crews: Vec<Crew>,
+    workers: Vec<Vec<Worker>>,
     bell: &Bell<'_, Desk<R>>,
     listener: &TcpListener,
     terms: Terms,
@@ -88,17 +105,15 @@ fn serve_at<R: Threads + Wait + Clock + Sync + Send + AllocGlobal + Log + Clone 
         seats,
     };
     let served = thread::scope(thread::scope_env(), rt, |scope| {
-        let mut is_manned = true;
-        for (station, crew) in stations.iter().zip(crews) {
-            let Crew { one, two } = crew;
-            let one = scope.spawn(move || man(rt, station, links, one));
-            let two = scope.spawn(move || man(rt, station, links, two));
+        let mut all_started = true;
+        for (station, workers) in stations.iter().zip(workers) {
+            let worked = start_workers(rt, scope, station, links, workers);
             let timed = scope.spawn(move || bell.keep(rt, station, stop));
-            is_manned = is_manned && one.is_ok() && two.is_ok() && timed.is_ok();
+            all_started = all_started && worked && timed.is_ok();
         }
         let watched = scope.spawn(move || board.keep(rt, terms.watch, stop));
-        is_manned = is_manned && watched.is_ok();
-        let served = if is_manned {
+        all_started = all_started && watched.is_ok();
+        let served = if all_started {
             front(rt, listener, seats, terms.most)
         } else {
             Err(Fault::Memory)
@@ -140,7 +155,7 @@ pub fn run<R: Threads + Wait + Clock + Sync + Send + AllocGlobal + Log + Clone +
         return Err(Fault::NotAll);
     };
     let roll = Arc::new(alloc, Roll::new(config))?;
-    let (stations, crews) = stations(alloc, keys, &marks, eyes, replicas, &terms)?;
+    let (stations, workers) = stations(alloc, keys, &marks, eyes, replicas, &terms)?;
     let links = Arc::new(alloc, links)?;
     let room = Vec::with_capacity(alloc, usize::from(config.n()))?;
     let seats = desks(rt, &links, &roll, keys, clients)?;
@@ -150,7 +165,7 @@ pub fn run<R: Threads + Wait + Clock + Sync + Send + AllocGlobal + Log + Clone +
         seats: seats.shared(),
         closer: &closer,
     };
-    let served = serve_at(rt, stations.as_slice(), crews, &bell, listener, terms);
+    let served = serve_at(rt, stations.as_slice(), workers, &bell, listener, terms);
     let audit = judge_by_terms(stations, terms, room)?;
     Ok(Ended { served, audit })
 }

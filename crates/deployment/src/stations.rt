@@ -1,19 +1,19 @@
 //! Replicas, each under its lock, and what their workers start with.
 
-ghost use Rattle.std.specs.Prelude.{◌≡◌, ◌<◌, ◌==◌, ◌⊎◌, map, Err, IfOk, OnErr, None, if◌then◌else◌};
+ghost use Rattle.std.specs.Prelude.{◌≡◌, ◌<◌, ◌==◌, ◌⊎◌, map, All, Err, IfOk, OnErr, None, if◌then◌else◌, vec_len};
 ghost use Rattle.ids.specs.declared.fault.Fault.TheVariants.{Memory, NoSuchParty};
-ghost use Rattle.deployment.specs.Crews.{LiesBy, lie_of};
+ghost use Rattle.deployment.specs.Workers.{AllLieBy, lie_of, worker_count};
 ghost use Rattle.std.specs.List.{range_with_len};
 ghost use Rattle.ids.specs.Sizes.{replicas};
 ghost use Rattle.marks.specs.Eyes.{first_eye};
 
 use crate::bounded::{Bounded, stopped};
-use crate::crew::{Crew, Worker};
 use crate::guarded::Guarded;
 use crate::laggards::Reach;
 use crate::lying::{LyingOut, Tongue};
 use crate::terms::Terms;
 use crate::watching::Progress;
+use crate::worker::Worker;
 use clock::{Pulse, Watched, keep_time};
 use doorkeeper::Doorkeeper;
 use fabric::{Inbox, Links, Post, WaitingRoom};
@@ -24,6 +24,7 @@ use locked_replica::Kept;
 use marks::{Eye, Marks};
 use replica::Archived;
 use std::alloc::Global;
+use std::hash::RandomState;
 use std::sync::atomic::AtomicBool;
 use std::sync::{Arc, Mutex, Wait};
 use std::time::Clock;
@@ -97,7 +98,7 @@ impl<'a> Watched for Station<'a> {
 }
 
 /// Works at a station until it is told to stop.
-pub(crate) fn man<R: Wait + Clock + AllocGlobal>(
+pub(crate) fn run_worker<R: Wait + Clock + AllocGlobal>(
     rt: &R,
     station: &Station<'_>,
     links: &Links,
@@ -157,7 +158,7 @@ fn make_tongue(
 }
 
 /// A worker of a kept replica.
-fn hire(
+fn new_worker(
     alloc: Global,
     keys: &PairKeys,
     kept: &mut Kept<'_>,
@@ -200,24 +201,29 @@ fn new_kept<'a>(
     Ok(Kept::new(alloc, replica, eye, marks))
 }
 
-/// The crew of a kept replica.
-fn hire_crew(
+/// The workers of a kept replica: as many as the terms say.
+fn new_workers(
     alloc: Global,
     keys: &PairKeys,
     kept: &mut Kept<'_>,
     number: ReplicaId,
-    liar: Option<Liar>,
-) -> Result<Crew, Fault>
+    terms: &Terms,
+) -> Result<Vec<Worker>, Fault>
     requires { number < replicas keys.now.sizes }
-    ensures lies { IfOk result (LiesBy liar) }
+    ensures count { IfOk result (λ workers. vec_len workers ≡ worker_count terms.now.workers) }
+    ensures lies { IfOk result
+        (λ workers. AllLieBy (if number == 0 then terms.now.liar else None) workers.items) }
     ensures memory { OnErr result (result ≡ Err Memory) }
 {
-    let one = hire(alloc, keys, kept, number, liar)?;
-    let two = hire(alloc, keys, kept, number, liar)?;
-    Ok(Crew { one, two })
+    let (count, liar) = (terms.workers.count(), terms.liar_of(number));
+    let mut workers = Vec::with_capacity(alloc, count)?;
+    for _ in 0..count {
+        workers.push_reserved(new_worker(alloc, keys, kept, number, liar)?);
+    }
+    Ok(workers)
 }
 
-/// The station of a replica that has made no step, and its crew.
+/// The station of a replica that has made no step, and its workers.
 fn build_station<'a>(
     alloc: Global,
     keys: &PairKeys,
@@ -226,15 +232,17 @@ fn build_station<'a>(
     marks: &'a Marks,
     inbox: Arc<Inbox>,
     terms: &Terms,
-) -> Result<(Station<'a>, Crew), Fault>
+) -> Result<(Station<'a>, Vec<Worker>), Fault>
     requires number { number < replicas keys.now.sizes }
     requires words { marks.now.words ≡ replicas keys.now.sizes }
     requires eye { eye ≡ first_eye marks.now number }
-    ensures lies { IfOk result (λ made. LiesBy (if number == 0 then terms.now.liar else None) made.1) }
+    ensures count { IfOk result (λ made. vec_len made.1 ≡ worker_count terms.now.workers) }
+    ensures lies { IfOk result
+        (λ made. AllLieBy (if number == 0 then terms.now.liar else None) made.1.items) }
     ensures memory { OnErr result (result ≡ Err Memory) }
 {
     let mut kept = new_kept(alloc, keys, number, eye, marks, terms.hasher)?;
-    let crew = hire_crew(alloc, keys, &mut kept, number, terms.liar_of(number))?;
+    let workers = new_workers(alloc, keys, &mut kept, number, terms)?;
     let station = Station {
         number,
         locked: Mutex::new(Guarded {
@@ -246,10 +254,10 @@ fn build_station<'a>(
         inbox,
         room: WaitingRoom::new(alloc),
     };
-    Ok((station, crew))
+    Ok((station, workers))
 }
 
-/// A station for each word of the marks, with the eye that owns it.
+/// A station for each word of the marks, with the eye that owns it, and the workers of each.
 pub(crate) fn stations<'a>(
     alloc: Global,
     keys: &PairKeys,
@@ -257,21 +265,24 @@ pub(crate) fn stations<'a>(
     owners: Vec<Eye>,
     ends: Vec<Arc<Inbox>>,
     terms: &Terms,
-) -> Result<(Vec<Station<'a>>, Vec<Crew>), Fault>
+) -> Result<(Vec<Station<'a>>, Vec<Vec<Worker>>), Fault>
     requires words { marks.now.words ≡ replicas keys.now.sizes }
     requires owners { owners.items ≡ map (first_eye marks.now) (range_with_len 0 marks.now.words) }
+    ensures workers { IfOk result
+        (λ made. All (λ workers. vec_len workers ≡ worker_count terms.now.workers) made.1.items) }
+    ensures both { IfOk result (λ made. vec_len made.0 ≡ vec_len made.1) }
     ensures refused { OnErr result ((result ≡ Err Memory) ⊎ (result ≡ Err NoSuchParty)) }
 {
     let mut ends = ends.into_iter();
     let mut stations = Vec::new(alloc);
-    let mut crews = Vec::new(alloc);
+    let mut workers = Vec::new(alloc);
     for (number, eye) in owners.into_iter().enumerate() {
         let (Ok(number), Some(inbox)) = (u8::try_from(number), ends.next()) else {
             return Err(Fault::NoSuchParty);
         };
         stations.reserve(1)?;
-        crews.reserve(1)?;
-        let (station, crew) = build_station(
+        workers.reserve(1)?;
+        let (station, its_own) = build_station(
             alloc,
             keys,
             ReplicaId(number),
@@ -281,7 +292,7 @@ pub(crate) fn stations<'a>(
             terms,
         )?;
         stations.push_reserved(station);
-        crews.push_reserved(crew);
+        workers.push_reserved(its_own);
     }
-    Ok((stations, crews))
+    Ok((stations, workers))
 }

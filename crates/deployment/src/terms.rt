@@ -6,6 +6,27 @@ use ids::ReplicaId;
 use liars::Liar;
 use std::hash::RandomState;
 
+/// How many workers drive a replica. Two check frames side by side, and step their replica in turn.
+#[derive(Clone, Copy, Debug, PartialEq, Eq)]
+pub enum Workers {
+    One,
+    Two,
+}
+
+impl Workers {
+    ghost use Rattle.deployment.specs.Workers.{worker_count};
+
+    /// Their number.
+    pub(crate) fn count(self) -> usize
+        ensures { result ≡ worker_count self }
+    {
+        match self {
+            Workers::One => 1,
+            Workers::Two => 2,
+        }
+    }
+}
+
 /// How a deployment is to run.
 #[derive(Clone, Copy, Debug)]
 pub struct Terms {
@@ -19,6 +40,8 @@ pub struct Terms {
     /// How many heights below its last executed block a replica keeps; it forgets what is lower. None to keep
     /// all, with an archive.
     pub window: Option<u64>,
+    /// How many workers each replica has.
+    pub workers: Workers,
     /// Each how many seconds a line is logged that tells how it goes. None for no lines.
     pub watch: Option<u64>,
     /// The secret by which the replicas' caches hash keys.

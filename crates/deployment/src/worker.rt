@@ -1,4 +1,4 @@
-//! The two workers of a replica, before they begin.
+//! What a replica's workers begin with.
 
 ghost use Rattle.std.specs.Prelude.{◌<◌};
 ghost use Rattle.ids.specs.Sizes.{replicas};
@@ -7,7 +7,7 @@ use crate::lying::Tongue;
 use authenticators::Keyring;
 use locked_replica::Share;
 
-/// What one worker starts with.
+/// What one worker begins with.
 #[derive(Drop)]
 pub(crate) struct Worker {
     pub(crate) share: Share,
@@ -15,11 +15,4 @@ pub(crate) struct Worker {
     ghost is_a_replica: { keyring.party < replicas keyring.sizes },
     /// Where its replica is to lie.
     pub(crate) tongue: Option<Tongue>,
-}
-
-/// The two workers of a replica.
-#[derive(Drop)]
-pub(crate) struct Crew {
-    pub(crate) one: Worker,
-    pub(crate) two: Worker,
 }

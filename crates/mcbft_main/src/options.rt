@@ -1,7 +1,7 @@
 //! The command line.
 
 use clap::{Arg, ArgAction, ArgMatches, Command, Error, value_parser};
-use deployment::Terms;
+use deployment::{Terms, Workers};
 use liars::Liar;
 use std::alloc::Global;
 use std::hash::RandomState;
@@ -21,6 +21,9 @@ and in another terminal:
 /// The names of the lies.
 const LIARS: [&str; 5] = ["mute", "two-faced", "bad-reply", "crowder", "flooder"];
 
+/// The numbers of workers that a replica may have.
+const WORKERS: [&str; 2] = ["1", "2"];
+
 /// What the words of a command line say.
 pub(crate) fn matches_of(alloc: Global, words: &[String]) -> Result<ArgMatches<'_>, Error> {
     let command = Command::new(alloc, "mcbft")
@@ -38,6 +41,7 @@ pub(crate) fn matches_of(alloc: Global, words: &[String]) -> Result<ArgMatches<'
         .arg(blocks_arg(alloc))?
         .arg(window_arg(alloc))?
         .arg(archive_arg(alloc))?
+        .arg(workers_arg(alloc))?
         .arg(watch_arg(alloc))?;
     command.try_get_matches_from(words)
 }
@@ -128,6 +132,15 @@ fn archive_arg(alloc: Global) -> Arg<'static> {
         .help("No replica forgets anything, so that all is judged at the end; goes before --window")
 }
 
+fn workers_arg(alloc: Global) -> Arg<'static> {
+    Arg::new(alloc, "workers")
+        .long("workers")
+        .value_name("N")
+        .value_parser(WORKERS.as_slice())
+        .default_value("2")
+        .help("How many threads check the frames of each replica and step it")
+}
+
 fn watch_arg(alloc: Global) -> Arg<'static> {
     Arg::new(alloc, "watch")
         .long("watch")
@@ -174,6 +187,7 @@ impl<'a> Options<'a> {
                 } else {
                     Some(u64::from(window))
                 },
+                workers: matches.get_str("workers").and_then(workers_of)?,
                 watch: if watch == 0 {
                     None
                 } else {
@@ -182,6 +196,15 @@ impl<'a> Options<'a> {
                 hasher,
             },
         })
+    }
+}
+
+/// So many workers.
+fn workers_of(number: &str) -> Option<Workers> {
+    match number {
+        "1" => Some(Workers::One),
+        "2" => Some(Workers::Two),
+        _ => None,
     }
 }
 

@@ -2,7 +2,7 @@
 
 use crate::ask;
 use anyhow::{Result, bail};
-use deployment::{Terms, run};
+use deployment::{Terms, Workers, run};
 use key_file::PairKeys;
 use log::kv::Source;
 use log::span::Spans;
@@ -86,6 +86,7 @@ where
         most: u64::MAX,
         blocks: Some(BLOCKS),
         window: None,
+        workers: Workers::Two,
         watch: None,
         hasher: RandomState::new(rt)?,
     };

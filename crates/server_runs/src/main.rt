@@ -1,5 +1,6 @@
 //! A deployment and its clients in one process: with no liar, and with each; one whose replicas forget what
-//! is a few heights below; and one whose replicas may hold few blocks. What each client reads is printed.
+//! is a few heights below; one whose replicas have one worker each; and one whose replicas may hold few blocks.
+//! What each client reads is printed.
 #![tactic(auto)]
 
 mod ending;
@@ -7,7 +8,7 @@ mod ending;
 use crate::ending::end_of_few_blocks;
 use anyhow::Result;
 use audit::{Verdict, WindowVerdict};
-use deployment::{EndAudit, Terms, run};
+use deployment::{EndAudit, Terms, Workers, run};
 use ids::Config;
 use key_file::PairKeys;
 use liars::Liar;
@@ -102,32 +103,72 @@ fn is_fork(audit: EndAudit) -> bool {
     )
 }
 
+/// A deployment that is run.
+#[derive(Clone, Copy)]
+enum Trial {
+    /// Replica 0 lies so, or none lies.
+    Liar(Option<Liar>),
+    /// Replicas keep so many heights.
+    Window(u64),
+    /// Each replica has one worker.
+    OneWorker,
+}
+
+/// The deployments, in the order in which they are told.
+const TRIALS: [Trial; 8] = [
+    Trial::Liar(None),
+    Trial::Liar(Some(Liar::Mute)),
+    Trial::Liar(Some(Liar::TwoFaced)),
+    Trial::Liar(Some(Liar::BadReply)),
+    Trial::Liar(Some(Liar::Crowder)),
+    Trial::Liar(Some(Liar::Flooder)),
+    Trial::Window(4),
+    Trial::OneWorker,
+];
+
+impl Trial {
+    /// What is told of it first.
+    fn name(self, alloc: Global) -> Result<String> {
+        match self {
+            Trial::Liar(liar) => Ok(format!(in alloc; "{liar:?}")?),
+            Trial::Window(heights) => Ok(format!(in alloc; "a window of {heights} heights")?),
+            Trial::OneWorker => Ok(format!(in alloc; "one worker")?),
+        }
+    }
+
+    /// How it runs.
+    fn terms(self, hasher: RandomState) -> Terms {
+        let usual = Terms {
+            liar: None,
+            most: CONNECTIONS,
+            blocks: None,
+            window: None,
+            workers: Workers::Two,
+            watch: None,
+            hasher,
+        };
+        match self {
+            Trial::Liar(liar) => Terms { liar, ..usual },
+            Trial::Window(heights) => Terms {
+                window: Some(heights),
+                ..usual
+            },
+            Trial::OneWorker => Terms {
+                workers: Workers::One,
+                ..usual
+            },
+        }
+    }
+}
+
 fn main(rt: HostRuntime) -> Result<()> {
     let text = keys(rt.alloc())?;
     let keys = PairKeys::read(rt.alloc(), Config::new(1, 1)?, text.as_bytes())?;
-    for (liar, window) in [
-        (None, None),
-        (Some(Liar::Mute), None),
-        (Some(Liar::TwoFaced), None),
-        (Some(Liar::BadReply), None),
-        (Some(Liar::Crowder), None),
-        (Some(Liar::Flooder), None),
-        (None, Some(4)),
-    ] {
-        match window {
-            Some(heights) => println!(rt; "a window of {heights} heights")?,
-            None => println!(rt; "{liar:?}")?,
-        }
+    for trial in TRIALS {
+        println!(rt; "{}", trial.name(rt.alloc())?)?;
         let listener = TcpListener::bind(&rt, "127.0.0.1:0")?;
         let at = listener.local_addr()?;
-        let terms = Terms {
-            liar,
-            most: CONNECTIONS,
-            blocks: None,
-            window,
-            watch: None,
-            hasher: RandomState::new(&rt)?,
-        };
+        let terms = trial.terms(RandomState::new(&rt)?);
         let (ended, read) = join(
             &rt,
             || run(&rt, &keys, &listener, terms),
@@ -137,7 +178,7 @@ fn main(rt: HostRuntime) -> Result<()> {
             println!(rt; "{:?}", text.as_str())?;
         }
         let ended = ended?;
-        match (window, ended.audit) {
+        match (terms.window, ended.audit) {
             (None, EndAudit::Whole(verdict)) => {
                 println!(rt; "served {}, audit {verdict:?}", ended.served?)?;
             }

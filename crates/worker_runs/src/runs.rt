@@ -5,7 +5,7 @@ use crate::onlooker::Onlooker;
 use crate::seen::Seen;
 use crate::stations::{Station, stations};
 use bytes::Bytes;
-use fabric::{ClientEnd, Ends, Inbox, Links, Parcel, Post};
+use fabric::{ClientEnd, Ends, Links, Post};
 use ids::{Config, Fault, ReplicaId};
 use locked_replica::Share;
 use marks::Marks;
@@ -140,7 +140,7 @@ fn work<R: Wait + Clock, G: Gate>(
 }
 
 /// Works at a station with one of its shares, which is put back at the end.
-fn man<R: Wait + Clock, G: Gate>(rt: &R, stage: &Stage<'_, G>, station: &Station<'_>) {
+fn run_worker<R: Wait + Clock, G: Gate>(rt: &R, stage: &Stage<'_, G>, station: &Station<'_>) {
     let share = station.shares.lock(rt).pop();
     if let Some(share) = share {
         let share = work(rt, stage, station, share);
@@ -159,8 +159,8 @@ fn work_all<R: Threads + Wait + Clock + Sync, G: Gate + Sync>(
 ) -> Result<(), Fault> {
     thread::scope(thread::scope_env(), rt, |scope| {
         for station in stations {
-            let one = scope.spawn(move || man(rt, stage, station));
-            let two = scope.spawn(move || man(rt, stage, station));
+            let one = scope.spawn(move || run_worker(rt, stage, station));
+            let two = scope.spawn(move || run_worker(rt, stage, station));
             if one.is_err() || two.is_err() {
                 stop_all(rt, stage.links);
                 return Err(Fault::Memory);
@@ -206,19 +206,6 @@ fn close_all(stations: Vec<Station<'_>>, worked: Result<(), Fault>) -> Result<us
     steps
 }
 
-/// How many frames are left at a replica's link.
-fn left_at<R: Wait>(rt: &R, end: &Inbox) -> usize {
-    let mut left = 0usize;
-    for _ in 0..10_000 {
-        match end.try_recv(rt) {
-            Some(Parcel::Frame { .. }) => left = left.wrapping_add(1),
-            Some(_) => {}
-            None => break,
-        }
-    }
-    left
-}
-
 /// How many frames came to a client.
 fn came_to<R: Wait>(rt: &R, end: &ClientEnd) -> usize {
     let mut came = 0usize;
@@ -240,7 +227,7 @@ fn look<R: Wait>(rt: &R, ends: &Ends, steps: usize, executed: [u64; 4]) -> Told 
         executed,
     };
     for end in &ends.replicas {
-        told.left = told.left.wrapping_add(left_at(rt, end));
+        told.left = told.left.wrapping_add(end.waiting(rt));
     }
     for (number, end) in ends.clients.iter().enumerate() {
         let came = came_to(rt, end);

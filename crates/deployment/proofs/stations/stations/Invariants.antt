@@ -1,4 +1,7 @@
+use Rattle.std.proofs.Common.{◌≡◌, vec_len}
+use Rattle.std.specs.Prelude.{All}
 use Rattle.marks.proofs.Owners.{Owners}
+use Rattle.deployment.specs.Workers.{worker_count}
 use Rattle.deployment.proofs.stations.stations.Given as goal
 
 abbrev pub invariant-loop-number : goal.invariant-loop-number
@@ -6,3 +9,5 @@ invariant-loop-number l =
     (goal.iterator-loop-number).can_next l.number-iterator
     × (goal.iterator-loop-number).is_finite l.number-iterator
     × Owners l.marks l.number-iterator.count l.number-iterator.iter.rest.items
+    × All (λ workers. vec_len workers ≡ worker_count l.terms.workers) l.workers.items
+    × (vec_len l.stations ≡ vec_len l.workers)
