@@ -4,7 +4,8 @@ from dataclasses import replace
 
 from . import frames, stated_runs
 from .frames import GENESIS, Core, Kind, ReplyFrame, RequestFrame, write
-from .signing import certificate_of, command_of, proposal_of
+from .replica import MOST_PENDING
+from .signing import certificate_of, command_of, proposal_of, request_of
 from .sizes import FIRST_CLIENT
 from .stated_runs import GET_A, REPLICAS, SET_A, Run
 from .tags import Keyring
@@ -128,6 +129,21 @@ def a_conflict():
     return run
 
 
+def a_full_pool():
+    """A faulty client fills the first leader's pool, which refuses what comes then. The next leader orders it, and all
+    execute it."""
+    run = Run(faulty=[FIRST_CLIENT])
+    for number in range(1, MOST_PENDING + 1):
+        run.inject(request_of(run.config, 0, number, GET_A), [0])
+    [request] = run.do(Submit(1, SET_A))
+    run.relay(request, REPLICAS)
+    for replica in REPLICAS:
+        run.do(Timeout(replica))
+    for number in ordered(run, leader=1)[:2]:
+        run.relay(number, [FIRST_CLIENT + 1])
+    return run
+
+
 # What is asked of a cache with room for two keys, of which each new one takes the place of another.
 ASKED = [b"set a 0 0 1\r\nx\r\n", b"set b 0 0 1\r\nx\r\n", b"get a\r\n", b"set c 0 0 1\r\nx\r\n", b"get a b c\r\n",
          b"add d 0 0 1\r\nx\r\n", b"gets c d\r\n", b"add c 0 0 1\r\nx\r\n", b"set e 0 0 1\r\nx\r\n", b"get c\r\n"]
@@ -208,6 +224,7 @@ def all_cases():
     cases.append(("9", "a refused replica goes on", view_change.schedule()))
     cases.append((str(last_input), "a refused replica sends", view_change.schedule()))
     cases.append((str(last_reply), "a refused client does nothing wrong", view_change.schedule()))
+    cases.append(("", "a full pool", a_full_pool().schedule()))
     cases.append(("keys=2", "in a full cache", in_a_full_cache().schedule()))
     cases.append(("keys=2", "as if nothing made room", as_if_nothing_made_room().schedule()))
     cases.append(("", "the same with more room", in_a_full_cache().schedule()))
