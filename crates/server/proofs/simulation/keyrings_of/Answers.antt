@@ -1,6 +1,10 @@
-use Rattle.std.proofs.Common.{◌≤◌, arith, rules}
+use Rattle.std.proofs.Common.{◌≡◌, ◌≤◌, ◌++◌, ◌∙◌, ℕ, List, ap, arith, rules, subst, sym}
 use Rattle.ids.specs.Sizes.{replicas}
-use Rattle.server.proofs.Keyrings.{replicas_keys, one_more_replica, one_more_client, are_keyrings}
+use Rattle.server.proofs.Keyrings.{replicas_keys, clients_keys, one_more_replica, one_more_client}
+use Rattle.server.proofs.Keyrings.{are_keyrings}
+use Rattle.server.specs.Simulations.{all_keys}
+use Rattle.definitions.specs.Keyrings.{Keys}
+use Rattle.world_schedule.specs.Settings.{AreKeyrings}
 use Rattle.server.proofs.simulation.keyrings_of.Goals as goal
 
 pub loop-replica-preserved : goal.loop-replica-preserved
@@ -23,8 +27,16 @@ loop-client-preserved c = rw (one_more_client c.args.config
       c.into-in-loop-client.ensures,
     ))
 
--- (to be mended by the first check)
 pub returns-clause-each : goal.returns-clause-each
 returns-clause-each c =
-    let few : replicas c.args.config ≤ 256 = omega (arith, c.holds.ensures.1) in
-    are_keyrings c.args.config few
+    let sizes = c.args.config in
+    let few : replicas sizes ≤ 256 = omega (arith, c.holds.ensures.1) in
+    let all : c.loop-client.client ≡ sizes.clients = omega (
+      arith,
+      c.loop-client-test.false,
+      c.loop-client.auto.client-end,
+      c.clients-client-end.ensures,
+    ) in
+    let is : c.loop-client.keyrings.items ≡ all_keys sizes = c.loop-client.invariant
+    ∙ ap (λ (n : ℕ). replicas_keys sizes (replicas sizes) ++ clients_keys sizes n) all in
+    subst (λ (l : List Keys). AreKeyrings sizes l) (sym is) (are_keyrings sizes few)
