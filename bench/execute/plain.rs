@@ -111,7 +111,7 @@ fn main() {
     let blocks = blocks_in(&file);
     let started = Instant::now();
     let (mut applied, mut out) = (0u64, Vec::new());
-    let mut cache = Cache { entries: BTreeMap::new(), changes: 0 };
+    let mut cache = Cache::new();
     for c in blocks.iter().flatten() {
         out.clear();
         apply_payload(&mut cache, c.payload, &mut out);
@@ -120,8 +120,7 @@ fn main() {
     let cache_time = started.elapsed().as_millis();
     let started = Instant::now();
     let mut executed = 0u64;
-    let mut executor =
-        Executor { cache: Cache { entries: BTreeMap::new(), changes: 0 }, history: Vec::new(), last: vec![None; 256] };
+    let mut executor = Executor { cache: Cache::new(), history: Vec::new(), last: vec![None; 256] };
     for commands in &blocks {
         for answer in executor.run_block(commands) {
             executed += answer.text.len() as u64 + answer.place;

@@ -1,8 +1,9 @@
 //! The same work in plain Rust, with the standard library alone: reads request lines from standard input, applies
 //! them to a cache, and prints how many there were, a sum over the replies, and the time that it took.
 
-use std::collections::BTreeMap;
+use std::collections::HashMap;
 use std::io::Read;
+use std::rc::Rc;
 use std::time::Instant;
 
 const MOST_KEYS: usize = 65536;
@@ -118,24 +119,110 @@ fn read(bytes: &[u8]) -> Option<(Request<'_>, bool, usize)> {
     }
 }
 
+/// An item between its neighbours in the order of last uses.
+struct Node {
+    key: Rc<[u8]>,
+    entry: Entry,
+    newer: usize,
+    older: usize,
+}
+
+/// No node.
+const NONE: usize = usize::MAX;
+
+/// Where a new key needs room, the key goes that was not used for the longest time.
 struct Cache {
-    entries: BTreeMap<Vec<u8>, Entry>,
+    places: HashMap<Rc<[u8]>, usize>,
+    nodes: Vec<Node>,
+    free: Vec<usize>,
+    newest: usize,
+    oldest: usize,
     changes: u64,
 }
 
 impl Cache {
+    fn new() -> Cache {
+        Cache {
+            places: HashMap::new(),
+            nodes: Vec::new(),
+            free: Vec::new(),
+            newest: NONE,
+            oldest: NONE,
+            changes: 0,
+        }
+    }
+
+    fn get(&self, key: &[u8]) -> Option<&Entry> {
+        self.places.get(key).map(|at| &self.nodes[*at].entry)
+    }
+
+    fn unlink(&mut self, at: usize) {
+        let Node { newer, older, .. } = self.nodes[at];
+        if newer == NONE { self.newest = older } else { self.nodes[newer].older = older }
+        if older == NONE { self.oldest = newer } else { self.nodes[older].newer = newer }
+    }
+
+    fn link_newest(&mut self, at: usize) {
+        self.nodes[at].newer = NONE;
+        self.nodes[at].older = self.newest;
+        if self.newest == NONE { self.oldest = at } else { self.nodes[self.newest].newer = at }
+        self.newest = at;
+    }
+
+    fn touch(&mut self, key: &[u8]) {
+        if let Some(&at) = self.places.get(key) {
+            self.unlink(at);
+            self.link_newest(at);
+        }
+    }
+
+    fn remove(&mut self, key: &[u8]) -> bool {
+        let Some(at) = self.places.remove(key) else {
+            return false;
+        };
+        self.unlink(at);
+        self.nodes[at].entry.stored = Vec::new();
+        self.free.push(at);
+        true
+    }
+
+    fn put(&mut self, key: &[u8], entry: Entry) {
+        if let Some(&at) = self.places.get(key) {
+            self.nodes[at].entry = entry;
+            self.touch(key);
+            return;
+        }
+        if self.places.len() == MOST_KEYS {
+            let oldest = Rc::clone(&self.nodes[self.oldest].key);
+            self.remove(&oldest);
+        }
+        let key: Rc<[u8]> = key.into();
+        let node = Node { key: Rc::clone(&key), entry, newer: NONE, older: NONE };
+        let at = match self.free.pop() {
+            Some(at) => {
+                self.nodes[at] = node;
+                at
+            }
+            None => {
+                self.nodes.push(node);
+                self.nodes.len() - 1
+            }
+        };
+        self.places.insert(key, at);
+        self.link_newest(at);
+    }
+
     fn change(&mut self, key: &[u8], flags: u32, stored: Vec<u8>, told: Reply) -> Reply {
         if self.changes == u64::MAX {
             return Reply::OutOfMemory;
         }
         self.changes += 1;
-        let entry = Entry { flags, stored, unique: self.changes };
-        self.entries.insert(key.to_vec(), entry);
+        self.put(key, Entry { flags, stored, unique: self.changes });
         told
     }
 
     fn join(&mut self, key: &[u8], data: &[u8], behind: bool) -> Reply {
-        let Some(entry) = self.entries.get(key) else {
+        let Some(entry) = self.get(key) else {
             return Reply::NotStored;
         };
         if entry.stored.len() + data.len() > MOST_DATA {
@@ -152,18 +239,16 @@ impl Cache {
     fn apply(&mut self, request: &Request<'_>) -> Reply {
         match *request {
             Request::Store(verb, key, flags, data) => {
-                let present = self.entries.contains_key(key);
-                let room = present || self.entries.len() < MOST_KEYS;
+                let present = self.places.contains_key(key);
                 match verb {
                     Verb::Append => self.join(key, data, true),
                     Verb::Prepend => self.join(key, data, false),
                     Verb::Add if present => Reply::NotStored,
                     Verb::Replace if !present => Reply::NotStored,
-                    _ if !room => Reply::OutOfMemory,
                     _ => self.change(key, flags, data.to_vec(), Reply::Stored),
                 }
             }
-            Request::Cas(key, flags, data, unique) => match self.entries.get(key) {
+            Request::Cas(key, flags, data, unique) => match self.get(key) {
                 None => Reply::NotFound,
                 Some(entry) if entry.unique != unique => Reply::Exists,
                 Some(_) => self.change(key, flags, data.to_vec(), Reply::Stored),
@@ -171,18 +256,17 @@ impl Cache {
             Request::Get(keys, with_unique) => {
                 let mut values = Vec::new();
                 for key in keys.split(|b| *b == b' ') {
-                    if let Some(e) = self.entries.get(key) {
+                    if let Some(e) = self.get(key) {
                         values.push((key.to_vec(), e.flags, e.stored.clone(), e.unique));
+                        self.touch(key);
                     }
                 }
                 Reply::Values(values, with_unique)
             }
-            Request::Delete(key) => match self.entries.remove(key) {
-                Some(_) => Reply::Deleted,
-                None => Reply::NotFound,
-            },
+            Request::Delete(key) if self.remove(key) => Reply::Deleted,
+            Request::Delete(_) => Reply::NotFound,
             Request::Count(key, value, up) => {
-                let Some(entry) = self.entries.get(key) else {
+                let Some(entry) = self.get(key) else {
                     return Reply::NotFound;
                 };
                 let Some(n) = decimal(&entry.stored) else {
@@ -218,7 +302,7 @@ fn weight(reply: &Reply) -> u64 {
 fn main() {
     let mut input = Vec::new();
     std::io::stdin().read_to_end(&mut input).expect("standard input");
-    let mut cache = Cache { entries: BTreeMap::new(), changes: 0 };
+    let mut cache = Cache::new();
     let started = Instant::now();
     let (mut at, mut count, mut sum) = (0, 0u64, 0u64);
     while let Some((request, _, used)) = read(&input[at..]) {

@@ -2,11 +2,12 @@
 //! are what is read at its beginning, whether the whole text is a canonical request (`DIFFERENT`
 //! where it is one and is written otherwise), how many items stand in it, and the length and the
 //! first 8 bytes of the SHA-256 digest of what a connection would be written, where a cache with
-//! room for two keys answers. Of `cuts TEXT` what is read at each proper beginning of the text is a
-//! case: printed are how many there are, how many are unfinished, and the first 8 bytes of the
-//! digest of what would be printed of all of them, line by line.
+//! room for two keys answers; of `room N TEXT` one with room for N keys, or the number of the
+//! refusal. Of `cuts TEXT` what is read at each proper beginning of the text is a case: printed are
+//! how many there are, how many are unfinished, and the first 8 bytes of the digest of what would be
+//! printed of all of them, line by line.
 
-use anyhow::Result;
+use anyhow::{Result, bail};
 use cache::Cache;
 use ids::{Fault, LineFault};
 use mc_lines::{Read, fault_text, read_canonical, read_request, write_reply, write_request};
@@ -52,9 +53,9 @@ impl Told {
 }
 
 /// The items of a text up to the one that ends the connection, each answered by a cache with room
-/// for two keys.
-fn tell(alloc: Global, hasher: RandomState, bytes: &[u8]) -> Result<Told, Fault> {
-    let mut cache = Cache::new(alloc, 2, hasher)?;
+/// for so many keys.
+fn tell(alloc: Global, hasher: RandomState, room: usize, bytes: &[u8]) -> Result<Told, Fault> {
+    let mut cache = Cache::new(alloc, room, hasher)?;
     let mut told = Told {
         items: 0,
         text: Vec::new(alloc),
@@ -105,9 +106,12 @@ fn canonical(alloc: Global, bytes: &[u8]) -> Result<&'static str> {
     })
 }
 
-/// What is told of a text.
-fn tell_text(alloc: Global, hasher: RandomState, bytes: &[u8]) -> Result<String> {
-    let told = tell(alloc, hasher, bytes)?;
+/// What is told of a text, where the cache has room for so many keys.
+fn tell_text(alloc: Global, hasher: RandomState, room: usize, bytes: &[u8]) -> Result<String> {
+    let told = match tell(alloc, hasher, room, bytes) {
+        Ok(told) => told,
+        Err(fault) => return Ok(format!(in alloc; "fault {}", fault.number())?),
+    };
     let digest = Sha256::digest(&told.text);
     let start = hex::encode(alloc, &digest[..8])?;
     Ok(format!(in alloc;
@@ -117,6 +121,14 @@ fn tell_text(alloc: Global, hasher: RandomState, bytes: &[u8]) -> Result<String>
         told.items,
         told.text.len(),
     )?)
+}
+
+/// What is told of a room and a text.
+fn tell_in_room(alloc: Global, hasher: RandomState, case: &str) -> Result<String> {
+    let Some((room, digits)) = case.split_once(' ') else {
+        bail!("a room without a text");
+    };
+    tell_text(alloc, hasher, room.parse()?, &hex::decode(alloc, digits)?)
 }
 
 /// What is told of the proper beginnings of a text.
@@ -137,8 +149,11 @@ fn tell_cuts(alloc: Global, bytes: &[u8]) -> Result<String> {
 
 /// What is printed of a case.
 pub(crate) fn case_told(alloc: Global, hasher: RandomState, case: &str) -> Result<String> {
-    match case.strip_prefix("cuts ") {
-        Some(digits) => tell_cuts(alloc, &hex::decode(alloc, digits)?),
-        None => tell_text(alloc, hasher, &hex::decode(alloc, case)?),
+    if let Some(digits) = case.strip_prefix("cuts ") {
+        return tell_cuts(alloc, &hex::decode(alloc, digits)?);
+    }
+    match case.strip_prefix("room ") {
+        Some(case) => tell_in_room(alloc, hasher, case),
+        None => tell_text(alloc, hasher, 2, &hex::decode(alloc, case)?),
     }
 }

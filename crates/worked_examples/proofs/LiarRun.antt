@@ -1,7 +1,6 @@
 -- The run with a liar, computed round by round, and its premises.
 use Rattle.std.proofs.Common.{◌≡◌, ◌∙◌, ◌⊎◌, ◌++◌, ℕ, true, List, [], ◌∷◌, map, refl, sym, ap, ap₂, subst}
 use Rattle.std.proofs.Common.{inl, inr, arith, Ok}
-use Rattle.std.specs.FinMap.{gets as map_laws}
 use Rattle.ids.specs.Sizes.{client_party}
 use Rattle.definitions.specs.Lists.{Among, count_below}
 use Rattle.definitions.specs.Frames.{Core, Frame, spelling, genesis_core}
@@ -75,9 +74,9 @@ unfolding of_steps
 decide = refl
 
 -- what it is
-text_is : answer_in (record { client = 0; seq = 1; payload = payload }) [] ≡ answer stored
+text_is : answer_in sizes.most_keys (record { client = 0; seq = 1; payload = payload }) [] ≡ answer stored
 unfolding of_runs
-text_is = simp map_laws
+text_is = refl
 
 replies_0 : reply_to (self_of start 0) (answer stored) ≡ reply_0
 unfolding of_runs
@@ -240,9 +239,9 @@ held_too : held_history accepted.r1 ≡ history_of first
 unfolding of_steps held_history
 held_too = refl
 
-its_answer : answers (history_of first) ≡ answer stored ∷ []
+its_answer : answers sizes.most_keys (history_of first) ≡ answer stored ∷ []
 unfolding of_runs
-its_answer = simp map_laws
+its_answer = refl
 
 pub of_the_cache : IsOfTheCache
 of_the_cache = (

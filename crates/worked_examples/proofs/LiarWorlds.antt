@@ -12,6 +12,7 @@ use Rattle.definitions.specs.Sendings.{Sending, To.to_all, To.to_party, reply_to
 use Rattle.definitions.specs.Replicas.{Replica, Standing.running}
 use Rattle.definitions.specs.Sessions.{Session}
 use Rattle.definitions.specs.Worlds.{Sent, self_of}
+use Rattle.worked_examples.specs.Runs.{sizes}
 use Rattle.worked_examples.specs.Replicas.{payload}
 use Rattle.worked_examples.specs.Liar.{start, stored, not_stored, told}
 use Rattle.worked_examples.proofs.LiarTags as tags
@@ -193,7 +194,8 @@ decided_with reply_0 reply_1 =
 -- the replies, as the definitions say, and as they are
 abbrev pub reply_of : ℕ → Sending
 reply_of replica =
-    reply_to (self_of start replica) (answer_in (record { client = 0; seq = 1; payload = payload }) [])
+    reply_to (self_of start replica)
+    (answer_in sizes.most_keys (record { client = 0; seq = 1; payload = payload }) [])
 
 abbrev pub reply_0 : Sending
 reply_0 = (to_party (client_party 0), reply_by 0 stored tags.reply_0)

@@ -1,4 +1,5 @@
 pub mod Maps
+pub mod Exchanges
 pub mod FrameSizes
 pub mod LineSteps
 mod SmallRun

@@ -1,6 +1,5 @@
 -- One replica, computed.
 use Rattle.std.proofs.Common.{refl}
-use Rattle.std.specs.FinMap.{gets as map_laws}
 use Rattle.worked_examples.specs.Replicas.{VotesAndLocks, Waits, Executes, Orphan, Gap, OtherJustified}
 use Rattle.worked_examples.specs.Replicas.{KnownBlock, OtherView}
 use Rattle.worked_examples.proofs.Computed.{of_runs}
@@ -15,7 +14,7 @@ waits = (refl, refl, refl)
 
 pub executes : Executes
 unfolding of_runs
-executes = (refl, refl, simp map_laws)
+executes = (refl, refl, refl)
 
 pub orphan : Orphan
 unfolding of_runs

@@ -101,4 +101,4 @@ Accepts = last.receipts
 abbrev pub IsOfTheCache : Type 0
 IsOfTheCache = (held_history (last.replica 0) ≡ history_of first)
     × (held_history (last.replica 1) ≡ history_of first)
-    × (answers (history_of first) ≡ answer stored ∷ [])
+    × (answers sizes.most_keys (history_of first) ≡ answer stored ∷ [])

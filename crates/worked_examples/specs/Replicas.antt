@@ -94,7 +94,8 @@ Waits = (length (executed before) ≡ 0) × (length (history before) ≡ 0) × (
 -- the fourth decides the first: the request is executed, and waits no more
 abbrev pub Executes : Type 0
 Executes = (length (executed last) ≡ 1) × (length (pending last) ≡ 0)
-    × (answers 65536 (history last) ≡ record { client = 0; seq = 1; place = 1; text = codes "STORED" ++ crlf } ∷ [])
+    × (answers sizes.most_keys (history last)
+    ≡ record { client = 0; seq = 1; place = 1; text = codes "STORED" ++ crlf } ∷ [])
 
 -- ---- what is refused
 

@@ -1,6 +1,5 @@
 -- The definitions compute.
 use Rattle.std.proofs.Common.{refl}
-use Rattle.std.specs.FinMap.{gets as map_laws}
 use Rattle.std.specs.Fmt.{digits}
 use Rattle.definitions.specs.Lists.{greatest}
 use Rattle.definitions.specs.Canonical.{request_of}
@@ -10,7 +9,7 @@ use Rattle.worked_examples.proofs.histories.repeated_and_skipped_numbers_are_not
 
 pub returns-clause-answers : goal.returns-clause-answers
 unfolding digits request_of apply_payload answers is_fresh cache_after
-returns-clause-answers c = simp map_laws
+returns-clause-answers c = refl
 
 pub returns-clause-last : goal.returns-clause-last
 unfolding last_seq greatest
