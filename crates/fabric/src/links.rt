@@ -85,10 +85,7 @@ fn counters(alloc: Global, count: usize) -> Result<Vec<AtomicU64>, Fault>
 }
 
 /// The links of all clients.
-fn client_links(
-    alloc: Global,
-    config: Config,
-) -> Result<(Vec<ClientStart>, Vec<ClientEnd>), Fault>
+fn client_links(alloc: Global, config: Config) -> Result<(Vec<ClientStart>, Vec<ClientEnd>), Fault>
     ensures links { IfOk result (λ r. (vec_len r.0 ≡ config.clients) × (vec_len r.1 ≡ config.clients)) }
     ensures memory { OnErr result (result ≡ Err Fault.Memory) }
 {

@@ -74,5 +74,12 @@ pub(crate) fn tell(alloc: Global, hasher: RandomState, input: &str) -> Result<St
     let replica = number(fields.next().unwrap_or(""))?;
     let shares = fields.next().unwrap_or("");
     let config = Config::new(faults, clients)?;
-    steps(alloc, hasher, config, replica, shares, fields.next().unwrap_or(""))
+    steps(
+        alloc,
+        hasher,
+        config,
+        replica,
+        shares,
+        fields.next().unwrap_or(""),
+    )
 }

@@ -86,11 +86,7 @@ fn tell_run(alloc: Global, hasher: RandomState, schedule: Schedule) -> Result<Ve
 ///
 /// `BadSize` comes where its sizes are out of their limits; then `NoSuchParty` where a faulty party isn't
 /// there, and `TooManyFaulty` where more replicas are faulty than are tolerated.
-pub fn world_of(
-    alloc: Global,
-    hasher: RandomState,
-    heading: Heading,
-) -> Result<World, Fault>
+pub fn world_of(alloc: Global, hasher: RandomState, heading: Heading) -> Result<World, Fault>
     ensures made { IfOk result (IsWorldOf heading) }
     ensures refused { IfErr result (IsWhyNoWorld heading) }
 {

@@ -132,7 +132,9 @@ impl Scene {
         let seen = Seen::new(alloc, self == Scene::TwoCalls, answers)?;
         let (replicas, until) = (self.replicas(), self.until());
         let hasher = RandomState::new(rt)?;
-        let told = run(rt, alloc, config, hasher, replicas, &gate, &seen, handed, until)?;
+        let told = run(
+            rt, alloc, config, hasher, replicas, &gate, &seen, handed, until,
+        )?;
         self.tell(alloc, &gate, &seen, &told)
     }
 }

@@ -90,11 +90,7 @@ fn why_not(config: &Config, faulty: &[PartyId]) -> Result<(), Fault>
 }
 
 /// The same keyrings, where caches have room for so many keys.
-fn with_room(
-    alloc: Global,
-    keyrings: Vec<Keyring>,
-    most_keys: usize,
-) -> Result<Vec<Keyring>, Fault>
+fn with_room(alloc: Global, keyrings: Vec<Keyring>, most_keys: usize) -> Result<Vec<Keyring>, Fault>
     requires { IsRoom most_keys }
     ensures made { IfOk result (λ all. all.items ≡ map (with_room most_keys) keyrings.items) }
     ensures memory { OnErr result (result ≡ Err Fault.Memory) }
