@@ -67,24 +67,43 @@ impl<'a, S: Drop> Bell<'a, S> {
     }
 }
 
-/// Starts a thread for each of a station's workers. Whether all could be had.
-fn start_workers<'s, E, R: Wait + Clock + Sync + AllocGlobal>(
+/// Starts the threads of a station: its workers and its clock. Whether all could be had.
+fn start_station<'s, E, R: Wait + Clock + Sync + Send + AllocGlobal + Log + Clone + Drop>(
     rt: &'s R,
     scope: &Scope<'s, E>,
     station: &'s Station<'_>,
-    links: &'s Links,
     workers: Vec<Worker>,
+    bell: &'s Bell<'_, Desk<R>>,
+    stop: &'s AtomicBool,
 ) -> bool {
+    let links = bell.links;
     let mut all_started = true;
     for worker in workers {
         let started = scope.spawn(move || run_worker(rt, station, links, worker));
         all_started = all_started && started.is_ok();
     }
+    let timed = scope.spawn(move || bell.keep(rt, station, stop));
+    all_started && timed.is_ok()
+}
+
+/// Starts the threads of all stations. Whether all could be had.
+fn start_stations<'s, E, R: Wait + Clock + Sync + Send + AllocGlobal + Log + Clone + Drop>(
+    rt: &'s R,
+    scope: &Scope<'s, E>,
+    stations: &'s [Station<'_>],
+    workers: Vec<Vec<Worker>>,
+    bell: &'s Bell<'_, Desk<R>>,
+    stop: &'s AtomicBool,
+) -> bool {
+    let mut all_started = true;
+    for (station, workers) in stations.iter().zip(workers) {
+        let started = start_station(rt, scope, station, workers, bell, stop);
+        all_started = all_started && started;
+    }
     all_started
 }
 
-/// Starts workers and clock of each station, and serves so many connections. All threads have ended when it
-/// returns.
+/// Starts all stations, and serves so many connections. All threads have ended when it returns.
 fn serve_at<R: Threads + Wait + Clock + Sync + Send + AllocGlobal + Log + Clone + Drop>(
     rt: &R,
     stations: &[Station<'_>],
@@ -105,15 +124,9 @@ fn serve_at<R: Threads + Wait + Clock + Sync + Send + AllocGlobal + Log + Clone 
         seats,
     };
     let served = thread::scope(thread::scope_env(), rt, |scope| {
-        let mut all_started = true;
-        for (station, workers) in stations.iter().zip(workers) {
-            let worked = start_workers(rt, scope, station, links, workers);
-            let timed = scope.spawn(move || bell.keep(rt, station, stop));
-            all_started = all_started && worked && timed.is_ok();
-        }
         let watched = scope.spawn(move || board.keep(rt, terms.watch, stop));
-        all_started = all_started && watched.is_ok();
-        let served = if all_started {
+        let started = start_stations(rt, scope, stations, workers, bell, stop);
+        let served = if started && watched.is_ok() {
             front(rt, listener, seats, terms.most)
         } else {
             Err(Fault::Memory)

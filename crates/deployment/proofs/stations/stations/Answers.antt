@@ -1,7 +1,11 @@
-use Rattle.std.proofs.Common.{rules, arith, sym, subst, ◌≡◌, map}
+use Rattle.std.proofs.Common.{rules, arith, sym, subst, ◌≡◌, map, Vec, vec_len}
+use Rattle.std.proofs.lemmas.List.Elements.{All-push}
+use Rattle.std.specs.Global.{Global}
 use Rattle.std.specs.List.{range_with_len}
 use Rattle.marks.specs.Eyes.{first_eye}
 use Rattle.marks.proofs.Owners.{Owners, owners_from}
+use Rattle.deployment.specs.declared.worker.Worker.{Worker}
+use Rattle.deployment.specs.Workers.{worker_count}
 use Rattle.deployment.proofs.stations.stations.Goals as goal
 
 pub loop-number-init : goal.loop-number-init
@@ -14,4 +18,25 @@ loop-number-init c =
       search rules,
       subst (λ k. Owners z k it.iter.rest.items) (sym first)
           (subst (Owners z 0) (sym all) (owners_from z z.words 0 (omega arith))),
+      search rules,
+      search rules,
+    )
+
+pub loop-number-preserved : goal.loop-number-preserved
+loop-number-preserved c =
+    let P : Vec Worker Global → Type 0 = λ workers. vec_len workers ≡ worker_count c.args.terms.now.workers in (
+      search rules,
+      search rules,
+      search rules,
+      rw c.push_reserved-in-loop-number.ensures.items
+          (All-push P _ _ (rw c.reserve-in-loop-number.ensures.items c.loop-number.invariant.3)
+          c.in_ok-station.ensures.count),
+      omega (
+        arith,
+        c.push_reserved.ensures.len,
+        c.push_reserved-in-loop-number.ensures.len,
+        c.reserve.ensures.len,
+        c.reserve-in-loop-number.ensures.len,
+        c.loop-number.invariant.4,
+      ),
     )
