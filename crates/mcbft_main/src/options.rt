@@ -8,9 +8,10 @@ use std::hash::RandomState;
 
 /// What stands behind the options in `--help`.
 const EXAMPLE: &str = "\
-Limits: keys of 250 bytes, data of 4,096, requests of a line of 4,096 bytes, 16 keys in a get. It listens on 127.0.0.1 alone, keeps all in memory, and a restart empties it. With --archive a
-replica keeps 1,048,576 blocks, which is some hundred thousand commands of one connection, and more of
-many. docs/OPERATING.md tells what comes then.
+Limits: keys of 250 bytes, data of 4,096, requests of a line of 4,096 bytes, 16 keys in a get. It listens
+on 127.0.0.1 alone, keeps all in memory, and a restart empties it. With --archive a replica keeps 1,048,576
+blocks, which is some hundred thousand commands of one connection, and more of many. docs/OPERATING.md
+tells what comes then.
 
 Example, with f = 1 and 8 clients:
   bin/make-keys 1 8 > keys
