@@ -138,7 +138,7 @@ fn workers_arg(alloc: Global) -> Arg<'static> {
         .long("workers")
         .value_name("N")
         .value_parser(WORKERS.as_slice())
-        .default_value("2")
+        .default_value("1")
         .help("How many threads check the frames of each replica and step it")
 }
 
