@@ -1,5 +1,5 @@
 -- What a use, a change and a removal do to the cache of some entries.
-use Rattle.std.proofs.Common.{◌≡◌, ℕ, ◌+◌, ◌-◌, ◌<◌, ◌≤◌, ◌==◌, ◌||◌, Bool, true, false, cond, List, [], ◌∷◌, length}
+use Rattle.std.proofs.Common.{◌≡◌, ℕ, ◌+◌, ◌-◌, ◌≤◌, ◌==◌, ◌||◌, Bool, true, false, List, [], ◌∷◌, length}
 use Rattle.std.proofs.Common.{refl, sym, ap, subst, ◌∙◌, Option, Some, None, is_some, arith, take, nat_lt}
 use Rattle.std.specs.Global.{Vec}
 use Rattle.std.specs.Map.{lookup, lookup_entry, remove_entry}
@@ -17,7 +17,7 @@ use Rattle.definitions.specs.Replies.{Reply}
 use Rattle.definitions.specs.Cache as definitions
 use Rattle.cache.specs.declared.entry.Entry.{Entry}
 use Rattle.cache.specs.Tables.{Entries, count_of, item_of, last_use_in, table_of, cache_of, IsKept}
-use Rattle.cache.proofs.Lookups.{is_at, same, get-table, has-table, lookup-entry, entry-key, table-front}
+use Rattle.cache.proofs.Lookups.{is_at, get-table, has-table, lookup-entry, entry-key, table-front}
 use Rattle.cache.proofs.Lookups.{insert-remove}
 use Rattle.cache.proofs.Orders.{Falls, Lacks, falls, in-order, falls-remove, falls-front, removed-lacks}
 use Rattle.cache.proofs.Orders.{none-lacks, lacks-remove, length-remove, length-removed, removed-table}

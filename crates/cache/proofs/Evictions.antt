@@ -1,6 +1,6 @@
 -- The entry of the least last use is the last one.
-use Rattle.std.proofs.Common.{◌≡◌, ℕ, ◌+◌, ◌-◌, ◌<◌, ◌≤◌, ◌⊎◌, inl, inr, Bool, true, false, cond, List, [], ◌∷◌}
-use Rattle.std.proofs.Common.{length, refl, sym, ap, subst, ◌∙◌, Option, Some, None, is_some, arith, take}
+use Rattle.std.proofs.Common.{◌≡◌, ℕ, ◌<◌, ◌⊎◌, inl, inr, Bool, true, false, cond, List, [], ◌∷◌}
+use Rattle.std.proofs.Common.{length, refl, sym, ap, ◌∙◌, Option, Some, None, is_some, arith, take}
 use Rattle.std.proofs.Common.{nat_le, ◌||◌, ◌&&◌}
 use Rattle.std.specs.Global.{Vec}
 use Rattle.std.specs.Map.{lookup, remove_entry}
@@ -12,11 +12,11 @@ use Rattle.std.specs.FinMap as map
 use Rattle.std.specs.FinMap.{contains_key-keys}
 use Rattle.std.proofs.lemmas.Bool.{cond-true, cond-false, and_parts, leb-true, le-leb}
 use Rattle.definitions.specs.Bytes.{Bytes}
-use Rattle.definitions.specs.Cache.{CacheItem, Cache, key_cmp, last_use, is_least_used, least_used}
+use Rattle.definitions.specs.Cache.{CacheItem, Cache, last_use, is_least_used, least_used}
 use Rattle.cache.specs.declared.entry.Entry.{Entry}
 use Rattle.cache.specs.Tables.{Entries, last_use_in, item_of, table_of, cache_of}
 use Rattle.cache.proofs.Lookups.{is_at, same, laws, same-is, get-table, has-table}
-use Rattle.cache.proofs.Orders.{AllBefore, Falls, before-lacks, removed-table}
+use Rattle.cache.proofs.Orders.{AllBefore, Falls, removed-table}
 
 -- ---- the last entry, and those before it
 

@@ -1,5 +1,5 @@
 -- What a table has under a key, after uses and edits of its entries.
-use Rattle.std.proofs.Common.{◌≡◌, ℕ, ◌+◌, Bool, true, false, cond, List, [], ◌∷◌, length, refl, sym, ap}
+use Rattle.std.proofs.Common.{◌≡◌, ℕ, ◌+◌, Bool, true, false, cond, List, [], ◌∷◌, refl, sym, ap}
 use Rattle.std.proofs.Common.{◌∙◌, Option, Some, None, is_some, nat_eq}
 use Rattle.std.specs.Global.{Vec}
 use Rattle.std.specs.Map.{keys_of, lookup, lookup_entry, remove_entry}

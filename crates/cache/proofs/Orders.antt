@@ -1,6 +1,6 @@
 -- Entries in the order of their last uses, newest first, through edits and uses.
 use Rattle.std.proofs.Common.{◌≡◌, ℕ, ◌+◌, ◌<◌, ◌≤◌, Bool, true, false, cond, List, [], ◌∷◌, length, refl, sym}
-use Rattle.std.proofs.Common.{ap, subst, ◌∙◌, Option, Some, None, is_some, arith, take, zero, suc}
+use Rattle.std.proofs.Common.{ap, subst, ◌∙◌, Some, None, is_some, arith}
 use Rattle.std.specs.Global.{Vec}
 use Rattle.std.specs.Map.{keys_of, lookup, remove_entry}
 use Rattle.std.specs.List.{AllByRecursion, IsDistinct}
@@ -12,14 +12,12 @@ use Rattle.std.specs.declared.cmp.Ordering.TheVariants.{Less}
 use Rattle.std.specs.Cmp.Lexicographic.{nat_list_cmp_total, texts_ties, same_text}
 use Rattle.std.specs.FinMap as map
 use Rattle.std.specs.FinMap.{len-empty, len-insert}
-use Rattle.std.proofs.lemmas.Bool.{cond-true, cond-false, cond_both}
-use Rattle.std.proofs.lemmas.Map.Keys.{IsDistinct-cons}
+use Rattle.std.proofs.lemmas.Bool.{cond_both}
 use Rattle.definitions.specs.Bytes.{Bytes}
 use Rattle.definitions.specs.Cache.{CacheItem, key_cmp}
 use Rattle.cache.specs.declared.entry.Entry.{Entry}
 use Rattle.cache.specs.Tables.{Entries, count_of, last_use_in, item_of, pairs_of, table_of, IsInOrder}
 use Rattle.cache.proofs.Lookups.{is_at, same, laws, same-is, has-table, last-own, last-other, table-remove}
-use Rattle.cache.proofs.Lookups.{get-table}
 
 -- all keys of these were used before n
 abbrev pub AllBefore : List Bytes → ℕ → Entries → Type 0

@@ -33,15 +33,14 @@ impl Cache {
             reply_of reply ≡ (store_it self.old (verb_of verb) key.now flags stored.now).1) }
         ensures unchanged { OnErr result (self.new ≡ self.old) }
     {
-        let present = self.has(key);
         match verb {
             Verb::Set => self.put(key, flags, stored),
-            Verb::Add => if present {
+            Verb::Add => if self.has(key) {
                 Ok(Reply::NotStored)
             } else {
                 self.put(key, flags, stored)
             },
-            Verb::Replace => if present {
+            Verb::Replace => if self.has(key) {
                 self.put(key, flags, stored)
             } else {
                 Ok(Reply::NotStored)

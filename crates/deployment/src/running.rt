@@ -22,7 +22,7 @@ use std::sync::{Arc, Wait};
 use std::thread;
 use std::thread::{Scope, Threads};
 use std::time::Clock;
-use tcp_front::{Closer, SharedSeats, front};
+use tcp_front::{Closer, Seats, front};
 
 /// How a deployment ended.
 #[derive(Clone, Copy, Debug)]
@@ -46,7 +46,7 @@ fn stop_all<R: Wait>(rt: &R, links: &Links) {
 struct Bell<'a, S> {
     links: &'a Links,
     roll: &'a Roll,
-    seats: &'a SharedSeats<S>,
+    seats: &'a Seats<S>,
     closer: &'a Closer,
 }
 
@@ -175,7 +175,7 @@ pub fn run<R: Threads + Wait + Clock + Sync + Send + AllocGlobal + Log + Clone +
     let bell = Bell {
         links: &links,
         roll: &roll,
-        seats: seats.shared(),
+        seats: &seats,
         closer: &closer,
     };
     let served = serve_at(rt, stations.as_slice(), workers, &bell, listener, terms);

@@ -14,7 +14,7 @@ use std::sync::atomic::AtomicBool;
 use std::sync::atomic::Ordering::SeqCst;
 use std::thread;
 use std::time::{Clock, Duration};
-use tcp_front::SharedSeats;
+use tcp_front::Seats;
 
 /// For how many milliseconds the thread that tells it doesn't look whether it is to end.
 const PAUSE_MILLIS: u64 = 100;
@@ -76,7 +76,7 @@ pub(crate) struct Board<'a, 's, S> {
     pub(crate) stations: &'a [Station<'s>],
     pub(crate) links: &'a Links,
     pub(crate) roll: &'a Roll,
-    pub(crate) seats: &'a SharedSeats<S>,
+    pub(crate) seats: &'a Seats<S>,
 }
 
 impl<'a, 's, S: Drop> Board<'a, 's, S> {

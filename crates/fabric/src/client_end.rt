@@ -1,5 +1,6 @@
 //! The link of one client.
 
+use crate::parcel::frame_size;
 use bytes::Bytes;
 use crossbeam_channel::{Receiver, SendError, Sender};
 use ids::ReplicaId;
@@ -9,8 +10,8 @@ use std::sync::atomic::Ordering::SeqCst;
 use std::sync::{Arc, Wait};
 use std::time::{Clock, Instant};
 
-/// How many bytes of one replica may wait at a client's link: the longest reply has 70,000, and a correct
-/// replica answers one request at a time.
+/// How much of one replica may wait at a client's link, by `frame_size`: the longest reply has 70,000 bytes, and a
+/// correct replica answers one request at a time.
 const MOST_WAITING: u64 = 1 << 18;
 
 /// A frame, and which replica handed it in.
@@ -66,7 +67,7 @@ pub(crate) fn client_link(
     ))
 }
 
-/// Takes so many bytes more of a share, where that has room for them.
+/// Takes so much more of a share, where that has room for them.
 fn enter(waiting: &AtomicU64, size: u64) -> bool {
     let before = waiting.fetch_add(size, SeqCst);
     let fits = before.saturating_add(size) <= MOST_WAITING;
@@ -92,7 +93,7 @@ impl ClientStart {
         from: ReplicaId,
         frame: Bytes,
     ) -> Result<(), NotTold> {
-        let size = frame.len() as u64;
+        let size = frame_size(&frame) as u64;
         let Some(waiting) = self.waiting.get(usize::from(from.0)) else {
             return Err(NotTold::Full);
         };
@@ -113,7 +114,7 @@ impl ClientEnd {
     /// The frame that was taken out: it waits no more.
     fn taken(&self, told: Told) -> Bytes {
         if let Some(waiting) = self.waiting.get(usize::from(told.from.0)) {
-            waiting.fetch_sub(told.frame.len() as u64, SeqCst);
+            waiting.fetch_sub(frame_size(&told.frame) as u64, SeqCst);
         }
         told.frame
     }

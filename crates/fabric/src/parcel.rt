@@ -1,11 +1,19 @@
 //! What comes to a replica over its link.
 
-ghost use Rattle.std.specs.Prelude.{◌≡◌};
+ghost use Rattle.std.specs.Prelude.{◌≡◌, ◌+◌, length};
+ghost use Rattle.fabric.specs.declared.parcel.TheConstants.{PARCEL_SIZE};
 
 use bytes::Bytes;
 
 /// How much a parcel counts beside its bytes: for the memory that it takes where it waits.
 const PARCEL_SIZE: usize = 128;
+
+/// How much a frame takes of its sender's share, at a replica's link and at a client's.
+pub(crate) fn frame_size(frame: &Bytes) -> usize
+    ensures { result ≡ length frame.now + PARCEL_SIZE }
+{
+    frame.len() + PARCEL_SIZE
+}
 
 /// What comes to a replica over its link, which its workers share.
 #[derive(Drop)]
@@ -35,7 +43,7 @@ impl Parcel {
         ensures { result ≡ size_of self.now }
     {
         match self {
-            Parcel::Frame { bytes, .. } => bytes.len() + PARCEL_SIZE,
+            Parcel::Frame { bytes, .. } => frame_size(bytes),
             _ => PARCEL_SIZE,
         }
     }

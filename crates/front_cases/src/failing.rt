@@ -11,7 +11,7 @@ use std::sync::Wait;
 use std::sync::atomic::AtomicBool;
 use std::sync::atomic::Ordering::SeqCst;
 use std::thread::{Threads, join};
-use tcp_front::{Seat, SharedSeats, front};
+use tcp_front::{Seat, Seats, front};
 
 /// How many connections are made.
 const CONNECTIONS: u64 = 3;
@@ -90,7 +90,7 @@ fn go_before_it_writes<R: Net<Stream = TcpStream>>(
 }
 
 /// Waits until no connection has a seat.
-fn wait_until_free<S: Drop>(seats: &SharedSeats<S>) {
+fn wait_until_free<S: Drop>(seats: &Seats<S>) {
     for _ in 0..u64::MAX {
         if seats.taken() == 0 {
             break;
@@ -102,7 +102,7 @@ fn wait_until_free<S: Drop>(seats: &SharedSeats<S>) {
 fn clients<R: Net<Stream = TcpStream> + AllocGlobal, S: Drop>(
     rt: &R,
     at: SocketAddr,
-    seats: &SharedSeats<S>,
+    seats: &Seats<S>,
     signals: &Signals,
 ) -> Result<Vec<String>> {
     go_while_it_reads(rt, at)?;
@@ -134,11 +134,11 @@ where
     let lengths = Lengths(rt.alloc());
     let signals = &signals;
     let seats = one_seat(rt.alloc(), Patient { lengths, signals })?;
-    let shared = seats.shared();
+    let seats = &seats;
     let (served, read) = join(
         rt,
-        || front(rt, &listener, shared, CONNECTIONS),
-        || clients(rt, at, shared, signals),
+        || front(rt, &listener, seats, CONNECTIONS),
+        || clients(rt, at, seats, signals),
     );
     tell(rt, &read?)?;
     println!(rt; "served {}", count_of(served)?)?;

@@ -94,10 +94,10 @@ fn main(rt: HostRuntime) -> Result<()> {
     let listener = TcpListener::bind(&rt, "127.0.0.1:0")?;
     let at = listener.local_addr()?;
     let seats = one_seat(rt.alloc(), Lengths(rt.alloc()))?;
-    let shared = seats.shared();
+    let seats = &seats;
     let (served, read) = join(
         &rt,
-        || front(&rt, &listener, shared, CONNECTIONS),
+        || front(&rt, &listener, seats, CONNECTIONS),
         || clients(&rt, at),
     );
     tell(&rt, &read?)?;

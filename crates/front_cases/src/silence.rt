@@ -15,7 +15,7 @@ use std::net::{Net, SocketAddr, TcpListener, TcpStream};
 use std::sync::Wait;
 use std::sync::atomic::{AtomicU64, Ordering};
 use std::thread::{Threads, join};
-use tcp_front::{Seat, SharedSeats, front};
+use tcp_front::{Seat, Seats, front};
 
 /// A link over which nothing comes, and which doesn't wait. It counts what is sent.
 #[derive(Drop)]
@@ -91,7 +91,7 @@ fn serve_both<R, L, S>(
     rt: &R,
     told: &L,
     listener: &TcpListener,
-    seats: &SharedSeats<S>,
+    seats: &Seats<S>,
     at: SocketAddr,
 ) -> (std::result::Result<u64, Fault>, Result<Vec<String>>)
 where
@@ -117,7 +117,7 @@ where
     };
     let seats = one_seat(rt.alloc(), seat(rt.alloc(), link)?)?;
     let told = Logged::new(rt.clone()?, Level::Warn, Printed(rt.clone()?));
-    let (served, read) = serve_both(rt, &told, &listener, seats.shared(), listener.local_addr()?);
+    let (served, read) = serve_both(rt, &told, &listener, &seats, listener.local_addr()?);
     tell(rt, &read?)?;
     println!(rt; "sent {}", sendings.load(Ordering::SeqCst))?;
     let _two = count_of(served)?;

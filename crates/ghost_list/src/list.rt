@@ -23,8 +23,10 @@ impl<T> Model for GhostList<T> {
     ghost also_owns = { λ _. ftrue };
 }
 
-// It owns nothing.
+// It owns nothing, and what it shares is nothing.
 unsafe impl<T: Send> Send for GhostList<T> {}
+
+unsafe impl<T: Send> Sync for GhostList<T> {}
 
 impl<T> GhostList<T> {
     /// Nothing was told.

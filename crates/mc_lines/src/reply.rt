@@ -33,7 +33,7 @@ pub enum Reply {
         values: Vec<Value>,
         with_cas_unique: bool,
     },
-    /// The cache is full.
+    /// Every change that a cas unique can number was made.
     OutOfMemory,
     /// The joined data would be too long.
     TooLarge,

@@ -2,7 +2,7 @@ ghost use Rattle.std.specs.Prelude.{◌≡◌, ◌⊎◌, IfOk, OnErr, Err};
 ghost use Rattle.ids.specs.declared.fault.Fault.TheVariants.{AcceptFailed, Stopped};
 
 use crate::attending::{attend, refuse};
-use crate::seats::{Seat, SharedSeats};
+use crate::seats::{Seat, Seats};
 use ids::Fault;
 use log::Log;
 use std::io::ErrorKind;
@@ -35,7 +35,7 @@ impl Closer {
 
     /// Ends the front of these seats: it accepts no further connection, and each that there is ends within
     /// half a second after its last request was answered or refused.
-    pub fn close<S: Drop>(&self, seats: &SharedSeats<S>) {
+    pub fn close<S: Drop>(&self, seats: &Seats<S>) {
         seats.close();
         let _ = self.listener.shutdown(Shutdown::Both);
     }
@@ -43,7 +43,7 @@ impl Closer {
 
 /// The next connection. One that its peer gave up before it was accepted is passed over. `Stopped` where
 /// the seats were closed.
-fn accept<S: Drop>(listener: &TcpListener, seats: &SharedSeats<S>) -> Result<TcpStream, Fault>
+fn accept<S: Drop>(listener: &TcpListener, seats: &Seats<S>) -> Result<TcpStream, Fault>
     ensures { OnErr result ((result ≡ Err AcceptFailed) ⊎ (result ≡ Err Stopped)) }
 {
     for _ in 0..u64::MAX {
@@ -74,7 +74,7 @@ fn accept<S: Drop>(listener: &TcpListener, seats: &SharedSeats<S>) -> Result<Tcp
 pub fn front<R: Threads + Wait + Sync + AllocGlobal + Log, S: Seat + Send + Drop>(
     rt: &R,
     listener: &TcpListener,
-    seats: &SharedSeats<S>,
+    seats: &Seats<S>,
     most: u64,
 ) -> Result<u64, Fault>
     ensures served { IfOk result (λ served. served ≡ most) }

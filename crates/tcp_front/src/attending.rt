@@ -1,7 +1,7 @@
 //! One connection, from its first byte to its last.
 
 use crate::line::Line;
-use crate::seats::{Seat, SharedSeats, Taken};
+use crate::seats::{Seat, Seats, Taken};
 use connection::{Counted, serve};
 use log::{Log, warn};
 use std::io::{Read, Write};
@@ -18,7 +18,7 @@ const LINGER_TIMES: u32 = 10;
 pub(crate) fn attend<R: Wait + AllocGlobal + Log, S: Seat + Drop>(
     rt: &R,
     stream: TcpStream,
-    seats: &SharedSeats<S>,
+    seats: &Seats<S>,
     mut taken: Taken<S>,
 ) {
     let mut reader = Counted::new(Line::new(&stream, seats));

@@ -8,4 +8,4 @@ mod line;
 mod seats;
 
 pub use accepting::{Closer, front};
-pub use seats::{Seat, Seats, SharedSeats};
+pub use seats::{Seat, Seats};

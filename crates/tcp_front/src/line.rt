@@ -2,7 +2,7 @@
 
 ghost use Rattle.std.specs.Io.{ReadsAtMost, WritesAtMost};
 
-use crate::seats::SharedSeats;
+use crate::seats::Seats;
 use std::io;
 use std::io::{Error, ErrorKind, Read, Write};
 use std::net::TcpStream;
@@ -18,12 +18,12 @@ const LOOK_MILLIS: u64 = 500;
 #[derive(Drop)]
 pub(crate) struct Line<'a, S> {
     stream: &'a TcpStream,
-    seats: &'a SharedSeats<S>,
+    seats: &'a Seats<S>,
 }
 
 impl<'a, S> Line<'a, S> {
     /// The line of this connection. Where the system sets no limit to waiting, it ends with its peer alone.
-    pub(crate) fn new(stream: &'a TcpStream, seats: &'a SharedSeats<S>) -> Line<'a, S> {
+    pub(crate) fn new(stream: &'a TcpStream, seats: &'a Seats<S>) -> Line<'a, S> {
         let limit = Some(Duration::from_millis(LOOK_MILLIS));
         let _ = stream.set_read_timeout(limit);
         let _ = stream.set_write_timeout(limit);

@@ -40,24 +40,29 @@ impl<'a, S> Tells<S> for Seated<'a, S> {
     ghost tells = { λ seated. seated.seat.now };
 }
 
-/// The seats of a server, as they were made: contracts see them in their order.
+/// The seats of a server, which its threads share by reference: contracts see them as they were made, in their
+/// order.
 ///
-/// Each is free, or a connection has it, or it is lost. What threads share of them is `shared`.
+/// Each is free, or a connection has it, or it is lost. Which, lies under its lock.
 #[derive(Drop)]
 pub struct Seats<S> {
-    shared: SharedSeats<S>,
+    /// By number. A free one stands in its slot.
+    slots: Vec<Mutex<Option<S>>>,
+    /// How many are taken now.
+    taken: AtomicU64,
+    is_closed: AtomicBool,
     /// What was put into the slots when they were made, the last one first.
     made_with: GhostList<S>,
 }
 
 impl<S> Model for Seats<S> {
-    ghost use Rattle.std.specs.Prelude.{List, length, reverse, ◌≡◌};
+    ghost use Rattle.std.specs.Prelude.{List, length, reverse, vec_len, ◌≡◌};
 
     ghost Value = { List S };
 
     ghost view = { λ seats. reverse seats.made_with.items };
 
-    ghost invariant = { λ seats. length seats.made_with.items ≡ seats.shared };
+    ghost invariant = { λ seats. length seats.made_with.items ≡ vec_len seats.slots };
 }
 
 impl<S: Drop> Seats<S> {
@@ -72,45 +77,17 @@ impl<S: Drop> Seats<S> {
             made_with = made_with.with(&Seated { seat: &seat });
             slots.push_reserved(Mutex::new(Some(seat)));
         }
-        let shared = SharedSeats {
+        Ok(Seats {
             slots,
             taken: AtomicU64::new(0),
             is_closed: AtomicBool::new(false),
-        };
-        Ok(Seats { shared, made_with })
+            made_with,
+        })
     }
 
-    /// What the front and the threads of its connections share.
-    pub fn shared(&self) -> &SharedSeats<S>
-        ensures { result.now ≡ length self.now }
-    {
-        &self.shared
-    }
-}
-
-/// Seats that threads share by reference. Contracts see how many there are: a lock shows nothing of what lies
-/// under it.
-#[derive(Drop)]
-pub struct SharedSeats<S> {
-    /// By number. A free one stands in its slot.
-    slots: Vec<Mutex<Option<S>>>,
-    /// How many are taken now.
-    taken: AtomicU64,
-    is_closed: AtomicBool,
-}
-
-impl<S> Model for SharedSeats<S> {
-    ghost use Rattle.std.specs.Prelude.{ℕ, vec_len};
-
-    ghost Value = { ℕ };
-
-    ghost view = { λ seats. vec_len seats.slots };
-}
-
-impl<S: Drop> SharedSeats<S> {
     /// How many seats there are, lost ones included.
     pub fn len(&self) -> usize
-        ensures { result ≡ self.now }
+        ensures { result ≡ length self.now }
     {
         self.slots.len()
     }
