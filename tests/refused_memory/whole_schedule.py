@@ -1,4 +1,4 @@
-"""The run of one set and a view change, judged by `judged_runs`, is refused each request for memory in turn. Each time
+"""The run of one set and a view change, judged by `schedule_cases`, is refused each request for memory in turn. Each time
 the world or the run has to be refused with 19; or a frame that wasn't sent moves the numbers of those behind it,
 until one isn't there (40); or events are answered 19, later inputs of the replicas concerned 20, and the run is
 linear, as the program finds it from the outcome. All three have to come. It is run as it stands, and with a timeout
@@ -31,7 +31,7 @@ def kind_of(ran):
 
 def check(program):
     with open(SCHEDULE) as schedule:
-        text = ": a view change\n" + schedule.read()
+        text = "#judged\n: a view change\n" + schedule.read()
     behind = "".join("timeout r%d\n" % replica for replica in range(4))
     return "\n".join(["as it stands: " + judged(program, text),
                       "with a timeout of each replica behind it: " + judged(program, text + behind)])

@@ -9,8 +9,8 @@ ghost use Rattle.admission.specs.Lacking.{lacked, IsLackedBy};
 use frames_view::{Frame, read};
 use ids::{Config, Digest, ReplicaId};
 
-/// The sender of a frame, and the block that a replica needs to take it.
-fn lack(config: &Config, frame: &Frame<'_>) -> Option<(ReplicaId, Digest)>
+/// The sender of a frame that was read, and the block that a replica needs to take it: as `missing` of its bytes.
+pub fn missing_of(config: &Config, frame: &Frame<'_>) -> Option<(ReplicaId, Digest)>
     requires { IsFrame config.now (frame_of frame.now) }
     ensures lacked { result ≡ lacked config.now (frame_of frame.now) }
     ensures replica { IfSome result (λ m. m.0 < replicas config.now) }
@@ -34,7 +34,7 @@ pub fn missing(config: &Config, bytes: &[u8]) -> Option<(ReplicaId, Digest)>
     ensures lacked { IsLackedBy config.now bytes.now result }
 {
     match read(config, bytes) {
-        Ok(frame) => lack(config, &frame),
+        Ok(frame) => missing_of(config, &frame),
         Err(_) => None,
     }
 }

@@ -7,4 +7,4 @@ mod lacking;
 
 pub use admitting::admit;
 pub use input::Input;
-pub use lacking::missing;
+pub use lacking::{missing, missing_of};

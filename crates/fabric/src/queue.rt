@@ -49,8 +49,6 @@ pub(crate) struct Queue {
     unasked: VecDeque<u64>,
     /// How many bytes the frames have.
     bytes: usize,
-    /// How many parcels were done.
-    done: u64,
     last: Option<Asked>,
 }
 
@@ -78,14 +76,8 @@ impl Queue {
             bringing: BTreeMap::new(alloc),
             unasked: VecDeque::new(alloc),
             bytes: 0,
-            done: 0,
             last: None,
         }
-    }
-
-    /// Whether nothing waits.
-    pub(crate) fn is_empty(&self) -> bool {
-        self.frames.is_empty()
     }
 
     /// How many wait.
@@ -158,6 +150,9 @@ impl Queue {
     fn forget(&mut self, frame: &Waiting)
         ensures { self.new ≡ self.old }
     {
+        if self.frames.is_empty() {
+            self.unasked.clear();
+        }
         self.bytes = self.bytes.saturating_sub(frame.bytes.len());
         self.leave(frame.number, &frame.lacks);
         if let Some(block) = frame.brings.block() {
@@ -214,13 +209,13 @@ impl Queue {
     }
 
     /// Adds a frame, unless one waits that does all that this one would. Its sender is asked once
-    /// so many parcels more were done. Where the list is full the oldest goes.
-    pub(crate) fn add(&mut self, mut frame: Waiting, parcels: u64) {
+    /// so many parcels were done. Where the list is full the oldest goes.
+    pub(crate) fn add(&mut self, mut frame: Waiting, due: u64) {
         if self.has_one_like(&frame) {
             return;
         }
         self.make_room();
-        frame.due = self.done.saturating_add(parcels);
+        frame.due = due;
         frame.bottom = self.first_missing(&frame.lacks);
         let (number, lacks, brings) = (frame.number, frame.lacks, frame.brings.block());
         let bytes = frame.bytes.len();
@@ -231,12 +226,13 @@ impl Queue {
         }
     }
 
-    /// The oldest frame whose sender is to be asked and wasn't. It counts as asked from now on.
-    fn next_due(&mut self) -> Option<u64> {
+    /// The oldest frame whose sender is to be asked, when so many parcels were done, and wasn't. It counts as asked
+    /// from now on.
+    fn next_due(&mut self, done: u64) -> Option<u64> {
         for _ in 0..self.unasked.len() {
             let number = *self.unasked.front()?;
             let due = self.frames.get(&number).map(|frame| frame.due);
-            if due.is_some_and(|due| due > self.done) {
+            if due.is_some_and(|due| due > done) {
                 return None;
             }
             self.unasked.pop_front();
@@ -247,32 +243,28 @@ impl Queue {
         None
     }
 
-    /// Whether this was asked not long ago.
-    fn was_asked(&self, question: &Question) -> bool {
+    /// Whether this was asked not long ago, when so many parcels were done.
+    fn was_asked(&self, question: &Question, done: u64) -> bool {
         let Some(last) = self.last else {
             return false;
         };
         last.question.sender == question.sender
             && last.question.block == question.block
-            && self.done.saturating_sub(last.done) < PATIENCE
+            && done.saturating_sub(last.done) < PATIENCE
     }
 
-    /// A parcel was done. Whom to ask now, and for which block, if for any.
-    pub(crate) fn next_question(&mut self) -> Option<Question> {
-        self.done = self.done.saturating_add(1);
-        let number = self.next_due()?;
+    /// Whom to ask, and for which block, if for any, when so many parcels were done.
+    pub(crate) fn next_question(&mut self, done: u64) -> Option<Question> {
+        let number = self.next_due(done)?;
         let frame = self.frames.get(&number)?;
         let question = Question {
             sender: frame.sender,
             block: self.first_missing(&frame.lacks),
         };
-        if self.was_asked(&question) {
+        if self.was_asked(&question, done) {
             return None;
         }
-        self.last = Some(Asked {
-            question,
-            done: self.done,
-        });
+        self.last = Some(Asked { question, done });
         Some(question)
     }
 }

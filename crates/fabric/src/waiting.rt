@@ -1,7 +1,7 @@
 //! Frames that wait for a block.
 
 use crate::queue::{Question, Queue};
-use admission::missing;
+use admission::missing_of;
 use bytes::Bytes;
 use frames_view::{Frame, read};
 use ids::{Config, Digest, ReplicaId};
@@ -30,12 +30,20 @@ pub(crate) enum Brought {
 }
 
 impl Brought {
+    /// What a frame brings.
+    fn of(frame: &Frame<'_>) -> Brought {
+        match frame {
+            Frame::Proposal(view) => Brought::Proposal(view.core().digest()),
+            Frame::Block(view) => Brought::Block(view.core().digest()),
+            _ => Brought::Nothing,
+        }
+    }
+
     /// What the frame of these bytes brings.
     pub(crate) fn by(config: &Config, bytes: &[u8]) -> Brought {
         match read(config, bytes) {
-            Ok(Frame::Proposal(view)) => Brought::Proposal(view.core().digest()),
-            Ok(Frame::Block(view)) => Brought::Block(view.core().digest()),
-            _ => Brought::Nothing,
+            Ok(frame) => Brought::of(&frame),
+            Err(_) => Brought::Nothing,
         }
     }
 
@@ -78,8 +86,9 @@ pub(crate) struct Waiting {
 impl Waiting {
     /// A frame of this number. None, where frames of this kind lack no block.
     pub(crate) fn new(config: &Config, number: u64, bytes: Bytes) -> Option<Waiting> {
-        let (sender, lacks) = missing(config, bytes.as_slice())?;
-        let brings = Brought::by(config, bytes.as_slice());
+        let frame = read(config, bytes.as_slice()).ok()?;
+        let (sender, lacks) = missing_of(config, &frame)?;
+        let brings = Brought::of(&frame);
         Some(Waiting {
             number,
             sender,
@@ -97,24 +106,40 @@ impl Waiting {
 /// At most 8,192 wait, of 32 MB together and one more; what comes then drives out the oldest. What is driven
 /// out, or for which memory is refused, is lost, as on any network. So that none is lost while one worker
 /// sleeps over the block that the others lack, the other holds back once 512 wait. Each call takes the lock
-/// once at most, and holds it while it looks at the list.
+/// once at most, and holds it while it looks at the list; where nothing waits, no lock is taken.
 #[derive(Drop)]
 pub struct WaitingRoom {
     queue: Mutex<Queue>,
-    /// How many workers are busy with a parcel.
+    /// How many workers the replica has.
+    workers: usize,
+    /// How many of them are busy with a parcel.
     busy: AtomicU64,
-    /// How many frames waited when the last parcel was done.
+    /// How many parcels were done.
+    done: AtomicU64,
+    /// How many frames wait.
     waiting: AtomicU64,
 }
 
 impl WaitingRoom {
-    /// A room in which nothing waits.
-    pub fn new(alloc: Global) -> WaitingRoom {
+    /// A room in which nothing waits, for so many workers.
+    pub fn new(alloc: Global, workers: usize) -> WaitingRoom {
         WaitingRoom {
             queue: Mutex::new(Queue::new(alloc)),
+            workers,
             busy: AtomicU64::new(0),
+            done: AtomicU64::new(0),
             waiting: AtomicU64::new(0),
         }
+    }
+
+    /// Whether several workers share it.
+    pub(crate) fn is_shared(&self) -> bool {
+        self.workers > 1
+    }
+
+    /// Tells how many frames wait, before the lock is let go.
+    fn tell(&self, waiting: usize) {
+        self.waiting.store(waiting as u64, SeqCst);
     }
 
     /// Where many frames wait and another worker is busy, waits for it: it may sleep over the block that they
@@ -138,31 +163,44 @@ impl WaitingRoom {
     /// once all workers that are busy now are done: one of them may be taking the block that it
     /// lacks.
     pub(crate) fn wait<R: Wait>(&self, rt: &R, frame: Waiting) {
-        let busy = self.busy.load(SeqCst);
-        self.queue.lock(rt).add(frame, busy);
+        let due = self
+            .done
+            .load(SeqCst)
+            .saturating_add(self.busy.load(SeqCst));
+        let mut queue = self.queue.lock(rt);
+        queue.add(frame, due);
+        self.tell(queue.len());
     }
 
     /// The oldest frame that lacks this block. It waits no longer.
     pub(crate) fn take_for<R: Wait>(&self, rt: &R, block: &Digest) -> Option<Waiting> {
-        self.queue.lock(rt).take_for(block)
+        let mut queue = self.queue.lock(rt);
+        let frame = queue.take_for(block);
+        self.tell(queue.len());
+        frame
     }
 
     /// The frame of this number, where it waits. It waits no longer.
     pub(crate) fn take_number<R: Wait>(&self, rt: &R, number: u64) -> Option<Waiting> {
-        self.queue.lock(rt).take_number(number)
+        let mut queue = self.queue.lock(rt);
+        let frame = queue.take_number(number);
+        self.tell(queue.len());
+        frame
     }
 
     /// A worker is done with a parcel. Whom to ask now, and for which block, if for any: the first
     /// that no waiting frame brings, from the one down that a frame lacks.
     pub(crate) fn end<R: Wait>(&self, rt: &R) -> Option<Question> {
         self.busy.fetch_sub(1, SeqCst);
-        let mut queue = self.queue.lock(rt);
-        self.waiting.store(queue.len() as u64, SeqCst);
-        queue.next_question()
+        let done = self.done.fetch_add(1, SeqCst).saturating_add(1);
+        if self.is_empty() {
+            return None;
+        }
+        self.queue.lock(rt).next_question(done)
     }
 
     /// Whether nothing waits.
-    pub(crate) fn is_empty<R: Wait>(&self, rt: &R) -> bool {
-        self.queue.lock(rt).is_empty()
+    pub(crate) fn is_empty(&self) -> bool {
+        self.waiting.load(SeqCst) == 0
     }
 }

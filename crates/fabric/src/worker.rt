@@ -147,9 +147,9 @@ impl<'a, G: Gate, O: Outgoing> Post<'a, G, O> {
         }
     }
 
-    /// Takes a frame that was refused with `UnknownParent`. It waits, and is brought once more: the
-    /// replica's other worker may have taken the block before the frame began to wait, and whoever
-    /// takes it later finds the frame.
+    /// Takes a frame that was refused with `UnknownParent`. It waits, and who takes the block later finds it. Where
+    /// the replica has another worker, that may have taken the block before the frame began to wait: so the frame
+    /// is brought once more.
     fn take_later<R: Wait, S: Steps>(
         &self,
         rt: &R,
@@ -168,6 +168,9 @@ impl<'a, G: Gate, O: Outgoing> Post<'a, G, O> {
         };
         let brings = frame.brings.block();
         self.room.wait(rt, frame);
+        if !self.room.is_shared() {
+            return;
+        }
         let brought = self.bring(rt, steps, share, number, bytes.as_slice());
         if brought == Err(Fault::UnknownParent) {
             return;
@@ -190,7 +193,7 @@ impl<'a, G: Gate, O: Outgoing> Post<'a, G, O> {
         ensures { HasGrown share.old share.new }
     {
         match self.bring(rt, steps, share, number, bytes.as_slice()) {
-            Ok(()) if self.room.is_empty(rt) => {}
+            Ok(()) if self.room.is_empty() => {}
             Ok(()) => {
                 if let Some(block) = Brought::by(&self.keyring.config(), bytes.as_slice()).block() {
                     self.release(rt, steps, share, block);

@@ -7,7 +7,7 @@
 use clap::error::ErrorKind;
 use clap::{Arg, ArgMatches, Command, Error};
 use ids::Fault;
-use server::{SimFault, read_fault, simulate};
+use simulator::{SimFault, read_fault, simulate};
 use std::alloc::Global;
 use std::hash::RandomState;
 use std::process::ExitCode;

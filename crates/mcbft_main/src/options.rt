@@ -1,8 +1,8 @@
 //! The command line.
 
 use clap::{Arg, ArgAction, ArgMatches, Command, Error, value_parser};
-use deployment::{Terms, Workers};
 use liars::Liar;
+use server::{Terms, Workers};
 use std::alloc::Global;
 use std::hash::RandomState;
 

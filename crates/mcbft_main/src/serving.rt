@@ -2,10 +2,10 @@
 
 use crate::faults::MainFault;
 use crate::options::Options;
-use deployment::{Ended, run};
 use ids::{Config, Fault};
 use key_file::PairKeys;
 use log::Log;
+use server::{Ended, run};
 use std::fs;
 use std::io::ErrorKind;
 use std::net::{Net, TcpListener, TcpStream};

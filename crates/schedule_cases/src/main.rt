@@ -1,76 +1,41 @@
-//! Runs many schedules of the simulator, each behind a line that names it, and prints what happened
-//! in each. What is wanted was computed by an independent program.
+//! Cases of whole schedules, and of what is judged after them. Each part of standard input stands behind a line
+//! that names its subject:
 //!
-//! A line of standard input that begins with `:` isn't one of a schedule: `: NAME` begins a
-//! schedule, `:cut` takes away the last byte of what stands so far, by `:reader fails` a read fails
-//! behind the schedule, and by `:room N` the writer has room for N bytes. Printed are the line of
-//! the name, what is written of the run and, where there is no outcome, the line that `hsim` prints
-//! on standard error.
+//! - `#runs`: schedules that are run as `hsim` runs them (`runs.rt`).
+//! - `#judged`: schedules whose runs are judged here, also without memory (`judged.rt`).
+//! - `#audits`: replicas that are audited, and reasons that are checked (`audits.rt`).
+//!
+//! What is wanted was computed by an independent program.
 #![tactic(auto)]
 
-mod cases;
-mod failing;
+mod audits;
+mod judged;
+mod runs;
 
-use crate::cases::{Case, Trouble, parse};
-use crate::failing::Failing;
-use anyhow::Result;
-use server::{SimFault, simulate};
-use std::alloc::Global;
+use anyhow::{Result, bail};
 use std::hash::RandomState;
-use std::io::{self, Read as _, Write as _};
+use std::io::Read as _;
 
-/// What is written where there is room for so many bytes.
-fn run_in(
-    alloc: Global,
-    hasher: RandomState,
-    mut text: &[u8],
-    room: &mut [u8],
-) -> (usize, Result<(), SimFault>) {
-    let most = room.len();
-    let mut left = room;
-    let outcome = simulate(alloc, hasher, &mut text, &mut left);
-    (most.saturating_sub(left.len()), outcome)
-}
-
-/// Runs a case, and appends what is written.
-fn run(
-    alloc: Global,
-    hasher: RandomState,
-    case: &Case,
-    out: &mut Vec<u8>,
-) -> Result<Result<(), SimFault>> {
-    let mut text = case.text.as_slice();
-    match case.trouble {
-        Trouble::Nothing => Ok(simulate(alloc, hasher, &mut text, out)),
-        Trouble::ReaderFails => Ok(simulate(alloc, hasher, &mut Failing(text), out)),
-        Trouble::Room(most) => {
-            let mut room = vec![in alloc; 0; most]?;
-            let (written, outcome) = run_in(alloc, hasher, text, room.as_mut_slice());
-            out.extend_from_slice(room.get(..written).unwrap_or(&[]))?;
-            out.push(b'\n')?;
-            Ok(outcome)
-        }
+/// Prints what is told of the cases of a part of the input.
+fn tell_part(rt: &HostRuntime, hasher: RandomState, part: &[u8]) -> Result<()> {
+    if let Some(cases) = part.strip_prefix(b"runs\n") {
+        return runs::tell_all(rt, hasher, cases);
     }
-}
-
-/// What is told of a case.
-fn tell(alloc: Global, hasher: RandomState, case: &Case) -> Result<Vec<u8>> {
-    let mut out = Vec::new(alloc);
-    writeln!(out, ": {}", case.name)?;
-    if let Err(fault) = run(alloc, hasher, case, &mut out)? {
-        writeln!(out, "hsim: {fault}")?;
+    if let Some(cases) = part.strip_prefix(b"judged\n") {
+        return judged::judge_all(rt, hasher, cases);
     }
-    Ok(out)
+    match part.strip_prefix(b"audits\n") {
+        Some(cases) => audits::answer_all(rt, hasher, cases),
+        None => bail!("no such subject"),
+    }
 }
 
 fn main(rt: HostRuntime) -> Result<()> {
-    let alloc = rt.alloc();
-    let mut input = Vec::new(alloc);
+    let mut input = Vec::new(rt.alloc());
     rt.reader().read_to_end(&mut input)?;
-    let mut writer = io::writer(&rt);
     let hasher = RandomState::new(&rt)?;
-    for case in &parse(alloc, &input)? {
-        writer.write_all(&tell(alloc, hasher, case)?)?;
+    for part in input.split(|byte| *byte == b'#').skip(1) {
+        tell_part(&rt, hasher, part)?;
     }
     Ok(())
 }

@@ -1,5 +1,2 @@
-pub mod Faults
-pub mod Lines
-pub mod Schedules
-pub mod Simulations
-pub mod Texts
+pub mod Ends
+pub mod Workers

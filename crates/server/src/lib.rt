@@ -1,13 +1,22 @@
-//! The simulator: it reads a schedule, brings frames about as the schedule says, and tells what happened.
+//! A whole deployment in one process: replicas in threads, their clock, and the front that clients
+//! connect to.
 #![tactic(auto)]
 
-mod lines;
-mod schedule;
-mod sim_fault;
-mod simulation;
-mod words;
+mod bounded;
+mod desk;
+mod ending;
+mod floods;
+mod guarded;
+mod laggards;
+mod link;
+mod lying;
+mod roll;
+mod running;
+mod stations;
+mod terms;
+mod watching;
+mod worker;
 
-pub use lines::Heading;
-pub use schedule::{Schedule, parse};
-pub use sim_fault::SimFault;
-pub use simulation::{keyrings_of, read_fault, simulate, world_of};
+pub use ending::EndAudit;
+pub use running::{Ended, run};
+pub use terms::{Terms, Workers};

@@ -2,11 +2,11 @@
 
 use crate::ask;
 use anyhow::{Result, bail};
-use deployment::{Terms, Workers, run};
 use key_file::PairKeys;
 use log::kv::Source;
 use log::span::Spans;
 use log::{Level, Line, Log, Logged, Metadata, Record};
+use server::{Terms, Workers, run};
 use std::alloc::Global;
 use std::fmt::Display;
 use std::hash::RandomState;

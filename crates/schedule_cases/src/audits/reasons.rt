@@ -1,0 +1,59 @@
+//! Reasons, as a line asks about them.
+
+use crate::audits::replicas::number;
+use audit::{CorePlace, Reason};
+use ids::{Digest, Fault, ReplicaId};
+
+/// The number of a replica.
+fn replica(digits: &str) -> Result<ReplicaId, Fault> {
+    Ok(ReplicaId(number(digits)?))
+}
+
+/// A digest in hexadecimal.
+fn digest(digits: &str) -> Result<Digest, Fault> {
+    let mut bytes = [0; 32];
+    hex::decode_to_slice(digits, &mut bytes)
+        .ok()
+        .ok_or(Fault::BadFields)?;
+    Ok(Digest(bytes))
+}
+
+/// A place.
+fn place(word: &str) -> Result<CorePlace, Fault> {
+    let Some((owner, step)) = word.split_once('/') else {
+        return Ok(CorePlace::Genesis);
+    };
+    Ok(CorePlace::Step {
+        replica: replica(owner)?,
+        step: step.parse().ok().ok_or(Fault::BadFields)?,
+    })
+}
+
+/// A missing vote.
+fn vote(words: &str) -> Result<Reason, Fault> {
+    let (receiver, rest) = words.split_once(':').ok_or(Fault::BadFields)?;
+    let (voter, digits) = rest.split_once(':').ok_or(Fault::BadFields)?;
+    Ok(Reason::Vote {
+        receiver: replica(receiver)?,
+        voter: replica(voter)?,
+        digest: digest(digits)?,
+    })
+}
+
+/// A collision.
+fn collision(words: &str) -> Result<Reason, Fault> {
+    let (first, second) = words.split_once(':').ok_or(Fault::BadFields)?;
+    Ok(Reason::Collision {
+        first: place(first)?,
+        second: place(second)?,
+    })
+}
+
+/// The reason of a field.
+pub(crate) fn reason_of(field: &str) -> Result<Reason, Fault> {
+    match field.split_once(':') {
+        Some(("vote", words)) => vote(words),
+        Some(("collision", words)) => collision(words),
+        _ => Err(Fault::BadFields),
+    }
+}

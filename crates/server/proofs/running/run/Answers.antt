@@ -1,0 +1,7 @@
+use Rattle.std.proofs.Common.{rules}
+use Rattle.marks.proofs.Owners.{all_owners}
+use Rattle.server.proofs.running.run.Goals as goal
+
+pub stations-requires-clause-owners : goal.stations-requires-clause-owners
+stations-requires-clause-owners g c =
+    all_owners c.in_ok-marks.marks _ _ _ c.in_ok-marks.ensures.eyes (search rules) c.in-Some.ensures.rest

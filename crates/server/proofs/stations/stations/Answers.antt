@@ -1,0 +1,42 @@
+use Rattle.std.proofs.Common.{rules, arith, sym, subst, ◌≡◌, map, Vec, vec_len}
+use Rattle.std.proofs.lemmas.List.Elements.{All-push}
+use Rattle.std.specs.Global.{Global}
+use Rattle.std.specs.List.{range_with_len}
+use Rattle.marks.specs.Eyes.{first_eye}
+use Rattle.marks.proofs.Owners.{Owners, owners_from}
+use Rattle.server.specs.declared.worker.Worker.{Worker}
+use Rattle.server.specs.Workers.{worker_count}
+use Rattle.server.proofs.stations.stations.Goals as goal
+
+pub loop-number-init : goal.loop-number-init
+loop-number-init c =
+    let z = c.args.marks.now in
+    let it = c.into_iter-number-iterator.result in
+    let first : it.count ≡ 0 = search rules in
+    let all : it.iter.rest.items ≡ map (first_eye z) (range_with_len 0 z.words) = search rules in (
+      search rules,
+      search rules,
+      subst (λ k. Owners z k it.iter.rest.items) (sym first)
+          (subst (Owners z 0) (sym all) (owners_from z z.words 0 (omega arith))),
+      search rules,
+      search rules,
+    )
+
+pub loop-number-preserved : goal.loop-number-preserved
+loop-number-preserved c =
+    let P : Vec Worker Global → Type 0 = λ workers. vec_len workers ≡ worker_count c.args.terms.now.workers in (
+      search rules,
+      search rules,
+      search rules,
+      rw c.push_reserved-in-loop-number.ensures.items
+          (All-push P _ _ (rw c.reserve-in-loop-number.ensures.items c.loop-number.invariant.3)
+          c.in_ok-station.ensures.count),
+      omega (
+        arith,
+        c.push_reserved.ensures.len,
+        c.push_reserved-in-loop-number.ensures.len,
+        c.reserve.ensures.len,
+        c.reserve-in-loop-number.ensures.len,
+        c.loop-number.invariant.4,
+      ),
+    )

@@ -1,0 +1,298 @@
+//! Replicas, each under its lock, and what their workers start with.
+
+ghost use Rattle.std.specs.Prelude.{◌≡◌, ◌<◌, ◌==◌, ◌⊎◌, map, All, Err, IfOk, OnErr, None, if◌then◌else◌, vec_len};
+ghost use Rattle.ids.specs.declared.fault.Fault.TheVariants.{Memory, NoSuchParty};
+ghost use Rattle.server.specs.Workers.{AllLieBy, lie_of, worker_count};
+ghost use Rattle.std.specs.List.{range_with_len};
+ghost use Rattle.ids.specs.Sizes.{replicas};
+ghost use Rattle.marks.specs.Eyes.{first_eye};
+
+use crate::bounded::{Bounded, stopped};
+use crate::guarded::Guarded;
+use crate::laggards::Reach;
+use crate::lying::{LyingOut, Tongue};
+use crate::terms::Terms;
+use crate::watching::Progress;
+use crate::worker::Worker;
+use clock::{Pulse, Watched, keep_time};
+use doorkeeper::Doorkeeper;
+use fabric::{Inbox, Links, Post, WaitingRoom};
+use ids::{Fault, ReplicaId};
+use key_file::PairKeys;
+use liars::Liar;
+use locked_replica::Kept;
+use marks::{Eye, Marks};
+use replica::Archived;
+use std::alloc::Global;
+use std::hash::RandomState;
+use std::sync::atomic::AtomicBool;
+use std::sync::{Arc, Mutex, Wait};
+use std::time::Clock;
+use turns::Open;
+
+/// A replica under its lock, behind its doorkeeper, and where what is for it comes out.
+#[derive(Drop)]
+pub(crate) struct Station<'a> {
+    number: ReplicaId,
+    locked: Mutex<Guarded<'a>>,
+    /// At how many blocks it stops.
+    most_blocks: usize,
+    /// How many heights it keeps, if it is to forget others.
+    window: Option<u64>,
+    inbox: Arc<Inbox>,
+    room: WaitingRoom,
+}
+
+impl<'a> Station<'a> {
+    /// Which replica stands here.
+    pub(crate) fn number(&self) -> ReplicaId {
+        self.number
+    }
+
+    /// The replica, out of its lock.
+    pub(crate) fn into_kept(self) -> Kept<'a> {
+        let Guarded { kept, door: _ } = self.locked.into_inner();
+        kept
+    }
+
+    /// How far the replica is.
+    pub(crate) fn progress<R: Wait>(&self, rt: &R) -> Progress {
+        let guarded = self.locked.lock(rt);
+        let replica = guarded.replica();
+        Progress {
+            executed: replica.executed() as u64,
+            height: replica.height(),
+            blocks: replica.blocks(),
+            pending: replica.pending(),
+            view: replica.view(),
+        }
+    }
+
+    /// What the replica has executed, and what it has forgotten.
+    pub(crate) fn reach<R: Wait>(&self, rt: &R) -> Reach {
+        let guarded = self.locked.lock(rt);
+        let replica = guarded.replica();
+        Reach {
+            height: replica.height(),
+            horizon: replica.horizon(),
+            goes_on: replica.stopped().is_none(),
+        }
+    }
+}
+
+impl<'a> Watched for Station<'a> {
+    fn pulse<R: Wait>(&self, rt: &R) -> Pulse {
+        let guarded = self.locked.lock(rt);
+        let replica = guarded.replica();
+        Pulse {
+            wants_beat: replica.wants_beat(),
+            wants_beat_now: replica.wants_beat_now(),
+            is_pending: replica.pending() > 0,
+            view: replica.view(),
+            executed: replica.executed() as u64,
+            height: replica.height(),
+            horizon: replica.horizon(),
+            stopped: stopped(replica, self.most_blocks),
+        }
+    }
+}
+
+/// Works at a station until it is told to stop.
+pub(crate) fn run_worker<R: Wait + Clock + AllocGlobal>(
+    rt: &R,
+    station: &Station<'_>,
+    links: &Links,
+    worker: Worker,
+) {
+    let Worker {
+        share,
+        keyring,
+        tongue,
+    } = worker;
+    let (alloc, gate) = (rt.alloc(), Open);
+    let mut steps = Bounded {
+        locked: &station.locked,
+        most: station.most_blocks,
+    };
+    let _share = match tongue {
+        None => {
+            let post = Post::new(alloc, keyring, &gate, &station.inbox, links, &station.room);
+            post.work(rt, &mut steps, share)
+        }
+        Some(tongue) => {
+            let out = LyingOut { tongue, links };
+            let post = Post::new(alloc, keyring, &gate, &station.inbox, &out, &station.room);
+            post.work(rt, &mut steps, share)
+        }
+    };
+}
+
+/// Gives a station its beats, timeouts and prunings until it is told to stop, or the replica has stopped:
+/// then it answers why.
+pub(crate) fn watch<R: Wait + Clock>(
+    rt: &R,
+    station: &Station<'_>,
+    links: &Links,
+    stop: &AtomicBool,
+) -> Option<Fault> {
+    keep_time(rt, links, station.number, station, station.window, stop)
+}
+
+/// What a replica lies with.
+fn make_tongue(
+    alloc: Global,
+    keys: &PairKeys,
+    number: ReplicaId,
+    liar: Liar,
+) -> Result<Tongue, Fault>
+    requires { number < replicas keys.now.sizes }
+    ensures made { IfOk result (λ tongue. tongue.liar ≡ liar) }
+    ensures memory { OnErr result (result ≡ Err Memory) }
+{
+    let keyring = keys.keyring(alloc, number.into())?;
+    Ok(Tongue {
+        alloc,
+        liar,
+        keyring,
+    })
+}
+
+/// A worker of a kept replica.
+fn new_worker(
+    alloc: Global,
+    keys: &PairKeys,
+    kept: &mut Kept<'_>,
+    number: ReplicaId,
+    liar: Option<Liar>,
+) -> Result<Worker, Fault>
+    requires { number < replicas keys.now.sizes }
+    ensures lies { IfOk result (λ worker. lie_of worker ≡ liar) }
+    ensures memory { OnErr result (result ≡ Err Memory) }
+{
+    let share = kept.share()?;
+    let keyring = keys.keyring(alloc, number.into())?;
+    let tongue = match liar {
+        None => None,
+        Some(liar) => Some(make_tongue(alloc, keys, number, liar)?),
+    };
+    Ok(Worker {
+        share,
+        keyring,
+        tongue,
+    })
+}
+
+/// A replica that has made no step.
+fn new_kept<'a>(
+    alloc: Global,
+    keys: &PairKeys,
+    number: ReplicaId,
+    eye: Eye,
+    marks: &'a Marks,
+    hasher: RandomState,
+) -> Result<Kept<'a>, Fault>
+    requires number { number < replicas keys.now.sizes }
+    requires words { marks.now.words ≡ replicas keys.now.sizes }
+    requires eye { eye ≡ first_eye marks.now number }
+    ensures memory { OnErr result (result ≡ Err Memory) }
+{
+    let keyring = keys.keyring(alloc, number.into())?;
+    let replica = Archived::new(alloc, keys.config(), number, keyring, hasher)?;
+    Ok(Kept::new(alloc, replica, eye, marks))
+}
+
+/// The workers of a kept replica: as many as the terms say.
+fn new_workers(
+    alloc: Global,
+    keys: &PairKeys,
+    kept: &mut Kept<'_>,
+    number: ReplicaId,
+    terms: &Terms,
+) -> Result<Vec<Worker>, Fault>
+    requires { number < replicas keys.now.sizes }
+    ensures count { IfOk result (λ workers. vec_len workers ≡ worker_count terms.now.workers) }
+    ensures lies { IfOk result
+        (λ workers. AllLieBy (if number == 0 then terms.now.liar else None) workers.items) }
+    ensures memory { OnErr result (result ≡ Err Memory) }
+{
+    let (count, liar) = (terms.workers.count(), terms.liar_of(number));
+    let mut workers = Vec::with_capacity(alloc, count)?;
+    for _ in 0..count {
+        workers.push_reserved(new_worker(alloc, keys, kept, number, liar)?);
+    }
+    Ok(workers)
+}
+
+/// The station of a replica that has made no step, and its workers.
+fn build_station<'a>(
+    alloc: Global,
+    keys: &PairKeys,
+    number: ReplicaId,
+    eye: Eye,
+    marks: &'a Marks,
+    inbox: Arc<Inbox>,
+    terms: &Terms,
+) -> Result<(Station<'a>, Vec<Worker>), Fault>
+    requires number { number < replicas keys.now.sizes }
+    requires words { marks.now.words ≡ replicas keys.now.sizes }
+    requires eye { eye ≡ first_eye marks.now number }
+    ensures count { IfOk result (λ made. vec_len made.1 ≡ worker_count terms.now.workers) }
+    ensures lies { IfOk result
+        (λ made. AllLieBy (if number == 0 then terms.now.liar else None) made.1.items) }
+    ensures memory { OnErr result (result ≡ Err Memory) }
+{
+    let mut kept = new_kept(alloc, keys, number, eye, marks, terms.hasher)?;
+    let workers = new_workers(alloc, keys, &mut kept, number, terms)?;
+    let station = Station {
+        number,
+        locked: Mutex::new(Guarded {
+            kept,
+            door: Doorkeeper::new(alloc),
+        }),
+        most_blocks: terms.most_blocks(),
+        window: terms.window,
+        inbox,
+        room: WaitingRoom::new(alloc, terms.workers.count()),
+    };
+    Ok((station, workers))
+}
+
+/// A station for each word of the marks, with the eye that owns it, and the workers of each.
+pub(crate) fn stations<'a>(
+    alloc: Global,
+    keys: &PairKeys,
+    marks: &'a Marks,
+    owners: Vec<Eye>,
+    ends: Vec<Arc<Inbox>>,
+    terms: &Terms,
+) -> Result<(Vec<Station<'a>>, Vec<Vec<Worker>>), Fault>
+    requires words { marks.now.words ≡ replicas keys.now.sizes }
+    requires owners { owners.items ≡ map (first_eye marks.now) (range_with_len 0 marks.now.words) }
+    ensures workers { IfOk result
+        (λ made. All (λ workers. vec_len workers ≡ worker_count terms.now.workers) made.1.items) }
+    ensures both { IfOk result (λ made. vec_len made.0 ≡ vec_len made.1) }
+    ensures refused { OnErr result ((result ≡ Err Memory) ⊎ (result ≡ Err NoSuchParty)) }
+{
+    let mut ends = ends.into_iter();
+    let mut stations = Vec::new(alloc);
+    let mut workers = Vec::new(alloc);
+    for (number, eye) in owners.into_iter().enumerate() {
+        let (Ok(number), Some(inbox)) = (u8::try_from(number), ends.next()) else {
+            return Err(Fault::NoSuchParty);
+        };
+        stations.reserve(1)?;
+        workers.reserve(1)?;
+        let (station, its_own) = build_station(
+            alloc,
+            keys,
+            ReplicaId(number),
+            eye,
+            marks,
+            inbox,
+            terms,
+        )?;
+        stations.push_reserved(station);
+        workers.push_reserved(its_own);
+    }
+    Ok((stations, workers))
+}

@@ -1,0 +1,65 @@
+//! How a deployment is to run.
+
+ghost use Rattle.std.specs.Prelude.{◌≡◌, ◌==◌, ◌^◌, ◌-◌, None, if◌then◌else◌, unwrap_or};
+
+use ids::ReplicaId;
+use liars::Liar;
+use std::hash::RandomState;
+
+/// How many workers drive a replica. Two check frames side by side, and step their replica in turn.
+#[derive(Clone, Copy, Debug, PartialEq, Eq)]
+pub enum Workers {
+    One,
+    Two,
+}
+
+impl Workers {
+    ghost use Rattle.server.specs.Workers.{worker_count};
+
+    /// Their number.
+    pub(crate) fn count(self) -> usize
+        ensures { result ≡ worker_count self }
+    {
+        match self {
+            Workers::One => 1,
+            Workers::Two => 2,
+        }
+    }
+}
+
+/// How a deployment is to run.
+#[derive(Clone, Copy, Debug)]
+pub struct Terms {
+    /// How replica 0 lies, if it is to.
+    pub liar: Option<Liar>,
+    /// How many connections are served.
+    pub most: u64,
+    /// How many blocks a replica may hold, genesis included: one that holds so many stops with `Full`. None
+    /// for as many as a tree takes.
+    pub blocks: Option<usize>,
+    /// How many heights below its last executed block a replica keeps; it forgets what is lower. None to keep
+    /// all, with an archive.
+    pub window: Option<u64>,
+    /// How many workers each replica has.
+    pub workers: Workers,
+    /// Each how many seconds a line is logged that tells how it goes. None for no lines.
+    pub watch: Option<u64>,
+    /// The secret by which the replicas' caches hash keys.
+    pub hasher: RandomState,
+}
+
+impl Terms {
+    /// How this replica lies, if it is to. Replica 0 alone may.
+    pub(crate) fn liar_of(&self, number: ReplicaId) -> Option<Liar>
+        ensures { result ≡ (if number == 0 then self.now.liar else None) }
+    {
+        if number.0 == 0 { self.liar } else { None }
+    }
+
+    /// At how many blocks a replica stops, where its tree isn't full before.
+    pub(crate) fn most_blocks(&self) -> usize
+        ensures { result ≡ unwrap_or self.now.blocks (2 ^ 64 - 1) }
+    {
+        self.blocks.unwrap_or(usize::MAX)
+    }
+}

@@ -1,0 +1,9 @@
+pub mod Cuts
+pub mod Keyrings
+pub mod MoreLines
+pub mod Numbers
+pub mod Digits
+pub mod Fields
+pub mod Parties
+pub mod Readings
+pub mod Told

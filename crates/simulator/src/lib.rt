@@ -1,0 +1,13 @@
+//! The simulator: it reads a schedule, brings frames about as the schedule says, and tells what happened.
+#![tactic(auto)]
+
+mod lines;
+mod schedule;
+mod sim_fault;
+mod simulation;
+mod words;
+
+pub use lines::Heading;
+pub use schedule::{Schedule, parse};
+pub use sim_fault::SimFault;
+pub use simulation::{keyrings_of, read_fault, simulate, world_of};

@@ -1,0 +1,114 @@
+//! A front with one seat, and its clients, in one process. What each client reads is printed.
+
+mod failing;
+mod silence;
+
+use crate::fronts::failing::failing_scene;
+use crate::fronts::silence::silent_scene;
+use anyhow::{Result, bail};
+use connection::Service;
+use ids::Fault;
+use std::alloc::Global;
+use std::io::{Read, Write};
+use std::net::{Net, SocketAddr, TcpListener, TcpStream};
+use std::thread::join;
+use tcp_front::{Seat, Seats, front};
+
+/// How many connections are made.
+const CONNECTIONS: u64 = 3;
+
+/// Answers each request with its length.
+#[derive(Drop)]
+pub(crate) struct Lengths(pub(crate) Global);
+
+impl Service for Lengths {
+    ghost use Rattle.std.specs.Prelude.{◌≡◌};
+
+    ghost answers = { λ old payload answer new. new ≡ old };
+
+    fn call(&mut self, payload: &[u8], text: &mut Vec<u8>) -> Result<(), Fault> {
+        let length = payload.len();
+        let line = format!(in self.0; "{length}\r\n")?;
+        text.extend_from_slice(line.as_bytes())?;
+        Ok(())
+    }
+}
+
+impl Seat for Lengths {
+    fn is_lost(&self) -> bool {
+        false
+    }
+}
+
+/// Sends these words, and gives what comes back, to the end or as long as a piece.
+pub(crate) fn ask(alloc: Global, stream: &TcpStream, words: &str) -> Result<String> {
+    (&mut &*stream).write_all(words.as_bytes())?;
+    let mut piece = [0; 256];
+    let count = (&mut &*stream).read(&mut piece)?;
+    Ok(String::from_utf8_lossy(alloc, &piece[..count])?)
+}
+
+/// What three clients read: the second comes while the first is served.
+fn clients<R: Net<Stream = TcpStream> + AllocGlobal>(
+    rt: &R,
+    at: SocketAddr,
+) -> Result<Vec<String>> {
+    let alloc = rt.alloc();
+    let mut read = Vec::new(alloc);
+    let first = TcpStream::connect(rt, at)?;
+    read.push(ask(alloc, &first, "get a\r\n")?)?;
+    let second = TcpStream::connect(rt, at)?;
+    read.push(ask(alloc, &second, "get b\r\n")?)?;
+    read.push(ask(alloc, &first, "set a 0 0 1\r\nx\r\n")?)?;
+    read.push(ask(alloc, &first, "quit\r\n")?)?;
+    let third = TcpStream::connect(rt, at)?;
+    read.push(ask(alloc, &third, "touch a\r\n")?)?;
+    Ok(read)
+}
+
+/// The one seat of a front.
+pub(crate) fn one_seat<S: Drop>(alloc: Global, seat: S) -> Result<Seats<S>> {
+    let mut all = Vec::new(alloc);
+    all.push(seat)?;
+    Ok(Seats::new(alloc, all)?)
+}
+
+/// Prints what clients read.
+pub(crate) fn tell<R: Print>(rt: &R, read: &[String]) -> Result<()> {
+    for text in read {
+        println!(rt; "{:?}", text.as_str())?;
+    }
+    Ok(())
+}
+
+/// How many connections a front served.
+pub(crate) fn count_of(served: std::result::Result<u64, Fault>) -> Result<u64> {
+    match served {
+        Ok(count) => Ok(count),
+        Err(fault) => bail!("fault {}", fault.number()),
+    }
+}
+
+/// Serves three clients, of whom one comes while another has the seat.
+fn usual_scene(rt: &HostRuntime) -> Result<()> {
+    let listener = TcpListener::bind(rt, "127.0.0.1:0")?;
+    let at = listener.local_addr()?;
+    let seats = one_seat(rt.alloc(), Lengths(rt.alloc()))?;
+    let seats = &seats;
+    let (served, read) = join(
+        rt,
+        || front(rt, &listener, seats, CONNECTIONS),
+        || clients(rt, at),
+    );
+    tell(rt, &read?)?;
+    println!(rt; "served {}", count_of(served)?)?;
+    Ok(())
+}
+
+/// Plays all scenes.
+pub(crate) fn play_all(rt: &HostRuntime) -> Result<()> {
+    usual_scene(rt)?;
+    failing_scene(rt)?;
+    silent_scene(rt, true)?;
+    silent_scene(rt, false)
+}

@@ -1,0 +1,31 @@
+//! Runs workers in threads, and prints what must be seen whatever the schedule.
+
+mod fake;
+mod frames;
+mod held;
+mod meeting;
+mod onlooker;
+mod runs;
+mod scenes;
+mod seen;
+mod stations;
+
+use crate::workers::scenes::Scene;
+use anyhow::Result;
+
+/// The runs, in the order in which they are told.
+const SCENES: [Scene; 5] = [
+    Scene::TwoTurns,
+    Scene::TwoCalls,
+    Scene::OneVote,
+    Scene::EachOnce,
+    Scene::OneSet,
+];
+
+/// Plays all runs.
+pub(crate) fn play_all(rt: &HostRuntime) -> Result<()> {
+    for scene in SCENES {
+        println!(rt; "{}", scene.play(rt, rt.alloc())?)?;
+    }
+    Ok(())
+}
