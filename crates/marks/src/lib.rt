@@ -6,7 +6,9 @@
 mod eye;
 mod marks;
 mod rule;
+mod watcher;
 
 pub use eye::Eye;
 pub use marks::Marks;
 pub use rule::Sight;
+pub use watcher::Watcher;

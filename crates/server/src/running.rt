@@ -14,7 +14,7 @@ use fabric::{Ends, Links};
 use ids::{Fault, ReplicaId};
 use key_file::PairKeys;
 use log::{Log, warn};
-use marks::Marks;
+use marks::{Marks, Watcher};
 use std::net::TcpListener;
 use std::sync::atomic::AtomicBool;
 use std::sync::atomic::Ordering::SeqCst;
@@ -109,6 +109,7 @@ fn serve_at<R: Threads + Wait + Clock + Sync + Send + AllocGlobal + Log + Clone 
     stations: &[Station<'_>],
     workers: Vec<Vec<Worker>>,
     bell: &Bell<'_, Desk<R>>,
+    watcher: Watcher<'_>,
     listener: &TcpListener,
     terms: Terms,
 ) -> Result<u64, Fault>
@@ -117,11 +118,12 @@ fn serve_at<R: Threads + Wait + Clock + Sync + Send + AllocGlobal + Log + Clone 
     let stop = AtomicBool::new(false);
     let stop = &stop;
     let (links, roll, seats) = (bell.links, bell.roll, bell.seats);
-    let board = &Board {
+    let board = Board {
         stations,
         links,
         roll,
         seats,
+        watcher,
     };
     let served = thread::scope(thread::scope_env(), rt, |scope| {
         let watched = scope.spawn(move || board.keep(rt, terms.watch, stop));
@@ -164,9 +166,10 @@ pub fn run<R: Threads + Wait + Clock + Sync + Send + AllocGlobal + Log + Clone +
     let (links, ends) = Links::new(alloc, config)?;
     let Ends { replicas, clients } = ends;
     let (marks, mut eyes) = Marks::new(alloc, config.n())?;
-    let Some(_watcher) = eyes.pop() else {
+    let Some(eye) = eyes.pop() else {
         return Err(Fault::NotAll);
     };
+    let watcher = Watcher::new(&marks, config.n(), eye);
     let roll = Arc::new(alloc, Roll::new(config))?;
     let (stations, workers) = stations(alloc, keys, &marks, eyes, replicas, &terms)?;
     let links = Arc::new(alloc, links)?;
@@ -178,7 +181,15 @@ pub fn run<R: Threads + Wait + Clock + Sync + Send + AllocGlobal + Log + Clone +
         seats: &seats,
         closer: &closer,
     };
-    let served = serve_at(rt, stations.as_slice(), workers, &bell, listener, terms);
+    let served = serve_at(
+        rt,
+        stations.as_slice(),
+        workers,
+        &bell,
+        watcher,
+        listener,
+        terms,
+    );
     let audit = judge_by_terms(stations, terms, room)?;
     Ok(Ended { served, audit })
 }

@@ -55,12 +55,12 @@ impl<'a> Station<'a> {
         kept
     }
 
-    /// How far the replica is.
-    pub(crate) fn progress<R: Wait>(&self, rt: &R) -> Progress {
+    /// How far the replica is, which has executed so many commands.
+    pub(crate) fn progress<R: Wait>(&self, rt: &R, executed: u64) -> Progress {
         let guarded = self.locked.lock(rt);
         let replica = guarded.replica();
         Progress {
-            executed: replica.executed() as u64,
+            executed,
             height: replica.height(),
             blocks: replica.blocks(),
             pending: replica.pending(),

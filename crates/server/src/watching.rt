@@ -9,6 +9,7 @@ use crate::stations::Station;
 use fabric::Links;
 use ids::{Height, View};
 use log::{Log, info};
+use marks::Watcher;
 use std::sync::Wait;
 use std::sync::atomic::AtomicBool;
 use std::sync::atomic::Ordering::SeqCst;
@@ -61,29 +62,31 @@ impl Progress {
     }
 }
 
-/// How far the foremost replicas are.
-fn foremost<R: Wait>(rt: &R, stations: &[Station<'_>]) -> Progress {
+/// How far the foremost replicas are. How far each has executed is read off its mark.
+fn foremost<R: Wait>(rt: &R, stations: &[Station<'_>], watcher: &mut Watcher<'_>) -> Progress {
     let mut foremost = Progress::none();
     for station in stations {
-        foremost = foremost.max(station.progress(rt));
+        let executed = watcher.executed(station.number()).unwrap_or(0);
+        foremost = foremost.max(station.progress(rt, executed));
     }
     foremost
 }
 
 /// What a line is told of.
 #[derive(Drop)]
-pub(crate) struct Board<'a, 's, S> {
+pub(crate) struct Board<'a, 's, 'm, S> {
     pub(crate) stations: &'a [Station<'s>],
     pub(crate) links: &'a Links,
     pub(crate) roll: &'a Roll,
     pub(crate) seats: &'a Seats<S>,
+    pub(crate) watcher: Watcher<'m>,
 }
 
-impl<'a, 's, S: Drop> Board<'a, 's, S> {
+impl<'a, 's, 'm, S: Drop> Board<'a, 's, 'm, S> {
     /// Tells one line. So many commands were executed at the last one, so many seconds ago. How many are now.
-    fn tell<R: Wait + Log>(&self, rt: &R, before: u64, seconds: u64) -> u64 {
+    fn tell<R: Wait + Log>(&mut self, rt: &R, before: u64, seconds: u64) -> u64 {
         let config = self.links.config();
-        let now = foremost(rt, self.stations);
+        let now = foremost(rt, self.stations, &mut self.watcher);
         let rate = now.executed.saturating_sub(before) / seconds.max(1);
         let (executed, height, blocks) = (now.executed, now.height.0, now.blocks);
         let (view, leader, pending) = (now.view.0, config.leader(now.view).0, now.pending);
@@ -98,7 +101,7 @@ impl<'a, 's, S: Drop> Board<'a, 's, S> {
     /// Warns of replicas that fall behind or send too much, and tells a line each so many seconds, if any, until
     /// it is told to stop.
     pub(crate) fn keep<R: Wait + Clock + Log>(
-        &self,
+        mut self,
         rt: &R,
         seconds: Option<u64>,
         stop: &AtomicBool,

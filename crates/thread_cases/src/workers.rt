@@ -4,7 +4,6 @@ mod fake;
 mod frames;
 mod held;
 mod meeting;
-mod onlooker;
 mod runs;
 mod scenes;
 mod seen;

@@ -1,14 +1,13 @@
 //! A run of workers in threads.
 
 use crate::workers::fake::Fake;
-use crate::workers::onlooker::Onlooker;
 use crate::workers::seen::Seen;
 use crate::workers::stations::{Station, stations};
 use bytes::Bytes;
 use fabric::{ClientEnd, Ends, Links, Post};
 use ids::{Config, Fault, ReplicaId};
 use locked_replica::Share;
-use marks::Marks;
+use marks::{Marks, Watcher};
 use simulated_keys::keyring_of;
 use std::alloc::Global;
 use std::hash::RandomState;
@@ -59,12 +58,27 @@ struct Stage<'a, G> {
 /// other things.
 const MOST_LOOKS: u32 = 2500;
 
+/// How far a replica has executed. It is 0 where there is no such replica.
+fn executed_at(watcher: &mut Watcher<'_>, number: u8) -> u64 {
+    watcher.executed(ReplicaId(number)).unwrap_or(0)
+}
+
+/// How far each of four replicas has executed, by number.
+fn executed_by(watcher: &mut Watcher<'_>) -> [u64; 4] {
+    [
+        executed_at(watcher, 0),
+        executed_at(watcher, 1),
+        executed_at(watcher, 2),
+        executed_at(watcher, 3),
+    ]
+}
+
 /// Whether a run has come to its end, when it is looked at the k-th time.
 fn is_over<R: Wait, G>(
     rt: &R,
     stage: &Stage<'_, G>,
     until: Until,
-    onlooker: &mut Onlooker<'_>,
+    watcher: &mut Watcher<'_>,
     k: u32,
 ) -> bool {
     match until {
@@ -73,7 +87,7 @@ fn is_over<R: Wait, G>(
             if k % 50 == 49 {
                 let _told = stage.links.beat(rt, ReplicaId(0));
             }
-            !onlooker.seen().contains(&0)
+            !executed_by(watcher).contains(&0)
         }
     }
 }
@@ -84,13 +98,13 @@ fn drive<R: Wait + Clock, G>(
     stage: &Stage<'_, G>,
     handed: Vec<(ReplicaId, Bytes)>,
     until: Until,
-    onlooker: &mut Onlooker<'_>,
+    watcher: &mut Watcher<'_>,
 ) {
     for (to, frame) in handed {
         let _handed = stage.links.to_replica(rt, to, frame);
     }
     for k in 0..MOST_LOOKS {
-        if is_over(rt, stage, until, onlooker, k) {
+        if is_over(rt, stage, until, watcher, k) {
             break;
         }
         thread::sleep(rt, Duration::from_millis(20));
@@ -155,7 +169,7 @@ fn work_all<R: Threads + Wait + Clock + Sync, G: Gate + Sync>(
     stations: &[Station<'_>],
     handed: Vec<(ReplicaId, Bytes)>,
     until: Until,
-    onlooker: &mut Onlooker<'_>,
+    watcher: &mut Watcher<'_>,
 ) -> Result<(), Fault> {
     thread::scope(thread::scope_env(), rt, |scope| {
         for station in stations {
@@ -166,7 +180,7 @@ fn work_all<R: Threads + Wait + Clock + Sync, G: Gate + Sync>(
                 return Err(Fault::Memory);
             }
         }
-        drive(rt, stage, handed, until, onlooker);
+        drive(rt, stage, handed, until, watcher);
         Ok(())
     })
 }
@@ -245,15 +259,15 @@ fn look<R: Wait>(rt: &R, ends: &Ends, steps: usize, executed: [u64; 4]) -> Told 
 fn look_on<R: Threads + Wait + Clock + Sync, G: Gate + Sync>(
     rt: &R,
     stage: &Stage<'_, G>,
-    mut onlooker: Onlooker<'_>,
+    mut watcher: Watcher<'_>,
     stations: Vec<Station<'_>>,
     handed: Vec<(ReplicaId, Bytes)>,
     until: Until,
 ) -> Result<(usize, [u64; 4]), Fault> {
-    let worked = work_all(rt, stage, stations.as_slice(), handed, until, &mut onlooker);
+    let worked = work_all(rt, stage, stations.as_slice(), handed, until, &mut watcher);
     let steps = close_all(stations, worked)?;
-    let mut another = onlooker.another()?;
-    Ok((steps, another.seen()))
+    let mut another = watcher.another()?;
+    Ok((steps, executed_by(&mut another)))
 }
 
 /// What `look_on` tells of new replicas.
@@ -268,7 +282,7 @@ fn run_at<R: Threads + Wait + Clock + Sync, G: Gate + Sync>(
     let Some(eye) = eyes.pop() else {
         return Err(Fault::NotAll);
     };
-    let onlooker = Onlooker::new(stage.config, &marks, eye);
+    let watcher = Watcher::new(&marks, stage.config.n(), eye);
     let stations = stations(
         stage.alloc,
         stage.config,
@@ -277,7 +291,7 @@ fn run_at<R: Threads + Wait + Clock + Sync, G: Gate + Sync>(
         replicas,
         stage.hasher,
     )?;
-    look_on(rt, stage, onlooker, stations, handed, until)
+    look_on(rt, stage, watcher, stations, handed, until)
 }
 
 /// Two workers for each wanted replica take the frames that are handed in, until the run is over.

@@ -6,6 +6,6 @@ pub stations-requires-clause-owners : goal.stations-requires-clause-owners
 stations-requires-clause-owners g c =
     all_owners c.in_ok-marks.marks _ _ _ c.in_ok-marks.ensures.eyes (search rules) c.in-Some.ensures.rest
 
-pub new-onlooker-requires-clause-own : goal.new-onlooker-requires-clause-own
-new-onlooker-requires-clause-own g c =
+pub new-watcher-requires-clause-own : goal.new-watcher-requires-clause-own
+new-watcher-requires-clause-own g c =
     last_eye c.in_ok-marks.marks _ _ c.in-Some.eye c.in_ok-marks.ensures.eyes c.in-Some.ensures.items

@@ -1,0 +1,74 @@
+//! Who reads the marks.
+
+ghost use Rattle.std.specs.Prelude.{◌≡◌, ◌≤◌, slice_index, IfNone, IfOk, IfSome, OnErr};
+ghost use Rattle.marks.specs.Eyes.{seeing, onlooker_of};
+
+use crate::eye::Eye;
+use crate::marks::Marks;
+use ids::{Fault, ReplicaId};
+use std::marker::Model;
+
+/// An eye with the marks that it is of. Contracts see the eye.
+#[derive(Drop)]
+pub struct Watcher<'m> {
+    marks: &'m Marks,
+    replicas: u8,
+    eye: Eye,
+}
+
+impl<'m> Model for Watcher<'m> {
+    ghost use Rattle.std.specs.Prelude.{◌≡◌};
+    ghost use Rattle.marks.specs.Eyes.{EyeState};
+
+    ghost Value = { EyeState };
+
+    ghost view = { λ w. w.eye };
+
+    ghost invariant = { λ w. (w.eye.marks ≡ w.marks.now) × (w.marks.now.words ≡ w.replicas) };
+}
+
+impl<'m> Watcher<'m> {
+    /// An eye with its marks, which are those of so many replicas.
+    pub fn new(marks: &'m Marks, replicas: u8, eye: Eye) -> Watcher<'m>
+        requires own { eye.marks ≡ marks.now }
+        requires words { marks.now.words ≡ replicas }
+        ensures { result ≡ eye }
+    {
+        Watcher {
+            marks,
+            replicas,
+            eye,
+        }
+    }
+
+    /// How far a replica has executed: at least what was seen of it. None, where there is no such replica.
+    ///
+    /// It takes no memory and waits for nobody.
+    pub fn executed(&mut self, replica: ReplicaId) -> Option<u64>
+        ensures seen { IfSome result (λ executed.
+            (slice_index self.old.sight.seen replica ≤ executed)
+            × (self.new ≡ seeing self.old replica executed)) }
+        ensures none { IfNone result ((self.old.marks.words ≤ replica) × (self.new ≡ self.old)) }
+    {
+        if replica.0 >= self.replicas {
+            return None;
+        }
+        Some(self.marks.executed(&mut self.eye, replica))
+    }
+
+    /// One more, which has seen as much.
+    ///
+    /// It takes no memory today; `Memory` is what it may come to.
+    pub fn another(&mut self) -> Result<Watcher<'m>, Fault>
+        ensures made { IfOk result (λ watcher. watcher ≡ onlooker_of self.old) }
+        ensures unchanged { self.new ≡ self.old }
+        ensures memory { OnErr result (result ≡ Err Fault.Memory) }
+    {
+        let eye = self.marks.eye(&mut self.eye)?;
+        Ok(Watcher {
+            marks: self.marks,
+            replicas: self.replicas,
+            eye,
+        })
+    }
+}
