@@ -8,10 +8,12 @@ use crate::fronts::silence::silent_scene;
 use anyhow::{Result, bail};
 use connection::Service;
 use ids::Fault;
+use log::Log;
 use std::alloc::Global;
 use std::io::{Read, Write};
 use std::net::{Net, SocketAddr, TcpListener, TcpStream};
-use std::thread::join;
+use std::sync::Wait;
+use std::thread::{Threads, join};
 use tcp_front::{Seat, Seats, front};
 
 /// How many connections are made.
@@ -90,7 +92,11 @@ pub(crate) fn count_of(served: std::result::Result<u64, Fault>) -> Result<u64> {
 }
 
 /// Serves three clients, of whom one comes while another has the seat.
-fn usual_scene(rt: &HostRuntime) -> Result<()> {
+fn usual_scene<R>(rt: &R) -> Result<()>
+where
+    R: Threads + Wait + Sync + AllocGlobal + Print + Log,
+    R: Net<Listener = TcpListener, Stream = TcpStream>,
+{
     let listener = TcpListener::bind(rt, "127.0.0.1:0")?;
     let at = listener.local_addr()?;
     let seats = one_seat(rt.alloc(), Lengths(rt.alloc()))?;
@@ -106,7 +112,11 @@ fn usual_scene(rt: &HostRuntime) -> Result<()> {
 }
 
 /// Plays all scenes.
-pub(crate) fn play_all(rt: &HostRuntime) -> Result<()> {
+pub(crate) fn play_all<R>(rt: &R) -> Result<()>
+where
+    R: Threads + Wait + Sync + Clone + Drop + AllocGlobal + Print + Log,
+    R: Net<Listener = TcpListener, Stream = TcpStream>,
+{
     usual_scene(rt)?;
     failing_scene(rt)?;
     silent_scene(rt, true)?;

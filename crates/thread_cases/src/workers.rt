@@ -11,6 +11,10 @@ mod stations;
 
 use crate::workers::scenes::Scene;
 use anyhow::Result;
+use std::random::RandomSource;
+use std::sync::Wait;
+use std::thread::Threads;
+use std::time::Clock;
 
 /// The runs, in the order in which they are told.
 const SCENES: [Scene; 5] = [
@@ -22,7 +26,10 @@ const SCENES: [Scene; 5] = [
 ];
 
 /// Plays all runs.
-pub(crate) fn play_all(rt: &HostRuntime) -> Result<()> {
+pub(crate) fn play_all<R>(rt: &R) -> Result<()>
+where
+    R: Threads + Wait + Clock + Sync + RandomSource + AllocGlobal + Print,
+{
     for scene in SCENES {
         println!(rt; "{}", scene.play(rt, rt.alloc())?)?;
     }
