@@ -89,7 +89,7 @@ AreOfEach [] = ⊤
 AreOfEach (b ∷ bs) = AllByRecursion (λ x. x.voter ≡ b.voter → ⊥) bs × AreOfEach bs
 
 -- the first of rising votes is below each other
-rise-below : (x : Vote) (xs : List Vote) → Rise (x ∷ xs) → AllByRecursion (λ y. x.voter < y.voter) xs
+pub rise-below : (x : Vote) (xs : List Vote) → Rise (x ∷ xs) → AllByRecursion (λ y. x.voter < y.voter) xs
 rise-below x [] r = tt
 rise-below x (y ∷ ys) r = (
   r.0,
@@ -98,12 +98,12 @@ rise-below x (y ∷ ys) r = (
 )
 
 -- the others rise
-rise-rest : (x : Vote) (xs : List Vote) → Rise (x ∷ xs) → Rise xs
+pub rise-rest : (x : Vote) (xs : List Vote) → Rise (x ∷ xs) → Rise xs
 rise-rest x [] r = tt
 rise-rest x (y ∷ ys) r = r.1
 
 -- one below the others is put first
-rise-first : (x : Vote) (xs : List Vote) → AllByRecursion (λ y. x.voter < y.voter) xs → Rise xs
+pub rise-first : (x : Vote) (xs : List Vote) → AllByRecursion (λ y. x.voter < y.voter) xs → Rise xs
     → Rise (x ∷ xs)
 rise-first x [] h r = tt
 rise-first x (y ∷ ys) h r = (h.0, r)

@@ -13,6 +13,7 @@ pub mod Lines
 pub mod RequestTexts
 pub mod ItemLaws
 pub mod Certificates
+pub mod Cuts
 pub mod ReplyTexts
 pub mod Windows
 pub mod Held

@@ -1,6 +1,6 @@
--- The bytes of a frame, and of each of its parts, determine it.
+-- The bytes of a frame, and of each of its parts, determine it, in each version.
 use Rattle.std.proofs.Common.{ℕ, ◌^◌, ◌<◌, ◌≡◌, zero, suc, List, [], ◌∷◌, ◌++◌, length, take, drop, get_or}
-use Rattle.std.proofs.Common.{refl, sym, ap, ◌∙◌, arith, append_assoc, Option, Some, None}
+use Rattle.std.proofs.Common.{refl, sym, ap, ◌∙◌, arith, append_assoc, Option, Some, None, inl, inr}
 use Rattle.std.specs.Int.{Width, w16, w32, w64, to_be_bytes, from_be_bytes, byte_len, bytes_high_first}
 use Rattle.std.specs.List.{flat_map, AllByRecursion}
 use Rattle.std.proofs.lemmas.List.{take_at, drop_at}
@@ -13,8 +13,10 @@ use Rattle.ids.specs.Numbers.{kind_number}
 use Rattle.definitions.specs.Bytes.{Bytes}
 use Rattle.definitions.specs.Frames.{Core, Certificate, Frame, request, proposal, vote, new_view, reply}
 use Rattle.definitions.specs.Frames.{fetch, block, command_content, command_bytes, core_bytes, vote_bytes}
-use Rattle.definitions.specs.Frames.{certificate_bytes, reply_content, kind_of, spelling}
-use Rattle.definitions.specs.FrameLimits.{IsCommand, IsCore, IsVote, IsCertificate, IsFrame, IsReadAs}
+use Rattle.definitions.specs.Frames.{certificate_bytes, reply_content, kind_of, old_spelling, spelling}
+use Rattle.definitions.specs.FrameLimits.{IsCommand, IsCore, IsVote, IsCertificate, IsFrame, Spells}
+use Rattle.definitions.specs.FrameLimits.{IsReadAs}
+use Rattle.ids.specs.declared.limits.TheConstants.{VERSION_TWO}
 
 -- ---- lists and numbers
 
@@ -211,8 +213,18 @@ pub kind_number_injective : (k l : Kind) → kind_number k ≡ kind_number l →
 kind_number_injective k l e =
     sym (kind_there k) ∙ (ap (λ (n : ℕ). get_or kinds n kind.Request) e ∙ kind_there l)
 
+-- and it isn't the mark of version 2
+pub kind_number-mark : (k : Kind) → kind_number k ≡ VERSION_TWO → ⊥
+kind_number-mark kind.Request e = cc
+kind_number-mark kind.Proposal e = cc
+kind_number-mark kind.Vote e = cc
+kind_number-mark kind.NewView e = cc
+kind_number-mark kind.Reply e = cc
+kind_number-mark kind.Fetch e = cc
+kind_number-mark kind.Block e = cc
+
 -- frames of one spelling are of one kind
-pub spelling-kind : (f g : Frame) → spelling f ≡ spelling g → kind_of f ≡ kind_of g
+pub spelling-kind : (f g : Frame) → old_spelling f ≡ old_spelling g → kind_of f ≡ kind_of g
 spelling-kind f g e = kind_number_injective (kind_of f) (kind_of g) (ap (λ (l : Bytes). get_or l 0 0) e)
 
 module _ (sizes : Sizes) (are : AreSizes sizes) where
@@ -229,29 +241,30 @@ module _ (sizes : Sizes) (are : AreSizes sizes) where
       let cert = IsSelfEnding-certificate_bytes sizes are q r s t hq hr core.1 in
       (core.0, cert.0, cert.1)
 
-  -- the spelling of a frame is that of no other
-  pub spelling_injective : (f g : Frame) → IsFrame sizes f → IsFrame sizes g → spelling f ≡ spelling g → f ≡ g
-  spelling_injective (request c) (request d) hf hg e =
+  -- the spelling of a frame in version 1 is that of no other
+  pub old_spelling_injective : (f g : Frame) → IsFrame sizes f → IsFrame sizes g
+      → old_spelling f ≡ old_spelling g → f ≡ g
+  old_spelling_injective (request c) (request d) hf hg e =
       ap request (IsSelfEnding-injective (IsCommand sizes) command_bytes
       (IsSelfEnding-command_bytes sizes are) c d hf hg (ap (drop 1) e))
-  spelling_injective (proposal view k q vector) (proposal view' k' q' vector') hf hg e =
+  old_spelling_injective (proposal view k q vector) (proposal view' k' q' vector') hf hg e =
       let number = long_parts view view' _ _ hf.0 hg.0 (ap (drop 1) e) in
       let parts = core_and_certificate_parts k k' q q' vector vector' hf.1 hg.1 hf.2 hg.2 number.1 in
       λ i. proposal (number.0 i) (parts.0 i) (parts.1 i) (parts.2 i)
-  spelling_injective (vote digest v) (vote digest' v') hf hg e =
+  old_spelling_injective (vote digest v) (vote digest' v') hf hg e =
       let first = append_parts digest digest' (vote_bytes v) (vote_bytes v') (hf.0 ∙ sym hg.0)
       (sym (append_assoc digest (to_be_bytes w16 v.voter) v.vector)
       ∙ (ap (drop 1) e ∙ append_assoc digest' (to_be_bytes w16 v'.voter) v'.vector)) in
       let second = IsSelfEnding-injective (IsVote sizes) vote_bytes (IsSelfEnding-vote_bytes sizes are) v v'
       hf.1 hg.1 first.1 in
       λ i. vote (first.0 i) (second i)
-  spelling_injective (new_view view sender q vector) (new_view view' sender' q' vector') hf hg e =
+  old_spelling_injective (new_view view sender q vector) (new_view view' sender' q' vector') hf hg e =
       let number = long_parts view view' _ _ hf.0 hg.0 (ap (drop 1) e) in
       let from = short_parts sender sender' (certificate_bytes q ++ vector)
       (certificate_bytes q' ++ vector') (omega (arith, hf.1)) (omega (arith, hg.1)) number.1 in
       let cert = IsSelfEnding-certificate_bytes sizes are q q' vector vector' hf.2 hg.2 from.1 in
       λ i. new_view (number.0 i) (from.0 i) (cert.0 i) (cert.1 i)
-  spelling_injective (reply replica client seq place text tag)
+  old_spelling_injective (reply replica client seq place text tag)
       (reply replica' client' seq' place' text' tag') hf hg e =
       let from =
       short_parts replica replica' _ _ (omega (arith, hf.0)) (omega (arith, hg.0)) (ap (drop 1) e) in
@@ -263,21 +276,37 @@ module _ (sizes : Sizes) (are : AreSizes sizes) where
       (from_be_bytes-to_be_bytes_4 (length text') (omega (arith, hg.4))) order.1 in
       let last = append_parts text text' tag tag' size.0 size.1 in
       λ i. reply (from.0 i) (to.0 i) (number.0 i) (order.0 i) (last.0 i) (last.1 i)
-  spelling_injective (fetch sender digest tag) (fetch sender' digest' tag') hf hg e =
+  old_spelling_injective (fetch sender digest tag) (fetch sender' digest' tag') hf hg e =
       let from = short_parts sender sender' (digest ++ tag) (digest' ++ tag') (omega (arith, hf.0))
       (omega (arith, hg.0)) (ap (drop 1) e) in
       let last = append_parts digest digest' tag tag' (hf.1 ∙ sym hg.1) from.1 in
       λ i. fetch (from.0 i) (last.0 i) (last.1 i)
-  spelling_injective (block sender k q tag) (block sender' k' q' tag') hf hg e =
+  old_spelling_injective (block sender k q tag) (block sender' k' q' tag') hf hg e =
       let from = short_parts sender sender' _ _ (omega (arith, hf.0)) (omega (arith, hg.0)) (ap (drop 1) e) in
       let parts = core_and_certificate_parts k k' q q' tag tag' hf.1 hg.1 hf.2 hg.2 from.1 in
       λ i. block (from.0 i) (parts.0 i) (parts.1 i) (parts.2 i)
-  spelling_injective f g hf hg e = absurd (cc (spelling-kind f g e))
+  old_spelling_injective f g hf hg e = absurd (cc (spelling-kind f g e))
+
+  -- so is that in version 2
+  pub spelling_injective : (f g : Frame) → IsFrame sizes f → IsFrame sizes g → spelling f ≡ spelling g → f ≡ g
+  spelling_injective f g hf hg e = old_spelling_injective f g hf hg (ap (drop 1) e)
+
+  -- no bytes are spellings of both versions
+  apart : (f g : Frame) (bytes : Bytes) → bytes ≡ old_spelling f → bytes ≡ spelling g → ⊥
+  apart f g bytes h k =
+      kind_number-mark (kind_of f) (ap (λ (l : Bytes). get_or l 0 0) (sym h ∙ k))
+
+  -- what bytes spell is one frame
+  pub Spells-unique : (bytes : Bytes) (f g : Frame) → Spells sizes bytes f → Spells sizes bytes g → f ≡ g
+  Spells-unique bytes f g (hf, inl a) (hg, inl b) = old_spelling_injective f g hf hg (sym a.1 ∙ b.1)
+  Spells-unique bytes f g (hf, inr a) (hg, inr b) = spelling_injective f g hf hg (sym a.1 ∙ b.1)
+  Spells-unique bytes f g (hf, inl a) (hg, inr b) = absurd (apart f g bytes a.1 b.1)
+  Spells-unique bytes f g (hf, inr a) (hg, inl b) = absurd (apart g f bytes b.1 a.1)
 
   -- what bytes are read as is one thing
   pub IsReadAs-unique : (bytes : Bytes) (a b : Option Frame) → IsReadAs sizes bytes a
       → IsReadAs sizes bytes b → a ≡ b
-  IsReadAs-unique bytes (Some f) (Some g) ha hb = ap Some (spelling_injective f g ha.0 hb.0 (sym ha.1 ∙ hb.1))
+  IsReadAs-unique bytes (Some f) (Some g) ha hb = ap Some (Spells-unique bytes f g ha hb)
   IsReadAs-unique bytes (Some f) None ha hb = absurd (hb f ha)
   IsReadAs-unique bytes None (Some g) ha hb = absurd (ha g hb)
   IsReadAs-unique bytes None None ha hb = refl

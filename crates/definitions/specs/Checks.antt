@@ -1,6 +1,6 @@
 -- What a replica is, and which tags it finds right.
 use Rattle.ids.specs.declared.kind.Kind.TheVariants as kind
-use Rattle.std.specs.Prelude.{ℕ, ◌==◌, Bool, List, map, filter, length, if◌then◌else◌, nat_le}
+use Rattle.std.specs.Prelude.{ℕ, ◌==◌, Bool, List, map, filter, take, length, if◌then◌else◌, nat_le}
 use Rattle.std.specs.List.{list_all}
 use Rattle.std.specs.Str.{bytes_eq}
 use Rattle.definitions.specs.Frames.{Command, Core, Vote, Certificate, genesis_core, command_content}
@@ -39,6 +39,10 @@ is_good self q =
     if is_genesis q.digest
     then length q.votes == 0
     else nat_le (quorum self.sizes) (length (counted_voters self q))
+
+-- the certificate as this replica passes it on: the first quorum of its votes whose tags for it verify
+unfoldable pub cut : Identity → Certificate → Certificate
+cut self q = record q { votes = take (quorum self.sizes) (filter (vote_verifies self q.digest) q.votes) }
 
 -- the command's tag for this replica verifies
 abbrev pub command_verifies : Identity → Command → Bool

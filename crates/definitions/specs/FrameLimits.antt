@@ -3,10 +3,11 @@ use Rattle.std.specs.Prelude.{◌≡◌, ◌*◌, ◌^◌, ◌<◌, ◌≤◌, �
 use Rattle.std.specs.List.{AllByRecursion}
 use Rattle.ids.specs.Sizes.{Sizes, replicas, quorum}
 use Rattle.ids.specs.declared.limits.TheConstants.{MOST_COMMANDS, MOST_PAYLOAD, MOST_TEXT}
+use Rattle.ids.specs.declared.limits.TheConstants.{MOST_FAULTS_OF_ONE}
 use Rattle.definitions.specs.Bytes.{Bytes}
 use Rattle.definitions.specs.Tags.{tag_len}
 use Rattle.definitions.specs.Frames.{Command, Core, Vote, Certificate, Frame, request, proposal, vote}
-use Rattle.definitions.specs.Frames.{new_view, reply, fetch, block, spelling}
+use Rattle.definitions.specs.Frames.{new_view, reply, fetch, block, old_spelling, spelling}
 
 -- a digest of SHA-256 (FIPS 180-4)
 abbrev pub IsDigest : Bytes → Type 0
@@ -68,9 +69,27 @@ IsFrame sizes (fetch sender digest tag) = (sender < replicas sizes) × IsDigest 
 IsFrame sizes (block sender k q tag) =
     (sender < replicas sizes) × IsCore sizes k × IsCertificate sizes q × IsTag tag
 
--- the bytes are a frame, and which one: a relation between bytes and values
+-- a certificate as it is passed on has no votes, or exactly a quorum
+abbrev pub IsCut : Sizes → Certificate → Type 0
+IsCut sizes q = (length q.votes ≡ 0) ⊎ (length q.votes ≡ quorum sizes)
+
+-- so has that of a frame, where it carries one
+abbrev pub CarriesCut : Sizes → Frame → Type 0
+CarriesCut sizes (proposal view k q vector) = IsCut sizes q
+CarriesCut sizes (new_view view sender q vector) = IsCut sizes q
+CarriesCut sizes (block sender k q tag) = IsCut sizes q
+CarriesCut sizes frame = ⊤
+
+-- the frames that are written, in version 2
+abbrev pub IsWritten : Sizes → Frame → Type 0
+IsWritten sizes frame = IsFrame sizes frame × CarriesCut sizes frame
+
+-- the bytes are a frame, and which one: a relation between bytes and values. Version 1 is read up to four
+-- faulty replicas
 abbrev pub Spells : Sizes → Bytes → Frame → Type 0
-Spells sizes bytes frame = IsFrame sizes frame × (bytes ≡ spelling frame)
+Spells sizes bytes frame = IsFrame sizes frame
+    × (((sizes.faults ≤ MOST_FAULTS_OF_ONE) × (bytes ≡ old_spelling frame))
+    ⊎ (CarriesCut sizes frame × (bytes ≡ spelling frame)))
 
 -- what the bytes are read as: the frame that they spell, or none where they spell none
 abbrev pub IsReadAs : Sizes → Bytes → Option Frame → Type 0

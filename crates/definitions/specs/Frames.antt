@@ -1,11 +1,13 @@
--- Frames: the messages between replicas and clients, and the one spelling of each. Numbers are unsigned and
--- big-endian, and lists are spelled in their order.
-use Rattle.std.specs.Prelude.{ℕ, List, [], ◌∷◌, ◌++◌, length, replicate}
+-- Frames: the messages between replicas and clients, and the one spelling of each in each of two versions.
+-- Numbers are unsigned and big-endian, and lists are spelled in their order.
+use Rattle.std.specs.Prelude.{ℕ, List, [], ◌∷◌, ◌++◌, ◌==◌, length, replicate, if◌then◌else◌, Option, Some}
+use Rattle.std.specs.Prelude.{None, option_map}
 use Rattle.std.specs.List.{flat_map}
 use Rattle.std.specs.Int.{w16, w32, w64, to_be_bytes}
 use Rattle.ids.specs.declared.kind.Kind.{Kind}
 use Rattle.ids.specs.declared.kind.Kind.TheVariants as kind
-use Rattle.ids.specs.Numbers.{kind_number}
+use Rattle.ids.specs.Numbers.{kind_number, kind_numbered}
+use Rattle.ids.specs.declared.limits.TheConstants.{VERSION_TWO, HEAD_LEN}
 use Rattle.ids.specs.Sizes.{Sizes, leader, client_party}
 use Rattle.definitions.specs.Bytes.{Bytes}
 use Rattle.definitions.specs.Tags.{tag_of}
@@ -110,9 +112,9 @@ block_text sender core certificate = to_be_bytes w16 sender ++ core ++ certifica
 abbrev pub block_content : ℕ → Core → Certificate → Bytes
 block_content sender k q = block_text sender (core_bytes k) (certificate_bytes q)
 
--- ---- its one spelling
+-- ---- its spelling
 
--- its kind, whose number is the first byte and the label of its tags
+-- its kind, whose number stands before the middle and is the label of its tags
 abbrev pub kind_of : Frame → Kind
 kind_of (request c) = kind.Request
 kind_of (proposal view k q vector) = kind.Proposal
@@ -142,13 +144,28 @@ tags (reply replica client seq place text tag) = tag
 tags (fetch sender digest tag) = tag
 tags (block sender k q tag) = tag
 
--- a frame's first byte, its middle and its tags
-abbrev pub frame_text : (kind : ℕ) (middle tags : Bytes) → Bytes
-frame_text kind middle tags = kind ∷ middle ++ tags
+-- the bytes of a frame in version 1: its kind, its middle and its tags
+abbrev pub old_spelling : Frame → Bytes
+old_spelling frame = kind_number (kind_of frame) ∷ middle frame ++ tags frame
 
--- the bytes of a frame
+-- the mark of version 2, and then the same
+abbrev pub frame_text : (kind : ℕ) (middle tags : Bytes) → Bytes
+frame_text kind middle tags = VERSION_TWO ∷ kind ∷ middle ++ tags
+
+-- the bytes of a frame in version 2, in which frames are written
 abbrev pub spelling : Frame → Bytes
 spelling frame = frame_text (kind_number (kind_of frame)) (middle frame) (tags frame)
+
+-- the version of the bytes, which their first one tells
+abbrev pub version_of : Bytes → Option ℕ
+version_of [] = None
+version_of (first ∷ bytes) =
+    if first == VERSION_TWO then Some 2 else option_map (λ kind. 1) (kind_numbered first)
+
+-- how many of them stand before what the tags speak of: the mark, if any, and the kind
+abbrev pub head_len : Bytes → ℕ
+head_len [] = 0
+head_len (first ∷ bytes) = if first == VERSION_TWO then HEAD_LEN else 1
 
 -- ---- its own tags
 

@@ -16,7 +16,7 @@ use Rattle.definitions.specs.Chronicles.{Note.got_new_view, Note.got_request, No
 use Rattle.definitions.specs.Chronicles.{Note.timed_out, Note.beat, Note.pruned, Chronicle, taken_blocks}
 use Rattle.definitions.specs.Chronicles.{history}
 use Rattle.definitions.specs.Frames as frame
-use Rattle.definitions.specs.Checks.{Identity}
+use Rattle.definitions.specs.Checks.{Identity, cut}
 use Rattle.definitions.specs.States.{view, Justified, qc_high, me, leads, proposed}
 
 -- where a frame goes
@@ -36,13 +36,14 @@ vote_frame self b = frame.vote (digest_of b)
 -- the proposal of a block
 unfoldable pub proposal_frame : Identity → ℕ → Justified → Frame
 proposal_frame self w p =
-    let content = proposal_content w (core_of p.block) p.certificate in
-    frame.proposal w (core_of p.block) p.certificate (vector_for self.sizes self.ring kind.Proposal content)
+    let q = cut self p.certificate in
+    let content = proposal_content w (core_of p.block) q in
+    frame.proposal w (core_of p.block) q (vector_for self.sizes self.ring kind.Proposal content)
 
 -- the announcement of the view
 unfoldable pub new_view_frame : Identity → Chronicle → Frame
 new_view_frame self c =
-    let q : Certificate = (qc_high self.sizes c).certificate in
+    let q = cut self (qc_high self.sizes c).certificate in
     frame.new_view (view self.sizes c) (me self) q
     (vector_for self.sizes self.ring kind.NewView (new_view_content (view self.sizes c) (me self) q))
 
@@ -58,8 +59,9 @@ reply_to self a =
 -- a block that was asked for
 unfoldable pub block_frame : Identity → ℕ → Admitted → Frame
 block_frame self to a =
-    let content = block_content (me self) (core_of a.branch) a.certificate in
-    frame.block (me self) (core_of a.branch) a.certificate (tag_for self.ring kind.Block to content)
+    let q = cut self a.certificate in
+    let content = block_content (me self) (core_of a.branch) q in
+    frame.block (me self) (core_of a.branch) q (tag_for self.ring kind.Block to content)
 
 -- the question for a block
 unfoldable pub fetch_frame : Identity → ℕ → Bytes → Frame

@@ -22,7 +22,7 @@ HasNoRoom most_keys fault =
 
 -- the limits of the sizes
 abbrev pub AreSizes : Sizes → Type 0
-AreSizes s = (1 ≤ s.faults) × (s.faults ≤ 4) × (1 ≤ s.clients) × (s.clients ≤ 64) × (IsRoom s.most_keys)
+AreSizes s = (1 ≤ s.faults) × (s.faults ≤ 10) × (1 ≤ s.clients) × (s.clients ≤ 64) × (IsRoom s.most_keys)
 
 -- how many replicas there are
 abbrev pub replicas : Sizes → ℕ

@@ -30,7 +30,7 @@ impl Model for Config {
 }
 
 impl Config {
-    /// The sizes, where `faults` is 1 to 4 and `clients` 1 to 64; else `BadSize`. A cache has room for
+    /// The sizes, where `faults` is 1 to 10 and `clients` 1 to 64; else `BadSize`. A cache has room for
     /// `MOST_KEYS` keys.
     pub fn new(faults: u8, clients: u8) -> Result<Config, Fault>
         ensures made { IfOk result
@@ -39,7 +39,7 @@ impl Config {
         ensures only { IsOk result
             ↔ AreSizes (record { faults = faults; clients = clients; most_keys = MOST_KEYS }) }
     {
-        if (1..=4).contains(&faults) && (1..=64).contains(&clients) {
+        if (1..=10).contains(&faults) && (1..=64).contains(&clients) {
             Ok(Config {
                 faults,
                 clients,

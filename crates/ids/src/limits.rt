@@ -2,7 +2,7 @@
 //! sizes are `Config`'s.
 
 /// The most replicas that there are: the length of each fixed row over replicas.
-pub const MOST_REPLICAS: usize = 13;
+pub const MOST_REPLICAS: usize = 31;
 
 /// The most commands of a block.
 pub const MOST_COMMANDS: usize = 16;
@@ -42,3 +42,12 @@ pub const MOST_KEYS: usize = 65_536;
 
 /// The most bytes that a connection holds of what was read and not yet taken.
 pub const MOST_HELD: usize = 16_384;
+
+/// The first byte of a frame of version 2. One of version 1 begins with its kind.
+pub const VERSION_TWO: u8 = 130;
+
+/// How many bytes stand before what the tags of a frame of version 2 speak of: the mark and the kind.
+pub const HEAD_LEN: usize = 2;
+
+/// The most faulty replicas with which frames of version 1 are read.
+pub const MOST_FAULTS_OF_ONE: u8 = 4;

@@ -99,13 +99,6 @@ pending-fit self (st ∷ c) h =
     all-filter (IsCommand self.sizes) (is_due (history (st ∷ c))) (with_request st (pending c))
     (all-with_request self st c (pending c) h (pending-fit self c h.1))
 
--- the first of a list of which each element has a property
-pub all-take : {A : Type 0} (P : A → Type 0) (n : ℕ) (xs : List A) → AllByRecursion P xs
-    → AllByRecursion P (take n xs)
-all-take P zero xs h = tt
-all-take P (suc n) [] h = tt
-all-take P (suc n) (x ∷ xs) h = (h.0, all-take P n xs h.1)
-
 -- so do those of a new block, 16 at most
 pub picks-fit : (self : Identity) (c : Chronicle) (on : Branch) → AreStored self c
     → AllByRecursion (IsCommand self.sizes) (picks c on) × (length (picks c on) ≤ MOST_COMMANDS)
