@@ -1,11 +1,10 @@
 -- A certificate as it is passed on: its votes, their order and their number.
-use Rattle.std.proofs.Common.{ℕ, zero, suc, ◌≡◌, ◌<◌, ◌≤◌, Bool, true, false, List, [], ◌∷◌, length, sym}
-use Rattle.std.proofs.Common.{◌∙◌, ◌⊎◌, ap, subst, arith, inl, inr, take, filter, map, refl}
+use Rattle.std.proofs.Common.{ℕ, zero, suc, ◌≡◌, ◌<◌, ◌≤◌, Bool, true, List, [], ◌∷◌, length, sym}
+use Rattle.std.proofs.Common.{◌∙◌, ◌⊎◌, ap, subst, arith, inl, inr, take, filter, refl}
 use Rattle.std.proofs.lemmas.Bool.{cond_both, cond-true, cond-false, cases_Bool, eqb-true, leb-true}
 use Rattle.std.proofs.lemmas.List.{length-map, length-take-le, nil_from_length}
-use Rattle.std.specs.Bool.{⊤}
 use Rattle.std.specs.List.{AllByRecursion}
-use Rattle.ids.specs.Sizes.{Sizes, replicas, quorum}
+use Rattle.ids.specs.Sizes.{replicas, quorum}
 use Rattle.definitions.specs.Frames.{Vote, Certificate}
 use Rattle.definitions.specs.FrameLimits.{IsVote, IsCertificate, IsCut, Rise}
 use Rattle.definitions.specs.Checks.{Identity, vote_verifies, counted_voters, cut, is_genesis, is_good}

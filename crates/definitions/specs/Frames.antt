@@ -1,7 +1,7 @@
 -- Frames: the messages between replicas and clients, and the one spelling of each in each of two versions.
 -- Numbers are unsigned and big-endian, and lists are spelled in their order.
-use Rattle.std.specs.Prelude.{ℕ, List, [], ◌∷◌, ◌++◌, ◌==◌, length, replicate, if◌then◌else◌, Option, Some}
-use Rattle.std.specs.Prelude.{None, option_map}
+use Rattle.std.specs.Prelude.{ℕ, List, [], ◌∷◌, ◌++◌, ◌==◌, Bool, length, replicate, if◌then◌else◌}
+use Rattle.std.specs.Prelude.{Option, Some, option_map, slice_index}
 use Rattle.std.specs.List.{flat_map}
 use Rattle.std.specs.Int.{w16, w32, w64, to_be_bytes}
 use Rattle.ids.specs.declared.kind.Kind.{Kind}
@@ -156,16 +156,18 @@ frame_text kind middle tags = VERSION_TWO ∷ kind ∷ middle ++ tags
 abbrev pub spelling : Frame → Bytes
 spelling frame = frame_text (kind_number (kind_of frame)) (middle frame) (tags frame)
 
+-- the bytes begin with the mark of version 2
+abbrev pub is_marked : Bytes → Bool
+is_marked bytes = slice_index bytes 0 == VERSION_TWO
+
 -- the version of the bytes, which their first one tells
 abbrev pub version_of : Bytes → Option ℕ
-version_of [] = None
-version_of (first ∷ bytes) =
-    if first == VERSION_TWO then Some 2 else option_map (λ kind. 1) (kind_numbered first)
+version_of bytes =
+    if is_marked bytes then Some 2 else option_map (λ kind. 1) (kind_numbered (slice_index bytes 0))
 
 -- how many of them stand before what the tags speak of: the mark, if any, and the kind
 abbrev pub head_len : Bytes → ℕ
-head_len [] = 0
-head_len (first ∷ bytes) = if first == VERSION_TWO then HEAD_LEN else 1
+head_len bytes = if is_marked bytes then HEAD_LEN else 1
 
 -- ---- its own tags
 
