@@ -67,6 +67,7 @@ IsCut-cut self q g =
   where
     p : Vote → Bool
     p = vote_verifies self q.digest
+
     kept : List Vote
     kept = filter p q.votes
 
@@ -84,8 +85,10 @@ IsCertificate-cut self q c g =
   where
     kept : List Vote
     kept = filter (vote_verifies self q.digest) q.votes
+
     n : ℕ
     n = length (take (quorum self.sizes) kept)
+
     few : (n ≡ 0) ⊎ (n ≡ quorum self.sizes)
         → (n ≡ 0) ⊎ ((quorum self.sizes ≤ n) × (n ≤ replicas self.sizes))
     few (inl e) = inl e
