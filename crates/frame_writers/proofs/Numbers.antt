@@ -1,5 +1,5 @@
 -- Parts that are numbers, before two parts of bytes.
-use Rattle.std.proofs.Common.{◌≡◌, List, [], ◌++◌, ap, append-nil}
+use Rattle.std.proofs.Common.{◌≡◌, [], ◌++◌, ap, append-nil}
 use Rattle.definitions.specs.Bytes.{Bytes}
 
 -- one more number in front

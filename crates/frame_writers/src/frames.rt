@@ -1,6 +1,6 @@
-//! Whole frames, of parts that are spelled already.
+//! Whole frames of version 2, of parts that are spelled already.
 
-ghost use Rattle.ids.specs.declared.limits.TheConstants.{MOST_TEXT};
+ghost use Rattle.ids.specs.declared.limits.TheConstants.{MOST_TEXT, VERSION_TWO};
 ghost use Rattle.std.specs.Prelude.{◌∷◌, ◌≤◌, length};
 ghost use Rattle.ids.specs.Numbers.{kind_number};
 ghost use Rattle.ids.specs.declared.kind.Kind.TheVariants as kind;
@@ -10,13 +10,13 @@ ghost use Rattle.definitions.specs.Frames.{vote, reply, fetch};
 
 use crate::bounded::ReplyText;
 use appending::append;
-use ids::{ClientId, Digest, Fault, Kind, Place, ReplicaId, Seq, View};
+use ids::{ClientId, Digest, Fault, Kind, Place, ReplicaId, Seq, VERSION_TWO, View};
 
 /// Appends a Request frame, of the bytes of a command.
 pub fn write_request_frame(command: &[u8], out: &mut Vec<u8>) -> Result<(), Fault>
-    ensures { IsAppended out.old out.new (kind_number kind.Request ∷ command.now) result }
+    ensures { IsAppended out.old out.new (VERSION_TWO ∷ kind_number kind.Request ∷ command.now) result }
 {
-    append(out, &[&[Kind::Request.number()], command])
+    append(out, &[&[VERSION_TWO, Kind::Request.number()], command])
 }
 
 /// Appends a Proposal frame, of the bytes of a core and of a certificate.
@@ -34,7 +34,7 @@ pub fn write_proposal<'a>(
     append(
         out,
         &[
-            &[Kind::Proposal.number()],
+            &[VERSION_TWO, Kind::Proposal.number()],
             &view.0.to_be_bytes(),
             core,
             certificate,
@@ -56,7 +56,7 @@ pub fn write_vote(
     append(
         out,
         &[
-            &[Kind::Vote.number()],
+            &[VERSION_TWO, Kind::Vote.number()],
             &digest.0,
             &u16::from(voter.0).to_be_bytes(),
             vector,
@@ -79,7 +79,7 @@ pub fn write_new_view<'a>(
     append(
         out,
         &[
-            &[Kind::NewView.number()],
+            &[VERSION_TWO, Kind::NewView.number()],
             &view.0.to_be_bytes(),
             &u16::from(sender.0).to_be_bytes(),
             certificate,
@@ -122,6 +122,7 @@ fn append_reply<'a>(
     let [p0, p1, p2, p3, p4, p5, p6, p7] = place.0.to_be_bytes();
     let [n0, n1, n2, n3] = (text.len() as u32).to_be_bytes();
     let parties_and_seq = [
+        VERSION_TWO,
         Kind::Reply.number(),
         r0,
         r1,
@@ -152,7 +153,7 @@ pub fn write_fetch(
     append(
         out,
         &[
-            &[Kind::Fetch.number()],
+            &[VERSION_TWO, Kind::Fetch.number()],
             &u16::from(sender.0).to_be_bytes(),
             &digest.0,
             tag,
@@ -174,7 +175,7 @@ pub fn write_block<'a>(
     append(
         out,
         &[
-            &[Kind::Block.number()],
+            &[VERSION_TWO, Kind::Block.number()],
             &u16::from(sender.0).to_be_bytes(),
             core,
             certificate,

@@ -1,6 +1,6 @@
 //! The writers of frames and of their parts.
 //!
-//! Each appends the one spelling to what was written before, with the room for the whole of it
+//! Each appends the one spelling in version 2 to what was written before, with the room for the whole of it
 //! taken first. The one refusal is `Memory`: it comes only where the spare room was too small, and
 //! then `out` is as it was. A writer that takes the bytes of a part writes them as they are, and
 //! tests nothing: what it writes is a frame where they are.

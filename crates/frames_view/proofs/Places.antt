@@ -1,5 +1,8 @@
 -- What lies in a rest lies in the source, that much further.
-use Rattle.std.proofs.Common.{◌≡◌, ℕ, ◌+◌, ◌-◌, length, take, arith, sym, ap, subst}
+use Rattle.std.proofs.Common.{◌≡◌, ℕ, ◌+◌, ◌-◌, length, take, arith, sym, ap, subst, true, Option, Some}
+use Rattle.std.proofs.Common.{None, IfSome}
+use Rattle.std.proofs.lemmas.Bool.{cond-true}
+use Rattle.definitions.specs.Frames.{is_marked, head_len}
 use Rattle.std.specs.Borrow.{Bor}
 use Rattle.std.proofs.lemmas.List.{length-take}
 use Rattle.definitions.specs.Bytes.{Bytes}
@@ -49,41 +52,48 @@ module _ (s m : Bor Bytes) (i : ℕ) (outer : LentAt s i m) where
   bytes : (j k : ℕ) (p : Bytes) → i + j ≡ k → LiesAt m.now j p → LiesAt s.now k p
   bytes j k p sum inner = LiesAt-behind s.now m.now p i j k sum outer.0 inner
 
-  pub IsFrameAt-behind : (f : Frame) → IsFrameAt m 0 f → IsFrameAt s i f
-  IsFrameAt-behind (Request c) h = IsCommandAt-behind s m i 0 i (omega arith) outer c h
-  IsFrameAt-behind (Proposal f) h = (
-    part 0 i f.content (omega arith) h.0,
-    IsCoreAt-behind s m i 8 (i + 8) (omega arith) outer f.core h.1,
-    IsCertificateAt-behind s m i (0 + 8 + length f.core.raw.now) (i + 8 + length f.core.raw.now)
+  pub IsFrameAt-behind : (n : ℕ) (f : Frame) → IsFrameAt m n f → IsFrameAt s (i + n) f
+  IsFrameAt-behind n (Request c) h = IsCommandAt-behind s m i n (i + n) (omega arith) outer c h
+  IsFrameAt-behind n (Proposal f) h = (
+    part n (i + n) f.content (omega arith) h.0,
+    IsCoreAt-behind s m i (n + 8) (i + n + 8) (omega arith) outer f.core h.1,
+    IsCertificateAt-behind s m i (n + 8 + length f.core.raw.now) (i + n + 8 + length f.core.raw.now)
         (omega arith) outer f.certificate h.2,
-    part (0 + length f.content.now) (i + length f.content.now) f.vector (omega arith) h.3,
+    part (n + length f.content.now) (i + n + length f.content.now) f.vector (omega arith) h.3,
   )
-  IsFrameAt-behind (Vote f) h = (
-    bytes 0 i f.digest.now (omega arith) h.0,
-    IsVoteAt-behind s m i 32 (i + 32) (omega arith) outer f.vote h.1,
+  IsFrameAt-behind n (Vote f) h = (
+    bytes n (i + n) f.digest.now (omega arith) h.0,
+    IsVoteAt-behind s m i (n + 32) (i + n + 32) (omega arith) outer f.vote h.1,
   )
-  IsFrameAt-behind (NewView f) h = (
-    part 0 i f.content (omega arith) h.0,
-    IsCertificateAt-behind s m i 10 (i + 10) (omega arith) outer f.certificate h.1,
-    part (0 + length f.content.now) (i + length f.content.now) f.vector (omega arith) h.2,
+  IsFrameAt-behind n (NewView f) h = (
+    part n (i + n) f.content (omega arith) h.0,
+    IsCertificateAt-behind s m i (n + 10) (i + n + 10) (omega arith) outer f.certificate h.1,
+    part (n + length f.content.now) (i + n + length f.content.now) f.vector (omega arith) h.2,
   )
-  IsFrameAt-behind (Reply f) h = (
-    part 0 i f.content (omega arith) h.0,
-    part 24 (i + 24) f.text (omega arith) h.1,
-    bytes (0 + length f.content.now) (i + length f.content.now) f.tag.now (omega arith) h.2,
+  IsFrameAt-behind n (Reply f) h = (
+    part n (i + n) f.content (omega arith) h.0,
+    part (n + 24) (i + n + 24) f.text (omega arith) h.1,
+    bytes (n + length f.content.now) (i + n + length f.content.now) f.tag.now (omega arith) h.2,
   )
-  IsFrameAt-behind (Fetch f) h = (
-    part 0 i f.content (omega arith) h.0,
-    bytes 2 (i + 2) f.digest.now (omega arith) h.1,
-    bytes (0 + length f.content.now) (i + length f.content.now) f.tag.now (omega arith) h.2,
+  IsFrameAt-behind n (Fetch f) h = (
+    part n (i + n) f.content (omega arith) h.0,
+    bytes (n + 2) (i + n + 2) f.digest.now (omega arith) h.1,
+    bytes (n + length f.content.now) (i + n + length f.content.now) f.tag.now (omega arith) h.2,
   )
-  IsFrameAt-behind (Block f) h = (
-    part 0 i f.content (omega arith) h.0,
-    IsCoreAt-behind s m i 2 (i + 2) (omega arith) outer f.core h.1,
-    IsCertificateAt-behind s m i (0 + 2 + length f.core.raw.now) (i + 2 + length f.core.raw.now)
+  IsFrameAt-behind n (Block f) h = (
+    part n (i + n) f.content (omega arith) h.0,
+    IsCoreAt-behind s m i (n + 2) (i + n + 2) (omega arith) outer f.core h.1,
+    IsCertificateAt-behind s m i (n + 2 + length f.core.raw.now) (i + n + 2 + length f.core.raw.now)
         (omega arith) outer f.certificate h.2,
-    bytes (0 + length f.content.now) (i + length f.content.now) f.tag.now (omega arith) h.3,
+    bytes (n + length f.content.now) (i + n + length f.content.now) f.tag.now (omega arith) h.3,
   )
+
+-- a frame that lies behind the mark of version 2
+pub marked_behind : (s m : Bor Bytes) → LeftAt s 1 m → is_marked s.now ≡ true → (o : Option Frame)
+    → IfSome o (λ f. IsFrameAt m 1 f) → IfSome o (λ f. IsFrameAt s (head_len s.now) f)
+marked_behind s m left e None h = h
+marked_behind s m left e (Some f) h =
+    subst (λ (n : ℕ). IsFrameAt s n f) (sym (cond-true _ _ _ e)) (IsFrameAt-behind s m 1 left.0 1 f h)
 
 -- ---- what stands before a rest, and what stands behind it
 

@@ -1,7 +1,8 @@
 -- How each part of a frame is read, where there are n replicas and so many clients.
 use Rattle.ids.specs.declared.limits.TheConstants.{MOST_COMMANDS, MOST_PAYLOAD, MOST_TEXT}
-use Rattle.std.specs.Prelude.{ℕ, ◌*◌, Bool, List, length, Option, Some, None, nat_lt, nat_le, ◌==◌, ◌&&◌}
-use Rattle.std.specs.Prelude.{◌||◌, if◌then◌else◌}
+use Rattle.ids.specs.declared.limits.TheConstants.{MOST_FAULTS_OF_ONE}
+use Rattle.std.specs.Prelude.{ℕ, ◌*◌, Bool, true, List, length, drop, Option, Some, None, nat_lt, nat_le}
+use Rattle.std.specs.Prelude.{◌==◌, ◌&&◌, ◌||◌, if◌then◌else◌}
 use Rattle.std.specs.Option.{option_and_then}
 use Rattle.std.specs.Int.{w8, w16, w32, w64}
 use Rattle.ids.specs.Numbers.{kind_numbered}
@@ -10,7 +11,7 @@ use Rattle.ids.specs.declared.kind.Kind.{Kind}
 use Rattle.ids.specs.declared.kind.Kind.TheVariants as kind
 use Rattle.definitions.specs.Bytes.{Bytes}
 use Rattle.definitions.specs.Frames.{Command, Core, Vote, Certificate, Frame, request, proposal, vote}
-use Rattle.definitions.specs.Frames.{new_view, reply, fetch, block}
+use Rattle.definitions.specs.Frames.{new_view, reply, fetch, block, is_marked}
 use Rattle.frames_view.specs.Readings.{Reader, number, chunk, tested, both, made, sized, many, many_rising}
 
 -- ---- fields
@@ -121,9 +122,32 @@ kind_in sizes kind.Reply = reply_in sizes
 kind_in sizes kind.Fetch = fetch_in sizes
 kind_in sizes kind.Block = block_in sizes
 
--- the frame that the bytes are, all of them
-unfoldable pub frame_in : Sizes → Bytes → Option Frame
-frame_in sizes bytes =
+-- the frame of version 1 that the bytes are, all of them
+unfoldable pub old_frame_in : Sizes → Bytes → Option Frame
+old_frame_in sizes bytes =
     option_and_then (λ n. option_and_then (λ k. option_and_then
     (λ f. if length f.1 == 0 then Some f.0 else None)
     (kind_in sizes k n.1)) (kind_numbered n.0)) (number w8 bytes)
+
+-- the certificate has no votes, or exactly a quorum
+abbrev pub is_cut : Sizes → Certificate → Bool
+is_cut sizes q = (length q.votes == 0) || (length q.votes == quorum sizes)
+
+-- so has that of a frame, where it carries one
+abbrev pub carries_cut : Sizes → Frame → Bool
+carries_cut sizes (proposal view k q vector) = is_cut sizes q
+carries_cut sizes (new_view view sender q vector) = is_cut sizes q
+carries_cut sizes (block sender k q tag) = is_cut sizes q
+carries_cut sizes frame = true
+
+-- the frame of version 2 that these bytes are behind its mark
+unfoldable pub new_frame_in : Sizes → Bytes → Option Frame
+new_frame_in sizes bytes =
+    option_and_then (λ f. if carries_cut sizes f then Some f else None) (old_frame_in sizes bytes)
+
+-- the frame that the bytes are
+unfoldable pub frame_in : Sizes → Bytes → Option Frame
+frame_in sizes bytes =
+    if is_marked bytes
+    then new_frame_in sizes (drop 1 bytes)
+    else (if nat_le sizes.faults MOST_FAULTS_OF_ONE then old_frame_in sizes bytes else None)

@@ -6,7 +6,7 @@ ghost use Rattle.definitions.specs.Slices.{LeftAt};
 ghost use Rattle.definitions.specs.Writing.{IsAppended};
 ghost use Rattle.definitions.specs.Frames.{vote_bytes, certificate_bytes};
 ghost use Rattle.frames_view.specs.Readings.{IsRead, behind_rising};
-ghost use Rattle.frames_view.specs.Parts.{vote_in, certificate_in};
+ghost use Rattle.frames_view.specs.Parts.{vote_in, certificate_in, is_cut};
 ghost use Rattle.frames_view.specs.Views.{Gives, certificate_of, votes_left};
 ghost use Rattle.frames_view.specs.Places.{IsSplit, IsCertificateAt, certificate_len};
 
@@ -43,6 +43,13 @@ impl<'a> CertificateView<'a> {
     {
         write_certificate(&Digest(*self.digest), self.count, self.votes, out)
     }
+}
+
+/// Whether it has no votes, or exactly a quorum.
+pub(crate) fn is_cut(config: &Config, certificate: &CertificateView) -> bool
+    ensures { result ≡ is_cut config.now (certificate_of certificate.now) }
+{
+    certificate.count == 0 || certificate.count == config.quorum()
 }
 
 /// What is left behind `count` votes whose voters rise.

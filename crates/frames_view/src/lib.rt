@@ -27,7 +27,7 @@ mod vote_frame;
 pub use certificate_buf::CertificateBuf;
 pub use core_buf::CoreBuf;
 pub use digest::genesis_digest;
-pub use frame::read;
+pub use frame::{read, version};
 pub use frame_views::{
     BlockView, FetchView, Frame, NewViewView, ProposalView, ReplyView, VoteFrameView,
 };

@@ -2,22 +2,23 @@
 
 ghost use Rattle.std.specs.Prelude.{◌≡◌, ◌≤◌, ◌∷◌, ◌++◌, IfOk, OnErr, IsTrue, vec_len, vec_capacity};
 ghost use Rattle.ids.specs.Numbers.{kind_number};
+ghost use Rattle.ids.specs.declared.limits.TheConstants.{VERSION_TWO};
 ghost use Rattle.definitions.specs.Frames.{frame_text};
 ghost use Rattle.definitions.specs.Keyrings.{keyring_of, is_peer, tag_for, vector_for};
 ghost use Rattle.appending.specs.Joined.{joined};
 
 use appending::append;
 use authenticators::Keyring;
-use ids::{Fault, Kind, PartyId};
+use ids::{Fault, HEAD_LEN, Kind, PartyId, VERSION_TWO};
 use std::alloc::Global;
 
-/// The kind and the parts, as a frame begins.
+/// The head and the parts, as a frame of version 2 begins.
 fn begun(alloc: Global, kind: Kind, parts: &[&[u8]]) -> Result<Vec<u8>, Fault>
-    ensures made { IfOk result (λ frame. frame.items ≡ kind_number kind ∷ joined parts.now) }
+    ensures made { IfOk result (λ frame. frame.items ≡ VERSION_TWO ∷ kind_number kind ∷ joined parts.now) }
     ensures memory { OnErr result (result ≡ Err Fault.Memory) }
 {
     let mut frame = Vec::new(alloc);
-    append(&mut frame, &[&[kind.number()]])?;
+    append(&mut frame, &[&[VERSION_TWO, kind.number()]])?;
     append(&mut frame, parts)?;
     Ok(frame)
 }
@@ -36,7 +37,7 @@ pub(crate) fn signed_for_all(
 {
     let mut frame = begun(alloc, kind, parts)?;
     let mut tags = Vec::new(alloc);
-    keyring.vector(kind, &frame[1..], &mut tags)?;
+    keyring.vector(kind, &frame[HEAD_LEN..], &mut tags)?;
     append(&mut frame, &[&tags])?;
     Ok(frame)
 }
@@ -56,7 +57,7 @@ pub(crate) fn signed_for(
     ensures memory { OnErr result (result ≡ Err Fault.Memory) }
 {
     let mut frame = begun(alloc, kind, parts)?;
-    let tag = keyring.tag(kind, to, &frame[1..]);
+    let tag = keyring.tag(kind, to, &frame[HEAD_LEN..]);
     append(&mut frame, &[&tag])?;
     Ok(frame)
 }
