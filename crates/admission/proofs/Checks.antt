@@ -17,6 +17,7 @@ use Rattle.frames_view.specs.declared.frame_views.NewViewView.{NewViewView}
 use Rattle.frames_view.specs.declared.frame_views.FetchView.{FetchView}
 use Rattle.frames_view.specs.declared.frame_views.BlockView.{BlockView}
 use Rattle.definitions.specs.Frames as frames
+use Rattle.definitions.specs.Frames.{head_len}
 use Rattle.frames_view.specs.declared.views.CommandView.{CommandView}
 use Rattle.frames_view.specs.declared.frame_views.ReplyView.{ReplyView}
 use Rattle.frames_view.specs.declared.frame_views.Frame.{Frame}
@@ -68,7 +69,7 @@ given {X} wrap keys bytes false i v (Err n) g e b = same g.refused
 
 proposal_given :
     (keys : Keys) (bytes : Bor Bytes) (v : ProposalView) (r : Result (CheckedView ProposalView) Fault)
-    → IsGivenIf (is_passed (check (identity_of keys) (proposal_of v))) keys v r → IsProposalAt bytes 1 v
+    → IsGivenIf (is_passed (check (identity_of keys) (proposal_of v))) keys v r → IsProposalAt bytes (head_len bytes.now) v
     → Answers keys bytes (check (identity_of keys) (proposal_of v)) (taken Proposal r)
 unfolding check
 proposal_given keys bytes v r g lent =
@@ -77,15 +78,15 @@ proposal_given keys bytes v r g lent =
 pub proposal : (keys : Keys) (bytes : Bor Bytes) (f : Frame) (v : ProposalView)
     (r : Result (CheckedView ProposalView) Fault) (out : Result Input Fault)
     → f ≡ frame.Proposal v → IsGivenIf (is_passed (check (identity_of keys) (proposal_of v))) keys v r
-    → IsFrameAt bytes 1 f → out ≡ taken Proposal r
+    → IsFrameAt bytes (head_len bytes.now) f → out ≡ taken Proposal r
     → Answers keys bytes (check (identity_of keys) (frame_of f)) out
 proposal keys bytes f v r out is g lent same =
     subst (λ x. Answers keys bytes (check (identity_of keys) (frame_of f)) x) (sym same)
     (subst (λ x. Answers keys bytes (check (identity_of keys) (frame_of x)) (taken Proposal r)) (sym is)
-    (proposal_given keys bytes v r g (subst (IsFrameAt bytes 1) is lent)))
+    (proposal_given keys bytes v r g (subst (IsFrameAt bytes (head_len bytes.now)) is lent)))
 
 block_given : (keys : Keys) (bytes : Bor Bytes) (v : BlockView) (r : Result (CheckedView BlockView) Fault)
-    → IsGivenIf (is_passed (check (identity_of keys) (block_of v))) keys v r → IsBlockAt bytes 1 v
+    → IsGivenIf (is_passed (check (identity_of keys) (block_of v))) keys v r → IsBlockAt bytes (head_len bytes.now) v
     → Answers keys bytes (check (identity_of keys) (block_of v)) (taken Block r)
 unfolding check
 block_given keys bytes v r g lent =
@@ -94,16 +95,16 @@ block_given keys bytes v r g lent =
 pub block : (keys : Keys) (bytes : Bor Bytes) (f : Frame) (v : BlockView)
     (r : Result (CheckedView BlockView) Fault) (out : Result Input Fault)
     → f ≡ frame.Block v → IsGivenIf (is_passed (check (identity_of keys) (block_of v))) keys v r
-    → IsFrameAt bytes 1 f → out ≡ taken Block r
+    → IsFrameAt bytes (head_len bytes.now) f → out ≡ taken Block r
     → Answers keys bytes (check (identity_of keys) (frame_of f)) out
 block keys bytes f v r out is g lent same =
     subst (λ x. Answers keys bytes (check (identity_of keys) (frame_of f)) x) (sym same)
     (subst (λ x. Answers keys bytes (check (identity_of keys) (frame_of x)) (taken Block r)) (sym is)
-    (block_given keys bytes v r g (subst (IsFrameAt bytes 1) is lent)))
+    (block_given keys bytes v r g (subst (IsFrameAt bytes (head_len bytes.now)) is lent)))
 
 vote_given :
     (keys : Keys) (bytes : Bor Bytes) (v : VoteFrameView) (r : Result (CheckedView VoteFrameView) Fault)
-    → IsGivenIf (is_passed (check (identity_of keys) (vote_frame_of v))) keys v r → IsVoteFrameAt bytes 1 v
+    → IsGivenIf (is_passed (check (identity_of keys) (vote_frame_of v))) keys v r → IsVoteFrameAt bytes (head_len bytes.now) v
     → Answers keys bytes (check (identity_of keys) (vote_frame_of v)) (taken AVote r)
 unfolding check
 vote_given keys bytes v r g lent =
@@ -112,16 +113,16 @@ vote_given keys bytes v r g lent =
 pub vote : (keys : Keys) (bytes : Bor Bytes) (f : Frame) (v : VoteFrameView)
     (r : Result (CheckedView VoteFrameView) Fault) (out : Result Input Fault)
     → f ≡ frame.Vote v → IsGivenIf (is_passed (check (identity_of keys) (vote_frame_of v))) keys v r
-    → IsFrameAt bytes 1 f → out ≡ taken AVote r
+    → IsFrameAt bytes (head_len bytes.now) f → out ≡ taken AVote r
     → Answers keys bytes (check (identity_of keys) (frame_of f)) out
 vote keys bytes f v r out is g lent same =
     subst (λ x. Answers keys bytes (check (identity_of keys) (frame_of f)) x) (sym same)
     (subst (λ x. Answers keys bytes (check (identity_of keys) (frame_of x)) (taken AVote r)) (sym is)
-    (vote_given keys bytes v r g (subst (IsFrameAt bytes 1) is lent)))
+    (vote_given keys bytes v r g (subst (IsFrameAt bytes (head_len bytes.now)) is lent)))
 
 new_view_given :
     (keys : Keys) (bytes : Bor Bytes) (v : NewViewView) (r : Result (CheckedView NewViewView) Fault)
-    → IsGivenIf (is_passed (check (identity_of keys) (new_view_of v))) keys v r → IsNewViewAt bytes 1 v
+    → IsGivenIf (is_passed (check (identity_of keys) (new_view_of v))) keys v r → IsNewViewAt bytes (head_len bytes.now) v
     → Answers keys bytes (check (identity_of keys) (new_view_of v)) (taken NewView r)
 unfolding check
 new_view_given keys bytes v r g lent =
@@ -130,15 +131,15 @@ new_view_given keys bytes v r g lent =
 pub new_view : (keys : Keys) (bytes : Bor Bytes) (f : Frame) (v : NewViewView)
     (r : Result (CheckedView NewViewView) Fault) (out : Result Input Fault)
     → f ≡ frame.NewView v → IsGivenIf (is_passed (check (identity_of keys) (new_view_of v))) keys v r
-    → IsFrameAt bytes 1 f → out ≡ taken NewView r
+    → IsFrameAt bytes (head_len bytes.now) f → out ≡ taken NewView r
     → Answers keys bytes (check (identity_of keys) (frame_of f)) out
 new_view keys bytes f v r out is g lent same =
     subst (λ x. Answers keys bytes (check (identity_of keys) (frame_of f)) x) (sym same)
     (subst (λ x. Answers keys bytes (check (identity_of keys) (frame_of x)) (taken NewView r)) (sym is)
-    (new_view_given keys bytes v r g (subst (IsFrameAt bytes 1) is lent)))
+    (new_view_given keys bytes v r g (subst (IsFrameAt bytes (head_len bytes.now)) is lent)))
 
 fetch_given : (keys : Keys) (bytes : Bor Bytes) (v : FetchView) (r : Result (CheckedView FetchView) Fault)
-    → IsGivenIf (is_passed (check (identity_of keys) (fetch_of v))) keys v r → IsFetchAt bytes 1 v
+    → IsGivenIf (is_passed (check (identity_of keys) (fetch_of v))) keys v r → IsFetchAt bytes (head_len bytes.now) v
     → Answers keys bytes (check (identity_of keys) (fetch_of v)) (taken Fetch r)
 unfolding check
 fetch_given keys bytes v r g lent =
@@ -147,17 +148,17 @@ fetch_given keys bytes v r g lent =
 pub fetch : (keys : Keys) (bytes : Bor Bytes) (f : Frame) (v : FetchView)
     (r : Result (CheckedView FetchView) Fault) (out : Result Input Fault)
     → f ≡ frame.Fetch v → IsGivenIf (is_passed (check (identity_of keys) (fetch_of v))) keys v r
-    → IsFrameAt bytes 1 f → out ≡ taken Fetch r
+    → IsFrameAt bytes (head_len bytes.now) f → out ≡ taken Fetch r
     → Answers keys bytes (check (identity_of keys) (frame_of f)) out
 fetch keys bytes f v r out is g lent same =
     subst (λ x. Answers keys bytes (check (identity_of keys) (frame_of f)) x) (sym same)
     (subst (λ x. Answers keys bytes (check (identity_of keys) (frame_of x)) (taken Fetch r)) (sym is)
-    (fetch_given keys bytes v r g (subst (IsFrameAt bytes 1) is lent)))
+    (fetch_given keys bytes v r g (subst (IsFrameAt bytes (head_len bytes.now)) is lent)))
 
 request_given :
     (keys : Keys) (bytes : Bor Bytes) (v : CommandView) (r : Result (CheckedView CommandView) Fault)
     → IsGivenIf (is_passed (check (identity_of keys) (frames.request (command_of v)))) keys v r
-    → IsCommandAt bytes 1 v
+    → IsCommandAt bytes (head_len bytes.now) v
     → Answers keys bytes (check (identity_of keys) (frames.request (command_of v))) (taken Request r)
 unfolding check
 request_given keys bytes v r g lent =
@@ -167,12 +168,12 @@ pub request : (keys : Keys) (bytes : Bor Bytes) (f : Frame) (v : CommandView)
     (r : Result (CheckedView CommandView) Fault) (out : Result Input Fault)
     → f ≡ frame.Request v
     → IsGivenIf (is_passed (check (identity_of keys) (frames.request (command_of v)))) keys v r
-    → IsFrameAt bytes 1 f → out ≡ taken Request r
+    → IsFrameAt bytes (head_len bytes.now) f → out ≡ taken Request r
     → Answers keys bytes (check (identity_of keys) (frame_of f)) out
 request keys bytes f v r out is g lent same =
     subst (λ x. Answers keys bytes (check (identity_of keys) (frame_of f)) x) (sym same)
     (subst (λ x. Answers keys bytes (check (identity_of keys) (frame_of x)) (taken Request r)) (sym is)
-    (request_given keys bytes v r g (subst (IsFrameAt bytes 1) is lent)))
+    (request_given keys bytes v r g (subst (IsFrameAt bytes (head_len bytes.now)) is lent)))
 
 reply_refused : (keys : Keys) (bytes : Bor Bytes) (v : ReplyView)
     → Answers keys bytes (check (identity_of keys) (reply_of v)) (Err fault.NotMine)

@@ -5,7 +5,7 @@ use Rattle.ids.specs.declared.fault.Fault.{Fault}
 use Rattle.ids.specs.declared.fault.Fault.TheVariants as fault
 use Rattle.definitions.specs.Bytes.{Bytes}
 use Rattle.definitions.specs.Keyrings.{Keys}
-use Rattle.definitions.specs.Frames.{Frame}
+use Rattle.definitions.specs.Frames.{Frame, head_len}
 use Rattle.definitions.specs.FrameLimits.{IsReadAs}
 use Rattle.definitions.specs.Checks.{identity_of}
 use Rattle.definitions.specs.Admission.{Checked, passes, rejected, check}
@@ -18,12 +18,12 @@ use Rattle.admission.specs.Inputs.{input_of, is_addressed}
 
 -- each part of the frame that it lends lies in the bytes, at the place where the grammar has it
 abbrev pub LiesIn : Bor Bytes → Input → Type 0
-LiesIn bytes (Proposal p) = IsProposalAt bytes 1 p.view
-LiesIn bytes (Block b) = IsBlockAt bytes 1 b.view
-LiesIn bytes (AVote b) = IsVoteFrameAt bytes 1 b.view
-LiesIn bytes (NewView n) = IsNewViewAt bytes 1 n.view
-LiesIn bytes (Request r) = IsCommandAt bytes 1 r.view
-LiesIn bytes (Fetch f) = IsFetchAt bytes 1 f.view
+LiesIn bytes (Proposal p) = IsProposalAt bytes (head_len bytes.now) p.view
+LiesIn bytes (Block b) = IsBlockAt bytes (head_len bytes.now) b.view
+LiesIn bytes (AVote b) = IsVoteFrameAt bytes (head_len bytes.now) b.view
+LiesIn bytes (NewView n) = IsNewViewAt bytes (head_len bytes.now) n.view
+LiesIn bytes (Request r) = IsCommandAt bytes (head_len bytes.now) r.view
+LiesIn bytes (Fetch f) = IsFetchAt bytes (head_len bytes.now) f.view
 LiesIn bytes Timeout = ⊥
 LiesIn bytes Beat = ⊥
 LiesIn bytes (Prune height) = ⊥

@@ -3,6 +3,7 @@
 ghost use Rattle.std.specs.Prelude.{◌≡◌, ◌<◌, IsTrue, IfOk};
 ghost use Rattle.ids.specs.Sizes.{replicas};
 ghost use Rattle.definitions.specs.FrameLimits.{IsFrame};
+ghost use Rattle.definitions.specs.Frames.{head_len};
 ghost use Rattle.definitions.specs.Checks.{identity_of};
 ghost use Rattle.frames_view.specs.Places.{IsFrameAt};
 ghost use Rattle.frames_view.specs.Views.{frame_of};
@@ -28,7 +29,7 @@ fn check<'a>(
     requires sizes { config.now ≡ keyring.now.sizes }
     requires replica { keyring.now.party < replicas config.now }
     requires fits { IsFrame config.now (frame_of frame) }
-    requires lent { IsFrameAt _bytes 1 frame }
+    requires lent { IsFrameAt _bytes (head_len _bytes.now) frame }
     ensures { Answers keyring.now _bytes.entry (checks (identity_of keyring.now) (frame_of frame.entry))
         result }
 {

@@ -8,6 +8,7 @@ ghost use Rattle.definitions.specs.Writing.{IsAppended};
 ghost use Rattle.definitions.specs.Frames.{frame_text, proposal_text, new_view_text, block_text, spelling};
 ghost use Rattle.definitions.specs.Frames.{vote, reply, fetch};
 
+use crate::big_endian::{in_eight, in_four, in_two};
 use crate::bounded::ReplyText;
 use appending::append;
 use ids::{ClientId, Digest, Fault, Kind, Place, ReplicaId, Seq, VERSION_TWO, View};
@@ -35,7 +36,7 @@ pub fn write_proposal<'a>(
         out,
         &[
             &[VERSION_TWO, Kind::Proposal.number()],
-            &view.0.to_be_bytes(),
+            &in_eight(view.0),
             core,
             certificate,
             vector,
@@ -58,7 +59,7 @@ pub fn write_vote(
         &[
             &[VERSION_TWO, Kind::Vote.number()],
             &digest.0,
-            &u16::from(voter.0).to_be_bytes(),
+            &in_two(u16::from(voter.0)),
             vector,
         ],
     )
@@ -80,8 +81,8 @@ pub fn write_new_view<'a>(
         out,
         &[
             &[VERSION_TWO, Kind::NewView.number()],
-            &view.0.to_be_bytes(),
-            &u16::from(sender.0).to_be_bytes(),
+            &in_eight(view.0),
+            &in_two(u16::from(sender.0)),
             certificate,
             vector,
         ],
@@ -116,11 +117,11 @@ fn append_reply<'a>(
     requires { length text.now ≤ MOST_TEXT }
     ensures { IsAppended out.old out.new (spelling (reply replica client seq place text.now tag.now)) result }
 {
-    let [r0, r1] = u16::from(replica.0).to_be_bytes();
-    let [c0, c1] = u16::from(client.0).to_be_bytes();
-    let [s0, s1, s2, s3, s4, s5, s6, s7] = seq.0.to_be_bytes();
-    let [p0, p1, p2, p3, p4, p5, p6, p7] = place.0.to_be_bytes();
-    let [n0, n1, n2, n3] = (text.len() as u32).to_be_bytes();
+    let [r0, r1] = in_two(u16::from(replica.0));
+    let [c0, c1] = in_two(u16::from(client.0));
+    let [s0, s1, s2, s3, s4, s5, s6, s7] = in_eight(seq.0);
+    let [p0, p1, p2, p3, p4, p5, p6, p7] = in_eight(place.0);
+    let [n0, n1, n2, n3] = in_four(text.len() as u32);
     let parties_and_seq = [
         VERSION_TWO,
         Kind::Reply.number(),
@@ -154,7 +155,7 @@ pub fn write_fetch(
         out,
         &[
             &[VERSION_TWO, Kind::Fetch.number()],
-            &u16::from(sender.0).to_be_bytes(),
+            &in_two(u16::from(sender.0)),
             &digest.0,
             tag,
         ],
@@ -176,7 +177,7 @@ pub fn write_block<'a>(
         out,
         &[
             &[VERSION_TWO, Kind::Block.number()],
-            &u16::from(sender.0).to_be_bytes(),
+            &in_two(u16::from(sender.0)),
             core,
             certificate,
             tag,

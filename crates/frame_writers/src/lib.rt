@@ -6,10 +6,12 @@
 //! tests nothing: what it writes is a frame where they are.
 #![tactic(auto)]
 
+mod big_endian;
 mod bounded;
 mod frames;
 mod parts;
 
+pub use big_endian::{in_eight, in_four, in_two};
 pub use bounded::{Bounded, Payload, ReplyText};
 pub use frames::{
     write_block, write_fetch, write_new_view, write_proposal, write_reply_frame,

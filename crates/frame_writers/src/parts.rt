@@ -5,6 +5,7 @@ ghost use Rattle.std.specs.Prelude.{◌≤◌, length};
 ghost use Rattle.definitions.specs.Writing.{IsAppended};
 ghost use Rattle.definitions.specs.Frames.{command_bytes, core_text, vote_bytes, certificate_text};
 
+use crate::big_endian::{in_eight, in_two};
 use crate::bounded::Payload;
 use appending::append;
 use ids::{ClientId, Digest, Fault, Height, ReplicaId, Seq};
@@ -40,9 +41,9 @@ fn append_command<'a>(
     append(
         out,
         &[
-            &u16::from(client.0).to_be_bytes(),
-            &seq.0.to_be_bytes(),
-            &(payload.len() as u16).to_be_bytes(),
+            &in_two(u16::from(client.0)),
+            &in_eight(seq.0),
+            &in_two(payload.len() as u16),
             payload,
             vector,
         ],
@@ -65,8 +66,8 @@ pub fn write_core(
         out,
         &[
             &parent.0,
-            &height.0.to_be_bytes(),
-            &justify_height.0.to_be_bytes(),
+            &in_eight(height.0),
+            &in_eight(justify_height.0),
             &[count],
             commands,
         ],
@@ -77,7 +78,7 @@ pub fn write_core(
 pub fn write_certified_vote(voter: ReplicaId, vector: &[u8], out: &mut Vec<u8>) -> Result<(), Fault>
     ensures { IsAppended out.old out.new (vote_bytes (record { voter = voter; vector = vector.now })) result }
 {
-    append(out, &[&u16::from(voter.0).to_be_bytes(), vector])
+    append(out, &[&in_two(u16::from(voter.0)), vector])
 }
 
 /// Appends a certificate, of the bytes of `count` votes.

@@ -11,7 +11,7 @@ ghost use Rattle.signed_frames.specs.Clients.{client_of};
 
 use crate::signed::signed_for_all;
 use authenticators::Keyring;
-use frame_writers::{Payload, write_vote};
+use frame_writers::{Payload, in_eight, in_two, write_vote};
 use ids::{Digest, Fault, Kind, Seq, View};
 use std::alloc::Global;
 
@@ -47,7 +47,7 @@ pub fn proposal_frame<'a>(
         (vector_for keyring.now.sizes (keyring_of keyring.now) kind.Proposal content)) }
     ensures memory { OnErr result (result ≡ Err Fault.Memory) }
 {
-    let view = view.0.to_be_bytes();
+    let view = in_eight(view.0);
     signed_for_all(alloc, keyring, Kind::Proposal, &[&view, core, certificate])
 }
 
@@ -65,8 +65,8 @@ pub fn new_view_frame(
         (vector_for keyring.now.sizes (keyring_of keyring.now) kind.NewView content)) }
     ensures memory { OnErr result (result ≡ Err Fault.Memory) }
 {
-    let view = view.0.to_be_bytes();
-    let sender = u16::from(keyring.replica().0).to_be_bytes();
+    let view = in_eight(view.0);
+    let sender = in_two(u16::from(keyring.replica().0));
     signed_for_all(
         alloc,
         keyring,
@@ -88,10 +88,10 @@ pub fn request_frame(
         (λ frame. frame.items ≡ spelling (request_frame (client_of keyring.now) seq payload.now)) }
     ensures memory { OnErr result (result ≡ Err Fault.Memory) }
 {
-    let client = (keyring.party().0 - 256).to_be_bytes();
-    let seq = seq.0.to_be_bytes();
+    let client = in_two(keyring.party().0 - 256);
+    let seq = in_eight(seq.0);
     let text = payload.as_slice();
-    let length = (text.len() as u16).to_be_bytes();
+    let length = in_two(text.len() as u16);
     signed_for_all(
         alloc,
         keyring,

@@ -11,7 +11,7 @@ ghost use Rattle.definitions.specs.Sendings.{reply_to};
 
 use crate::signed::signed_for;
 use authenticators::Keyring;
-use frame_writers::ReplyText;
+use frame_writers::{ReplyText, in_eight, in_four, in_two};
 use ids::{ClientId, Digest, Fault, Kind, Place, ReplicaId, Seq};
 use std::alloc::Global;
 
@@ -30,7 +30,7 @@ pub fn fetch_frame(
         (tag_for (keyring_of keyring.now) kind.Fetch to content)) }
     ensures memory { OnErr result (result ≡ Err Fault.Memory) }
 {
-    let sender = u16::from(keyring.replica().0).to_be_bytes();
+    let sender = in_two(u16::from(keyring.replica().0));
     signed_for(alloc, keyring, Kind::Fetch, to.into(), &[&sender, &block.0])
 }
 
@@ -51,7 +51,7 @@ pub fn block_frame<'a>(
         (tag_for (keyring_of keyring.now) kind.Block to content)) }
     ensures memory { OnErr result (result ≡ Err Fault.Memory) }
 {
-    let sender = u16::from(keyring.replica().0).to_be_bytes();
+    let sender = in_two(u16::from(keyring.replica().0));
     signed_for(
         alloc,
         keyring,
@@ -77,12 +77,12 @@ pub fn reply_frame(
         (record { client = client; seq = seq; place = place; text = text.now })).1) }
     ensures memory { OnErr result (result ≡ Err Fault.Memory) }
 {
-    let sender = u16::from(keyring.replica().0).to_be_bytes();
-    let number = u16::from(client.0).to_be_bytes();
-    let seq = seq.0.to_be_bytes();
-    let place = place.0.to_be_bytes();
+    let sender = in_two(u16::from(keyring.replica().0));
+    let number = in_two(u16::from(client.0));
+    let seq = in_eight(seq.0);
+    let place = in_eight(place.0);
     let text = text.as_slice();
-    let length = (text.len() as u32).to_be_bytes();
+    let length = in_four(text.len() as u32);
     signed_for(
         alloc,
         keyring,

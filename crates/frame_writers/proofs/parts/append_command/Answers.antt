@@ -7,9 +7,9 @@ use Rattle.frame_writers.proofs.parts.append_command.Goals as goal
 
 pub returns : goal.returns
 returns c =
-    let client : c.to_be_bytes.result ≡ to_be_bytes w16 c.args.client = cc in
-    let seq : c.to_be_bytes-2.result ≡ to_be_bytes w64 c.args.seq = cc in
-    let len : c.to_be_bytes-3.result ≡ to_be_bytes w16 (length c.args.payload.now) = cc in
+    let client : c.in_two.result ≡ to_be_bytes w16 c.args.client = cc in
+    let seq : c.in_eight.result ≡ to_be_bytes w64 c.args.seq = cc in
+    let len : c.in_two-2.result ≡ to_be_bytes w16 (length c.args.payload.now) = cc in
     subst (λ (t : Bytes). IsAppended c.args.out.now c.append.new.out t c.append.result)
     (number_first _ _ client
     (number_first _ _ seq (number_first _ _ len (parts_last c.args.payload.now c.args.vector.now))))
