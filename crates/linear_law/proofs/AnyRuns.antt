@@ -6,7 +6,7 @@ use Rattle.std.proofs.lemmas.Bool.{and_parts, cond_both, ltb-true}
 use Rattle.ids.specs.Sizes.{Sizes, replicas}
 use Rattle.definitions.specs.Lists.{Among}
 use Rattle.definitions.specs.Bytes.{Bytes}
-use Rattle.definitions.specs.FrameLimits.{IsCore, IsFrame}
+use Rattle.definitions.specs.FrameLimits.{IsCore, IsWritten}
 use Rattle.definitions.specs.Branches.{Branch}
 use Rattle.definitions.specs.Digests.{AllKnown}
 use Rattle.definitions.specs.Chronicles.{Step, Step.took_block, Step.noted, Note.beat, Chronicle}
@@ -55,7 +55,7 @@ pub record IsPlain (self : Identity) (now : ℕ) (c : Chronicle) : Type 0 where
   pub stored_are : AreStored self c
   pub fit : (x : Branch) → Among x (tree c) → AllKnown (IsCore self.sizes) x
   pub short : length c < now
-  pub proposal : (j : Justified) → proposed self c ≡ Some j → IsFitProposal self.sizes j
+  pub proposal : (j : Justified) → proposed self c ≡ Some j → IsFitProposal self j
 
 -- it stays so
 later : (self : Identity) (now : ℕ) (c : Chronicle) → IsPlain self now c → IsPlain self (suc now) c
@@ -69,22 +69,23 @@ later self now c p = record {
 
 -- the proposal after a step
 proposal-now : (self : Identity) (now : ℕ) (st : Step) (c : Chronicle) → now ≤ 2 ^ 63 → IsPlain self now c
-    → (j : Justified) → proposed self (st ∷ c) ≡ Some j → IsFitProposal self.sizes j
+    → (j : Justified) → proposed self (st ∷ c) ≡ Some j → IsFitProposal self j
 unfolding proposed
 proposal-now self now (noted beat) c few p j e = by (child self c (leaf self c)) refl e
   where
     by : (o : Option Branch) → child self c (leaf self c) ≡ o
         → made_with o (qc_high self.sizes c).certificate (proposed self c) ≡ Some j
-        → IsFitProposal self.sizes j
+        → IsFitProposal self j
     by None i f = p.proposal j f
     by (Some b) i f =
         let is : record { block = b; certificate = (qc_high self.sizes c).certificate } ≡ j = cc in
         let l = leaf-low self c p.sound in
         let s = p.short in
-        subst (IsFitProposal self.sizes) is (record {
+        subst (IsFitProposal self) is (record {
           core_is =
               child-core self c b p.stored_are (omega (arith, l, s, few)) (child-is self c (leaf self c) b i);
           certificate_is = (qc_high-is self c p.stored_are).certificate_is;
+          good = (qc_high-is self c p.stored_are).good;
         })
 proposal-now self now (took_block a) c few p j e = p.proposal j e
 proposal-now self now (noted n) c few p j e = p.proposal j e
@@ -115,7 +116,7 @@ grown self now st c few p so h = record {
 -- what an outcome leaves, and what it sends
 record IsPlainAfter (self : Identity) (now : ℕ) (m : MemorySupply) (r : Replica × Reaction) : Type 0 where
   left : IsPlain self (suc now) r.0.chronicle
-  out : (o : Sending) → Among o (out_of self m r.1) → IsFrame self.sizes o.1
+  out : (o : Sending) → Among o (out_of self m r.1) → IsWritten self.sizes o.1
 
 -- each outcome leaves it so
 after-plain :
@@ -169,7 +170,7 @@ pub record IsPlainWorld (w : World) : Type 0 where
 record IsPlainEffect (w : World) (f : Effect) : Type 0 where
   each : (p : ℕ) → is_member w p ≡ true → IsPlain (self_of w p) (suc w.now) (f.replica p).chronicle
   room : (c : ℕ) → (f.session c).used < 2 ^ 64
-  out : (o : Sending) → Among o f.out → IsFrame w.sizes o.1
+  out : (o : Sending) → Among o f.out → IsWritten w.sizes o.1
 
 -- a correct replica's step
 step-plain : (w : World) (e : Event) (m : MemorySupply) (i : Input) → w.now ≤ 2 ^ 63 → IsPlainWorld w
@@ -259,7 +260,7 @@ happens-plain w e m few a rd ok = record {
     | inr x ↦
         (let r =
         Among-map sent (effect w (e, m)).out s x in
-        subst (λ (y : Sent). IsFrame w.sizes y.frame) (sym r.2) (k.out r.0 r.1))
+        subst (λ (y : Sent). IsWritten w.sizes y.frame) (sym r.2) (k.out r.0 r.1))
   ];
 }
   where

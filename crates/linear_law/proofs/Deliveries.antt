@@ -21,7 +21,7 @@ use Rattle.definitions.specs.Chronicles.{Admitted, Step, Step.took_block, Step.n
 use Rattle.definitions.specs.Chronicles.{Note.got_new_view, Note.got_request, Note.got_fetch}
 use Rattle.definitions.specs.Chronicles.{Note.timed_out, Note.beat, Note.pruned, Chronicle, taken_blocks}
 use Rattle.definitions.specs.Chronicles.{history, horizon, window}
-use Rattle.definitions.specs.Checks.{Identity, Findings, vote_verifies, command_verifies}
+use Rattle.definitions.specs.Checks.{Identity, Findings, vote_verifies, command_verifies, cut}
 use Rattle.definitions.specs.States.{view, Justified, me, leads, leaf, child, known_as, proposed, made_with}
 use Rattle.definitions.specs.States.{raised, higher, qc_high, votes, pending, with_request, is_due}
 use Rattle.definitions.specs.States.{is_same_request, picks, find_block}
@@ -53,6 +53,7 @@ use Rattle.definitions.specs.Premises.{command_claim, command_claims, accepted_t
 use Rattle.definitions.specs.Premises.{AllRead, NoForgeryIn, NoForgery}
 use Rattle.definitions.proofs.Lists.{Among-either, Among-map, Among-before}
 use Rattle.definitions.proofs.Certificates.{all-filter, all-implied, all-by_voter}
+use Rattle.definitions.proofs.Cuts.{all-take, all-cut}
 use Rattle.definitions.proofs.Checks.{when-good}
 use Rattle.definitions.proofs.Chronicles.{taken-now}
 use Rattle.definitions.proofs.Sound.{found}
@@ -63,7 +64,7 @@ use Rattle.linear_law.proofs.Sends.{Sends, Sends.its_vote, Sends.new_reply, Send
 use Rattle.linear_law.proofs.Sends.{Sends.its_block, Sends.its_proposal, sends}
 use Rattle.linear_law.proofs.Submissions.{IsAsked, IsAsked.kept, IsAsked.given, submission-asked}
 use Rattle.linear_law.proofs.Linear.{run-step}
-use Rattle.linear_law.proofs.Leaves.{all-after, all-take, none-some, child-is}
+use Rattle.linear_law.proofs.Leaves.{all-after, none-some, child-is}
 use Rattle.linear_law.proofs.WholeRuns.{slice_get-among}
 use Rattle.linear_law.proofs.FramedRuns.{put-both}
 use Rattle.linear_law.specs.Law.{HaveOwnKeys, IsDelivered, AllDelivered, DeliveriesForgeNothing}
@@ -262,6 +263,11 @@ module _ (sent : List Sent) where
         | inr k ↦ taken-made c a h.1 k
       ]
 
+  -- the votes of a certificate that is passed on are among its own
+  cut-made : (self : Identity) (q : Certificate) → VotesSent sent q → VotesSent sent (cut self q)
+  unfolding cut
+  cut-made self q h = all-cut (VoteSent sent q.digest) self q h
+
   -- what a step sends is in its own name, and passes on what was sent
   sends-made : (self : Identity) (st : Step) (c : Chronicle) (o : Sending) → AreMade sent (st ∷ c)
       → Sends self st c o → (me self ≡ sender_of self.sizes o.1) × Passed sent o.1
@@ -269,9 +275,13 @@ module _ (sent : List Sent) where
   sends-made self st c o h (its_vote a e v to) = (refl, tt)
   sends-made self st c o h (new_reply a m) = (refl, tt)
   sends-made self st c o h (old_reply a m) = (refl, tt)
-  sends-made self st c o h its_view = (refl, high-made self.sizes (st ∷ c) h)
-  sends-made self st c o h (its_block to a m) = (refl, taken-made c a h.1 m)
-  sends-made self st c o h (its_proposal j l e) = (sym (eqb-true _ _ l), proposed-made self (st ∷ c) j h e)
+  sends-made self st c o h its_view =
+      (refl, cut-made self (qc_high self.sizes (st ∷ c)).certificate (high-made self.sizes (st ∷ c) h))
+  sends-made self st c o h (its_block to a m) =
+      let k = taken-made c a h.1 m in (refl, (k.0, cut-made self a.certificate k.1))
+  sends-made self st c o h (its_proposal j l e) =
+      let k = proposed-made self (st ∷ c) j h e in
+      (sym (eqb-true _ _ l), (k.0, cut-made self j.certificate k.1))
 
   -- ---- rulings
 

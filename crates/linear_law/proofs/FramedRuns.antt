@@ -1,4 +1,4 @@
--- Each frame that a correct party of a run sends is a frame at its sizes.
+-- Each frame that a correct party of a run sends is a frame at its sizes, and a certificate in it is cut.
 use Rattle.ids.specs.declared.limits.TheConstants.{MOST_PAYLOAD}
 use Rattle.ids.specs.declared.fault.Fault.{Fault}
 use Rattle.ids.specs.declared.fault.Fault.TheVariants as fault
@@ -15,7 +15,7 @@ use Rattle.definitions.specs.Bytes.{Bytes}
 use Rattle.definitions.specs.Canonical.{request_of, is_canonical}
 use Rattle.definitions.specs.Requests.{Asked}
 use Rattle.definitions.specs.Frames.{Core, genesis_core, command_content}
-use Rattle.definitions.specs.FrameLimits.{IsDigest, IsCore, IsFrame}
+use Rattle.definitions.specs.FrameLimits.{IsDigest, IsCore, IsWritten}
 use Rattle.definitions.specs.Branches.{Branch}
 use Rattle.definitions.specs.Digests.{AllKnown, NoCollision}
 use Rattle.definitions.specs.Chronicles.{Step, Chronicle, tree, IsSound}
@@ -103,19 +103,19 @@ record IsFramedAfter (Known : Core → Type 0) (self : Identity) (m : MemorySupp
     Type 0 where
   stored : AreStored self r.0.chronicle
   leaf : r.0.standing ≡ running → IsLeafKnown Known self r.0.chronicle
-  out : (o : Sending) → Among o (out_of self m r.1) → IsFrame self.sizes o.1
+  out : (o : Sending) → Among o (out_of self m r.1) → IsWritten self.sizes o.1
 
 -- the question for a block that was lacking
 pub lacks-fit : (self : Identity) (m : MemorySupply) (sender : ℕ) (d : Bytes) (o : Sending)
     → me self < replicas self.sizes → IsDigest d → Among o (out_of self m (asks_for sender d))
-    → IsFrame self.sizes o.1
+    → IsWritten self.sizes o.1
 lacks-fit self m sender d o number h =
     cond_both (is_ample m && not (sender == self.ring.party))
     ((to_party sender, fetch_frame self sender d) ∷ []) []
-    (λ (l : List Sending). Among o l → IsFrame self.sizes o.1)
+    (λ (l : List Sending). Among o l → IsWritten self.sizes o.1)
     (λ e k. elim k [
       | inl i ↦
-          subst (λ (x : Sending). IsFrame self.sizes x.1) (sym i) (fetch-fits self number sender d h)
+          subst (λ (x : Sending). IsWritten self.sizes x.1) (sym i) (fetch-fits self number sender d h)
       | inr n ↦ absurd n
     ])
     (λ e k. absurd k)
@@ -186,26 +186,28 @@ payload-short payload h = by (request_of payload) refl h
 -- the request that goes out
 pub submission-fits : (c : Client) (m : MemorySupply) (payload : Bytes) (s : Session) (o : Sending)
     → c.number < c.sizes.clients → s.used < 2 ^ 64 → length payload ≤ MOST_PAYLOAD
-    → Among o (submitted_out (submission c m payload s).1) → IsFrame c.sizes o.1
+    → Among o (submitted_out (submission c m payload s).1) → IsWritten c.sizes o.1
 unfolding submission request_frame
 submission-fits c m payload s o client room short =
     cond_both s.waiting _ _ P (λ e k. absurd k) (λ e.
     cond_both (s.used == (2 ^ 64 - 1)) _ _ P (λ e k. absurd k) (λ spent.
     cond_both (not (is_ample m)) _ _ P (λ e k. absurd k) (λ e k.
     elim k [
-      | inl i ↦ subst (λ (x : Sending). IsFrame c.sizes x.1) (sym i)
-          (record {
-            client = client;
-            seq = (let n = eqb-false s.used (2 ^ 64 - 1) spent in (omega arith, omega (arith, n, room)));
-            payload = short;
-            vector = IsVector-vector_for c.sizes c.ring kind.Request
-                (command_content c.number (suc s.used) payload);
-          })
+      | inl i ↦ subst (λ (x : Sending). IsWritten c.sizes x.1) (sym i) (
+        record {
+          client = client;
+          seq = (let n = eqb-false s.used (2 ^ 64 - 1) spent in (omega arith, omega (arith, n, room)));
+          payload = short;
+          vector = IsVector-vector_for c.sizes c.ring kind.Request
+              (command_content c.number (suc s.used) payload);
+        },
+        tt,
+      )
       | inr n ↦ absurd n
     ])))
   where
     P : Session × Submitted → Type 0
-    P x = Among o (submitted_out x.1) → IsFrame c.sizes o.1
+    P x = Among o (submitted_out x.1) → IsWritten c.sizes o.1
 
 -- what a run does not refuse to submit is a request
 pub requested : (w : World) (c : ℕ) (payload : Bytes) → refusal w (submit c payload) ≡ None
@@ -229,14 +231,14 @@ pub record IsFramed (Known : Core → Type 0) (w : World) : Type 0 where
   pub stored : (p : ℕ) → is_member w p ≡ true → AreStored (self_of w p) (chronicles w p)
   pub leaves : (p : ℕ) → is_member w p ≡ true → (w.replica p).standing ≡ running
       → IsLeafKnown Known (self_of w p) (chronicles w p)
-  pub sent : (s : Sent) → Among s w.sent → IsFrame w.sizes s.frame
+  pub sent : (s : Sent) → Among s w.sent → IsWritten w.sizes s.frame
 
 -- what an effect keeps
 record IsFramedEffect (Known : Core → Type 0) (w : World) (f : Effect) : Type 0 where
   stored : (p : ℕ) → is_member w p ≡ true → AreStored (self_of w p) (f.replica p).chronicle
   leaves : (p : ℕ) → is_member w p ≡ true → (f.replica p).standing ≡ running
       → IsLeafKnown Known (self_of w p) (f.replica p).chronicle
-  out : (o : Sending) → Among o f.out → IsFrame w.sizes o.1
+  out : (o : Sending) → Among o f.out → IsWritten w.sizes o.1
 
 -- one replica is put in its place
 pub put-both : (P : Replica → Type 0) (p : ℕ) (r : Replica) (row : ℕ → Replica) (j : ℕ) → (j ≡ p → P r)
@@ -335,7 +337,7 @@ module _ (Known : Core → Type 0) (apart : NoCollision Known) (genesis : Known 
           | inr x ↦
               (let r =
               Among-map sent (effect w (e, m)).out s x in
-              subst (λ (y : Sent). IsFrame w.sizes y.frame) (sym r.2) (k.out r.0 r.1))
+              subst (λ (y : Sent). IsWritten w.sizes y.frame) (sym r.2) (k.out r.0 r.1))
         ];
       }
     where

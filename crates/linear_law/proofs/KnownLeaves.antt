@@ -25,7 +25,7 @@ use Rattle.linear_law.proofs.SentFrames.{IsFitProposal}
 -- what is kept of a running replica's leaf and of its last proposal
 pub record IsLeafKnown (Known : Core → Type 0) (self : Identity) (c : Chronicle) : Type 0 where
   pub known : AllKnown Known (leaf self c)
-  pub proposal : (j : Justified) → proposed self c ≡ Some j → IsFitProposal self.sizes j
+  pub proposal : (j : Justified) → proposed self c ≡ Some j → IsFitProposal self j
 
 -- what is known of a replica's tree and steps
 pub record IsGrown (Known : Core → Type 0) (self : Identity) (c : Chronicle) : Type 0 where
@@ -82,19 +82,21 @@ module _ (Known : Core → Type 0) (apart : NoCollision Known) (genesis : Known 
   -- the proposal after a step
   pub proposal-now : (self : Identity) (st : Step) (c : Chronicle) → IsGrown Known self c
       → IsLeafKnown Known self c → (j : Justified) → proposed self (st ∷ c) ≡ Some j
-      → IsFitProposal self.sizes j
+      → IsFitProposal self j
   unfolding proposed
   proposal-now self (noted beat) c g k j e = by (child self c (leaf self c)) refl e
     where
       by : (o : Option Branch) → child self c (leaf self c) ≡ o
           → made_with o (qc_high self.sizes c).certificate (proposed self c) ≡ Some j
-          → IsFitProposal self.sizes j
+          → IsFitProposal self j
       by None i f = k.proposal j f
       by (Some b) i f =
           let is : record { block = b; certificate = (qc_high self.sizes c).certificate } ≡ j = cc in
-          subst (IsFitProposal self.sizes) is (record {
+          let high = qc_high-is self c g.stored in
+          subst (IsFitProposal self) is (record {
             core_is = made-core self c b g k i;
-            certificate_is = (qc_high-is self c g.stored).certificate_is;
+            certificate_is = high.certificate_is;
+            good = high.good;
           })
   proposal-now self (took_block a) c g k j e = k.proposal j e
   proposal-now self (noted n) c g k j e = k.proposal j e

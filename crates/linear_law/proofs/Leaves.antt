@@ -1,7 +1,7 @@
 -- Views, waiting requests and the block that the next proposal stands on, of a chronicle whose steps came
 -- in frames.
 use Rattle.ids.specs.declared.limits.TheConstants.{MOST_COMMANDS}
-use Rattle.std.proofs.Common.{ℕ, zero, suc, if◌then◌else◌, ◌≡◌, ◌<◌, ◌≤◌, ◌+◌, ◌^◌, ◌&&◌, not, true, List, []}
+use Rattle.std.proofs.Common.{ℕ, suc, if◌then◌else◌, ◌≡◌, ◌<◌, ◌≤◌, ◌+◌, ◌^◌, ◌&&◌, not, true, List, []}
 use Rattle.std.proofs.Common.{◌∷◌, ◌++◌, length, refl, sym, ap, subst, arith, inl, Option, Some, None}
 use Rattle.std.proofs.Common.{true≢false, ◌-◌, ◌==◌, nat_lt, nat_le, map, filter, take, is_some}
 use Rattle.std.specs.List.{list_any, AllByRecursion}
@@ -30,6 +30,7 @@ use Rattle.definitions.proofs.Chronicles.{tree-genesis, tree-grows, taken-tree, 
 use Rattle.std.specs.Prelude.{IfSome}
 use Rattle.std.proofs.lemmas.Bool.{cond-true}
 use Rattle.definitions.proofs.Certificates.{IsDigest-digest_of, all-filter}
+use Rattle.definitions.proofs.Cuts.{all-take}
 use Rattle.linear_law.proofs.StoredFrames.{AreStored}
 
 -- ---- views

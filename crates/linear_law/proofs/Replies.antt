@@ -12,7 +12,7 @@ use Rattle.definitions.specs.Lists.{beginning, IsBeginning, Among}
 use Rattle.definitions.specs.Frames.{Frame}
 use Rattle.definitions.specs.Branches.{Branch, just3, Extends, extends, highest}
 use Rattle.definitions.specs.Bytes.{Bytes}
-use Rattle.definitions.specs.Histories.{Entry, History, Answer, answers, is_fresh}
+use Rattle.definitions.specs.Histories.{History, Answer, answers, is_fresh}
 use Rattle.definitions.specs.Chronicles.{Admitted, Step, Step.took_block, Step.noted, Chronicle, taken_blocks}
 use Rattle.definitions.specs.Chronicles.{decided, decided_by, decides, executed, history}
 use Rattle.definitions.specs.Checks.{Identity}

@@ -1,6 +1,6 @@
 -- The chronicles of the correct replicas, side by side: each lawful, all in one order.
 use Rattle.definitions.proofs.Chronicles.{voted-tree}
-use Rattle.std.proofs.Common.{ℕ, ◌≡◌, Bool, true, false, [], ◌∷◌, ◌++◌, cond, refl, sym, ap, subst, ◌∙◌}
+use Rattle.std.proofs.Common.{ℕ, ◌≡◌, Bool, true, false, ◌∷◌, cond, refl, sym, ap, subst, ◌∙◌}
 use Rattle.std.proofs.Common.{inl, inr, map, true≢false, ◌==◌}
 use Rattle.std.specs.Bool.{⊤}
 use Rattle.std.proofs.lemmas.Bool.{eqb-true, eq-eqb, cond_both, cond-true, cond-false, cases_Bool, ne_eqb}
@@ -8,7 +8,7 @@ use Rattle.definitions.proofs.Digests.{digest_of-one, all_known-below}
 use Rattle.definitions.proofs.Branches.{just1-extends}
 use Rattle.definitions.specs.Lists.{Among}
 use Rattle.definitions.specs.Frames.{Core, genesis_core}
-use Rattle.definitions.specs.Branches.{Branch, just1, Extends}
+use Rattle.definitions.specs.Branches.{Branch, just1}
 use Rattle.ids.specs.Sizes.{Sizes}
 use Rattle.definitions.specs.Digests.{digest_of, core_of, AllKnown, NoCollision}
 use Rattle.definitions.specs.Trees.{blocks}

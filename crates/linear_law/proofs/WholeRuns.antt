@@ -6,7 +6,7 @@ use Rattle.std.specs.Bool.{⊤}
 use Rattle.ids.specs.Sizes.{Sizes}
 use Rattle.definitions.specs.Lists.{Among}
 use Rattle.definitions.specs.Frames.{Core, Frame, spelling, genesis_core}
-use Rattle.definitions.specs.FrameLimits.{IsReadAs, IsCore, IsFrame}
+use Rattle.definitions.specs.FrameLimits.{IsReadAs, IsCore, IsFrame, IsWritten}
 use Rattle.definitions.specs.Digests.{NoCollision}
 use Rattle.definitions.specs.Keyrings.{Keyring}
 use Rattle.definitions.specs.States.{Justified, leaf, proposed}
@@ -42,7 +42,7 @@ slice_get-among (y ∷ xs) (suc i) x e = inr (slice_get-among xs i x e)
 
 -- a recorded frame is one that was sent
 recorded-framed : (sizes : Sizes) (xs : List Sent) (k : ℕ) (f : Frame)
-    → ((s : Sent) → Among s xs → IsFrame sizes s.frame)
+    → ((s : Sent) → Among s xs → IsWritten sizes s.frame)
     → option_map (λ s. s.frame) (slice_get xs k) ≡ Some f → IsFrame sizes f
 recorded-framed sizes xs k f sent e = by (slice_get xs k) refl e
   where
@@ -52,9 +52,9 @@ recorded-framed sizes xs k f sent e = by (slice_get xs k) refl e
         none : None ≡ Some f → ⊥
         none h = cc
     by (Some s) i j =
-        let here : s.frame ≡ f = cc in subst (IsFrame sizes) here (sent s (slice_get-among xs k s i))
+        let here : s.frame ≡ f = cc in subst (IsFrame sizes) here (sent s (slice_get-among xs k s i)).0
 
--- what comes is a frame, where each frame that was sent is one
+-- what comes is a frame, where each frame that was sent is one that is written
 pub comes-framed : (w : World) (e : Event) → IsReadIn w.sizes e → SentAreFrames w → ComesFramed w e
 unfolding brought
 comes-framed w (submit c payload) rd sent f b = absurd (let k : None ≡ Some f = b in cc)
@@ -209,7 +209,7 @@ pub none-conflicts : NoEventConflicts
 none-conflicts sizes is_faulty ring hs last met e =
     (run-is-well sizes is_faulty ring hs last met e).good.answers
 
--- each frame that was sent is a frame
+-- each frame that was sent is one that is written
 pub sent-are-frames : SentFramesAreFrames
 sent-are-frames sizes is_faulty ring hs last met e =
     (run-is-well sizes is_faulty ring hs last met e).framed.sent
@@ -217,8 +217,8 @@ sent-are-frames sizes is_faulty ring hs last met e =
 -- and its bytes are read as it
 pub sent-are-read : SentFramesAreRead
 sent-are-read sizes is_faulty ring hs last met e are s read m rd =
-    IsReadAs-unique last.sizes are (spelling s.frame) read (Some s.frame) rd
-    (sent-are-frames sizes is_faulty ring hs last met e s m, refl)
+    let k = sent-are-frames sizes is_faulty ring hs last met e s m in
+    IsReadAs-unique last.sizes are (spelling s.frame) read (Some s.frame) rd (k.0, inr (k.1, refl))
 
 -- the certificates of each correct replica
 pub made-are-certificates : MadeCertificatesAreCertificates

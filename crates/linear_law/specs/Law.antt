@@ -6,7 +6,7 @@ use Rattle.ids.specs.declared.fault.Fault.TheVariants as fault
 use Rattle.ids.specs.Sizes.{Sizes, AreSizes}
 use Rattle.definitions.specs.Keyrings.{Keyring}
 use Rattle.definitions.specs.Lists.{Among, IsBeginning}
-use Rattle.definitions.specs.FrameLimits.{IsFrame, IsReadAs, IsCertificate}
+use Rattle.definitions.specs.FrameLimits.{IsReadAs, IsWritten, IsCertificate}
 use Rattle.definitions.specs.Digests.{digest_of}
 use Rattle.definitions.specs.Checks.{Identity, is_good}
 use Rattle.definitions.specs.States.{Justified, raised, qc_high}
@@ -58,9 +58,10 @@ ChroniclesAreAFamily = AfterEachRun (λ w. IsLawfulFamily (correct_family w))
 abbrev pub NoEventConflicts : Type 0
 NoEventConflicts = AfterEachRun NoneConflicts
 
--- each frame that a correct party sent is a frame at the world's sizes
+-- each frame that a correct party sent is one that version 2 spells at the world's sizes: a certificate in
+-- it has no votes, or exactly a quorum
 abbrev pub SentAreFrames : World → Type 0
-SentAreFrames w = (s : Sent) → Among s w.sent → IsFrame w.sizes s.frame
+SentAreFrames w = (s : Sent) → Among s w.sent → IsWritten w.sizes s.frame
 
 -- so is each frame of each such run
 abbrev pub SentFramesAreFrames : Type 0

@@ -28,7 +28,8 @@ pub fn no_event_conflicts()
     ensures { NoEventConflicts }
 {}
 
-/// Each frame that a correct party sends is a frame at the run's sizes.
+/// Each frame that a correct party sends is a frame at the run's sizes, and a certificate in it has no
+/// votes or exactly a quorum.
 pub fn sent_frames_are_frames()
     ensures { SentFramesAreFrames }
 {}
