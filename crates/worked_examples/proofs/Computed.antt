@@ -15,7 +15,7 @@ use Rattle.definitions.specs.Chronicles.{voted_blocks, taken_blocks, tree, vheig
 use Rattle.definitions.specs.Chronicles.{decided_by, decided}
 use Rattle.definitions.specs.Chronicles.{executed, history, stored_blocks, horizon, standing_blocks}
 use Rattle.definitions.specs.Chronicles.{window, is_safe}
-use Rattle.definitions.specs.Checks.{counted_voters, is_good, is_clear_core}
+use Rattle.definitions.specs.Checks.{counted_voters, is_good, cut, is_clear_core}
 use Rattle.definitions.specs.States.{find_block, view, announcements, announced, reached_view, votes, raised}
 use Rattle.definitions.specs.States.{qc_high, is_due, pending, leads, is_known, picks, child, leaf}
 use Rattle.definitions.specs.States.{proposed, insert_vote, by_voter}
@@ -37,7 +37,7 @@ unfolding sha256 digest_bytes hash_after compress rounds schedule first_words be
     hmac tag_for verify tags_for justify_height just1 just2 just3 command_eq block_eq branch_eq extends
     highest digest core_over digest_of core_of history_of is_fresh answers last_seq voted_blocks taken_blocks
     tree vheight lock decides decided_by decided executed history stored_blocks horizon standing_blocks window
-    is_clear clear_above is_safe counted_voters is_good is_clear_core view announcements announced
+    is_clear clear_above is_safe counted_voters is_good cut is_clear_core view announcements announced
     reached_view votes raised qc_high is_due pending leads is_known picks child leaf proposed find_block
     insert_vote by_voter admitted votes_for placing_known placing_new placing on_placing on_request ruling
     conflicts vote_frame proposal_frame new_replies sendings on_step on_ruling step check request_frame

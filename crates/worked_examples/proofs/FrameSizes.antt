@@ -40,30 +40,30 @@ module _ (sizes : Sizes) (four : AreFour sizes) where
       let cert = length-certificate_bytes q hq in
       omega arith
 
-  -- a Proposal has its kind, its view, these and a vector
+  -- a Proposal has the mark, its kind, its view, these and a vector
   pub length-proposal : (view : ℕ) (k : Core) (q : Certificate) (vector : Bytes)
       → IsFrame sizes (proposal view k q vector) → k.commands ≡ []
-      → length (spelling (proposal view k q vector)) ≡ 219 + 130 * length q.votes
+      → length (spelling (proposal view k q vector)) ≡ 220 + 130 * length q.votes
   length-proposal view k q vector h none =
       let both = length-core_and_certificate k q h.1 h.2 none in
       let sum = length-append (core_bytes k ++ certificate_bytes q) vector in
       let len = h.3 in
       omega arith
 
-  -- a Block has its kind, its sender, these and a tag
+  -- a Block has the mark, its kind, its sender, these and a tag
   pub length-block : (sender : ℕ) (k : Core) (q : Certificate) (tag : Bytes)
       → IsFrame sizes (block sender k q tag) → k.commands ≡ []
-      → length (spelling (block sender k q tag)) ≡ 117 + 130 * length q.votes
+      → length (spelling (block sender k q tag)) ≡ 118 + 130 * length q.votes
   length-block sender k q tag h none =
       let both = length-core_and_certificate k q h.1 h.2 none in
       let sum = length-append (core_bytes k ++ certificate_bytes q) tag in
       let len = h.3 in
       omega arith
 
-  -- a NewView has its kind, its view, its sender, a certificate and a vector
+  -- a NewView has the mark, its kind, its view, its sender, a certificate and a vector
   pub length-new_view : (view sender : ℕ) (q : Certificate) (vector : Bytes)
       → IsFrame sizes (new_view view sender q vector)
-      → length (spelling (new_view view sender q vector)) ≡ 172 + 130 * length q.votes
+      → length (spelling (new_view view sender q vector)) ≡ 173 + 130 * length q.votes
   length-new_view view sender q vector h =
       let cert = length-certificate_bytes q h.2 in
       let sum = length-append (certificate_bytes q) vector in

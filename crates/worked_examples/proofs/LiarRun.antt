@@ -255,8 +255,10 @@ of_the_cache = (
 -- the liar's frames are frames, so they are read as these
 vote_read : (b : Branch) → Spells sizes (spelling (vote_frame liar b)) (vote_frame liar b)
 unfolding vote_frame
-vote_read b =
-    ((IsDigest-digest_of b, record { voter = omega arith; vector = IsVector-vector_for sizes _ _ _ }), refl)
+vote_read b = (
+  (IsDigest-digest_of b, record { voter = omega arith; vector = IsVector-vector_for sizes _ _ _ }),
+  inr (tt, refl),
+)
 
 lie_read : Spells sizes (spelling lie) lie
 unfolding reply_to
@@ -269,7 +271,7 @@ lie_read = (
     omega arith,
     length-tag_for _ _ _ _,
   ),
-  refl,
+  inr (tt, refl),
 )
 
 all_read : AllRead sizes schedule

@@ -2,7 +2,7 @@
 use Rattle.std.proofs.Common.{refl}
 use Rattle.definitions.specs.Lists.{count_below}
 use Rattle.definitions.specs.Digests.{digest, core_over, digest_of, core_of}
-use Rattle.definitions.specs.Checks.{is_good}
+use Rattle.definitions.specs.Checks.{is_good, cut}
 use Rattle.definitions.specs.Sendings.{vote_frame, proposal_frame}
 use Rattle.definitions.specs.Worlds.{new_world}
 use Rattle.definitions.specs.Events.{party_of, brought, happens}
@@ -65,7 +65,7 @@ after_vote = refl
 -- the proposal's own tag for replica 1 is all that replica 1 relies on, and it was sent
 claim_was_sent : (sent : List Sent) → Among proposal_sent sent → (x : Claim)
     → Among x (accepted_tags (self_of start 1) example.proposed) → WasSent sent x
-unfolding accepted_tags proposal_frame core_of core_over is_good new_world
+unfolding accepted_tags proposal_frame core_of core_over is_good cut new_world
 claim_was_sent sent m x (inl e) =
     subst (WasSent sent) (sym e) (proposal_sent, m, refl, (refl, refl, refl, tt))
 claim_was_sent sent m x (inr k) = absurd k

@@ -48,52 +48,52 @@ CertificateSize =
 abbrev pub GenesisBytes : Type 0
 GenesisBytes = core_bytes genesis_core ≡ replicate 49 0
 
--- a Request has 141 bytes and those of the payload
+-- a Request has 142 bytes and those of the payload
 abbrev pub RequestSize : Type 0
 RequestSize =
     (sizes : Sizes) (c : Command) → AreFour sizes → IsFrame sizes (request c)
-    → length (spelling (request c)) ≡ 141 + length c.payload
+    → length (spelling (request c)) ≡ 142 + length c.payload
 
--- a Reply has 57 bytes and those of the text
+-- a Reply has 58 bytes and those of the text
 abbrev pub ReplySize : Type 0
 ReplySize =
     (sizes : Sizes) (replica client seq place : ℕ) (text tag : Bytes) → AreFour sizes
     → IsFrame sizes (reply replica client seq place text tag)
-    → length (spelling (reply replica client seq place text tag)) ≡ 57 + length text
+    → length (spelling (reply replica client seq place text tag)) ≡ 58 + length text
 
--- a Proposal of a block without commands has 219 bytes without votes and 609 with three
+-- a Proposal of a block without commands has 220 bytes without votes and 610 with three
 abbrev pub ProposalSize : Type 0
 ProposalSize =
     (sizes : Sizes) (view : ℕ) (k : Core) (q : Certificate) (vector : Bytes) → AreFour sizes
     → IsFrame sizes (proposal view k q vector)
-    → k.commands ≡ [] → SizeByVotes q (spelling (proposal view k q vector)) 219 609
+    → k.commands ≡ [] → SizeByVotes q (spelling (proposal view k q vector)) 220 610
 
--- a Block without commands has 117 bytes without votes and 507 with three
+-- a Block without commands has 118 bytes without votes and 508 with three
 abbrev pub BlockSize : Type 0
 BlockSize =
     (sizes : Sizes) (sender : ℕ) (k : Core) (q : Certificate) (tag : Bytes) → AreFour sizes
     → IsFrame sizes (block sender k q tag)
-    → k.commands ≡ [] → SizeByVotes q (spelling (block sender k q tag)) 117 507
+    → k.commands ≡ [] → SizeByVotes q (spelling (block sender k q tag)) 118 508
 
--- a Vote has 163 bytes
+-- a Vote has 164 bytes
 abbrev pub VoteFrameSize : Type 0
 VoteFrameSize =
     (sizes : Sizes) (digest : Bytes) (v : Vote) → AreFour sizes → IsFrame sizes (vote digest v)
-    → length (spelling (vote digest v)) ≡ 163
+    → length (spelling (vote digest v)) ≡ 164
 
--- a NewView has 172 bytes without votes and 562 with three
+-- a NewView has 173 bytes without votes and 563 with three
 abbrev pub NewViewSize : Type 0
 NewViewSize =
     (sizes : Sizes) (view sender : ℕ) (q : Certificate) (vector : Bytes) → AreFour sizes
     → IsFrame sizes (new_view view sender q vector)
-    → SizeByVotes q (spelling (new_view view sender q vector)) 172 562
+    → SizeByVotes q (spelling (new_view view sender q vector)) 173 563
 
--- a Fetch has 67 bytes
+-- a Fetch has 68 bytes
 abbrev pub FetchSize : Type 0
 FetchSize =
     (sizes : Sizes) (sender : ℕ) (digest tag : Bytes) → AreFour sizes
     → IsFrame sizes (fetch sender digest tag)
-    → length (spelling (fetch sender digest tag)) ≡ 67
+    → length (spelling (fetch sender digest tag)) ≡ 68
 
 -- ---- laws
 

@@ -31,7 +31,7 @@ last = play start first_round
 -- a request, a proposal with it, four votes, and a proposal without commands whose certificate has three
 -- votes
 abbrev pub SentSizes : Type 0
-SentSizes = map (λ s. length (spelling s.frame)) last.sent ≡ 157 ∷ 375 ∷ 163 ∷ 163 ∷ 163 ∷ 163 ∷ 609 ∷ []
+SentSizes = map (λ s. length (spelling s.frame)) last.sent ≡ 158 ∷ 376 ∷ 164 ∷ 164 ∷ 164 ∷ 164 ∷ 610 ∷ []
 
 -- in these events
 abbrev pub SentIn : Type 0

@@ -54,9 +54,9 @@ SendsOneVote = (after start schedule).sent ≡
     record { event = 1; sender = 0; to = to_all; frame = proposed }
     ∷ record { event = 2; sender = 1; to = to_party 0; frame = voted } ∷ []
 
--- of 219 bytes and of 163
+-- of 220 bytes and of 164
 abbrev pub Lengths : Type 0
-Lengths = map (λ s. length (spelling s.frame)) (after start schedule).sent ≡ 219 ∷ 163 ∷ []
+Lengths = map (λ s. length (spelling s.frame)) (after start schedule).sent ≡ 220 ∷ 164 ∷ []
 
 -- no event is refused
 abbrev pub Answers : Type 0

@@ -5,5 +5,5 @@ use Rattle.worked_examples.proofs.frames.sizes_of_votes_new_views_and_fetches_fo
 
 pub returns-clause-new_view : goal.returns-clause-new_view
 returns-clause-new_view c sizes view sender q vector four h =
-    by_votes q (spelling (new_view view sender q vector)) 172
+    by_votes q (spelling (new_view view sender q vector)) 173
     (length-new_view sizes four view sender q vector h)
