@@ -1,6 +1,7 @@
 pub mod Maps
 pub mod Exchanges
 pub mod FrameSizes
+pub mod Versions
 pub mod LineSteps
 mod SmallRun
 mod OneReplica

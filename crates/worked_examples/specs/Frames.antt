@@ -1,13 +1,15 @@
--- How many bytes frames and their parts have with four replicas, and what spellings and vectors determine.
-use Rattle.std.specs.Prelude.{◌≡◌, ℕ, ◌+◌, ◌<◌, [], length, replicate, Option}
+-- How many bytes frames and their parts have with four replicas, which versions of them are read, and what
+-- spellings and vectors determine.
+use Rattle.std.specs.Prelude.{◌≡◌, ℕ, ◌+◌, ◌<◌, true, false, [], ◌∷◌, length, replicate, Option, Some, None}
 use Rattle.ids.specs.declared.kind.Kind.{Kind}
 use Rattle.ids.specs.Sizes.{Sizes, AreSizes, replicas}
 use Rattle.definitions.specs.Bytes.{Bytes}
 use Rattle.definitions.specs.Frames.{Command, Core, Vote, Certificate, Frame, request, proposal, vote}
 use Rattle.definitions.specs.Frames.{new_view, reply, fetch, block, command_bytes, core_bytes, vote_bytes}
-use Rattle.definitions.specs.Frames.{certificate_bytes, genesis_core, spelling}
+use Rattle.definitions.specs.Frames.{certificate_bytes, genesis_core, old_spelling, spelling, version_of}
 use Rattle.definitions.specs.FrameLimits.{IsCommand, IsCore, IsVote, IsCertificate, IsVector, IsFrame}
-use Rattle.definitions.specs.FrameLimits.{IsReadAs}
+use Rattle.definitions.specs.FrameLimits.{IsWritten, IsReadAs}
+use Rattle.definitions.specs.Checks.{Identity, vote_verifies, cut}
 use Rattle.definitions.specs.Tags.{tag_of}
 use Rattle.definitions.specs.Keyrings.{Keyring, tag_for, vector_for}
 
@@ -95,13 +97,72 @@ FetchSize =
     → IsFrame sizes (fetch sender digest tag)
     → length (spelling (fetch sender digest tag)) ≡ 68
 
+-- ---- versions
+
+-- version 2 has one byte more, the first one, which is 130; the first byte tells the version
+abbrev pub VersionsAreTold : Type 0
+VersionsAreTold =
+    (f : Frame) → (spelling f ≡ 130 ∷ old_spelling f)
+    × (version_of (old_spelling f) ≡ Some 1) × (version_of (spelling f) ≡ Some 2)
+
+-- with four replicas the bytes of a frame in each version are read as it, if a certificate in it has no
+-- votes or three
+abbrev pub BothVersionsAreRead : Type 0
+BothVersionsAreRead =
+    (sizes : Sizes) (f : Frame) → AreFour sizes → IsWritten sizes f
+    → IsReadAs sizes (old_spelling f) (Some f) × IsReadAs sizes (spelling f) (Some f)
+
+-- a fourth vote of four replicas is read in version 1, and not in version 2
+abbrev pub FourthVoteIsOfVersionOne : Type 0
+FourthVoteIsOfVersionOne =
+    (sizes : Sizes) (view : ℕ) (k : Core) (q : Certificate) (vector : Bytes) → AreSizes sizes
+    → AreFour sizes → IsFrame sizes (proposal view k q vector) → length q.votes ≡ 4
+    → IsReadAs sizes (old_spelling (proposal view k q vector)) (Some (proposal view k q vector))
+    × IsReadAs sizes (spelling (proposal view k q vector)) None
+
+-- sizes with sixteen replicas, five of which may be faulty
+abbrev pub AreSixteen : Sizes → Type 0
+AreSixteen sizes = sizes.faults ≡ 5
+
+-- with sixteen replicas version 2 alone is read
+abbrev pub VersionTwoAloneIsRead : Type 0
+VersionTwoAloneIsRead =
+    (sizes : Sizes) (f : Frame) → AreSixteen sizes → IsWritten sizes f
+    → IsReadAs sizes (old_spelling f) None × IsReadAs sizes (spelling f) (Some f)
+
+-- ---- certificates that are passed on
+
+-- of four votes that verify for a replica of four, it passes on the first three
+abbrev pub FirstThreeArePassedOn : Type 0
+FirstThreeArePassedOn =
+    (self : Identity) (q : Certificate) (a b c d : Vote) → AreFour self.sizes
+    → q.votes ≡ a ∷ b ∷ c ∷ d ∷ []
+    → vote_verifies self q.digest a ≡ true → vote_verifies self q.digest b ≡ true
+    → vote_verifies self q.digest c ≡ true → vote_verifies self q.digest d ≡ true
+    → (cut self q).votes ≡ a ∷ b ∷ c ∷ []
+
+-- where the first one doesn't verify, it passes on the three others
+abbrev pub OthersArePassedOn : Type 0
+OthersArePassedOn =
+    (self : Identity) (q : Certificate) (a b c d : Vote) → AreFour self.sizes
+    → q.votes ≡ a ∷ b ∷ c ∷ d ∷ []
+    → vote_verifies self q.digest a ≡ false → vote_verifies self q.digest b ≡ true
+    → vote_verifies self q.digest c ≡ true → vote_verifies self q.digest d ≡ true
+    → (cut self q).votes ≡ b ∷ c ∷ d ∷ []
+
 -- ---- laws
 
--- two frames of one spelling are one frame
+-- two frames of one spelling are one frame, in version 2
 abbrev pub SpellingIsOfOneFrame : Type 0
 SpellingIsOfOneFrame =
     (sizes : Sizes) (f g : Frame) → AreSizes sizes → IsFrame sizes f → IsFrame sizes g
     → spelling f ≡ spelling g → f ≡ g
+
+-- and in version 1
+abbrev pub OldSpellingIsOfOneFrame : Type 0
+OldSpellingIsOfOneFrame =
+    (sizes : Sizes) (f g : Frame) → AreSizes sizes → IsFrame sizes f → IsFrame sizes g
+    → old_spelling f ≡ old_spelling g → f ≡ g
 
 -- bytes are read as one frame, or as none
 abbrev pub BytesAreReadAsOneThing : Type 0

@@ -1,10 +1,15 @@
-//! Frames: how many bytes they have with four replicas, and what a spelling and a vector determine.
+//! Frames: how many bytes they have with four replicas, which versions of them are read, which votes are
+//! passed on, and what a spelling and a vector determine.
 
 ghost use Rattle.worked_examples.specs.Frames.{CommandSize, CoreSize, VoteSize, CertificateSize};
 ghost use Rattle.worked_examples.specs.Frames.{GenesisBytes, RequestSize, ReplySize, ProposalSize};
 ghost use Rattle.worked_examples.specs.Frames.{BlockSize, VoteFrameSize, NewViewSize, FetchSize};
-ghost use Rattle.worked_examples.specs.Frames.{SpellingIsOfOneFrame, BytesAreReadAsOneThing};
-ghost use Rattle.worked_examples.specs.Frames.{VectorsAreWhole, EachTagIsForItsReplica};
+ghost use Rattle.worked_examples.specs.Frames.{VersionsAreTold, BothVersionsAreRead};
+ghost use Rattle.worked_examples.specs.Frames.{FourthVoteIsOfVersionOne, VersionTwoAloneIsRead};
+ghost use Rattle.worked_examples.specs.Frames.{FirstThreeArePassedOn, OthersArePassedOn};
+ghost use Rattle.worked_examples.specs.Frames.{SpellingIsOfOneFrame, OldSpellingIsOfOneFrame};
+ghost use Rattle.worked_examples.specs.Frames.{BytesAreReadAsOneThing, VectorsAreWhole};
+ghost use Rattle.worked_examples.specs.Frames.{EachTagIsForItsReplica};
 
 /// How many bytes a command, a core, a vote and a certificate have with four replicas.
 pub fn sizes_of_the_parts_for_four_replicas()
@@ -38,9 +43,37 @@ pub fn sizes_of_votes_new_views_and_fetches_for_four_replicas()
     ensures fetch { FetchSize }
 {}
 
-/// No two frames have the same bytes.
+/// The first byte of a frame tells its version.
+pub fn the_first_byte_tells_the_version()
+    ensures { VersionsAreTold }
+{}
+
+/// With four replicas a frame is read in both versions, if a certificate in it has no votes or exactly a
+/// quorum.
+pub fn both_versions_are_read_with_four_replicas()
+    ensures { BothVersionsAreRead }
+{}
+
+/// One vote more than a quorum is read in version 1 alone.
+pub fn a_fourth_vote_is_read_in_version_one_alone()
+    ensures { FourthVoteIsOfVersionOne }
+{}
+
+/// With five faulty replicas no frame is read in version 1.
+pub fn version_two_alone_is_read_with_sixteen_replicas()
+    ensures { VersionTwoAloneIsRead }
+{}
+
+/// A certificate is passed on with the first three votes, of four replicas, that verify.
+pub fn the_first_quorum_is_passed_on()
+    ensures all { FirstThreeArePassedOn }
+    ensures others { OthersArePassedOn }
+{}
+
+/// No two frames of one version have the same bytes.
 pub fn a_spelling_is_of_one_frame()
-    ensures { SpellingIsOfOneFrame }
+    ensures two { SpellingIsOfOneFrame }
+    ensures one { OldSpellingIsOfOneFrame }
 {}
 
 /// Two readers of the same bytes that keep to the definitions read the same.
