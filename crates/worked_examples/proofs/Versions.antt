@@ -4,8 +4,8 @@ use Rattle.std.proofs.Common.{ap, subst, arith, inl, inr, ◌∙◌, get_or}
 use Rattle.std.proofs.lemmas.Bool.{cond-true, cond-false}
 use Rattle.ids.specs.Sizes.{Sizes, quorum}
 use Rattle.definitions.specs.Bytes.{Bytes}
-use Rattle.definitions.specs.Frames.{Vote, Certificate, Frame, request, proposal, vote, new_view, reply, fetch}
-use Rattle.definitions.specs.Frames.{block, kind_of, old_spelling, spelling}
+use Rattle.definitions.specs.Frames.{Vote, Certificate, Frame, request, proposal, vote, new_view, reply}
+use Rattle.definitions.specs.Frames.{fetch, block, kind_of, old_spelling, spelling}
 use Rattle.definitions.specs.FrameLimits.{IsCut, CarriesCut, Spells}
 use Rattle.definitions.specs.Checks.{Identity, vote_verifies, cut}
 use Rattle.definitions.proofs.Spellings.{kind_number-mark, spelling_injective}
