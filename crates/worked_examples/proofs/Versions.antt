@@ -9,7 +9,7 @@ use Rattle.definitions.specs.Frames.{fetch, block, kind_of, old_spelling, spelli
 use Rattle.definitions.specs.FrameLimits.{IsCut, CarriesCut, Spells}
 use Rattle.definitions.specs.Checks.{Identity, vote_verifies, cut}
 use Rattle.definitions.proofs.Spellings.{kind_number-mark, spelling_injective}
-use Rattle.worked_examples.specs.Frames.{AreFour, VersionsAreTold, BothVersionsAreRead}
+use Rattle.worked_examples.specs.Frames.{AreFour, VersionsAreTold, HeadsAreShort, BothVersionsAreRead}
 use Rattle.worked_examples.specs.Frames.{FourthVoteIsOfVersionOne, VersionTwoAloneIsRead}
 use Rattle.worked_examples.specs.Frames.{FirstThreeArePassedOn, OthersArePassedOn}
 
@@ -22,6 +22,16 @@ told (new_view view sender q vector) = (refl, refl, refl)
 told (reply replica client seq place text tag) = (refl, refl, refl)
 told (fetch sender digest tag) = (refl, refl, refl)
 told (block sender k q tag) = (refl, refl, refl)
+
+-- its head is what stands before its middle
+pub short : HeadsAreShort
+short (request c) = (refl, refl, refl, refl)
+short (proposal view k q vector) = (refl, refl, refl, refl)
+short (vote digest v) = (refl, refl, refl, refl)
+short (new_view view sender q vector) = (refl, refl, refl, refl)
+short (reply replica client seq place text tag) = (refl, refl, refl, refl)
+short (fetch sender digest tag) = (refl, refl, refl, refl)
+short (block sender k q tag) = (refl, refl, refl, refl)
 
 -- with one faulty replica both are read
 pub both : BothVersionsAreRead

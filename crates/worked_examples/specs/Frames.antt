@@ -1,12 +1,14 @@
 -- How many bytes frames and their parts have with four replicas, which versions of them are read, and what
 -- spellings and vectors determine.
-use Rattle.std.specs.Prelude.{◌≡◌, ℕ, ◌+◌, ◌<◌, true, false, [], ◌∷◌, length, replicate, Option, Some, None}
+use Rattle.std.specs.Prelude.{◌≡◌, ℕ, ◌+◌, ◌<◌, true, false, [], ◌∷◌, ◌++◌, length, drop, replicate, Option}
+use Rattle.std.specs.Prelude.{Some, None}
 use Rattle.ids.specs.declared.kind.Kind.{Kind}
 use Rattle.ids.specs.Sizes.{Sizes, AreSizes, replicas}
 use Rattle.definitions.specs.Bytes.{Bytes}
 use Rattle.definitions.specs.Frames.{Command, Core, Vote, Certificate, Frame, request, proposal, vote}
 use Rattle.definitions.specs.Frames.{new_view, reply, fetch, block, command_bytes, core_bytes, vote_bytes}
-use Rattle.definitions.specs.Frames.{certificate_bytes, genesis_core, old_spelling, spelling, version_of}
+use Rattle.definitions.specs.Frames.{certificate_bytes, genesis_core, middle, tags, old_spelling, spelling}
+use Rattle.definitions.specs.Frames.{version_of, head_len}
 use Rattle.definitions.specs.FrameLimits.{IsCommand, IsCore, IsVote, IsCertificate, IsVector, IsFrame}
 use Rattle.definitions.specs.FrameLimits.{IsWritten, IsReadAs}
 use Rattle.definitions.specs.Checks.{Identity, vote_verifies, cut}
@@ -104,6 +106,18 @@ abbrev pub VersionsAreTold : Type 0
 VersionsAreTold =
     (f : Frame) → (spelling f ≡ 130 ∷ old_spelling f)
     × (version_of (old_spelling f) ≡ Some 1) × (version_of (spelling f) ≡ Some 2)
+
+-- no bytes have no version, nor have bytes that begin with 0, which is no kind, or with 131
+abbrev pub OthersHaveNoVersion : Type 0
+OthersHaveNoVersion =
+    (bytes : Bytes) → (version_of [] ≡ None) × (version_of (0 ∷ bytes) ≡ None)
+    × (version_of (131 ∷ bytes) ≡ None)
+
+-- behind the head, of one byte in version 1 and of two in version 2, stand the middle and the tags
+abbrev pub HeadsAreShort : Type 0
+HeadsAreShort =
+    (f : Frame) → (head_len (old_spelling f) ≡ 1) × (head_len (spelling f) ≡ 2)
+    × (drop 1 (old_spelling f) ≡ middle f ++ tags f) × (drop 2 (spelling f) ≡ middle f ++ tags f)
 
 -- with four replicas the bytes of a frame in each version are read as it, if a certificate in it has no
 -- votes or three

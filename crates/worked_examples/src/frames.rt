@@ -4,7 +4,8 @@
 ghost use Rattle.worked_examples.specs.Frames.{CommandSize, CoreSize, VoteSize, CertificateSize};
 ghost use Rattle.worked_examples.specs.Frames.{GenesisBytes, RequestSize, ReplySize, ProposalSize};
 ghost use Rattle.worked_examples.specs.Frames.{BlockSize, VoteFrameSize, NewViewSize, FetchSize};
-ghost use Rattle.worked_examples.specs.Frames.{VersionsAreTold, BothVersionsAreRead};
+ghost use Rattle.worked_examples.specs.Frames.{VersionsAreTold, OthersHaveNoVersion, HeadsAreShort};
+ghost use Rattle.worked_examples.specs.Frames.{BothVersionsAreRead};
 ghost use Rattle.worked_examples.specs.Frames.{FourthVoteIsOfVersionOne, VersionTwoAloneIsRead};
 ghost use Rattle.worked_examples.specs.Frames.{FirstThreeArePassedOn, OthersArePassedOn};
 ghost use Rattle.worked_examples.specs.Frames.{SpellingIsOfOneFrame, OldSpellingIsOfOneFrame};
@@ -45,7 +46,9 @@ pub fn sizes_of_votes_new_views_and_fetches_for_four_replicas()
 
 /// The first byte of a frame tells its version.
 pub fn the_first_byte_tells_the_version()
-    ensures { VersionsAreTold }
+    ensures told { VersionsAreTold }
+    ensures others { OthersHaveNoVersion }
+    ensures head { HeadsAreShort }
 {}
 
 /// With four replicas a frame is read in both versions, if a certificate in it has no votes or exactly a
