@@ -30,7 +30,7 @@ pub fn brings(config: &Config, input: &Input<'_>) -> Option<Brought>
     ensures brings { result ≡ brings config.now (input_of input.now) }
     ensures sender { IfSome result (λ b. b.sender < MOST_REPLICAS) }
 {
-    // There are at most 13.
+    // There are at most 31.
     let _replicas = config.n();
     match input {
         Input::Proposal(proposal) => {

@@ -61,7 +61,7 @@ fn faults_arg(alloc: Global) -> Arg<'static> {
         .value_name("F")
         .value_parser(value_parser!(u8))
         .default_value("1")
-        .help("How many faulty replicas are tolerated, of 3 F + 1: 1 to 4")
+        .help("How many faulty replicas are tolerated, of 3 F + 1: 1 to 10")
 }
 
 fn clients_arg(alloc: Global) -> Arg<'static> {
