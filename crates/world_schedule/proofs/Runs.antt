@@ -14,7 +14,7 @@ use Rattle.ids.specs.Sizes.{Sizes, AreSizes}
 use Rattle.definitions.specs.Bytes.{Bytes}
 use Rattle.definitions.specs.Lists.{Among}
 use Rattle.definitions.specs.Frames.{Frame, spelling}
-use Rattle.definitions.specs.FrameLimits.{IsFrame, IsReadAs}
+use Rattle.definitions.specs.FrameLimits.{IsWritten, IsReadAs}
 use Rattle.definitions.specs.Keyrings.{client_at, is_replica_of, is_client_of}
 use Rattle.definitions.specs.Sendings.{Sending}
 use Rattle.definitions.specs.Replicas.{MemorySupply.ample}
@@ -120,8 +120,8 @@ module _ (s : Setting) (w : World) (held : List steps.Held) (seats : List sessio
   unfolding acts party_of
   relayed k to frames d bytes are same told fit l is b =
       let r = recorded-at frames w.sent k d told l in
-      let spells : IsReadAs s.sizes bytes (Some r.sent.frame) =
-      (subst (λ (z : Sizes). IsFrame z r.sent.frame) same (fit r.sent r.among), is ∙ r.bytes) in
+      let fits = subst (λ (z : Sizes). IsWritten z r.sent.frame) same (fit r.sent r.among) in
+      let spells : IsReadAs s.sizes bytes (Some r.sent.frame) = (fits.0, inr (fits.1, is ∙ r.bytes)) in
       let read : b.read ≡ Some r.sent.frame =
       IsReadAs-unique s.sizes are bytes b.read (Some r.sent.frame) b.is_read spells in
       let there : recorded w k ≡ b.read = ap (option_map (λ (x : Sent). x.frame)) r.here ∙ sym read in
