@@ -13,7 +13,7 @@ use std::marker::Model;
 pub const MOST_SIZE: usize = 16_777_216;
 
 /// How many values may be taken from a row between two refills.
-pub const COUNT_ALLOWED: usize = 256;
+pub const COUNT_ALLOWED: usize = 192;
 
 /// How much size may be taken from a row between two refills, beside that of one value more.
 pub const SIZE_ALLOWED: usize = 524_288;
