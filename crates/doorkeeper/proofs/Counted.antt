@@ -6,6 +6,7 @@ use Rattle.std.proofs.lemmas.Bool.{and_from, and_right}
 use Rattle.std.proofs.lemmas.Map.Entries.{lookup-filter-keys}
 use Rattle.std.specs.HashMap.{get, Updates}
 use Rattle.std.specs.Map.{lookup}
+use Rattle.ids.specs.declared.limits.TheConstants.{MOST_REPLICAS}
 use Rattle.doorkeeper.specs.declared.brought.Brought.{Brought}
 use Rattle.doorkeeper.specs.Doors.{brought, passes, remembered}
 use Rattle.doorkeeper.specs.Rows.{Rows, count_in, AreCounts}
@@ -27,13 +28,13 @@ at-height sender b taken =
     (λ e. eqb-false sender b.sender f (sym e)))))
 
 -- a block more, in the row of its height
-pub counted-more : (rows rows' : Rows) (taken : List Brought) (b : Brought) (row : List ℕ)
-    → AreCounts rows taken → b.sender < 13 → IsTrue (passes b taken)
+pub counted-more : (n : ℕ) (rows rows' : Rows) (taken : List Brought) (b : Brought) (row : List ℕ)
+    → AreCounts n rows taken → IsTrue (passes n b taken)
     → Updates nat_eq rows rows' b.height (Some row)
-    → ((other : ℕ) → other < 13 → get_or row other 0
+    → ((other : ℕ) → other < MOST_REPLICAS → get_or row other 0
     ≡ cond (other == b.sender) (brought b.height other taken + 1) (brought b.height other taken))
-    → AreCounts rows' (b ∷ taken)
-counted-more rows rows' taken b row counts low pass put now = record {
+    → AreCounts n rows' (b ∷ taken)
+counted-more n rows rows' taken b row counts pass put now = record {
   right = λ height sender l. rw (put.0 height)
       (cond_both (nat_eq b.height height) (Some row) (get nat_eq rows height)
       (λ (o : Option (List ℕ)). count_in sender o ≡ brought height sender (b ∷ taken))
@@ -42,21 +43,21 @@ counted-more rows rows' taken b row counts low pass put now = record {
       ∙ ap (λ (h : ℕ). brought h sender (b ∷ taken)) (eqb-true b.height height t)))
       (λ f. counts.right height sender l
       ∙ sym (other-height height sender b taken (eqb-false b.height height f))));
-  passed = (low, pass, counts.passed);
+  passed = (pass, counts.passed);
 }
 
 -- what is lower than the base was forgotten
-pub counted-forgotten : (rows rows' : Rows) (taken : List Brought) (base : ℕ)
-    → AreCounts rows taken → rows'.entries ≡ filter (λ e. nat_le base e.0) rows.entries
-    → AreCounts rows' (remembered base taken)
-counted-forgotten rows rows' taken base counts kept = record {
+pub counted-forgotten : (n : ℕ) (rows rows' : Rows) (taken : List Brought) (base : ℕ)
+    → AreCounts n rows taken → rows'.entries ≡ filter (λ e. nat_le base e.0) rows.entries
+    → AreCounts n rows' (remembered base taken)
+counted-forgotten n rows rows' taken base counts kept = record {
   right = λ height sender l. rw (at height)
       (cond_both (nat_le base height) (get nat_eq rows height) None
       (λ (o : Option (List ℕ)). count_in sender o ≡ brought height sender (remembered base taken))
       (λ t. counts.right height sender l
       ∙ sym (brought-remembered base height sender taken (leb-true base height t)))
       (λ f. sym (brought-forgotten base height sender taken (leb-false base height f))));
-  passed = passed-remembered 13 base taken counts.passed;
+  passed = passed-remembered n base taken counts.passed;
 }
   where
     at : (height : ℕ) → get nat_eq rows' height ≡ cond (nat_le base height) (get nat_eq rows height) None

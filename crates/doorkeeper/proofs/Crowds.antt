@@ -67,10 +67,10 @@ stored-heights [] = refl
 stored-heights (a ∷ taken) = ap (λ (l : List ℕ). length a.branch ∷ l) (stored-heights taken)
 
 -- no height of the window is full
-window-few : (c : Chronicle) (taken : List Brought) → PassedAll 13 taken → AreTakenIn c taken
+window-few : (n : ℕ) (c : Chronicle) (taken : List Brought) → PassedAll n taken → AreTakenIn c taken
     → (h : ℕ) → 0 < h → count_by (λ x. length x == h) (window c) < 64
 unfolding window standing_blocks stored_blocks
-window-few c taken passed those h some =
+window-few n c taken passed those h some =
     let all : count_by (λ s. length s.branch == h) (stored_blocks c) ≡ of_height h taken =
     count-map (λ s. length s.branch) h (stored_blocks c)
     ∙ (ap (λ (l : List ℕ). count_by (λ n. n == h) l) (stored-heights (taken_blocks c) ∙ sym those)
@@ -78,7 +78,7 @@ window-few c taken passed those h some =
     omega (
       arith,
       all,
-      never-crowded h taken passed,
+      never-crowded n h taken passed,
       standing-few h some (λ s. is_in_reach (horizon c) s.branch) (stored_blocks c),
     )
 
@@ -161,26 +161,26 @@ ruled-request r c =
 
 -- whatever block comes, as a proposal or not
 block-taken : (self : Identity) (w : Option ℕ) (sender : ℕ) (core : Core) (q : Certificate) (f : Findings)
-    (c : Chronicle) (taken : List Brought) → PassedAll 13 taken → AreTakenIn c taken
+    (c : Chronicle) (n : ℕ) (taken : List Brought) → PassedAll n taken → AreTakenIn c taken
     → IsTaken (on_block self w sender core q f c)
-block-taken self w sender core q f c taken passed those =
+block-taken self w sender core q f c n taken passed those =
     ruled-block self w sender core q f c _
-    (placed (horizon c) MOST_BLOCKS core q (window c) (window-few c taken passed those))
+    (placed (horizon c) MOST_BLOCKS core q (window c) (window-few n c taken passed those))
 
-none-out : (self : Identity) (i : Input) (c : Chronicle) (taken : List Brought) → PassedAll 13 taken
+none-out : (self : Identity) (i : Input) (c : Chronicle) (n : ℕ) (taken : List Brought) → PassedAll n taken
     → AreTakenIn c taken → IsTaken (ruling self i c)
 unfolding ruling
-none-out self (proposal_in w core q f) c taken passed those =
-    block-taken self (Some w) (leader self.sizes w) core q f c taken passed those
-none-out self (block_in sender core q f) c taken passed those =
-    block-taken self None sender core q f c taken passed those
-none-out self (vote_in d b) c taken passed those = ruled-known _ _ _ _ (λ x. due-taken _)
-none-out self (new_view_in w sender q) c taken passed those = ruled-known _ _ _ _ (λ x. due-taken _)
-none-out self (request_in r) c taken passed those = ruled-request r c
-none-out self (fetch_in sender d) c taken passed those = due-taken _
-none-out self timeout_in c taken passed those = due-taken _
-none-out self beat_in c taken passed those = due-taken _
-none-out self (prune_in height) c taken passed those = due-taken _
+none-out self (proposal_in w core q f) c n taken passed those =
+    block-taken self (Some w) (leader self.sizes w) core q f c n taken passed those
+none-out self (block_in sender core q f) c n taken passed those =
+    block-taken self None sender core q f c n taken passed those
+none-out self (vote_in d b) c n taken passed those = ruled-known _ _ _ _ (λ x. due-taken _)
+none-out self (new_view_in w sender q) c n taken passed those = ruled-known _ _ _ _ (λ x. due-taken _)
+none-out self (request_in r) c n taken passed those = ruled-request r c
+none-out self (fetch_in sender d) c n taken passed those = due-taken _
+none-out self timeout_in c n taken passed those = due-taken _
+none-out self beat_in c n taken passed those = due-taken _
+none-out self (prune_in height) c n taken passed those = due-taken _
 
 pub none-crowded-out : NoneCrowdedOut
 unfolding IsTaken

@@ -1,10 +1,10 @@
 -- What is remembered of taken blocks.
 use Rattle.std.proofs.Common.{ℕ, ◌≡◌, ◌+◌, ◌<◌, ◌≤◌, List, [], ◌∷◌, cond}
-use Rattle.std.proofs.Common.{refl, sym, ap, ◌∙◌, arith, nat_lt, nat_le}
+use Rattle.std.proofs.Common.{refl, sym, ap, ◌∙◌, arith, nat_lt, nat_le, ◌&&◌}
 use Rattle.std.proofs.lemmas.Bool.{cond_both, leb-true, leb-false, le-leb, lt-leb}
 use Rattle.std.proofs.lemmas.Bool.{ne_eqb, and_left, cond-true, cond-false}
 use Rattle.doorkeeper.specs.declared.brought.Brought.{Brought}
-use Rattle.doorkeeper.specs.Doors.{brought, remembered, PassedAll}
+use Rattle.doorkeeper.specs.Doors.{brought, most_of_each, remembered, PassedAll}
 use Rattle.doorkeeper.proofs.Senders.{is_from, count-cons, count-no}
 
 -- a block of another height counts for none of this one
@@ -51,12 +51,11 @@ pub passed-remembered : (n base : ℕ) (taken : List Brought) → PassedAll n ta
 passed-remembered n base [] p = p
 passed-remembered n base (b ∷ taken) p =
     let rest : PassedAll n (remembered base taken) =
-    passed-remembered n base taken p.2 in
+    passed-remembered n base taken p.1 in
     cond_both (nat_le base b.height) (b ∷ remembered base taken) (remembered base taken) (PassedAll n)
     (λ t. (
-      p.0,
-      ap (λ (k : ℕ). nat_lt k 4)
-          (brought-remembered base b.height b.sender taken (leb-true base b.height t)) ∙ p.1,
+      ap (λ (k : ℕ). nat_lt b.sender n && nat_lt k (most_of_each n))
+          (brought-remembered base b.height b.sender taken (leb-true base b.height t)) ∙ p.0,
       rest,
     ))
     (λ _. rest)

@@ -6,8 +6,12 @@ use Rattle.std.proofs.lemmas.Bool.{and_right, cases_Bool, cond-true, cond-false}
 use Rattle.std.proofs.lemmas.List.Sums.{sum_by-cons}
 use Rattle.std.specs.List.{count_by}
 use Rattle.doorkeeper.specs.declared.brought.Brought.{Brought}
-use Rattle.doorkeeper.specs.Doors.{brought, of_height, PassedAll}
-use Rattle.doorkeeper.specs.Doors.{FewOfHeight, NeverCrowded}
+use Rattle.doorkeeper.specs.Doors.{brought, of_height, most_of_each, PassedAll}
+use Rattle.doorkeeper.specs.Doors.{FewPass, FewOfHeight, NeverCrowded}
+use Rattle.std.proofs.Math.Nat.{mul-div-le, mul-le-mul_left}
+use Rattle.std.proofs.lemmas.Nat.{le-div}
+use Rattle.std.proofs.Common.{◌/◌}
+use Rattle.std.proofs.lemmas.Bool.{and_from}
 
 -- ---- counting
 
@@ -88,39 +92,41 @@ of_first-zero height (b ∷ taken) =
     count-no (is_below height 0) b taken (and_right _ _ (le-ltb b.sender 0 (omega arith)))
     ∙ of_first-zero height taken
 
--- who brought four of a height brings no fifth
+-- who brought as many of a height as each may brings no more
 pub brought-few : (n height sender : ℕ) (taken : List Brought) → PassedAll n taken
-    → brought height sender taken ≤ 4
+    → brought height sender taken ≤ most_of_each n
 brought-few n height sender [] p = omega arith
 brought-few n height sender (b ∷ taken) p = elim (cases_Bool (is_from height sender b)) [
   | inl t ↦
       (let parts = and_parts (b.height == height) (b.sender == sender) t in
-      let below : brought b.height b.sender taken < 4 = ltb-true _ _ p.1 in
-      let here : brought height sender taken < 4 =
-      subst (λ (s : ℕ). brought height s taken < 4) (eqb-true _ _ parts.1)
-      (subst (λ (h : ℕ). brought h b.sender taken < 4) (eqb-true _ _ parts.0) below) in
-      omega (arith, count-yes (is_from height sender) b taken t))
+      let passed = and_parts (nat_lt b.sender n) _ p.0 in
+      let below : brought b.height b.sender taken < most_of_each n = ltb-true _ _ passed.1 in
+      let here : brought height sender taken < most_of_each n =
+      subst (λ (s : ℕ). brought height s taken < most_of_each n) (eqb-true _ _ parts.1)
+      (subst (λ (h : ℕ). brought h b.sender taken < most_of_each n) (eqb-true _ _ parts.0) below) in
+      omega (arith, count-yes (is_from height sender) b taken t, here))
   | inr f ↦
-      omega (arith, count-no (is_from height sender) b taken f, brought-few n height sender taken p.2)
+      omega (arith, count-no (is_from height sender) b taken f, brought-few n height sender taken p.1)
 ]
 
--- four from each of the first m
-of_first-few : (m height : ℕ) (taken : List Brought)
-    → ((sender : ℕ) → brought height sender taken ≤ 4) → of_first m height taken ≤ 4 * m
-of_first-few zero height taken few = omega (arith, of_first-zero height taken)
-of_first-few (suc m) height taken few =
-    omega (arith, of_first-suc m height taken, of_first-few m height taken few, few m)
+-- so many from each of the first m
+of_first-few : (most m height : ℕ) (taken : List Brought)
+    → ((sender : ℕ) → brought height sender taken ≤ most) → of_first m height taken ≤ m * most
+of_first-few most zero height taken few = omega (arith, of_first-zero height taken)
+of_first-few most (suc m) height taken few =
+    let rest : of_first m height taken ≤ m * most = of_first-few most m height taken few in
+    omega (arith, of_first-suc m height taken, rest, few m)
 
 -- all of a height came from some replica
 of_height-first : (n height : ℕ) (taken : List Brought) → PassedAll n taken
     → of_height height taken ≡ of_first n height taken
 of_height-first n height [] p = refl
 of_height-first n height (b ∷ taken) p =
-    let l : nat_lt b.sender n ≡ true = lt-ltb b.sender n p.0 in
+    let l : nat_lt b.sender n ≡ true = (and_parts (nat_lt b.sender n) _ p.0).0 in
     let here : is_below height n b ≡ (b.height == height) = rw l (and_true (b.height == height)) in
     count-cons (λ x. x.height == height) b taken
     ∙ (ap (λ (t : Bool). cond t 1 0 + of_height height taken) (sym here)
-    ∙ (ap (λ (k : ℕ). cond (is_below height n b) 1 0 + k) (of_height-first n height taken p.2)
+    ∙ (ap (λ (k : ℕ). cond (is_below height n b) 1 0 + k) (of_height-first n height taken p.1)
     ∙ sym (count-cons (is_below height n) b taken)))
   where
     and_true : (x : Bool) → (x && true) ≡ x
@@ -131,11 +137,19 @@ of_height-first n height (b ∷ taken) p =
 
 pub few-of-height : FewOfHeight
 few-of-height n height taken p =
-    omega (
-      arith,
-      of_height-first n height taken p,
-      of_first-few n height taken (λ sender. brought-few n height sender taken p),
-    )
+    let first : of_first n height taken ≤ n * most_of_each n =
+    of_first-few (most_of_each n) n height taken (λ sender. brought-few n height sender taken p) in
+    let same = of_height-first n height taken p in omega (arith, same, first)
 
 pub never-crowded : NeverCrowded
-never-crowded height taken p = omega (arith, few-of-height 13 height taken p)
+never-crowded n height taken p =
+    let each : most_of_each n ≤ 63 / n = omega arith in
+    let most : n * most_of_each n ≤ n * (63 / n) = mul-le-mul_left n each in
+    let all : n * (63 / n) ≤ 63 = mul-div-le 63 n in
+    let few = few-of-height n height taken p in omega (arith, few, most, all)
+
+pub few-pass : FewPass
+few-pass n b taken low here few =
+    let share : 4 ≤ 63 / n = le-div 4 63 n (omega (arith, here)) (omega (arith, low)) in
+    let each : brought b.height b.sender taken < most_of_each n = omega (arith, few, share) in
+    and_from _ _ (lt-ltb b.sender n here) (lt-ltb _ _ each)

@@ -1,10 +1,10 @@
 -- Which blocks a doorkeeper lets in to its replica. This is the project's own rule of the running server. No
 -- theorem rests on it: what it keeps out is lost, as on any network.
-use Rattle.std.specs.Prelude.{ℕ, ◌≡◌, ◌==◌, ◌*◌, ◌<◌, ◌≤◌, ◌&&◌, Bool, IsTrue, List, [], ◌∷◌, count_by}
+use Rattle.std.specs.Prelude.{ℕ, ◌≡◌, ◌==◌, ◌*◌, ◌-◌, ◌/◌, ◌<◌, ◌≤◌, ◌&&◌, min, Bool, IsTrue, List, [], ◌∷◌, count_by}
 use Rattle.std.specs.Prelude.{filter, length, map}
 use Rattle.std.specs.Prelude.{nat_lt, nat_le, if◌then◌else◌, Option, Some, None, ⊤}
 use Rattle.ids.specs.Sizes.{Sizes, leader}
-use Rattle.ids.specs.declared.limits.TheConstants.{MOST_OF_HEIGHT, MOST_REPLICAS}
+use Rattle.ids.specs.declared.limits.TheConstants.{MOST_OF_HEIGHT}
 use Rattle.ids.specs.declared.fault.Fault.TheVariants as fault
 use Rattle.definitions.specs.Checks.{Identity}
 use Rattle.definitions.specs.Chronicles.{Chronicle, taken_blocks}
@@ -27,9 +27,13 @@ brought height sender taken = count_by (λ b. (b.height == height) && (b.sender 
 abbrev pub of_height : ℕ → List Brought → ℕ
 of_height height taken = count_by (λ b. b.height == height) taken
 
--- a block passes while its sender has brought fewer than four of its height
-abbrev pub passes : Brought → List Brought → Bool
-passes b taken = nat_lt (brought b.height b.sender taken) MOST_OF_SENDER
+-- how many of a height each of n replicas may bring: four, or fewer where all of them could fill it
+abbrev pub most_of_each : ℕ → ℕ
+most_of_each n = min MOST_OF_SENDER ((MOST_OF_HEIGHT - 1) / n)
+
+-- a block passes while its sender, which is one of n replicas, has brought fewer of its height
+abbrev pub passes : (n : ℕ) → Brought → List Brought → Bool
+passes n b taken = nat_lt b.sender n && nat_lt (brought b.height b.sender taken) (most_of_each n)
 
 -- what is remembered where all below a height is forgotten
 abbrev pub remembered : ℕ → List Brought → List Brought
@@ -39,37 +43,39 @@ remembered base taken = filter (λ b. nat_le base b.height) taken
 abbrev pub with_block : ℕ → Brought → List Brought → List Brought
 with_block base b taken = if nat_le base b.height then b ∷ taken else taken
 
--- each was brought by one of n replicas, and passed when it came
-abbrev pub PassedAll : ℕ → List Brought → Type 0
+-- each passed when it came
+abbrev pub PassedAll : (n : ℕ) → List Brought → Type 0
 PassedAll n [] = ⊤
-PassedAll n (b ∷ earlier) = (b.sender < n) × IsTrue (passes b earlier) × PassedAll n earlier
+PassedAll n (b ∷ earlier) = IsTrue (passes n b earlier) × PassedAll n earlier
 
--- What a doorkeeper knows: the blocks that were taken, newest first, none of them below the base; and for how
--- many heights more it has memory.
+-- What a doorkeeper knows: how many replicas there are; the blocks that were taken, newest first, none of them
+-- below the base; and for how many heights more it has memory.
 pub record DoorState : Type 0 where
+  pub replicas : ℕ
   pub base : ℕ
   pub taken : List Brought
   pub room : ℕ
 
 -- ---- what the rule is for
 
--- a sender that has brought at most three blocks of a height may bring one more
+-- with at most fifteen replicas, one that has brought at most three blocks of a height may bring one more
 abbrev pub FewPass : Type 0
-FewPass = (b : Brought) (taken : List Brought) → brought b.height b.sender taken ≤ 3 → IsTrue (passes b taken)
+FewPass = (n : ℕ) (b : Brought) (taken : List Brought) → n ≤ 15 → b.sender < n
+    → brought b.height b.sender taken ≤ 3 → IsTrue (passes n b taken)
 
 -- what another sender brings changes nothing
 abbrev pub OthersDontCount : Type 0
-OthersDontCount = (b other : Brought) (taken : List Brought) → (other.sender ≡ b.sender → ⊥)
-    → passes b (other ∷ taken) ≡ passes b taken
+OthersDontCount = (n : ℕ) (b other : Brought) (taken : List Brought) → (other.sender ≡ b.sender → ⊥)
+    → passes n b (other ∷ taken) ≡ passes n b taken
 
--- n replicas bring at most 4 n blocks of a height
+-- n replicas bring at most n times as many blocks of a height
 abbrev pub FewOfHeight : Type 0
 FewOfHeight = (n height : ℕ) (taken : List Brought) → PassedAll n taken
-    → of_height height taken ≤ MOST_OF_SENDER * n
+    → of_height height taken ≤ n * most_of_each n
 
--- as many replicas as there may be bring fewer of a height than a tree takes
+-- however many replicas there are, they bring fewer of a height than a tree takes
 abbrev pub NeverCrowded : Type 0
-NeverCrowded = (height : ℕ) (taken : List Brought) → PassedAll MOST_REPLICAS taken
+NeverCrowded = (n height : ℕ) (taken : List Brought) → PassedAll n taken
     → of_height height taken < MOST_OF_HEIGHT
 
 -- these are the blocks that a replica took: each with its height
@@ -79,5 +85,5 @@ AreTakenIn c taken = map (λ b. b.height) taken ≡ map (λ a. length a.branch) 
 -- A replica each of whose taken blocks passed when it came refuses no input because a height has as many
 -- blocks as it may have.
 abbrev pub NoneCrowdedOut : Type 0
-NoneCrowdedOut = (self : Identity) (i : Input) (c : Chronicle) (taken : List Brought)
-    → PassedAll MOST_REPLICAS taken → AreTakenIn c taken → ruling self i c ≡ refusing fault.Crowded → ⊥
+NoneCrowdedOut = (self : Identity) (i : Input) (c : Chronicle) (n : ℕ) (taken : List Brought)
+    → PassedAll n taken → AreTakenIn c taken → ruling self i c ≡ refusing fault.Crowded → ⊥

@@ -17,8 +17,8 @@ abbrev pub count_in : ℕ → Option (List ℕ) → ℕ
 count_in sender None = 0
 count_in sender (Some row) = get_or row sender 0
 
--- The rows count the blocks that were taken, and each of these passed.
-pub record AreCounts (rows : Rows) (taken : List Brought) : Type 0 where
+-- The rows count the blocks that were taken, and each of these passed, of n replicas.
+pub record AreCounts (n : ℕ) (rows : Rows) (taken : List Brought) : Type 0 where
   pub right : (height sender : ℕ) → sender < MOST_REPLICAS
       → count_in sender (get nat_eq rows height) ≡ brought height sender taken
-  pub passed : PassedAll MOST_REPLICAS taken
+  pub passed : PassedAll n taken

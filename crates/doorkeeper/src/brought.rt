@@ -1,14 +1,14 @@
 //! Who brings which block.
 
-ghost use Rattle.std.specs.Prelude.{◌≡◌, ◌<◌, IfSome};
+ghost use Rattle.std.specs.Prelude.{◌≡◌, ◌<◌};
 ghost use Rattle.admission.specs.Inputs.{input_of};
 
 use admission::Input;
 use ghost_list::Tells;
-use ids::{Config, Height, MOST_REPLICAS, ReplicaId};
+use ids::{Config, Height, MOST_OF_HEIGHT, ReplicaId};
 
-/// The most blocks of one height that are let in from one sender. In all runs that were tried a correct
-/// one brought three at most.
+/// The most blocks of one height that are let in from one sender. In all runs that were tried, of 4 to 13
+/// replicas, a correct one brought three at most.
 pub const MOST_OF_SENDER: usize = 4;
 
 /// A block that comes to a replica, by its height, and who brings it: the leader of a proposal's view, or
@@ -23,15 +23,12 @@ impl Tells<Brought> for Brought {
     ghost tells = { λ b. b };
 }
 
-ghost use Rattle.doorkeeper.specs.Doors.{brings};
+ghost use Rattle.doorkeeper.specs.Doors.{brings, most_of_each};
 
 /// The block that an input brings, if it brings one.
 pub fn brings(config: &Config, input: &Input<'_>) -> Option<Brought>
-    ensures brings { result ≡ brings config.now (input_of input.now) }
-    ensures sender { IfSome result (λ b. b.sender < MOST_REPLICAS) }
+    ensures { result ≡ brings config.now (input_of input.now) }
 {
-    // There are at most 31.
-    let _replicas = config.n();
     match input {
         Input::Proposal(proposal) => {
             let view = proposal.view();
@@ -41,7 +38,6 @@ pub fn brings(config: &Config, input: &Input<'_>) -> Option<Brought>
             })
         }
         Input::Block(block) => {
-            let _replicas = block.config().n();
             let view = block.view();
             Some(Brought {
                 height: view.core().height(),
@@ -50,4 +46,13 @@ pub fn brings(config: &Config, input: &Input<'_>) -> Option<Brought>
         }
         _ => None,
     }
+}
+
+/// How many blocks of one height are let in from each of so many replicas: `MOST_OF_SENDER`, or fewer where
+/// all together could bring as many as a tree takes.
+pub(crate) fn most_of_each(replicas: u8) -> usize
+    requires { 0 < replicas }
+    ensures { result ≡ most_of_each replicas }
+{
+    MOST_OF_SENDER.min((MOST_OF_HEIGHT - 1) / usize::from(replicas))
 }

@@ -2,13 +2,14 @@
 
 ghost use Rattle.std.specs.Prelude.{◌≡◌, ◌<◌, [], IsTrue, OnOk, OnErr, max, nat_le, get_or, ℕ};
 ghost use Rattle.std.specs.Bool.{OnTrue, OnFalse};
-ghost use Rattle.ids.specs.declared.limits.TheConstants.{MOST_OF_HEIGHT};
+ghost use Rattle.ids.specs.declared.limits.TheConstants.{MOST_OF_HEIGHT, MOST_REPLICAS};
+ghost use Rattle.ids.specs.Sizes.{replicas};
 ghost use Rattle.doorkeeper.specs.Doors.{brought, of_height, passes, remembered, with_block};
 
-use crate::brought::{Brought, MOST_OF_SENDER};
+use crate::brought::{Brought, most_of_each};
 use crate::row::Row;
 use ghost_list::GhostList;
-use ids::{Fault, Height, MOST_REPLICAS};
+use ids::{Config, Fault, Height};
 use std::alloc::Global;
 use std::collections::HashMap;
 use std::marker::Model;
@@ -19,6 +20,8 @@ use std::marker::Model;
 /// count it. Where the replica took it, `took` counts it. `forget_below` follows a pruning.
 #[derive(Drop)]
 pub struct Doorkeeper {
+    /// How many replicas there are.
+    replicas: u8,
     /// Of lower heights nothing is known.
     base: Height,
     rows: HashMap<u64, Row>,
@@ -33,23 +36,29 @@ impl Model for Doorkeeper {
     ghost Value = { DoorState };
 
     ghost use Rattle.doorkeeper.specs.Rows.{AreCounts};
+    ghost use Rattle.std.specs.Prelude.{◌<◌, ◌≤◌};
+    ghost use Rattle.ids.specs.declared.limits.TheConstants.{MOST_REPLICAS};
 
     ghost view = { λ d. record {
+      replicas = d.replicas;
       base = d.base;
       taken = remembered d.base d.all.items;
       room = spare d.rows;
     } };
 
-    ghost invariant = { λ d. AreCounts d.rows (remembered d.base d.all.items) };
+    ghost invariant = { λ d. (0 < d.replicas) × (d.replicas ≤ MOST_REPLICAS)
+        × AreCounts d.replicas d.rows (remembered d.base d.all.items) };
 }
 
 impl Doorkeeper {
-    /// Nobody has brought anything. It takes no memory.
-    pub fn new(alloc: Global) -> Doorkeeper
+    /// Nobody of the replicas of these sizes has brought anything. It takes no memory.
+    pub fn new(alloc: Global, config: Config) -> Doorkeeper
+        ensures replicas { result.replicas ≡ replicas config }
         ensures base { result.base ≡ 0 }
         ensures taken { result.taken ≡ [] }
     {
         Doorkeeper {
+            replicas: config.n(),
             base: Height(0),
             rows: HashMap::new(alloc),
             all: GhostList::new(),
@@ -67,23 +76,24 @@ impl Doorkeeper {
         }
     }
 
-    /// Whether a block passes: its sender has brought fewer than four of its height.
+    /// Whether a block passes: its sender is one of the replicas, and has brought few of its height, fewer than
+    /// four where there are at most fifteen replicas.
     pub fn passes(&self, block: &Brought) -> bool
-        requires { block.now.sender < MOST_REPLICAS }
-        ensures { result ≡ passes block.now self.now.taken }
+        ensures { result ≡ passes self.now.replicas block.now self.now.taken }
     {
-        usize::from(self.row(block.height).of(block.sender)) < MOST_OF_SENDER
+        block.sender.0 < self.replicas
+            && usize::from(self.row(block.height).of(block.sender)) < most_of_each(self.replicas)
     }
 
     /// Lets a block come to the replica, and takes the memory to count it.
     ///
     /// `Crowded` comes first, where the block doesn't pass; then `Memory`.
     pub fn let_in(&mut self, block: &Brought) -> Result<(), Fault>
-        requires { block.now.sender < MOST_REPLICAS }
-        ensures passes { OnOk result (IsTrue (passes block.now self.new.taken)) }
+        ensures passes { OnOk result (IsTrue (passes self.old.replicas block.now self.new.taken)) }
         ensures room { OnOk result (0 < self.new.room) }
-        ensures crowded { OnFalse (passes block.now self.old.taken) (result ≡ Err Fault.Crowded) }
-        ensures memory { OnTrue (passes block.now self.old.taken) (OnErr result (result ≡ Err Fault.Memory)) }
+        ensures crowded { OnFalse (passes self.old.replicas block.now self.old.taken) (result ≡ Err Fault.Crowded) }
+        ensures memory { OnTrue (passes self.old.replicas block.now self.old.taken) (OnErr result (result ≡ Err Fault.Memory)) }
+        ensures replicas { self.new.replicas ≡ self.old.replicas }
         ensures base { self.new.base ≡ self.old.base }
         ensures taken { self.new.taken ≡ self.old.taken }
     {
@@ -96,9 +106,9 @@ impl Doorkeeper {
 
     /// Counts a block that passed, and that the replica took.
     pub fn took(&mut self, block: &Brought)
-        requires sender { block.now.sender < MOST_REPLICAS }
-        requires passes { IsTrue (passes block.now self.old.taken) }
+        requires passes { IsTrue (passes self.old.replicas block.now self.old.taken) }
         requires room { 0 < self.old.room }
+        ensures replicas { self.new.replicas ≡ self.old.replicas }
         ensures base { self.new.base ≡ self.old.base }
         ensures taken { self.new.taken ≡ with_block self.old.base block.now self.old.taken }
     {
@@ -117,6 +127,7 @@ impl Doorkeeper {
     /// Forgets the blocks below a height: their rows make room for others. A lower height than before
     /// changes nothing.
     pub fn forget_below(&mut self, base: Height)
+        ensures replicas { self.new.replicas ≡ self.old.replicas }
         ensures base { self.new.base ≡ max base self.old.base }
         ensures taken { self.new.taken ≡ remembered base self.old.taken }
     {

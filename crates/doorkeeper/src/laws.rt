@@ -3,7 +3,7 @@
 ghost use Rattle.doorkeeper.specs.Doors.{FewPass, OthersDontCount, FewOfHeight, NeverCrowded};
 ghost use Rattle.doorkeeper.specs.Doors.{NoneCrowdedOut};
 
-/// A sender that brought at most three blocks of a height may bring one more.
+/// With at most fifteen replicas, one that brought at most three blocks of a height may bring one more.
 pub fn few_pass()
     ensures { FewPass }
 {}
@@ -13,12 +13,12 @@ pub fn others_do_not_count()
     ensures { OthersDontCount }
 {}
 
-/// Of one height n replicas bring at most 4 n blocks.
+/// Of one height n replicas bring at most n times as many blocks as each may.
 pub fn few_of_a_height()
     ensures { FewOfHeight }
 {}
 
-/// No height is crowded, whoever lies: 13 replicas bring at most 52 blocks of it, and a tree takes 64.
+/// No height is crowded, whoever lies: of 31 replicas each brings two blocks of it at most, and a tree takes 64.
 pub fn never_crowded()
     ensures { NeverCrowded }
 {}

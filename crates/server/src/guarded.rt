@@ -1,6 +1,6 @@
 //! A replica and its doorkeeper.
 
-ghost use Rattle.std.specs.Prelude.{◌≡◌, ◌-◌, ◌<◌, ◌⊎◌, Err, length, nat_lt, if◌then◌else◌};
+ghost use Rattle.std.specs.Prelude.{◌≡◌, ◌-◌, ◌⊎◌, Err, length, nat_lt, if◌then◌else◌};
 ghost use Rattle.std.specs.Bool.{OnFalse};
 ghost use Rattle.ids.specs.declared.fault.Fault.TheVariants.{Crowded, Memory};
 ghost use Rattle.definitions.specs.Chronicles.{horizon, window};
@@ -9,7 +9,7 @@ ghost use Rattle.locked_replica.specs.Stepping.{SomeStep};
 ghost use Rattle.turns.specs.Shares.{Counts};
 
 use doorkeeper::{Brought, Doorkeeper, brings};
-use ids::{Fault, Height, MOST_REPLICAS};
+use ids::{Fault, Height};
 use locked_replica::{Kept, Share};
 use replica::{Input, Out, Replica};
 use turns::UnderLock;
@@ -33,11 +33,10 @@ impl<'a> Guarded<'a> {
     /// A step with a block, where the doorkeeper lets it in. It is counted where the replica took it: then
     /// more blocks stand in its window.
     fn take(&mut self, share: &mut Share, input: Input<'_>, block: &Brought) -> Result<Out, Fault>
-        requires { block.now.sender < MOST_REPLICAS }
         ensures stepped { SomeStep share.old input.entry result share.new
             ⊎ ((result ≡ Err Crowded) ⊎ (result ≡ Err Memory)) × (share.new ≡ share.old) }
         ensures counts { Counts share.old result share.new }
-        ensures kept_out { OnFalse (passes block.now self.old.door.taken)
+        ensures kept_out { OnFalse (passes self.old.door.replicas block.now self.old.door.taken)
             ((result ≡ Err Crowded) × (self.new.kept ≡ self.old.kept)) }
         ensures counted { self.new.door.taken
             ≡ (if nat_lt (length (window self.old.kept.replica.chronicle))

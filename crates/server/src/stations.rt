@@ -247,7 +247,7 @@ fn build_station<'a>(
         number,
         locked: Mutex::new(Guarded {
             kept,
-            door: Doorkeeper::new(alloc),
+            door: Doorkeeper::new(alloc, keys.config()),
         }),
         most_blocks: terms.most_blocks(),
         window: terms.window,

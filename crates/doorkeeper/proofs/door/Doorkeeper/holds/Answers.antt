@@ -6,4 +6,4 @@ use Rattle.doorkeeper.proofs.door.Doorkeeper.holds.Goals as goal
 
 pub returns : goal.returns
 returns c = λ height. subst (λ (d : DoorState). of_height height d.taken < MOST_OF_HEIGHT) c.self.view_is
-    (never-crowded height _ c.self.invariant.passed)
+    (never-crowded _ height _ c.self.invariant.2.passed)

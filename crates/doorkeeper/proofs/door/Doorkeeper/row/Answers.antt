@@ -10,7 +10,7 @@ returns-in-Some c = λ sender l.
     let found : row ≡ get nat_eq c.self.inside.rows c.args.height =
     c.in-Some.ensures.value ∙ ap (get nat_eq c.self.inside.rows) c.height.view_is in
     ap (count_in sender) found
-    ∙ (c.self.invariant.right c.args.height sender l
+    ∙ (c.self.invariant.2.right c.args.height sender l
     ∙ ap (λ (d : DoorState). brought c.args.height sender d.taken) c.self.view_is)
 
 pub returns-in-None : goal.returns-in-None
@@ -20,5 +20,5 @@ returns-in-None c = λ sender l.
     c.in-None.ensures.value ∙ ap (get nat_eq c.self.inside.rows) c.height.view_is in
     c.new.ensures sender
     ∙ (ap (count_in sender) found
-    ∙ (c.self.invariant.right c.args.height sender l
+    ∙ (c.self.invariant.2.right c.args.height sender l
     ∙ ap (λ (d : DoorState). brought c.args.height sender d.taken) c.self.view_is))

@@ -1,0 +1,5 @@
+use Rattle.doorkeeper.proofs.Senders.{few-pass}
+use Rattle.doorkeeper.proofs.laws.few_pass.Goals as goal
+
+pub returns : goal.returns
+returns c = few-pass
