@@ -5,7 +5,7 @@ import hashlib
 import hmac
 
 from . import checks, frames
-from .frames import TAG, Certificate, Kind
+from .frames import TAG, Certificate, Kind, kind_of
 from .sizes import Config, Fault, Refusal
 from .tags import Keyring, sha256
 
@@ -91,7 +91,7 @@ def cuts(keyring, data):
 def foreign_places(keyring, data):
     """Where the frame's own last vector has tags for other receivers."""
     config = keyring.config
-    if Kind(data[0]) not in (Kind.REQUEST, Kind.PROPOSAL, Kind.VOTE, Kind.NEW_VIEW):
+    if kind_of(data) not in (Kind.REQUEST, Kind.PROPOSAL, Kind.VOTE, Kind.NEW_VIEW):
         return range(0)
     first, own = len(data) - TAG * config.n, len(data) - TAG * (config.n - keyring.party)
     return set(range(first, len(data))) - set(range(own, own + TAG))

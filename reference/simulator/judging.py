@@ -95,7 +95,7 @@ def wrong_entries(run, whole, texts):
 def wrong_replies(run):
     submitted = run.submissions()
     for sent in run.world.record:
-        if sent.data[0] != Kind.REPLY:
+        if frames.kind_of(sent.data) != Kind.REPLY:
             continue
         reply = frames.read(run.world.config, sent.data)
         event, _ = submitted.get((reply.client, reply.seq), (None, None))

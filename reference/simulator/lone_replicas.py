@@ -3,7 +3,7 @@ forks, which no world with enough correct replicas shows. The seed alone decides
 from . import requests
 from .checks import Checked
 from .frames import (BlockFrame, Certificate, Command, Core, FetchFrame, Kind, NewViewFrame, ProposalFrame,
-                     RequestFrame, Vote, VoteFrame, read)
+                     RequestFrame, Vote, VoteFrame, kind_of, read)
 from .sizes import TOP, Config, Refusal
 from .whole_history import Branch
 
@@ -34,7 +34,7 @@ class Lone:
             if self.replica.stopped:
                 return number
             for _, data in out:
-                if data[0] == Kind.PROPOSAL:
+                if kind_of(data) == Kind.PROPOSAL:
                     self._note(read(self.config, data))
         return length
 

@@ -1,4 +1,7 @@
-"""The frames that a replica signs."""
+"""The frames that a replica signs. Certificates in them are cut."""
+from dataclasses import replace
+
+from .checks import cut
 from .frames import (BlockFrame, FetchFrame, Kind, NewViewFrame, ProposalFrame, ReplyFrame, Vote, VoteFrame,
                      write)
 from .sizes import FIRST_CLIENT
@@ -14,22 +17,22 @@ class OwnFrames:
         self.me = keyring.party
 
     def proposal(self, view, core, cert):
-        frame = ProposalFrame(view, core, cert)
+        frame = ProposalFrame(view, core, cut(self.keyring, cert))
         vector = self.keyring.vector(Kind.PROPOSAL, frame.content())
-        return ALL, write(ProposalFrame(view, core, cert, vector))
+        return ALL, write(replace(frame, vector=vector))
 
     def vote(self, to, digest):
         return to, write(VoteFrame(digest, Vote(self.me, self.keyring.vector(Kind.VOTE, digest))))
 
     def new_view(self, view, cert):
-        frame = NewViewFrame(view, self.me, cert)
+        frame = NewViewFrame(view, self.me, cut(self.keyring, cert))
         vector = self.keyring.vector(Kind.NEW_VIEW, frame.content())
-        return ALL, write(NewViewFrame(view, self.me, cert, vector))
+        return ALL, write(replace(frame, vector=vector))
 
     def block(self, to, core, cert):
-        frame = BlockFrame(self.me, core, cert)
+        frame = BlockFrame(self.me, core, cut(self.keyring, cert))
         tag = self.keyring.tag(Kind.BLOCK, to, frame.content())
-        return to, write(BlockFrame(self.me, core, cert, tag))
+        return to, write(replace(frame, tag=tag))
 
     def reply(self, answer):
         fields = self.me, answer.client, answer.seq, answer.place, answer.text

@@ -11,7 +11,7 @@ from dataclasses import replace
 from . import frames
 from .blocks import Block
 from .frames import (GENESIS, BlockFrame, Certificate, Command, Core, FetchFrame, Kind, NewViewFrame,
-                     ProposalFrame, ReplyFrame, RequestFrame, Vote, VoteFrame, write)
+                     ProposalFrame, ReplyFrame, RequestFrame, Vote, VoteFrame, kind_of, write)
 from .own_frames import ALL
 from .replica import Replica
 from .requests import Request
@@ -88,7 +88,7 @@ class Liar:
     def _commands(self, world):
         """Commands that were sent, in anyone's name, and some whose tags are invented."""
         rng = self.rng
-        requests = [sent.data for sent in world.record if sent.data[0] == Kind.REQUEST]
+        requests = [sent.data for sent in world.record if kind_of(sent.data) == Kind.REQUEST]
         seen = [frames.read(self.config, data).command for data in requests]
         picked = [rng.choice(seen) for _ in range(rng.choice([0, 0, 1, 1, 2])) if seen]
         if rng.random() < 0.2:
@@ -125,7 +125,7 @@ class Liar:
             return rng.choice(held)
         votes = {}
         for sent in world.record:
-            if sent.data[0] == Kind.VOTE:
+            if kind_of(sent.data) == Kind.VOTE:
                 frame = frames.read(self.config, sent.data)
                 if frame.digest == block.digest:
                     votes[frame.vote.voter] = frame.vote
@@ -307,7 +307,7 @@ class Writer:
     def _revive(self):
         """A frame that speaks of a block, of the older half of those that were sent, comes to any replica."""
         kinds = self.rng.choice([(Kind.PROPOSAL,), (Kind.VOTE,), (Kind.NEW_VIEW,), (Kind.FETCH, Kind.BLOCK)])
-        found = [at for at, sent in enumerate(self.world.record) if sent.data[0] in kinds]
+        found = [at for at, sent in enumerate(self.world.record) if kind_of(sent.data) in kinds]
         if not found:
             return None
         return Relay(self.rng.choice(found[:len(found) // 2 + 1]), self.rng.randrange(self.config.n))

@@ -1,6 +1,6 @@
 """One frame of each kind, that is cut anywhere and changed in any byte, as cases of checks in `replica_cases`."""
 from . import stated_runs
-from .frames import KIND_NAMES, Kind, read
+from .frames import KIND_NAMES, Kind, kind_of, read
 from .own_frames import OwnFrames
 from .tags import Keyring
 
@@ -11,7 +11,7 @@ def first_frames(run):
     """The first frame of each kind of a run's record, by kind."""
     found = {}
     for sent in run.world.record:
-        found.setdefault(Kind(sent.data[0]), sent.data)
+        found.setdefault(Kind(kind_of(sent.data)), sent.data)
     return found
 
 

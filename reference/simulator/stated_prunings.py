@@ -2,7 +2,7 @@
 from dataclasses import replace
 
 from . import frames
-from .frames import GENESIS, Certificate, Command, Core, FetchFrame, Kind, write
+from .frames import GENESIS, Certificate, Command, Core, FetchFrame, Kind, kind_of, write
 from .signing import block_of, proposal_of
 from .sizes import FIRST_CLIENT, TOP
 from .stated_runs import C0, GET_A, REPLICAS, SET_A, Run
@@ -21,7 +21,7 @@ class Chain(Run):
         self.votes = {}             # height -> {voter: the number of its vote}
 
     def kind(self, frame):
-        return self.world.record[frame].data[0]
+        return kind_of(self.world.record[frame].data)
 
     def read(self, frame):
         return frames.read(self.config, self.world.record[frame].data)

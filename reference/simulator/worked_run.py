@@ -1,5 +1,5 @@
 """The run with a liar of `worked_examples`: the tags and digests of its frames, as definitions."""
-from .frames import GENESIS, TAG, Kind, read
+from .frames import GENESIS, TAG, Kind, kind_of, read
 from .own_frames import OwnFrames
 from .replica import Answer
 from .stated_runs import C0, SET_A, Run
@@ -48,7 +48,7 @@ def whole_run():
     sent = run.relay(proposal, [0, 1])
     _, lie = liar.reply(Answer(0, 1, 1, b"NOT_STORED\r\n"))
     run.inject(lie, [C0])
-    replies = [frame for frame in sent if run.world.record[frame].data[0] == Kind.REPLY]
+    replies = [frame for frame in sent if kind_of(run.world.record[frame].data) == Kind.REPLY]
     receipts = [run.world.happen(Relay(reply, C0))[2] for reply in replies]
     assert receipts[0] is None and receipts[1].text == b"STORED\r\n"
     return run, votes, lie
