@@ -1,6 +1,6 @@
 """Schedules at random: whole runs under losses, repeats, late frames, timeouts, missing blocks, faulty
-parties and injected frames, which are good, cut short, changed in a byte, or signed by a faulty party's own
-keys.
+parties and injected frames, which are good, cut short, changed in a byte, spelled in the other version, or
+signed by a faulty party's own keys.
 
 The writer of a schedule runs it as it writes, so that each event is one that can happen and the faulty
 parties know what was sent. The seed alone decides, and whether replicas prune.
@@ -11,7 +11,7 @@ from dataclasses import replace
 from . import frames
 from .blocks import Block
 from .frames import (GENESIS, BlockFrame, Certificate, Command, Core, FetchFrame, Kind, NewViewFrame,
-                     ProposalFrame, ReplyFrame, RequestFrame, Vote, VoteFrame, kind_of, write)
+                     ProposalFrame, ReplyFrame, RequestFrame, Vote, VoteFrame, kind_of, respelled, write, write_old)
 from .own_frames import ALL
 from .replica import Replica
 from .requests import Request
@@ -75,7 +75,13 @@ class Liar:
         self.seq = rng.choice([self.seq + 1, self.seq + 1, max(1, self.seq), self.seq + 5])
         payload = rng.choice([random_request(rng).canonical(), b"quit\r\n", b"", bytes(4608), b"abc"])
         command = Command(self.party - FIRST_CLIENT, self.seq, payload)
-        return write(RequestFrame(replace(command, vector=self._vector(Kind.REQUEST, command.content()))))
+        return self._spelled(RequestFrame(replace(command, vector=self._vector(Kind.REQUEST, command.content()))))
+
+    def _spelled(self, frame):
+        """In either version; mostly in the old one where a certificate has more votes than the new one takes."""
+        votes = frame.cert.votes if hasattr(frame, "cert") else ()
+        old = 0.8 if len(votes) > self.config.quorum else 0.2
+        return write_old(frame) if self.rng.random() < old else write(frame)
 
     def _known(self, world):
         """A block that some correct replica knows, genesis too; or one that it has forgotten."""
@@ -121,21 +127,48 @@ class Liar:
         held = [replica.highest for replica in replicas if replica.highest.digest == block.digest]
         held += [child.cert for replica in replicas for child in replica.tree.blocks.values()
                  if child.core and child.cert.digest == block.digest]
-        if held and rng.random() < 0.8:
+        if held and rng.random() < 0.6:
             return rng.choice(held)
-        votes = {}
-        for sent in world.record:
-            if kind_of(sent.data) == Kind.VOTE:
-                frame = frames.read(self.config, sent.data)
-                if frame.digest == block.digest:
-                    votes[frame.vote.voter] = frame.vote
-        votes[self.party] = Vote(self.party, self.keyring.vector(Kind.VOTE, block.digest))
-        picked = [votes[voter] for voter in sorted(votes)]
+        picked = self._votes_for(world, block.digest)
+        votes = {vote.voter for vote in picked}
         if len(picked) < self.config.quorum:
             missing = [r for r in range(self.config.n) if r not in votes][:self.config.quorum - len(picked)]
             picked += [Vote(r, bytes(32 * self.config.n)) for r in missing]
             picked.sort(key=lambda vote: vote.voter)
-        return Certificate(block.digest, tuple(picked))
+        return Certificate(block.digest, self._some_votes(picked))
+
+    def _votes_for(self, world, digest):
+        """Those that were sent, and an own one."""
+        votes = {self.party: Vote(self.party, self.keyring.vector(Kind.VOTE, digest))}
+        for sent in world.record:
+            if kind_of(sent.data) == Kind.VOTE:
+                frame = frames.read(self.config, sent.data)
+                if frame.digest == digest:
+                    votes[frame.vote.voter] = frame.vote
+        return [votes[voter] for voter in sorted(votes)]
+
+    def next_proposal(self, world, view):
+        """As it should be: a block on the highest one that has a quorum's votes, which all that voted certify."""
+        blocks = {block.digest: block for replica in world.replicas.values() for block in replica.tree.blocks.values()}
+        for block in sorted(blocks.values(), key=lambda block: (-block.height, block.digest)):
+            votes = self._votes_for(world, block.digest) if block.core else []
+            if len(votes) >= self.config.quorum or not block.core:
+                cert = Certificate(block.digest, self._some_votes(votes) if votes else ())
+                core = Core(block.digest, block.height + 1, block.height, self._commands(world))
+                frame = ProposalFrame(view, core, cert)
+                return self._spelled(replace(frame, vector=self._vector(Kind.PROPOSAL, frame.content())))
+
+    def _some_votes(self, votes):
+        """A quorum of them, or all, of which one may be spoilt for some receivers."""
+        rng = self.rng
+        if rng.random() < 0.4:
+            return tuple(sorted(rng.sample(votes, self.config.quorum), key=lambda vote: vote.voter))
+        if len(votes) > self.config.quorum and rng.random() < 0.5:
+            at = rng.randrange(len(votes))
+            tags = [votes[at].vector[32 * r:32 * r + 32] for r in range(self.config.n)]
+            tags = [bytes(32) if rng.random() < 0.5 else tag for tag in tags]
+            votes[at] = replace(votes[at], vector=b"".join(tags))
+        return tuple(votes)
 
     def _proposal(self, world, _to):
         rng = self.rng
@@ -147,30 +180,33 @@ class Liar:
         led = [view for view in views if view % self.config.n == self.party]
         view = rng.choice(led) if led and rng.random() < 0.9 else rng.choice(views + [self.party, TOP])
         frame = ProposalFrame(view, core, self._certificate(world, justified))
-        return write(replace(frame, vector=self._vector(Kind.PROPOSAL, frame.content())))
+        return self._spelled(replace(frame, vector=self._vector(Kind.PROPOSAL, frame.content())))
 
     def _vote(self, world, _to):
         digest = self._known(world).digest if self.rng.random() < 0.9 else bytes(32)
         voter = self.party if self.rng.random() < 0.95 else self.rng.randrange(self.config.n)
-        return write(VoteFrame(digest, Vote(voter, self._vector(Kind.VOTE, digest))))
+        return self._spelled(VoteFrame(digest, Vote(voter, self._vector(Kind.VOTE, digest))))
 
     def _new_view(self, world, _to):
         view = self.rng.choice([0, 1, 2, 3, 7, TOP])
         frame = NewViewFrame(view, self.party, self._certificate(world, self._known(world)))
-        return write(replace(frame, vector=self._vector(Kind.NEW_VIEW, frame.content())))
+        return self._spelled(replace(frame, vector=self._vector(Kind.NEW_VIEW, frame.content())))
 
     def _reply(self, _world, to):
         rng = self.rng
         client = to - FIRST_CLIENT if to >= FIRST_CLIENT else rng.randrange(self.config.clients)
         frame = ReplyFrame(self.party, client, rng.choice([1, 1, 1, 2, 3]), rng.choice([1, 1, 2, 3, 9]),
                            rng.choice([b"STORED\r\n", b"EXISTS\r\n", b"END\r\n", b"", b"x" * 70293]))
-        return write(replace(frame, tag=self.keyring.tag(Kind.REPLY, FIRST_CLIENT + client, frame.content())))
+        tag = self.keyring.tag(Kind.REPLY, FIRST_CLIENT + client, frame.content())
+        return self._spelled(replace(frame, tag=tag))
 
     def _fetch(self, world, to):
         digest = self._known(world).digest if self.rng.random() < 0.8 else bytes(32)
+        return self.question(to if to < FIRST_CLIENT else 0, digest)
+
+    def question(self, to, digest):
         frame = FetchFrame(self.party, digest)
-        to = to if to < FIRST_CLIENT else 0
-        return write(replace(frame, tag=self.keyring.tag(Kind.FETCH, to, frame.content())))
+        return self._spelled(replace(frame, tag=self.keyring.tag(Kind.FETCH, to, frame.content())))
 
     def _block(self, world, to):
         again = self._known(world) if self.past and self.rng.random() < 0.3 else None
@@ -178,7 +214,7 @@ class Liar:
         self.cores.append((core, justified))
         frame = BlockFrame(self.party, core, self._certificate(world, justified))
         to = to if to < FIRST_CLIENT else 0
-        return write(replace(frame, tag=self.keyring.tag(Kind.BLOCK, to, frame.content())))
+        return self._spelled(replace(frame, tag=self.keyring.tag(Kind.BLOCK, to, frame.content())))
 
 
 class Writer:
@@ -186,7 +222,7 @@ class Writer:
 
     def __init__(self, rng, clients=None, prunes=PRUNES, replica=Replica):
         self.rng = rng
-        f = rng.choice([1, 1, 1, 1, 1, 2, 3, 4])
+        f = rng.choice([1, 1, 1, 1, 1, 2, 3, 4]) if rng.random() < 0.94 else rng.choice([5, 6, 7, 10])
         some = rng.choice([1, 1, 2, 2, 3, 8, 64])
         config = Config(f, clients or some)
         self.faulty = self._faulty(config)
@@ -199,15 +235,19 @@ class Writer:
         self.loss = rng.choice([0, 0, 0.02, 0.1, 0.3])
         self.repeat = rng.choice([0, 0, 0.05, 0.2])
         self.lateness = rng.choice([1, 1, 4, 30])
+        self.old = rng.choice([0, 0, 0.05, 0.3])    # so much of what was sent comes spelled in version 1
         self.patient = rng.random() < 0.7       # beats come once all that waits was brought
         self.deaf = rng.sample(range(config.n), rng.choice([0, 0, 0, 1, min(2, f)]))
         self.weights = {
             "bring": 60, "submit": rng.choice([0, 3, 8]), "beat": rng.choice([4, 8, 15]),
             "timeout": rng.choice([0, 0, 0.3, 2]), "inject": rng.choice([1, 4, 12]) if self.liars else 0,
+            "lead": rng.choice([0, 4, 12]) if self.liars else 0,
             "spoil": rng.choice([0, 2, 6]), "stray": rng.choice([0, 1]),
         }
         if prunes:
             self._plan_prunings()
+        if self.weights["lead"]:
+            self.weights["timeout"] = rng.choice([0.3, 1, 3])
 
     def _plan_prunings(self):
         """Mostly all goes well, so that the chain grows. Old frames come again."""
@@ -224,6 +264,8 @@ class Writer:
         if rng.random() < 0.3:
             return []
         replicas = rng.sample(range(config.n), rng.randrange(config.f + 1))
+        if replicas and 0 not in replicas and rng.random() < 0.5:
+            replicas[0] = 0             # the first leader
         clients = rng.sample(range(config.clients), rng.randrange(min(3, config.clients + 1)))
         return replicas + [FIRST_CLIENT + client for client in clients]
 
@@ -266,6 +308,8 @@ class Writer:
                 del self.waiting[at]
             if party in self.deaf and self.rng.random() < 0.8:
                 continue
+            if self.rng.random() < self.old:
+                return Inject(party, respelled(self.world.record[frame].data, 1))
             return Relay(frame, party)
         return self._beat_now()
 
@@ -325,14 +369,34 @@ class Writer:
                 self._happen(Inject(other, data))
         return Inject(to, data)
 
+    def _lead(self):
+        """A faulty leader's next proposal, to one replica after the other."""
+        led = {}
+        for replica in self.world.replicas.values():
+            led[replica.pacemaker.leader()] = replica.pacemaker.view
+        liars = [liar for liar in self.liars if liar.party in led]
+        if not liars:
+            return None
+        liar = self.rng.choice(liars)
+        data = liar.next_proposal(self.world, led[liar.party])
+        *others, last = self.rng.sample(sorted(self.world.replicas), len(self.world.replicas))
+        for replica in others:
+            if self.rng.random() >= self.loss:
+                self._happen(Inject(replica, data))
+        self._happen(Inject(last, data))
+        return Inject(last, liar.question(last, self.world.replicas[last].highest.digest))
+
     def _spoil(self):
-        """A frame that was sent, cut short, made longer or changed in a byte; or as it is, to anyone."""
+        """A frame that was sent, cut short, made longer, changed in a byte or spelled in version 1, maybe changed
+        then; or as it is, to anyone."""
         rng = self.rng
         if not self.world.record:
             return None
         data = rng.choice(self.world.record).data
+        if rng.random() < 0.3:
+            data = respelled(data, 1)
         at = rng.randrange(len(data))
-        how = rng.randrange(5)
+        how = rng.randrange(6)
         if how == 0:
             data = data[:at]
         elif how == 1:
@@ -342,6 +406,8 @@ class Writer:
             data = data[:at] + bytes([rng.randrange(256)]) + data[at + 1:]
         elif how == 3:
             data = data + bytes([rng.randrange(256)])
+        elif how == 4:
+            data = bytes([rng.choice([0, 1, 5, 7, 8, 129, 130, 131])]) + data[rng.randrange(2):]
         return Inject(self._any_party(), data)
 
     def _stray(self):
@@ -356,7 +422,7 @@ def _refused(rng, head, events, prunes):
     f, clients, faulty = head
     how = rng.randrange(5)
     if how == 0:
-        return (rng.choice([0, 5, 2 ** 64 - 1]), clients, faulty), events
+        return (rng.choice([0, 11, 2 ** 64 - 1]), clients, faulty), events
     if how == 1:
         return (f, rng.choice([0, 65, 2 ** 63]), faulty), events
     if how == 2:
