@@ -2,8 +2,9 @@
 //!
 //! A line is `FAULTS CLIENTS whole BYTES`: the sizes, and bytes. Printed is the number of the
 //! refusal, where there are no such sizes or the bytes are no frame at them, and else what `show`
-//! says of the frame, and `again` where the same bytes are written of what was read, or
-//! `DIFFERENT`. Of `FAULTS CLIENTS cuts BYTES` each proper beginning of the bytes is such a case,
+//! says of the frame, and `again` where the same bytes are written of what was read, behind the
+//! mark of version 2 where they had none, or `DIFFERENT`. Of `FAULTS CLIENTS version BYTES` it is
+//! the version that they tell, or `none`. Of `FAULTS CLIENTS cuts BYTES` each proper beginning of the bytes is such a case,
 //! and of `FAULTS CLIENTS changes BYTES MASK` the bytes with each byte in turn changed by exclusive
 //! or with the mask: printed are how many were refused, were frames and were written again, and the
 //! first half of the SHA-256 digest of what would be printed of all of them, line by line.
@@ -21,7 +22,7 @@ use crate::frames::bytes::{parse_byte, parse_bytes};
 use crate::frames::row::Row;
 use crate::frames::show::Line;
 use anyhow::{Result, bail};
-use frames_view::read;
+use frames_view::{read, version};
 use ids::{Config, Fault};
 use std::alloc::Global;
 
@@ -84,6 +85,14 @@ fn changes(alloc: Global, config: &Config, bytes: &mut Vec<u8>, mask: u8) -> Res
     Ok(row)
 }
 
+/// The version that the bytes tell.
+fn version_told(alloc: Global, bytes: &[u8]) -> Result<String> {
+    match version(bytes) {
+        Some(number) => Ok(format!(in alloc; "{number}")?),
+        None => Ok(String::from_str(alloc, "none")?),
+    }
+}
+
 /// What is asked of a line's bytes.
 fn answer(alloc: Global, config: &Config, ask: &str, fields: [&str; 2]) -> Result<String> {
     let [digits, mask] = fields;
@@ -94,6 +103,7 @@ fn answer(alloc: Global, config: &Config, ask: &str, fields: [&str; 2]) -> Resul
             tell_bytes(config, &bytes, &mut line)?;
             Ok(line.into_text())
         }
+        "version" => version_told(alloc, &bytes),
         "cuts" => cuts(alloc, config, &bytes)?.told(alloc),
         "changes" => { changes(alloc, config, &mut bytes, parse_byte(mask)?)?.told(alloc) }
         _ => bail!("no such case: {ask}"),

@@ -3,18 +3,28 @@
 use frames_view::{
     CertificateBuf, CertificateView, CommandView, CoreBuf, CoreView, Frame, Payload, ReplyText,
     ReplyView, write_block, write_certificate, write_certified_vote, write_command, write_core,
-    write_fetch, write_new_view, write_proposal, write_reply_frame, write_request_frame,
+    version, write_fetch, write_new_view, write_proposal, write_reply_frame, write_request_frame,
     write_vote,
 };
-use ids::{Digest, Fault};
+use ids::{Digest, Fault, VERSION_TWO};
 use std::alloc::Global;
 
-/// Whether the frame is written as these bytes, and the core and the certificate in it also from
-/// copies that were kept.
+/// These bytes as they are written: before those of version 1 stands the mark.
+fn as_written(alloc: Global, bytes: &[u8]) -> Result<Vec<u8>, Fault> {
+    let mut written = Vec::new(alloc);
+    if version(bytes) == Some(1) {
+        written.push(VERSION_TWO)?;
+    }
+    written.extend_from_slice(bytes)?;
+    Ok(written)
+}
+
+/// Whether the frame is written as these bytes, in version 2, and the core and the certificate in it
+/// also from copies that were kept.
 pub(crate) fn is_written_again(alloc: Global, frame: &Frame, bytes: &[u8]) -> Result<bool, Fault> {
     let mut again = Vec::new(alloc);
     write_again(alloc, frame, &mut again)?;
-    if again.as_slice() != bytes {
+    if again.as_slice() != as_written(alloc, bytes)?.as_slice() {
         return Ok(false);
     }
     match frame {
