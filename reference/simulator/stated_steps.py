@@ -1,6 +1,7 @@
 """Cases of steps in `replica_cases` that show one thing each: a replica with its inputs."""
-from .frames import GENESIS, Core
-from .signing import certificate_of, command_of, proposal_of, request_of
+from .frames import GENESIS, Core, respelled
+from .signing import (block_of, certificate_of, command_of, fetch_of, new_view_of, proposal_of, request_of,
+                      spoilt_for)
 from .sizes import Config
 from .stated_audits import lives_of
 from .stated_runs import GET_A, one_set
@@ -45,5 +46,41 @@ def a_whole_block():
     return " ".join(["1 1 1 1"] + inputs)
 
 
+def a_cut_certificate():
+    """Replica 1 takes a block of version 1 whose certificate has four votes, of which one is spoilt for it. Asked for
+    that block, it sends the other three, in version 2; and so it does in its announcement, once an announcement of
+    version 1 brought it four votes for the block, and in its proposal."""
+    config = Config(1, 1)
+    first = Core(GENESIS, 1, 0)
+    second = Core(first.digest(), 2, 1)
+    cert = spoilt_for(certificate_of(config, first.digest(), range(4)), 0, [1])
+    above = spoilt_for(certificate_of(config, second.digest(), range(4)), 2, [1])
+    inputs = [proposal_of(config, 0, first, certificate_of(config, GENESIS, ())), block_of(config, 0, 1, second, cert),
+              fetch_of(config, 2, 1, second.digest()), new_view_of(config, 0, 1, above), "timeout",
+              new_view_of(config, 3, 1, above), "beat"]
+    by_share = ["0:" + (given if isinstance(given, str) else "1:" + given.hex()) for given in inputs]
+    return [line(config, 1, inputs), " ".join(["1 1 1 1"] + by_share)]
+
+
+def first_steps(f):
+    """Replica 1 gets the first proposal in version 1, and a question behind it; then both in version 2."""
+    config = Config(f, 1)
+    core = Core(GENESIS, 1, 0)
+    given = [proposal_of(config, 0, core, certificate_of(config, GENESIS, ())),
+             fetch_of(config, 0, 1, core.digest())]
+    return line(config, 1, [respelled(data, version) for version in (1, 2) for data in given])
+
+
+def a_step_with_many_votes(f):
+    """The second proposal, whose certificate has a quorum's votes; its block is asked for."""
+    config = Config(f, 1)
+    first = Core(GENESIS, 1, 0)
+    second = Core(first.digest(), 2, 1)
+    cert = certificate_of(config, first.digest(), range(config.n - config.quorum, config.n))
+    return line(config, 1, [proposal_of(config, 0, first, certificate_of(config, GENESIS, ())),
+                            proposal_of(config, 0, second, cert), fetch_of(config, 0, 1, second.digest())])
+
+
 def all_cases():
-    return [a_full_pool(), a_request_again(), a_whole_block()]
+    return ([a_full_pool(), a_request_again(), a_whole_block()] + a_cut_certificate()
+            + [first_steps(f) for f in (1, 4, 5, 10)] + [a_step_with_many_votes(f) for f in (5, 10)])
