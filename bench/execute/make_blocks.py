@@ -25,7 +25,7 @@ def put_block():
     height += 1
     core = bytes(32) + height.to_bytes(8, "big") + (height - 1).to_bytes(8, "big")
     core += bytes([len(commands)]) + b"".join(commands)
-    frame = b"\7" + bytes(2) + core + bytes(33) + bytes(32)
+    frame = b"\x82\7" + bytes(2) + core + bytes(33) + bytes(32)
     out.write(len(frame).to_bytes(4, "big") + frame)
     commands.clear()
 

@@ -90,8 +90,8 @@ fn blocks_in(mut rest: &[u8]) -> Vec<Vec<Command<'_>>> {
         let frame = &rest[4..4 + length];
         rest = &rest[4 + length..];
         let mut commands = Vec::new();
-        let mut at = 52;
-        for _ in 0..frame[51] {
+        let mut at = 53;
+        for _ in 0..frame[52] {
             let size = usize::from(u16::from_be_bytes(frame[at + 10..at + 12].try_into().unwrap()));
             commands.push(Command {
                 client: frame[at + 1],

@@ -16,6 +16,7 @@ REPLICAS = 4
 CLIENTS = 16
 COMMANDS = 16
 REQUEST, PROPOSAL, VOTE = 1, 2, 3
+VERSION_TWO = 130
 random.seed(20261122)
 TEXT = b"abcdefghijklmnopqrstuvwxyz0123456789 "
 
@@ -60,6 +61,6 @@ for turn in range(COUNT):
     view = random.randint(1, 1_000_000)
     block = core(parent, turn + 2)
     content = struct.pack(">Q", view) + block + certificate(parent)
-    frame = bytes([PROPOSAL]) + content + vector(PROPOSAL, view % REPLICAS, content)
+    frame = bytes([VERSION_TWO, PROPOSAL]) + content + vector(PROPOSAL, view % REPLICAS, content)
     sys.stdout.buffer.write(struct.pack(">I", len(frame)) + frame)
     parent = hashlib.sha256(block).digest()

@@ -19,6 +19,7 @@ CLIENTS = 16
 COMMANDS = int(sys.argv[2]) if len(sys.argv) > 2 else 16
 LEADER = 0
 REQUEST, PROPOSAL, VOTE = 1, 2, 3
+VERSION_TWO = 130
 random.seed(20261123)
 TEXT = b"abcdefghijklmnopqrstuvwxyz0123456789 "
 
@@ -64,10 +65,10 @@ certificate = parent + bytes([0])
 for height in range(1, HEIGHTS + 1):
     core = parent + struct.pack(">QQB", height, height - 1, COMMANDS) + b"".join(random.sample(commands, COMMANDS))
     content = struct.pack(">Q", 0) + core + certificate
-    write(bytes([PROPOSAL]) + content + vector(PROPOSAL, LEADER, content))
+    write(bytes([VERSION_TWO, PROPOSAL]) + content + vector(PROPOSAL, LEADER, content))
     parent = hashlib.sha256(core).digest()
     voters = random.sample(range(REPLICAS), 3)
     votes = {voter: struct.pack(">H", voter) + vector(VOTE, voter, parent) for voter in voters}
     for voter in voters:
-        write(bytes([VOTE]) + parent + votes[voter])
+        write(bytes([VERSION_TWO, VOTE]) + parent + votes[voter])
     certificate = parent + bytes([len(voters)]) + b"".join(votes[voter] for voter in sorted(voters))

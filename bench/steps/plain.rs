@@ -75,7 +75,7 @@ impl Keyring {
 
     /// The reply `STORED` to a command.
     fn reply(&self, client: u16, seq: u64, place: u64) -> Vec<u8> {
-        let mut frame = vec![REPLY];
+        let mut frame = vec![VERSION_TWO, REPLY];
         frame.extend_from_slice(&self.own.to_be_bytes());
         frame.extend_from_slice(&client.to_be_bytes());
         frame.extend_from_slice(&seq.to_be_bytes());
@@ -83,7 +83,7 @@ impl Keyring {
         frame.extend_from_slice(&8u32.to_be_bytes());
         frame.extend_from_slice(b"STORED\r\n");
         let key = &self.clients[usize::from(client)];
-        let tag = key.clone().hmac(&head(REPLY, self.own, 256 + client), &frame[1..]);
+        let tag = key.clone().hmac(&head(REPLY, self.own, 256 + client), &frame[2..]);
         frame.extend_from_slice(&tag);
         frame
     }
@@ -388,8 +388,8 @@ impl Replica {
         if !voted {
             return None;
         }
-        let mut frame = Vec::with_capacity(35 + TAG * self.ring.replicas.len());
-        frame.push(VOTE);
+        let mut frame = Vec::with_capacity(36 + TAG * self.ring.replicas.len());
+        frame.extend_from_slice(&[VERSION_TWO, VOTE]);
         frame.extend_from_slice(digest);
         frame.extend_from_slice(&self.ring.own.to_be_bytes());
         self.ring.push_vector(VOTE, digest, &mut frame);
@@ -502,12 +502,12 @@ impl Replica {
         core.extend_from_slice(&(self.leaf.height + 1).to_be_bytes());
         core.extend_from_slice(&self.high.height.to_be_bytes());
         core.push(0);
-        let mut frame = vec![PROPOSAL];
+        let mut frame = vec![VERSION_TWO, PROPOSAL];
         frame.extend_from_slice(&self.view.to_be_bytes());
         frame.extend_from_slice(&core);
         self.certificate.write(&mut frame);
         self.leaf = BlockRef { digest: sha256(&core), height: self.leaf.height + 1 };
-        let content = frame[1..].to_vec();
+        let content = frame[2..].to_vec();
         self.ring.push_vector(PROPOSAL, &content, &mut frame);
         Some(frame)
     }
@@ -515,11 +515,11 @@ impl Replica {
     fn timeout(&mut self) -> Vec<u8> {
         self.steps.push(Step::TimedOut);
         self.view = self.view.saturating_add(1);
-        let mut frame = vec![NEW_VIEW];
+        let mut frame = vec![VERSION_TWO, NEW_VIEW];
         frame.extend_from_slice(&self.view.to_be_bytes());
         frame.extend_from_slice(&self.ring.own.to_be_bytes());
         self.certificate.write(&mut frame);
-        let content = frame[1..].to_vec();
+        let content = frame[2..].to_vec();
         self.ring.push_vector(NEW_VIEW, &content, &mut frame);
         frame
     }
@@ -573,7 +573,7 @@ fn main() {
     let mut frame = Vec::new();
     let (mut height, mut sum) = (0u64, 0u64);
     while next_frame(&mut source, &mut frame) {
-        let is_proposal = frame[0] == PROPOSAL;
+        let is_proposal = frame[1] == PROPOSAL;
         if is_proposal {
             height += 1;
         } else if number != 0 {

@@ -15,7 +15,7 @@ def block():
         head = (0).to_bytes(2, "big") + (k + 1).to_bytes(8, "big") + len(payload).to_bytes(2, "big")
         commands += head + payload + bytes(32 * REPLICAS)
     core = bytes(32) + (1).to_bytes(8, "big") + (0).to_bytes(8, "big") + bytes([COMMANDS]) + commands
-    return bytes([7]) + bytes(2) + core + bytes(33) + bytes(32)
+    return bytes([130, 7]) + bytes(2) + core + bytes(33) + bytes(32)
 
 
 def length_of(lines, answers):
