@@ -36,12 +36,14 @@ def line(config, receiver, asked, data):
 
 
 def all_spoilt():
-    """In version 1, and then in version 2."""
+    """In version 1, and then in version 2. Any byte is changed of those without a certificate in both, and of those
+    with one in version 2 alone, since it takes long."""
     config, spoilt = one_of_each_kind()
     for version in (1, 2):
         for asked in ("cuts", "every-change"):
             for data in spoilt:
-                yield line(config, RECEIVER, asked, respelled(data, version))
+                if version == 2 or asked == "cuts" or not hasattr(read(config, data), "cert"):
+                    yield line(config, RECEIVER, asked, respelled(data, version))
 
 
 def certified(config, receiver):
