@@ -41,7 +41,7 @@ fn destination(to: To, digits: &mut Buffer) -> (&'static str, &str)
     }
 }
 
-/// The line of a sent frame: `f0 Proposal 219 to all`.
+/// The line of a sent frame: `f0 Proposal 220 to all`.
 fn tell_frame(text: &mut Vec<u8>, number: u64, sent: &SentFrame) -> Result<(), Fault>
     ensures told { OnOk result (text.new.items ≡ text.old.items ++ frame_text number sent.now) }
     ensures memory { OnErr result (result ≡ Err Fault.Memory) }
