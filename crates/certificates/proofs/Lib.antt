@@ -1,4 +1,5 @@
 pub mod Clearing
 pub mod Counting
+pub mod Cutting
 pub mod Passing
 pub mod Genesis

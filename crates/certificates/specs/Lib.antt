@@ -1,2 +1,3 @@
+pub mod Cutting
 pub mod Outcomes
 pub mod Shown

@@ -24,7 +24,7 @@ const GENESIS: [u8; 32] = [
 ];
 
 /// Whether the vote's tag for the keyring's own replica verifies.
-fn vote_verifies(keyring: &Keyring, digest: &[u8; 32], vote: &VoteView) -> bool
+pub(crate) fn vote_verifies(keyring: &Keyring, digest: &[u8; 32], vote: &VoteView) -> bool
     requires replica { keyring.now.party < replicas keyring.now.sizes }
     requires vote { IsVote keyring.now.sizes (vote_of vote.now) }
     ensures { result ≡ vote_verifies (identity_of keyring.now) digest.now (vote_of vote.now) }
