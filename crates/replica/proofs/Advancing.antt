@@ -40,6 +40,7 @@ use Rattle.executor.specs.State.{new_answers}
 use Rattle.signed_frames.specs.Outs.{SentBytes}
 use Rattle.replica.specs.Steps.{bytes_of, shown, Shows}
 use Rattle.replica.specs.Kept.{Variables, StateParts, tree_of, waiting, IsStateOf, AreFit, AreStored}
+use Rattle.replica.specs.Kept.{AreSized}
 use Rattle.replica.specs.Changes.{asked, sent_first}
 use Rattle.replica.specs.Inputs.{IsFitInput}
 use Rattle.replica.specs.Execution.{history_above, IsCut, is_sendable, told}
@@ -47,6 +48,7 @@ use Rattle.replica.specs.StepsTo.{halts, Stands, IsRefused}
 use Rattle.replica.specs.Advances.{going, IsWholeOf, Advances}
 use Rattle.replica.specs.declared.standing.Taken.TheVariants.{Sends, Refused, CutShort}
 use Rattle.replica.proofs.Keeping.{stores-on}
+use Rattle.replica.proofs.Sized.{sized-on}
 use Rattle.replica.proofs.Waiting.{waits-on, held-waits}
 use Rattle.replica.proofs.Executing.{new-are, answers-more, above-appended, tree_at, history-is, IsBetween}
 use Rattle.replica.proofs.Executing.{cut-is}
@@ -55,8 +57,8 @@ use Rattle.replica.proofs.Executing.{cut-is}
 
 fit-carried : (s : Sizes) (i : Input) (core : Core) (q : Certificate) (f : Findings) → Carries i core q f
     → IsFitInput s i → IsCore s core
-fit-carried s (proposal_in w k p g) core q f c h = subst (IsCore s) c.0 h
-fit-carried s (block_in sender k p g) core q f c h = subst (IsCore s) c.0 h
+fit-carried s (proposal_in w k p g) core q f c h = subst (IsCore s) c.0 h.0
+fit-carried s (block_in sender k p g) core q f c h = subst (IsCore s) c.0 h.0
 fit-carried s (vote_in d b) core q f c h = absurd c
 fit-carried s (new_view_in w sender k) core q f c h = absurd c
 fit-carried s (request_in r) core q f c h = absurd c
@@ -234,7 +236,8 @@ asked-executing (noted n) c l =
     absurd (let e = ap (λ (h : History). length h) (history-noted n c) in omega (arith, e, l))
 
 module _ (keys : Keys) (i : Input) (c : Chronicle) (h : History) (before : h ≡ history c)
-    (fit : AreFit keys.sizes c) (well : AreStored c) (frame : IsFitInput keys.sizes i) where
+    (fit : AreFit keys.sizes c) (well : AreStored c) (sized : AreSized keys.sizes c)
+    (frame : IsFitInput keys.sizes i) where
   -- what was decided is executed
   pub sends-all : (out more : List SentBytes) (s after : StateParts) (new : History)
       → Stands keys (ruling (identity_of keys) i c) c out s
@@ -270,6 +273,7 @@ module _ (keys : Keys) (i : Input) (c : Chronicle) (h : History) (before : h ≡
           history = is;
           fit = fits;
           stored = stores-on self i st c t.is_due well;
+          sized = sized-on self i st c t.is_due frame sized;
         };
         standing = refl;
         answer = subst (λ (r : Replica × Reaction). Shows r.1 (Ok more)) (sym done)
@@ -333,6 +337,7 @@ module _ (keys : Keys) (i : Input) (c : Chronicle) (h : History) (before : h ≡
           history = b.cut ∙ ap (beginning (length new)) full;
           fit = fit-step keys i st c t.is_due frame t.state.sound fit;
           stored = stores-on self i st c t.is_due well;
+          sized = sized-on self i st c t.is_due frame sized;
         };
         standing = refl;
         answer = subst (λ (r : Replica × Reaction). Shows r.1 (Err fault.Memory)) (sym done) refl;
@@ -363,6 +368,7 @@ module _ (keys : Keys) (i : Input) (c : Chronicle) (h : History) (before : h ≡
       history = before ∙ held-all (halts (horizon c) n);
       fit = fit;
       stored = well;
+      sized = sized;
     };
     standing = ap (λ (v : Variables). cond (halts v.horizon n) stopped running) (sym r.state.same);
     answer = r.answer;

@@ -19,8 +19,7 @@ use Rattle.definitions.specs.Chronicles.{Note.got_vote, Note.got_new_view, Note.
 use Rattle.definitions.specs.Chronicles.{Note.timed_out, Note.beat, horizon, executed, decided, taken_blocks}
 use Rattle.definitions.specs.Chronicles.{history, standing_blocks, window, was_pruned}
 use Rattle.definitions.specs.Checks.{Identity, Findings}
-use Rattle.definitions.specs.Histories.{History, Entry}
-use Rattle.definitions.specs.Lists.{beginning}
+use Rattle.definitions.specs.Histories.{Entry}
 use Rattle.definitions.specs.Rulings as rulings
 use Rattle.definitions.specs.Rulings.{Ruling, Ruling.due, Ruling.missing, Ruling.refusing, ruling, conflicts}
 use Rattle.definitions.specs.Rulings.{on_placing, on_request, with_block}

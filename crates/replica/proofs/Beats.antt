@@ -9,7 +9,7 @@ use Rattle.std.specs.Prelude.{option_map}
 use Rattle.std.specs.Option.{option_or}
 use Rattle.std.specs.List.{flat_map}
 use Rattle.sha2.specs.Sha256.{sha256}
-use Rattle.definitions.specs.Frames.{command_bytes, core_text, certificate_bytes}
+use Rattle.definitions.specs.Frames.{command_bytes, core_text}
 use Rattle.definitions.specs.Branches.{Branch}
 use Rattle.definitions.specs.Keyrings.{Keys}
 use Rattle.definitions.specs.Checks.{Identity, identity_of}
@@ -79,7 +79,7 @@ module _ (keys : Keys) (c : Chronicle) (kept : StateParts) (few : length c < 2 ^
           λ i. record {
             core = core_text (digest_of on) (height-is i) (length high.block) (length (took i))
                 (flat_map command_bytes (took i));
-            certificate = certificate_bytes high.certificate;
+            certificate = high.certificate;
           } in
           (λ i. Some (own i), λ i. record { digest = sha256 (own i).core; height = height-is i })
       by false k = (refl, refl)

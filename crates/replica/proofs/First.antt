@@ -62,6 +62,7 @@ first-whole keys s h is e =
       history = e;
       fit = λ x m. subst (AllKnown (IsCore keys.sizes)) (sym (only-genesis x m)) tt;
       stored = λ a m. absurd m;
+      sized = tt;
     }
 
 pub first-history : held_history (record { chronicle = []; standing = running }) ≡ []

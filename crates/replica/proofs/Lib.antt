@@ -22,3 +22,4 @@ pub mod First
 pub mod WholeSteps
 pub mod Waiting
 pub mod Keeping
+pub mod Sized

@@ -13,7 +13,7 @@ use Rattle.definitions.specs.Replicas.{held_history}
 use Rattle.definitions.specs.Replicas.{held_pending, on_ruling}
 use Rattle.signed_frames.specs.Outs.{SentBytes}
 use Rattle.replica.specs.Steps.{Shows}
-use Rattle.replica.specs.Kept.{StateParts, waiting, IsStateOf, AreFit, AreStored}
+use Rattle.replica.specs.Kept.{StateParts, waiting, IsStateOf, AreFit, AreStored, AreSized}
 use Rattle.replica.specs.declared.standing.Taken.{Taken}
 use Rattle.replica.specs.declared.standing.Taken.TheVariants.{Sends, Refused, CutShort}
 use Rattle.replica.specs.StepsTo.{halts}
@@ -29,6 +29,7 @@ pub record IsWholeOf (keys : Keys) (r : Replica) (s : StateParts) (h : History) 
   pub history : h ≡ held_history r
   pub fit : AreFit keys.sizes r.chronicle
   pub stored : AreStored r.chronicle
+  pub sized : AreSized keys.sizes r.chronicle
 
 -- what a caller is told, and whether the replica with this horizon goes on with so many executed commands
 abbrev pub answer_of : Taken → Result (List SentBytes) Fault

@@ -8,6 +8,7 @@ use Rattle.std.specs.Prelude.{Err, MatchResult}
 use Rattle.std.specs.Option.{unwrap_or}
 use Rattle.definitions.specs.Frames.{Certificate, certificate_bytes, new_view_text, frame_text}
 use Rattle.definitions.specs.Keyrings.{Keys, keyring_of, vector_for}
+use Rattle.definitions.specs.Checks.{identity_of, cut}
 use Rattle.definitions.specs.Branches.{Branch}
 use Rattle.definitions.specs.Chronicles.{Chronicle, Note, Step.noted, Note.got_new_view, Note.timed_out}
 use Rattle.definitions.specs.Sendings.{to_all}
@@ -21,10 +22,10 @@ use Rattle.signed_frames.specs.Outs.{SentBytes}
 use Rattle.replica.specs.Kept.{StateParts}
 use Rattle.replica.specs.Changes.{noting, raise_of, leaf_after}
 
--- the view goes to all, with the highest certificate
+-- the view goes to all, with the highest certificate as it is passed on
 abbrev pub new_view_sent : Keys → ℕ → Certificate → SentBytes
 new_view_sent keys view q =
-    let content = new_view_text view keys.party (certificate_bytes q) in (
+    let content = new_view_text view keys.party (certificate_bytes (cut (identity_of keys) q)) in (
       to_all,
       kind.NewView,
       frame_text (kind_number kind.NewView) content

@@ -9,6 +9,7 @@ use Rattle.ids.specs.declared.kind.Kind.TheVariants as kind
 use Rattle.sha2.specs.Sha256.{sha256}
 use Rattle.definitions.specs.Frames.{command_bytes, core_text, certificate_bytes, proposal_text, frame_text}
 use Rattle.definitions.specs.Keyrings.{Keys, keyring_of, vector_for}
+use Rattle.definitions.specs.Checks.{identity_of, cut}
 use Rattle.definitions.specs.Sendings.{to_all}
 use Rattle.definitions.specs.Trees.{blocks, find_in}
 use Rattle.replica_rules.specs.declared.block_ref.BlockRef.{BlockRef}
@@ -30,13 +31,14 @@ child_of s =
     record {
       core = core_text v.leaf.digest (child_height v.leaf) v.high.block.height (length (picked s))
           (flat_map command_bytes (picked s));
-      certificate = certificate_bytes v.high.certificate;
+      certificate = v.high.certificate;
     }
 
--- a proposal goes to all
+-- a proposal goes to all, with its certificate as it is passed on
 abbrev pub proposal_sent : Keys → ℕ → Own → SentBytes
 proposal_sent keys view own =
-    let content = proposal_text view own.core own.certificate in (
+    let q = certificate_bytes (cut (identity_of keys) own.certificate) in
+    let content = proposal_text view own.core q in (
       to_all,
       kind.Proposal,
       frame_text (kind_number kind.Proposal) content

@@ -4,6 +4,7 @@ use Rattle.ids.specs.Numbers.{kind_number}
 use Rattle.std.specs.Prelude.{ℕ, List, [], ◌∷◌, Option, Some, None}
 use Rattle.definitions.specs.Frames.{Core, Certificate, core_bytes, certificate_bytes, block_text, frame_text}
 use Rattle.definitions.specs.Keyrings.{Keys, keyring_of, tag_for}
+use Rattle.definitions.specs.Checks.{identity_of, cut}
 use Rattle.definitions.specs.Digests.{core_of}
 use Rattle.definitions.specs.Sendings.{to_party}
 use Rattle.definitions.specs.Trees.{Stored}
@@ -15,10 +16,10 @@ use Rattle.signed_frames.specs.Outs.{SentBytes}
 use Rattle.replica.specs.Kept.{Variables}
 use Rattle.replica.specs.Changes.{noting}
 
--- a block with its certificate goes to the one who asked
+-- a block goes to the one who asked, with its certificate as it is passed on
 abbrev pub block_sent : Keys → ℕ → Core → Certificate → SentBytes
 block_sent keys to core q =
-    let content = block_text keys.party (core_bytes core) (certificate_bytes q) in (
+    let content = block_text keys.party (core_bytes core) (certificate_bytes (cut (identity_of keys) q)) in (
       to_party to,
       kind.Block,
       frame_text (kind_number kind.Block) content (tag_for (keyring_of keys) kind.Block to content),

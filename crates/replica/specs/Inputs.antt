@@ -2,7 +2,7 @@
 use Rattle.std.specs.Prelude.{Bool, true, false, Some, None, ⊤}
 use Rattle.ids.specs.Sizes.{Sizes}
 use Rattle.definitions.specs.Frames.{Core, Certificate}
-use Rattle.definitions.specs.FrameLimits.{IsCore}
+use Rattle.definitions.specs.FrameLimits.{IsVote, IsCertificate, IsCore}
 use Rattle.definitions.specs.Checks.{findings, identity_of}
 use Rattle.definitions.specs.Rulings as rulings
 use Rattle.certificates.specs.Outcomes.{CheckedView}
@@ -54,8 +54,10 @@ abbrev pub prunes : Input → Bool
 prunes (Prune height) = true
 prunes i = false
 
--- a block that comes is one of a frame at these sizes
+-- what comes is of a frame at these sizes
 abbrev pub IsFitInput : Sizes → rulings.Input → Type 0
-IsFitInput sizes (rulings.proposal_in w core q found) = IsCore sizes core
-IsFitInput sizes (rulings.block_in sender core q found) = IsCore sizes core
+IsFitInput sizes (rulings.proposal_in w core q found) = IsCore sizes core × IsCertificate sizes q
+IsFitInput sizes (rulings.block_in sender core q found) = IsCore sizes core × IsCertificate sizes q
+IsFitInput sizes (rulings.vote_in d b) = IsVote sizes b
+IsFitInput sizes (rulings.new_view_in w sender q) = IsCertificate sizes q
 IsFitInput sizes i = ⊤

@@ -1,17 +1,19 @@
 -- What a replica keeps, as plain data, and what that is: functions of its chronicle.
 use Rattle.ids.specs.declared.limits.TheConstants.{MOST_BLOCKS}
-use Rattle.std.specs.Prelude.{ℕ, ◌≡◌, List, Option, option_map}
+use Rattle.std.specs.Prelude.{ℕ, ◌≡◌, List, Option, option_map, IfSome, ⊤}
+use Rattle.std.specs.List.{AllByRecursion}
 use Rattle.definitions.specs.Bytes.{Bytes}
 use Rattle.definitions.specs.Lists.{Among}
-use Rattle.definitions.specs.Frames.{Command, core_bytes, certificate_bytes}
+use Rattle.definitions.specs.Frames.{Command, Certificate, core_bytes}
 use Rattle.definitions.specs.Keyrings.{Keys}
 use Rattle.definitions.specs.Checks.{identity_of}
 use Rattle.ids.specs.Sizes.{Sizes}
 use Rattle.definitions.specs.Branches.{Branch}
-use Rattle.definitions.specs.FrameLimits.{IsCore}
+use Rattle.definitions.specs.FrameLimits.{IsVote, IsCertificate, IsCore}
 use Rattle.definitions.specs.Digests.{core_of, AllKnown}
 use Rattle.definitions.specs.Trees.{Stored, TreeState}
-use Rattle.definitions.specs.Chronicles.{Admitted, Step.took_block, Chronicle, tree, horizon, standing_blocks}
+use Rattle.definitions.specs.Chronicles.{Admitted, Step, Step.took_block, Step.noted, Note.got_vote}
+use Rattle.definitions.specs.Chronicles.{Note.got_new_view, Chronicle, tree, horizon, standing_blocks}
 use Rattle.definitions.specs.Chronicles.{IsSound}
 use Rattle.definitions.specs.States.{Justified, qc_high, leaf, pending, proposed}
 use Rattle.audit_ground.specs.Law.{IsStored}
@@ -22,10 +24,10 @@ use Rattle.replica_rules.specs.declared.block_ref.BlockRef.{BlockRef}
 use Rattle.replica_rules.specs.Ruled.{Ruled, ref_of, ruled_by}
 use Rattle.replica.specs.declared.state.High.{High}
 
--- the bytes of a proposal's core and certificate
+-- the bytes of a proposal's core, and its certificate
 pub record Own : Type 0 where
   pub core : Bytes
-  pub certificate : Bytes
+  pub certificate : Certificate
 
 -- the chronicle, and the running variables that are functions of it
 pub record Variables : Type 0 where
@@ -58,7 +60,7 @@ abbrev pub high_of : Justified → High
 high_of q = record { block = ref_of q.block; certificate = q.certificate }
 
 abbrev pub own_of : Justified → Own
-own_of p = record { core = core_bytes (core_of p.block); certificate = certificate_bytes p.certificate }
+own_of p = record { core = core_bytes (core_of p.block); certificate = p.certificate }
 
 -- the variables where this chronicle stands
 abbrev pub variables_of : Keys → Chronicle → Variables
@@ -81,6 +83,27 @@ AreFit sizes c = (x : Branch) → Among x (tree c) → AllKnown (IsCore sizes) x
 -- it justifies
 abbrev pub AreStored : Chronicle → Type 0
 AreStored c = (a : Admitted) → Among (took_block a) c → IsStored c a
+
+-- the certificate or the vote that a step brought is one at these sizes
+abbrev pub IsSized : Sizes → Step → Type 0
+IsSized sizes (took_block a) = IsCertificate sizes a.certificate
+IsSized sizes (noted (got_vote voter vector b)) = IsVote sizes (record { voter = voter; vector = vector })
+IsSized sizes (noted (got_new_view view sender q b)) = IsCertificate sizes q
+IsSized sizes st = ⊤
+
+-- so are those of each step
+abbrev pub AreSized : Sizes → Chronicle → Type 0
+AreSized sizes c = AllByRecursion (IsSized sizes) c
+
+-- the certificate of a proposal, where there is one, is one at these sizes
+abbrev pub IsFitOwn : Sizes → Option Own → Type 0
+IsFitOwn sizes own = IfSome own (λ p. IsCertificate sizes p.certificate)
+
+-- each certificate that is kept is one at these sizes
+pub record AreCertified (sizes : Sizes) (v : Variables) : Type 0 where
+  pub high : IsCertificate sizes v.high.certificate
+  pub own : IsFitOwn sizes v.own
+  pub stored : AllByRecursion (λ s. IsCertificate sizes s.certificate) v.stored
 
 -- what is kept is that of this chronicle, which is a sound one
 pub record IsStateOf (keys : Keys) (c : Chronicle) (s : StateParts) : Type 0 where

@@ -5,27 +5,29 @@ ghost use Rattle.std.specs.Option.{unwrap_or};
 ghost use Rattle.ids.specs.Sizes.{replicas};
 ghost use Rattle.replica.specs.Announcements.{new_view_sent, IsTimeout, IsAnnounced, IsNewView};
 ghost use Rattle.replica.specs.Inputs.{announced_by};
+ghost use Rattle.definitions.specs.FrameLimits.{IsCertificate};
+ghost use Rattle.replica.specs.Kept.{AreCertified};
 
 use crate::blocks::{leaf_after, raised};
 use crate::change::Change;
 use crate::state::{High, State};
 use crate::stored::{GotNewView, StoredStep};
 use authenticators::Keyring;
-use certificates::Checked;
+use certificates::cut_bytes;
 use frames_view::{CertificateBuf, NewViewView};
 use ids::{Digest, Fault, Kind, View};
 use replica_rules::BlockRef;
 use signed_frames::{Out, Sending, To, new_view_frame};
 use std::alloc::Global;
 
-/// The view goes to all, with the highest certificate.
+/// The view goes to all, with the highest certificate as it is passed on.
 fn announcement(alloc: Global, keyring: &Keyring, view: View, high: &High) -> Result<Out, Fault>
-    requires { keyring.now.party < replicas keyring.now.sizes }
+    requires replica { keyring.now.party < replicas keyring.now.sizes }
+    requires certificate { IsCertificate keyring.now.sizes high.now.certificate }
     ensures made { IfOk result (λ out. out ≡ new_view_sent keyring.now view high.now.certificate ∷ []) }
     ensures memory { OnErr result (result ≡ Err Fault.Memory) }
 {
-    let mut certificate = Vec::new(alloc);
-    high.certificate.view().write(&mut certificate)?;
+    let certificate = cut_bytes(alloc, keyring, &high.certificate.view())?;
     let frame = new_view_frame(alloc, keyring, view, &certificate)?;
     let sending = Sending {
         to: To::All,
@@ -37,7 +39,8 @@ fn announcement(alloc: Global, keyring: &Keyring, view: View, high: &High) -> Re
 
 /// What a timeout comes to: the replica goes on to the next view, and announces it.
 pub(crate) fn decide_timeout(state: &State, keyring: &Keyring) -> Result<Change, Fault>
-    requires { keyring.now.party < replicas keyring.now.sizes }
+    requires replica { keyring.now.party < replicas keyring.now.sizes }
+    requires certified { AreCertified keyring.now.sizes state.now.variables }
     ensures made { IfOk result (IsTimeout keyring.now state.now) }
     ensures memory { OnErr result (result ≡ Err Fault.Memory) }
 {
@@ -68,7 +71,8 @@ fn announcement_if(
     view: View,
     high: &High,
 ) -> Result<Out, Fault>
-    requires { keyring.now.party < replicas keyring.now.sizes }
+    requires replica { keyring.now.party < replicas keyring.now.sizes }
+    requires certificate { IsCertificate keyring.now.sizes high.now.certificate }
     ensures made { IfOk result
         (λ out. out ≡ (if moved then new_view_sent keyring.now view high.now.certificate ∷ [] else [])) }
     ensures memory { OnErr result (result ≡ Err Fault.Memory) }
@@ -89,6 +93,8 @@ fn take_new_view(
 ) -> Result<Change, Fault>
     requires replica { keyring.now.party < replicas keyring.now.sizes }
     requires sender { (announced_by announced.now).sender < replicas state.now.pace.sizes }
+    requires certificate { IsCertificate keyring.now.sizes (announced_by announced.now).certificate }
+    requires certified { AreCertified keyring.now.sizes state.now.variables }
     ensures made { IfOk result (IsAnnounced keyring.now state.now block (announced_by announced.now)) }
     ensures memory { OnErr result (result ≡ Err Fault.Memory) }
 {
@@ -122,6 +128,8 @@ pub(crate) fn decide_new_view(
 ) -> Result<Change, Fault>
     requires replica { keyring.now.party < replicas keyring.now.sizes }
     requires sender { (announced_by announced.now).sender < replicas state.now.pace.sizes }
+    requires certificate { IsCertificate keyring.now.sizes (announced_by announced.now).certificate }
+    requires certified { AreCertified keyring.now.sizes state.now.variables }
     ensures { IsNewView keyring.now state.now (announced_by announced.now) result }
 {
     let digest = Digest(*announced.certificate().digest());

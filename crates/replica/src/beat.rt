@@ -3,6 +3,8 @@
 ghost use Rattle.std.specs.Prelude.{◌≡◌, ◌<◌, [], ◌∷◌, IfOk, OnErr};
 ghost use Rattle.ids.specs.Sizes.{replicas};
 ghost use Rattle.std.specs.Option.{option_or};
+ghost use Rattle.definitions.specs.FrameLimits.{IsCertificate};
+ghost use Rattle.replica.specs.Kept.{IsFitOwn, AreCertified};
 ghost use Rattle.replica.specs.Beats.{beat_change, child_height, child_of, proposal_sent, is_led, made_by};
 ghost use Rattle.replica.specs.Beats.{leaf_with, last_sent};
 
@@ -11,7 +13,8 @@ use crate::pick::picked;
 use crate::state::{OwnProposal, State};
 use crate::stored::StoredStep;
 use authenticators::Keyring;
-use frames_view::write_core;
+use certificates::cut_bytes;
+use frames_view::{CertificateBuf, write_core};
 use ids::{Digest, Fault, Height, Kind, View};
 use replica_rules::BlockRef;
 use sha2::Sha256;
@@ -50,22 +53,24 @@ fn child_of(state: &State) -> Result<OwnProposal, Fault>
     ensures memory { OnErr result (result ≡ Err Fault.Memory) }
 {
     let core = core_of(state)?;
-    let mut certificate = Vec::new(state.alloc);
-    state.high.certificate.view().write(&mut certificate)?;
+    let certificate = CertificateBuf::copy(state.alloc, &state.high.certificate.view())?;
     Ok(OwnProposal { core, certificate })
 }
 
-/// A proposal of its own, to all.
+/// A proposal of its own, to all, with its certificate as it is passed on.
 fn proposal_out(
     alloc: Global,
     keyring: &Keyring,
     view: View,
     own: &OwnProposal,
 ) -> Result<Out, Fault>
+    requires replica { keyring.now.party < replicas keyring.now.sizes }
+    requires certificate { IsCertificate keyring.now.sizes own.now.certificate }
     ensures made { IfOk result (λ out. out ≡ proposal_sent keyring.now view own.now ∷ []) }
     ensures memory { OnErr result (result ≡ Err Fault.Memory) }
 {
-    let frame = proposal_frame(alloc, keyring, view, &own.core, &own.certificate)?;
+    let certificate = cut_bytes(alloc, keyring, &own.certificate.view())?;
+    let frame = proposal_frame(alloc, keyring, view, &own.core, &certificate)?;
     let sending = Sending {
         to: To::All,
         kind: Kind::Proposal,
@@ -113,7 +118,8 @@ fn leaf_with(made: &Option<OwnProposal>, leaf: BlockRef) -> BlockRef
 
 /// A leader's last proposal, to all: the one that it made now, or the one before.
 fn last_out(state: &State, keyring: &Keyring, made: &Option<OwnProposal>) -> Result<Out, Fault>
-    requires { keyring.now.party < replicas keyring.now.sizes }
+    requires replica { keyring.now.party < replicas keyring.now.sizes }
+    requires certified { IsFitOwn keyring.now.sizes (option_or made.now state.now.variables.own) }
     ensures made { IfOk result
         (λ out. out ≡ last_sent keyring.now state.now (option_or made.now state.now.variables.own)) }
     ensures memory { OnErr result (result ≡ Err Fault.Memory) }
@@ -130,7 +136,8 @@ fn last_out(state: &State, keyring: &Keyring, made: &Option<OwnProposal>) -> Res
 /// What a beat comes to: where the replica leads its view, it proposes a child of its leaf, or its
 /// last proposal again where the leaf isn't in the tree yet.
 pub(crate) fn decide_beat(state: &State, keyring: &Keyring) -> Result<Change, Fault>
-    requires { keyring.now.party < replicas keyring.now.sizes }
+    requires replica { keyring.now.party < replicas keyring.now.sizes }
+    requires certified { AreCertified keyring.now.sizes state.now.variables }
     ensures made { IfOk result (λ d. d ≡ beat_change keyring.now state.now) }
     ensures memory { OnErr result (result ≡ Err Fault.Memory) }
 {

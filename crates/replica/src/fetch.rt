@@ -5,19 +5,23 @@ ghost use Rattle.ids.specs.Sizes.{replicas};
 ghost use Rattle.block_tree.specs.Finding.{stored_in};
 ghost use Rattle.replica.specs.Fetches.{supplied, fetch_change};
 ghost use Rattle.replica.specs.Inputs.{asked_by};
+ghost use Rattle.replica.specs.Kept.{AreCertified};
 
 use crate::change::Change;
 use crate::state::State;
 use crate::stored::{GotFetch, StoredStep};
 use authenticators::Keyring;
+use certificates::cut_bytes;
 use frames_view::FetchView;
 use ids::{Digest, Fault, Kind, ReplicaId};
 use signed_frames::{Out, Sending, To, block_frame};
 
-/// The block of a digest with its certificate, for a replica that asked for it, where it stands in the tree.
+/// The block of a digest with its certificate as it is passed on, for a replica that asked for it, where it
+/// stands in the tree.
 fn supply(state: &State, keyring: &Keyring, to: ReplicaId, digest: &Digest) -> Result<Out, Fault>
     requires own { keyring.now.party < replicas keyring.now.sizes }
     requires other { to < replicas keyring.now.sizes }
+    requires certified { AreCertified keyring.now.sizes state.now.variables }
     ensures made { IfOk result
         (λ out. out ≡ supplied keyring.now to (stored_in digest.now state.now.variables.stored)) }
     ensures memory { OnErr result (result ≡ Err Fault.Memory) }
@@ -25,8 +29,7 @@ fn supply(state: &State, keyring: &Keyring, to: ReplicaId, digest: &Digest) -> R
     let Some(block) = state.tree.block(digest) else {
         return Ok(Out::none(state.alloc));
     };
-    let mut certificate = Vec::new(state.alloc);
-    block.certificate().write(&mut certificate)?;
+    let certificate = cut_bytes(state.alloc, keyring, &block.certificate())?;
     let frame = block_frame(state.alloc, keyring, to, block.core().raw(), &certificate)?;
     let sending = Sending {
         to: To::Replica(to),
@@ -44,6 +47,7 @@ pub(crate) fn decide_fetch(
 ) -> Result<Change, Fault>
     requires own { keyring.now.party < replicas keyring.now.sizes }
     requires other { (asked_by asked.now).sender < replicas keyring.now.sizes }
+    requires certified { AreCertified keyring.now.sizes state.now.variables }
     ensures made { IfOk result (λ d. d ≡ fetch_change keyring.now state.now.variables (asked_by asked.now)) }
     ensures memory { OnErr result (result ≡ Err Fault.Memory) }
 {

@@ -17,7 +17,7 @@ ghost use Rattle.definitions.specs.WindowAudit.{shown_at};
 ghost use Rattle.replica.specs.Steps.{Stepped};
 ghost use Rattle.replica.specs.Wanting.{wants_beat, wants_beat_now};
 ghost use Rattle.definitions.specs.Keyrings.{Keys};
-ghost use Rattle.replica.specs.Kept.{IsStateOf};
+ghost use Rattle.replica.specs.Kept.{IsStateOf, AreCertified};
 ghost use Rattle.replica.specs.Changes.{Fits};
 ghost use Rattle.replica.specs.StepsTo.{StepsTo, answer, after};
 ghost use Rattle.replica.specs.Advances.{going, IsWholeOf, Advances};
@@ -116,6 +116,7 @@ fn decide(
     requires sizes { state.now.pace.sizes ≡ keyring.now.sizes }
     requires votes { state.now.votes.sizes ≡ keyring.now.sizes }
     requires room { executor.now.most_keys ≡ keyring.now.sizes.most_keys }
+    requires certified { AreCertified keyring.now.sizes state.now.variables }
     ensures decided { (c : Chronicle) → IsWholeOf keyring.now (going c) state.now executor.now.history
         → StepsTo keyring.now (input_of input.entry) c (answer result) (after result state.now) }
     ensures fits { IfOk result (λ d. Fits state.now d) }
@@ -152,6 +153,7 @@ fn take<S: StepLog>(
     requires sizes { state.old.pace.sizes ≡ keyring.now.sizes }
     requires votes { state.old.votes.sizes ≡ keyring.now.sizes }
     requires room { executor.now.most_keys ≡ keyring.now.sizes.most_keys }
+    requires certified { AreCertified keyring.now.sizes state.old.variables }
     ensures steps { (c : Chronicle) → IsWholeOf keyring.now (going c) state.old executor.now.history
         → StepsTo keyring.now (input_of input.entry) c result state.new }
     ensures fit { IsFitInput keyring.now.sizes (input_of input.entry) }
@@ -177,6 +179,7 @@ fn advance<S: StepLog, L: Ledger>(
     requires sizes { state.old.pace.sizes ≡ keyring.now.sizes }
     requires votes { state.old.votes.sizes ≡ keyring.now.sizes }
     requires room { executor.old.most_keys ≡ keyring.now.sizes.most_keys }
+    requires certified { AreCertified keyring.now.sizes state.old.variables }
     ensures room { executor.new.most_keys ≡ executor.old.most_keys }
     ensures advances { (c : Chronicle) → IsWholeOf keyring.now (going c) state.old executor.old.history
         → Advances keyring.now (input_of input.entry) c result state.new executor.new.history }

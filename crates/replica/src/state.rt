@@ -35,11 +35,11 @@ pub(crate) struct High {
     pub(crate) certificate: CertificateBuf,
 }
 
-/// The own last proposal: the bytes of its core, and of the certificate that went along.
+/// The own last proposal: the bytes of its core, and the certificate that it was made with.
 #[derive(Drop)]
 pub(crate) struct OwnProposal {
     pub(crate) core: Vec<u8>,
-    pub(crate) certificate: Vec<u8>,
+    pub(crate) certificate: CertificateBuf,
 }
 
 impl Model for OwnProposal {
@@ -47,7 +47,7 @@ impl Model for OwnProposal {
 
     ghost Value = { Own };
 
-    ghost view = { λ p. record { core = p.core.items; certificate = p.certificate.items } };
+    ghost view = { λ p. record { core = p.core.items; certificate = p.certificate } };
 }
 
 /// As many steps may stand. A replica that makes a million in a second makes so many in 146,000 years.

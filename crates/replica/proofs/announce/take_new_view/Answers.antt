@@ -1,5 +1,7 @@
 use Rattle.std.proofs.Common.{◌≡◌, [], ◌∷◌, cond, nat_lt, sym, ap, ◌∙◌, subst, Some}
 use Rattle.std.specs.Option.{unwrap_or}
+use Rattle.definitions.specs.Frames.{Certificate}
+use Rattle.definitions.specs.FrameLimits.{IsCertificate}
 use Rattle.definitions.specs.Chronicles.{Note, Step.noted, Note.got_new_view}
 use Rattle.pacemaker.specs.Pacing.{Pace, IsPaceOf}
 use Rattle.frames_view.specs.Views.{new_view_of}
@@ -8,9 +10,26 @@ use Rattle.replica.specs.Changes.{noting, raise_of, leaf_after}
 use Rattle.replica.specs.Kept.{StateParts}
 use Rattle.replica.specs.Announcements.{new_view_sent}
 use Rattle.replica.specs.declared.change.Change.{Change}
+use Rattle.replica.specs.declared.state.High.{High}
 use Rattle.replica.specs.declared.stored.StoredStep.TheVariants.{GotNewView}
 use Rattle.replica.proofs.Announcements.{moved-is}
+use Rattle.replica.proofs.Sized.{raise-sized}
 use Rattle.replica.proofs.announce.take_new_view.Goals as goal
+
+pub announcement_if-requires-clause-certificate : goal.announcement_if-requires-clause-certificate
+announcement_if-requires-clause-certificate c =
+    let sizes = c.args.keyring.now.sizes in
+    let v = c.args.state.now.variables in
+    let q : Certificate = frame_certificate (new_view_of c.args.announced.now) in
+    let high : c.state.inside.high ≡ v.high = ap (λ (k : StateParts). k.variables.high) c.state.view_is in
+    let raised : c.in_ok-high.high ≡ raise_of (record { block = c.args.block; certificate = q }) v.high =
+    c.in_ok-high.ensures.made
+    ∙ (λ i. raise_of (record { block = c.args.block; certificate = c.certificate.ensures.value i })
+    (high i)) in
+    subst (λ (h : High). IsCertificate sizes h.certificate)
+    (sym (c.high_after-highest.ensures ∙ (λ i. unwrap_or (raised i) (high i))))
+    (raise-sized sizes (record { block = c.args.block; certificate = q }) v.high c.requires.certificate
+    c.requires.certified.high)
 
 pub returns-clause-made : goal.returns-clause-made
 returns-clause-made c =

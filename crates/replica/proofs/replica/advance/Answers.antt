@@ -13,7 +13,7 @@ use Rattle.replica.proofs.replica.advance.Goals as goal
 pub returns-in-Err-clause-advances : goal.returns-in-Err-clause-advances
 returns-in-Err-clause-advances g c c' o =
     refuses c.args.keyring.now (input_of c.args.input) c' c.args.executor.now.history
-    (history-going c.args.keyring.now c' c.args.state.now c.args.executor.now.history o) o.fit o.stored
+    (history-going c.args.keyring.now c' c.args.state.now c.args.executor.now.history o) o.fit o.stored o.sized
     c.in-Err.ensures.fit c.in-Err.fault c.take.new.state (c.in-Err.ensures.steps c' o)
 
 pub returns-in-Ok-execute-clause-advances : goal.returns-in-Ok-execute-clause-advances
@@ -24,7 +24,7 @@ returns-in-Ok-execute-clause-advances g c c' o =
     ∙ ap (λ (k : StateParts). k.variables.rules.executed) c.state.view_is
     ∙ ap (λ (v : Variables). v.rules.executed) o.state.same) in
     sends-all c.args.keyring.now (input_of c.args.input) c' c.args.executor.now.history
-    (history-going c.args.keyring.now c' c.args.state.now c.args.executor.now.history o) o.fit o.stored
+    (history-going c.args.keyring.now c' c.args.state.now c.args.executor.now.history o) o.fit o.stored o.sized
     c.in-Ok.ensures.fit c.in-Ok.out c.execute.new.out c.take.new.state c.execute.new.state
     c.execute.new.executor.history (c.in-Ok.ensures.steps c' o)
     (subst (λ (n : ℕ). c.execute.new.executor.history
@@ -46,7 +46,7 @@ returns-in-Err-execute-clause-advances g c c' o =
     ∙ ap (λ (k : StateParts). k.variables.rules.executed) c.state.view_is
     ∙ ap (λ (v : Variables). v.rules.executed) o.state.same) in
     stops-short c.args.keyring.now (input_of c.args.input) c' c.args.executor.now.history
-    (history-going c.args.keyring.now c' c.args.state.now c.args.executor.now.history o) o.fit o.stored
+    (history-going c.args.keyring.now c' c.args.state.now c.args.executor.now.history o) o.fit o.stored o.sized
     c.in-Ok.ensures.fit c.in-Ok.out c.take.new.state c.execute.new.state c.execute.new.executor.history
     (c.in-Ok.ensures.steps c' o)
     c.execute.ensures.rest

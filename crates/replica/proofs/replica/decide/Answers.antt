@@ -1,9 +1,10 @@
-use Rattle.std.proofs.Common.{◌≡◌, ◌<◌, true, ◌^◌, Ok, sym, IfOk, length, ap, ◌∙◌, subst, arith}
+use Rattle.std.proofs.Common.{◌≡◌, ◌<◌, true, ◌^◌, Ok, refl, sym, IfOk, length, ap, ◌∙◌, subst, arith}
 use Rattle.ids.specs.Sizes.{Sizes, leader}
-use Rattle.definitions.specs.FrameLimits.{IsCore}
+use Rattle.definitions.specs.FrameLimits.{IsCore, IsCertificate}
 use Rattle.definitions.specs.Rulings.{ruling}
-use Rattle.frames_view.specs.Fields.{frame_core, frame_view, frame_replica, frame_digest, frame_vote}
-use Rattle.frames_view.specs.Views.{command_of, proposal_of, block_of, vote_frame_of}
+use Rattle.frames_view.specs.Fields.{frame_core, frame_certificate, frame_view, frame_replica, frame_digest}
+use Rattle.frames_view.specs.Fields.{frame_vote}
+use Rattle.frames_view.specs.Views.{command_of, proposal_of, block_of, vote_frame_of, new_view_of}
 use Rattle.frames_view.specs.declared.frame_views.NewViewView.{NewViewView}
 use Rattle.frames_view.specs.declared.frame_views.FetchView.{FetchView}
 use Rattle.definitions.specs.Checks.{identity_of}
@@ -149,16 +150,42 @@ returns-in-Proposal-clause-fit c =
     let keys = c.args.keyring.now in
     let p = c.in-Proposal.proposal in
     let own : same_replica p.keys keys ≡ true = rw c.in-Proposal.is at c.requires.own in
-    rw c.in-Proposal.is (subst (λ (s : Sizes). IsCore s (frame_core (proposal_of p.view)))
-    (addressed-sizes p.keys keys own) c.of_proposal.ensures.frame.1)
+    rw c.in-Proposal.is (subst (λ (s : Sizes). IsCore s (frame_core (proposal_of p.view))
+    × IsCertificate s (frame_certificate (proposal_of p.view)))
+    (addressed-sizes p.keys keys own) (c.of_proposal.ensures.frame.1, c.of_proposal.ensures.frame.2))
 
 pub returns-in-Block-clause-fit : goal.returns-in-Block-clause-fit
 returns-in-Block-clause-fit c =
     let keys = c.args.keyring.now in
     let b = c.in-Block.block in
     let own : same_replica b.keys keys ≡ true = rw c.in-Block.is at c.requires.own in
-    rw c.in-Block.is (subst (λ (s : Sizes). IsCore s (frame_core (block_of b.view)))
-    (addressed-sizes b.keys keys own) c.of_block.ensures.frame.1)
+    rw c.in-Block.is (subst (λ (s : Sizes). IsCore s (frame_core (block_of b.view))
+    × IsCertificate s (frame_certificate (block_of b.view)))
+    (addressed-sizes b.keys keys own) (c.of_block.ensures.frame.1, c.of_block.ensures.frame.2))
+
+pub returns-in-Vote-clause-fit : goal.returns-in-Vote-clause-fit
+returns-in-Vote-clause-fit c =
+    let keys = c.args.keyring.now in
+    let v = c.in-Vote.vote in
+    rw c.in-Vote.is (checked-vote v keys v.view keys.sizes (rw c.in-Vote.is at c.requires.own)
+    c.view.ensures.fits refl refl)
+
+pub returns-in-NewView-clause-fit : goal.returns-in-NewView-clause-fit
+returns-in-NewView-clause-fit c =
+    let keys = c.args.keyring.now in
+    let n = c.in-NewView.announced in
+    rw c.in-NewView.is (subst (λ (s : Sizes). IsCertificate s (frame_certificate (new_view_of n.view)))
+    (addressed-sizes n.keys keys (rw c.in-NewView.is at c.requires.own))
+    c.view-in-NewView.ensures.fits.2)
+
+pub decide_new_view-requires-clause-certificate : goal.decide_new_view-requires-clause-certificate
+decide_new_view-requires-clause-certificate c =
+    let keys = c.args.keyring.now in
+    let n = c.in-NewView.announced in
+    rw c.view-in-NewView.ensures.view
+    (subst (λ (s : Sizes). IsCertificate s (frame_certificate (new_view_of n.view)))
+    (addressed-sizes n.keys keys (rw c.in-NewView.is at c.requires.own))
+    c.view-in-NewView.ensures.fits.2)
 
 pub returns-in-Request-clause-decided : goal.returns-in-Request-clause-decided
 unfolding ruling

@@ -8,9 +8,10 @@ use Rattle.signed_frames.specs.Outs.{SentBytes}
 use Rattle.replica.specs.Steps.{Held, Stepped, standing_of}
 use Rattle.definitions.specs.Chronicles.{standing_blocks}
 use Rattle.definitions.specs.Replicas.{held_history}
-use Rattle.replica.specs.Kept.{Variables}
+use Rattle.replica.specs.Kept.{Variables, AreCertified}
 use Rattle.replica.specs.Advances.{IsWholeOf, standing_after}
 use Rattle.replica.proofs.Logging.{logs-at}
+use Rattle.replica.proofs.Sized.{certified-of}
 use Rattle.admission.specs.Inputs.{input_of}
 use Rattle.replica.proofs.WholeSteps.{goes-on, kept-from, stepped-from, stepped-not, grows-from}
 use Rattle.replica.proofs.replica.Replica.step_into.Goals as goal
@@ -22,6 +23,13 @@ returns-then-not-is_running-clause-stepped g c =
     r.state.variables.chronicle r.standing (length r.executor.history)
     (ap (λ (h : Held). h.replica) (sym c.self.view_is))
     (sym c.if-not-is_running.ensures)
+
+pub advance-taken-requires-clause-certified : goal.advance-taken-requires-clause-certified
+advance-taken-requires-clause-certified g c =
+    let r = c.self.inside in
+    let whole = c.self.invariant.0 in
+    subst (λ (v : Variables). AreCertified r.keyring.sizes v) (sym whole.state.same)
+    (certified-of r.keyring r.state.variables.chronicle whole.sized)
 
 pub invariant_of-self : goal.invariant_of-self
 invariant_of-self g c =

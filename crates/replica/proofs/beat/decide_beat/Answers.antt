@@ -1,0 +1,12 @@
+use Rattle.std.proofs.Common.{sym, subst, Option}
+use Rattle.std.specs.Option.{option_or}
+use Rattle.replica.specs.Kept.{Own, IsFitOwn}
+use Rattle.replica.proofs.Sized.{made-sized}
+use Rattle.replica.proofs.beat.decide_beat.Goals as goal
+
+pub last_out-requires-clause-certified : goal.last_out-requires-clause-certified
+last_out-requires-clause-certified c =
+    let keys = c.args.keyring.now in
+    let s = c.args.state.now in
+    subst (λ (o : Option Own). IsFitOwn keys.sizes (option_or o s.variables.own))
+    (sym c.in_ok-made.ensures.made) (made-sized keys s c.requires.certified)
