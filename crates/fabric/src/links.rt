@@ -94,7 +94,7 @@ fn client_links(alloc: Global, config: Config) -> Result<(Vec<ClientStart>, Vec<
     let mut ends = Vec::with_capacity(alloc, count)?;
     for _ in 0..count {
         let counters = counters(alloc, usize::from(config.n()))?;
-        let (start, end) = client_link(alloc, counters)?;
+        let (start, end) = client_link(alloc, counters, config.faults())?;
         links.push_reserved(start);
         ends.push_reserved(end);
     }
