@@ -3,8 +3,8 @@
 use frames_view::{
     CertificateBuf, CertificateView, CommandView, CoreBuf, CoreView, Frame, Payload, ReplyText,
     ReplyView, version, write_block, write_certificate, write_certified_vote, write_command,
-    write_core, write_fetch, write_new_view, write_proposal, write_reply_frame, write_request_frame,
-    write_vote,
+    write_core, write_fetch, write_new_view, write_proposal, write_reply_frame,
+    write_request_frame, write_vote,
 };
 use ids::{Digest, Fault, VERSION_TWO};
 use std::alloc::Global;
