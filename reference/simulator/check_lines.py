@@ -35,7 +35,7 @@ def in_brackets(voters):
 
 
 def checked(keyring, data):
-    """What the check of bytes says, and of a certificate in them alone."""
+    """What the check of bytes says, and of a certificate in them alone, with what of it is passed on."""
     try:
         frame = frames.read(keyring.config, data)
     except Refusal as refusal:
@@ -45,7 +45,12 @@ def checked(keyring, data):
     whole = said(lambda: passed(frame, checks.check(keyring, frame), keyring))
     if not hasattr(frame, "cert"):
         return whole
-    return whole + " alone " + said(lambda: in_brackets(checks.check_certificate(keyring, frame.cert)))
+    return whole + " alone " + said(lambda: alone(keyring, frame.cert))
+
+
+def alone(keyring, cert):
+    voters = in_brackets(checks.check_certificate(keyring, cert))
+    return voters + in_brackets(vote.voter for vote in checks.cut(keyring, cert).votes)
 
 
 def said(check):

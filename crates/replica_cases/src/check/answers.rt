@@ -4,7 +4,7 @@
 //! tag or certificate; or `ok`. Behind `ok` stand, in brackets, the voters of its certificate whose
 //! tags verify, where it has one, and `clear` or `unclear`, where it has a block. Then, of each
 //! frame that has a certificate, what the check of this alone says: `alone`, and the number of its
-//! refusal or the voters in brackets.
+//! refusal or the voters in brackets, and in brackets those of the votes that are passed on.
 
 ghost use Rattle.std.specs.Prelude.{◌≡◌, ◌<◌};
 ghost use Rattle.ids.specs.Sizes.{replicas};
@@ -84,7 +84,16 @@ fn tell_alone(ring: &Keyring, certificate: &CertificateView, text: &mut String) 
     requires certificate { IsCertificate ring.now.sizes (certificate_of certificate.now) }
 {
     text.push_str(" alone ")?;
-    tell_certified(check_cert(ring, &ring.config(), certificate), text)
+    let Some(checked) = passed(check_cert(ring, &ring.config(), certificate), text)? else {
+        return Ok(());
+    };
+    tell_voters(checked.counted(), text)?;
+    text.push_str(" [")?;
+    for vote in checked.cut() {
+        write!(text, " {}", vote.voter().0)?;
+    }
+    text.push_str(" ]")?;
+    Ok(())
 }
 
 /// What the check of bytes says, under the keys of a replica.
