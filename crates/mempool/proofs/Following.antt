@@ -62,7 +62,7 @@ due-after e h r = by (e.client == r.client)
     by false = and-true _
 
 -- two tests in one
-filter-both : {A : Type 0} (p q : A → Bool) (xs : List A)
+pub filter-both : {A : Type 0} (p q : A → Bool) (xs : List A)
     → filter (λ x. p x && q x) xs ≡ filter q (filter p xs)
 filter-both p q [] = refl
 filter-both p q (x ∷ xs) = by (p x) (filter-both p q xs)
@@ -132,7 +132,7 @@ module _ (c : Chronicle) (r : Command) where
         ∙ same_branches (list_any (is_same_request r) (pending c)) (pending c);
   }
 
-any-mapped : {A B : Type 0} (f : A → B) (p : B → Bool) (xs : List A)
+pub any-mapped : {A B : Type 0} (f : A → B) (p : B → Bool) (xs : List A)
     → list_any p (map f xs) ≡ list_any (λ x. p (f x)) xs
 any-mapped f p [] = refl
 any-mapped f p (x ∷ xs) = ap (λ b. p (f x) || b) (any-mapped f p xs)

@@ -1,3 +1,4 @@
 pub mod Following
 mod Keyed
+mod Overtaking
 mod Picking

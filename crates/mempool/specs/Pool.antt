@@ -26,6 +26,10 @@ is_of client seq r = (client == r.client) && (seq == r.seq)
 abbrev pub is_up_to : ℕ → ℕ → Command → Bool
 is_up_to client seq r = (client == r.client) && nat_le r.seq seq
 
+-- whether one of these commands is its client's, and has its number or a greater one
+abbrev pub is_overtaken : List Command → Command → Bool
+is_overtaken executed r = list_any (λ k. is_up_to k.client k.seq r) executed
+
 -- whether its client and number are among these
 abbrev pub stands_among : List (ℕ × ℕ) → Command → Bool
 stands_among on r = list_any (λ e. (e.0 == r.client) && (e.1 == r.seq)) on

@@ -6,11 +6,14 @@ ghost use Rattle.std.specs.Prelude.{OnOk, OnErr};
 ghost use Rattle.std.specs.List.{list_any};
 ghost use Rattle.definitions.specs.Chronicles.{Step.noted, Note.got_request};
 ghost use Rattle.definitions.specs.States.{is_same_request, with_request};
-ghost use Rattle.frames_view.specs.Views.{command_of};
-ghost use Rattle.mempool.specs.Pool.{is_of, is_up_to, stands_among, planned_for, first_beside};
+ghost use Rattle.std.specs.Prelude.{reverse};
+ghost use Rattle.definitions.specs.Histories.{entry_of};
+ghost use Rattle.frames_view.specs.Views.{command_of, commands_left};
+ghost use Rattle.mempool.specs.Pool.{is_of, is_overtaken, is_up_to, left_after, stands_among, planned_for};
+ghost use Rattle.mempool.specs.Pool.{first_beside};
 
 use crate::pending::Pending;
-use frames_view::CommandView;
+use frames_view::{CommandView, Commands};
 use ids::{ClientId, Fault, MOST_COMMANDS, MOST_PENDING, Seq};
 use indexmap::IndexMap;
 use std::alloc::Global;
@@ -110,6 +113,19 @@ impl Mempool {
             |_key: &(ClientId, Seq), request: &mut Pending| -> bool
                 ensures { (result ≡ not (is_up_to client seq request.old)) × (request.new ≡ request.old) }
             { !request.is_up_to(client, seq) },
+        );
+    }
+
+    /// Lets all requests go that these executed commands answer or overtake, as `drop_executed` called for
+    /// each of them in order. It passes over the requests once, and takes no memory.
+    pub fn drop_all_executed(&mut self, executed: Commands<'_>)
+        ensures { self.new ≡ left_after (reverse (map entry_of (commands_left executed.entry))) self.old }
+    {
+        self.requests.retain(
+            |_key: &(ClientId, Seq), request: &mut Pending| -> bool
+                ensures { (result ≡ not (is_overtaken (commands_left executed.entry) request.old))
+                    × (request.new ≡ request.old) }
+            { !request.is_overtaken(executed) },
         );
     }
 

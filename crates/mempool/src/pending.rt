@@ -2,11 +2,11 @@
 
 ghost use Rattle.std.specs.Prelude.{◌≡◌, length, IfOk, OnErr};
 ghost use Rattle.definitions.specs.Frames.{command_bytes};
-ghost use Rattle.frames_view.specs.Views.{command_of};
-ghost use Rattle.mempool.specs.Pool.{is_of, is_up_to, stands_among};
+ghost use Rattle.frames_view.specs.Views.{command_of, commands_left};
+ghost use Rattle.mempool.specs.Pool.{is_of, is_overtaken, is_up_to, stands_among};
 
 use appending::append;
-use frames_view::CommandView;
+use frames_view::{CommandView, Commands};
 use ids::{ClientId, Fault, Seq};
 use std::alloc::Global;
 use std::marker::Model;
@@ -83,6 +83,18 @@ impl Pending {
         ensures { result ≡ is_up_to client seq self.now }
     {
         client == self.client && self.seq <= seq
+    }
+
+    /// Whether one of these commands is its client's, and has its number or a greater one.
+    pub(crate) fn is_overtaken(&self, executed: Commands<'_>) -> bool
+        ensures { result ≡ is_overtaken (commands_left executed.entry) self.now }
+    {
+        for command in executed {
+            if self.is_up_to(command.client(), command.seq()) {
+                return true;
+            }
+        }
+        false
     }
 
     /// Whether its client and number are among these.

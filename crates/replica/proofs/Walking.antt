@@ -9,7 +9,7 @@ use Rattle.definitions.specs.Bytes.{Bytes}
 use Rattle.definitions.specs.Frames.{Command, command_bytes}
 use Rattle.definitions.specs.Histories.{Entry, entry_of, History}
 use Rattle.definitions.specs.Trees.{TreeState}
-use Rattle.mempool.specs.Pool.{is_up_to, left_after, first_beside, stands_among}
+use Rattle.mempool.specs.Pool.{first_beside, stands_among}
 use Rattle.executor.specs.State.{with_commands}
 use Rattle.replica.specs.Picks.{key_of, keys_of}
 use Rattle.replica.specs.Execution.{commands_at, history_above}
@@ -35,21 +35,6 @@ pub over-all : {A : Type 0} (all left : List Command) (f : List Command → A) (
     → IsOver all left f now → left ≡ [] → now ≡ f all
 over-all all left f now o e =
     o.2 ∙ ap f (sym (append-nil o.0) ∙ ap (λ (x : List Command). o.0 ++ x) (sym e) ∙ o.1)
-
--- one command more
-pub last-entry : (done : List Command) (k : Command)
-    → reverse (map entry_of (done ++ k ∷ [])) ≡ entry_of k ∷ reverse (map entry_of done)
-last-entry done k =
-    ap reverse (map-append entry_of done (k ∷ [])) ∙ reverse-append (map entry_of done) (entry_of k ∷ [])
-
-pub forgets-next : (waits now new : List Command) (done : List Command) (k : Command)
-    → now ≡ left_after (reverse (map entry_of done)) waits
-    → new ≡ filter (λ r. not (is_up_to k.client k.seq r)) now
-    → new ≡ left_after (reverse (map entry_of (done ++ k ∷ []))) waits
-unfolding left_after
-forgets-next waits now new done k n e =
-    e ∙ ap (filter (λ r. not (is_up_to k.client k.seq r))) n
-    ∙ ap (λ (h : History). left_after h waits) (sym (last-entry done k))
 
 pub puts-next : (old now new : List (ℕ × ℕ)) (done : List Command) (k : Command)
     → now ≡ old ++ map key_of done → new ≡ now ++ key_of k ∷ [] → new ≡ old ++ map key_of (done ++ k ∷ [])

@@ -7,7 +7,6 @@ ghost use Rattle.ids.specs.Sizes.{replicas};
 ghost use Rattle.definitions.specs.Histories.{entry_of};
 ghost use Rattle.mempool.specs.Pool.{left_after};
 ghost use Rattle.replica.specs.Kept.{waiting, tree_of};
-ghost use Rattle.frames_view.specs.Views.{commands_left};
 ghost use Rattle.executor.specs.State.{with_commands, new_answers};
 ghost use Rattle.signed_frames.specs.Outs.{sent_of};
 ghost use Rattle.replica.specs.Execution.{history_above, IsCutIn, IsCut, told_one, told};
@@ -18,7 +17,6 @@ use authenticators::Keyring;
 use block_tree::{Node, Tree};
 use executor::{Answer, Executor, Ledger};
 use frame_writers::ReplyText;
-use frames_view::Commands;
 use ids::{Digest, Fault, Height, Kind};
 use mempool::Mempool;
 use signed_frames::{Out, Sending, To, reply_frame};
@@ -85,15 +83,6 @@ fn tell(alloc: Global, keyring: &Keyring, answers: &[Answer], out: &mut Out) -> 
     Ok(())
 }
 
-/// What was executed waits no more, nor does what its client asked before.
-fn forget(pool: &mut Mempool, commands: Commands<'_>)
-    ensures { pool.new ≡ left_after (reverse (map entry_of (commands_left commands.entry))) pool.old }
-{
-    for command in commands {
-        pool.drop_executed(command.client(), command.seq());
-    }
-}
-
 /// Executes the commands of a block, which wait no more then, writes them down, and sends the replies.
 /// Where memory is refused, some of them were executed.
 fn execute_block<L: Ledger>(
@@ -120,7 +109,7 @@ fn execute_block<L: Ledger>(
         executor.new.history pool.old pool.new) }
 {
     let answers = executor.run_block(block.core().commands(), ledger)?;
-    forget(pool, block.core().commands());
+    pool.drop_all_executed(block.core().commands());
     tell(alloc, keyring, &answers, out)
 }
 

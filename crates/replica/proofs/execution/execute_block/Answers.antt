@@ -27,6 +27,6 @@ returns-clause-cut g c =
           (sym (take_all (length all) all (omega arith)));
       in_part = λ k. absurd (omega (arith, k));
       whole =
-          λ e. c.forget.ensures
+          λ e. c.drop_all_executed.ensures
           ∙ ap (λ (x : List Command). left_after (reverse (map entry_of x)) c.args.pool.now) again;
     })
