@@ -1,6 +1,7 @@
 //! Who brings which block.
 
-ghost use Rattle.std.specs.Prelude.{◌≡◌, ◌<◌};
+ghost use Rattle.std.specs.Prelude.{◌≡◌, ◌<◌, IfSome};
+ghost use Rattle.ids.specs.declared.limits.TheConstants.{MOST_REPLICAS};
 ghost use Rattle.admission.specs.Inputs.{input_of};
 
 use admission::Input;
@@ -27,8 +28,11 @@ ghost use Rattle.doorkeeper.specs.Doors.{brings, most_of_each};
 
 /// The block that an input brings, if it brings one.
 pub fn brings(config: &Config, input: &Input<'_>) -> Option<Brought>
-    ensures { result ≡ brings config.now (input_of input.now) }
+    ensures brings { result ≡ brings config.now (input_of input.now) }
+    ensures sender { IfSome result (λ b. b.sender < MOST_REPLICAS) }
 {
+    // There are at most 31.
+    let _replicas = config.n();
     match input {
         Input::Proposal(proposal) => {
             let view = proposal.view();
@@ -38,6 +42,7 @@ pub fn brings(config: &Config, input: &Input<'_>) -> Option<Brought>
             })
         }
         Input::Block(block) => {
+            let _replicas = block.config().n();
             let view = block.view();
             Some(Brought {
                 height: view.core().height(),
