@@ -13,7 +13,7 @@ use crate::certificate::vote_verifies;
 use crate::checked::Checked;
 use authenticators::Keyring;
 use frames_view::{CertificateView, VoteView, Votes, write_certificate, write_certified_vote};
-use ids::{Digest, Fault};
+use ids::{Config, Digest, Fault};
 use std::alloc::Global;
 use std::marker::Model;
 
@@ -119,6 +119,11 @@ impl<'a> Checked<'a, CertificateView<'a>> {
     }
 }
 
+/// How many bytes a quorum of votes takes in a certificate.
+fn quorum_len(config: &Config) -> usize {
+    usize::from(config.quorum()).saturating_mul(2 + 32 * usize::from(config.n()))
+}
+
 /// Appends the bytes of these votes, and tells how many they are.
 fn write_votes(votes: CutVotes<'_>, out: &mut Vec<u8>) -> Result<u8, Fault>
     requires few { length votes < 256 }
@@ -148,6 +153,7 @@ pub fn cut_bytes(
     ensures memory { OnErr result (result ≡ Err Fault.Memory) }
 {
     let mut votes = Vec::new(alloc);
+    votes.reserve(quorum_len(&keyring.config()))?;
     let count = write_votes(cut(keyring, certificate), &mut votes)?;
     let mut bytes = Vec::new(alloc);
     write_certificate(&Digest(*certificate.digest()), count, &votes, &mut bytes)?;

@@ -23,7 +23,7 @@ use std::time::{Clock, Duration, Instant};
 const PERIOD_MILLIS: u64 = 10;
 
 /// How often a worker looks whether something came, before it sleeps.
-const LOOKS: u32 = 250;
+const LOOKS: u32 = 100;
 
 /// In which row a parcel waits, and whether it is a client's request.
 #[derive(Clone, Copy)]

@@ -7,17 +7,19 @@ ghost use Rattle.definitions.specs.Frames.{frame_text};
 ghost use Rattle.definitions.specs.Keyrings.{keyring_of, is_peer, tag_for, vector_for};
 ghost use Rattle.appending.specs.Joined.{joined};
 
-use appending::append;
+use appending::{add_len, add_parts_len, append};
 use authenticators::Keyring;
 use ids::{Fault, HEAD_LEN, Kind, PartyId, VERSION_TWO};
 use std::alloc::Global;
 
-/// The head and the parts, as a frame of version 2 begins.
-fn begun(alloc: Global, kind: Kind, parts: &[&[u8]]) -> Result<Vec<u8>, Fault>
+/// The head and the parts, as a frame of version 2 begins. The room for them and for so many bytes of tags
+/// is taken at once.
+fn begun(alloc: Global, kind: Kind, parts: &[&[u8]], tags: usize) -> Result<Vec<u8>, Fault>
     ensures made { IfOk result (λ frame. frame.items ≡ VERSION_TWO ∷ kind_number kind ∷ joined parts.now) }
     ensures memory { OnErr result (result ≡ Err Fault.Memory) }
 {
     let mut frame = Vec::new(alloc);
+    frame.reserve(add_parts_len(add_len(HEAD_LEN, tags)?, parts)?)?;
     append(&mut frame, &[&[VERSION_TWO, kind.number()]])?;
     append(&mut frame, parts)?;
     Ok(frame)
@@ -35,7 +37,7 @@ pub(crate) fn signed_for_all(
         (vector_for keyring.now.sizes (keyring_of keyring.now) kind (joined parts.now))) }
     ensures memory { OnErr result (result ≡ Err Fault.Memory) }
 {
-    let mut frame = begun(alloc, kind, parts)?;
+    let mut frame = begun(alloc, kind, parts, 32 * usize::from(keyring.config().n()))?;
     let mut tags = Vec::new(alloc);
     keyring.vector(kind, &frame[HEAD_LEN..], &mut tags)?;
     append(&mut frame, &[&tags])?;
@@ -56,7 +58,7 @@ pub(crate) fn signed_for(
         (tag_for (keyring_of keyring.now) kind to (joined parts.now))) }
     ensures memory { OnErr result (result ≡ Err Fault.Memory) }
 {
-    let mut frame = begun(alloc, kind, parts)?;
+    let mut frame = begun(alloc, kind, parts, 32)?;
     let tag = keyring.tag(kind, to, &frame[HEAD_LEN..]);
     append(&mut frame, &[&tag])?;
     Ok(frame)

@@ -1,4 +1,4 @@
-ghost use Rattle.std.specs.Prelude.{◌≡◌, length, IfOk, OnErr, Err};
+ghost use Rattle.std.specs.Prelude.{◌≡◌, Bool, length, IfOk, OnErr, Err};
 ghost use Rattle.ids.specs.declared.fault.Fault.TheVariants.{Memory};
 
 use client_service::{ClientService, Link};
@@ -13,11 +13,18 @@ use std::sync::{Mutex, Wait};
 
 /// A service that can serve one connection after the other.
 pub trait Seat: Service {
+    // whether it can serve no further connection
+    ghost lost: { Self → Bool };
+
     /// Whether it can serve no further connection.
-    fn is_lost(&self) -> bool;
+    fn is_lost(&self) -> bool
+        ensures { result ≡ lost self.now };
 }
 
+/// It is lost where a request was given up, which may still be executed.
 impl<L: Link> Seat for ClientService<L> {
+    ghost lost = { λ service. service.session.session.waiting };
+
     fn is_lost(&self) -> bool {
         self.is_waiting()
     }

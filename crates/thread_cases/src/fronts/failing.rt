@@ -56,6 +56,10 @@ impl Service for Patient<'_> {
 }
 
 impl Seat for Patient<'_> {
+    ghost use Rattle.std.specs.Prelude.{false};
+
+    ghost lost = { λ seat. false };
+
     fn is_lost(&self) -> bool {
         false
     }
