@@ -7,6 +7,8 @@ import sys
 import tempfile
 import time
 import urllib.request
+from importlib.machinery import SourceFileLoader
+from importlib.util import module_from_spec, spec_from_loader
 
 LOAD, PROGRAM, KEYS = sys.argv[1:4]
 CONNECTIONS = [int(word) for word in sys.argv[4:]] or [1, 8, 64]
@@ -24,6 +26,14 @@ def load(kind, place, connections, length, gets):
     return [float(word) for word in run.stdout.split()]
 
 
+def script(name):
+    """A script beside this one, as a module."""
+    spec = spec_from_loader(name, SourceFileLoader(name, os.path.join(os.path.dirname(os.path.realpath(__file__)), name)))
+    module = module_from_spec(spec)
+    spec.loader.exec_module(module)
+    return module
+
+
 class Server:
     def __init__(self, name, kind, place, processes):
         self.name, self.kind, self.place, self.processes = name, kind, place, processes
@@ -34,9 +44,20 @@ class Server:
             process.wait()
 
     def resident(self):
-        """Bytes of resident memory."""
-        with open(f"/proc/{self.processes[0].pid}/statm") as file:
-            return int(file.read().split()[1]) * os.sysconf("SC_PAGE_SIZE")
+        """Bytes of resident memory, of all its processes."""
+        pages = 0
+        for process in self.processes:
+            with open(f"/proc/{process.pid}/statm", encoding="ascii") as file:
+                pages += int(file.read().split()[1])
+        return pages * os.sysconf("SC_PAGE_SIZE")
+
+    def bound(self, connections, gets):
+        """How many commands a second the processors could hash for it; None where it doesn't hash, and without perf."""
+        if not self.name.startswith("mcbft"):
+            return None
+        with tempfile.TemporaryDirectory() as folder:
+            seconds = int(SECONDS.rstrip("s"))
+            return script("meter").bound(self.processes[0].pid, self.place, connections, seconds, folder, gets)
 
 
 def mcbft(*more):
@@ -75,17 +96,19 @@ def etcd(folder):
 
 
 def compare(servers):
-    print("server         connections gets a set commands/s   p50 us   p99 us wrong")
+    print("server         connections gets a set commands/s   p50 us   p99 us wrong     MB hash bound reached")
     for connections, gets in [(c, 3) for c in CONNECTIONS] + [(CONNECTIONS[-1], 0)]:
         seen = {server.name: [] for server in servers}
         for _ in range(TURNS):
             for server in servers:
                 seen[server.name].append(load(server.kind, server.place, connections, SECONDS, gets))
-        for name, runs in seen.items():
+        for server in servers:
+            runs, memory = seen[server.name], server.resident() / 1e6
             rate, half, most = (statistics.median(run[k] for run in runs) for k in range(3))
             wrong = sum(run[4] for run in runs)
-            line = f"{name:14} {connections:11} {gets:10} {rate:10.0f} {half:8.0f} {most:8.0f}"
-            print(f"{line} {wrong:5.0f}", flush=True)
+            line = f"{server.name:14} {connections:11} {gets:10} {rate:10.0f} {half:8.0f} {most:8.0f} {wrong:5.0f} {memory:6.0f}"
+            bound = server.bound(connections, gets)
+            print(line + (f" {bound:10.0f} {rate / bound:7.2f}" if bound else ""), flush=True)
 
 
 def rates_of_a_long_run(words):

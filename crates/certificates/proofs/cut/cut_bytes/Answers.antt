@@ -15,4 +15,5 @@ returns-clause-made c =
     ∙ cut_text (identity_of c.args.keyring.now) (certificate_of c.args.certificate.now) _ _ c.cut.result _
     c.digest.ensures.value c.cut.ensures.votes c.in_ok-count.ensures.count
     (c.deref.ensures.value ∙ c.in_ok-count.ensures.bytes
-    ∙ ap (λ (l : Bytes). l ++ flat_map vote_bytes c.cut.result) c.new-votes.ensures.items)
+    ∙ ap (λ (l : Bytes). l ++ flat_map vote_bytes c.cut.result)
+    (c.reserve.ensures.items ∙ c.new-votes.ensures.items))
