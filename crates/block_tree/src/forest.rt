@@ -19,6 +19,7 @@ use ghost_list::GhostList;
 use ids::{Digest, Fault, Height};
 use std::alloc::Global;
 use std::collections::VecDeque;
+use std::hash::RandomState;
 use std::marker::Model;
 
 /// A block that stands, with its links.
@@ -59,7 +60,7 @@ impl Model for Forest {
 
 impl Forest {
     /// Genesis alone. It takes no memory.
-    pub(crate) fn new(alloc: Global) -> Forest
+    pub(crate) fn new(alloc: Global, hasher: RandomState) -> Forest
         ensures { result ≡ record { horizon = 0; first = 1; all = [] } }
     {
         Forest {
@@ -67,7 +68,7 @@ impl Forest {
             horizon: Height(0),
             first: 1,
             entries: VecDeque::new(alloc),
-            index: Index::new(alloc),
+            index: Index::new(alloc, hasher),
             all: GhostList::new(),
         }
     }

@@ -5,24 +5,25 @@ ghost use Rattle.std.specs.Str.{bytes_eq};
 
 use ids::{Digest, Fault};
 use std::alloc::Global;
-use std::collections::BTreeMap;
+use std::collections::HashMap;
+use std::hash::RandomState;
 
-/// The number of each block that was entered.
+/// The number of each block that was entered. Its hash is keyed, so that nobody can choose digests that collide.
 #[derive(Drop)]
 pub(crate) struct Index {
-    numbers: BTreeMap<Digest, u64>,
+    numbers: HashMap<Digest, u64, RandomState>,
 }
 
 impl Index {
     ghost use Rattle.definitions.specs.Bytes.{Bytes};
     ghost use Rattle.block_tree.specs.Indexed.{number_of, other_than};
 
-    /// No block.
-    pub(crate) fn new(alloc: Global) -> Index
+    /// No block. It takes no memory.
+    pub(crate) fn new(alloc: Global, hasher: RandomState) -> Index
         ensures { (d : Bytes) → number_of result d ≡ None }
     {
         Index {
-            numbers: BTreeMap::new(alloc),
+            numbers: HashMap::with_hasher(alloc, hasher),
         }
     }
 

@@ -8,6 +8,7 @@ use crate::counts::Counts;
 use crate::forest::Forest;
 use ids::Height;
 use std::alloc::Global;
+use std::hash::RandomState;
 use std::marker::Model;
 
 /// Blocks, each with its certificate and its clear mark, on branches that begin at genesis.
@@ -35,15 +36,16 @@ impl Model for Tree {
 }
 
 impl Tree {
-    /// Genesis alone, with room for so many blocks. It takes no memory.
-    pub fn new(alloc: Global, most: usize) -> Tree
+    /// Genesis alone, with room for so many blocks, which are found by digest with this hasher. It takes no
+    /// memory.
+    pub fn new(alloc: Global, most: usize, hasher: RandomState) -> Tree
         requires { (1 ≤ most) × (most ≤ MOST_BLOCKS) }
         ensures { result ≡ record { most = most; horizon = 0; stored = [] } }
     {
         Tree {
             alloc,
             most,
-            forest: Forest::new(alloc),
+            forest: Forest::new(alloc, hasher),
             counts: Counts::new(alloc),
         }
     }

@@ -199,7 +199,7 @@ fn advance<S: StepLog, L: Ledger>(
 }
 
 /// The state of a replica that has made no step.
-fn first_state(alloc: Global, config: Config) -> State
+fn first_state(alloc: Global, config: Config, hasher: RandomState) -> State
     ensures { (keys : Keys) → keys.sizes ≡ config → IsStateOf keys [] result }
 {
     let high = High {
@@ -208,7 +208,7 @@ fn first_state(alloc: Global, config: Config) -> State
     };
     State {
         alloc,
-        tree: Tree::new(alloc, MOST_BLOCKS),
+        tree: Tree::new(alloc, MOST_BLOCKS, hasher),
         rules: Rules::new(),
         high,
         leaf: BlockRef::genesis(),
@@ -241,7 +241,7 @@ impl Replica {
         let executor = Executor::new(alloc, config.most_keys(), hasher)?;
         Ok(Replica {
             keyring,
-            state: first_state(alloc, config),
+            state: first_state(alloc, config, hasher),
             executor,
             standing: Standing::Running,
         })

@@ -38,7 +38,7 @@ fn case_told(alloc: Global, known: &mut Known, line: &str) -> Result<String> {
         bail!("a case without a subject");
     };
     match subject {
-        "tree" => Ok(tree::tell(alloc, &mut known.blocks, case)?),
+        "tree" => Ok(tree::tell(alloc, known.hasher, &mut known.blocks, case)?),
         "check" => Ok(check::tell(alloc, case)?),
         "step" => Ok(step::tell(alloc, known.hasher, case)?),
         "execute" => Ok(execute::answer(alloc, &known.config, &mut known.parts, case)?),
@@ -59,8 +59,8 @@ fn tell_all(rt: &HostRuntime, known: &mut Known) -> Result<()> {
 
 fn main(rt: HostRuntime) -> Result<()> {
     let config = Config::new(1, 8)?;
-    let blocks = tree_of(rt.alloc(), 1)?;
     let hasher = RandomState::new(&rt)?;
+    let blocks = tree_of(rt.alloc(), hasher, 1)?;
     let parts = Parts::new(rt.alloc(), MOST_KEYS, hasher)?;
     let mut known = Known {
         config,

@@ -29,14 +29,20 @@ use crate::tree::blocks::{Blocks, number, tree_of};
 use crate::tree::printed::printed;
 use ids::Fault;
 use std::alloc::Global;
+use std::hash::RandomState;
 
 /// What is told of a case.
-pub(crate) fn tell(alloc: Global, blocks: &mut Blocks, input: &str) -> Result<String, Fault> {
+pub(crate) fn tell(
+    alloc: Global,
+    hasher: RandomState,
+    blocks: &mut Blocks,
+    input: &str,
+) -> Result<String, Fault> {
     let (word, rest) = input.split_once(' ').unwrap_or((input, "0"));
     match word {
         "printed" => printed(alloc, rest),
         "tree" => {
-            *blocks = tree_of(alloc, number(rest)?)?;
+            *blocks = tree_of(alloc, hasher, number(rest)?)?;
             Ok(String::new(alloc))
         }
         _ => blocks.answer(word, rest),

@@ -6,6 +6,7 @@ use frames_view::{Frame, genesis_digest, read};
 use ids::{Config, Digest, Fault, Height, MOST_BLOCKS, ReplicaId};
 use replica_rules::{BlockRef, Rules};
 use std::alloc::Global;
+use std::hash::RandomState;
 
 /// A Block frame without commands, for four replicas.
 fn block(
@@ -199,13 +200,13 @@ impl Blocks {
 }
 
 /// A tree of genesis alone, with room for so many blocks.
-pub(crate) fn tree_of(alloc: Global, most: u64) -> Result<Blocks, Fault> {
+pub(crate) fn tree_of(alloc: Global, hasher: RandomState, most: u64) -> Result<Blocks, Fault> {
     if most == 0 || most > MOST_BLOCKS as u64 {
         return Err(Fault::BadSize);
     }
     Ok(Blocks {
         alloc,
-        tree: Tree::new(alloc, most as usize),
+        tree: Tree::new(alloc, most as usize, hasher),
         rules: Rules::new(),
         digests: vec![in alloc; genesis_digest()]?,
     })

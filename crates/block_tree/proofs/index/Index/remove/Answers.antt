@@ -2,7 +2,6 @@ use Rattle.std.proofs.Common.{◌≡◌, ℕ, Bool, true, false, cond, Option, N
 use Rattle.std.proofs.Common.{bytes_eq}
 use Rattle.std.specs.Option.{option_eq}
 use Rattle.std.proofs.lemmas.Bool.{eq-eqb, eqb-true, cond-true}
-use Rattle.std.proofs.lemmas.Map.Text.{is_eq-slice_cmp}
 use lib.Dec.{eqb}
 use Rattle.definitions.specs.Bytes.{Bytes}
 use Rattle.definitions.proofs.Trees.{same_bytes}
@@ -24,7 +23,6 @@ without i a d n is false e = refl
 pub returns-then-eq : goal.returns-then-eq
 returns-then-eq c d =
     c.remove.ensures.updates.0 d
-    ∙ (ap (λ (b : Bool). cond b None (number_of c.args.self.now d)) (is_eq-slice_cmp c.args.digest.now d)
     ∙ without c.args.self.now c.args.digest.now d c.args.number
     (sym c.get.ensures ∙ is_number c.get.result c.args.number (sym c.eq.ensures ∙ c.if-eq.true))
-    (bytes_eq c.args.digest.now d) refl)
+    (bytes_eq c.args.digest.now d) refl
