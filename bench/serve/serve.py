@@ -26,17 +26,22 @@ def load(kind, place, connections, length, gets):
     return [float(word) for word in run.stdout.split()]
 
 
-def script(name):
-    """A script beside this one, as a module."""
-    spec = spec_from_loader(name, SourceFileLoader(name, os.path.join(os.path.dirname(os.path.realpath(__file__)), name)))
+def beside(name):
+    """The script of this name beside this one, as a module."""
+    path = os.path.join(os.path.dirname(os.path.realpath(__file__)), name)
+    spec = spec_from_loader(name, SourceFileLoader(name, path))
     module = module_from_spec(spec)
     spec.loader.exec_module(module)
     return module
 
 
+METER = beside("meter")
+
+
 class Server:
-    def __init__(self, name, kind, place, processes):
+    def __init__(self, name, kind, place, processes, hashes=False):
         self.name, self.kind, self.place, self.processes = name, kind, place, processes
+        self.hashes = hashes            # whether it is SHA-256 that bounds it
 
     def stop(self):
         for process in self.processes:
@@ -53,17 +58,17 @@ class Server:
 
     def bound(self, connections, gets):
         """How many commands a second the processors could hash for it; None where it doesn't hash, and without perf."""
-        if not self.name.startswith("mcbft"):
+        if not self.hashes:
             return None
         with tempfile.TemporaryDirectory() as folder:
             seconds = int(SECONDS.rstrip("s"))
-            return script("meter").bound(self.processes[0].pid, self.place, connections, seconds, folder, gets)
+            return METER.bound(self.processes[0].pid, self.place, connections, seconds, folder, gets)
 
 
 def mcbft(*more):
     words = [PROGRAM, "--keys", KEYS, "--clients", str(CLIENTS), *more]
     process = subprocess.Popen(words, stdout=subprocess.PIPE, text=True)
-    return Server("mcbft, f = 1", "memcached", process.stdout.readline().split()[-1], [process])
+    return Server("mcbft, f = 1", "memcached", process.stdout.readline().split()[-1], [process], hashes=True)
 
 
 def memcached():
