@@ -6,11 +6,16 @@
 //! tests nothing: what it writes is a frame where they are.
 #![tactic(auto)]
 
+mod begun;
 mod big_endian;
 mod bounded;
 mod frames;
 mod parts;
 
+pub use begun::{
+    begin_block, begin_fetch, begin_new_view, begin_proposal, begin_reply, begin_request,
+    begin_vote,
+};
 pub use big_endian::{in_eight, in_four, in_two};
 pub use bounded::{Bounded, Payload, ReplyText};
 pub use frames::{

@@ -5,14 +5,14 @@ ghost use Rattle.ids.specs.Sizes.{replicas};
 ghost use Rattle.ids.specs.Numbers.{kind_number};
 ghost use Rattle.ids.specs.declared.kind.Kind.TheVariants as kind;
 ghost use Rattle.definitions.specs.Frames.{vote, frame_text, proposal_text, new_view_text, spelling};
-ghost use Rattle.definitions.specs.Keyrings.{keyring_of, vector_for, is_client_of};
+ghost use Rattle.definitions.specs.Keyrings.{keyring_of, vector_for, is_client_of, client_at};
 ghost use Rattle.definitions.specs.Sessions.{request_frame};
 ghost use Rattle.signed_frames.specs.Clients.{client_of};
 
-use crate::signed::signed_for_all;
+use crate::signed::{signed_for_all, vector_len};
 use authenticators::Keyring;
-use frame_writers::{Payload, in_eight, in_two, write_vote};
-use ids::{Digest, Fault, Kind, Seq, View};
+use frame_writers::{Payload, begin_new_view, begin_proposal, begin_request, begin_vote};
+use ids::{ClientId, Digest, Fault, Kind, Seq, View};
 use std::alloc::Global;
 
 /// The vote for a block. Its tags speak of the block's digest alone, so that they stand in a
@@ -26,10 +26,9 @@ pub fn vote_frame(alloc: Global, keyring: &Keyring, block: &Digest) -> Result<Ve
         }))) }
     ensures memory { OnErr result (result ≡ Err Fault.Memory) }
 {
-    let mut vector = Vec::new(alloc);
-    keyring.vector(Kind::Vote, &block.0, &mut vector)?;
     let mut frame = Vec::new(alloc);
-    write_vote(block, keyring.replica(), &vector, &mut frame)?;
+    begin_vote(block, keyring.replica(), vector_len(keyring), &mut frame)?;
+    keyring.vector(Kind::Vote, &block.0, &mut frame)?;
     Ok(frame)
 }
 
@@ -47,8 +46,9 @@ pub fn proposal_frame<'a>(
         (vector_for keyring.now.sizes (keyring_of keyring.now) kind.Proposal content)) }
     ensures memory { OnErr result (result ≡ Err Fault.Memory) }
 {
-    let view = in_eight(view.0);
-    signed_for_all(alloc, keyring, Kind::Proposal, &[&view, core, certificate])
+    let mut frame = Vec::new(alloc);
+    begin_proposal(view, core, certificate, vector_len(keyring), &mut frame)?;
+    signed_for_all(alloc, keyring, Kind::Proposal, frame)
 }
 
 /// The announcement of a view, of the bytes of the highest certificate.
@@ -65,14 +65,24 @@ pub fn new_view_frame(
         (vector_for keyring.now.sizes (keyring_of keyring.now) kind.NewView content)) }
     ensures memory { OnErr result (result ≡ Err Fault.Memory) }
 {
-    let view = in_eight(view.0);
-    let sender = in_two(u16::from(keyring.replica().0));
-    signed_for_all(
-        alloc,
-        keyring,
-        Kind::NewView,
-        &[&view, &sender, certificate],
-    )
+    let mut frame = Vec::new(alloc);
+    begin_new_view(
+        view,
+        keyring.replica(),
+        certificate,
+        vector_len(keyring),
+        &mut frame,
+    )?;
+    signed_for_all(alloc, keyring, Kind::NewView, frame)
+}
+
+/// The client whose keys these are.
+fn client_of(keyring: &Keyring) -> ClientId
+    requires { IsTrue (is_client_of keyring.now.sizes keyring.now.party) }
+    ensures { result ≡ client_at keyring.now.party }
+{
+    let _most = keyring.config().clients();
+    ClientId((keyring.party().0 - 256) as u8)
 }
 
 /// A client's request of this number: the payload is the canonical text of a request of the cache.
@@ -88,14 +98,13 @@ pub fn request_frame(
         (λ frame. frame.items ≡ spelling (request_frame (client_of keyring.now) seq payload.now)) }
     ensures memory { OnErr result (result ≡ Err Fault.Memory) }
 {
-    let client = in_two(keyring.party().0 - 256);
-    let seq = in_eight(seq.0);
-    let text = payload.as_slice();
-    let length = in_two(text.len() as u16);
-    signed_for_all(
-        alloc,
-        keyring,
-        Kind::Request,
-        &[&client, &seq, &length, text],
-    )
+    let mut frame = Vec::new(alloc);
+    begin_request(
+        client_of(keyring),
+        seq,
+        payload,
+        vector_len(keyring),
+        &mut frame,
+    )?;
+    signed_for_all(alloc, keyring, Kind::Request, frame)
 }

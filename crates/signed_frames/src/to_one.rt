@@ -9,9 +9,9 @@ ghost use Rattle.definitions.specs.Keyrings.{keyring_of, tag_for};
 ghost use Rattle.definitions.specs.Checks.{identity_of};
 ghost use Rattle.definitions.specs.Sendings.{reply_to};
 
-use crate::signed::signed_for;
+use crate::signed::{TAG_LEN, signed_for};
 use authenticators::Keyring;
-use frame_writers::{ReplyText, in_eight, in_four, in_two};
+use frame_writers::{ReplyText, begin_block, begin_fetch, begin_reply};
 use ids::{ClientId, Digest, Fault, Kind, Place, ReplicaId, Seq};
 use std::alloc::Global;
 
@@ -30,8 +30,9 @@ pub fn fetch_frame(
         (tag_for (keyring_of keyring.now) kind.Fetch to content)) }
     ensures memory { OnErr result (result ≡ Err Fault.Memory) }
 {
-    let sender = in_two(u16::from(keyring.replica().0));
-    signed_for(alloc, keyring, Kind::Fetch, to.into(), &[&sender, &block.0])
+    let mut frame = Vec::new(alloc);
+    begin_fetch(keyring.replica(), block, TAG_LEN, &mut frame)?;
+    signed_for(keyring, Kind::Fetch, to.into(), frame)
 }
 
 /// A block for a replica that asked for it, of the bytes of its core and of its certificate.
@@ -51,14 +52,9 @@ pub fn block_frame<'a>(
         (tag_for (keyring_of keyring.now) kind.Block to content)) }
     ensures memory { OnErr result (result ≡ Err Fault.Memory) }
 {
-    let sender = in_two(u16::from(keyring.replica().0));
-    signed_for(
-        alloc,
-        keyring,
-        Kind::Block,
-        to.into(),
-        &[&sender, core, certificate],
-    )
+    let mut frame = Vec::new(alloc);
+    begin_block(keyring.replica(), core, certificate, TAG_LEN, &mut frame)?;
+    signed_for(keyring, Kind::Block, to.into(), frame)
 }
 
 /// The reply to a client's command: its number, its place in the history and what the cache answers.
@@ -77,17 +73,8 @@ pub fn reply_frame(
         (record { client = client; seq = seq; place = place; text = text.now })).1) }
     ensures memory { OnErr result (result ≡ Err Fault.Memory) }
 {
-    let sender = in_two(u16::from(keyring.replica().0));
-    let number = in_two(u16::from(client.0));
-    let seq = in_eight(seq.0);
-    let place = in_eight(place.0);
-    let text = text.as_slice();
-    let length = in_four(text.len() as u32);
-    signed_for(
-        alloc,
-        keyring,
-        Kind::Reply,
-        client.into(),
-        &[&sender, &number, &seq, &place, &length, text],
-    )
+    let mut frame = Vec::new(alloc);
+    let sender = keyring.replica();
+    begin_reply(sender, client, seq, place, text, TAG_LEN, &mut frame)?;
+    signed_for(keyring, Kind::Reply, client.into(), frame)
 }
