@@ -22,10 +22,9 @@ use Rattle.frames_view.specs.declared.views.CommandView.{CommandView}
 use Rattle.frames_view.specs.declared.frame_views.ReplyView.{ReplyView}
 use Rattle.frames_view.specs.declared.frame_views.Frame.{Frame}
 use Rattle.frames_view.specs.declared.frame_views.Frame.TheVariants as frame
-use Rattle.frames_view.specs.Places.{IsFrameAt, IsProposalAt, IsBlockAt, IsVoteFrameAt, IsNewViewAt}
-use Rattle.frames_view.specs.Places.{IsCommandAt, IsFetchAt}
+use Rattle.frames_view.specs.Places.{IsFrameAt}
 use Rattle.frames_view.specs.Views.{frame_of, command_of, proposal_of, block_of, vote_frame_of, new_view_of}
-use Rattle.frames_view.specs.Views.{fetch_of, reply_of}
+use Rattle.frames_view.specs.Views.{fetch_of}
 use Rattle.admission.specs.declared.input.Input.{Input}
 use Rattle.admission.specs.declared.input.Input.TheVariants.{Proposal, Block, Vote as AVote, NewView, Request}
 use Rattle.admission.specs.declared.input.Input.TheVariants.{Fetch}
@@ -67,124 +66,82 @@ given {X} wrap keys bytes false i v (Err n) g e b = same g.refused
     same : ◌≡◌ {A = Result (CheckedView X) Fault} (Err n) (Err fault.BadTag) → n ≡ fault.BadTag
     same k = cc
 
-proposal_given :
-    (keys : Keys) (bytes : Bor Bytes) (v : ProposalView) (r : Result (CheckedView ProposalView) Fault)
-    → IsGivenIf (is_passed (check (identity_of keys) (proposal_of v))) keys v r → IsProposalAt bytes (head_len bytes.now) v
-    → Answers keys bytes (check (identity_of keys) (proposal_of v)) (taken Proposal r)
-unfolding check
-proposal_given keys bytes v r g lent =
-    given Proposal keys bytes _ _ v r g refl (record { addressed = own keys; lent = lent })
+-- the same of a frame, whose check that is
+of_frame : {X : Type 0} (wrap : CheckedView X → Input) (keys : Keys) (bytes : Bor Bytes) (f : Frame) (ok : Bool)
+    (i : rulings.Input) (v : X) (r : Result (CheckedView X) Fault) (out : Result Input Fault)
+    → check (identity_of keys) (frame_of f) ≡ when ok i → IsGivenIf (is_passed (when ok i)) keys v r
+    → input_of (wrap (record { keys = keys; view = v })) ≡ i
+    → Brings keys bytes (wrap (record { keys = keys; view = v })) → out ≡ taken wrap r
+    → Answers keys bytes (check (identity_of keys) (frame_of f)) out
+of_frame wrap keys bytes f ok i v r out is g e b same =
+    subst (λ x. Answers keys bytes x out) (sym is)
+    (subst (λ x. Answers keys bytes (when ok i) x) (sym same) (given wrap keys bytes ok i v r g e b))
 
 pub proposal : (keys : Keys) (bytes : Bor Bytes) (f : Frame) (v : ProposalView)
     (r : Result (CheckedView ProposalView) Fault) (out : Result Input Fault)
     → f ≡ frame.Proposal v → IsGivenIf (is_passed (check (identity_of keys) (proposal_of v))) keys v r
     → IsFrameAt bytes (head_len bytes.now) f → out ≡ taken Proposal r
     → Answers keys bytes (check (identity_of keys) (frame_of f)) out
-proposal keys bytes f v r out is g lent same =
-    subst (λ x. Answers keys bytes (check (identity_of keys) (frame_of f)) x) (sym same)
-    (subst (λ x. Answers keys bytes (check (identity_of keys) (frame_of x)) (taken Proposal r)) (sym is)
-    (proposal_given keys bytes v r g (subst (IsFrameAt bytes (head_len bytes.now)) is lent)))
-
-block_given : (keys : Keys) (bytes : Bor Bytes) (v : BlockView) (r : Result (CheckedView BlockView) Fault)
-    → IsGivenIf (is_passed (check (identity_of keys) (block_of v))) keys v r → IsBlockAt bytes (head_len bytes.now) v
-    → Answers keys bytes (check (identity_of keys) (block_of v)) (taken Block r)
 unfolding check
-block_given keys bytes v r g lent =
-    given Block keys bytes _ _ v r g refl (record { addressed = own keys; lent = lent })
+proposal keys bytes f v r out is g lent same =
+    of_frame Proposal keys bytes f _ _ v r out (ap (λ x. check (identity_of keys) (frame_of x)) is) g refl
+    (record { addressed = own keys; lent = subst (IsFrameAt bytes (head_len bytes.now)) is lent }) same
 
 pub block : (keys : Keys) (bytes : Bor Bytes) (f : Frame) (v : BlockView)
     (r : Result (CheckedView BlockView) Fault) (out : Result Input Fault)
     → f ≡ frame.Block v → IsGivenIf (is_passed (check (identity_of keys) (block_of v))) keys v r
     → IsFrameAt bytes (head_len bytes.now) f → out ≡ taken Block r
     → Answers keys bytes (check (identity_of keys) (frame_of f)) out
-block keys bytes f v r out is g lent same =
-    subst (λ x. Answers keys bytes (check (identity_of keys) (frame_of f)) x) (sym same)
-    (subst (λ x. Answers keys bytes (check (identity_of keys) (frame_of x)) (taken Block r)) (sym is)
-    (block_given keys bytes v r g (subst (IsFrameAt bytes (head_len bytes.now)) is lent)))
-
-vote_given :
-    (keys : Keys) (bytes : Bor Bytes) (v : VoteFrameView) (r : Result (CheckedView VoteFrameView) Fault)
-    → IsGivenIf (is_passed (check (identity_of keys) (vote_frame_of v))) keys v r → IsVoteFrameAt bytes (head_len bytes.now) v
-    → Answers keys bytes (check (identity_of keys) (vote_frame_of v)) (taken AVote r)
 unfolding check
-vote_given keys bytes v r g lent =
-    given AVote keys bytes _ _ v r g refl (record { addressed = own keys; lent = lent })
+block keys bytes f v r out is g lent same =
+    of_frame Block keys bytes f _ _ v r out (ap (λ x. check (identity_of keys) (frame_of x)) is) g refl
+    (record { addressed = own keys; lent = subst (IsFrameAt bytes (head_len bytes.now)) is lent }) same
 
 pub vote : (keys : Keys) (bytes : Bor Bytes) (f : Frame) (v : VoteFrameView)
     (r : Result (CheckedView VoteFrameView) Fault) (out : Result Input Fault)
     → f ≡ frame.Vote v → IsGivenIf (is_passed (check (identity_of keys) (vote_frame_of v))) keys v r
     → IsFrameAt bytes (head_len bytes.now) f → out ≡ taken AVote r
     → Answers keys bytes (check (identity_of keys) (frame_of f)) out
-vote keys bytes f v r out is g lent same =
-    subst (λ x. Answers keys bytes (check (identity_of keys) (frame_of f)) x) (sym same)
-    (subst (λ x. Answers keys bytes (check (identity_of keys) (frame_of x)) (taken AVote r)) (sym is)
-    (vote_given keys bytes v r g (subst (IsFrameAt bytes (head_len bytes.now)) is lent)))
-
-new_view_given :
-    (keys : Keys) (bytes : Bor Bytes) (v : NewViewView) (r : Result (CheckedView NewViewView) Fault)
-    → IsGivenIf (is_passed (check (identity_of keys) (new_view_of v))) keys v r → IsNewViewAt bytes (head_len bytes.now) v
-    → Answers keys bytes (check (identity_of keys) (new_view_of v)) (taken NewView r)
 unfolding check
-new_view_given keys bytes v r g lent =
-    given NewView keys bytes _ _ v r g refl (record { addressed = own keys; lent = lent })
+vote keys bytes f v r out is g lent same =
+    of_frame AVote keys bytes f _ _ v r out (ap (λ x. check (identity_of keys) (frame_of x)) is) g refl
+    (record { addressed = own keys; lent = subst (IsFrameAt bytes (head_len bytes.now)) is lent }) same
 
 pub new_view : (keys : Keys) (bytes : Bor Bytes) (f : Frame) (v : NewViewView)
     (r : Result (CheckedView NewViewView) Fault) (out : Result Input Fault)
     → f ≡ frame.NewView v → IsGivenIf (is_passed (check (identity_of keys) (new_view_of v))) keys v r
     → IsFrameAt bytes (head_len bytes.now) f → out ≡ taken NewView r
     → Answers keys bytes (check (identity_of keys) (frame_of f)) out
-new_view keys bytes f v r out is g lent same =
-    subst (λ x. Answers keys bytes (check (identity_of keys) (frame_of f)) x) (sym same)
-    (subst (λ x. Answers keys bytes (check (identity_of keys) (frame_of x)) (taken NewView r)) (sym is)
-    (new_view_given keys bytes v r g (subst (IsFrameAt bytes (head_len bytes.now)) is lent)))
-
-fetch_given : (keys : Keys) (bytes : Bor Bytes) (v : FetchView) (r : Result (CheckedView FetchView) Fault)
-    → IsGivenIf (is_passed (check (identity_of keys) (fetch_of v))) keys v r → IsFetchAt bytes (head_len bytes.now) v
-    → Answers keys bytes (check (identity_of keys) (fetch_of v)) (taken Fetch r)
 unfolding check
-fetch_given keys bytes v r g lent =
-    given Fetch keys bytes _ _ v r g refl (record { addressed = own keys; lent = lent })
+new_view keys bytes f v r out is g lent same =
+    of_frame NewView keys bytes f _ _ v r out (ap (λ x. check (identity_of keys) (frame_of x)) is) g refl
+    (record { addressed = own keys; lent = subst (IsFrameAt bytes (head_len bytes.now)) is lent }) same
 
 pub fetch : (keys : Keys) (bytes : Bor Bytes) (f : Frame) (v : FetchView)
     (r : Result (CheckedView FetchView) Fault) (out : Result Input Fault)
     → f ≡ frame.Fetch v → IsGivenIf (is_passed (check (identity_of keys) (fetch_of v))) keys v r
     → IsFrameAt bytes (head_len bytes.now) f → out ≡ taken Fetch r
     → Answers keys bytes (check (identity_of keys) (frame_of f)) out
-fetch keys bytes f v r out is g lent same =
-    subst (λ x. Answers keys bytes (check (identity_of keys) (frame_of f)) x) (sym same)
-    (subst (λ x. Answers keys bytes (check (identity_of keys) (frame_of x)) (taken Fetch r)) (sym is)
-    (fetch_given keys bytes v r g (subst (IsFrameAt bytes (head_len bytes.now)) is lent)))
-
-request_given :
-    (keys : Keys) (bytes : Bor Bytes) (v : CommandView) (r : Result (CheckedView CommandView) Fault)
-    → IsGivenIf (is_passed (check (identity_of keys) (frames.request (command_of v)))) keys v r
-    → IsCommandAt bytes (head_len bytes.now) v
-    → Answers keys bytes (check (identity_of keys) (frames.request (command_of v))) (taken Request r)
 unfolding check
-request_given keys bytes v r g lent =
-    given Request keys bytes _ _ v r g refl (record { addressed = own keys; lent = lent })
+fetch keys bytes f v r out is g lent same =
+    of_frame Fetch keys bytes f _ _ v r out (ap (λ x. check (identity_of keys) (frame_of x)) is) g refl
+    (record { addressed = own keys; lent = subst (IsFrameAt bytes (head_len bytes.now)) is lent }) same
 
 pub request : (keys : Keys) (bytes : Bor Bytes) (f : Frame) (v : CommandView)
     (r : Result (CheckedView CommandView) Fault) (out : Result Input Fault)
-    → f ≡ frame.Request v
-    → IsGivenIf (is_passed (check (identity_of keys) (frames.request (command_of v)))) keys v r
+    → f ≡ frame.Request v → IsGivenIf (is_passed (check (identity_of keys) (frames.request (command_of v)))) keys v r
     → IsFrameAt bytes (head_len bytes.now) f → out ≡ taken Request r
     → Answers keys bytes (check (identity_of keys) (frame_of f)) out
-request keys bytes f v r out is g lent same =
-    subst (λ x. Answers keys bytes (check (identity_of keys) (frame_of f)) x) (sym same)
-    (subst (λ x. Answers keys bytes (check (identity_of keys) (frame_of x)) (taken Request r)) (sym is)
-    (request_given keys bytes v r g (subst (IsFrameAt bytes (head_len bytes.now)) is lent)))
-
-reply_refused : (keys : Keys) (bytes : Bor Bytes) (v : ReplyView)
-    → Answers keys bytes (check (identity_of keys) (reply_of v)) (Err fault.NotMine)
 unfolding check
-reply_refused keys bytes v = refl
+request keys bytes f v r out is g lent same =
+    of_frame Request keys bytes f _ _ v r out (ap (λ x. check (identity_of keys) (frame_of x)) is) g refl
+    (record { addressed = own keys; lent = subst (IsFrameAt bytes (head_len bytes.now)) is lent }) same
 
 pub reply : (keys : Keys) (bytes : Bor Bytes) (f : Frame) (v : ReplyView) → f ≡ frame.Reply v
     → Answers keys bytes (check (identity_of keys) (frame_of f)) (Err fault.NotMine)
-reply keys bytes f v is = subst
-    (λ x. Answers keys bytes (check (identity_of keys) (frame_of x)) (Err fault.NotMine)) (sym is)
-    (reply_refused keys bytes v)
+unfolding check
+reply keys bytes f v is =
+    subst (λ x. Answers keys bytes (check (identity_of keys) (frame_of x)) (Err fault.NotMine)) (sym is) refl
 
 -- what the checks give is for the holder of the keys
 pub addressed : (keys : Keys) (bytes : Bor Bytes) (x : Checked) (out : Result Input Fault)
