@@ -1,8 +1,8 @@
 -- What a session does, by what it finds first.
 use Rattle.std.proofs.Common.{◌≡◌, ◌∙◌, ◌==◌, ◌&&◌, ℕ, suc, Bool, true, false, not, cond, [], ◌∷◌, length}
 use Rattle.std.proofs.Common.{refl, ap, sym, subst, arith, eq-eqb}
-use Rattle.std.specs.Prelude.{◌-◌, ◌^◌, Option, Some, None, Result, Ok, Err, IfOk, OnErr, Vec, is_none}
-use Rattle.std.specs.Prelude.{nat_lt, nat_le, filter}
+use Rattle.std.specs.Prelude.{◌-◌, ◌^◌, Option, Some, None, Result, Ok, Err, IfOk, OnOk, OnErr, Vec, is_none}
+use Rattle.std.specs.Prelude.{◌<◌, ◌≤◌, nat_lt, nat_le, filter, IsSome, IfNone}
 use Rattle.std.specs.declared.alloc.Global.{Global}
 use Rattle.std.specs.Str.{bytes_eq}
 use Rattle.std.proofs.lemmas.Slice.Eq.{bytes_eq-Decides}
@@ -18,7 +18,8 @@ use Rattle.definitions.specs.Replicas.{MemorySupply, ample, refused_at_once}
 use Rattle.definitions.specs.Sessions.{Client, Session, Receipt, Submitted, sent_request, not_sent, Heard}
 use Rattle.definitions.specs.Sessions.{gives_receipt, only_counts, not_counted, is_ample, request_frame}
 use Rattle.definitions.specs.Sessions.{submission, count_reply, on_reply}
-use Rattle.client_accept.specs.Sessions.{Held, memory_of, IsSubmitted, frame_after, heard_of, next_seq}
+use Rattle.client_accept.specs.Sessions.{Held, memory_of, IsSubmitted, IsBegun, frame_after, heard_of}
+use Rattle.client_accept.specs.Sessions.{next_seq}
 use Rattle.client_accept.specs.Sessions.{admission, receipt_at}
 
 -- ---- one test after the other
@@ -45,6 +46,11 @@ module _ {T Y : Type 0} (a : Bool) (f : Fault) (r : Result T Fault) (h : Fault �
       both a
 
 -- ---- submissions
+
+-- a payload that is short enough is there
+pub is_there : {X : Type 0} (o : Option X) (n : ℕ) → n ≤ 4608 → IfNone o (4608 < n) → IsSome o
+is_there (Some x) n few long = refl
+is_there None n few long = absurd (omega (arith, few, long))
 
 abbrev unsent : Session → Fault → Session × Submitted
 unsent s n = (s, not_sent n)
@@ -238,6 +244,48 @@ not_submitted me payload h n next =
     let none = submission-refused me payload h.session (memory_of {T = Vec ℕ Global} (Err n)) n next in (
       ap (λ (x : Session × Submitted). record h { session = x.0 }) (sym none),
       subst (λ (x : Session × Submitted). IsSubmitted x.1 (Err n)) (sym none) refl,
+    )
+
+-- the last step of a submission whose frame is not handed out
+pub begins : (me : Client) (payload : Bytes) (h new : Held) (seq : ℕ) (result : Result (Unit {0}) Fault)
+    → next_seq h.session ≡ Ok seq
+    → OnOk result (new ≡ record h {
+      session = record { used = seq; waiting = true; tally = [] };
+      frame = spelling (request_frame me seq payload);
+    })
+    → OnErr result (new ≡ h) → OnErr result (result ≡ Err fault.Memory)
+    → (new.keys ≡ h.keys) × (new.session ≡ (submission me (memory_of result) payload h.session).0)
+    × IsBegun (submission me (memory_of result) payload h.session).1 h.frame result new.frame
+begins me payload h new seq (Ok done) next state same memory =
+    let whole = submission-next me payload h.session seq next in (
+      ap (λ (x : Held). x.keys) state,
+      ap (λ (x : Held). x.session) state ∙ ap (λ (x : Session × Submitted). x.0) (sym whole),
+      subst (λ (x : Session × Submitted). IsBegun x.1 h.frame (Ok done) new.frame) (sym whole)
+          (ap (λ (x : Held). x.frame) state),
+    )
+begins me payload h new seq (Err n) next state same memory =
+    let none = submission-no_memory me payload h.session seq next in
+    let is_memory : n ≡ fault.Memory = cc in
+    subst (λ (k : Fault). (new.keys ≡ h.keys)
+    × (new.session ≡ (submission me (memory_of {T = Unit {0}} (Err k)) payload h.session).0)
+    × IsBegun (submission me (memory_of {T = Unit {0}} (Err k)) payload h.session).1 h.frame (Err k) new.frame)
+    (sym is_memory) (
+      ap (λ (x : Held). x.keys) same,
+      ap (λ (x : Held). x.session) same ∙ ap (λ (x : Session × Submitted). x.0) (sym none),
+      subst (λ (x : Session × Submitted). IsBegun x.1 h.frame (Err fault.Memory) new.frame) (sym none)
+          (refl, ap (λ (x : Held). x.frame) same),
+    )
+
+-- a submission that is refused at first
+pub not_begun : (me : Client) (payload : Bytes) (h : Held) (n : Fault) → next_seq h.session ≡ Err n
+    → (h.keys ≡ h.keys)
+    × (h.session ≡ (submission me (memory_of {T = Unit {0}} (Err n)) payload h.session).0)
+    × IsBegun (submission me (memory_of {T = Unit {0}} (Err n)) payload h.session).1 h.frame (Err n) h.frame
+not_begun me payload h n next =
+    let none = submission-refused me payload h.session (memory_of {T = Unit {0}} (Err n)) n next in (
+      refl,
+      ap (λ (x : Session × Submitted). x.0) (sym none),
+      subst (λ (x : Session × Submitted). IsBegun x.1 h.frame (Err n) h.frame) (sym none) (refl, refl),
     )
 
 module _ (me : Client) (h : Held) (replica client seq place : ℕ) (text t : Bytes) where

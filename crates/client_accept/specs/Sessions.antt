@@ -35,6 +35,14 @@ IsSubmitted (sent_request f) (Err n) = ⊥
 IsSubmitted (not_sent m) (Ok bytes) = ⊥
 IsSubmitted (not_sent m) (Err n) = n ≡ m
 
+-- the answer to a submission whose frame is not handed out: the bytes of the last request are those of the
+-- frame that is sent, or as they were before the refusal
+abbrev pub IsBegun : Submitted → Bytes → Result (Unit {0}) Fault → Bytes → Type 0
+IsBegun (sent_request f) old (Ok done) new = new ≡ spelling f
+IsBegun (sent_request f) old (Err n) new = ⊥
+IsBegun (not_sent m) old (Ok done) new = ⊥
+IsBegun (not_sent m) old (Err n) new = (n ≡ m) × (new ≡ old)
+
 -- the bytes of the last request, after one more answer
 abbrev pub frame_after : Bytes → Result (Vec ℕ Global) Fault → Bytes
 frame_after old (Ok bytes) = bytes.items

@@ -1,6 +1,7 @@
 //! The session of a client.
 
-ghost use Rattle.std.specs.Prelude.{◌≡◌, ◌<◌, ◌∷◌, [], if◌then◌else◌, true, false, Some, None, option_map};
+ghost use Rattle.std.specs.Prelude.{◌≡◌, ◌<◌, ◌==◌, ◌&&◌, ◌∷◌, [], if◌then◌else◌, true, false, Some, None};
+ghost use Rattle.std.specs.Prelude.{option_map};
 ghost use Rattle.std.specs.Prelude.{is_none, IfOk, OnOk, OnErr};
 ghost use Rattle.ids.specs.Sizes.{client_party};
 ghost use Rattle.definitions.specs.Requests.{IsRequest, canonical};
@@ -14,7 +15,8 @@ ghost use Rattle.frames_view.specs.Views.{reply_of};
 ghost use Rattle.frames_view.specs.Fields.{frame_replica, frame_place, frame_text};
 ghost use Rattle.mc_lines.specs.Meaning.{asked_of};
 ghost use Rattle.signed_frames.specs.Clients.{client_of};
-ghost use Rattle.client_accept.specs.Sessions.{memory_of, IsSubmitted, frame_after, heard_of, next_seq};
+ghost use Rattle.client_accept.specs.Sessions.{memory_of, IsSubmitted, IsBegun, frame_after, heard_of};
+ghost use Rattle.client_accept.specs.Sessions.{next_seq};
 ghost use Rattle.client_accept.specs.Sessions.{admission, receipt_at};
 
 use crate::receipt::Receipt;
@@ -23,7 +25,7 @@ use authenticators::Keyring;
 use frame_writers::Payload;
 use frames_view::ReplyView;
 use ids::{ClientId, Config, Fault, Kind, PartyId, Seq};
-use mc_lines::{Request, write_request};
+use mc_lines::{CanonicalText, Request, write_request};
 use signed_frames::request_frame;
 use std::alloc::Global;
 use std::marker::Model;
@@ -185,6 +187,55 @@ impl Session {
         }
     }
 
+    /// The bytes of the frame of the request of this number that has this text.
+    fn frame_of_text(&self, seq: Seq, text: &CanonicalText<'_>) -> Result<Vec<u8>, Fault>
+        ensures made { IfOk result (λ frame. frame.items
+            ≡ spelling (request_frame (client_of self.now.keys) seq text.now)) }
+        ensures memory { OnErr result (result ≡ Err Fault.Memory) }
+    {
+        let payload = Payload::new(text.as_slice()).unwrap();
+        request_frame(self.alloc, &self.keyring, seq, &payload)
+    }
+
+    /// Makes the request of this number that has this text the outstanding one.
+    fn send_text(&mut self, seq: Seq, text: &CanonicalText<'_>) -> Result<(), Fault>
+        ensures begun { OnOk result (self.new ≡ record self.old {
+          session = record { used = seq; waiting = true; tally = [] };
+          frame = spelling (request_frame (client_of self.old.keys) seq text.now);
+        }) }
+        ensures unchanged { OnErr result (self.new ≡ self.old) }
+        ensures memory { OnErr result (result ≡ Err Fault.Memory) }
+    {
+        let frame = self.frame_of_text(seq, text)?;
+        self.begin(seq, frame);
+        Ok(())
+    }
+
+    /// Numbers the request that has this text, and makes it the outstanding one: `outstanding` lends the
+    /// bytes of its frame, which goes to all replicas.
+    ///
+    /// `Busy` comes where a request is outstanding, then `Spent` where the number 2^64 - 1 was
+    /// given, then `Memory`. At a refusal the session is as before.
+    pub fn submit_text(&mut self, text: &CanonicalText<'_>) -> Result<(), Fault>
+        ensures keys { self.new.keys ≡ self.old.keys }
+        ensures state { self.new.session
+            ≡ (submission (client_of self.old.keys) (memory_of result) text.now self.old.session).0 }
+        ensures answer { IsBegun (submission (client_of self.old.keys) (memory_of result) text.now
+            self.old.session).1 self.old.frame result self.new.frame }
+    {
+        match self.next_seq() {
+            Ok(seq) => self.send_text(seq, text),
+            Err(fault) => Err(fault),
+        }
+    }
+
+    /// Whether a request of this number is outstanding. A reply to another one counts for nothing.
+    pub fn awaits(&self, seq: Seq) -> bool
+        ensures { result ≡ (self.now.session.waiting && (seq == self.now.session.used)) }
+    {
+        self.waiting && seq == Seq(self.used)
+    }
+
     /// Whether the reply's tag is its replica's for this client.
     fn verifies(&self, reply: &ReplyView<'_>) -> bool
         requires { IsFrame self.now.keys.sizes (reply_of reply.now) }
@@ -206,7 +257,7 @@ impl Session {
         if !self.verifies(reply) {
             return Err(Fault::BadTag);
         }
-        if !self.waiting || reply.seq() != Seq(self.used) {
+        if !self.awaits(reply.seq()) {
             return Err(Fault::WrongSeq);
         }
         if self.tally.is_counted(reply.replica()) {

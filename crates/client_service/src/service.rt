@@ -9,7 +9,7 @@ use client_accept::{Receipt, Session};
 use connection::Service;
 use frames_view::{Frame, read};
 use ids::{ClientId, Fault};
-use mc_lines::read_canonical;
+use mc_lines::CanonicalText;
 use std::alloc::Global;
 
 /// How often a request is sent to all replicas before the service gives it up.
@@ -78,7 +78,8 @@ impl<L: Link> ClientService<L> {
     }
 
     /// Takes bytes that came for this client. The receipt, where they are the reply that gives it;
-    /// others count, or are passed over.
+    /// others count, or are passed over. A reply that comes late, to a request that was answered, is passed over
+    /// before its tag is looked at.
     fn hear(&mut self, bytes: &[u8]) -> Option<Receipt>
         ensures heard { Hears self.old.session (came bytes.now) result self.new.session }
         ensures link { self.new.link ≡ self.old.link }
@@ -90,6 +91,9 @@ impl<L: Link> ClientService<L> {
         let Frame::Reply(reply) = frame else {
             return None;
         };
+        if !self.session.awaits(reply.seq()) {
+            return None;
+        }
         match self.session.on_reply(&reply) {
             Ok(receipt) => receipt,
             Err(_) => None,
@@ -101,8 +105,9 @@ impl<L: Link> ClientService<L> {
         ensures { Listens L.carries (self.old.session, self.old.link) result
             (self.new.session, self.new.link) }
     {
+        let mut frame = Vec::new(self.alloc);
         for _heard in 0..u64::MAX {
-            let mut frame = Vec::new(self.alloc);
+            frame.clear();
             if !self.link.receive(&mut frame) {
                 return None;
             }
@@ -131,17 +136,26 @@ impl<L: Link> ClientService<L> {
         Err(Fault::Busy)
     }
 
+    /// Submits the request that has this text, and asks for its receipt.
+    fn submit_text(&mut self, text: &CanonicalText<'_>) -> Result<Receipt, Fault>
+        ensures { IsAsked L.carries (self.old.session, self.old.link) text.now (result_ok result)
+            (self.new.session, self.new.link) }
+    {
+        let _canonical = text.as_slice();
+        match self.session.submit_text(text) {
+            Ok(()) => self.ask(),
+            Err(fault) => Err(fault),
+        }
+    }
+
     /// Submits the request of this payload, and asks for its receipt.
     fn submit_and_ask(&mut self, payload: &[u8]) -> Result<Receipt, Fault>
         ensures { IsAsked L.carries (self.old.session, self.old.link) payload.now (result_ok result)
             (self.new.session, self.new.link) }
     {
-        let Some(request) = read_canonical(payload) else {
-            return Err(Fault::NotARequest);
-        };
-        match self.session.submit(&request) {
-            Ok(_frame) => self.ask(),
-            Err(fault) => Err(fault),
+        match CanonicalText::read(payload) {
+            Some(text) => self.submit_text(&text),
+            None => Err(Fault::NotARequest),
         }
     }
 

@@ -4,12 +4,9 @@ ghost use Rattle.definitions.specs.Requests.{canonical, IsRequest};
 ghost use Rattle.mc_lines.specs.Meaning.{asked_of};
 
 use ids::Fault;
-use mc_lines::{Request, write_request};
+use mc_lines::{MOST_CANONICAL, Request, write_request};
 use std::alloc::Global;
 use std::marker::Model;
-
-/// The most bytes of a canonical payload: a `cas` with the longest key, numbers and data.
-const MOST_CANONICAL: usize = 4393;
 
 /// A request's canonical text, in memory that is taken once.
 #[derive(Drop)]
@@ -24,7 +21,9 @@ impl Model for Payload {
 
     ghost view = { λ p. p.bytes.items };
 
-    ghost invariant = { λ p. 4393 ≤ vec_capacity p.bytes };
+    ghost use Rattle.mc_lines.specs.declared.canonical.TheConstants.{MOST_CANONICAL};
+
+    ghost invariant = { λ p. MOST_CANONICAL ≤ vec_capacity p.bytes };
 }
 
 impl Payload {

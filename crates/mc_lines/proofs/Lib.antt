@@ -6,3 +6,4 @@ pub mod Ends
 pub mod LineLaws
 pub mod ReadLaws
 pub mod WriteLaws
+pub mod Canonicals

@@ -6,6 +6,7 @@
 //! its input. The time of expiry is always 0.
 #![tactic(auto)]
 
+mod canonical;
 mod decimal;
 mod fields;
 mod keys;
@@ -16,6 +17,7 @@ mod reply;
 mod request;
 mod write;
 
+pub use canonical::{CanonicalText, MOST_CANONICAL};
 pub use ids::LineFault;
 pub use keys::{KeyIter, Keys};
 pub use number::read_number;
