@@ -10,7 +10,7 @@ ghost use Rattle.definitions.specs.Checks.{identity_of};
 ghost use Rattle.definitions.specs.Sendings.{reply_to};
 
 use crate::signed::signed_for;
-use authenticators::Keyring;
+use authenticators::ReplicaKeyring;
 use frame_writers::{ReplyText, in_eight, in_four, in_two};
 use ids::{ClientId, Digest, Fault, Kind, Place, ReplicaId, Seq};
 use std::alloc::Global;
@@ -18,11 +18,10 @@ use std::alloc::Global;
 /// The question to a replica for the block of a digest.
 pub fn fetch_frame(
     alloc: Global,
-    keyring: &Keyring,
+    keyring: &ReplicaKeyring,
     to: ReplicaId,
     block: &Digest,
 ) -> Result<Vec<u8>, Fault>
-    requires own { keyring.now.party < replicas keyring.now.sizes }
     requires other { to < replicas keyring.now.sizes }
     ensures made { IfOk result (λ frame. let content = fetch_content keyring.now.party block.now in
         frame.items
@@ -31,18 +30,23 @@ pub fn fetch_frame(
     ensures memory { OnErr result (result ≡ Err Fault.Memory) }
 {
     let sender = in_two(u16::from(keyring.replica().0));
-    signed_for(alloc, keyring, Kind::Fetch, to.into(), &[&sender, &block.0])
+    signed_for(
+        alloc,
+        keyring.as_keyring(),
+        Kind::Fetch,
+        to.into(),
+        &[&sender, &block.0],
+    )
 }
 
 /// A block for a replica that asked for it, of the bytes of its core and of its certificate.
 pub fn block_frame<'a>(
     alloc: Global,
-    keyring: &Keyring,
+    keyring: &ReplicaKeyring,
     to: ReplicaId,
     core: &'a [u8],
     certificate: &'a [u8],
 ) -> Result<Vec<u8>, Fault>
-    requires own { keyring.now.party < replicas keyring.now.sizes }
     requires other { to < replicas keyring.now.sizes }
     ensures made { IfOk result
         (λ frame. let content = block_text keyring.now.party core.now certificate.now in
@@ -54,7 +58,7 @@ pub fn block_frame<'a>(
     let sender = in_two(u16::from(keyring.replica().0));
     signed_for(
         alloc,
-        keyring,
+        keyring.as_keyring(),
         Kind::Block,
         to.into(),
         &[&sender, core, certificate],
@@ -65,13 +69,12 @@ pub fn block_frame<'a>(
 #[tactic(auto, unfolding(definitions::specs::Sendings::reply_to))]
 pub fn reply_frame(
     alloc: Global,
-    keyring: &Keyring,
+    keyring: &ReplicaKeyring,
     client: ClientId,
     seq: Seq,
     place: Place,
     text: &ReplyText<'_>,
 ) -> Result<Vec<u8>, Fault>
-    requires own { keyring.now.party < replicas keyring.now.sizes }
     requires other { client < keyring.now.sizes.clients }
     ensures made { IfOk result (λ frame. frame.items ≡ spelling (reply_to (identity_of keyring.now)
         (record { client = client; seq = seq; place = place; text = text.now })).1) }
@@ -85,7 +88,7 @@ pub fn reply_frame(
     let length = in_four(text.len() as u32);
     signed_for(
         alloc,
-        keyring,
+        keyring.as_keyring(),
         Kind::Reply,
         client.into(),
         &[&sender, &number, &seq, &place, &length, text],
