@@ -1,7 +1,6 @@
 //! From bytes to a checked input.
 
-ghost use Rattle.std.specs.Prelude.{◌≡◌, ◌<◌, IsTrue, IfOk};
-ghost use Rattle.ids.specs.Sizes.{replicas};
+ghost use Rattle.std.specs.Prelude.{IsTrue, IfOk};
 ghost use Rattle.definitions.specs.FrameLimits.{IsFrame};
 ghost use Rattle.definitions.specs.Frames.{head_len};
 ghost use Rattle.definitions.specs.Checks.{identity_of};
@@ -12,27 +11,25 @@ ghost use Rattle.admission.specs.Admitted.{Admits, Answers};
 ghost use Rattle.definitions.specs.Admission.{check as checks};
 
 use crate::input::Input;
-use authenticators::Keyring;
+use authenticators::ReplicaKeyring;
 use certificates::{
     check_block, check_fetch, check_new_view, check_proposal, check_request, check_vote,
 };
 use frames_view::{Frame, read};
-use ids::{Config, Fault};
+use ids::Fault;
 
 /// The input that a frame brings, which was read from these bytes.
 fn check<'a>(
-    keyring: &'a Keyring,
-    config: &Config,
+    keyring: &'a ReplicaKeyring,
     frame: Frame<'a>,
     _bytes: &'a [u8],
 ) -> Result<Input<'a>, Fault>
-    requires sizes { config.now ≡ keyring.now.sizes }
-    requires replica { keyring.now.party < replicas config.now }
-    requires fits { IsFrame config.now (frame_of frame) }
+    requires fits { IsFrame keyring.now.sizes (frame_of frame) }
     requires lent { IsFrameAt _bytes (head_len _bytes.now) frame }
     ensures { Answers keyring.now _bytes.entry (checks (identity_of keyring.now) (frame_of frame.entry))
         result }
 {
+    let config = &keyring.config();
     match frame {
         Frame::Reply(_) => Err(Fault::NotMine),
         Frame::Request(view) => Ok(Input::Request(check_request(keyring, config, &view)?)),
@@ -49,12 +46,10 @@ fn check<'a>(
 /// `NotAFrame` comes first; then `NotMine`, for a reply, which no replica takes; then `BadTag`,
 /// where the frame's own tag or its certificate isn't right.
 #[tactic(auto, using(crate::proofs::Checks::addressed))]
-pub fn admit<'a>(keyring: &'a Keyring, config: &Config, bytes: &'a [u8]) -> Result<Input<'a>, Fault>
-    requires sizes { config.now ≡ keyring.now.sizes }
-    requires replica { keyring.now.party < replicas config.now }
+pub fn admit<'a>(keyring: &'a ReplicaKeyring, bytes: &'a [u8]) -> Result<Input<'a>, Fault>
     ensures admitted { Admits keyring.now bytes.entry result }
     ensures addressed { IfOk result (λ input. IsTrue (is_addressed keyring.now input)) }
 {
-    let frame = read(config, bytes)?;
-    check(keyring, config, frame, bytes)
+    let frame = read(&keyring.config(), bytes)?;
+    check(keyring, frame, bytes)
 }

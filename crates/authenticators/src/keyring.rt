@@ -1,12 +1,12 @@
-ghost use Rattle.std.specs.Prelude.{◌≡◌, ◌+◌, ◌*◌, ◌<◌, ◌↔◌, [], length, IsTrue, IsOk, IfOk, OnErr};
+ghost use Rattle.std.specs.Prelude.{◌≡◌, ◌+◌, ◌*◌, ◌↔◌, [], length, IsTrue, IsOk, IfOk, OnErr};
 ghost use Rattle.definitions.specs.Writing.{IsAppended};
-ghost use Rattle.ids.specs.Sizes.{IsRoom, replicas};
+ghost use Rattle.ids.specs.Sizes.{IsRoom};
 ghost use Rattle.definitions.specs.Tags.{tag_text};
 ghost use Rattle.definitions.specs.Keyrings.{keys_due, is_peer, place_of, keyring_of, tag_for, verify};
 ghost use Rattle.definitions.specs.Keyrings.{vector_for};
 
 use crate::shared_key::SharedKey;
-use ids::{Config, Fault, Kind, PartyId, ReplicaId};
+use ids::{Config, Fault, Kind, PartyId};
 use std::alloc::Global;
 use std::marker::Model;
 
@@ -75,15 +75,6 @@ impl Keyring {
         ensures { result ≡ self.now.party }
     {
         self.party
-    }
-
-    /// The replica whose keys these are.
-    pub fn replica(&self) -> ReplicaId
-        requires { self.now.party < replicas self.now.sizes }
-        ensures { result ≡ self.now.party }
-    {
-        let _most = self.config.n();
-        ReplicaId(self.party.0 as u8)
     }
 
     /// The sizes that it was made with.

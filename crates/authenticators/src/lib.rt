@@ -6,8 +6,10 @@
 
 mod keyring;
 mod mac;
+mod replica_keyring;
 mod shared_key;
 
 pub use keyring::Keyring;
 pub use mac::hmac;
+pub use replica_keyring::ReplicaKeyring;
 pub use shared_key::SharedKey;

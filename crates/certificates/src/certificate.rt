@@ -1,7 +1,6 @@
 //! Certificates.
 
-ghost use Rattle.std.specs.Prelude.{◌≡◌, ◌<◌, ◌↔◌, IsTrue, IsOk, IfOk, OnErr};
-ghost use Rattle.ids.specs.Sizes.{replicas};
+ghost use Rattle.std.specs.Prelude.{◌≡◌, ◌↔◌, IsTrue, IsOk, IfOk, OnErr};
 ghost use Rattle.definitions.specs.FrameLimits.{IsVote, IsCertificate};
 ghost use Rattle.definitions.specs.Checks.{identity_of, vote_verifies, counted_voters, is_genesis, is_good};
 ghost use Rattle.frames_view.specs.Views.{vote_of, certificate_of};
@@ -12,7 +11,7 @@ use crate::check::check;
 use crate::checked::{Authenticated, Certified, Checked};
 use crate::claims::Claims;
 use crate::voters::Voters;
-use authenticators::Keyring;
+use authenticators::ReplicaKeyring;
 use frames_view::{CertificateView, VoteView};
 use ids::{Config, Fault, Kind, PartyId};
 
@@ -24,18 +23,18 @@ const GENESIS: [u8; 32] = [
 ];
 
 /// Whether the vote's tag for the keyring's own replica verifies.
-pub(crate) fn vote_verifies(keyring: &Keyring, digest: &[u8; 32], vote: &VoteView) -> bool
-    requires replica { keyring.now.party < replicas keyring.now.sizes }
+pub(crate) fn vote_verifies(keyring: &ReplicaKeyring, digest: &[u8; 32], vote: &VoteView) -> bool
     requires vote { IsVote keyring.now.sizes (vote_of vote.now) }
     ensures { result ≡ vote_verifies (identity_of keyring.now) digest.now (vote_of vote.now) }
 {
     let tag = vote.tag(keyring.replica());
-    keyring.verify(Kind::Vote, PartyId::from(vote.voter()), digest, tag)
+    keyring
+        .as_keyring()
+        .verify(Kind::Vote, PartyId::from(vote.voter()), digest, tag)
 }
 
 /// The voters whose tags for the keyring's own replica verify.
-fn counted(keyring: &Keyring, certificate: &CertificateView) -> Voters
-    requires replica { keyring.now.party < replicas keyring.now.sizes }
+fn counted(keyring: &ReplicaKeyring, certificate: &CertificateView) -> Voters
     requires certificate { IsCertificate keyring.now.sizes (certificate_of certificate.now) }
     ensures { result ≡ counted_voters (identity_of keyring.now) (certificate_of certificate.now) }
 {
@@ -60,7 +59,7 @@ fn is_genesis(digest: &[u8; 32]) -> bool
 /// Whether the certificate is good, where these are its counted voters: that of genesis has no
 /// votes, and any other has a quorum of counted ones.
 #[tactic(auto, unfolding(definitions::specs::Checks::is_good))]
-fn is_good(keyring: &Keyring, certificate: &CertificateView, voters: &Voters) -> bool
+fn is_good(keyring: &ReplicaKeyring, certificate: &CertificateView, voters: &Voters) -> bool
     requires { voters.now ≡ counted_voters (identity_of keyring.now) (certificate_of certificate.now) }
     ensures { result ≡ is_good (identity_of keyring.now) (certificate_of certificate.now) }
 {
@@ -72,8 +71,10 @@ fn is_good(keyring: &Keyring, certificate: &CertificateView, voters: &Voters) ->
 }
 
 /// The counted voters of the certificate, if it is good; else `BadTag`.
-pub(crate) fn good_voters(keyring: &Keyring, certificate: &CertificateView) -> Result<Voters, Fault>
-    requires replica { keyring.now.party < replicas keyring.now.sizes }
+pub(crate) fn good_voters(
+    keyring: &ReplicaKeyring,
+    certificate: &CertificateView,
+) -> Result<Voters, Fault>
     requires certificate { IsCertificate keyring.now.sizes (certificate_of certificate.now) }
     ensures exactly { IsOk result
         ↔ IsTrue (is_good (identity_of keyring.now) (certificate_of certificate.now)) }
@@ -92,7 +93,7 @@ impl<'a> Authenticated for CertificateView<'a> {
     ghost shows = { λ q. shown.certificate (certificate_of q) };
 
     #[tactic(auto, unfolding(definitions::specs::Checks::is_clear_core))]
-    fn claims(&self, _keyring: &Keyring) -> Claims<'_> {
+    fn claims(&self, _keyring: &ReplicaKeyring) -> Claims<'_> {
         Claims {
             own: None,
             certificate: Some(*self),
@@ -105,15 +106,14 @@ impl<'a> Certified for CertificateView<'a> {}
 
 /// The certificate, if it is good; else `BadTag`.
 pub fn check_cert<'a>(
-    keyring: &'a Keyring,
+    keyring: &'a ReplicaKeyring,
     config: &Config,
     view: &CertificateView<'a>,
 ) -> Result<Checked<'a, CertificateView<'a>>, Fault>
     requires sizes { config.now ≡ keyring.now.sizes }
-    requires replica { keyring.now.party < replicas config.now }
     requires certificate { IsCertificate config.now (certificate_of view.now) }
     ensures { IsGivenIf (is_good (identity_of keyring.now) (certificate_of view.now)) keyring.now view.now
         result }
 {
-    check(keyring, config, view)
+    check(keyring, view)
 }

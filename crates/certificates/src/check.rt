@@ -1,7 +1,5 @@
 //! The one check that all views pass through.
 
-ghost use Rattle.std.specs.Prelude.{◌≡◌, ◌<◌};
-ghost use Rattle.ids.specs.Sizes.{replicas};
 ghost use Rattle.definitions.specs.Checks.{identity_of};
 ghost use Rattle.certificates.specs.Shown.{Fits, passes};
 ghost use Rattle.certificates.specs.Outcomes.{IsGivenIf};
@@ -10,23 +8,22 @@ use crate::certificate::good_voters;
 use crate::checked::{Authenticated, Checked};
 use crate::commands::is_clear;
 use crate::voters::Voters;
-use authenticators::Keyring;
-use ids::{Config, Fault};
+use authenticators::ReplicaKeyring;
+use ids::Fault;
 
 /// The view, if what it claims to the keyring's replica is right; else `BadTag`.
 pub(crate) fn check<'a, V: Authenticated + Copy>(
-    keyring: &'a Keyring,
-    config: &Config,
+    keyring: &'a ReplicaKeyring,
     view: &V,
 ) -> Result<Checked<'a, V>, Fault>
-    requires sizes { config.now ≡ keyring.now.sizes }
-    requires replica { keyring.now.party < replicas config.now }
-    requires fits { Fits config.now (V.shows view.now) }
+    requires fits { Fits keyring.now.sizes (V.shows view.now) }
     ensures { IsGivenIf (passes (identity_of keyring.now) (V.shows view.now)) keyring.now view.now result }
 {
     let claims = view.claims(keyring);
     let is_tagged = match &claims.own {
-        Some(own) => keyring.verify(own.kind, own.sender, own.content, own.tag),
+        Some(own) => keyring
+            .as_keyring()
+            .verify(own.kind, own.sender, own.content, own.tag),
         None => true,
     };
     if !is_tagged {
@@ -40,5 +37,5 @@ pub(crate) fn check<'a, V: Authenticated + Copy>(
         Some(core) => is_clear(keyring, core),
         None => true,
     };
-    Ok(Checked::new(keyring, *config, *view, voters, clear))
+    Ok(Checked::new(keyring, *view, voters, clear))
 }

@@ -1,13 +1,12 @@
 //! What a check has found.
 
-ghost use Rattle.std.specs.Prelude.{◌≡◌, ◌<◌, IsTrue};
-ghost use Rattle.ids.specs.Sizes.{replicas};
+ghost use Rattle.std.specs.Prelude.{◌≡◌, IsTrue};
 ghost use Rattle.definitions.specs.Checks.{identity_of, counted_voters, is_clear_core};
 ghost use Rattle.certificates.specs.Shown.{Shown, Fits, passes, certificate_in, core_in, AreClaims};
 
 use crate::claims::Claims;
 use crate::voters::Voters;
-use authenticators::Keyring;
+use authenticators::ReplicaKeyring;
 use ids::{Config, ReplicaId};
 use std::marker::Model;
 
@@ -17,8 +16,7 @@ pub trait Authenticated {
     ghost shows: { Self → Shown };
 
     /// What it claims to the keyring's replica.
-    fn claims(&self, keyring: &Keyring) -> Claims<'_>
-        requires replica { keyring.now.party < replicas keyring.now.sizes }
+    fn claims(&self, keyring: &ReplicaKeyring) -> Claims<'_>
         requires fits { Fits keyring.now.sizes (shows self.now) }
         ensures { AreClaims keyring.now (shows self.now) result };
 }
@@ -32,16 +30,14 @@ pub trait CarriesBlock: Certified {}
 /// A view that passed the check under a keyring: the tags for the keyring's own replica verify.
 #[derive(Drop)]
 pub struct Checked<'a, V: Authenticated> {
-    keyring: &'a Keyring,
-    config: Config,
+    keyring: &'a ReplicaKeyring,
     view: V,
     voters: Voters,
     clear: bool,
 }
 
 impl<'a, V: Authenticated> Model for Checked<'a, V> {
-    ghost use Rattle.std.specs.Prelude.{◌≡◌, ◌<◌, IsTrue};
-    ghost use Rattle.ids.specs.Sizes.{replicas};
+    ghost use Rattle.std.specs.Prelude.{◌≡◌, IsTrue};
     ghost use Rattle.definitions.specs.Checks.{identity_of, counted_voters, is_clear_core};
     ghost use Rattle.certificates.specs.Outcomes.{CheckedView};
     ghost use Rattle.certificates.specs.Shown.{Fits, passes, certificate_in, core_in};
@@ -50,9 +46,7 @@ impl<'a, V: Authenticated> Model for Checked<'a, V> {
 
     ghost view = { λ c. record { keys = c.keyring.now; view = c.view } };
 
-    ghost invariant = { λ c. (c.config ≡ c.keyring.now.sizes)
-        × (c.keyring.now.party < replicas c.keyring.now.sizes)
-        × Fits c.keyring.now.sizes (V.shows c.view)
+    ghost invariant = { λ c. Fits c.keyring.now.sizes (V.shows c.view)
         × IsTrue (passes (identity_of c.keyring.now) (V.shows c.view))
         × (c.voters ≡ counted_voters (identity_of c.keyring.now) (certificate_in (V.shows c.view)))
         × (c.clear ≡ is_clear_core (identity_of c.keyring.now) (core_in (V.shows c.view))) };
@@ -61,15 +55,12 @@ impl<'a, V: Authenticated> Model for Checked<'a, V> {
 impl<'a, V: Authenticated> Checked<'a, V> {
     /// What was found of a view that passes.
     pub(crate) fn new(
-        keyring: &'a Keyring,
-        config: Config,
+        keyring: &'a ReplicaKeyring,
         view: V,
         voters: Voters,
         clear: bool,
     ) -> Checked<'a, V>
-        requires sizes { config ≡ keyring.now.sizes }
-        requires replica { keyring.now.party < replicas config }
-        requires fits { Fits config (V.shows view) }
+        requires fits { Fits keyring.now.sizes (V.shows view) }
         requires passed { IsTrue (passes (identity_of keyring.now) (V.shows view)) }
         requires voters { voters ≡ counted_voters (identity_of keyring.now) (certificate_in (V.shows view)) }
         requires clear { clear ≡ is_clear_core (identity_of keyring.now) (core_in (V.shows view)) }
@@ -77,7 +68,6 @@ impl<'a, V: Authenticated> Checked<'a, V> {
     {
         Checked {
             keyring,
-            config,
             view,
             voters,
             clear,
@@ -85,9 +75,8 @@ impl<'a, V: Authenticated> Checked<'a, V> {
     }
 
     /// The keyring under which it was checked.
-    pub fn keyring(&self) -> &'a Keyring
-        ensures keys { result.now ≡ self.now.keys }
-        ensures replica { self.now.keys.party < replicas self.now.keys.sizes }
+    pub fn keyring(&self) -> &'a ReplicaKeyring
+        ensures { result.now ≡ self.now.keys }
     {
         self.keyring
     }
@@ -96,7 +85,7 @@ impl<'a, V: Authenticated> Checked<'a, V> {
     pub fn config(&self) -> Config
         ensures { result ≡ self.now.keys.sizes }
     {
-        self.config
+        self.keyring.config()
     }
 
     /// The view, which is one at these sizes and passes.

@@ -2,7 +2,6 @@
 
 ghost use Rattle.std.specs.Prelude.{◌≡◌, ◌<◌, ◌++◌, ◌∷◌, [], length, IfSome, IfNone, IfOk, OnErr};
 ghost use Rattle.std.specs.List.{AllByRecursion, flat_map};
-ghost use Rattle.ids.specs.Sizes.{replicas};
 ghost use Rattle.definitions.specs.Frames.{vote_bytes, certificate_bytes};
 ghost use Rattle.definitions.specs.FrameLimits.{IsVote, IsCertificate};
 ghost use Rattle.definitions.specs.Checks.{identity_of, cut};
@@ -11,7 +10,7 @@ ghost use Rattle.certificates.specs.Cutting.{verified};
 
 use crate::certificate::vote_verifies;
 use crate::checked::Checked;
-use authenticators::Keyring;
+use authenticators::ReplicaKeyring;
 use frames_view::{CertificateView, VoteView, Votes, write_certificate, write_certified_vote};
 use ids::{Config, Digest, Fault};
 use std::alloc::Global;
@@ -19,11 +18,10 @@ use std::marker::Model;
 
 /// The first of these votes whose tag for the keyring's own replica verifies, and the votes behind it.
 fn first_verified<'a>(
-    keyring: &Keyring,
+    keyring: &ReplicaKeyring,
     digest: &[u8; 32],
     votes: Votes<'a>,
 ) -> Option<(VoteView<'a>, Votes<'a>)>
-    requires replica { keyring.now.party < replicas keyring.now.sizes }
     requires votes { AllByRecursion (IsVote keyring.now.sizes) (votes_left votes) }
     ensures some { IfSome result
         (λ p. verified (identity_of keyring.now) digest.now (votes_left votes.entry)
@@ -46,7 +44,7 @@ fn first_verified<'a>(
 /// tags for the replica verify. They are lent, and each tag is checked when its vote is asked for.
 #[derive(Drop)]
 pub struct CutVotes<'a> {
-    keyring: &'a Keyring,
+    keyring: &'a ReplicaKeyring,
     digest: &'a [u8; 32],
     votes: Votes<'a>,
     /// At most so many are still to come.
@@ -54,9 +52,8 @@ pub struct CutVotes<'a> {
 }
 
 impl<'a> Model for CutVotes<'a> {
-    ghost use Rattle.std.specs.Prelude.{List, ◌<◌, take};
+    ghost use Rattle.std.specs.Prelude.{List, take};
     ghost use Rattle.std.specs.List.{AllByRecursion};
-    ghost use Rattle.ids.specs.Sizes.{replicas};
     ghost use Rattle.definitions.specs.Frames.{Vote};
     ghost use Rattle.definitions.specs.FrameLimits.{IsVote};
     ghost use Rattle.definitions.specs.Checks.{identity_of};
@@ -67,8 +64,7 @@ impl<'a> Model for CutVotes<'a> {
 
     ghost view = { λ c. take c.most (verified (identity_of c.keyring.now) c.digest.now (votes_left c.votes)) };
 
-    ghost invariant = { λ c. (c.keyring.now.party < replicas c.keyring.now.sizes)
-        × AllByRecursion (IsVote c.keyring.now.sizes) (votes_left c.votes) };
+    ghost invariant = { λ c. AllByRecursion (IsVote c.keyring.now.sizes) (votes_left c.votes) };
 }
 
 impl<'a> Iterator for CutVotes<'a> {
@@ -94,8 +90,7 @@ impl<'a> Iterator for CutVotes<'a> {
 
 /// The votes of a certificate as the keyring's replica passes it on.
 #[tactic(auto, unfolding(definitions::specs::Checks::cut))]
-fn cut<'a>(keyring: &'a Keyring, certificate: &CertificateView<'a>) -> CutVotes<'a>
-    requires replica { keyring.now.party < replicas keyring.now.sizes }
+fn cut<'a>(keyring: &'a ReplicaKeyring, certificate: &CertificateView<'a>) -> CutVotes<'a>
     requires certificate { IsCertificate keyring.now.sizes (certificate_of certificate.now) }
     ensures votes { result
         ≡ (cut (identity_of keyring.entry.now) (certificate_of certificate.entry.now)).votes }
@@ -143,10 +138,9 @@ fn write_votes(votes: CutVotes<'_>, out: &mut Vec<u8>) -> Result<u8, Fault>
 /// votes whose tags for the replica verify.
 pub fn cut_bytes(
     alloc: Global,
-    keyring: &Keyring,
+    keyring: &ReplicaKeyring,
     certificate: &CertificateView,
 ) -> Result<Vec<u8>, Fault>
-    requires replica { keyring.now.party < replicas keyring.now.sizes }
     requires certificate { IsCertificate keyring.now.sizes (certificate_of certificate.now) }
     ensures made { IfOk result (λ bytes. bytes.items
         ≡ certificate_bytes (cut (identity_of keyring.now) (certificate_of certificate.now))) }

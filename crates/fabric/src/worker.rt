@@ -1,7 +1,5 @@
 //! What each worker thread does.
 
-ghost use Rattle.std.specs.Prelude.{◌<◌};
-ghost use Rattle.ids.specs.Sizes.{replicas};
 ghost use Rattle.turns.specs.Shares.{Counts};
 ghost use Rattle.fabric.specs.Shares.{HasGrown};
 
@@ -11,7 +9,7 @@ use crate::parcel::Parcel;
 use crate::queue::Question;
 use crate::waiting::{Brought, Waiting, WaitingRoom};
 use admission::Input;
-use authenticators::Keyring;
+use authenticators::ReplicaKeyring;
 use bytes::Bytes;
 use ids::{Digest, Fault, Height, Kind, ReplicaId};
 use signed_frames::{Out, Sending, To, fetch_frame};
@@ -24,12 +22,11 @@ use turns::{Gate, Share, Steps, turn};
 #[derive(Drop)]
 pub struct Post<'a, G, O = Links> {
     alloc: Global,
-    keyring: Keyring,
+    keyring: ReplicaKeyring,
     gate: &'a G,
     inbox: &'a Inbox,
     out: &'a O,
     room: &'a WaitingRoom,
-    ghost is_a_replica: { keyring.party < replicas keyring.sizes },
 }
 
 /// What takes the frames that a replica sends.
@@ -64,14 +61,12 @@ impl<'a, G: Gate, O: Outgoing> Post<'a, G, O> {
     /// The post of one worker of the keyring's replica. The replica's workers share the room.
     pub fn new(
         alloc: Global,
-        keyring: Keyring,
+        keyring: ReplicaKeyring,
         gate: &'a G,
         inbox: &'a Inbox,
         out: &'a O,
         room: &'a WaitingRoom,
-    ) -> Post<'a, G, O>
-        requires { keyring.party < replicas keyring.sizes }
-    {
+    ) -> Post<'a, G, O> {
         Post {
             alloc,
             keyring,
@@ -111,16 +106,7 @@ impl<'a, G: Gate, O: Outgoing> Post<'a, G, O> {
     ) -> Result<(), Fault>
         ensures { HasGrown share.old share.new }
     {
-        let out = turn(
-            rt,
-            steps,
-            share,
-            self.gate,
-            number,
-            &self.keyring,
-            &self.keyring.config(),
-            bytes,
-        )?;
+        let out = turn(rt, steps, share, self.gate, number, &self.keyring, bytes)?;
         send_all(rt, self.out, self.keyring.replica(), out);
         Ok(())
     }

@@ -3,13 +3,13 @@ ghost use Rattle.std.specs.Prelude.{OnErr, IsSome, IsTrue, if◌then◌else◌};
 ghost use Rattle.ids.specs.Sizes.{replicas};
 ghost use Rattle.definitions.specs.Bytes.{Bytes};
 ghost use Rattle.key_file.specs.KeyFile.{IsFileOf, HasKeys, found_key, keys_with, keys_of_party};
-ghost use Rattle.definitions.specs.Keyrings.{is_party_of};
+ghost use Rattle.definitions.specs.Keyrings.{is_party_of, is_replica_of};
 ghost use Rattle.key_file.specs.declared.key_file.KeyFileFault.TheVariants as refusal;
 ghost use Rattle.key_file.specs.declared.pair_key.PairKey.{PairKey};
 
 use crate::pair_key::PairKey;
 use crate::rows::read_row;
-use authenticators::{Keyring, SharedKey};
+use authenticators::{Keyring, ReplicaKeyring, SharedKey};
 use ids::{ClientId, Config, Fault, PartyId, ReplicaId};
 use std::alloc::{AllocFailed, Global};
 use std::error::Error;
@@ -147,5 +147,20 @@ impl PairKeys {
             self.push_keys(&mut keys, party, ClientId(0).into(), config.clients())?;
         }
         Ok(Keyring::new(config, party, keys))
+    }
+
+    /// The keyring of a replica. `NoSuchParty` comes exactly where the deployment has no such replica, and else
+    /// `Memory` alone.
+    pub fn replica_keyring(
+        &self,
+        alloc: Global,
+        replica: ReplicaId,
+    ) -> Result<ReplicaKeyring, Fault>
+        ensures made { IfOk result (λ keyring. keyring ≡ keys_of_party self.now replica) }
+        ensures refused { OnErr result (result
+            ≡ Err (if is_replica_of self.now.sizes replica then Fault.Memory else Fault.NoSuchParty)) }
+    {
+        let keyring = self.keyring(alloc, replica.into())?;
+        ReplicaKeyring::new(keyring).ok_or(Fault::NoSuchParty)
     }
 }

@@ -9,7 +9,7 @@ ghost use Rattle.frames_view.specs.Views.{core_of, certificate_of};
 ghost use Rattle.signed_frames.specs.Outs.{sent_of};
 ghost use Rattle.liars.specs.Lies.{untagged, crowding, crowding_frame, crowd_to};
 
-use authenticators::Keyring;
+use authenticators::ReplicaKeyring;
 use frame_writers::{Payload, write_command, write_core};
 use frames_view::{CoreView, ProposalView};
 use ids::{ClientId, Config, Fault, Height, Kind, MOST_OF_HEIGHT, ReplicaId, Seq};
@@ -57,12 +57,11 @@ fn crowding(
 /// The frame that brings the block of this number on a proposal's to a replica.
 fn crowding_frame(
     alloc: Global,
-    keyring: &Keyring,
+    keyring: &ReplicaKeyring,
     view: &ProposalView<'_>,
     to: ReplicaId,
     number: u8,
 ) -> Result<Vec<u8>, Fault>
-    requires own { keyring.now.party < replicas keyring.now.sizes }
     requires other { to < replicas keyring.now.sizes }
     ensures made { IfOk result (λ frame. frame.items ≡ spelling (crowding_frame keyring.now
         (core_of view.now.core) (certificate_of view.now.certificate) to number)) }
@@ -77,10 +76,9 @@ fn crowding_frame(
 /// All blocks on a proposal's, each to all replicas.
 pub(crate) fn crowd(
     alloc: Global,
-    keyring: &Keyring,
+    keyring: &ReplicaKeyring,
     view: &ProposalView<'_>,
 ) -> Result<Vec<Sending>, Fault>
-    requires { keyring.now.party < replicas keyring.now.sizes }
     ensures made { IfOk result (λ out. map sent_of out.items
         ≡ map (crowd_to keyring.now (core_of view.now.core) (certificate_of view.now.certificate))
         (range_with_len 0 (MOST_OF_HEIGHT * replicas keyring.now.sizes))) }

@@ -1,6 +1,5 @@
-ghost use Rattle.std.specs.Prelude.{◌≡◌, ◌<◌, ◌∷◌, [], map, IfOk, OnErr};
+ghost use Rattle.std.specs.Prelude.{◌≡◌, ◌∷◌, [], map, IfOk, OnErr};
 ghost use Rattle.std.specs.List.{range_with_len};
-ghost use Rattle.ids.specs.Sizes.{replicas};
 ghost use Rattle.definitions.specs.Frames.{spelling};
 ghost use Rattle.definitions.specs.FrameLimits.{IsFrame};
 ghost use Rattle.definitions.specs.Replies.{reply_text, exists};
@@ -11,7 +10,7 @@ ghost use Rattle.signed_frames.specs.Outs.{sent_of};
 ghost use Rattle.liars.specs.Lies.{IsLie, IsTold, bad_reply, crowded, empty_proposal, faces, flooded, two_faced};
 
 use crate::crowd::crowd;
-use authenticators::Keyring;
+use authenticators::ReplicaKeyring;
 use frame_writers::{ReplyText, write_core};
 use frames_view::{Frame, ProposalView, ReplyView, read};
 use ids::{Digest, Fault, Kind, ReplicaId};
@@ -46,11 +45,10 @@ const REPEATS: usize = 64;
 /// `Memory` is the one refusal. A frame that the lie isn't about goes out as it is.
 pub fn lie(
     alloc: Global,
-    keyring: &Keyring,
+    keyring: &ReplicaKeyring,
     liar: Liar,
     sending: Sending,
 ) -> Result<Vec<Sending>, Fault>
-    requires { keyring.now.party < replicas keyring.now.sizes }
     ensures lies { IfOk result (λ out. IsLie keyring.now liar (sent_of sending) (map sent_of out.items)) }
     ensures memory { OnErr result (result ≡ Err Fault.Memory) }
 {
@@ -74,7 +72,11 @@ fn one(alloc: Global, sending: Sending) -> Result<Vec<Sending>, Fault>
 }
 
 /// What a two-faced replica sends.
-fn with_two_faces(alloc: Global, keyring: &Keyring, sending: Sending) -> Result<Vec<Sending>, Fault>
+fn with_two_faces(
+    alloc: Global,
+    keyring: &ReplicaKeyring,
+    sending: Sending,
+) -> Result<Vec<Sending>, Fault>
     ensures lies { IfOk result (λ out. IsTold (two_faced keyring.now) keyring.now.sizes (sent_of sending)
         (map sent_of out.items)) }
     ensures memory { OnErr result (result ≡ Err Fault.Memory) }
@@ -90,8 +92,11 @@ fn with_two_faces(alloc: Global, keyring: &Keyring, sending: Sending) -> Result<
 }
 
 /// What a replica of bad replies sends.
-fn with_bad_reply(alloc: Global, keyring: &Keyring, sending: Sending) -> Result<Vec<Sending>, Fault>
-    requires { keyring.now.party < replicas keyring.now.sizes }
+fn with_bad_reply(
+    alloc: Global,
+    keyring: &ReplicaKeyring,
+    sending: Sending,
+) -> Result<Vec<Sending>, Fault>
     ensures lies { IfOk result (λ out. IsTold (bad_reply keyring.now) keyring.now.sizes (sent_of sending)
         (map sent_of out.items)) }
     ensures memory { OnErr result (result ≡ Err Fault.Memory) }
@@ -108,8 +113,11 @@ fn with_bad_reply(alloc: Global, keyring: &Keyring, sending: Sending) -> Result<
 }
 
 /// What a crowder sends.
-fn with_crowd(alloc: Global, keyring: &Keyring, sending: Sending) -> Result<Vec<Sending>, Fault>
-    requires { keyring.now.party < replicas keyring.now.sizes }
+fn with_crowd(
+    alloc: Global,
+    keyring: &ReplicaKeyring,
+    sending: Sending,
+) -> Result<Vec<Sending>, Fault>
     ensures lies { IfOk result (λ out. IsTold (crowded keyring.now) keyring.now.sizes (sent_of sending)
         (map sent_of out.items)) }
     ensures memory { OnErr result (result ≡ Err Fault.Memory) }
@@ -146,7 +154,7 @@ fn with_flood(alloc: Global, sending: Sending) -> Result<Vec<Sending>, Fault>
 /// The proposal of a block without commands in place of this one's.
 fn empty_proposal(
     alloc: Global,
-    keyring: &Keyring,
+    keyring: &ReplicaKeyring,
     view: &ProposalView<'_>,
 ) -> Result<Vec<u8>, Fault>
     ensures made { IfOk result (λ frame. frame.items ≡ spelling (empty_proposal keyring.now view.now.view
@@ -188,8 +196,11 @@ fn to_each(alloc: Global, n: u8, even: &[u8], odd: &[u8]) -> Result<Vec<Sending>
 }
 
 /// The reply to the same command with another text.
-fn bad_reply(alloc: Global, keyring: &Keyring, view: &ReplyView<'_>) -> Result<Vec<u8>, Fault>
-    requires own { keyring.now.party < replicas keyring.now.sizes }
+fn bad_reply(
+    alloc: Global,
+    keyring: &ReplicaKeyring,
+    view: &ReplyView<'_>,
+) -> Result<Vec<u8>, Fault>
     requires fits { IsFrame keyring.now.sizes (reply_of view.now) }
     ensures made { IfOk result (λ frame. frame.items ≡ spelling (reply_to (identity_of keyring.now)
         (record {

@@ -15,7 +15,7 @@ ghost use Rattle.locked_replica.specs.Addressed.{may_step};
 use crate::closed::{Closed, NotAll};
 use crate::once::each_once;
 use certificates::{Authenticated, Checked};
-use ids::{Fault, PartyId, ReplicaId};
+use ids::{Fault, ReplicaId};
 use marks::{Eye, Marks};
 use replica::{Archived, Input, Out};
 use std::alloc::Global;
@@ -146,7 +146,7 @@ impl<'a> Kept<'a> {
     fn is_mine<V: Authenticated>(&self, checked: &Checked<'_, V>) -> bool
         ensures { result ≡ same_replica checked.now.keys self.now.keys }
     {
-        checked.keyring().party() == PartyId::from(self.number())
+        checked.keyring().replica() == self.number()
             && checked.config() == self.replica.replica().config()
     }
 

@@ -12,7 +12,7 @@ use crate::blocks::{leaf_after, raised};
 use crate::change::Change;
 use crate::state::{High, State};
 use crate::stored::{GotNewView, StoredStep};
-use authenticators::Keyring;
+use authenticators::ReplicaKeyring;
 use certificates::cut_bytes;
 use frames_view::{CertificateBuf, NewViewView};
 use ids::{Digest, Fault, Kind, View};
@@ -21,8 +21,12 @@ use signed_frames::{Out, Sending, To, new_view_frame};
 use std::alloc::Global;
 
 /// The view goes to all, with the highest certificate as it is passed on.
-fn announcement(alloc: Global, keyring: &Keyring, view: View, high: &High) -> Result<Out, Fault>
-    requires replica { keyring.now.party < replicas keyring.now.sizes }
+fn announcement(
+    alloc: Global,
+    keyring: &ReplicaKeyring,
+    view: View,
+    high: &High,
+) -> Result<Out, Fault>
     requires certificate { IsCertificate keyring.now.sizes high.now.certificate }
     ensures made { IfOk result (λ out. out ≡ new_view_sent keyring.now view high.now.certificate ∷ []) }
     ensures memory { OnErr result (result ≡ Err Fault.Memory) }
@@ -38,8 +42,7 @@ fn announcement(alloc: Global, keyring: &Keyring, view: View, high: &High) -> Re
 }
 
 /// What a timeout comes to: the replica goes on to the next view, and announces it.
-pub(crate) fn decide_timeout(state: &State, keyring: &Keyring) -> Result<Change, Fault>
-    requires replica { keyring.now.party < replicas keyring.now.sizes }
+pub(crate) fn decide_timeout(state: &State, keyring: &ReplicaKeyring) -> Result<Change, Fault>
     requires certified { AreCertified keyring.now.sizes state.now.variables }
     ensures made { IfOk result (IsTimeout keyring.now state.now) }
     ensures memory { OnErr result (result ≡ Err Fault.Memory) }
@@ -66,12 +69,11 @@ fn high_after<'a>(raised: &'a Option<High>, high: &'a High) -> &'a High
 /// The same, where the replica moved on.
 fn announcement_if(
     alloc: Global,
-    keyring: &Keyring,
+    keyring: &ReplicaKeyring,
     moved: bool,
     view: View,
     high: &High,
 ) -> Result<Out, Fault>
-    requires replica { keyring.now.party < replicas keyring.now.sizes }
     requires certificate { IsCertificate keyring.now.sizes high.now.certificate }
     ensures made { IfOk result
         (λ out. out ≡ (if moved then new_view_sent keyring.now view high.now.certificate ∷ [] else [])) }
@@ -87,11 +89,10 @@ fn announcement_if(
 /// and where the replica moves on to a greater view, it announces that.
 fn take_new_view(
     state: &State,
-    keyring: &Keyring,
+    keyring: &ReplicaKeyring,
     announced: &NewViewView,
     block: BlockRef,
 ) -> Result<Change, Fault>
-    requires replica { keyring.now.party < replicas keyring.now.sizes }
     requires sender { (announced_by announced.now).sender < replicas state.now.pace.sizes }
     requires certificate { IsCertificate keyring.now.sizes (announced_by announced.now).certificate }
     requires certified { AreCertified keyring.now.sizes state.now.variables }
@@ -123,10 +124,9 @@ fn take_new_view(
 /// What an announced view comes to: `UnknownParent` where the block of its certificate isn't in the tree.
 pub(crate) fn decide_new_view(
     state: &State,
-    keyring: &Keyring,
+    keyring: &ReplicaKeyring,
     announced: &NewViewView,
 ) -> Result<Change, Fault>
-    requires replica { keyring.now.party < replicas keyring.now.sizes }
     requires sender { (announced_by announced.now).sender < replicas state.now.pace.sizes }
     requires certificate { IsCertificate keyring.now.sizes (announced_by announced.now).certificate }
     requires certified { AreCertified keyring.now.sizes state.now.variables }

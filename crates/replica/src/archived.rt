@@ -15,7 +15,7 @@ use crate::chronicle::ChronicleView;
 use crate::replica::Replica;
 use crate::step_log::Steps;
 use admission::Input;
-use authenticators::Keyring;
+use authenticators::ReplicaKeyring;
 use executor::Entries;
 use ids::{Config, Fault, ReplicaId};
 use signed_frames::Out;
@@ -72,12 +72,11 @@ impl Archived {
         alloc: Global,
         config: Config,
         number: ReplicaId,
-        keyring: Keyring,
+        keyring: ReplicaKeyring,
         hasher: RandomState,
     ) -> Result<Archived, Fault>
         requires sizes { config ≡ keyring.sizes }
         requires number { number ≡ keyring.party }
-        requires replica { number < replicas config }
         ensures made { IfOk result
             (λ r. r ≡ record { keys = keyring; replica = record { chronicle = []; standing = running } }) }
         ensures memory { OnErr result (result ≡ Err Fault.Memory) }

@@ -1,7 +1,6 @@
 //! Proposing at a beat.
 
-ghost use Rattle.std.specs.Prelude.{◌≡◌, ◌<◌, [], ◌∷◌, IfOk, OnErr};
-ghost use Rattle.ids.specs.Sizes.{replicas};
+ghost use Rattle.std.specs.Prelude.{◌≡◌, [], ◌∷◌, IfOk, OnErr};
 ghost use Rattle.std.specs.Option.{option_or};
 ghost use Rattle.definitions.specs.FrameLimits.{IsCertificate};
 ghost use Rattle.replica.specs.Kept.{IsFitOwn, AreCertified};
@@ -12,7 +11,7 @@ use crate::change::Change;
 use crate::pick::picked;
 use crate::state::{OwnProposal, State};
 use crate::stored::StoredStep;
-use authenticators::Keyring;
+use authenticators::ReplicaKeyring;
 use certificates::cut_bytes;
 use frames_view::{CertificateBuf, write_core};
 use ids::{Digest, Fault, Height, Kind, View};
@@ -60,11 +59,10 @@ fn child_of(state: &State) -> Result<OwnProposal, Fault>
 /// A proposal of its own, to all, with its certificate as it is passed on.
 fn proposal_out(
     alloc: Global,
-    keyring: &Keyring,
+    keyring: &ReplicaKeyring,
     view: View,
     own: &OwnProposal,
 ) -> Result<Out, Fault>
-    requires replica { keyring.now.party < replicas keyring.now.sizes }
     requires certificate { IsCertificate keyring.now.sizes own.now.certificate }
     ensures made { IfOk result (λ out. out ≡ proposal_sent keyring.now view own.now ∷ []) }
     ensures memory { OnErr result (result ≡ Err Fault.Memory) }
@@ -80,16 +78,14 @@ fn proposal_out(
 }
 
 /// Whether the replica leads its view.
-pub(crate) fn leads(state: &State, keyring: &Keyring) -> bool
-    requires { keyring.now.party < replicas keyring.now.sizes }
+pub(crate) fn leads(state: &State, keyring: &ReplicaKeyring) -> bool
     ensures { result ≡ is_led keyring.now state.now }
 {
     keyring.config().leader(state.pace.view()) == keyring.replica()
 }
 
 /// Makes a child of the leaf, where the replica leads its view and the leaf's block is known.
-fn made_by(state: &State, keyring: &Keyring) -> Result<Option<OwnProposal>, Fault>
-    requires { keyring.now.party < replicas keyring.now.sizes }
+fn made_by(state: &State, keyring: &ReplicaKeyring) -> Result<Option<OwnProposal>, Fault>
     ensures made { IfOk result (λ own. own ≡ made_by keyring.now state.now) }
     ensures memory { OnErr result (result ≡ Err Fault.Memory) }
 {
@@ -117,8 +113,11 @@ fn leaf_with(made: &Option<OwnProposal>, leaf: BlockRef) -> BlockRef
 }
 
 /// A leader's last proposal, to all: the one that it made now, or the one before.
-fn last_out(state: &State, keyring: &Keyring, made: &Option<OwnProposal>) -> Result<Out, Fault>
-    requires replica { keyring.now.party < replicas keyring.now.sizes }
+fn last_out(
+    state: &State,
+    keyring: &ReplicaKeyring,
+    made: &Option<OwnProposal>,
+) -> Result<Out, Fault>
     requires certified { IsFitOwn keyring.now.sizes (option_or made.now state.now.variables.own) }
     ensures made { IfOk result
         (λ out. out ≡ last_sent keyring.now state.now (option_or made.now state.now.variables.own)) }
@@ -135,8 +134,7 @@ fn last_out(state: &State, keyring: &Keyring, made: &Option<OwnProposal>) -> Res
 
 /// What a beat comes to: where the replica leads its view, it proposes a child of its leaf, or its
 /// last proposal again where the leaf isn't in the tree yet.
-pub(crate) fn decide_beat(state: &State, keyring: &Keyring) -> Result<Change, Fault>
-    requires replica { keyring.now.party < replicas keyring.now.sizes }
+pub(crate) fn decide_beat(state: &State, keyring: &ReplicaKeyring) -> Result<Change, Fault>
     requires certified { AreCertified keyring.now.sizes state.now.variables }
     ensures made { IfOk result (λ d. d ≡ beat_change keyring.now state.now) }
     ensures memory { OnErr result (result ≡ Err Fault.Memory) }

@@ -1,7 +1,6 @@
 //! Taking a block in.
 
-ghost use Rattle.std.specs.Prelude.{◌≡◌, ◌<◌, IfOk, OnErr};
-ghost use Rattle.ids.specs.Sizes.{replicas};
+ghost use Rattle.std.specs.Prelude.{◌≡◌, IfOk, OnErr};
 ghost use Rattle.definitions.specs.Digests.{digest as digest_of_core};
 ghost use Rattle.frames_view.specs.Views.{certificate_of};
 ghost use Rattle.block_tree.specs.Insertions.{IsNodeFor};
@@ -15,7 +14,7 @@ use crate::change::{Change, Growth};
 use crate::offer::Offer;
 use crate::state::{High, State};
 use crate::stored::{Again, StoredStep, TookAgain, TookNew};
-use authenticators::Keyring;
+use authenticators::ReplicaKeyring;
 use block_tree::{Node, Plan, Tree};
 use frames_view::{CertificateBuf, CertificateView, CoreBuf};
 use ids::{Digest, Fault, Height, Kind};
@@ -24,8 +23,12 @@ use signed_frames::{Out, Sending, To, vote_frame};
 use std::alloc::Global;
 
 /// What goes out: the vote, if one was given.
-fn vote_out(state: &State, keyring: &Keyring, digest: &Digest, voted: bool) -> Result<Out, Fault>
-    requires { keyring.now.party < replicas keyring.now.sizes }
+fn vote_out(
+    state: &State,
+    keyring: &ReplicaKeyring,
+    digest: &Digest,
+    voted: bool,
+) -> Result<Out, Fault>
     ensures made { IfOk result (λ out. out ≡ votes_sent keyring.now state.now.pace.view digest.now voted) }
     ensures memory { OnErr result (result ≡ Err Fault.Memory) }
 {
@@ -84,11 +87,10 @@ fn stored_again(state: &State, offer: &Offer, voted: bool) -> Result<StoredStep,
 /// Takes a block that stands in the tree.
 fn take_again(
     state: &State,
-    keyring: &Keyring,
+    keyring: &ReplicaKeyring,
     offer: &Offer,
     digest: Digest,
 ) -> Result<Change, Fault>
-    requires replica { keyring.now.party < replicas keyring.now.sizes }
     requires digest { digest ≡ digest_of_core offer.now.core }
     ensures made { IfOk result (λ d. d ≡ again_change keyring.now state.now offer.now) }
     ensures memory { OnErr result (result ≡ Err Fault.Memory) }
@@ -134,12 +136,11 @@ pub(crate) fn leaf_after(raised: &Option<High>, leaf: BlockRef) -> BlockRef
 /// Takes a new block, by the rules after it.
 fn take_new(
     state: &State,
-    keyring: &Keyring,
+    keyring: &ReplicaKeyring,
     offer: &Offer,
     node: Node,
     rules: Rules,
 ) -> Result<Change, Fault>
-    requires replica { keyring.now.party < replicas keyring.now.sizes }
     requires node { IsNodeFor (tree_of state.now.variables) offer.now.core offer.now.certificate
         offer.now.found.clear node }
     ensures made { IfOk result (λ d. d ≡ new_change keyring.now state.now offer.now node rules) }
@@ -168,8 +169,11 @@ fn take_new(
 }
 
 /// What a block comes to.
-pub(crate) fn decide_block(state: &State, keyring: &Keyring, offer: &Offer) -> Result<Change, Fault>
-    requires { keyring.now.party < replicas keyring.now.sizes }
+pub(crate) fn decide_block(
+    state: &State,
+    keyring: &ReplicaKeyring,
+    offer: &Offer,
+) -> Result<Change, Fault>
     ensures { IsDecided keyring.now state.now offer.now result }
 {
     match state

@@ -3,7 +3,6 @@
 ghost use Rattle.ids.specs.declared.limits.TheConstants.{MOST_TEXT};
 ghost use Rattle.std.specs.Prelude.{◌≡◌, ◌<◌, ◌≤◌, ◌-◌, ◌++◌, [], map, reverse, length, option_map};
 ghost use Rattle.std.specs.Prelude.{option_to_list, OnOk, OnErr, IfOk, IfSome, IfNone};
-ghost use Rattle.ids.specs.Sizes.{replicas};
 ghost use Rattle.definitions.specs.Histories.{entry_of};
 ghost use Rattle.mempool.specs.Pool.{left_after};
 ghost use Rattle.replica.specs.Kept.{waiting, tree_of};
@@ -13,7 +12,7 @@ ghost use Rattle.replica.specs.Execution.{history_above, IsCutIn, IsCut, told_on
 
 use crate::branch::block_at;
 use crate::state::State;
-use authenticators::Keyring;
+use authenticators::ReplicaKeyring;
 use block_tree::{Node, Tree};
 use executor::{Answer, Executor, Ledger};
 use frame_writers::ReplyText;
@@ -34,8 +33,7 @@ fn text_of(answer: &Answer) -> Option<ReplyText<'_>>
 
 /// The reply to an executed command. Each such command came in a frame of these sizes, so it has a
 /// client to go to, and its text is short enough.
-fn reply(alloc: Global, keyring: &Keyring, answer: &Answer) -> Result<Option<Sending>, Fault>
-    requires { keyring.now.party < replicas keyring.now.sizes }
+fn reply(alloc: Global, keyring: &ReplicaKeyring, answer: &Answer) -> Result<Option<Sending>, Fault>
     ensures made { IfOk result (λ r. option_map sent_of r ≡ told_one keyring.now answer.now) }
     ensures memory { OnErr result (result ≡ Err Fault.Memory) }
 {
@@ -57,11 +55,10 @@ fn reply(alloc: Global, keyring: &Keyring, answer: &Answer) -> Result<Option<Sen
 /// The reply to an executed command goes out too.
 pub(crate) fn tell_one(
     alloc: Global,
-    keyring: &Keyring,
+    keyring: &ReplicaKeyring,
     answer: &Answer,
     out: &mut Out,
 ) -> Result<(), Fault>
-    requires { keyring.now.party < replicas keyring.now.sizes }
     ensures told { OnOk result (out.new ≡ out.old ++ option_to_list (told_one keyring.now answer.now)) }
     ensures memory { OnErr result (result ≡ Err Fault.Memory) }
 {
@@ -72,8 +69,12 @@ pub(crate) fn tell_one(
 }
 
 /// The replies to executed commands go out too.
-fn tell(alloc: Global, keyring: &Keyring, answers: &[Answer], out: &mut Out) -> Result<(), Fault>
-    requires { keyring.now.party < replicas keyring.now.sizes }
+fn tell(
+    alloc: Global,
+    keyring: &ReplicaKeyring,
+    answers: &[Answer],
+    out: &mut Out,
+) -> Result<(), Fault>
     ensures told { OnOk result (out.new ≡ out.old ++ told keyring.now answers.now) }
     ensures some { OnErr result (1 ≤ length answers.now) }
 {
@@ -90,11 +91,10 @@ fn execute_block<L: Ledger>(
     ledger: &mut L,
     pool: &mut Mempool,
     alloc: Global,
-    keyring: &Keyring,
+    keyring: &ReplicaKeyring,
     block: &Node,
     out: &mut Out,
 ) -> Result<(), Fault>
-    requires replica { keyring.now.party < replicas keyring.now.sizes }
     requires room { executor.old.most_keys ≡ keyring.now.sizes.most_keys }
     ensures room { executor.new.most_keys ≡ executor.old.most_keys }
     ensures executed { OnOk result (executor.new.history
@@ -124,10 +124,9 @@ fn execute_between<L: Ledger>(
     from: u64,
     to: u64,
     alloc: Global,
-    keyring: &Keyring,
+    keyring: &ReplicaKeyring,
     out: &mut Out,
 ) -> Result<(), Fault>
-    requires replica { keyring.now.party < replicas keyring.now.sizes }
     requires room { executor.old.most_keys ≡ keyring.now.sizes.most_keys }
     ensures room { executor.new.most_keys ≡ executor.old.most_keys }
     ensures executed { OnOk result
@@ -153,13 +152,12 @@ fn execute_between<L: Ledger>(
 /// commands were executed.
 pub(crate) fn execute<L: Ledger>(
     state: &mut State,
-    keyring: &Keyring,
+    keyring: &ReplicaKeyring,
     from: Height,
     executor: &mut Executor,
     ledger: &mut L,
     out: &mut Out,
 ) -> Result<(), Fault>
-    requires replica { keyring.now.party < replicas keyring.now.sizes }
     requires room { executor.old.most_keys ≡ keyring.now.sizes.most_keys }
     ensures room { executor.new.most_keys ≡ executor.old.most_keys }
     ensures rest { state.new ≡ waiting state.new.pending state.old }

@@ -10,7 +10,7 @@ ghost use Rattle.replica.specs.Kept.{AreCertified};
 use crate::change::Change;
 use crate::state::State;
 use crate::stored::{GotFetch, StoredStep};
-use authenticators::Keyring;
+use authenticators::ReplicaKeyring;
 use certificates::cut_bytes;
 use frames_view::FetchView;
 use ids::{Digest, Fault, Kind, ReplicaId};
@@ -18,8 +18,12 @@ use signed_frames::{Out, Sending, To, block_frame};
 
 /// The block of a digest with its certificate as it is passed on, for a replica that asked for it, where it
 /// stands in the tree.
-fn supply(state: &State, keyring: &Keyring, to: ReplicaId, digest: &Digest) -> Result<Out, Fault>
-    requires own { keyring.now.party < replicas keyring.now.sizes }
+fn supply(
+    state: &State,
+    keyring: &ReplicaKeyring,
+    to: ReplicaId,
+    digest: &Digest,
+) -> Result<Out, Fault>
     requires other { to < replicas keyring.now.sizes }
     requires certified { AreCertified keyring.now.sizes state.now.variables }
     ensures made { IfOk result
@@ -42,10 +46,9 @@ fn supply(state: &State, keyring: &Keyring, to: ReplicaId, digest: &Digest) -> R
 /// What a question for a block comes to: the block goes to the one who asked, where it stands in the tree.
 pub(crate) fn decide_fetch(
     state: &State,
-    keyring: &Keyring,
+    keyring: &ReplicaKeyring,
     asked: &FetchView,
 ) -> Result<Change, Fault>
-    requires own { keyring.now.party < replicas keyring.now.sizes }
     requires other { (asked_by asked.now).sender < replicas keyring.now.sizes }
     requires certified { AreCertified keyring.now.sizes state.now.variables }
     ensures made { IfOk result (λ d. d ≡ fetch_change keyring.now state.now.variables (asked_by asked.now)) }

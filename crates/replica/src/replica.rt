@@ -42,7 +42,7 @@ use crate::step_log::{NoLog, StepLog};
 use crate::stored::StoredStep;
 use crate::vote::decide_vote;
 use admission::Input;
-use authenticators::Keyring;
+use authenticators::ReplicaKeyring;
 use block_tree::Tree;
 use executor::{Executor, Ledger, NoLedger};
 use frames_view::{CertificateBuf, genesis_digest};
@@ -59,7 +59,7 @@ use vote_collector::Collector;
 
 /// One replica: its keys, its chronicle, and all that follows from the chronicle.
 pub struct Replica {
-    keyring: Keyring,
+    keyring: ReplicaKeyring,
     state: State,
     executor: Executor,
     standing: Standing,
@@ -78,8 +78,7 @@ impl Drop for Replica {
 }
 
 impl Model for Replica {
-    ghost use Rattle.std.specs.Prelude.{◌≡◌, ◌<◌};
-    ghost use Rattle.ids.specs.Sizes.{replicas};
+    ghost use Rattle.std.specs.Prelude.{◌≡◌};
     ghost use Rattle.replica.specs.Steps.{Held, standing_of};
 
     ghost Value = { Held };
@@ -100,19 +99,17 @@ impl Model for Replica {
       chronicle = r.state.variables.chronicle;
       standing = standing_of r.standing (length r.executor.history);
     }) r.state r.executor.history
-        × (r.keyring.party < replicas r.keyring.sizes)
         × (r.executor.most_keys ≡ r.keyring.sizes.most_keys) };
 }
 
 /// What an input comes to: a change that is to be made, or a refusal.
 fn decide(
     state: &State,
-    keyring: &Keyring,
+    keyring: &ReplicaKeyring,
     executor: &Executor,
     input: Input<'_>,
 ) -> Result<Change, Fault>
     requires own { IsTrue (is_addressed keyring.now input) }
-    requires replica { keyring.now.party < replicas keyring.now.sizes }
     requires sizes { state.now.pace.sizes ≡ keyring.now.sizes }
     requires votes { state.now.votes.sizes ≡ keyring.now.sizes }
     requires room { executor.now.most_keys ≡ keyring.now.sizes.most_keys }
@@ -143,13 +140,12 @@ fn decide(
 /// Takes an input of a replica that goes on, and executes nothing yet.
 fn take<S: StepLog>(
     state: &mut State,
-    keyring: &Keyring,
+    keyring: &ReplicaKeyring,
     executor: &Executor,
     input: Input<'_>,
     log: &mut S,
 ) -> Result<Out, Fault>
     requires own { IsTrue (is_addressed keyring.now input) }
-    requires replica { keyring.now.party < replicas keyring.now.sizes }
     requires sizes { state.old.pace.sizes ≡ keyring.now.sizes }
     requires votes { state.old.votes.sizes ≡ keyring.now.sizes }
     requires room { executor.now.most_keys ≡ keyring.now.sizes.most_keys }
@@ -169,13 +165,12 @@ fn take<S: StepLog>(
 fn advance<S: StepLog, L: Ledger>(
     state: &mut State,
     executor: &mut Executor,
-    keyring: &Keyring,
+    keyring: &ReplicaKeyring,
     input: Input<'_>,
     log: &mut S,
     ledger: &mut L,
 ) -> Taken
     requires own { IsTrue (is_addressed keyring.now input) }
-    requires replica { keyring.now.party < replicas keyring.now.sizes }
     requires sizes { state.old.pace.sizes ≡ keyring.now.sizes }
     requires votes { state.old.votes.sizes ≡ keyring.now.sizes }
     requires room { executor.old.most_keys ≡ keyring.now.sizes.most_keys }
@@ -227,12 +222,11 @@ impl Replica {
         alloc: Global,
         config: Config,
         number: ReplicaId,
-        keyring: Keyring,
+        keyring: ReplicaKeyring,
         hasher: RandomState,
     ) -> Result<Replica, Fault>
         requires sizes { config ≡ keyring.sizes }
         requires number { number ≡ keyring.party }
-        requires replica { number < replicas config }
         ensures made { IfOk result
             (λ r. r ≡ record { keys = keyring; replica = record { chronicle = []; standing = running } }) }
         ensures memory { OnErr result (result ≡ Err Fault.Memory) }
@@ -252,13 +246,12 @@ impl Replica {
         alloc: Global,
         config: Config,
         number: ReplicaId,
-        keyring: Keyring,
+        keyring: ReplicaKeyring,
         most_keys: usize,
         hasher: RandomState,
     ) -> Result<Replica, Fault>
         requires sizes { config ≡ keyring.sizes }
         requires number { number ≡ keyring.party }
-        requires replica { number < replicas config }
         ensures made { IfOk result (λ r. r ≡ record {
           keys = record keyring { sizes = record config { most_keys = most_keys } };
           replica = record { chronicle = []; standing = running };
@@ -298,6 +291,7 @@ impl Replica {
         ensures number { self.now.keys.party < replicas self.now.keys.sizes }
         ensures kept { IsLawfullyKept self.now.keys.sizes self.now.replica.chronicle }
     {
+        let _number = self.keyring.replica();
         let _steps = self.state.count();
     }
 

@@ -1,7 +1,6 @@
 //! Requests.
 
-ghost use Rattle.std.specs.Prelude.{◌≡◌, ◌<◌, IfOk, OnErr};
-ghost use Rattle.ids.specs.Sizes.{replicas};
+ghost use Rattle.std.specs.Prelude.{◌≡◌, IfOk, OnErr};
 ghost use Rattle.frames_view.specs.Views.{command_of};
 ghost use Rattle.replica.specs.Requests.{again_sent, is_full, IsWaiting, old_change, IsRequested};
 
@@ -9,7 +8,7 @@ use crate::change::{Change, Growth};
 use crate::execution::tell_one;
 use crate::state::State;
 use crate::stored::StoredStep;
-use authenticators::Keyring;
+use authenticators::ReplicaKeyring;
 use executor::Executor;
 use frames_view::CommandView;
 use ids::Fault;
@@ -35,11 +34,10 @@ fn wait(state: &State, request: &CommandView) -> Result<Change, Fault>
 /// The reply that its client's last executed command had, where it is that one.
 fn again(
     state: &State,
-    keyring: &Keyring,
+    keyring: &ReplicaKeyring,
     executor: &Executor,
     request: &CommandView,
 ) -> Result<Out, Fault>
-    requires replica { keyring.now.party < replicas keyring.now.sizes }
     requires room { executor.now.most_keys ≡ keyring.now.sizes.most_keys }
     ensures made { IfOk result (λ out. out ≡ again_sent keyring.now executor.now.history (command_of request.now)) }
     ensures memory { OnErr result (result ≡ Err Fault.Memory) }
@@ -58,11 +56,10 @@ fn again(
 /// reply again, or nothing.
 fn repeat(
     state: &State,
-    keyring: &Keyring,
+    keyring: &ReplicaKeyring,
     executor: &Executor,
     request: &CommandView,
 ) -> Result<Change, Fault>
-    requires replica { keyring.now.party < replicas keyring.now.sizes }
     requires room { executor.now.most_keys ≡ keyring.now.sizes.most_keys }
     ensures made { IfOk result
         (λ d. d ≡ old_change keyring.now state.now executor.now.history (command_of request.now)) }
@@ -76,11 +73,10 @@ fn repeat(
 /// What a request comes to: it waits until it is executed. `PoolFull` comes where 4,096 others wait.
 pub(crate) fn decide_request(
     state: &State,
-    keyring: &Keyring,
+    keyring: &ReplicaKeyring,
     executor: &Executor,
     request: &CommandView,
 ) -> Result<Change, Fault>
-    requires replica { keyring.now.party < replicas keyring.now.sizes }
     requires room { executor.now.most_keys ≡ keyring.now.sizes.most_keys }
     ensures { IsRequested keyring.now state.now executor.now.history (command_of request.now) result }
 {

@@ -1,7 +1,6 @@
 //! Frames to all replicas, and votes, whose tags are for all.
 
-ghost use Rattle.std.specs.Prelude.{◌≡◌, ◌<◌, IfOk, OnErr, IsTrue};
-ghost use Rattle.ids.specs.Sizes.{replicas};
+ghost use Rattle.std.specs.Prelude.{◌≡◌, IfOk, OnErr, IsTrue};
 ghost use Rattle.ids.specs.Numbers.{kind_number};
 ghost use Rattle.ids.specs.declared.kind.Kind.TheVariants as kind;
 ghost use Rattle.definitions.specs.Frames.{vote, frame_text, proposal_text, new_view_text, spelling};
@@ -10,15 +9,14 @@ ghost use Rattle.definitions.specs.Sessions.{request_frame};
 ghost use Rattle.signed_frames.specs.Clients.{client_of};
 
 use crate::signed::{signed_for_all, vector_len};
-use authenticators::Keyring;
+use authenticators::{Keyring, ReplicaKeyring};
 use frame_writers::{Payload, begin_new_view, begin_proposal, begin_request, begin_vote};
 use ids::{ClientId, Digest, Fault, Kind, Seq, View};
 use std::alloc::Global;
 
 /// The vote for a block. Its tags speak of the block's digest alone, so that they stand in a
 /// certificate as they are.
-pub fn vote_frame(alloc: Global, keyring: &Keyring, block: &Digest) -> Result<Vec<u8>, Fault>
-    requires { keyring.now.party < replicas keyring.now.sizes }
+pub fn vote_frame(alloc: Global, keyring: &ReplicaKeyring, block: &Digest) -> Result<Vec<u8>, Fault>
     ensures made { IfOk result (λ frame. frame.items
         ≡ spelling (vote block.now (record {
           voter = keyring.now.party;
@@ -27,15 +25,16 @@ pub fn vote_frame(alloc: Global, keyring: &Keyring, block: &Digest) -> Result<Ve
     ensures memory { OnErr result (result ≡ Err Fault.Memory) }
 {
     let mut frame = Vec::new(alloc);
-    begin_vote(block, keyring.replica(), vector_len(keyring), &mut frame)?;
-    keyring.vector(Kind::Vote, &block.0, &mut frame)?;
+    let keys = keyring.as_keyring();
+    begin_vote(block, keyring.replica(), vector_len(keys), &mut frame)?;
+    keys.vector(Kind::Vote, &block.0, &mut frame)?;
     Ok(frame)
 }
 
 /// The proposal of a block for a view, of the bytes of its core and of the certificate that goes along.
 pub fn proposal_frame<'a>(
     alloc: Global,
-    keyring: &Keyring,
+    keyring: &ReplicaKeyring,
     view: View,
     core: &'a [u8],
     certificate: &'a [u8],
@@ -47,18 +46,18 @@ pub fn proposal_frame<'a>(
     ensures memory { OnErr result (result ≡ Err Fault.Memory) }
 {
     let mut frame = Vec::new(alloc);
-    begin_proposal(view, core, certificate, vector_len(keyring), &mut frame)?;
-    signed_for_all(alloc, keyring, Kind::Proposal, frame)
+    let keys = keyring.as_keyring();
+    begin_proposal(view, core, certificate, vector_len(keys), &mut frame)?;
+    signed_for_all(alloc, keys, Kind::Proposal, frame)
 }
 
 /// The announcement of a view, of the bytes of the highest certificate.
 pub fn new_view_frame(
     alloc: Global,
-    keyring: &Keyring,
+    keyring: &ReplicaKeyring,
     view: View,
     certificate: &[u8],
 ) -> Result<Vec<u8>, Fault>
-    requires { keyring.now.party < replicas keyring.now.sizes }
     ensures made { IfOk result (λ frame. let content = new_view_text view keyring.now.party certificate.now in
         frame.items
         ≡ frame_text (kind_number kind.NewView) content
@@ -66,14 +65,10 @@ pub fn new_view_frame(
     ensures memory { OnErr result (result ≡ Err Fault.Memory) }
 {
     let mut frame = Vec::new(alloc);
-    begin_new_view(
-        view,
-        keyring.replica(),
-        certificate,
-        vector_len(keyring),
-        &mut frame,
-    )?;
-    signed_for_all(alloc, keyring, Kind::NewView, frame)
+    let keys = keyring.as_keyring();
+    let sender = keyring.replica();
+    begin_new_view(view, sender, certificate, vector_len(keys), &mut frame)?;
+    signed_for_all(alloc, keys, Kind::NewView, frame)
 }
 
 /// The client whose keys these are.

@@ -2,10 +2,11 @@
 //! 180-4) of the word `hsim` and of their numbers, two bytes each, the lower one first.
 #![tactic(auto)]
 
-ghost use Rattle.std.specs.Prelude.{◌≡◌, ◌+◌, ◌≤◌, ◌^◌, ◌++◌, IfOk, OnOk, OnErr};
+ghost use Rattle.std.specs.Prelude.{◌≡◌, ◌+◌, ◌≤◌, ◌^◌, ◌++◌, IfOk, OnOk, OnErr, if◌then◌else◌};
+ghost use Rattle.definitions.specs.Keyrings.{is_replica_of};
 ghost use Rattle.simulated_keys.specs.Keys.{simulated_key, keys_with, simulated_keys};
 
-use authenticators::{Keyring, SharedKey};
+use authenticators::{Keyring, ReplicaKeyring, SharedKey};
 use ids::{ClientId, Config, Fault, PartyId, ReplicaId};
 use sha2::{Digest, Sha256};
 use std::alloc::Global;
@@ -22,6 +23,24 @@ pub fn keyring_of(alloc: Global, config: Config, party: PartyId) -> Result<Keyri
         push_keys(&mut keys, party, ClientId(0).into(), config.clients())?;
     }
     Ok(Keyring::new(config, party, keys))
+}
+
+/// The keyring of a replica of such a world, correct or not. `NoSuchParty` comes exactly where it has no such
+/// replica, and else `Memory` alone.
+pub fn replica_keyring_of(
+    alloc: Global,
+    config: Config,
+    replica: ReplicaId,
+) -> Result<ReplicaKeyring, Fault>
+    ensures made { IfOk result (λ keyring. keyring ≡ simulated_keys config replica) }
+    ensures refused { OnErr result
+        (result ≡ Err (if is_replica_of config replica then Fault.Memory else Fault.NoSuchParty)) }
+{
+    if replica.0 >= config.n() {
+        return Err(Fault::NoSuchParty);
+    }
+    let keyring = keyring_of(alloc, config, replica.into())?;
+    ReplicaKeyring::new(keyring).ok_or(Fault::NoSuchParty)
 }
 
 /// Appends a party's keys with so many parties from one on.

@@ -1,7 +1,6 @@
 //! One frame's turn.
 
-ghost use Rattle.std.specs.Prelude.{◌≡◌, ◌<◌, Result, MatchResult};
-ghost use Rattle.ids.specs.Sizes.{replicas};
+ghost use Rattle.std.specs.Prelude.{◌≡◌, Result, MatchResult};
 ghost use Rattle.ids.specs.declared.fault.Fault as faults;
 ghost use Rattle.admission.specs.declared.input.Input as inputs;
 ghost use Rattle.admission.specs.Admitted.{Admits};
@@ -11,8 +10,8 @@ use crate::gate::Gate;
 use crate::share::Share;
 use crate::steps::Steps;
 use admission::admit;
-use authenticators::Keyring;
-use ids::{Config, Fault};
+use authenticators::ReplicaKeyring;
+use ids::Fault;
 use signed_frames::Out;
 use std::sync::Wait;
 
@@ -25,19 +24,16 @@ pub fn turn<R: Wait, S: Steps, G: Gate>(
     share: &mut Share,
     gate: &G,
     frame: u64,
-    keyring: &Keyring,
-    config: &Config,
+    keyring: &ReplicaKeyring,
     bytes: &[u8],
 ) -> Result<Out, Fault>
-    requires sizes { config.now ≡ keyring.now.sizes }
-    requires replica { keyring.now.party < replicas config.now }
     ensures turned { (admitted : Result inputs.Input faults.Fault) × Admits keyring.now bytes.entry admitted
         × MatchResult admitted
         (λ input. S.moved steps.old share.old input result steps.new share.new)
         (λ n. (result ≡ Err n) × (steps.new ≡ steps.old) × (share.new ≡ share.old)) }
     ensures counts { Counts share.old result share.new }
 {
-    let input = admit(keyring, config, bytes)?;
+    let input = admit(keyring, bytes)?;
     gate.enter(frame);
     let answer = steps.step(rt, share, input);
     gate.stepped(frame);

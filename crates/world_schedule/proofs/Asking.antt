@@ -43,7 +43,7 @@ use Rattle.replica.specs.Steps.{Shows, Stepped}
 use Rattle.signed_frames.specs.Outs.{SentBytes, sent_of}
 use Rattle.world_schedule.specs.declared.effect.Effect.{Effect}
 use Rattle.world_schedule.specs.Turns.{admits, takes, TellsReaction, Takes, Ticks}
-use Rattle.world_schedule.specs.Asking.{Answers, Asks, SameReplica, is_lack, Refuses}
+use Rattle.world_schedule.specs.Asking.{Answers, Asks, is_lack, Refuses}
 
 -- ---- what reactions there are
 
@@ -410,10 +410,6 @@ refused-answers keys bytes old n result (read, is_read, h) e = by read is_read h
         same : ◌≡◌ {A = Result entering.Input Fault} (Err n) (Err fault.NotAFrame) → n ≡ fault.NotAFrame
         same k = cc
     by (Some f) rd h = checked f rd (check (identity_of keys) f) refl h
-
--- the keys of the same replica are of one identity
-pub same-identity : (a b : Keys) → SameReplica a b → identity_of a ≡ identity_of b
-same-identity a b s = λ i. record { sizes = s.sizes i; ring = s.ring i }
 
 -- ---- refusals
 

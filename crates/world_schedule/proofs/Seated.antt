@@ -253,20 +253,20 @@ module _ (s : Setting) (held : List steps.Held) (seats : List sessions.Held) (w 
       false≢true : false ≡ true → ⊥
       false≢true k = cc
 
-  pub replica-takes : (p : ℕ) (bytes : Bytes) (old new : steps.Held) (keys : Keys) (e : Effect)
-      → p < replicas s.sizes → HasKeysOf s p keys → old ≡ slice_index_or held p old → new.keys ≡ old.keys
-      → Takes (identity_of keys) bytes old.replica new.replica e
+  pub replica-takes : (p : ℕ) (bytes : Bytes) (old new : steps.Held) (e : Effect) → p < replicas s.sizes
+      → old ≡ slice_index_or held p old → new.keys ≡ old.keys
+      → Takes (identity_of old.keys) bytes old.replica new.replica e
       → Brings s w p bytes (slice_set held p new) seats e
-  replica-takes p bytes old new keys e l k here same t =
-      let mine : HasKeysOf s p new.keys =
-      subst (HasKeysOf s p) (sym same)
-      (subst (λ (h : steps.Held). HasKeysOf s p h.keys) (sym here) (at.seated.replica_keys p old l)) in
+  replica-takes p bytes old new e l here same t =
+      let k : HasKeysOf s p old.keys =
+      subst (λ (h : steps.Held). HasKeysOf s p h.keys) (sym here) (at.seated.replica_keys p old l) in
+      let mine : HasKeysOf s p new.keys = subst (HasKeysOf s p) (sym same) k in
       let state : old.replica ≡ w.replica p =
       ap (λ (h : steps.Held). h.replica) here ∙ at.replicas_are p old l in
       let x : Takes (self_of w p) bytes (w.replica p) new.replica e =
       subst (λ (i : Identity). Takes i bytes (w.replica p) new.replica e)
-      (self-is s w p keys at.setting k)
-      (subst (λ (r : replicas.Replica). Takes (identity_of keys) bytes r new.replica e) state t) in
+      (self-is s w p old.keys at.setting k)
+      (subst (λ (r : replicas.Replica). Takes (identity_of old.keys) bytes r new.replica e) state t) in
       let done = frame-comes p x.memory new e x.read l mine x.state x.tells in
       record {
         read = x.read;
@@ -402,16 +402,16 @@ module _ (s : Setting) (held : List steps.Held) (seats : List sessions.Held) (w 
 
 -- bytes came to a replica
 pub takes-if : (s : Setting) (held : List steps.Held) (seats : List sessions.Held) (i p : ℕ) (bytes : Bytes)
-    (old new : steps.Held) (keys : Keys) (r : Result Effect Fault) → i ≡ p → p < replicas s.sizes
-    → HasKeysOf s p keys → old ≡ slice_index_or held i old → new.keys ≡ old.keys
-    → IfOk r (λ e. Takes (identity_of keys) bytes old.replica new.replica e)
+    (old new : steps.Held) (r : Result Effect Fault) → i ≡ p → p < replicas s.sizes
+    → old ≡ slice_index_or held i old → new.keys ≡ old.keys
+    → IfOk r (λ e. Takes (identity_of old.keys) bytes old.replica new.replica e)
     → IfOk r
     (λ e. (w : World) → AreOf s held seats w → Brings s w p bytes (slice_set held i new) seats e)
-takes-if s held seats i p bytes old new keys (Ok e) is l k here same t = λ w at.
+takes-if s held seats i p bytes old new (Ok e) is l here same t = λ w at.
     subst (λ (n : ℕ). Brings s w p bytes (slice_set held n new) seats e) (sym is)
-    (replica-takes s held seats w at p bytes old new keys e l k
+    (replica-takes s held seats w at p bytes old new e l
     (subst (λ (n : ℕ). old ≡ slice_index_or held n old) is here) same t)
-takes-if s held seats i p bytes old new keys (Err n) is l k here same t = tt
+takes-if s held seats i p bytes old new (Err n) is l here same t = tt
 
 -- a replica's time was out, its beat came, or it was given leave to prune
 pub ticks-at : (s : Setting) (held : List steps.Held) (seats : List sessions.Held) (i p : ℕ) (input : Input)

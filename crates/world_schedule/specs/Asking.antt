@@ -5,7 +5,6 @@ use Rattle.std.specs.Prelude.{ℕ, ◌≡◌, Bool, true, false, List, [], Optio
 use Rattle.definitions.specs.Bytes.{Bytes}
 use Rattle.definitions.specs.Frames.{Frame}
 use Rattle.definitions.specs.FrameLimits.{IsReadAs}
-use Rattle.definitions.specs.Keyrings.{Keys, keyring_of}
 use Rattle.definitions.specs.Checks.{Identity}
 use Rattle.definitions.specs.Replicas.{MemorySupply, Replica, asks_for}
 use Rattle.admission.specs.Lacking.{lacked_by}
@@ -13,12 +12,6 @@ use Rattle.signed_frames.specs.Outs.{SentBytes}
 use Rattle.replica.specs.Steps.{Shows}
 use Rattle.world_schedule.specs.Turns.{takes, TellsReaction}
 use Rattle.world_schedule.specs.declared.effect.Effect.{Effect}
-
--- the keys are for the same replica
-pub record SameReplica (a b : Keys) : Type 0 where
-  pub sizes : a.sizes ≡ b.sizes
-  pub party : a.party ≡ b.party
-  pub ring : keyring_of a ≡ keyring_of b
 
 -- what a replica answers to bytes
 pub record Answers (self : Identity) (bytes : Bytes) (old new : Replica)

@@ -7,6 +7,7 @@ mod event;
 mod journal;
 mod outcome;
 mod parties;
+mod replica_party;
 mod replica_turn;
 mod running;
 mod world;

@@ -17,33 +17,17 @@ ghost use Rattle.world_schedule.specs.Seats.{Brings, Hands, Moves, Acts};
 use crate::effect::Effect;
 use crate::event::Event;
 use crate::outcome::{History, SentFrame};
+use crate::replica_party::ReplicaParty;
 use crate::world::World;
 use crate::{client, replica_turn};
 use client_accept::Session;
 use ids::{ClientId, Fault, Height, PartyId, ReplicaId};
-use replica::Archived;
 
 /// All replicas and clients, also the faulty ones, which no event changes.
 #[derive(Drop)]
 pub(crate) struct Parties {
-    pub(crate) replicas: Vec<Archived>,
+    pub(crate) replicas: Vec<ReplicaParty>,
     pub(crate) sessions: Vec<Session>,
-}
-
-/// A replica that has made no step.
-fn new_replica(world: &World, number: ReplicaId) -> Result<Archived, Fault>
-    requires { number < replicas world.now.sizes }
-    ensures made { IfOk result (IsNewReplica world.now number) }
-    ensures memory { OnErr result (result ≡ Err Fault.Memory) }
-{
-    let keyring = world.keyring(number.into()).duplicate(world.alloc())?;
-    Archived::new(
-        world.alloc(),
-        world.config(),
-        number,
-        keyring,
-        world.hasher(),
-    )
 }
 
 /// The session of a client that has sent nothing.
@@ -58,14 +42,14 @@ fn new_session(world: &World, client: ClientId) -> Result<Session, Fault>
 
 /// Replicas that have made no step.
 #[tactic(auto, using(crate::proofs::Seated::one_more, crate::proofs::Seated::none_below))]
-fn new_replicas(world: &World) -> Result<Vec<Archived>, Fault>
+fn new_replicas(world: &World) -> Result<Vec<ReplicaParty>, Fault>
     ensures made { IfOk result
         (λ rs. EachBelow (IsNewReplica world.now) (replicas world.now.sizes) rs.items) }
     ensures memory { OnErr result (result ≡ Err Fault.Memory) }
 {
     let mut replicas = Vec::new(world.alloc());
     for i in 0..world.config().n() {
-        let replica = new_replica(world, ReplicaId(i))?;
+        let replica = ReplicaParty::new(world, ReplicaId(i))?;
         replicas.push(replica)?;
     }
     Ok(replicas)
@@ -86,7 +70,11 @@ fn new_sessions(world: &World) -> Result<Vec<Session>, Fault>
 }
 
 /// Keeps the history of a correct replica.
-fn keep_correct(world: &World, histories: &mut Vec<History>, replica: Archived) -> Result<(), Fault>
+fn keep_correct(
+    world: &World,
+    histories: &mut Vec<History>,
+    replica: ReplicaParty,
+) -> Result<(), Fault>
     ensures kept { OnOk result
         (histories.new.items ≡ histories.old.items ++ told_by world.now (replica ∷ [])) }
     ensures memory { OnErr result (result ≡ Err Fault.Memory) }
@@ -94,13 +82,13 @@ fn keep_correct(world: &World, histories: &mut Vec<History>, replica: Archived) 
     if world.is_faulty(replica.replica().number().into()) {
         return Ok(());
     }
-    histories.push(History::of(replica))?;
+    histories.push(History::of(replica.into_replica()))?;
     Ok(())
 }
 
 /// The histories of the correct ones.
 #[tactic(auto, using(crate::proofs::Telling::told_append))]
-fn correct_histories(world: &World, replicas: Vec<Archived>) -> Result<Vec<History>, Fault>
+fn correct_histories(world: &World, replicas: Vec<ReplicaParty>) -> Result<Vec<History>, Fault>
     ensures made { IfOk result (λ hs. hs.items ≡ told_by world.now replicas.items) }
     ensures memory { OnErr result (result ≡ Err Fault.Memory) }
 {
@@ -138,9 +126,8 @@ impl Parties {
             → Brings world.now w to bytes.now self.new.replicas.items self.new.sessions.items e) }
         ensures memory { OnErr result (result ≡ Err Fault.Memory) }
     {
-        let keyring = world.keyring(to);
         let replica = &mut self.replicas[usize::from(to.0)];
-        replica_turn::receive(world.alloc(), replica, keyring, bytes)
+        replica_turn::receive(world.alloc(), replica, bytes)
     }
 
     /// Brings bytes to a client.

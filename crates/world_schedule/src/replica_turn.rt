@@ -1,7 +1,6 @@
 //! What events bring to a replica.
 
-ghost use Rattle.std.specs.Prelude.{◌≡◌, ◌<◌, ℕ, ◌⊎◌, Some, IfOk, OnErr};
-ghost use Rattle.ids.specs.Sizes.{Sizes, replicas};
+ghost use Rattle.std.specs.Prelude.{◌≡◌, IfOk, OnErr};
 ghost use Rattle.definitions.specs.Bytes.{Bytes};
 ghost use Rattle.definitions.specs.Frames.{Frame};
 ghost use Rattle.definitions.specs.FrameLimits.{IsReadAs};
@@ -9,28 +8,14 @@ ghost use Rattle.definitions.specs.Checks.{identity_of};
 ghost use Rattle.definitions.specs.Rulings.{timeout_in, beat_in, prune_in};
 ghost use Rattle.admission.specs.Lacking.{lacked_by};
 ghost use Rattle.world_schedule.specs.Turns.{Takes, Ticks};
-ghost use Rattle.world_schedule.specs.Asking.{Answers, Asks, is_lack, Refuses, SameReplica};
+ghost use Rattle.world_schedule.specs.Asking.{Asks, is_lack, Refuses};
 
 use crate::effect::Effect;
-use admission::{admit, missing};
-use authenticators::Keyring;
+use crate::replica_party::ReplicaParty;
+use admission::missing;
 use ids::{Fault, Height, Kind};
-use replica::{Archived, Input, Out, Replica, Sending, To};
+use replica::{Input, Replica, Sending, To};
 use std::alloc::Global;
-
-/// Brings bytes to a replica, checked with its keys.
-fn take(replica: &mut Archived, keyring: &Keyring, bytes: &[u8]) -> Result<Out, Fault>
-    requires same { SameReplica replica.old.keys keyring.now }
-    requires number { keyring.now.party < replicas keyring.now.sizes }
-    ensures keys { replica.new.keys ≡ replica.old.keys }
-    ensures taken { Answers (identity_of keyring.now) bytes.now replica.old.replica replica.new.replica
-        result }
-{
-    match admit(keyring, &keyring.config(), bytes) {
-        Ok(input) => replica.step(input),
-        Err(fault) => Err(fault),
-    }
-}
 
 /// The effect of a refused frame whose block's branch isn't whole: the question for what is
 /// missing, to the frame's sender. It is left out where that is the replica itself, or where memory
@@ -81,26 +66,23 @@ fn refuse(alloc: Global, replica: &Replica, bytes: &[u8], fault: Fault) -> Resul
 /// Brings bytes to a replica.
 pub(crate) fn receive(
     alloc: Global,
-    replica: &mut Archived,
-    keyring: &Keyring,
+    replica: &mut ReplicaParty,
     bytes: &[u8],
 ) -> Result<Effect, Fault>
-    requires same { SameReplica replica.old.keys keyring.now }
-    requires number { keyring.now.party < replicas keyring.now.sizes }
     ensures keys { replica.new.keys ≡ replica.old.keys }
     ensures taken { IfOk result
-        (λ e. Takes (identity_of keyring.now) bytes.now replica.old.replica replica.new.replica e) }
+        (λ e. Takes (identity_of replica.old.keys) bytes.now replica.old.replica replica.new.replica e) }
     ensures memory { OnErr result (result ≡ Err Fault.Memory) }
 {
-    keyring.config().holds();
-    match take(replica, keyring, bytes) {
+    replica.replica().config().holds();
+    match replica.take(bytes) {
         Ok(out) => Ok(Effect::sends(out)),
         Err(fault) => refuse(alloc, replica.replica(), bytes, fault),
     }
 }
 
 /// Tells a replica that its view has lasted too long.
-pub(crate) fn timeout(alloc: Global, replica: &mut Archived) -> Effect
+pub(crate) fn timeout(alloc: Global, replica: &mut ReplicaParty) -> Effect
     ensures keys { replica.new.keys ≡ replica.old.keys }
     ensures ticked { Ticks (identity_of replica.old.keys) timeout_in replica.old.replica replica.new.replica
         result }
@@ -112,7 +94,7 @@ pub(crate) fn timeout(alloc: Global, replica: &mut Archived) -> Effect
 }
 
 /// Gives a replica leave to prune its tree up to a height.
-pub(crate) fn prune(alloc: Global, replica: &mut Archived, height: Height) -> Effect
+pub(crate) fn prune(alloc: Global, replica: &mut ReplicaParty, height: Height) -> Effect
     ensures keys { replica.new.keys ≡ replica.old.keys }
     ensures ticked { Ticks (identity_of replica.old.keys) (prune_in height) replica.old.replica
         replica.new.replica result }
@@ -124,7 +106,7 @@ pub(crate) fn prune(alloc: Global, replica: &mut Archived, height: Height) -> Ef
 }
 
 /// Tells a replica to propose, if it leads.
-pub(crate) fn beat(alloc: Global, replica: &mut Archived) -> Effect
+pub(crate) fn beat(alloc: Global, replica: &mut ReplicaParty) -> Effect
     ensures keys { replica.new.keys ≡ replica.old.keys }
     ensures ticked { Ticks (identity_of replica.old.keys) beat_in replica.old.replica replica.new.replica
         result }

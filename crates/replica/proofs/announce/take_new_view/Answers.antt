@@ -16,8 +16,8 @@ use Rattle.replica.proofs.Announcements.{moved-is}
 use Rattle.replica.proofs.Sized.{raise-sized}
 use Rattle.replica.proofs.announce.take_new_view.Goals as goal
 
-pub announcement_if-requires-clause-certificate : goal.announcement_if-requires-clause-certificate
-announcement_if-requires-clause-certificate c =
+pub announcement_if-requires : goal.announcement_if-requires
+announcement_if-requires c =
     let sizes = c.args.keyring.now.sizes in
     let v = c.args.state.now.variables in
     let q : Certificate = frame_certificate (new_view_of c.args.announced.now) in
@@ -26,10 +26,12 @@ announcement_if-requires-clause-certificate c =
     c.in_ok-high.ensures.made
     ∙ (λ i. raise_of (record { block = c.args.block; certificate = c.certificate.ensures.value i })
     (high i)) in
-    subst (λ (h : High). IsCertificate sizes h.certificate)
-    (sym (c.high_after-highest.ensures ∙ (λ i. unwrap_or (raised i) (high i))))
-    (raise-sized sizes (record { block = c.args.block; certificate = q }) v.high c.requires.certificate
-    c.requires.certified.high)
+    record {
+      certificate = subst (λ (h : High). IsCertificate sizes h.certificate)
+          (sym (c.high_after-highest.ensures ∙ (λ i. unwrap_or (raised i) (high i))))
+          (raise-sized sizes (record { block = c.args.block; certificate = q }) v.high c.requires.certificate
+          c.requires.certified.high);
+    }
 
 pub returns-clause-made : goal.returns-clause-made
 returns-clause-made c =

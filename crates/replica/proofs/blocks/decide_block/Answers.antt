@@ -37,8 +37,8 @@ returns-in_err-rules-in-Grows c =
     ∙ ap (λ (f : Fault). Err f) (sym r.2) in
     subst (IsDecided keys k o) (sym r.1) (conflict-decided keys k o n _ planned r.0 refused)
 
-pub take_new-requires-clause-node : goal.take_new-requires-clause-node
-take_new-requires-clause-node c =
+pub take_new-requires : goal.take_new-requires
+take_new-requires c =
     let k = c.args.state.now in
     let o = c.args.offer.now in
     let planned : IsPlannedFor (tree_of k.variables) o (Grows c.in-Grows.node) =
@@ -46,4 +46,6 @@ take_new-requires-clause-node c =
     (subst (λ (x : StateParts). IsPlannedFor (tree_of x.variables) o c.in_ok-digest.field-0) c.state.view_is
     (subst (λ (x : Offered). IsPlannedFor c.state.inside.tree x c.in_ok-digest.field-0) c.offer.view_is
     c.in_ok-digest.ensures)) in
-    node-planned (tree_of k.variables) o.core o.certificate o.found.clear c.in-Grows.node _ planned
+    record {
+      node = node-planned (tree_of k.variables) o.core o.certificate o.found.clear c.in-Grows.node _ planned;
+    }

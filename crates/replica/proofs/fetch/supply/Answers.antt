@@ -9,8 +9,8 @@ use Rattle.replica.specs.Kept.{StateParts}
 use Rattle.replica.proofs.Sized.{lent-sized}
 use Rattle.replica.proofs.fetch.supply.Goals as goal
 
-pub cut_bytes-requires-clause-certificate : goal.cut_bytes-requires-clause-certificate
-cut_bytes-requires-clause-certificate c =
+pub cut_bytes-requires : goal.cut_bytes-requires
+cut_bytes-requires c =
     let sizes = c.args.keyring.now.sizes in
     let d = c.args.digest.now in
     let stored : List Stored = c.args.state.now.variables.stored in
@@ -19,6 +19,8 @@ cut_bytes-requires-clause-certificate c =
     let found = lent-sized sizes d stored c.block.result
     (c.block.ensures ∙ ap (λ (l : List Stored). option_map kept_of (stored_in d l)) same)
     c.requires.certified.stored in
-    subst (IsCertificate sizes) (sym c.certificate.ensures)
-    (subst (λ (o : Option (Bor Node)). IfSome o (λ n. IsCertificate sizes n.now.certificate)) c.in-Some.is
-    found)
+    record {
+      certificate = subst (IsCertificate sizes) (sym c.certificate.ensures)
+          (subst (λ (o : Option (Bor Node)). IfSome o (λ n. IsCertificate sizes n.now.certificate)) c.in-Some.is
+          found);
+    }

@@ -17,7 +17,6 @@ invariant_of-result c =
           c.first_state.result c.in_ok-executor.executor.history) (sym empty)
           (first-whole c.args.keyring c.first_state.result c.in_ok-executor.executor.history is
           (ap (λ (x : Execution). x.history) c.in_ok-executor.ensures.made)),
-      rw (← c.requires.number, ← c.requires.sizes) c.requires.replica,
       ap (λ (x : Execution). x.most_keys) c.in_ok-executor.ensures.made ∙ c.most_keys.ensures
           ∙ ap (λ (s : Sizes). s.most_keys) c.requires.sizes,
     )

@@ -44,8 +44,7 @@ invariant_of-self g c =
           (length c.advance-taken.new.executor.history)
           ≡ standing_after z c.advance-taken.result (length c.advance-taken.new.executor.history)) c.horizon.ensures
           (c.standing-self-inside.ensures (length c.advance-taken.new.executor.history))),
-      c.self.invariant.1,
-      c.advance-taken.ensures.room ∙ c.self.invariant.2,
+      c.advance-taken.ensures.room ∙ c.self.invariant.1,
     )
 
 pub returns-clause-stepped : goal.returns-clause-stepped

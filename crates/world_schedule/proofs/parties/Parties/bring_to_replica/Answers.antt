@@ -3,6 +3,5 @@ use Rattle.world_schedule.proofs.Seated.{takes-if}
 use Rattle.world_schedule.proofs.parties.Parties.bring_to_replica.Goals as goal
 
 pub returns-clause-brought : goal.returns-clause-brought
-returns-clause-brought c = takes-if _ _ _ _ _ _ _ _ _ _ (omega arith) c.requires.replica
-    c.keyring-keyring.ensures c.index_mut-replica.ensures.value c.receive.ensures.keys
-    c.receive.ensures.taken
+returns-clause-brought c = takes-if _ _ _ _ _ _ _ _ _ (omega arith) c.requires.replica
+    c.index_mut-replica.ensures.value c.receive.ensures.keys c.receive.ensures.taken

@@ -1,0 +1,86 @@
+ghost use Rattle.std.specs.Prelude.{◌≡◌, ◌<◌, ◌↔◌, IsSome, IsOk, IfSome, IfOk, OnErr};
+ghost use Rattle.ids.specs.Sizes.{IsRoom, replicas};
+
+use crate::keyring::Keyring;
+use ids::{Config, Fault, ReplicaId};
+use std::alloc::Global;
+use std::marker::Model;
+
+/// The keys of a replica: a keyring whose party is one of the replicas of its sizes.
+///
+/// Whoever has one is a replica: with it frames to a replica are checked, and a replica's own frames are made.
+#[derive(Drop)]
+pub struct ReplicaKeyring {
+    keyring: Keyring,
+}
+
+impl Model for ReplicaKeyring {
+    ghost use Rattle.std.specs.Prelude.{◌<◌};
+    ghost use Rattle.ids.specs.Sizes.{replicas};
+    ghost use Rattle.definitions.specs.Keyrings.{Keys};
+
+    ghost Value = { Keys };
+
+    ghost view = { λ k. k.keyring };
+
+    ghost invariant = { λ k. k.keyring.party < replicas k.keyring.sizes };
+}
+
+impl ReplicaKeyring {
+    /// The keyring, where it is a replica's.
+    pub fn new(keyring: Keyring) -> Option<ReplicaKeyring>
+        ensures exactly { IsSome result ↔ (keyring.party < replicas keyring.sizes) }
+        ensures made { IfSome result (λ k. k ≡ keyring) }
+    {
+        let n = keyring.config().n();
+        if keyring.party().0 >= u16::from(n) {
+            return None;
+        }
+        Some(ReplicaKeyring { keyring })
+    }
+
+    /// A second keyring of the same keys, for a replica whose keys are wanted in two places.
+    pub fn duplicate(&self, alloc: Global) -> Result<ReplicaKeyring, Fault>
+        ensures made { IfOk result (λ k. k ≡ self.now) }
+        ensures memory { OnErr result (result ≡ Err Fault.Memory) }
+    {
+        let keyring = self.keyring.duplicate(alloc)?;
+        Ok(ReplicaKeyring { keyring })
+    }
+
+    /// The same keys, in a deployment whose caches have room for so many keys: 1 to `MOST_KEYS`, else
+    /// `BadKeys`.
+    pub fn with_most_keys(self, most_keys: usize) -> Result<ReplicaKeyring, Fault>
+        ensures made { IfOk result (λ k. k
+            ≡ record self { sizes = record self.sizes { most_keys = most_keys } }) }
+        ensures refused { OnErr result (result ≡ Err Fault.BadKeys) }
+        ensures only { IsOk result ↔ IsRoom most_keys }
+    {
+        let keyring = self.keyring.with_most_keys(most_keys)?;
+        Ok(ReplicaKeyring { keyring })
+    }
+
+    /// The replica whose keys these are.
+    pub fn replica(&self) -> ReplicaId
+        ensures party { result ≡ self.now.party }
+        ensures replica { self.now.party < replicas self.now.sizes }
+    {
+        let _most = self.keyring.config().n();
+        ReplicaId(self.keyring.party().0 as u8)
+    }
+
+    /// The sizes that it was made with.
+    pub fn config(&self) -> Config
+        ensures { result ≡ self.now.sizes }
+    {
+        self.keyring.config()
+    }
+
+    /// The keyring that it is, to make tags and to verify them.
+    pub fn as_keyring(&self) -> &Keyring
+        ensures keys { result.now ≡ self.now }
+        ensures replica { self.now.party < replicas self.now.sizes }
+    {
+        &self.keyring
+    }
+}
