@@ -1,9 +1,6 @@
 //! The way out of a replica that lies.
 
-ghost use Rattle.std.specs.Prelude.{◌<◌};
-ghost use Rattle.ids.specs.Sizes.{replicas};
-
-use authenticators::Keyring;
+use authenticators::ReplicaKeyring;
 use fabric::{Links, Outgoing};
 use ids::ReplicaId;
 use liars::{Liar, lie};
@@ -16,8 +13,7 @@ use std::sync::Wait;
 pub(crate) struct Tongue {
     pub(crate) alloc: Global,
     pub(crate) liar: Liar,
-    pub(crate) keyring: Keyring,
-    ghost is_a_replica: { keyring.party < replicas keyring.sizes },
+    pub(crate) keyring: ReplicaKeyring,
 }
 
 /// The links, behind a liar.

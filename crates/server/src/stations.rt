@@ -149,7 +149,7 @@ fn make_tongue(
     ensures made { IfOk result (λ tongue. tongue.liar ≡ liar) }
     ensures memory { OnErr result (result ≡ Err Memory) }
 {
-    let keyring = keys.keyring(alloc, number.into())?;
+    let keyring = keys.replica_keyring(alloc, number)?;
     Ok(Tongue {
         alloc,
         liar,
@@ -170,7 +170,7 @@ fn new_worker(
     ensures memory { OnErr result (result ≡ Err Memory) }
 {
     let share = kept.share()?;
-    let keyring = keys.keyring(alloc, number.into())?;
+    let keyring = keys.replica_keyring(alloc, number)?;
     let tongue = match liar {
         None => None,
         Some(liar) => Some(make_tongue(alloc, keys, number, liar)?),
@@ -196,7 +196,7 @@ fn new_kept<'a>(
     requires eye { eye ≡ first_eye marks.now number }
     ensures memory { OnErr result (result ≡ Err Memory) }
 {
-    let keyring = keys.keyring(alloc, number.into())?;
+    let keyring = keys.replica_keyring(alloc, number)?;
     let replica = Archived::new(alloc, keys.config(), number, keyring, hasher)?;
     Ok(Kept::new(alloc, replica, eye, marks))
 }

@@ -1,21 +1,16 @@
 //! What a replica's admission answers to the bytes of one frame that were cut or changed.
 
-ghost use Rattle.std.specs.Prelude.{◌<◌};
-ghost use Rattle.ids.specs.Sizes.{replicas};
-
 use crate::check::bytes_of;
 use crate::check::row::{Row, flip};
 use admission::admit;
-use authenticators::Keyring;
-use ids::{Config, Fault, PartyId, ReplicaId};
-use simulated_keys::keyring_of;
+use authenticators::ReplicaKeyring;
+use ids::{Config, Fault, ReplicaId};
+use simulated_keys::replica_keyring_of;
 use std::alloc::Global;
 
 /// `ok` where the bytes are admitted, and else the number of the refusal.
-fn answer(ring: &Keyring, bytes: &[u8]) -> &'static str
-    requires { ring.now.party < replicas ring.now.sizes }
-{
-    match admit(ring, &ring.config(), bytes) {
+fn answer(ring: &ReplicaKeyring, bytes: &[u8]) -> &'static str {
+    match admit(ring, bytes) {
         Ok(_) => "ok",
         Err(Fault::NotAFrame) => "10",
         Err(Fault::BadTag) => "11",
@@ -25,18 +20,14 @@ fn answer(ring: &Keyring, bytes: &[u8]) -> &'static str
 }
 
 /// Each proper beginning of the bytes, the shortest first.
-fn add_cuts(ring: &Keyring, bytes: &[u8], row: &mut Row)
-    requires { ring.now.party < replicas ring.now.sizes }
-{
+fn add_cuts(ring: &ReplicaKeyring, bytes: &[u8], row: &mut Row) {
     for len in 0..bytes.len() {
         row.add(answer(ring, &bytes[..len]));
     }
 }
 
 /// The bytes with the one at a place changed to each other value.
-fn add_changes_at(ring: &Keyring, bytes: &mut [u8], place: usize, row: &mut Row)
-    requires { ring.now.party < replicas ring.now.sizes }
-{
+fn add_changes_at(ring: &ReplicaKeyring, bytes: &mut [u8], place: usize, row: &mut Row) {
     for mask in 1..=u8::MAX {
         flip(bytes, place, mask);
         row.add(answer(ring, bytes));
@@ -45,9 +36,7 @@ fn add_changes_at(ring: &Keyring, bytes: &mut [u8], place: usize, row: &mut Row)
 }
 
 /// The bytes with one of them changed to each other value: each in turn, the first one first.
-fn add_changes(ring: &Keyring, bytes: &mut [u8], row: &mut Row)
-    requires { ring.now.party < replicas ring.now.sizes }
-{
+fn add_changes(ring: &ReplicaKeyring, bytes: &mut [u8], row: &mut Row) {
     for place in 0..bytes.len() {
         add_changes_at(ring, bytes, place, row);
     }
@@ -69,11 +58,9 @@ pub(crate) fn spoilt(
     receiver: ReplicaId,
     spoiling: Spoiling,
     digits: &str,
-) -> Result<String, Fault>
-    requires { receiver < replicas config }
-{
+) -> Result<String, Fault> {
     let mut bytes = bytes_of(alloc, digits)?;
-    let ring = keyring_of(alloc, config, PartyId::from(receiver))?;
+    let ring = replica_keyring_of(alloc, config, receiver)?;
     let mut row = Row::new();
     match spoiling {
         Spoiling::Cut => add_cuts(&ring, &bytes, &mut row),

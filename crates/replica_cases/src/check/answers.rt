@@ -6,19 +6,17 @@
 //! frame that has a certificate, what the check of this alone says: `alone`, and the number of its
 //! refusal or the voters in brackets, and in brackets those of the votes that are passed on.
 
-ghost use Rattle.std.specs.Prelude.{◌≡◌, ◌<◌};
-ghost use Rattle.ids.specs.Sizes.{replicas};
 ghost use Rattle.definitions.specs.FrameLimits.{IsCertificate};
 ghost use Rattle.frames_view.specs.Views.{certificate_of};
 
-use authenticators::Keyring;
+use authenticators::ReplicaKeyring;
 use certificates::{
     Authenticated, CarriesBlock, Certified, Checked, check_block, check_cert, check_fetch,
     check_new_view, check_proposal, check_request, check_vote,
 };
 use frames_view::{CertificateView, Frame, read};
-use ids::{Config, Fault, PartyId, ReplicaId};
-use simulated_keys::keyring_of;
+use ids::{Config, Fault, ReplicaId};
+use simulated_keys::replica_keyring_of;
 use std::alloc::Global;
 
 /// The voters, in brackets.
@@ -79,9 +77,12 @@ fn tell_block<V: CarriesBlock + Drop>(
 }
 
 /// A certificate alone.
-fn tell_alone(ring: &Keyring, certificate: &CertificateView, text: &mut String) -> Result<(), Fault>
-    requires replica { ring.now.party < replicas ring.now.sizes }
-    requires certificate { IsCertificate ring.now.sizes (certificate_of certificate.now) }
+fn tell_alone(
+    ring: &ReplicaKeyring,
+    certificate: &CertificateView,
+    text: &mut String,
+) -> Result<(), Fault>
+    requires { IsCertificate ring.now.sizes (certificate_of certificate.now) }
 {
     text.push_str(" alone ")?;
     let Some(checked) = passed(check_cert(ring, &ring.config(), certificate), text)? else {
@@ -97,9 +98,7 @@ fn tell_alone(ring: &Keyring, certificate: &CertificateView, text: &mut String) 
 }
 
 /// What the check of bytes says, under the keys of a replica.
-pub(crate) fn tell(ring: &Keyring, bytes: &[u8], text: &mut String) -> Result<(), Fault>
-    requires { ring.now.party < replicas ring.now.sizes }
-{
+pub(crate) fn tell(ring: &ReplicaKeyring, bytes: &[u8], text: &mut String) -> Result<(), Fault> {
     let config = ring.config();
     let frame = match read(&config, bytes) {
         Ok(frame) => frame,
@@ -138,10 +137,8 @@ pub(crate) fn check(
     config: Config,
     receiver: ReplicaId,
     bytes: &[u8],
-) -> Result<String, Fault>
-    requires { receiver < replicas config }
-{
-    let ring = keyring_of(alloc, config, PartyId::from(receiver))?;
+) -> Result<String, Fault> {
+    let ring = replica_keyring_of(alloc, config, receiver)?;
     let mut text = String::new(alloc);
     tell(&ring, bytes, &mut text)?;
     Ok(text)

@@ -1,13 +1,10 @@
 //! Many checks that are told in one line.
 
-ghost use Rattle.std.specs.Prelude.{◌<◌};
-ghost use Rattle.ids.specs.Sizes.{replicas};
-
 use crate::check::answers::tell;
 use crate::check::bytes_of;
-use ids::{Config, Fault, PartyId, ReplicaId};
+use ids::{Config, Fault, ReplicaId};
 use sha2::{Digest, Sha256};
-use simulated_keys::keyring_of;
+use simulated_keys::replica_keyring_of;
 use std::alloc::Global;
 
 /// How often each first word was said, and a digest of all that was said.
@@ -77,15 +74,13 @@ pub(crate) fn changes(
     config: Config,
     receiver: ReplicaId,
     rest: &str,
-) -> Result<String, Fault>
-    requires { receiver < replicas config }
-{
+) -> Result<String, Fault> {
     let Some((mask, digits)) = rest.split_once(' ') else {
         return Err(Fault::BadFields);
     };
     let mask = bytes_of(alloc, mask)?.first().copied().unwrap_or(0);
     let mut bytes = bytes_of(alloc, digits)?;
-    let ring = keyring_of(alloc, config, PartyId::from(receiver))?;
+    let ring = replica_keyring_of(alloc, config, receiver)?;
     let mut row = Row::new();
     for place in 0..bytes.len() {
         flip(&mut bytes, place, mask);

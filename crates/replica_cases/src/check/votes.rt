@@ -5,16 +5,15 @@
 //! `Doubled`, `Past` where its block has a certificate, or `Complete` with the certificate's length
 //! and the first 8 bytes of its SHA-256 digest.
 
-ghost use Rattle.std.specs.Prelude.{◌≡◌, ◌<◌};
-ghost use Rattle.ids.specs.Sizes.{replicas};
+ghost use Rattle.std.specs.Prelude.{◌≡◌};
 
 use crate::check::bytes_of;
-use authenticators::Keyring;
+use authenticators::ReplicaKeyring;
 use certificates::check_vote;
 use frames_view::{CertificateBuf, Frame, read};
-use ids::{Config, Digest, Fault, Height, PartyId, ReplicaId};
+use ids::{Config, Digest, Fault, Height, ReplicaId};
 use sha2::Sha256;
-use simulated_keys::keyring_of;
+use simulated_keys::replica_keyring_of;
 use std::alloc::Global;
 use vote_collector::{Added, Collector};
 
@@ -22,11 +21,10 @@ use vote_collector::{Added, Collector};
 #[derive(Drop)]
 struct Poll {
     alloc: Global,
-    ring: Keyring,
+    ring: ReplicaKeyring,
     collector: Collector,
     certified: Vec<Digest>,
     ghost same_sizes: { collector.sizes ≡ ring.sizes },
-    ghost is_a_replica: { ring.party < replicas ring.sizes },
 }
 
 /// What becomes of a vote.
@@ -100,10 +98,8 @@ pub(crate) fn votes(
     config: Config,
     receiver: ReplicaId,
     rest: &str,
-) -> Result<String, Fault>
-    requires { receiver < replicas config }
-{
-    let ring = keyring_of(alloc, config, PartyId::from(receiver))?;
+) -> Result<String, Fault> {
+    let ring = replica_keyring_of(alloc, config, receiver)?;
     let collector = Collector::new(alloc, config);
     let mut poll = Poll {
         alloc,

@@ -2,9 +2,9 @@
 
 use anyhow::{Result, bail};
 use frame_writers::ReplyText;
-use ids::{ClientId, Config, PartyId, Place, ReplicaId, Seq};
+use ids::{ClientId, Config, Place, ReplicaId, Seq};
 use signed_frames::reply_frame;
-use simulated_keys::keyring_of;
+use simulated_keys::replica_keyring_of;
 use std::alloc::Global;
 
 /// The bytes of the reply of these fields: whose request it was, its number, its place and the text.
@@ -20,7 +20,7 @@ pub(crate) fn reply(alloc: Global, config: Config, replica: u8, rest: &str) -> R
     if replica >= config.n() || client >= config.clients() {
         bail!("no such party");
     }
-    let ring = keyring_of(alloc, config, PartyId::from(ReplicaId(replica)))?;
+    let ring = replica_keyring_of(alloc, config, ReplicaId(replica))?;
     let frame = reply_frame(
         alloc,
         &ring,

@@ -1,16 +1,15 @@
 //! A replica by itself, with no archive and no shares, that is stepped.
 
-ghost use Rattle.std.specs.Prelude.{◌≡◌, ◌<◌, IsTrue};
+ghost use Rattle.std.specs.Prelude.{IsTrue};
 ghost use Rattle.admission.specs.Inputs.{is_addressed};
-ghost use Rattle.ids.specs.Sizes.{replicas};
 
 use crate::step::requests::request;
 use crate::step::stepped::number;
 use crate::step::told::tell_answer;
 use admission::admit;
-use ids::{Config, Fault, PartyId, ReplicaId};
+use ids::{Config, Fault, ReplicaId};
 use replica::{Input, Out, Replica};
-use simulated_keys::keyring_of;
+use simulated_keys::replica_keyring_of;
 use std::alloc::Global;
 use std::hash::RandomState;
 
@@ -22,11 +21,11 @@ fn receive(
     bytes: &[u8],
 ) -> Result<Result<Out, Fault>, Fault> {
     let config = replica.config();
-    if checker != replica.number().0 || checker >= config.n() {
+    if checker != replica.number().0 {
         return Err(Fault::NoSuchParty);
     }
-    let ring = keyring_of(alloc, config, PartyId::from(ReplicaId(checker)))?;
-    match admit(&ring, &config, bytes) {
+    let ring = replica_keyring_of(alloc, config, ReplicaId(checker))?;
+    match admit(&ring, bytes) {
         Ok(input) => Ok(replica.step(input)),
         Err(fault) => Ok(Err(fault)),
     }
@@ -99,10 +98,8 @@ pub(crate) fn run(
     most_keys: usize,
     inputs: &str,
     text: &mut String,
-) -> Result<(), Fault>
-    requires { own < replicas config }
-{
-    let ring = keyring_of(alloc, config, PartyId::from(own))?;
+) -> Result<(), Fault> {
+    let ring = replica_keyring_of(alloc, config, own)?;
     match Replica::with_keys(alloc, config, own, ring, most_keys, hasher) {
         Ok(made) => {
             let mut replica = made;

@@ -9,11 +9,11 @@ ghost use Rattle.marks.specs.Eyes.{first_eye, first_eyes};
 ghost use Rattle.ids.specs.Sizes.{replicas};
 
 use crate::step::told::tell_past;
-use ids::{Config, Fault, PartyId, ReplicaId};
+use ids::{Config, Fault, ReplicaId};
 use locked_replica::{Kept, NotAll, Share};
 use marks::{Eye, Marks};
 use replica::Archived;
-use simulated_keys::keyring_of;
+use simulated_keys::replica_keyring_of;
 use std::alloc::Global;
 use std::hash::RandomState;
 
@@ -40,7 +40,7 @@ fn kept_of<'a>(
     requires eyes { eyes.items ≡ first_eyes marks.now }
     requires words { marks.now.words ≡ replicas config }
 {
-    let keys = keyring_of(alloc, config, PartyId::from(number))?;
+    let keys = replica_keyring_of(alloc, config, number)?;
     let replica = Archived::new(alloc, config, number, keys, hasher)?;
     let eye = eye_of(marks, eyes, number);
     Ok(Kept::new(alloc, replica, eye, marks))

@@ -7,11 +7,11 @@ ghost use Rattle.ids.specs.Sizes.{replicas};
 use crate::step::shares::{close, kept_with, strange_share};
 use crate::step::told::tell_answer;
 use admission::admit;
-use ids::{Config, Fault, PartyId, ReplicaId};
+use ids::{Config, Fault, ReplicaId};
 use locked_replica::{Kept, Share};
 use marks::{Eye, Marks};
 use replica::{Input, Out};
-use simulated_keys::keyring_of;
+use simulated_keys::replica_keyring_of;
 use std::alloc::Global;
 use std::hash::RandomState;
 
@@ -69,11 +69,8 @@ impl<'a> Stepped<'a> {
         checker: u8,
         bytes: &[u8],
     ) -> Result<Result<Out, Fault>, Fault> {
-        if checker >= self.config.n() {
-            return Err(Fault::NoSuchParty);
-        }
-        let ring = keyring_of(alloc, self.config, PartyId::from(ReplicaId(checker)))?;
-        match admit(&ring, &self.config, bytes) {
+        let ring = replica_keyring_of(alloc, self.config, ReplicaId(checker))?;
+        match admit(&ring, bytes) {
             Ok(input) => self.bring(share, input),
             Err(fault) => Ok(Err(fault)),
         }

@@ -1,13 +1,12 @@
 //! The replicas of a line.
 
-ghost use Rattle.std.specs.Prelude.{◌<◌, IsTrue};
-ghost use Rattle.ids.specs.Sizes.{replicas};
+ghost use Rattle.std.specs.Prelude.{IsTrue};
 ghost use Rattle.admission.specs.Inputs.{is_addressed};
 
 use admission::admit;
-use ids::{Config, Fault, Height, PartyId, ReplicaId};
+use ids::{Config, Fault, Height, ReplicaId};
 use replica::{Archived, Input, Replica, Whole};
-use simulated_keys::keyring_of;
+use simulated_keys::replica_keyring_of;
 use std::alloc::Global;
 use std::hash::RandomState;
 
@@ -72,11 +71,8 @@ fn step(replica: &mut Archived, input: Input<'_>) -> Result<(), Fault>
 /// Brings the bytes of a frame, checked with the keys of the replica.
 fn receive(alloc: Global, replica: &mut Archived, bytes: &[u8]) -> Result<(), Fault> {
     let (config, own) = (replica.replica().config(), replica.replica().number());
-    if own.0 >= config.n() {
-        return Err(Fault::NoSuchParty);
-    }
-    let ring = keyring_of(alloc, config, PartyId::from(own))?;
-    match admit(&ring, &config, bytes) {
+    let ring = replica_keyring_of(alloc, config, own)?;
+    match admit(&ring, bytes) {
         Ok(input) => step(replica, input),
         Err(_) => Ok(()),
     }
@@ -101,10 +97,8 @@ fn first(
     hasher: RandomState,
     config: Config,
     own: ReplicaId,
-) -> Result<Archived, Fault>
-    requires { own < replicas config }
-{
-    let ring = keyring_of(alloc, config, PartyId::from(own))?;
+) -> Result<Archived, Fault> {
+    let ring = replica_keyring_of(alloc, config, own)?;
     Archived::new(alloc, config, own, ring, hasher)
 }
 
@@ -115,11 +109,7 @@ fn named(alloc: Global, sizes: Sizes, name: &str) -> Result<Archived, Fault> {
         None => (name, sizes.clients),
     };
     let config = Config::new(sizes.faults, clients)?;
-    let own = number(own)?;
-    if own >= config.n() {
-        return Err(Fault::NoSuchParty);
-    }
-    first(alloc, sizes.hasher, config, ReplicaId(own))
+    first(alloc, sizes.hasher, config, ReplicaId(number(own)?))
 }
 
 /// A value with what a call gave; where the call was refused, the value is dropped.
