@@ -160,6 +160,12 @@ fn room_of(digits: &str) -> Result<usize, Fault> {
     }
 }
 
+/// Begins anew, with a cache for so many keys.
+fn begin_anew(alloc: Global, parts: &mut Parts, digits: &str) -> Result<(), Fault> {
+    *parts = Parts::new(alloc, room_of(digits)?, parts.hasher)?;
+    Ok(())
+}
+
 /// What is told of a line.
 fn tell(alloc: Global, config: &Config, parts: &mut Parts, line: &str) -> Result<String, Fault> {
     let (word, rest) = line.split_once(' ').unwrap_or((line, ""));
@@ -170,8 +176,7 @@ fn tell(alloc: Global, config: &Config, parts: &mut Parts, line: &str) -> Result
         "last" => tell_last(alloc, &run.executor, rest),
         "history" => tell_history(alloc, run),
         "new" | "room" => {
-            let most_keys = room_of(rest)?;
-            *parts = Parts::new(alloc, most_keys, parts.hasher)?;
+            begin_anew(alloc, parts, rest)?;
             Ok(String::from_str(alloc, word)?)
         }
         _ => tell_pending(alloc, config, &mut parts.pool, [word, rest]),

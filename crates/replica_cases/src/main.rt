@@ -10,12 +10,14 @@
 //! A line is printed of each. What is wanted was computed by an independent program.
 #![tactic(auto)]
 
+mod carried;
 mod check;
 mod execute;
 mod session;
 mod step;
 mod tree;
 
+use crate::carried::beside;
 use crate::execute::Parts;
 use crate::tree::blocks::{Blocks, tree_of};
 use anyhow::{Result, bail};
@@ -61,7 +63,7 @@ fn main(rt: HostRuntime) -> Result<()> {
     let config = Config::new(1, 8)?;
     let hasher = RandomState::new(&rt)?;
     let blocks = tree_of(rt.alloc(), hasher, 1)?;
-    let parts = Parts::new(rt.alloc(), MOST_KEYS, hasher)?;
+    let (blocks, parts) = beside(blocks, Parts::new(rt.alloc(), MOST_KEYS, hasher))?;
     let mut known = Known {
         config,
         hasher,

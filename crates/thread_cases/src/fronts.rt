@@ -54,21 +54,41 @@ pub(crate) fn ask(alloc: Global, stream: &TcpStream, words: &str) -> Result<Stri
     Ok(String::from_utf8_lossy(alloc, &piece[..count])?)
 }
 
-/// What three clients read: the second comes while the first is served.
+/// Sends some words, and adds what comes back to what was read.
+pub(crate) fn note(
+    alloc: Global,
+    stream: &TcpStream,
+    words: &str,
+    read: &mut Vec<String>,
+) -> Result<()> {
+    read.push(ask(alloc, stream, words)?)?;
+    Ok(())
+}
+
+/// What two clients read: the second comes while the first is served.
+fn two_clients<R: Net<Stream = TcpStream> + AllocGlobal>(
+    rt: &R,
+    at: SocketAddr,
+    read: &mut Vec<String>,
+) -> Result<()> {
+    let alloc = rt.alloc();
+    let first = TcpStream::connect(rt, at)?;
+    note(alloc, &first, "get a\r\n", read)?;
+    let second = TcpStream::connect(rt, at)?;
+    note(alloc, &second, "get b\r\n", read)?;
+    note(alloc, &first, "set a 0 0 1\r\nx\r\n", read)?;
+    note(alloc, &first, "quit\r\n", read)
+}
+
+/// What three clients read: two side by side, and one after them.
 fn clients<R: Net<Stream = TcpStream> + AllocGlobal>(
     rt: &R,
     at: SocketAddr,
 ) -> Result<Vec<String>> {
-    let alloc = rt.alloc();
-    let mut read = Vec::new(alloc);
-    let first = TcpStream::connect(rt, at)?;
-    read.push(ask(alloc, &first, "get a\r\n")?)?;
-    let second = TcpStream::connect(rt, at)?;
-    read.push(ask(alloc, &second, "get b\r\n")?)?;
-    read.push(ask(alloc, &first, "set a 0 0 1\r\nx\r\n")?)?;
-    read.push(ask(alloc, &first, "quit\r\n")?)?;
+    let mut read = Vec::new(rt.alloc());
+    two_clients(rt, at, &mut read)?;
     let third = TcpStream::connect(rt, at)?;
-    read.push(ask(alloc, &third, "touch a\r\n")?)?;
+    note(rt.alloc(), &third, "touch a\r\n", &mut read)?;
     Ok(read)
 }
 
@@ -95,6 +115,17 @@ pub(crate) fn count_of(served: std::result::Result<u64, Fault>) -> Result<u64> {
     }
 }
 
+/// Prints what clients read, and how many connections a front served.
+pub(crate) fn tell_end<R: Print>(
+    rt: &R,
+    served: std::result::Result<u64, Fault>,
+    read: Result<Vec<String>>,
+) -> Result<()> {
+    tell(rt, &read?)?;
+    println!(rt; "served {}", count_of(served)?)?;
+    Ok(())
+}
+
 /// Serves three clients, of whom one comes while another has the seat.
 fn usual_scene<R>(rt: &R) -> Result<()>
 where
@@ -110,9 +141,7 @@ where
         || front(rt, &listener, seats, CONNECTIONS),
         || clients(rt, at),
     );
-    tell(rt, &read?)?;
-    println!(rt; "served {}", count_of(served)?)?;
-    Ok(())
+    tell_end(rt, served, read)
 }
 
 /// Plays all scenes.

@@ -34,11 +34,11 @@ impl Row {
     pub(crate) fn add(&mut self, line: &str) {
         self.told.update(line);
         self.told.update("\n");
-        let count = match line.split(' ').next() {
-            Some("ok") => &mut self.passed,
-            Some("10") => &mut self.no_frames,
-            Some("11") => &mut self.bad_tags,
-            Some("30") => &mut self.not_mine,
+        let count = match line.split(' ').next().unwrap_or("") {
+            "ok" => &mut self.passed,
+            "10" => &mut self.no_frames,
+            "11" => &mut self.bad_tags,
+            "30" => &mut self.not_mine,
             _ => &mut self.others,
         };
         *count = count.wrapping_add(1);

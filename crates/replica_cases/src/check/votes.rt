@@ -92,6 +92,18 @@ fn tell_certificate(
     Ok(())
 }
 
+/// What becomes of votes that come to a poll, one after the other.
+fn tell_all(alloc: Global, poll: &mut Poll, votes: &str) -> Result<String, Fault> {
+    let mut text = String::new(alloc);
+    for digits in votes.split(' ') {
+        if !text.is_empty() {
+            text.push_str(", ")?;
+        }
+        poll.tell(&bytes_of(alloc, digits)?, &mut text)?;
+    }
+    Ok(text)
+}
+
 /// What becomes of the votes, one after the other.
 pub(crate) fn votes(
     alloc: Global,
@@ -107,12 +119,5 @@ pub(crate) fn votes(
         collector,
         certified: Vec::new(alloc),
     };
-    let mut text = String::new(alloc);
-    for digits in rest.split(' ') {
-        if !text.is_empty() {
-            text.push_str(", ")?;
-        }
-        poll.tell(&bytes_of(alloc, digits)?, &mut text)?;
-    }
-    Ok(text)
+    tell_all(alloc, &mut poll, rest)
 }

@@ -88,6 +88,18 @@ fn take(alloc: Global, session: &mut Session, input: &str, text: &mut String) ->
     tell_answer(alloc, answer, text)
 }
 
+/// What a session says to one input after the other.
+fn take_all(alloc: Global, session: &mut Session, inputs: &str) -> Result<String> {
+    let mut text = String::new(alloc);
+    for input in inputs.split(' ') {
+        if !text.is_empty() {
+            text.push_str(", ")?;
+        }
+        take(alloc, session, input, &mut text)?;
+    }
+    Ok(text)
+}
+
 /// What the session of a client says to one input after the other.
 pub(crate) fn session(alloc: Global, config: Config, client: u8, inputs: &str) -> Result<String> {
     if client >= config.clients() {
@@ -96,12 +108,5 @@ pub(crate) fn session(alloc: Global, config: Config, client: u8, inputs: &str) -
     let client = ClientId(client);
     let ring = keyring_of(alloc, config, PartyId::from(client))?;
     let mut session = Session::new(alloc, config, client, ring);
-    let mut text = String::new(alloc);
-    for input in inputs.split(' ') {
-        if !text.is_empty() {
-            text.push_str(", ")?;
-        }
-        take(alloc, &mut session, input, &mut text)?;
-    }
-    Ok(text)
+    take_all(alloc, &mut session, inputs)
 }

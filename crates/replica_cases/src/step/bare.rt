@@ -13,6 +13,13 @@ use simulated_keys::replica_keyring_of;
 use std::alloc::Global;
 use std::hash::RandomState;
 
+/// Steps a replica.
+fn step(replica: &mut Replica, input: Input<'_>) -> Result<Out, Fault>
+    requires { IsTrue (is_addressed replica.old.keys input) }
+{
+    replica.step(input)
+}
+
 /// What a replica answers to bytes, checked with the keys of the replica CHECKER.
 fn receive(
     alloc: Global,
@@ -26,7 +33,7 @@ fn receive(
     }
     let ring = replica_keyring_of(alloc, config, ReplicaId(checker))?;
     match admit(&ring, bytes) {
-        Ok(input) => Ok(replica.step(input)),
+        Ok(input) => Ok(step(replica, input)),
         Err(fault) => Ok(Err(fault)),
     }
 }
@@ -34,8 +41,8 @@ fn receive(
 /// What a replica answers to an input.
 fn take(alloc: Global, replica: &mut Replica, input: &str) -> Result<Result<Out, Fault>, Fault> {
     match input {
-        "beat" => Ok(replica.step(Input::Beat)),
-        "timeout" => Ok(replica.step(Input::Timeout)),
+        "beat" => Ok(step(replica, Input::Beat)),
+        "timeout" => Ok(step(replica, Input::Timeout)),
         _ => {
             let (checker, digits) = input.split_once(':').unwrap_or(("", ""));
             let bytes = hex::decode(alloc, digits).ok().ok_or(Fault::BadFields)?;

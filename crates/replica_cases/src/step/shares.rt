@@ -8,6 +8,7 @@ ghost use Rattle.std.specs.Prelude.{◌≡◌, ◌<◌};
 ghost use Rattle.marks.specs.Eyes.{first_eye, first_eyes};
 ghost use Rattle.ids.specs.Sizes.{replicas};
 
+use crate::carried::beside;
 use crate::step::told::tell_past;
 use ids::{Config, Fault, ReplicaId};
 use locked_replica::{Kept, NotAll, Share};
@@ -70,8 +71,8 @@ pub(crate) fn kept_with<'a>(
     requires words { marks.now.words ≡ replicas config }
 {
     let mut kept = kept_of(alloc, hasher, config, number, marks, eyes)?;
-    let shares = shares_of(alloc, &mut kept, count)?;
-    Ok((kept, shares))
+    let shares = shares_of(alloc, &mut kept, count);
+    beside(kept, shares)
 }
 
 /// A share of another kept replica of this number, of which one more is made.
@@ -105,14 +106,6 @@ fn tell_closed(
     tell_past(alloc, &closed.replica, text)
 }
 
-/// A value with what a call gave; where the call was refused, the value is dropped.
-fn beside<T: Drop, U>(value: T, given: Result<U, Fault>) -> Result<(T, U), Fault> {
-    match given {
-        Ok(given) => Ok((value, given)),
-        Err(fault) => Err(fault),
-    }
-}
-
 /// Takes the last share out.
 fn split_last(mut shares: Vec<Share>) -> Result<(Vec<Share>, Share), Fault> {
     let last = shares.pop().ok_or(Fault::NotAll)?;
@@ -120,7 +113,7 @@ fn split_last(mut shares: Vec<Share>) -> Result<(Vec<Share>, Share), Fault> {
 }
 
 /// Puts a share behind the others.
-fn joined(mut shares: Vec<Share>, last: Share) -> Result<Vec<Share>, Fault> {
+pub(crate) fn joined(mut shares: Vec<Share>, last: Share) -> Result<Vec<Share>, Fault> {
     shares.push(last)?;
     Ok(shares)
 }

@@ -4,7 +4,8 @@ ghost use Rattle.std.specs.Prelude.{◌≡◌, ◌<◌};
 ghost use Rattle.marks.specs.Eyes.{first_eyes};
 ghost use Rattle.ids.specs.Sizes.{replicas};
 
-use crate::step::shares::{close, kept_with, strange_share};
+use crate::carried::beside;
+use crate::step::shares::{close, joined, kept_with, strange_share};
 use crate::step::told::tell_answer;
 use admission::admit;
 use ids::{Config, Fault, ReplicaId};
@@ -44,8 +45,8 @@ impl<'a> Stepped<'a> {
         requires words { marks.now.words ≡ replicas config }
     {
         let strange = strange_share(alloc, hasher, config, number, count)?;
-        let (kept, mut shares) = kept_with(alloc, hasher, config, number, count, marks, eyes)?;
-        shares.push(strange)?;
+        let (kept, shares) = kept_with(alloc, hasher, config, number, count, marks, eyes)?;
+        let (kept, shares) = beside(kept, joined(shares, strange))?;
         Ok(Stepped {
             config,
             kept,
@@ -124,8 +125,9 @@ impl<'a> Stepped<'a> {
         inputs: &str,
         text: &mut String,
     ) -> Result<(), Fault> {
-        self.tell_all(alloc, inputs, text)?;
-        let Stepped { kept, shares, .. } = self;
+        let told = self.tell_all(alloc, inputs, text);
+        let (stepped, ()) = beside(self, told)?;
+        let Stepped { kept, shares, .. } = stepped;
         close(alloc, kept, shares, text)
     }
 }

@@ -1,6 +1,6 @@
 //! Connections that end by a failing read and by a failing write, because their client has gone.
 
-use crate::fronts::{Lengths, ask, count_of, one_seat, tell};
+use crate::fronts::{Lengths, note, one_seat, tell_end};
 use anyhow::Result;
 use connection::Service;
 use ids::Fault;
@@ -117,8 +117,8 @@ fn clients<R: Net<Stream = TcpStream> + AllocGlobal, S: Drop>(
     let alloc = rt.alloc();
     let last = TcpStream::connect(rt, at)?;
     let mut read = Vec::new(alloc);
-    read.push(ask(alloc, &last, "get a\r\n")?)?;
-    read.push(ask(alloc, &last, "quit\r\n")?)?;
+    note(alloc, &last, "get a\r\n", &mut read)?;
+    note(alloc, &last, "quit\r\n", &mut read)?;
     Ok(read)
 }
 
@@ -144,7 +144,5 @@ where
         || front(rt, &listener, seats, CONNECTIONS),
         || clients(rt, at, seats, signals),
     );
-    tell(rt, &read?)?;
-    println!(rt; "served {}", count_of(served)?)?;
-    Ok(())
+    tell_end(rt, served, read)
 }

@@ -1,6 +1,6 @@
 //! A client's service over links on which nothing ever comes: one that is open, and one that is closed.
 
-use crate::fronts::{ask, count_of, one_seat, tell};
+use crate::fronts::{count_of, note, one_seat, tell};
 use anyhow::Result;
 use client_accept::Session;
 use client_service::{ClientService, Link};
@@ -71,8 +71,8 @@ fn clients<R: Net<Stream = TcpStream> + AllocGlobal>(
     let mut read = Vec::new(alloc);
     for _ in 0..2 {
         let stream = TcpStream::connect(rt, at)?;
-        read.push(ask(alloc, &stream, "get a\r\n")?)?;
-        read.push(ask(alloc, &stream, "")?)?;
+        note(alloc, &stream, "get a\r\n", &mut read)?;
+        note(alloc, &stream, "", &mut read)?;
     }
     Ok(read)
 }
@@ -84,6 +84,17 @@ fn seat(alloc: Global, link: Silence<'_>) -> Result<ClientService<Silence<'_>>> 
     let keyring = keyring_of(alloc, config, client.into())?;
     let session = Session::new(alloc, config, client, keyring);
     Ok(ClientService::new(alloc, session, link))
+}
+
+/// One seat over such a link.
+fn seats(alloc: Global, link: Silence<'_>) -> Result<Seats<ClientService<Silence<'_>>>> {
+    one_seat(alloc, seat(alloc, link)?)
+}
+
+/// What prints warnings.
+fn printing<R: Clone + Drop + Print>(rt: &R) -> Result<Logged<R, Printed<R>>> {
+    let (beside, printed) = (rt.clone()?, Printed(rt.clone()?));
+    Ok(Logged::new(beside, Level::Warn, printed))
 }
 
 /// Serves as many connections as two clients make, and what these read.
@@ -102,6 +113,19 @@ where
     join(rt, || front(told, listener, seats, 2), || clients(rt, at))
 }
 
+/// Prints what clients read, and how often a frame was sent. Both connections were served.
+fn tell_sent<R: Print>(
+    rt: &R,
+    sent: u64,
+    served: std::result::Result<u64, Fault>,
+    read: Result<Vec<String>>,
+) -> Result<()> {
+    tell(rt, &read?)?;
+    println!(rt; "sent {sent}")?;
+    let _two = count_of(served)?;
+    Ok(())
+}
+
 /// Serves two connections with one seat over such a link. Prints what their clients read, and how often a
 /// frame was sent.
 pub(crate) fn silent_scene<R>(rt: &R, open: bool) -> Result<()>
@@ -115,11 +139,9 @@ where
         open,
         sendings: &sendings,
     };
-    let seats = one_seat(rt.alloc(), seat(rt.alloc(), link)?)?;
-    let told = Logged::new(rt.clone()?, Level::Warn, Printed(rt.clone()?));
-    let (served, read) = serve_both(rt, &told, &listener, &seats, listener.local_addr()?);
-    tell(rt, &read?)?;
-    println!(rt; "sent {}", sendings.load(Ordering::SeqCst))?;
-    let _two = count_of(served)?;
-    Ok(())
+    let at = listener.local_addr()?;
+    let told = printing(rt)?;
+    let seats = seats(rt.alloc(), link)?;
+    let (served, read) = serve_both(rt, &told, &listener, &seats, at);
+    tell_sent(rt, sendings.load(Ordering::SeqCst), served, read)
 }

@@ -232,8 +232,13 @@ fn came_to<R: Wait>(rt: &R, end: &ClientEnd) -> usize {
     came
 }
 
-/// What is left in the links, after so many steps.
-fn look<R: Wait>(rt: &R, ends: &Ends, steps: usize, executed: [u64; 4]) -> Told {
+/// What is left in the links after a run, of which so much was told.
+fn look<R: Wait>(
+    rt: &R,
+    ends: &Ends,
+    run: Result<(usize, [u64; 4]), Fault>,
+) -> Result<Told, Fault> {
+    let (steps, executed) = run?;
     let mut told = Told {
         steps,
         left: 0,
@@ -251,7 +256,7 @@ fn look<R: Wait>(rt: &R, ends: &Ends, steps: usize, executed: [u64; 4]) -> Told 
             told.left = told.left.wrapping_add(came);
         }
     }
-    told
+    Ok(told)
 }
 
 /// How many steps the stations' replicas made until the run was over, and how far a new eye sees
@@ -316,6 +321,5 @@ pub(crate) fn run<R: Threads + Wait + Clock + Sync, G: Gate + Sync>(
         gate,
         seen,
     };
-    let (steps, executed) = run_at(rt, &stage, replicas, handed, until)?;
-    Ok(look(rt, &ends, steps, executed))
+    look(rt, &ends, run_at(rt, &stage, replicas, handed, until))
 }

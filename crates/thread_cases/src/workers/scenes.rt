@@ -19,7 +19,7 @@ use std::thread::Threads;
 use std::time::Clock;
 
 /// A run of workers.
-#[derive(Clone, Copy, PartialEq, Eq)]
+#[derive(Clone, Copy)]
 pub(crate) enum Scene {
     /// Two workers of one replica: the turn of frame 1 is held, after its check and before its step,
     /// until frame 2 was stepped. A third frame has a spoilt tag.
@@ -119,6 +119,24 @@ impl Scene {
         }
     }
 
+    /// Plays the scene with these stand-ins and this gate, and tells what came of it.
+    fn play_with<R: Threads + Wait + Clock + Sync>(
+        self,
+        rt: &R,
+        alloc: Global,
+        config: Config,
+        hasher: RandomState,
+        gate: &Held,
+        seen: &Seen,
+    ) -> Result<String> {
+        let handed = self.handed(alloc, config)?;
+        let (replicas, until) = (self.replicas(), self.until());
+        let told = run(
+            rt, alloc, config, hasher, replicas, gate, seen, handed, until,
+        )?;
+        self.tell(alloc, gate, seen, &told)
+    }
+
     /// Plays the scene, and tells what came of it.
     pub(crate) fn play<R: Threads + Wait + Clock + Sync + RandomSource>(
         self,
@@ -126,16 +144,11 @@ impl Scene {
         alloc: Global,
     ) -> Result<String> {
         let config = Config::new(1, 2)?;
-        let handed = self.handed(alloc, config)?;
-        let gate = Held::new(self == Scene::TwoTurns);
-        let answers = frames::answers(alloc, config)?;
-        let seen = Seen::new(alloc, self == Scene::TwoCalls, answers)?;
-        let (replicas, until) = (self.replicas(), self.until());
         let hasher = RandomState::new(rt)?;
-        let told = run(
-            rt, alloc, config, hasher, replicas, &gate, &seen, handed, until,
-        )?;
-        self.tell(alloc, &gate, &seen, &told)
+        let answers = frames::answers(alloc, config)?;
+        let seen = Seen::new(alloc, matches!(self, Scene::TwoCalls), answers)?;
+        let gate = Held::new(matches!(self, Scene::TwoTurns));
+        self.play_with(rt, alloc, config, hasher, &gate, &seen)
     }
 }
 
