@@ -1,10 +1,9 @@
 use ids::Fault;
 use key_file::KeyFileFault;
-use std::error::Error;
 use std::fmt;
 
 /// Why nothing is served, or nothing more.
-#[derive(Clone, Copy, Debug, PartialEq, Eq)]
+#[derive(Clone, Copy)]
 pub(crate) enum MainFault {
     /// The key file can't be read.
     CannotReadKeys,
@@ -68,5 +67,3 @@ impl fmt::Display for MainFault {
         }
     }
 }
-
-impl Error for MainFault {}

@@ -1,9 +1,10 @@
 //! The command line.
 
-use clap::{Arg, ArgAction, ArgMatches, Command, Error, value_parser};
+use clap::builder::ValueParser;
+use clap::{Arg, ArgAction, ArgMatches, Command, Error};
 use liars::Liar;
 use server::{Terms, Workers};
-use std::alloc::Global;
+use std::alloc::{AllocError, Global};
 use std::hash::RandomState;
 
 /// What stands behind the options in `--help`.
@@ -25,26 +26,132 @@ const LIARS: [&str; 5] = ["mute", "two-faced", "bad-reply", "crowder", "flooder"
 /// The numbers of workers that a replica may have.
 const WORKERS: [&str; 2] = ["1", "2"];
 
+/// The greatest number of 32 bits.
+const MOST_OF_32_BITS: u64 = 4_294_967_295;
+
+/// An option that takes a number.
+#[derive(Clone, Copy)]
+struct Number {
+    name: &'static str,
+    /// How help calls it.
+    value: &'static str,
+    most: u64,
+    /// What stands for it where it is left out.
+    default: &'static str,
+    help: &'static str,
+}
+
+/// An option of the command line.
+#[derive(Clone, Copy)]
+enum Word {
+    Keys,
+    Number(Number),
+    Liar,
+    Archive,
+    Workers,
+}
+
+/// All options, in the order in which help has them.
+const WORDS: [Word; 12] = [
+    Word::Keys,
+    Word::Number(Number {
+        name: "faults",
+        value: "F",
+        most: 255,
+        default: "1",
+        help: "How many faulty replicas are tolerated, of 3 F + 1: 1 to 10",
+    }),
+    Word::Number(Number {
+        name: "clients",
+        value: "C",
+        most: 255,
+        default: "8",
+        help: "How many connections are served at once: 1 to 64",
+    }),
+    Word::Number(Number {
+        name: "port",
+        value: "P",
+        most: 65_535,
+        default: "0",
+        help: "The port to listen on; 0 for a free one",
+    }),
+    Word::Liar,
+    Word::Number(Number {
+        name: "serve",
+        value: "N",
+        most: u64::MAX,
+        default: "0",
+        help: "Ends after N connections; 0 to go on",
+    }),
+    Word::Number(Number {
+        name: "keys-held",
+        value: "N",
+        most: MOST_OF_32_BITS,
+        default: "65536",
+        help: "The cache has room for N keys: 1 to 65,536; the least recently used makes way",
+    }),
+    Word::Number(Number {
+        name: "blocks",
+        value: "B",
+        most: MOST_OF_32_BITS,
+        default: "0",
+        help: "A replica stops when it holds B blocks; 0 for 1,048,576",
+    }),
+    Word::Number(Number {
+        name: "window",
+        value: "H",
+        most: MOST_OF_32_BITS,
+        default: "4096",
+        help: "A replica forgets blocks more than H heights below the last executed one",
+    }),
+    Word::Archive,
+    Word::Workers,
+    Word::Number(Number {
+        name: "watch",
+        value: "SECONDS",
+        most: MOST_OF_32_BITS,
+        default: "0",
+        help: "Tells each so many seconds how it goes; 0 for never",
+    }),
+];
+
 /// What the words of a command line say.
 pub(crate) fn matches_of(alloc: Global, words: &[String]) -> Result<ArgMatches<'_>, Error> {
     let command = Command::new(alloc, "mcbft")
         .bin_name("mcbft")?
         .version("0.1.0")
         .about("Serves memcached's text protocol from replicas, some of which may lie")
-        .after_help(EXAMPLE)
-        .arg(keys_arg(alloc))?
-        .arg(faults_arg(alloc))?
-        .arg(clients_arg(alloc))?
-        .arg(port_arg(alloc))?
-        .arg(liar_arg(alloc))?
-        .arg(serve_arg(alloc))?
-        .arg(keys_held_arg(alloc))?
-        .arg(blocks_arg(alloc))?
-        .arg(window_arg(alloc))?
-        .arg(archive_arg(alloc))?
-        .arg(workers_arg(alloc))?
-        .arg(watch_arg(alloc))?;
-    command.try_get_matches_from(words)
+        .after_help(EXAMPLE);
+    with_words(alloc, command)?.try_get_matches_from(words)
+}
+
+/// A command that takes all options.
+fn with_words(alloc: Global, bare: Command<'_>) -> Result<Command<'_>, AllocError> {
+    let mut command = bare;
+    for word in WORDS {
+        command = command.arg(arg_of(alloc, word))?;
+    }
+    Ok(command)
+}
+
+/// An option as the parser wants it.
+fn arg_of(alloc: Global, word: Word) -> Arg<'static> {
+    match word {
+        Word::Keys => keys_arg(alloc),
+        Word::Number(number) => number_arg(alloc, number),
+        Word::Liar => liar_arg(alloc),
+        Word::Archive => archive_arg(alloc),
+        Word::Workers => workers_arg(alloc),
+    }
+}
+
+fn number_arg(alloc: Global, number: Number) -> Arg<'static> {
+    Arg::new(alloc, number.name)
+        .long(number.name)
+        .value_name(number.value)
+        .value_parser(ValueParser::Unsigned(0, number.most))
+        .default_value(number.default)
+        .help(number.help)
 }
 
 fn keys_arg(alloc: Global) -> Arg<'static> {
@@ -55,75 +162,12 @@ fn keys_arg(alloc: Global) -> Arg<'static> {
         .help("The key file, which bin/make-keys F C writes")
 }
 
-fn faults_arg(alloc: Global) -> Arg<'static> {
-    Arg::new(alloc, "faults")
-        .long("faults")
-        .value_name("F")
-        .value_parser(value_parser!(u8))
-        .default_value("1")
-        .help("How many faulty replicas are tolerated, of 3 F + 1: 1 to 10")
-}
-
-fn clients_arg(alloc: Global) -> Arg<'static> {
-    Arg::new(alloc, "clients")
-        .long("clients")
-        .value_name("C")
-        .value_parser(value_parser!(u8))
-        .default_value("8")
-        .help("How many connections are served at once: 1 to 64")
-}
-
-fn port_arg(alloc: Global) -> Arg<'static> {
-    Arg::new(alloc, "port")
-        .long("port")
-        .value_name("P")
-        .value_parser(value_parser!(u16))
-        .default_value("0")
-        .help("The port to listen on; 0 for a free one")
-}
-
 fn liar_arg(alloc: Global) -> Arg<'static> {
     Arg::new(alloc, "liar")
         .long("liar")
         .value_name("LIE")
         .value_parser(LIARS.as_slice())
         .help("Makes replica 0 lie")
-}
-
-fn serve_arg(alloc: Global) -> Arg<'static> {
-    Arg::new(alloc, "serve")
-        .long("serve")
-        .value_name("N")
-        .value_parser(value_parser!(u64))
-        .default_value("0")
-        .help("Ends after N connections; 0 to go on")
-}
-
-fn keys_held_arg(alloc: Global) -> Arg<'static> {
-    Arg::new(alloc, "keys-held")
-        .long("keys-held")
-        .value_name("N")
-        .value_parser(value_parser!(u32))
-        .default_value("65536")
-        .help("The cache has room for N keys: 1 to 65,536; the least recently used makes way")
-}
-
-fn blocks_arg(alloc: Global) -> Arg<'static> {
-    Arg::new(alloc, "blocks")
-        .long("blocks")
-        .value_name("B")
-        .value_parser(value_parser!(u32))
-        .default_value("0")
-        .help("A replica stops when it holds B blocks; 0 for 1,048,576")
-}
-
-fn window_arg(alloc: Global) -> Arg<'static> {
-    Arg::new(alloc, "window")
-        .long("window")
-        .value_name("H")
-        .value_parser(value_parser!(u32))
-        .default_value("4096")
-        .help("A replica forgets blocks more than H heights below the last executed one")
 }
 
 fn archive_arg(alloc: Global) -> Arg<'static> {
@@ -140,15 +184,6 @@ fn workers_arg(alloc: Global) -> Arg<'static> {
         .value_parser(WORKERS.as_slice())
         .default_value("1")
         .help("How many threads check the frames of each replica and step it")
-}
-
-fn watch_arg(alloc: Global) -> Arg<'static> {
-    Arg::new(alloc, "watch")
-        .long("watch")
-        .value_name("SECONDS")
-        .value_parser(value_parser!(u32))
-        .default_value("0")
-        .help("Tells each so many seconds how it goes; 0 for never")
 }
 
 /// What the words ask for.

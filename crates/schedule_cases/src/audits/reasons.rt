@@ -51,9 +51,10 @@ fn collision(words: &str) -> Result<Reason, Fault> {
 
 /// The reason of a field.
 pub(crate) fn reason_of(field: &str) -> Result<Reason, Fault> {
-    match field.split_once(':') {
-        Some(("vote", words)) => vote(words),
-        Some(("collision", words)) => collision(words),
+    let (kind, words) = field.split_once(':').ok_or(Fault::BadFields)?;
+    match kind {
+        "vote" => vote(words),
+        "collision" => collision(words),
         _ => Err(Fault::BadFields),
     }
 }
