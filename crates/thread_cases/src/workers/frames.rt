@@ -6,19 +6,19 @@ ghost use Rattle.ids.specs.Sizes.{replicas};
 use anyhow::{Result, bail};
 use bytes::Bytes;
 use frames_view::{Payload, ReplyText, genesis_digest};
-use ids::{ClientId, Config, Digest, Fault, Kind, PartyId, Place, ReplicaId, Seq, View};
+use ids::{ClientId, Config, Digest, Fault, Kind, Place, ReplicaId, Seq, View};
 use replica::{Sending, To};
 use signed_frames::{
     fetch_frame, new_view_frame, proposal_frame, reply_frame, request_frame, vote_frame,
 };
-use simulated_keys::keyring_of;
+use simulated_keys::{keyring_of, replica_keyring_of};
 use std::alloc::Global;
 
 /// The bytes of replica 2's question of this number, for a block that isn't there.
 fn question_bytes(alloc: Global, config: Config, to: ReplicaId, number: u16) -> Result<Vec<u8>>
     requires { to < replicas config }
 {
-    let keyring = keyring_of(alloc, config, PartyId(2))?;
+    let keyring = replica_keyring_of(alloc, config, ReplicaId(2))?;
     let [high, low] = number.to_be_bytes();
     let mut digest = [0xaa; 32];
     digest[0] = high;
@@ -51,7 +51,7 @@ fn genesis_certificate() -> [u8; 33] {
 
 /// The first proposal of replica 0: a block of height 1 without commands, on genesis and with its certificate.
 pub(crate) fn proposal(alloc: Global, config: Config) -> Result<Bytes> {
-    let keyring = keyring_of(alloc, config, PartyId(0))?;
+    let keyring = replica_keyring_of(alloc, config, ReplicaId(0))?;
     let mut core = [0; 49];
     core[..32].copy_from_slice(&genesis_digest().0);
     core[39] = 1;
@@ -82,7 +82,7 @@ fn add(
 
 /// What replica 1 sends at once: its view to all, a vote for genesis to replica 2, and a reply to client 0.
 pub(crate) fn answers(alloc: Global, config: Config) -> Result<Vec<Sending>> {
-    let keyring = keyring_of(alloc, config, PartyId(1))?;
+    let keyring = replica_keyring_of(alloc, config, ReplicaId(1))?;
     let Some(text) = ReplyText::new(b"STORED\r\n") else {
         bail!("no text of a reply");
     };

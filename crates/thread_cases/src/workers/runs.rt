@@ -8,7 +8,7 @@ use fabric::{ClientEnd, Ends, Links, Post};
 use ids::{Config, Fault, ReplicaId};
 use locked_replica::Share;
 use marks::{Marks, Watcher};
-use simulated_keys::keyring_of;
+use simulated_keys::replica_keyring_of;
 use std::alloc::Global;
 use std::hash::RandomState;
 use std::ops::Range;
@@ -131,10 +131,7 @@ fn work<R: Wait + Clock, G: Gate>(
     let Some(inbox) = stage.ends.replicas.get(usize::from(number.0)) else {
         return share;
     };
-    if number.0 >= stage.config.n() {
-        return share;
-    }
-    let Ok(keyring) = keyring_of(alloc, stage.config, number.into()) else {
+    let Ok(keyring) = replica_keyring_of(alloc, stage.config, number) else {
         return share;
     };
     let mut fake = Fake {

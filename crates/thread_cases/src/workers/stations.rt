@@ -10,7 +10,7 @@ use ids::{Config, Fault, ReplicaId};
 use locked_replica::{Kept, Locked, Share};
 use marks::{Eye, Marks};
 use replica::Archived;
-use simulated_keys::keyring_of;
+use simulated_keys::replica_keyring_of;
 use std::alloc::Global;
 use std::hash::RandomState;
 use std::ops::Range;
@@ -37,9 +37,9 @@ fn new_kept<'a>(
     hasher: RandomState,
 ) -> Result<Kept<'a>, Fault>
     requires eye { eye ≡ first_eye marks.now number }
-    requires number { (number < replicas config) × (number < marks.now.words) }
+    requires number { number < marks.now.words }
 {
-    let keyring = keyring_of(alloc, config, number.into())?;
+    let keyring = replica_keyring_of(alloc, config, number)?;
     let replica = Archived::new(alloc, config, number, keyring, hasher)?;
     Ok(Kept::new(alloc, replica, eye, marks))
 }
@@ -71,7 +71,7 @@ fn make_station<'a>(
     hasher: RandomState,
 ) -> Result<Station<'a>, Fault>
     requires eye { eye ≡ first_eye marks.now number }
-    requires number { (number < replicas config) × (number < marks.now.words) }
+    requires number { number < marks.now.words }
 {
     let mut kept = new_kept(alloc, config, number, eye, marks, hasher)?;
     let shares = two_shares(alloc, &mut kept);
