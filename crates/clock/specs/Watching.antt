@@ -5,40 +5,45 @@ use Rattle.clock.specs.declared.watch.Pulse.{Pulse}
 use Rattle.clock.specs.declared.watch.Due.{Due}
 use Rattle.clock.specs.declared.watch.Watch.{Watch}
 
+-- the milliseconds that a command may take among so many replicas: a sixth of their square, and at least 10
+abbrev pub patience_of : ℕ → ℕ
+patience_of replicas = max (replicas * replicas / 6) 10
+
 -- nothing was seen yet: view 0, nothing executed, and a pause of 20 milliseconds
-abbrev pub unseen : Watch
-unseen = record { view = 0; executed = 0; looked = 0; since = 0; slow = 0; asked = 0; pause = 20 }
+abbrev pub unseen : ℕ → Watch
+unseen replicas = record {
+  view = 0;
+  executed = 0;
+  looked = 0;
+  patience = patience_of replicas;
+  slow = 0;
+  asked = 0;
+  pause = 20;
+}
 
 -- its view or its history changed since it was looked at last
 abbrev pub moved : Watch → Pulse → Bool
 moved w p = not ((p.view == w.view) && (p.executed == w.executed))
 
--- requests wait, and it hasn't got on since it was looked at last
-abbrev pub stands_still : Watch → Pulse → Bool
-stands_still w p = p.is_pending && not (moved w p)
+-- requests wait, and the commands that were executed since it was looked at last took longer than they may
+abbrev pub lags : Watch → ℕ → Pulse → Bool
+lags w now p =
+    p.is_pending && nat_lt (min ((p.executed - w.executed) * w.patience) (2 ^ 64 - 1)) (now - w.looked)
 
--- how slow its view was: each millisecond in which it stood still counts three, each other one takes one back
+-- how slow its view was: each millisecond in which it lagged counts three, each other one takes one back
 abbrev pub slow_after : Watch → ℕ → Pulse → ℕ
 slow_after w now p =
     if not (p.view == w.view) then 0
-    else if stands_still w p then min (w.slow + min ((now - w.looked) * 3) (2 ^ 64 - 1)) (2 ^ 64 - 1)
+    else if lags w now p then min (w.slow + min ((now - w.looked) * 3) (2 ^ 64 - 1)) (2 ^ 64 - 1)
     else w.slow - (now - w.looked)
 
--- the milliseconds that a view may stand still, or be slow: one second, and one more for each view before it
+-- how slow a view may be: one second, and one more for each view before it
 abbrev pub limit_of : ℕ → ℕ
 limit_of view = min (min (view + 1) (2 ^ 64 - 1) * 1000) (2 ^ 64 - 1)
 
--- it has stood still for so long
-abbrev pub is_late : Watch → ℕ → Pulse → Bool
-is_late w now p = stands_still w p && nat_le (limit_of p.view) (now - w.since)
-
--- it stands still, and has been slow for so long
-abbrev pub is_slow : Watch → ℕ → Pulse → Bool
-is_slow w slow p = stands_still w p && nat_le (limit_of p.view) slow
-
--- either
+-- it lags, and has been slow for so long
 abbrev pub is_over : Watch → ℕ → Pulse → Bool
-is_over w now p = is_late w now p || is_slow w (slow_after w now p) p
+is_over w now p = lags w now p && nat_le (limit_of p.view) (slow_after w now p)
 
 -- nothing that it proposed waits for votes, or it has just got on
 abbrev pub rests : Watch → Pulse → Bool
@@ -68,14 +73,13 @@ prune_at window p =
     if nat_lt (min (window + window / 8) (2 ^ 64 - 1)) (p.height - p.horizon) then Some (p.height - window)
     else None
 
--- what was seen so far, with this. Both times begin anew where there is nothing to wait for, or what was
--- due is given
+-- what was seen so far, with this. How slow the view was begins anew where a timeout is due
 abbrev pub looked : Watch → ℕ → Pulse → Watch
 looked w now p = record {
   view = p.view;
   executed = p.executed;
   looked = now;
-  since = if not p.is_pending || moved w p || is_over w now p then now else w.since;
+  patience = w.patience;
   slow = if is_over w now p then 0 else slow_after w now p;
   asked = if rests w p || is_overdue w now p then now else w.asked;
   pause = pause_after w.pause (moved w p) (is_overdue w now p);

@@ -41,7 +41,7 @@ pub fn keep_time<R: Wait + Clock, W: Watched>(
     stop: &AtomicBool,
 ) -> Option<Fault> {
     let start = Instant::now(rt).ok();
-    let mut watch = Watch::new();
+    let mut watch = Watch::new(links.config().n());
     for _ in rt.forever() {
         if stop.load(SeqCst) {
             break;

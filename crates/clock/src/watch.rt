@@ -1,14 +1,18 @@
 //! What is due to one replica.
 
 ghost use Rattle.std.specs.Prelude.{◌≡◌, if◌then◌else◌};
-ghost use Rattle.clock.specs.Watching.{due_of, is_late, is_overdue, is_slow, looked, moved, pause_after};
-ghost use Rattle.clock.specs.Watching.{limit_of, prune_at, rests, slow_after, stands_still, unseen};
+ghost use Rattle.clock.specs.Watching.{due_of, is_over, is_overdue, lags, limit_of, looked, moved};
+ghost use Rattle.clock.specs.Watching.{patience_of, pause_after, prune_at, rests, slow_after, unseen};
 
 use ids::{Fault, Height, View};
 
 /// For how many milliseconds a proposal may wait for votes, at first and at least, before a beat on
 /// top of it.
 const LEAST_PAUSE: u64 = 20;
+
+/// How many milliseconds a command may take at least before a view counts as slow: half of the time between
+/// two looks, so that a leader which brings one command at each beat of the clock is slow.
+const LEAST_PATIENCE: u64 = 10;
 
 /// What is seen of a replica at one moment.
 #[derive(Clone, Copy, Debug, PartialEq, Eq)]
@@ -36,8 +40,7 @@ pub struct Pulse {
 pub struct Due {
     /// Leave to make a proposal.
     pub beat: bool,
-    /// A timeout: for one second more than the number of its view requests were pending, and neither its
-    /// view nor its history changed; or so much longer than it got on in between.
+    /// A timeout: its view was slow for too long.
     pub timeout: bool,
 }
 
@@ -48,10 +51,9 @@ pub struct Watch {
     executed: u64,
     /// When it was looked at last, in milliseconds.
     looked: u64,
-    /// Since when it has waited.
-    since: u64,
-    /// How slow its view was so far: three for each millisecond in which it stood still, less one for each
-    /// other.
+    /// How many milliseconds a command may take.
+    patience: u64,
+    /// How slow its view was so far: three for each millisecond in which it lagged, less one for each other.
     slow: u64,
     /// Since when a proposal of it has waited for votes, and how long that may last.
     asked: u64,
@@ -71,18 +73,20 @@ pub fn prune_at(window: u64, pulse: Pulse) -> Option<Height>
     }
 }
 
-/// How many milliseconds a view may stand still, or be slow: one second, and one more for each view before.
+/// How slow a view may be: one second, and one more for each view before.
 fn limit_of(view: u64) -> u64
     ensures { result ≡ limit_of view }
 {
     view.saturating_add(1).saturating_mul(1000)
 }
 
-/// The beginning of a time that may begin anew.
-fn from(begins: bool, now: u64, before: u64) -> u64
-    ensures { result ≡ (if begins then now else before) }
+/// How many milliseconds a command may take among so many replicas, each of which checks a tag of each other
+/// for a block: some twenty times what it takes where processors are free.
+fn patience_of(replicas: u8) -> u64
+    ensures { result ≡ patience_of replicas }
 {
-    if begins { now } else { before }
+    let replicas = u64::from(replicas);
+    (replicas * replicas / 6).max(LEAST_PATIENCE)
 }
 
 /// How long a proposal may wait for votes from now on, where the replica has got on, or has waited so long.
@@ -99,15 +103,15 @@ fn pause_after(pause: u64, moved: bool, overdue: bool) -> u64
 }
 
 impl Watch {
-    /// Nothing was seen yet.
-    pub fn new() -> Watch
-        ensures { result ≡ unseen }
+    /// Nothing was seen yet of a replica, which is one of so many.
+    pub fn new(replicas: u8) -> Watch
+        ensures { result ≡ unseen replicas }
     {
         Watch {
             view: View(0),
             executed: 0,
             looked: 0,
-            since: 0,
+            patience: patience_of(replicas),
             slow: 0,
             asked: 0,
             pause: LEAST_PAUSE,
@@ -121,11 +125,13 @@ impl Watch {
         !(pulse.view.0 == self.view.0 && pulse.executed == self.executed)
     }
 
-    /// Whether requests wait, and it hasn't got on since it was looked at last.
-    fn stands_still(&self, pulse: Pulse) -> bool
-        ensures { result ≡ stands_still self.now pulse }
+    /// Whether requests wait, and the commands that were executed since it was looked at last took too long.
+    fn lags(&self, now: u64, pulse: Pulse) -> bool
+        ensures { result ≡ lags self.now now pulse }
     {
-        pulse.is_pending && !self.has_moved(pulse)
+        let executed = pulse.executed.saturating_sub(self.executed);
+        let passed = now.saturating_sub(self.looked);
+        pulse.is_pending && executed.saturating_mul(self.patience) < passed
     }
 
     /// How slow its view has been with what is seen at this moment.
@@ -135,27 +141,18 @@ impl Watch {
         let passed = now.saturating_sub(self.looked);
         if pulse.view.0 != self.view.0 {
             0
-        } else if self.stands_still(pulse) {
+        } else if self.lags(now, pulse) {
             self.slow.saturating_add(passed.saturating_mul(3))
         } else {
             self.slow.saturating_sub(passed)
         }
     }
 
-    /// Whether its view has stood still for too long.
-    fn is_late(&self, now: u64, pulse: Pulse) -> bool
-        ensures { result ≡ is_late self.now now pulse }
+    /// Whether its view lags, and has been slow for too long.
+    fn is_over(&self, now: u64, pulse: Pulse) -> bool
+        ensures { result ≡ is_over self.now now pulse }
     {
-        let limit = limit_of(pulse.view.0);
-        self.stands_still(pulse) && now.saturating_sub(self.since) >= limit
-    }
-
-    /// Whether its view stands still, and has been slow for too long.
-    fn is_slow(&self, slow: u64, pulse: Pulse) -> bool
-        ensures { result ≡ is_slow self.now slow pulse }
-    {
-        let limit = limit_of(pulse.view.0);
-        self.stands_still(pulse) && slow >= limit
+        self.lags(now, pulse) && self.slow_after(now, pulse) >= limit_of(pulse.view.0)
     }
 
     /// Whether nothing that it proposed waits for votes, or it has just got on.
@@ -178,22 +175,20 @@ impl Watch {
         ensures due { result ≡ due_of self.old now pulse }
         ensures watch { self.new ≡ looked self.old now pulse }
     {
-        let (moved, slow) = (self.has_moved(pulse), self.slow_after(now, pulse));
-        let late = self.is_late(now, pulse) || self.is_slow(slow, pulse);
+        let (moved, over) = (self.has_moved(pulse), self.is_over(now, pulse));
         let (rests, overdue) = (self.rests(pulse), self.is_overdue(now, pulse));
-        let waits_anew = !pulse.is_pending || moved || late;
         *self = Watch {
             view: pulse.view,
             executed: pulse.executed,
             looked: now,
-            since: from(waits_anew, now, self.since),
-            slow: if late { 0 } else { slow },
-            asked: from(rests || overdue, now, self.asked),
+            patience: self.patience,
+            slow: if over { 0 } else { self.slow_after(now, pulse) },
+            asked: if rests || overdue { now } else { self.asked },
             pause: pause_after(self.pause, moved, overdue),
         };
         Due {
             beat: pulse.wants_beat_now || overdue,
-            timeout: late,
+            timeout: over,
         }
     }
 }

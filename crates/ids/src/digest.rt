@@ -1,8 +1,13 @@
+ghost use Rattle.std.specs.Hash as fed;
+ghost use Rattle.std.specs.Cmp.Rules.{hashing};
+ghost use Rattle.std.proofs.Common.{rules};
+
 use std::fmt;
+use std::hash::{Hash, Hasher};
 use std::marker::Model;
 
 /// The digest of a block: SHA-256 (FIPS 180-4) of its core's bytes. Displayed in lower-case hexadecimal.
-#[derive(Clone, Copy, Debug, PartialEq, Eq, PartialOrd, Ord, Hash)]
+#[derive(Clone, Copy, Debug, PartialEq, Eq, PartialOrd, Ord)]
 pub struct Digest(pub [u8; 32]);
 
 impl Model for Digest {
@@ -21,5 +26,18 @@ impl fmt::Display for Digest {
             write!(f, "{byte:02x}")?;
         }
         Ok(())
+    }
+}
+
+/// By its first eight bytes: a hash map needs no more of bytes that are a hash already.
+impl Hash for Digest {
+    ghost use Rattle.std.specs.Prelude.{take, ◌∷◌, []};
+
+    ghost hash_input = { λ digest. take 8 digest ∷ [] };
+
+    ghost respects_eq = { Prim.search (hashing, rules) };
+
+    fn hash<H: Hasher>(&self, state: &mut H) {
+        state.write(&self.0[..8]);
     }
 }
