@@ -5,9 +5,10 @@ use Rattle.clock.specs.declared.watch.Pulse.{Pulse}
 use Rattle.clock.specs.declared.watch.Due.{Due}
 use Rattle.clock.specs.declared.watch.Watch.{Watch}
 
--- the milliseconds that a command may take among so many replicas: a sixth of their square, and at least 10
+-- the milliseconds that a command may take among so many replicas: the cube of a quarter of them, and at least
+-- 10
 abbrev pub patience_of : ℕ → ℕ
-patience_of replicas = max (replicas * replicas / 6) 10
+patience_of replicas = max (replicas * replicas * replicas / 64) 10
 
 -- nothing was seen yet: view 0, nothing executed, and a pause of 20 milliseconds
 abbrev pub unseen : ℕ → Watch

@@ -80,13 +80,14 @@ fn limit_of(view: u64) -> u64
     view.saturating_add(1).saturating_mul(1000)
 }
 
-/// How many milliseconds a command may take among so many replicas, each of which checks a tag of each other
-/// for a block: some twenty times what it takes where processors are free.
+/// How many milliseconds a command may take among so many replicas: 10 up to 8 of them, and then as the third
+/// power of their number, since each checks the tags of the others on longer frames. That is seven times and
+/// more what a lone command takes where processors are free.
 fn patience_of(replicas: u8) -> u64
     ensures { result ≡ patience_of replicas }
 {
     let replicas = u64::from(replicas);
-    (replicas * replicas / 6).max(LEAST_PATIENCE)
+    (replicas * replicas * replicas / 64).max(LEAST_PATIENCE)
 }
 
 /// How long a proposal may wait for votes from now on, where the replica has got on, or has waited so long.
