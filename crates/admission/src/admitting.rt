@@ -11,7 +11,7 @@ ghost use Rattle.admission.specs.Admitted.{Admits, Answers};
 ghost use Rattle.definitions.specs.Admission.{check as checks};
 
 use crate::input::Input;
-use authenticators::ReplicaKeyring;
+use authenticators::VerifyingKeyring;
 use certificates::{
     check_block, check_fetch, check_new_view, check_proposal, check_request, check_vote,
 };
@@ -20,7 +20,7 @@ use ids::Fault;
 
 /// The input that a frame brings, which was read from these bytes.
 fn check<'a>(
-    keyring: &'a ReplicaKeyring,
+    keyring: &'a VerifyingKeyring,
     frame: Frame<'a>,
     _bytes: &'a [u8],
 ) -> Result<Input<'a>, Fault>
@@ -46,7 +46,7 @@ fn check<'a>(
 /// `NotAFrame` comes first; then `NotMine`, for a reply, which no replica takes; then `BadTag`,
 /// where the frame's own tag or its certificate isn't right.
 #[tactic(auto, using(crate::proofs::Checks::addressed))]
-pub fn admit<'a>(keyring: &'a ReplicaKeyring, bytes: &'a [u8]) -> Result<Input<'a>, Fault>
+pub fn admit<'a>(keyring: &'a VerifyingKeyring, bytes: &'a [u8]) -> Result<Input<'a>, Fault>
     ensures admitted { Admits keyring.now bytes.entry result }
     ensures addressed { IfOk result (λ input. IsTrue (is_addressed keyring.now input)) }
 {

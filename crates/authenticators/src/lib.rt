@@ -8,8 +8,10 @@ mod keyring;
 mod mac;
 mod replica_keyring;
 mod shared_key;
+mod verifying_keyring;
 
 pub use keyring::Keyring;
 pub use mac::hmac;
 pub use replica_keyring::ReplicaKeyring;
 pub use shared_key::SharedKey;
+pub use verifying_keyring::VerifyingKeyring;

@@ -2,6 +2,7 @@ ghost use Rattle.std.specs.Prelude.{◌≡◌, ◌<◌, ◌↔◌, IsSome, IsOk,
 ghost use Rattle.ids.specs.Sizes.{IsRoom, replicas};
 
 use crate::keyring::Keyring;
+use crate::verifying_keyring::VerifyingKeyring;
 use ids::{Config, Fault, ReplicaId};
 use std::alloc::Global;
 use std::marker::Model;
@@ -9,9 +10,10 @@ use std::marker::Model;
 /// The keys of a replica: a keyring whose party is one of the replicas of its sizes.
 ///
 /// Whoever has one is a replica: with it frames to a replica are checked, and a replica's own frames are made.
+/// Who only checks is lent a [`VerifyingKeyring`].
 #[derive(Drop)]
 pub struct ReplicaKeyring {
-    keyring: Keyring,
+    verifying: VerifyingKeyring,
 }
 
 impl Model for ReplicaKeyring {
@@ -21,9 +23,9 @@ impl Model for ReplicaKeyring {
 
     ghost Value = { Keys };
 
-    ghost view = { λ k. k.keyring };
+    ghost view = { λ k. k.verifying };
 
-    ghost invariant = { λ k. k.keyring.party < replicas k.keyring.sizes };
+    ghost invariant = { λ k. k.verifying.party < replicas k.verifying.sizes };
 }
 
 impl ReplicaKeyring {
@@ -32,11 +34,9 @@ impl ReplicaKeyring {
         ensures exactly { IsSome result ↔ (keyring.party < replicas keyring.sizes) }
         ensures made { IfSome result (λ k. k ≡ keyring) }
     {
-        let n = keyring.config().n();
-        if keyring.party().0 >= u16::from(n) {
-            return None;
-        }
-        Some(ReplicaKeyring { keyring })
+        let verifying = VerifyingKeyring::new(keyring)?;
+        verifying.replica();
+        Some(ReplicaKeyring { verifying })
     }
 
     /// A second keyring of the same keys, for a replica whose keys are wanted in two places.
@@ -44,8 +44,8 @@ impl ReplicaKeyring {
         ensures made { IfOk result (λ k. k ≡ self.now) }
         ensures memory { OnErr result (result ≡ Err Fault.Memory) }
     {
-        let keyring = self.keyring.duplicate(alloc)?;
-        Ok(ReplicaKeyring { keyring })
+        let keyring = self.as_keyring().duplicate(alloc)?;
+        Ok(ReplicaKeyring::new(keyring).unwrap())
     }
 
     /// The same keys, in a deployment whose caches have room for so many keys: 1 to `MOST_KEYS`, else
@@ -56,8 +56,8 @@ impl ReplicaKeyring {
         ensures refused { OnErr result (result ≡ Err Fault.BadKeys) }
         ensures only { IsOk result ↔ IsRoom most_keys }
     {
-        let keyring = self.keyring.with_most_keys(most_keys)?;
-        Ok(ReplicaKeyring { keyring })
+        let keyring = self.verifying.into_keyring().with_most_keys(most_keys)?;
+        Ok(ReplicaKeyring::new(keyring).unwrap())
     }
 
     /// The replica whose keys these are.
@@ -65,15 +65,14 @@ impl ReplicaKeyring {
         ensures party { result ≡ self.now.party }
         ensures replica { self.now.party < replicas self.now.sizes }
     {
-        let _most = self.keyring.config().n();
-        ReplicaId(self.keyring.party().0 as u8)
+        self.verifying.replica()
     }
 
     /// The sizes that it was made with.
     pub fn config(&self) -> Config
         ensures { result ≡ self.now.sizes }
     {
-        self.keyring.config()
+        self.verifying.config()
     }
 
     /// The keyring that it is, to make tags and to verify them.
@@ -81,6 +80,13 @@ impl ReplicaKeyring {
         ensures keys { result.now ≡ self.now }
         ensures replica { self.now.party < replicas self.now.sizes }
     {
-        &self.keyring
+        self.verifying.as_keyring()
+    }
+
+    /// The same keys, for who may only verify with them.
+    pub fn verifying(&self) -> &VerifyingKeyring
+        ensures { result.now ≡ self.now }
+    {
+        &self.verifying
     }
 }

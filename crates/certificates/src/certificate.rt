@@ -11,7 +11,7 @@ use crate::check::check;
 use crate::checked::{Authenticated, Certified, Checked};
 use crate::claims::Claims;
 use crate::voters::Voters;
-use authenticators::ReplicaKeyring;
+use authenticators::VerifyingKeyring;
 use frames_view::{CertificateView, VoteView};
 use ids::{Config, Fault, Kind, PartyId};
 
@@ -23,18 +23,16 @@ const GENESIS: [u8; 32] = [
 ];
 
 /// Whether the vote's tag for the keyring's own replica verifies.
-pub(crate) fn vote_verifies(keyring: &ReplicaKeyring, digest: &[u8; 32], vote: &VoteView) -> bool
+pub(crate) fn vote_verifies(keyring: &VerifyingKeyring, digest: &[u8; 32], vote: &VoteView) -> bool
     requires vote { IsVote keyring.now.sizes (vote_of vote.now) }
     ensures { result ≡ vote_verifies (identity_of keyring.now) digest.now (vote_of vote.now) }
 {
     let tag = vote.tag(keyring.replica());
-    keyring
-        .as_keyring()
-        .verify(Kind::Vote, PartyId::from(vote.voter()), digest, tag)
+    keyring.verify(Kind::Vote, PartyId::from(vote.voter()), digest, tag)
 }
 
 /// The voters whose tags for the keyring's own replica verify.
-fn counted(keyring: &ReplicaKeyring, certificate: &CertificateView) -> Voters
+fn counted(keyring: &VerifyingKeyring, certificate: &CertificateView) -> Voters
     requires certificate { IsCertificate keyring.now.sizes (certificate_of certificate.now) }
     ensures { result ≡ counted_voters (identity_of keyring.now) (certificate_of certificate.now) }
 {
@@ -59,7 +57,7 @@ fn is_genesis(digest: &[u8; 32]) -> bool
 /// Whether the certificate is good, where these are its counted voters: that of genesis has no
 /// votes, and any other has a quorum of counted ones.
 #[tactic(auto, unfolding(definitions::specs::Checks::is_good))]
-fn is_good(keyring: &ReplicaKeyring, certificate: &CertificateView, voters: &Voters) -> bool
+fn is_good(keyring: &VerifyingKeyring, certificate: &CertificateView, voters: &Voters) -> bool
     requires { voters.now ≡ counted_voters (identity_of keyring.now) (certificate_of certificate.now) }
     ensures { result ≡ is_good (identity_of keyring.now) (certificate_of certificate.now) }
 {
@@ -72,7 +70,7 @@ fn is_good(keyring: &ReplicaKeyring, certificate: &CertificateView, voters: &Vot
 
 /// The counted voters of the certificate, if it is good; else `BadTag`.
 pub(crate) fn good_voters(
-    keyring: &ReplicaKeyring,
+    keyring: &VerifyingKeyring,
     certificate: &CertificateView,
 ) -> Result<Voters, Fault>
     requires certificate { IsCertificate keyring.now.sizes (certificate_of certificate.now) }
@@ -93,7 +91,7 @@ impl<'a> Authenticated for CertificateView<'a> {
     ghost shows = { λ q. shown.certificate (certificate_of q) };
 
     #[tactic(auto, unfolding(definitions::specs::Checks::is_clear_core))]
-    fn claims(&self, _keyring: &ReplicaKeyring) -> Claims<'_> {
+    fn claims(&self, _keyring: &VerifyingKeyring) -> Claims<'_> {
         Claims {
             own: None,
             certificate: Some(*self),
@@ -106,7 +104,7 @@ impl<'a> Certified for CertificateView<'a> {}
 
 /// The certificate, if it is good; else `BadTag`.
 pub fn check_cert<'a>(
-    keyring: &'a ReplicaKeyring,
+    keyring: &'a VerifyingKeyring,
     config: &Config,
     view: &CertificateView<'a>,
 ) -> Result<Checked<'a, CertificateView<'a>>, Fault>

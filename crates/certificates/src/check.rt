@@ -8,12 +8,12 @@ use crate::certificate::good_voters;
 use crate::checked::{Authenticated, Checked};
 use crate::commands::is_clear;
 use crate::voters::Voters;
-use authenticators::ReplicaKeyring;
+use authenticators::VerifyingKeyring;
 use ids::Fault;
 
 /// The view, if what it claims to the keyring's replica is right; else `BadTag`.
 pub(crate) fn check<'a, V: Authenticated + Copy>(
-    keyring: &'a ReplicaKeyring,
+    keyring: &'a VerifyingKeyring,
     view: &V,
 ) -> Result<Checked<'a, V>, Fault>
     requires fits { Fits keyring.now.sizes (V.shows view.now) }
@@ -21,9 +21,7 @@ pub(crate) fn check<'a, V: Authenticated + Copy>(
 {
     let claims = view.claims(keyring);
     let is_tagged = match &claims.own {
-        Some(own) => keyring
-            .as_keyring()
-            .verify(own.kind, own.sender, own.content, own.tag),
+        Some(own) => keyring.verify(own.kind, own.sender, own.content, own.tag),
         None => true,
     };
     if !is_tagged {

@@ -6,7 +6,7 @@ ghost use Rattle.certificates.specs.Shown.{Shown, Fits, passes, certificate_in, 
 
 use crate::claims::Claims;
 use crate::voters::Voters;
-use authenticators::ReplicaKeyring;
+use authenticators::VerifyingKeyring;
 use ids::{Config, ReplicaId};
 use std::marker::Model;
 
@@ -16,7 +16,7 @@ pub trait Authenticated {
     ghost shows: { Self → Shown };
 
     /// What it claims to the keyring's replica.
-    fn claims(&self, keyring: &ReplicaKeyring) -> Claims<'_>
+    fn claims(&self, keyring: &VerifyingKeyring) -> Claims<'_>
         requires fits { Fits keyring.now.sizes (shows self.now) }
         ensures { AreClaims keyring.now (shows self.now) result };
 }
@@ -30,7 +30,7 @@ pub trait CarriesBlock: Certified {}
 /// A view that passed the check under a keyring: the tags for the keyring's own replica verify.
 #[derive(Drop)]
 pub struct Checked<'a, V: Authenticated> {
-    keyring: &'a ReplicaKeyring,
+    keyring: &'a VerifyingKeyring,
     view: V,
     voters: Voters,
     clear: bool,
@@ -55,7 +55,7 @@ impl<'a, V: Authenticated> Model for Checked<'a, V> {
 impl<'a, V: Authenticated> Checked<'a, V> {
     /// What was found of a view that passes.
     pub(crate) fn new(
-        keyring: &'a ReplicaKeyring,
+        keyring: &'a VerifyingKeyring,
         view: V,
         voters: Voters,
         clear: bool,
@@ -75,7 +75,7 @@ impl<'a, V: Authenticated> Checked<'a, V> {
     }
 
     /// The keyring under which it was checked.
-    pub fn keyring(&self) -> &'a ReplicaKeyring
+    pub fn keyring(&self) -> &'a VerifyingKeyring
         ensures { result.now ≡ self.now.keys }
     {
         self.keyring

@@ -5,17 +5,17 @@ ghost use Rattle.definitions.specs.FrameLimits.{IsCommand, IsCore};
 ghost use Rattle.definitions.specs.Checks.{identity_of, command_verifies, is_clear_core};
 ghost use Rattle.frames_view.specs.Views.{command_of, core_of};
 
-use authenticators::ReplicaKeyring;
+use authenticators::VerifyingKeyring;
 use frames_view::{CommandView, CoreView};
 use ids::{Kind, PartyId};
 
 /// Whether the command's tag for the keyring's own replica verifies.
-fn command_verifies(keyring: &ReplicaKeyring, command: &CommandView) -> bool
+fn command_verifies(keyring: &VerifyingKeyring, command: &CommandView) -> bool
     requires command { IsCommand keyring.now.sizes (command_of command.now) }
     ensures { result ≡ command_verifies (identity_of keyring.now) (command_of command.now) }
 {
     let tag = command.tag(keyring.replica());
-    keyring.as_keyring().verify(
+    keyring.verify(
         Kind::Request,
         PartyId::from(command.client()),
         command.content(),
@@ -24,7 +24,7 @@ fn command_verifies(keyring: &ReplicaKeyring, command: &CommandView) -> bool
 }
 
 /// Whether the tag of each command verifies.
-pub(crate) fn is_clear(keyring: &ReplicaKeyring, core: &CoreView) -> bool
+pub(crate) fn is_clear(keyring: &VerifyingKeyring, core: &CoreView) -> bool
     requires core { IsCore keyring.now.sizes (core_of core.now) }
     ensures { result ≡ is_clear_core (identity_of keyring.now) (core_of core.now) }
 {

@@ -10,7 +10,7 @@ ghost use Rattle.certificates.specs.Cutting.{verified};
 
 use crate::certificate::vote_verifies;
 use crate::checked::Checked;
-use authenticators::ReplicaKeyring;
+use authenticators::VerifyingKeyring;
 use frames_view::{CertificateView, VoteView, Votes, write_certificate, write_certified_vote};
 use ids::{Config, Digest, Fault};
 use std::alloc::Global;
@@ -18,7 +18,7 @@ use std::marker::Model;
 
 /// The first of these votes whose tag for the keyring's own replica verifies, and the votes behind it.
 fn first_verified<'a>(
-    keyring: &ReplicaKeyring,
+    keyring: &VerifyingKeyring,
     digest: &[u8; 32],
     votes: Votes<'a>,
 ) -> Option<(VoteView<'a>, Votes<'a>)>
@@ -44,7 +44,7 @@ fn first_verified<'a>(
 /// tags for the replica verify. They are lent, and each tag is checked when its vote is asked for.
 #[derive(Drop)]
 pub struct CutVotes<'a> {
-    keyring: &'a ReplicaKeyring,
+    keyring: &'a VerifyingKeyring,
     digest: &'a [u8; 32],
     votes: Votes<'a>,
     /// At most so many are still to come.
@@ -90,7 +90,7 @@ impl<'a> Iterator for CutVotes<'a> {
 
 /// The votes of a certificate as the keyring's replica passes it on.
 #[tactic(auto, unfolding(definitions::specs::Checks::cut))]
-fn cut<'a>(keyring: &'a ReplicaKeyring, certificate: &CertificateView<'a>) -> CutVotes<'a>
+fn cut<'a>(keyring: &'a VerifyingKeyring, certificate: &CertificateView<'a>) -> CutVotes<'a>
     requires certificate { IsCertificate keyring.now.sizes (certificate_of certificate.now) }
     ensures votes { result
         ≡ (cut (identity_of keyring.entry.now) (certificate_of certificate.entry.now)).votes }
@@ -138,7 +138,7 @@ fn write_votes(votes: CutVotes<'_>, out: &mut Vec<u8>) -> Result<u8, Fault>
 /// votes whose tags for the replica verify.
 pub fn cut_bytes(
     alloc: Global,
-    keyring: &ReplicaKeyring,
+    keyring: &VerifyingKeyring,
     certificate: &CertificateView,
 ) -> Result<Vec<u8>, Fault>
     requires certificate { IsCertificate keyring.now.sizes (certificate_of certificate.now) }

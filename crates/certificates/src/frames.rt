@@ -14,14 +14,14 @@ ghost use Rattle.certificates.specs.Outcomes.{IsGivenIf};
 use crate::check::check;
 use crate::checked::{Authenticated, CarriesBlock, Certified, Checked};
 use crate::claims::{Claims, OwnTag};
-use authenticators::ReplicaKeyring;
+use authenticators::VerifyingKeyring;
 use frames_view::{BlockView, CommandView, FetchView, NewViewView, ProposalView, VoteFrameView};
 use ids::{Config, Fault, Kind, PartyId};
 
 impl<'a> Authenticated for ProposalView<'a> {
     ghost shows = { λ f. frame (proposal_of f) };
 
-    fn claims(&self, keyring: &ReplicaKeyring) -> Claims<'_> {
+    fn claims(&self, keyring: &VerifyingKeyring) -> Claims<'_> {
         let own = OwnTag {
             kind: Kind::Proposal,
             sender: keyring.config().leader(self.view()).into(),
@@ -42,7 +42,7 @@ impl<'a> CarriesBlock for ProposalView<'a> {}
 
 /// The proposal, if it passes the check of the keyring's replica.
 pub fn check_proposal<'a>(
-    keyring: &'a ReplicaKeyring,
+    keyring: &'a VerifyingKeyring,
     config: &Config,
     view: &ProposalView<'a>,
 ) -> Result<Checked<'a, ProposalView<'a>>, Fault>
@@ -57,7 +57,7 @@ pub fn check_proposal<'a>(
 impl<'a> Authenticated for VoteFrameView<'a> {
     ghost shows = { λ f. frame (vote_frame_of f) };
 
-    fn claims(&self, keyring: &ReplicaKeyring) -> Claims<'_> {
+    fn claims(&self, keyring: &VerifyingKeyring) -> Claims<'_> {
         let own = OwnTag {
             kind: Kind::Vote,
             sender: self.vote().voter().into(),
@@ -75,7 +75,7 @@ impl<'a> Authenticated for VoteFrameView<'a> {
 /// The vote, if it passes the check of the keyring's replica. Its tags speak of the digest alone,
 /// as they do in a certificate.
 pub fn check_vote<'a>(
-    keyring: &'a ReplicaKeyring,
+    keyring: &'a VerifyingKeyring,
     config: &Config,
     view: &VoteFrameView<'a>,
 ) -> Result<Checked<'a, VoteFrameView<'a>>, Fault>
@@ -90,7 +90,7 @@ pub fn check_vote<'a>(
 impl<'a> Authenticated for NewViewView<'a> {
     ghost shows = { λ f. frame (new_view_of f) };
 
-    fn claims(&self, keyring: &ReplicaKeyring) -> Claims<'_> {
+    fn claims(&self, keyring: &VerifyingKeyring) -> Claims<'_> {
         let own = OwnTag {
             kind: Kind::NewView,
             sender: self.sender().into(),
@@ -109,7 +109,7 @@ impl<'a> Certified for NewViewView<'a> {}
 
 /// The announcement, if it passes the check of the keyring's replica.
 pub fn check_new_view<'a>(
-    keyring: &'a ReplicaKeyring,
+    keyring: &'a VerifyingKeyring,
     config: &Config,
     view: &NewViewView<'a>,
 ) -> Result<Checked<'a, NewViewView<'a>>, Fault>
@@ -124,7 +124,7 @@ pub fn check_new_view<'a>(
 impl<'a> Authenticated for FetchView<'a> {
     ghost shows = { λ f. frame (fetch_of f) };
 
-    fn claims(&self, _keyring: &ReplicaKeyring) -> Claims<'_> {
+    fn claims(&self, _keyring: &VerifyingKeyring) -> Claims<'_> {
         let own = OwnTag {
             kind: Kind::Fetch,
             sender: PartyId::from(self.sender()),
@@ -141,7 +141,7 @@ impl<'a> Authenticated for FetchView<'a> {
 
 /// The question, if it passes the check of the keyring's replica.
 pub fn check_fetch<'a>(
-    keyring: &'a ReplicaKeyring,
+    keyring: &'a VerifyingKeyring,
     config: &Config,
     view: &FetchView<'a>,
 ) -> Result<Checked<'a, FetchView<'a>>, Fault>
@@ -156,7 +156,7 @@ pub fn check_fetch<'a>(
 impl<'a> Authenticated for BlockView<'a> {
     ghost shows = { λ f. frame (block_of f) };
 
-    fn claims(&self, _keyring: &ReplicaKeyring) -> Claims<'_> {
+    fn claims(&self, _keyring: &VerifyingKeyring) -> Claims<'_> {
         let own = OwnTag {
             kind: Kind::Block,
             sender: self.sender().into(),
@@ -177,7 +177,7 @@ impl<'a> CarriesBlock for BlockView<'a> {}
 
 /// The block, if it passes the check of the keyring's replica.
 pub fn check_block<'a>(
-    keyring: &'a ReplicaKeyring,
+    keyring: &'a VerifyingKeyring,
     config: &Config,
     view: &BlockView<'a>,
 ) -> Result<Checked<'a, BlockView<'a>>, Fault>
@@ -192,7 +192,7 @@ pub fn check_block<'a>(
 impl<'a> Authenticated for CommandView<'a> {
     ghost shows = { λ f. frame (request (command_of f)) };
 
-    fn claims(&self, keyring: &ReplicaKeyring) -> Claims<'_> {
+    fn claims(&self, keyring: &VerifyingKeyring) -> Claims<'_> {
         let own = OwnTag {
             kind: Kind::Request,
             sender: self.client().into(),
@@ -209,7 +209,7 @@ impl<'a> Authenticated for CommandView<'a> {
 
 /// The command of a request, if it passes the check of the keyring's replica.
 pub fn check_request<'a>(
-    keyring: &'a ReplicaKeyring,
+    keyring: &'a VerifyingKeyring,
     config: &Config,
     view: &CommandView<'a>,
 ) -> Result<Checked<'a, CommandView<'a>>, Fault>

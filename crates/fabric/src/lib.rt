@@ -15,4 +15,4 @@ pub use inbox::Inbox;
 pub use links::{Ends, Links};
 pub use parcel::Parcel;
 pub use waiting::WaitingRoom;
-pub use worker::{Outgoing, Post};
+pub use worker::{Outgoing, Worker};

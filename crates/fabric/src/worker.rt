@@ -9,20 +9,20 @@ use crate::parcel::Parcel;
 use crate::queue::Question;
 use crate::waiting::{Brought, Waiting, WaitingRoom};
 use admission::Input;
-use authenticators::ReplicaKeyring;
 use bytes::Bytes;
 use ids::{Digest, Fault, Height, Kind, ReplicaId};
-use signed_frames::{Out, Sending, To, fetch_frame};
+use signed_frames::{Out, Sending, To, WorkerKeyring};
 use std::alloc::Global;
 use std::sync::Wait;
 use std::time::Clock;
 use turns::{Gate, Share, Steps, turn};
 
-/// Where a worker stands: it takes from a replica's link, sends by `out`, and has a keyring of its own.
+/// A worker of a replica: it takes from the replica's link, sends by `out`, and has keys of its own, with which it
+/// checks frames and asks for blocks, and can't say anything else in the replica's name.
 #[derive(Drop)]
-pub struct Post<'a, G, O = Links> {
+pub struct Worker<'a, G, O = Links> {
     alloc: Global,
-    keyring: ReplicaKeyring,
+    keyring: WorkerKeyring,
     gate: &'a G,
     inbox: &'a Inbox,
     out: &'a O,
@@ -57,17 +57,17 @@ fn send_all<R: Wait, O: Outgoing>(rt: &R, to: &O, from: ReplicaId, out: Out) {
     }
 }
 
-impl<'a, G: Gate, O: Outgoing> Post<'a, G, O> {
-    /// The post of one worker of the keyring's replica. The replica's workers share the room.
+impl<'a, G: Gate, O: Outgoing> Worker<'a, G, O> {
+    /// A worker of the keyring's replica. The replica's workers share the room.
     pub fn new(
         alloc: Global,
-        keyring: ReplicaKeyring,
+        keyring: WorkerKeyring,
         gate: &'a G,
         inbox: &'a Inbox,
         out: &'a O,
         room: &'a WaitingRoom,
-    ) -> Post<'a, G, O> {
-        Post {
+    ) -> Worker<'a, G, O> {
+        Worker {
             alloc,
             keyring,
             gate,
@@ -85,7 +85,7 @@ impl<'a, G: Gate, O: Outgoing> Post<'a, G, O> {
         if sender == self.keyring.replica() || sender.0 >= self.keyring.config().n() {
             return;
         }
-        if let Ok(frame) = fetch_frame(self.alloc, &self.keyring, sender, &block) {
+        if let Ok(frame) = self.keyring.fetch_frame(self.alloc, sender, &block) {
             let sending = Sending {
                 to: To::Replica(sender),
                 kind: Kind::Fetch,
@@ -106,7 +106,15 @@ impl<'a, G: Gate, O: Outgoing> Post<'a, G, O> {
     ) -> Result<(), Fault>
         ensures { HasGrown share.old share.new }
     {
-        let out = turn(rt, steps, share, self.gate, number, &self.keyring, bytes)?;
+        let out = turn(
+            rt,
+            steps,
+            share,
+            self.gate,
+            number,
+            self.keyring.verifying(),
+            bytes,
+        )?;
         send_all(rt, self.out, self.keyring.replica(), out);
         Ok(())
     }
@@ -210,7 +218,7 @@ impl<'a, G: Gate, O: Outgoing> Post<'a, G, O> {
 
     /// Takes what comes over the replica's link until it is told to stop. It gives the share back, with the steps
     /// that it made.
-    pub fn work<R: Wait + Clock, S: Steps>(self, rt: &R, steps: &mut S, mut share: Share) -> Share
+    pub fn run<R: Wait + Clock, S: Steps>(self, rt: &R, steps: &mut S, mut share: Share) -> Share
         ensures { HasGrown share result }
     {
         for _ in rt.forever() {

@@ -31,7 +31,7 @@ fn announcement(
     ensures made { IfOk result (λ out. out ≡ new_view_sent keyring.now view high.now.certificate ∷ []) }
     ensures memory { OnErr result (result ≡ Err Fault.Memory) }
 {
-    let certificate = cut_bytes(alloc, keyring, &high.certificate.view())?;
+    let certificate = cut_bytes(alloc, keyring.verifying(), &high.certificate.view())?;
     let frame = new_view_frame(alloc, keyring, view, &certificate)?;
     let sending = Sending {
         to: To::All,

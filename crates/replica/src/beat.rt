@@ -67,7 +67,7 @@ fn proposal_out(
     ensures made { IfOk result (λ out. out ≡ proposal_sent keyring.now view own.now ∷ []) }
     ensures memory { OnErr result (result ≡ Err Fault.Memory) }
 {
-    let certificate = cut_bytes(alloc, keyring, &own.certificate.view())?;
+    let certificate = cut_bytes(alloc, keyring.verifying(), &own.certificate.view())?;
     let frame = proposal_frame(alloc, keyring, view, &own.core, &certificate)?;
     let sending = Sending {
         to: To::All,

@@ -33,7 +33,7 @@ fn supply(
     let Some(block) = state.tree.block(digest) else {
         return Ok(Out::none(state.alloc));
     };
-    let certificate = cut_bytes(state.alloc, keyring, &block.certificate())?;
+    let certificate = cut_bytes(state.alloc, keyring.verifying(), &block.certificate())?;
     let frame = block_frame(state.alloc, keyring, to, block.core().raw(), &certificate)?;
     let sending = Sending {
         to: To::Replica(to),

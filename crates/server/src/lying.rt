@@ -10,7 +10,7 @@ use std::sync::Wait;
 
 /// How a replica lies, and its keys, with which it signs its lies.
 #[derive(Drop)]
-pub(crate) struct Tongue {
+pub(crate) struct LiarKeys {
     pub(crate) alloc: Global,
     pub(crate) liar: Liar,
     pub(crate) keyring: ReplicaKeyring,
@@ -19,14 +19,14 @@ pub(crate) struct Tongue {
 /// The links, behind a liar.
 #[derive(Drop)]
 pub(crate) struct LyingOut<'a> {
-    pub(crate) tongue: Tongue,
+    pub(crate) keys: LiarKeys,
     pub(crate) links: &'a Links,
 }
 
 impl<'a> Outgoing for LyingOut<'a> {
     fn send<R: Wait>(&self, rt: &R, from: ReplicaId, sending: Sending) {
-        let tongue = &self.tongue;
-        let Ok(lies) = lie(tongue.alloc, &tongue.keyring, tongue.liar, sending) else {
+        let keys = &self.keys;
+        let Ok(lies) = lie(keys.alloc, &keys.keyring, keys.liar, sending) else {
             return;
         };
         for sending in lies {

@@ -9,7 +9,7 @@ use crate::roll::Roll;
 use crate::stations::{Station, run_worker, stations, watch};
 use crate::terms::Terms;
 use crate::watching::Board;
-use crate::worker::Worker;
+use crate::worker::WorkerStart;
 use fabric::{Ends, Links};
 use ids::{Fault, ReplicaId};
 use key_file::PairKeys;
@@ -72,7 +72,7 @@ fn start_station<'s, E, R: Wait + Clock + Sync + Send + AllocGlobal + Log + Clon
     rt: &'s R,
     scope: &Scope<'s, E>,
     station: &'s Station<'_>,
-    workers: Vec<Worker>,
+    workers: Vec<WorkerStart>,
     bell: &'s Bell<'_, Desk<R>>,
     stop: &'s AtomicBool,
 ) -> bool {
@@ -91,7 +91,7 @@ fn start_stations<'s, E, R: Wait + Clock + Sync + Send + AllocGlobal + Log + Clo
     rt: &'s R,
     scope: &Scope<'s, E>,
     stations: &'s [Station<'_>],
-    workers: Vec<Vec<Worker>>,
+    workers: Vec<Vec<WorkerStart>>,
     bell: &'s Bell<'_, Desk<R>>,
     stop: &'s AtomicBool,
 ) -> bool {
@@ -107,7 +107,7 @@ fn start_stations<'s, E, R: Wait + Clock + Sync + Send + AllocGlobal + Log + Clo
 fn serve_at<R: Threads + Wait + Clock + Sync + Send + AllocGlobal + Log + Clone + Drop>(
     rt: &R,
     stations: &[Station<'_>],
-    workers: Vec<Vec<Worker>>,
+    workers: Vec<Vec<WorkerStart>>,
     bell: &Bell<'_, Desk<R>>,
     watcher: Watcher<'_>,
     listener: &TcpListener,

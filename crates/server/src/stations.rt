@@ -10,19 +10,20 @@ ghost use Rattle.marks.specs.Eyes.{first_eye};
 use crate::bounded::{Bounded, stopped};
 use crate::guarded::Guarded;
 use crate::laggards::Reach;
-use crate::lying::{LyingOut, Tongue};
+use crate::lying::{LiarKeys, LyingOut};
 use crate::terms::Terms;
 use crate::watching::Progress;
-use crate::worker::Worker;
+use crate::worker::WorkerStart;
 use clock::{Pulse, Watched, keep_time};
 use doorkeeper::Doorkeeper;
-use fabric::{Inbox, Links, Post, WaitingRoom};
+use fabric::{Inbox, Links, WaitingRoom, Worker};
 use ids::{Fault, ReplicaId};
 use key_file::PairKeys;
 use liars::Liar;
 use locked_replica::Kept;
 use marks::{Eye, Marks};
 use replica::Archived;
+use signed_frames::WorkerKeyring;
 use std::alloc::Global;
 use std::hash::RandomState;
 use std::sync::atomic::AtomicBool;
@@ -102,27 +103,27 @@ pub(crate) fn run_worker<R: Wait + Clock + AllocGlobal>(
     rt: &R,
     station: &Station<'_>,
     links: &Links,
-    worker: Worker,
+    worker: WorkerStart,
 ) {
-    let Worker {
+    let WorkerStart {
         share,
         keyring,
-        tongue,
+        liar_keys,
     } = worker;
     let (alloc, gate) = (rt.alloc(), Open);
     let mut steps = Bounded {
         locked: &station.locked,
         most: station.most_blocks,
     };
-    let _share = match tongue {
+    let _share = match liar_keys {
         None => {
-            let post = Post::new(alloc, keyring, &gate, &station.inbox, links, &station.room);
-            post.work(rt, &mut steps, share)
+            let worker = Worker::new(alloc, keyring, &gate, &station.inbox, links, &station.room);
+            worker.run(rt, &mut steps, share)
         }
-        Some(tongue) => {
-            let out = LyingOut { tongue, links };
-            let post = Post::new(alloc, keyring, &gate, &station.inbox, &out, &station.room);
-            post.work(rt, &mut steps, share)
+        Some(keys) => {
+            let out = LyingOut { keys, links };
+            let worker = Worker::new(alloc, keyring, &gate, &station.inbox, &out, &station.room);
+            worker.run(rt, &mut steps, share)
         }
     };
 }
@@ -139,18 +140,18 @@ pub(crate) fn watch<R: Wait + Clock>(
 }
 
 /// What a replica lies with.
-fn make_tongue(
+fn liar_keys(
     alloc: Global,
     keys: &PairKeys,
     number: ReplicaId,
     liar: Liar,
-) -> Result<Tongue, Fault>
+) -> Result<LiarKeys, Fault>
     requires { number < replicas keys.now.sizes }
-    ensures made { IfOk result (λ tongue. tongue.liar ≡ liar) }
+    ensures made { IfOk result (λ keys. keys.liar ≡ liar) }
     ensures memory { OnErr result (result ≡ Err Memory) }
 {
     let keyring = keys.replica_keyring(alloc, number)?;
-    Ok(Tongue {
+    Ok(LiarKeys {
         alloc,
         liar,
         keyring,
@@ -164,21 +165,21 @@ fn new_worker(
     kept: &mut Kept<'_>,
     number: ReplicaId,
     liar: Option<Liar>,
-) -> Result<Worker, Fault>
+) -> Result<WorkerStart, Fault>
     requires { number < replicas keys.now.sizes }
     ensures lies { IfOk result (λ worker. lie_of worker ≡ liar) }
     ensures memory { OnErr result (result ≡ Err Memory) }
 {
     let share = kept.share()?;
-    let keyring = keys.replica_keyring(alloc, number)?;
-    let tongue = match liar {
+    let keyring = WorkerKeyring::new(keys.replica_keyring(alloc, number)?);
+    let liar_keys = match liar {
         None => None,
-        Some(liar) => Some(make_tongue(alloc, keys, number, liar)?),
+        Some(liar) => Some(liar_keys(alloc, keys, number, liar)?),
     };
-    Ok(Worker {
+    Ok(WorkerStart {
         share,
         keyring,
-        tongue,
+        liar_keys,
     })
 }
 
@@ -208,7 +209,7 @@ fn new_workers(
     kept: &mut Kept<'_>,
     number: ReplicaId,
     terms: &Terms,
-) -> Result<Vec<Worker>, Fault>
+) -> Result<Vec<WorkerStart>, Fault>
     requires { number < replicas keys.now.sizes }
     ensures count { IfOk result (λ workers. vec_len workers ≡ worker_count terms.now.workers) }
     ensures lies { IfOk result
@@ -232,7 +233,7 @@ fn build_station<'a>(
     marks: &'a Marks,
     inbox: Arc<Inbox>,
     terms: &Terms,
-) -> Result<(Station<'a>, Vec<Worker>), Fault>
+) -> Result<(Station<'a>, Vec<WorkerStart>), Fault>
     requires number { number < replicas keys.now.sizes }
     requires words { marks.now.words ≡ replicas keys.now.sizes }
     requires eye { eye ≡ first_eye marks.now number }
@@ -265,7 +266,7 @@ pub(crate) fn stations<'a>(
     owners: Vec<Eye>,
     ends: Vec<Arc<Inbox>>,
     terms: &Terms,
-) -> Result<(Vec<Station<'a>>, Vec<Vec<Worker>>), Fault>
+) -> Result<(Vec<Station<'a>>, Vec<Vec<WorkerStart>>), Fault>
     requires words { marks.now.words ≡ replicas keys.now.sizes }
     requires owners { owners.items ≡ map (first_eye marks.now) (range_with_len 0 marks.now.words) }
     ensures workers { IfOk result

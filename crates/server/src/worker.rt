@@ -1,14 +1,14 @@
 //! What a replica's workers begin with.
 
-use crate::lying::Tongue;
-use authenticators::ReplicaKeyring;
+use crate::lying::LiarKeys;
 use locked_replica::Share;
+use signed_frames::WorkerKeyring;
 
 /// What one worker begins with.
 #[derive(Drop)]
-pub(crate) struct Worker {
+pub(crate) struct WorkerStart {
     pub(crate) share: Share,
-    pub(crate) keyring: ReplicaKeyring,
+    pub(crate) keyring: WorkerKeyring,
     /// Where its replica is to lie.
-    pub(crate) tongue: Option<Tongue>,
+    pub(crate) liar_keys: Option<LiarKeys>,
 }

@@ -8,7 +8,9 @@ mod out;
 mod signed;
 mod to_all;
 mod to_one;
+mod worker_keyring;
 
 pub use out::{Out, Sending, To};
 pub use to_all::{new_view_frame, proposal_frame, request_frame, vote_frame};
 pub use to_one::{block_frame, fetch_frame, reply_frame};
+pub use worker_keyring::WorkerKeyring;

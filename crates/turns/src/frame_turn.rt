@@ -10,7 +10,7 @@ use crate::gate::Gate;
 use crate::share::Share;
 use crate::steps::Steps;
 use admission::admit;
-use authenticators::ReplicaKeyring;
+use authenticators::VerifyingKeyring;
 use ids::Fault;
 use signed_frames::Out;
 use std::sync::Wait;
@@ -24,7 +24,7 @@ pub fn turn<R: Wait, S: Steps, G: Gate>(
     share: &mut Share,
     gate: &G,
     frame: u64,
-    keyring: &ReplicaKeyring,
+    keyring: &VerifyingKeyring,
     bytes: &[u8],
 ) -> Result<Out, Fault>
     ensures turned { (admitted : Result inputs.Input faults.Fault) × Admits keyring.now bytes.entry admitted

@@ -77,7 +77,7 @@ impl ReplicaParty {
         ensures taken { Answers (identity_of self.old.keys) bytes.now self.old.replica self.new.replica
             result }
     {
-        match admit(&self.keyring, bytes) {
+        match admit(self.keyring.verifying(), bytes) {
             Ok(input) => self.replica.step(input),
             Err(fault) => Err(fault),
         }

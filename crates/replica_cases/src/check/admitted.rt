@@ -10,7 +10,7 @@ use std::alloc::Global;
 
 /// `ok` where the bytes are admitted, and else the number of the refusal.
 fn answer(ring: &ReplicaKeyring, bytes: &[u8]) -> &'static str {
-    match admit(ring, bytes) {
+    match admit(ring.verifying(), bytes) {
         Ok(_) => "ok",
         Err(Fault::NotAFrame) => "10",
         Err(Fault::BadTag) => "11",

@@ -32,7 +32,7 @@ fn receive(
         return Err(Fault::NoSuchParty);
     }
     let ring = replica_keyring_of(alloc, config, ReplicaId(checker))?;
-    match admit(&ring, bytes) {
+    match admit(ring.verifying(), bytes) {
         Ok(input) => Ok(step(replica, input)),
         Err(fault) => Ok(Err(fault)),
     }

@@ -71,7 +71,7 @@ impl<'a> Stepped<'a> {
         bytes: &[u8],
     ) -> Result<Result<Out, Fault>, Fault> {
         let ring = replica_keyring_of(alloc, self.config, ReplicaId(checker))?;
-        match admit(&ring, bytes) {
+        match admit(ring.verifying(), bytes) {
             Ok(input) => self.bring(share, input),
             Err(fault) => Ok(Err(fault)),
         }

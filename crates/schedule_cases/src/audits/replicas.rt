@@ -72,7 +72,7 @@ fn step(replica: &mut Archived, input: Input<'_>) -> Result<(), Fault>
 fn receive(alloc: Global, replica: &mut Archived, bytes: &[u8]) -> Result<(), Fault> {
     let (config, own) = (replica.replica().config(), replica.replica().number());
     let ring = replica_keyring_of(alloc, config, own)?;
-    match admit(&ring, bytes) {
+    match admit(ring.verifying(), bytes) {
         Ok(input) => step(replica, input),
         Err(_) => Ok(()),
     }

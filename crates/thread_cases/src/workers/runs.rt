@@ -4,10 +4,11 @@ use crate::workers::fake::Fake;
 use crate::workers::seen::Seen;
 use crate::workers::stations::{Station, stations};
 use bytes::Bytes;
-use fabric::{ClientEnd, Ends, Links, Post};
+use fabric::{ClientEnd, Ends, Links, Worker};
 use ids::{Config, Fault, ReplicaId};
 use locked_replica::Share;
 use marks::{Marks, Watcher};
+use signed_frames::WorkerKeyring;
 use simulated_keys::replica_keyring_of;
 use std::alloc::Global;
 use std::hash::RandomState;
@@ -119,7 +120,7 @@ fn stop_all<R: Wait>(rt: &R, links: &Links) {
     }
 }
 
-/// Works at a station with this share and a keyring of its own, until it is told to stop. The share
+/// Works at a station with this share and keys of its own, until it is told to stop. The share
 /// comes back.
 fn work<R: Wait + Clock, G: Gate>(
     rt: &R,
@@ -139,15 +140,15 @@ fn work<R: Wait + Clock, G: Gate>(
         below: &station.locked,
         seen: stage.seen,
     };
-    let post = Post::new(
+    let worker = Worker::new(
         alloc,
-        keyring,
+        WorkerKeyring::new(keyring),
         stage.gate,
         inbox,
         stage.links,
         &station.room,
     );
-    post.work(rt, &mut fake, share)
+    worker.run(rt, &mut fake, share)
 }
 
 /// Works at a station with one of its shares, which is put back at the end.

@@ -4,7 +4,7 @@ use Rattle.std.specs.Global.{Global}
 use Rattle.std.specs.List.{range_with_len}
 use Rattle.marks.specs.Eyes.{first_eye}
 use Rattle.marks.proofs.Owners.{Owners, owners_from}
-use Rattle.server.specs.declared.worker.Worker.{Worker}
+use Rattle.server.specs.declared.worker.WorkerStart.{WorkerStart}
 use Rattle.server.specs.Workers.{worker_count}
 use Rattle.server.proofs.stations.stations.Goals as goal
 
@@ -24,7 +24,7 @@ loop-number-init c =
 
 pub loop-number-preserved : goal.loop-number-preserved
 loop-number-preserved c =
-    let P : Vec Worker Global → Type 0 = λ workers. vec_len workers ≡ worker_count c.args.terms.now.workers in (
+    let P : Vec WorkerStart Global → Type 0 = λ workers. vec_len workers ≡ worker_count c.args.terms.now.workers in (
       search rules,
       search rules,
       search rules,
