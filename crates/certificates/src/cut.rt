@@ -1,6 +1,7 @@
 //! Certificates as they are passed on.
 
-ghost use Rattle.std.specs.Prelude.{◌≡◌, ◌<◌, ◌++◌, ◌∷◌, [], length, IfSome, IfNone, IfOk, OnErr};
+ghost use Rattle.std.specs.Prelude.{◌≡◌, ◌<◌, ◌+◌, ◌*◌, ◌++◌, ◌∷◌, [], length, IfSome, IfNone, IfOk, OnErr};
+ghost use Rattle.ids.specs.Sizes.{quorum, replicas};
 ghost use Rattle.std.specs.List.{AllByRecursion, flat_map};
 ghost use Rattle.definitions.specs.Frames.{vote_bytes, certificate_bytes};
 ghost use Rattle.definitions.specs.FrameLimits.{IsVote, IsCertificate};
@@ -114,9 +115,11 @@ impl<'a> Checked<'a, CertificateView<'a>> {
     }
 }
 
-/// How many bytes a quorum of votes takes in a certificate.
-fn quorum_len(config: &Config) -> usize {
-    usize::from(config.quorum()).saturating_mul(2 + 32 * usize::from(config.n()))
+/// How many bytes a quorum of votes takes in a certificate: the voter's number and a tag for each replica.
+fn quorum_len(config: &Config) -> usize
+    ensures { result ≡ quorum config.now * (2 + 32 * replicas config.now) }
+{
+    usize::from(config.quorum()) * (2 + 32 * usize::from(config.n()))
 }
 
 /// Appends the bytes of these votes, and tells how many they are.

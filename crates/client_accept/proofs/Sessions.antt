@@ -18,7 +18,7 @@ use Rattle.definitions.specs.Replicas.{MemorySupply, ample, refused_at_once}
 use Rattle.definitions.specs.Sessions.{Client, Session, Receipt, Submitted, sent_request, not_sent, Heard}
 use Rattle.definitions.specs.Sessions.{gives_receipt, only_counts, not_counted, is_ample, request_frame}
 use Rattle.definitions.specs.Sessions.{submission, count_reply, on_reply}
-use Rattle.client_accept.specs.Sessions.{Held, memory_of, IsSubmitted, IsBegun, frame_after, heard_of}
+use Rattle.client_accept.specs.Sessions.{Held, memory_of, IsSubmitted, IsSubmittedInto, frame_after, heard_of}
 use Rattle.client_accept.specs.Sessions.{next_seq}
 use Rattle.client_accept.specs.Sessions.{admission, receipt_at}
 
@@ -255,12 +255,12 @@ pub begins : (me : Client) (payload : Bytes) (h new : Held) (seq : ℕ) (result 
     })
     → OnErr result (new ≡ h) → OnErr result (result ≡ Err fault.Memory)
     → (new.keys ≡ h.keys) × (new.session ≡ (submission me (memory_of result) payload h.session).0)
-    × IsBegun (submission me (memory_of result) payload h.session).1 h.frame result new.frame
+    × IsSubmittedInto (submission me (memory_of result) payload h.session).1 h.frame result new.frame
 begins me payload h new seq (Ok done) next state same memory =
     let whole = submission-next me payload h.session seq next in (
       ap (λ (x : Held). x.keys) state,
       ap (λ (x : Held). x.session) state ∙ ap (λ (x : Session × Submitted). x.0) (sym whole),
-      subst (λ (x : Session × Submitted). IsBegun x.1 h.frame (Ok done) new.frame) (sym whole)
+      subst (λ (x : Session × Submitted). IsSubmittedInto x.1 h.frame (Ok done) new.frame) (sym whole)
           (ap (λ (x : Held). x.frame) state),
     )
 begins me payload h new seq (Err n) next state same memory =
@@ -268,11 +268,11 @@ begins me payload h new seq (Err n) next state same memory =
     let is_memory : n ≡ fault.Memory = cc in
     subst (λ (k : Fault). (new.keys ≡ h.keys)
     × (new.session ≡ (submission me (memory_of {T = Unit {0}} (Err k)) payload h.session).0)
-    × IsBegun (submission me (memory_of {T = Unit {0}} (Err k)) payload h.session).1 h.frame (Err k) new.frame)
+    × IsSubmittedInto (submission me (memory_of {T = Unit {0}} (Err k)) payload h.session).1 h.frame (Err k) new.frame)
     (sym is_memory) (
       ap (λ (x : Held). x.keys) same,
       ap (λ (x : Held). x.session) same ∙ ap (λ (x : Session × Submitted). x.0) (sym none),
-      subst (λ (x : Session × Submitted). IsBegun x.1 h.frame (Err fault.Memory) new.frame) (sym none)
+      subst (λ (x : Session × Submitted). IsSubmittedInto x.1 h.frame (Err fault.Memory) new.frame) (sym none)
           (refl, ap (λ (x : Held). x.frame) same),
     )
 
@@ -280,12 +280,12 @@ begins me payload h new seq (Err n) next state same memory =
 pub not_begun : (me : Client) (payload : Bytes) (h : Held) (n : Fault) → next_seq h.session ≡ Err n
     → (h.keys ≡ h.keys)
     × (h.session ≡ (submission me (memory_of {T = Unit {0}} (Err n)) payload h.session).0)
-    × IsBegun (submission me (memory_of {T = Unit {0}} (Err n)) payload h.session).1 h.frame (Err n) h.frame
+    × IsSubmittedInto (submission me (memory_of {T = Unit {0}} (Err n)) payload h.session).1 h.frame (Err n) h.frame
 not_begun me payload h n next =
     let none = submission-refused me payload h.session (memory_of {T = Unit {0}} (Err n)) n next in (
       refl,
       ap (λ (x : Session × Submitted). x.0) (sym none),
-      subst (λ (x : Session × Submitted). IsBegun x.1 h.frame (Err n) h.frame) (sym none) (refl, refl),
+      subst (λ (x : Session × Submitted). IsSubmittedInto x.1 h.frame (Err n) h.frame) (sym none) (refl, refl),
     )
 
 module _ (me : Client) (h : Held) (replica client seq place : ℕ) (text t : Bytes) where

@@ -37,11 +37,11 @@ IsSubmitted (not_sent m) (Err n) = n ≡ m
 
 -- the answer to a submission whose frame is not handed out: the bytes of the last request are those of the
 -- frame that is sent, or as they were before the refusal
-abbrev pub IsBegun : Submitted → Bytes → Result (Unit {0}) Fault → Bytes → Type 0
-IsBegun (sent_request f) old (Ok done) new = new ≡ spelling f
-IsBegun (sent_request f) old (Err n) new = ⊥
-IsBegun (not_sent m) old (Ok done) new = ⊥
-IsBegun (not_sent m) old (Err n) new = (n ≡ m) × (new ≡ old)
+abbrev pub IsSubmittedInto : Submitted → Bytes → Result (Unit {0}) Fault → Bytes → Type 0
+IsSubmittedInto (sent_request f) old (Ok done) new = new ≡ spelling f
+IsSubmittedInto (sent_request f) old (Err n) new = ⊥
+IsSubmittedInto (not_sent m) old (Ok done) new = ⊥
+IsSubmittedInto (not_sent m) old (Err n) new = (n ≡ m) × (new ≡ old)
 
 -- the bytes of the last request, after one more answer
 abbrev pub frame_after : Bytes → Result (Vec ℕ Global) Fault → Bytes

@@ -15,7 +15,7 @@ ghost use Rattle.frames_view.specs.Views.{reply_of};
 ghost use Rattle.frames_view.specs.Fields.{frame_replica, frame_place, frame_text};
 ghost use Rattle.mc_lines.specs.Meaning.{asked_of};
 ghost use Rattle.signed_frames.specs.Clients.{client_of};
-ghost use Rattle.client_accept.specs.Sessions.{memory_of, IsSubmitted, IsBegun, frame_after, heard_of};
+ghost use Rattle.client_accept.specs.Sessions.{memory_of, IsSubmitted, IsSubmittedInto, frame_after, heard_of};
 ghost use Rattle.client_accept.specs.Sessions.{next_seq};
 ghost use Rattle.client_accept.specs.Sessions.{admission, receipt_at};
 
@@ -220,7 +220,7 @@ impl Session {
         ensures keys { self.new.keys ≡ self.old.keys }
         ensures state { self.new.session
             ≡ (submission (client_of self.old.keys) (memory_of result) text.now self.old.session).0 }
-        ensures answer { IsBegun (submission (client_of self.old.keys) (memory_of result) text.now
+        ensures answer { IsSubmittedInto (submission (client_of self.old.keys) (memory_of result) text.now
             self.old.session).1 self.old.frame result self.new.frame }
     {
         match self.next_seq() {

@@ -1,6 +1,7 @@
 //! What a kept replica does under its lock.
 
 ghost use Rattle.locked_replica.specs.Stepping.{SomeStep};
+ghost use Rattle.replica.specs.Wanting.{wants_beat_now};
 
 use crate::kept::Kept;
 use ids::Fault;
@@ -10,6 +11,8 @@ use turns::{Share, UnderLock};
 /// It is some kept replica, which makes this step.
 impl<'a> UnderLock for Kept<'a> {
     ghost made = { SomeStep };
+
+    ghost wants = { λ kept. wants_beat_now (record { keys = kept.keys; replica = kept.replica }) };
 
     fn step(&mut self, share: &mut Share, input: Input<'_>) -> Result<Out, Fault> {
         self.holds();

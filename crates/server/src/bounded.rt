@@ -28,12 +28,19 @@ pub(crate) fn stopped(replica: &Replica, most: usize) -> Option<Fault> {
 /// Each step is one of the replica, or is refused: with `Full`, or with `Crowded` or `Memory` where its
 /// doorkeeper doesn't let a block in.
 impl<'l, 'a> Steps for Bounded<'l, 'a> {
-    ghost use Rattle.std.specs.Prelude.{◌≡◌, ◌⊎◌, Err};
+    ghost use Rattle.std.specs.Prelude.{◌≡◌, ◌≤◌, ◌⊎◌, false, length, Err};
+    ghost use Rattle.definitions.specs.Chronicles.{window};
     ghost use Rattle.ids.specs.declared.fault.Fault.TheVariants.{Full, Crowded, Memory};
     ghost use Rattle.locked_replica.specs.Stepping.{SomeStep};
+    ghost use Rattle.replica.specs.Steps.{Held};
+    ghost use Rattle.replica.specs.Wanting.{wants_beat_now};
 
     ghost moved = { λ _ share input answer _ share'. SomeStep share input answer share'
         ⊎ ((answer ≡ Err Full) ⊎ (answer ≡ Err Crowded) ⊎ (answer ≡ Err Memory)) × (share' ≡ share) };
+
+    /// Some replica held as many blocks as it may, or wanted no beat.
+    ghost rests = { λ way. (held : Held) × ((way.most ≤ length (window held.replica.chronicle))
+        ⊎ (wants_beat_now held ≡ false)) };
 
     fn step<R: Wait>(&mut self, rt: &R, share: &mut Share, input: Input<'_>) -> Result<Out, Fault> {
         let mut guarded = self.locked.lock(rt);

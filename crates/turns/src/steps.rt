@@ -1,6 +1,6 @@
 //! What steps a replica.
 
-ghost use Rattle.std.specs.Prelude.{◌≡◌, List, Result, IfSome, IfNone};
+ghost use Rattle.std.specs.Prelude.{◌≡◌, Bool, false, List, Result, IfSome, IfNone};
 ghost use Rattle.ids.specs.declared.fault.Fault.{Fault};
 ghost use Rattle.admission.specs.declared.input.Input.{Input};
 ghost use Rattle.signed_frames.specs.Outs.{SentBytes};
@@ -18,6 +18,9 @@ pub trait Steps {
     /// the share after.
     ghost moved: { Self → ShareState → Input → Result (List SentBytes) Fault → Self → ShareState → Type 0 };
 
+    /// What was seen of the replica where `beat_now` makes no step.
+    ghost rests: { Self → Type 0 };
+
     /// One step. It may wait for the replica.
     fn step<R: Wait>(&mut self, rt: &R, share: &mut Share, input: Input<'_>) -> Result<Out, Fault>
         ensures moved { moved self.old share.old input.entry result self.new share.new }
@@ -30,7 +33,8 @@ pub trait Steps {
         ensures moved { IfSome result
             (λ answer. moved self.old share.old Input.Beat answer self.new share.new) }
         ensures counts { IfSome result (λ answer. Counts share.old answer share.new) }
-        ensures rests { IfNone result ((self.new ≡ self.old) × (share.new ≡ share.old)) };
+        ensures rests { IfNone result (rests self.old) }
+        ensures same { IfNone result ((self.new ≡ self.old) × (share.new ≡ share.old)) };
 }
 
 /// What lies under a lock, where any thread may step it.
@@ -39,18 +43,25 @@ pub trait UnderLock {
     /// share before, the input, the answer, and the share after.
     ghost made: { ShareState → Input → Result (List SentBytes) Fault → ShareState → Type 0 };
 
+    /// Whether a beat brings something at once.
+    ghost wants: { Self → Bool };
+
     /// One step.
     fn step(&mut self, share: &mut Share, input: Input<'_>) -> Result<Out, Fault>
         ensures made { made share.old input.entry result share.new }
         ensures counts { Counts share.old result share.new };
 
     /// Whether a beat brings something at once, as `Replica::wants_beat_now` says.
-    fn wants_beat_now(&self) -> bool;
+    fn wants_beat_now(&self) -> bool
+        ensures { result ≡ wants self.now };
 }
 
 /// By any thread: what lies under the lock makes the step.
 impl<'l, K: UnderLock + Drop> Steps for &'l Mutex<K> {
     ghost moved = { λ _ share input answer _ share'. K.made share input answer share' };
+
+    /// What lay under the lock just then wanted none.
+    ghost rests = { λ _. (under : K) × (K.wants under ≡ false) };
 
     fn step<R: Wait>(&mut self, rt: &R, share: &mut Share, input: Input<'_>) -> Result<Out, Fault> {
         self.lock(rt).step(share, input)

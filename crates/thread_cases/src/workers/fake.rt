@@ -19,6 +19,8 @@ pub(crate) struct Fake<'l, S> {
 impl<'l, S: Steps> Steps for Fake<'l, S> {
     ghost moved = { λ _ _ _ _ _ _. ⊤ };
 
+    ghost rests = { λ _. ⊤ };
+
     fn step<R: Wait>(&mut self, rt: &R, share: &mut Share, input: Input<'_>) -> Result<Out, Fault> {
         let question = self.seen.note(self.number, &input);
         self.seen.meet(question);
