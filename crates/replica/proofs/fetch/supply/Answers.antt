@@ -2,7 +2,9 @@ use Rattle.std.proofs.Common.{◌≡◌, List, Option, sym, ap, ◌∙◌, subst
 use Rattle.std.specs.Prelude.{IfSome, option_map}
 use Rattle.std.specs.Borrow.{Bor}
 use Rattle.definitions.specs.FrameLimits.{IsCertificate}
+use Rattle.definitions.specs.Keyrings.{Keys}
 use Rattle.definitions.specs.Trees.{Stored}
+use Rattle.frames_view.specs.Views.{certificate_of}
 use Rattle.block_tree.specs.declared.node.Node.{Node}
 use Rattle.block_tree.specs.Finding.{stored_in, kept_of}
 use Rattle.replica.specs.Kept.{StateParts}
@@ -19,8 +21,11 @@ cut_bytes-requires c =
     let found = lent-sized sizes d stored c.block.result
     (c.block.ensures ∙ ap (λ (l : List Stored). option_map kept_of (stored_in d l)) same)
     c.requires.certified.stored in
+    let lent : IsCertificate sizes (certificate_of c.certificate.result) =
+    subst (IsCertificate sizes) (sym c.certificate.ensures)
+    (subst (λ (o : Option (Bor Node)). IfSome o (λ n. IsCertificate sizes n.now.certificate)) c.in-Some.is
+    found) in
     record {
-      certificate = subst (IsCertificate sizes) (sym c.certificate.ensures)
-          (subst (λ (o : Option (Bor Node)). IfSome o (λ n. IsCertificate sizes n.now.certificate)) c.in-Some.is
-          found);
+      certificate = subst (λ (k : Keys). IsCertificate k.sizes (certificate_of c.certificate.result))
+          (sym c.verifying.ensures) lent;
     }
