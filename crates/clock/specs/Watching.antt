@@ -43,8 +43,12 @@ abbrev pub limit_of : ℕ → ℕ
 limit_of view = min (min (view + 1) (2 ^ 64 - 1) * 1000) (2 ^ 64 - 1)
 
 -- it lags, and has been slow for so long
-abbrev pub is_over : Watch → ℕ → Pulse → Bool
-is_over w now p = lags w now p && nat_le (limit_of p.view) (slow_after w now p)
+abbrev pub is_over : Watch → ℕ → ℕ → Pulse → Bool
+is_over w now slow p = lags w now p && nat_le (limit_of p.view) slow
+
+-- so it is with what is seen at this moment
+abbrev pub is_due : Watch → ℕ → Pulse → Bool
+is_due w now p = is_over w now (slow_after w now p) p
 
 -- nothing that it proposed waits for votes, or it has just got on
 abbrev pub rests : Watch → Pulse → Bool
@@ -58,7 +62,7 @@ is_overdue w now p = not (rests w p) && nat_le w.pause (now - w.asked)
 abbrev pub due_of : Watch → ℕ → Pulse → Due
 due_of w now p = record {
   beat = p.wants_beat_now || is_overdue w now p;
-  timeout = is_over w now p;
+  timeout = is_due w now p;
 }
 
 -- the next pause, in milliseconds: half of the last, and at least 20, where the replica has got on, and
@@ -81,7 +85,7 @@ looked w now p = record {
   executed = p.executed;
   looked = now;
   patience = w.patience;
-  slow = if is_over w now p then 0 else slow_after w now p;
+  slow = if is_due w now p then 0 else slow_after w now p;
   asked = if rests w p || is_overdue w now p then now else w.asked;
   pause = pause_after w.pause (moved w p) (is_overdue w now p);
 }

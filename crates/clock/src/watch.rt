@@ -150,10 +150,11 @@ impl Watch {
     }
 
     /// Whether its view lags, and has been slow for too long.
-    fn is_over(&self, now: u64, pulse: Pulse) -> bool
-        ensures { result ≡ is_over self.now now pulse }
+    fn is_over(&self, now: u64, slow: u64, pulse: Pulse) -> bool
+        ensures { result ≡ is_over self.now now slow pulse }
     {
-        self.lags(now, pulse) && self.slow_after(now, pulse) >= limit_of(pulse.view.0)
+        let limit = limit_of(pulse.view.0);
+        self.lags(now, pulse) && slow >= limit
     }
 
     /// Whether nothing that it proposed waits for votes, or it has just got on.
@@ -176,14 +177,15 @@ impl Watch {
         ensures due { result ≡ due_of self.old now pulse }
         ensures watch { self.new ≡ looked self.old now pulse }
     {
-        let (moved, over) = (self.has_moved(pulse), self.is_over(now, pulse));
+        let (moved, slow) = (self.has_moved(pulse), self.slow_after(now, pulse));
+        let over = self.is_over(now, slow, pulse);
         let (rests, overdue) = (self.rests(pulse), self.is_overdue(now, pulse));
         *self = Watch {
             view: pulse.view,
             executed: pulse.executed,
             looked: now,
             patience: self.patience,
-            slow: if over { 0 } else { self.slow_after(now, pulse) },
+            slow: if over { 0 } else { slow },
             asked: if rests || overdue { now } else { self.asked },
             pause: pause_after(self.pause, moved, overdue),
         };

@@ -1,5 +1,5 @@
 use Rattle.fabric.specs.Shares.{HasGrown}
-use Rattle.fabric.proofs.worker.Post.work.Given as goal
+use Rattle.fabric.proofs.worker.Worker.run.Given as goal
 
 abbrev pub invariant-loop : goal.invariant-loop
 invariant-loop g l = HasGrown l.fn.share l.share
