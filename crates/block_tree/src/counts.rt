@@ -3,8 +3,8 @@
 ghost use Rattle.std.specs.Prelude.{◌≡◌, ◌==◌, ◌+◌, ◌<◌, ◌≤◌, ◌^◌, ℕ, [], length, if◌then◌else◌, OnErr, OnOk};
 ghost use Rattle.std.specs.Prelude.{max, sum};
 
-use ids::{Fault, Height};
-use std::alloc::Global;
+use ids::Height;
+use std::alloc::{AllocError, Global};
 use std::collections::VecDeque;
 use std::marker::Model;
 
@@ -60,7 +60,7 @@ impl Counts {
     }
 
     /// Makes room for the count of a height that is at most one above the highest.
-    pub(crate) fn reach(&mut self, height: Height) -> Result<(), Fault>
+    pub(crate) fn reach(&mut self, height: Height) -> Result<(), AllocError>
         requires above { self.old.base ≤ height }
         requires next { height ≤ self.old.base + length self.old.heights }
         ensures reached { OnOk result (height < self.new.base + length self.new.heights) }
@@ -68,7 +68,6 @@ impl Counts {
         ensures longer { length self.old.heights ≤ length self.new.heights }
         ensures same { (h : ℕ) → count_of self.new h ≡ count_of self.old h }
         ensures total { sum self.new.heights ≡ sum self.old.heights }
-        ensures memory { OnErr result (result ≡ Err Fault.Memory) }
     {
         if (height.0 - self.base.0) as usize >= self.heights.len() {
             self.heights.push_back(0)?;

@@ -16,8 +16,8 @@ use crate::node::{Node, is_same};
 use crate::told::{AStored, Newest};
 use frames_view::genesis_digest;
 use ghost_list::GhostList;
-use ids::{Digest, Fault, Height};
-use std::alloc::Global;
+use ids::{Digest, Height};
+use std::alloc::{AllocError, Global};
 use std::collections::VecDeque;
 use std::hash::RandomState;
 use std::marker::Model;
@@ -160,7 +160,7 @@ impl Forest {
     }
 
     /// Takes a new block. Its memory is taken first: where that is refused, nothing changed.
-    pub(crate) fn push(&mut self, node: Node) -> Result<(), Fault>
+    pub(crate) fn push(&mut self, node: Node) -> Result<(), AllocError>
         requires fits { IsNode self.old.horizon node (blocks (window self.old)) }
         requires room { length (blocks (window self.old)) < MOST_BLOCKS }
         ensures taken { OnOk result (self.new
@@ -170,11 +170,10 @@ impl Forest {
               all = stored_as node (blocks (window self.old)) ∷ self.old.all;
             }) }
         ensures unchanged { OnErr result (self.new ≡ self.old) }
-        ensures memory { OnErr result (result ≡ Err Fault.Memory) }
     {
         let number = self.first + self.entries.len() as u64;
         if number == u64::MAX {
-            return Err(Fault::Memory);
+            return Err(AllocError);
         }
         let links = self.links_over(&node.core());
         let all = self.all.with(&Newest {

@@ -3,8 +3,8 @@
 ghost use Rattle.std.specs.Prelude.{◌≡◌, Some, None, OnErr, OnOk, if◌then◌else◌};
 ghost use Rattle.std.specs.Str.{bytes_eq};
 
-use ids::{Digest, Fault};
-use std::alloc::Global;
+use ids::Digest;
+use std::alloc::{AllocError, Global};
 use std::collections::HashMap;
 use std::hash::RandomState;
 
@@ -35,11 +35,10 @@ impl Index {
     }
 
     /// Enters a block by its digest.
-    pub(crate) fn insert(&mut self, digest: Digest, number: u64) -> Result<(), Fault>
+    pub(crate) fn insert(&mut self, digest: Digest, number: u64) -> Result<(), AllocError>
         ensures entered { OnOk result ((d : Bytes)
             → number_of self.new d ≡ (if bytes_eq digest d then Some number else number_of self.old d)) }
         ensures kept { OnErr result ((d : Bytes) → number_of self.new d ≡ number_of self.old d) }
-        ensures memory { OnErr result (result ≡ Err Fault.Memory) }
     {
         self.numbers.insert(digest, number)?;
         Ok(())

@@ -11,6 +11,7 @@ use crate::place::Place;
 use crate::tree::Tree;
 use frames_view::{CertificateView, CoreView};
 use ids::{Digest, Fault};
+use std::alloc::AllocError;
 
 /// What was planned for a block.
 #[derive(Drop)]
@@ -51,7 +52,7 @@ impl Tree {
     }
 
     /// Adds a planned block. Its memory is taken first: where that is refused, nothing changed.
-    pub fn add(&mut self, node: Node) -> Result<(), Fault>
+    pub fn add(&mut self, node: Node) -> Result<(), AllocError>
         requires { MayStand self.old node }
         ensures added { OnOk result (self.new
             ≡ record {
@@ -60,7 +61,6 @@ impl Tree {
               stored = stored_as node (blocks self.old.stored) ∷ self.old.stored;
             }) }
         ensures unchanged { OnErr result (self.new ≡ self.old) }
-        ensures memory { OnErr result (result ≡ Err Fault.Memory) }
     {
         let height = node.height();
         self.counts.reach(height)?;

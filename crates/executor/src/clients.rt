@@ -1,11 +1,11 @@
 //! The table of clients.
 
-ghost use Rattle.std.specs.Prelude.{◌≡◌, ◌≢◌, ℕ, None, Some, option_map, IfOk, OnErr};
+ghost use Rattle.std.specs.Prelude.{◌≡◌, ◌≢◌, ℕ, None, Some, option_map, IfOk};
 ghost use Rattle.executor.specs.Rows.{row, numbered_after, number_in};
 
 use crate::answer::Answer;
-use ids::{ClientId, Fault, Seq};
-use std::alloc::Global;
+use ids::{ClientId, Seq};
+use std::alloc::{AllocError, Global};
 use std::marker::Model;
 
 /// How many numbers of clients there are.
@@ -30,9 +30,8 @@ impl Model for Clients {
 
 impl Clients {
     /// No client was answered yet. It takes all the memory that rows need.
-    pub(crate) fn new(alloc: Global) -> Result<Clients, Fault>
-        ensures made { IfOk result (λ c. (client : ℕ) → row c client ≡ None) }
-        ensures memory { OnErr result (result ≡ Err Fault.Memory) }
+    pub(crate) fn new(alloc: Global) -> Result<Clients, AllocError>
+        ensures { IfOk result (λ c. (client : ℕ) → row c client ≡ None) }
     {
         let mut rows = Vec::with_capacity(alloc, NUMBERS)?;
         for _client in 0..NUMBERS {

@@ -11,7 +11,7 @@ use crate::entry::Entry;
 use appending::put;
 use cache::Cache;
 use ids::{ClientId, Fault, Seq};
-use std::alloc::Global;
+use std::alloc::{AllocError, Global};
 use std::marker::Model;
 
 /// What is kept of a command beside its payload, and where that lies.
@@ -55,12 +55,11 @@ fn entry_in<'a>(payloads: &'a [u8], row: &Row) -> Entry<'a>
 }
 
 /// Makes room for a row more, and for so many bytes of payload more.
-fn make_room(rows: &mut Vec<Row>, payloads: &mut Vec<u8>, len: usize) -> Result<(), Fault>
+fn make_room(rows: &mut Vec<Row>, payloads: &mut Vec<u8>, len: usize) -> Result<(), AllocError>
     ensures rows { rows.new.items ≡ rows.old.items }
     ensures payloads { payloads.new.items ≡ payloads.old.items }
     ensures row { OnOk result (vec_len rows.new < vec_capacity rows.new) }
     ensures payload { OnOk result (vec_len payloads.new + len ≤ vec_capacity payloads.new) }
-    ensures memory { OnErr result (result ≡ Err Fault.Memory) }
 {
     rows.reserve(1)?;
     payloads.reserve(len)?;
@@ -131,10 +130,9 @@ impl Entries {
     }
 
     /// Puts an entry last.
-    pub(crate) fn push(&mut self, entry: &Entry<'_>) -> Result<(), Fault>
+    pub(crate) fn push(&mut self, entry: &Entry<'_>) -> Result<(), AllocError>
         ensures entered { OnOk result (self.new ≡ self.old ++ entry.now ∷ []) }
         ensures unchanged { OnErr result (self.new ≡ self.old) }
-        ensures memory { OnErr result (result ≡ Err Fault.Memory) }
     {
         make_room(&mut self.rows, &mut self.payloads, entry.payload().len())?;
         put_last(&mut self.rows, &mut self.payloads, entry);

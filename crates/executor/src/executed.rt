@@ -1,10 +1,10 @@
 //! The executed commands, counted.
 
-ghost use Rattle.std.specs.Prelude.{◌≡◌, ◌<◌, ◌^◌, suc, [], ◌∷◌, length, OnOk, OnErr};
+ghost use Rattle.std.specs.Prelude.{◌≡◌, ◌<◌, ◌^◌, suc, [], ◌∷◌, length, OnOk};
 
 use crate::entry::Entry;
 use ghost_list::{GhostList, Tells};
-use ids::Fault;
+use std::alloc::AllocError;
 use std::marker::Model;
 
 /// An entry as the definitions have it. No value of it is made.
@@ -60,12 +60,11 @@ impl Executed {
     }
 
     /// Whether one more can be counted. No replica lasts until it can't.
-    pub(crate) fn room(&self) -> Result<(), Fault>
-        ensures room { OnOk result (suc (length self.now) < 2 ^ 64) }
-        ensures memory { OnErr result (result ≡ Err Fault.Memory) }
+    pub(crate) fn room(&self) -> Result<(), AllocError>
+        ensures { OnOk result (suc (length self.now) < 2 ^ 64) }
     {
         if self.count == usize::MAX {
-            return Err(Fault::Memory);
+            return Err(AllocError);
         }
         Ok(())
     }

@@ -15,7 +15,7 @@ use crate::ledger::Ledger;
 use cache::Cache;
 use frames_view::{CommandView, Commands};
 use ids::{ClientId, Fault, Place, Seq};
-use std::alloc::Global;
+use std::alloc::{AllocError, Global};
 use std::hash::RandomState;
 use std::marker::Model;
 
@@ -103,12 +103,11 @@ impl Executor {
     }
 
     /// Enters a command that is not fresh.
-    fn enter<L: Ledger>(&mut self, entry: &Entry<'_>, ledger: &mut L) -> Result<(), Fault>
+    fn enter<L: Ledger>(&mut self, entry: &Entry<'_>, ledger: &mut L) -> Result<(), AllocError>
         requires { is_fresh entry.now self.old.history ≡ false }
         ensures entered { OnOk result (self.new ≡ record self.old { history = entry.now ∷ self.old.history }) }
         ensures written { L.holds ledger.old self.old.history → L.holds ledger.new self.new.history }
         ensures unchanged { OnErr result (self.new ≡ self.old) }
-        ensures memory { OnErr result (result ≡ Err Fault.Memory) }
     {
         self.history.room()?;
         ledger.push(entry)?;

@@ -10,7 +10,7 @@ use crate::entries::Entries;
 use crate::entry::Entry;
 use cache::Cache;
 use ids::Fault;
-use std::alloc::Global;
+use std::alloc::{AllocError, Global};
 
 /// Where commands are written down as they are executed, if anywhere.
 pub trait Ledger {
@@ -20,11 +20,10 @@ pub trait Ledger {
     ghost holds: { Self → histories.History → Type 0 };
 
     /// Writes a command down.
-    fn push(&mut self, entry: &Entry<'_>) -> Result<(), Fault>
+    fn push(&mut self, entry: &Entry<'_>) -> Result<(), AllocError>
         ensures written { OnOk result
             ((h : History) → holds self.old h → holds self.new (entry.now ∷ h)) }
-        ensures unchanged { OnErr result (self.new ≡ self.old) }
-        ensures memory { OnErr result (result ≡ Err Fault.Memory) };
+        ensures unchanged { OnErr result (self.new ≡ self.old) };
 
     /// Applies a command to the cache and holds it. The room for it is made first.
     fn push_applied(
@@ -51,7 +50,7 @@ impl Ledger for Entries {
 
     ghost holds = { λ entries h. reverse entries ≡ h };
 
-    fn push(&mut self, entry: &Entry<'_>) -> Result<(), Fault> {
+    fn push(&mut self, entry: &Entry<'_>) -> Result<(), AllocError> {
         Entries::push(self, entry)
     }
 
@@ -74,7 +73,7 @@ impl Ledger for NoLedger {
 
     ghost holds = { λ _ _. ⊤ };
 
-    fn push(&mut self, _entry: &Entry<'_>) -> Result<(), Fault> {
+    fn push(&mut self, _entry: &Entry<'_>) -> Result<(), AllocError> {
         Ok(())
     }
 

@@ -1,14 +1,14 @@
 //! The words.
 
-ghost use Rattle.std.specs.Prelude.{◌≡◌, ◌<◌, ◌≤◌, slice_index, IfOk, OnErr};
+ghost use Rattle.std.specs.Prelude.{◌≡◌, ◌<◌, ◌≤◌, slice_index, IfOk};
 ghost use Rattle.definitions.specs.Marks.{Owns};
 ghost use Rattle.marks.specs.Eyes.{IsOwnerOf, seeing, putting, onlooker_of, first_eyes};
 
 use crate::eye::Eye;
 use crate::rule::{FirstWord, Look, Marking, Onlooker, Put, Sight};
 use atomic_table::{Seat, Table};
-use ids::{Fault, ReplicaId};
-use std::alloc::Global;
+use ids::ReplicaId;
+use std::alloc::{AllocError, Global};
 use std::marker::Model;
 
 /// How far each replica has executed, in one word each. Contracts see which words they are.
@@ -32,11 +32,10 @@ impl Model for Marks {
 impl Marks {
     /// A word for each of `n` replicas, all at 0, and `n + 1` eyes: the eye of each number owns
     /// that replica's word, and the last owns none.
-    pub fn new(alloc: Global, n: u8) -> Result<(Marks, Vec<Eye>), Fault>
+    pub fn new(alloc: Global, n: u8) -> Result<(Marks, Vec<Eye>), AllocError>
         requires { 0 < n }
         ensures words { IfOk result (λ r. r.0.words ≡ n) }
         ensures eyes { IfOk result (λ r. r.1.items ≡ first_eyes r.0) }
-        ensures memory { OnErr result (result ≡ Err Fault.Memory) }
     {
         let replicas = usize::from(n);
         let words = Vec::from_elem(alloc, 0u64, replicas)?;
@@ -83,12 +82,11 @@ impl Marks {
 
     /// One more eye that owns no word, and has seen as much as `from`.
     ///
-    /// It takes no memory today; `Memory` is what it may come to.
-    pub fn eye(&self, from: &mut Eye) -> Result<Eye, Fault>
+    /// It takes no memory today, but may come to take some.
+    pub fn eye(&self, from: &mut Eye) -> Result<Eye, AllocError>
         requires { from.old.marks ≡ self.now }
         ensures made { IfOk result (λ e. e ≡ onlooker_of from.old) }
         ensures from { from.new ≡ from.old }
-        ensures memory { OnErr result (result ≡ Err Fault.Memory) }
     {
         let seat = self.table.shared.split_seat::<Onlooker>(&mut from.seat);
         Ok(Eye { seat })

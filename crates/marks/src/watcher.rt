@@ -1,11 +1,12 @@
 //! Who reads the marks.
 
-ghost use Rattle.std.specs.Prelude.{◌≡◌, ◌≤◌, slice_index, IfNone, IfOk, IfSome, OnErr};
+ghost use Rattle.std.specs.Prelude.{◌≡◌, ◌≤◌, slice_index, IfNone, IfOk, IfSome};
 ghost use Rattle.marks.specs.Eyes.{seeing, onlooker_of};
 
 use crate::eye::Eye;
 use crate::marks::Marks;
-use ids::{Fault, ReplicaId};
+use ids::ReplicaId;
+use std::alloc::AllocError;
 use std::marker::Model;
 
 /// An eye with the marks that it is of. Contracts see the eye.
@@ -58,11 +59,10 @@ impl<'m> Watcher<'m> {
 
     /// One more, which has seen as much.
     ///
-    /// It takes no memory today; `Memory` is what it may come to.
-    pub fn another(&mut self) -> Result<Watcher<'m>, Fault>
+    /// It takes no memory today, but may come to take some.
+    pub fn another(&mut self) -> Result<Watcher<'m>, AllocError>
         ensures made { IfOk result (λ watcher. watcher ≡ onlooker_of self.old) }
         ensures unchanged { self.new ≡ self.old }
-        ensures memory { OnErr result (result ≡ Err Fault.Memory) }
     {
         let eye = self.marks.eye(&mut self.eye)?;
         Ok(Watcher {

@@ -16,7 +16,7 @@ use crate::pending::Pending;
 use frames_view::{CommandView, Commands};
 use ids::{ClientId, Fault, MOST_COMMANDS, MOST_PENDING, Seq};
 use indexmap::IndexMap;
-use std::alloc::Global;
+use std::alloc::{AllocError, Global};
 use std::marker::Model;
 
 /// The pending requests of a replica, in order of arrival. Each has a client and a number of its own.
@@ -90,12 +90,11 @@ impl Mempool {
         Ok(Some(Pending::new(self.alloc, request)?))
     }
 
-    /// Adds a request last; one whose client and number are pending changes nothing. At `Memory`,
-    /// its one refusal, the pool is as before.
-    pub fn insert(&mut self, request: Pending) -> Result<(), Fault>
+    /// Adds a request last; one whose client and number are pending changes nothing. Where memory is
+    /// refused, the pool is as before.
+    pub fn insert(&mut self, request: Pending) -> Result<(), AllocError>
         ensures added { OnOk result (self.new ≡ with_request (noted (got_request request)) self.old) }
         ensures unchanged { OnErr result (self.new ≡ self.old) }
-        ensures memory { OnErr result (result ≡ Err Fault.Memory) }
     {
         let (client, seq) = (request.client(), request.seq());
         if self.contains(client, seq) {
@@ -131,9 +130,8 @@ impl Mempool {
 
     /// The first 16 requests whose client and number are not among those of `on`, in order of
     /// arrival. `on` is of the commands that stand on a branch, in any order.
-    pub fn pick(&self, on: &[(ClientId, Seq)]) -> Result<Vec<&Pending>, Fault>
-        ensures picked { IfOk result (λ v. map (λ r. r.now) v.items ≡ first_beside on.now self.now) }
-        ensures memory { OnErr result (result ≡ Err Fault.Memory) }
+    pub fn pick(&self, on: &[(ClientId, Seq)]) -> Result<Vec<&Pending>, AllocError>
+        ensures { IfOk result (λ v. map (λ r. r.now) v.items ≡ first_beside on.now self.now) }
     {
         let mut picked = Vec::new(self.alloc);
         for i in 0..self.requests.len() {

@@ -1,6 +1,6 @@
 //! The blocks along a branch of the tree.
 
-ghost use Rattle.std.specs.Prelude.{◌≡◌, ◌-◌, ◌++◌, reverse, map, [], option_map, IfOk, OnOk, OnErr};
+ghost use Rattle.std.specs.Prelude.{◌≡◌, ◌-◌, ◌++◌, reverse, map, [], option_map, IfOk, OnOk};
 ghost use Rattle.std.specs.Option.{option_and_then};
 ghost use Rattle.definitions.specs.Digests.{digest_of, core_of};
 ghost use Rattle.definitions.specs.Trees.{blocks, find_in};
@@ -10,8 +10,8 @@ ghost use Rattle.replica.specs.Picks.{key_of, keys_of};
 
 use block_tree::{Node, Tree};
 use frames_view::Commands;
-use ids::{ClientId, Digest, Fault, Height, Seq};
-use std::alloc::Global;
+use ids::{ClientId, Digest, Height, Seq};
+use std::alloc::{AllocError, Global};
 
 /// The digest of the block of this height on the branch of a block of the tree, as far as it is in reach.
 pub(crate) fn digest_at(tree: &Tree, tip: &Digest, height: Height) -> Option<Digest>
@@ -31,9 +31,8 @@ pub(crate) fn block_at<'a>(tree: &'a Tree, tip: &Digest, height: Height) -> Opti
 }
 
 /// Puts the client and number of each command last.
-fn put_keys(commands: Commands<'_>, keys: &mut Vec<(ClientId, Seq)>) -> Result<(), Fault>
-    ensures put { OnOk result (keys.new.items ≡ keys.old.items ++ map key_of (commands_left commands.entry)) }
-    ensures memory { OnErr result (result ≡ Err Fault.Memory) }
+fn put_keys(commands: Commands<'_>, keys: &mut Vec<(ClientId, Seq)>) -> Result<(), AllocError>
+    ensures { OnOk result (keys.new.items ≡ keys.old.items ++ map key_of (commands_left commands.entry)) }
 {
     for command in commands {
         keys.push((command.client(), command.seq()))?;
@@ -48,10 +47,9 @@ pub(crate) fn keys_between(
     tip: &Digest,
     from: u64,
     to: u64,
-) -> Result<Vec<(ClientId, Seq)>, Fault>
-    ensures found { IfOk result
+) -> Result<Vec<(ClientId, Seq)>, AllocError>
+    ensures { IfOk result
         (λ keys. keys.items ≡ reverse (keys_of (history_above tip.now tree.now from (to - from) []))) }
-    ensures memory { OnErr result (result ≡ Err Fault.Memory) }
 {
     let mut keys = Vec::new(alloc);
     for height in from..to {

@@ -10,7 +10,7 @@ use crate::state::State;
 use appending::append;
 use ids::{ClientId, Fault, Height, Seq};
 use mempool::Pending;
-use std::alloc::Global;
+use std::alloc::{AllocError, Global};
 
 /// The height above which requests that wait may stand on the leaf's branch: nothing that was executed waits.
 fn executed_below(state: &State) -> Height
@@ -25,9 +25,8 @@ fn executed_below(state: &State) -> Height
 }
 
 /// The clients and numbers of what stands above it on the leaf's branch, in any order.
-fn proposed_above(state: &State) -> Result<Vec<(ClientId, Seq)>, Fault>
-    ensures found { IfOk result (λ keys. keys.items ≡ reverse (proposed_above state.now.variables)) }
-    ensures memory { OnErr result (result ≡ Err Fault.Memory) }
+fn proposed_above(state: &State) -> Result<Vec<(ClientId, Seq)>, AllocError>
+    ensures { IfOk result (λ keys. keys.items ≡ reverse (proposed_above state.now.variables)) }
 {
     let (tree, leaf) = (&state.tree, &state.leaf.digest);
     let height = tree.height(leaf).unwrap_or(Height(0));

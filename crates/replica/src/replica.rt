@@ -158,7 +158,8 @@ fn take<S: StepLog>(
         → Logs (S.holds log.new) state.new.variables.stored state.new.variables.chronicle }
 {
     let change = decide(state, keyring, executor, input)?;
-    state.commit(change, log)
+    let out = state.commit(change, log)?;
+    Ok(out)
 }
 
 /// Takes an input of a replica that goes on, and executes what it decides.

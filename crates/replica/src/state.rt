@@ -19,12 +19,12 @@ use crate::telling::{AStep, Newest};
 use block_tree::Tree;
 use frames_view::CertificateBuf;
 use ghost_list::GhostList;
-use ids::{Digest, Fault, Height};
+use ids::{Digest, Height};
 use mempool::Mempool;
 use pacemaker::Pacemaker;
 use replica_rules::{BlockRef, Rules};
 use signed_frames::Out;
-use std::alloc::Global;
+use std::alloc::{AllocError, Global};
 use std::marker::Model;
 use vote_collector::Collector;
 
@@ -105,7 +105,7 @@ fn grow(
     votes: &mut Collector,
     pool: &mut Mempool,
     growth: Growth,
-) -> Result<(), Fault>
+) -> Result<(), AllocError>
     requires { MayGrow tree.old votes.old.sizes growth }
     ensures grown { OnOk result (tree.new ≡ tree_after growth tree.old) }
     ensures collected { OnOk result
@@ -114,7 +114,6 @@ fn grow(
     ensures same_tree { OnErr result (tree.new ≡ tree.old) }
     ensures same_votes { OnErr result (votes.new ≡ votes.old) }
     ensures same_pool { OnErr result (pool.new ≡ pool.old) }
-    ensures memory { OnErr result (result ≡ Err Fault.Memory) }
 {
     match growth {
         Growth::Nothing => Ok(()),
@@ -185,7 +184,11 @@ impl State {
 
     /// Makes a change, and writes its step down. The memory is taken first: where that is refused,
     /// nothing changed.
-    pub(crate) fn commit<S: StepLog>(&mut self, change: Change, log: &mut S) -> Result<Out, Fault>
+    pub(crate) fn commit<S: StepLog>(
+        &mut self,
+        change: Change,
+        log: &mut S,
+    ) -> Result<Out, AllocError>
         requires { Fits self.old change }
         ensures made { OnOk result (self.new ≡ changed change self.old) }
         ensures out { IfOk result (λ out. out ≡ change.out) }
@@ -193,7 +196,6 @@ impl State {
             → Logs (S.holds log.old) self.old.variables.stored self.old.variables.chronicle
             → Logs (S.holds log.new) self.new.variables.stored self.new.variables.chronicle }
         ensures unchanged { OnErr result (self.new ≡ self.old) }
-        ensures memory { OnErr result (result ≡ Err Fault.Memory) }
     {
         let Change {
             step,
@@ -206,7 +208,7 @@ impl State {
             pace,
         } = change;
         if self.count == MOST_STEPS {
-            return Err(Fault::Memory);
+            return Err(AllocError);
         }
         log.reserve()?;
         grow(&mut self.tree, &mut self.votes, &mut self.pool, growth)?;

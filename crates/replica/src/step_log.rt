@@ -1,11 +1,10 @@
 //! Where steps are written down.
 
-ghost use Rattle.std.specs.Prelude.{◌≡◌, List, [], ◌∷◌, OnOk, OnErr};
+ghost use Rattle.std.specs.Prelude.{◌≡◌, List, [], ◌∷◌, OnOk};
 ghost use Rattle.replica.specs.declared.stored.StoredStep.{StoredStep as AnyStep};
 
 use crate::stored::StoredStep;
-use ids::Fault;
-use std::alloc::Global;
+use std::alloc::{AllocError, Global};
 
 /// Where steps are written down as they are made, if anywhere.
 pub(crate) trait StepLog {
@@ -18,10 +17,9 @@ pub(crate) trait StepLog {
     ghost has_room: { Self → Type 0 };
 
     /// Makes room for one step more.
-    fn reserve(&mut self) -> Result<(), Fault>
+    fn reserve(&mut self) -> Result<(), AllocError>
         ensures room { OnOk result (has_room self.new) }
-        ensures same { (steps : List AnyStep) → holds self.old steps → holds self.new steps }
-        ensures memory { OnErr result (result ≡ Err Fault.Memory) };
+        ensures same { (steps : List AnyStep) → holds self.old steps → holds self.new steps };
 
     /// Writes a step down.
     fn push(&mut self, step: StoredStep)
@@ -53,7 +51,7 @@ impl StepLog for Steps {
 
     ghost has_room = { λ s. vec_len s.items < vec_capacity s.items };
 
-    fn reserve(&mut self) -> Result<(), Fault> {
+    fn reserve(&mut self) -> Result<(), AllocError> {
         self.items.reserve(1)?;
         Ok(())
     }
@@ -74,7 +72,7 @@ impl StepLog for NoLog {
 
     ghost has_room = { λ _. ⊤ };
 
-    fn reserve(&mut self) -> Result<(), Fault> {
+    fn reserve(&mut self) -> Result<(), AllocError> {
         Ok(())
     }
 

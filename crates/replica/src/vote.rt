@@ -16,12 +16,12 @@ use frames_view::{VoteFrameView, VoteView};
 use ids::{Digest, Fault};
 use replica_rules::BlockRef;
 use signed_frames::Out;
+use std::alloc::AllocError;
 use vote_collector::{Added, KeptVote};
 
 /// A vote that is stored, and changes nothing else.
-fn note(state: &State, block: BlockRef, vote: &VoteView) -> Result<Change, Fault>
-    ensures made { IfOk result (λ d. d ≡ vote_noted state.now block (vote_of vote.now)) }
-    ensures memory { OnErr result (result ≡ Err Fault.Memory) }
+fn note(state: &State, block: BlockRef, vote: &VoteView) -> Result<Change, AllocError>
+    ensures { IfOk result (λ d. d ≡ vote_noted state.now block (vote_of vote.now)) }
 {
     let step = StoredStep::GotVote(GotVote {
         block: block.digest,
@@ -61,7 +61,7 @@ fn count(state: &State, block: BlockRef, vote: &VoteView) -> Result<Change, Faul
     ensures memory { OnErr result (result ≡ Err Fault.Memory) }
 {
     match state.votes.judge(&block.digest, vote.voter()) {
-        Added::Doubled => note(state, block, vote),
+        Added::Doubled => Ok(note(state, block, vote)?),
         Added::First => {
             let kept = state.votes.keep(vote)?;
             let noted = note(state, block, vote)?;
@@ -84,7 +84,7 @@ fn take_vote(state: &State, block: BlockRef, vote: &VoteView) -> Result<Change, 
     if block.height > state.high.block.height {
         count(state, block, vote)
     } else {
-        note(state, block, vote)
+        Ok(note(state, block, vote)?)
     }
 }
 

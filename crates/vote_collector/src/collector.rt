@@ -14,7 +14,7 @@ use crate::kept_vote::KeptVote;
 use crate::kept_votes::{KeptVotes, has_voter, spelled};
 use frames_view::{CertificateBuf, VoteView};
 use ids::{Config, Digest, Fault, Height, ReplicaId};
-use std::alloc::Global;
+use std::alloc::{AllocError, Global};
 use std::collections::BTreeMap;
 use std::marker::Model;
 
@@ -86,22 +86,19 @@ impl Collector {
         Ok(CertificateBuf::of_votes(&self.config, *digest, quorum, bytes))
     }
 
-    /// A copy of a vote, for `add`. Its one refusal is `Memory`.
-    pub fn keep(&self, vote: &VoteView) -> Result<KeptVote, Fault>
-        ensures kept { IfOk result (λ k. k ≡ vote_of vote.now) }
-        ensures memory { OnErr result (result ≡ Err Fault.Memory) }
+    /// A copy of a vote, for `add`.
+    pub fn keep(&self, vote: &VoteView) -> Result<KeptVote, AllocError>
+        ensures { IfOk result (λ k. k ≡ vote_of vote.now) }
     {
         KeptVote::copy(self.alloc, vote)
     }
 
-    /// Adds a vote to those for the block of this digest and height. At `Memory`, its one refusal,
-    /// nothing changes.
-    pub fn add(&mut self, digest: Digest, height: Height, vote: KeptVote) -> Result<(), Fault>
+    /// Adds a vote to those for the block of this digest and height. Where memory is refused, nothing changes.
+    pub fn add(&mut self, digest: Digest, height: Height, vote: KeptVote) -> Result<(), AllocError>
         requires { IsVote self.old.sizes vote }
         ensures kept { OnOk result
             (self.new ≡ record self.old { kept = with_vote digest height vote self.old.kept }) }
         ensures unchanged { OnErr result (self.new ≡ self.old) }
-        ensures memory { OnErr result (result ≡ Err Fault.Memory) }
     {
         add_to(self.alloc, &mut self.blocks, digest, height, vote)
     }

@@ -5,8 +5,8 @@ ghost use Rattle.vote_collector.specs.Collecting.{with_vote, kept_above};
 
 use crate::kept_vote::KeptVote;
 use crate::kept_votes::KeptVotes;
-use ids::{Digest, Fault, Height};
-use std::alloc::Global;
+use ids::{Digest, Height};
+use std::alloc::{AllocError, Global};
 use std::collections::BTreeMap;
 
 /// Adds a vote to those for the block of this digest and height.
@@ -16,10 +16,9 @@ pub(crate) fn add_to(
     digest: Digest,
     height: Height,
     vote: KeptVote,
-) -> Result<(), Fault>
+) -> Result<(), AllocError>
     ensures kept { OnOk result (blocks.new.entries ≡ with_vote digest height vote blocks.old.entries) }
     ensures unchanged { OnErr result (blocks.new.entries ≡ blocks.old.entries) }
-    ensures memory { OnErr result (result ≡ Err Fault.Memory) }
 {
     match blocks.get_mut(&digest) {
         Some(votes) => votes.insert(vote),

@@ -1,11 +1,11 @@
 //! One vote that is kept.
 
-ghost use Rattle.std.specs.Prelude.{◌≡◌, IfOk, OnErr};
+ghost use Rattle.std.specs.Prelude.{◌≡◌, IfOk};
 ghost use Rattle.frames_view.specs.Views.{vote_of};
 
 use frames_view::VoteView;
-use ids::{Fault, ReplicaId};
-use std::alloc::Global;
+use ids::ReplicaId;
+use std::alloc::{AllocError, Global};
 use std::marker::Model;
 
 /// A vote of its own, as `VoteView` is one that is lent.
@@ -26,9 +26,8 @@ impl Model for KeptVote {
 
 impl KeptVote {
     /// A copy of a vote.
-    pub fn copy(alloc: Global, vote: &VoteView) -> Result<KeptVote, Fault>
-        ensures copied { IfOk result (λ k. k ≡ vote_of vote.now) }
-        ensures memory { OnErr result (result ≡ Err Fault.Memory) }
+    pub fn copy(alloc: Global, vote: &VoteView) -> Result<KeptVote, AllocError>
+        ensures { IfOk result (λ k. k ≡ vote_of vote.now) }
     {
         let vector = Vec::from_slice(alloc, vote.vector())?;
         Ok(KeptVote {

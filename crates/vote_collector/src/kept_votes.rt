@@ -10,7 +10,7 @@ ghost use Rattle.vote_collector.specs.Collecting.{has_voter};
 use crate::kept_vote::KeptVote;
 use frames_view::{VoteView, write_certified_vote};
 use ids::{Fault, Height, ReplicaId};
-use std::alloc::Global;
+use std::alloc::{AllocError, Global};
 use std::marker::Model;
 
 /// The votes for a block of this height, by number of voter.
@@ -30,9 +30,12 @@ impl Model for KeptVotes {
 
 impl KeptVotes {
     /// A block's first vote.
-    pub(crate) fn new(alloc: Global, height: Height, vote: KeptVote) -> Result<KeptVotes, Fault>
-        ensures kept { IfOk result (λ k. k ≡ record { height = height; votes = vote ∷ [] }) }
-        ensures memory { OnErr result (result ≡ Err Fault.Memory) }
+    pub(crate) fn new(
+        alloc: Global,
+        height: Height,
+        vote: KeptVote,
+    ) -> Result<KeptVotes, AllocError>
+        ensures { IfOk result (λ k. k ≡ record { height = height; votes = vote ∷ [] }) }
     {
         let mut votes = Vec::new(alloc);
         votes.push(vote)?;
@@ -54,11 +57,10 @@ impl KeptVotes {
     }
 
     /// Puts a vote into its place by number of voter.
-    pub(crate) fn insert(&mut self, vote: KeptVote) -> Result<(), Fault>
+    pub(crate) fn insert(&mut self, vote: KeptVote) -> Result<(), AllocError>
         ensures inserted { OnOk result
             (self.new ≡ record self.old { votes = insert_vote vote self.old.votes }) }
         ensures unchanged { OnErr result (self.new ≡ self.old) }
-        ensures memory { OnErr result (result ≡ Err Fault.Memory) }
     {
         let place = place_of(self.votes.as_slice(), vote.voter());
         self.votes.insert(place, vote)?;

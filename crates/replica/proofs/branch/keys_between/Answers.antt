@@ -27,7 +27,7 @@ loop-height-preserved c =
           (ap (option_map (λ n. n.now.core)) (sym w.in-Some.is) ∙ c.block_at.ensures) in
           keys-go_on tip all c.args.from c.args.to h c.loop-height.keys.items c.match-block_at.keys.items
           core.commands c.loop-height.invariant c.loop-height-test.true cs
-          (ap (λ k. k.items) w.keys-is ∙ w.in_ok-put_keys.ensures.put
+          (ap (λ k. k.items) w.keys-is ∙ w.in_ok-put_keys.ensures
           ∙ ap (λ (l : List Command). c.loop-height.keys.items ++ map key_of l)
           (w.commands.ensures.value ∙ ap (λ (k : Core). k.commands) w.core.ensures))
       | in_default w ↦
@@ -40,8 +40,8 @@ loop-height-preserved c =
           (ap (λ k. k.items) w.keys-is ∙ sym (append-nil c.loop-height.keys.items))
     ]
 
-pub returns-clause-found : goal.returns-clause-found
-returns-clause-found c =
+pub returns : goal.returns
+returns c =
     keys-all c.args.tip.now c.args.tree.now c.args.from c.args.to c.loop-height.height
     c.loop-height.keys.items c.loop-height.invariant c.loop-height-test.false
     c.loop-height.auto.height-end

@@ -19,7 +19,7 @@ loop-command-preserved c =
     (c.in_ok-push.ensures.items
     ∙ (λ i. c.loop-command.keys.items ++ (c.client.ensures i, c.seq.ensures i) ∷ [])))
 
-pub returns-clause-put : goal.returns-clause-put
-returns-clause-put c =
+pub returns : goal.returns
+returns c =
     over-all _ _ (λ done. c.args.keys.now.items ++ map key_of done) _ c.loop-command.invariant
     c.in-None.ensures.steps.0

@@ -12,7 +12,7 @@ use Rattle.replica.proofs.pick.picked.Goals as goal
 pub count_of-count-requires : goal.count_of-count-requires
 count_of-count-requires c =
     let few = few-beside c.deref.result.now c.state.inside.pool in
-    let size = ap (λ (l : List Command). length l) c.in_ok-picked.ensures.picked in
+    let size = ap (λ (l : List Command). length l) c.in_ok-picked.ensures in
     let mapped = length-map c.in_ok-picked.picked.items (λ r. r.now) in
     let value = ap (λ l. length l) c.deref-2.ensures.value in
     omega (arith, few, size, mapped, value)
@@ -20,10 +20,10 @@ count_of-count-requires c =
 pub returns-clause-picked : goal.returns-clause-picked
 returns-clause-picked c =
     let s : StateParts = c.args.state.now in
-    let on = c.deref.ensures.value ∙ c.in_ok-on_branch.ensures.found in
+    let on = c.deref.ensures.value ∙ c.in_ok-on_branch.ensures in
     let pool : c.state.inside.pool ≡ s.pending = ap (λ (k : StateParts). k.pending) c.state.view_is in
     let took : map (λ r. r.now) c.in_ok-picked.picked.items ≡ picked s =
-    c.in_ok-picked.ensures.picked ∙ (λ i. first_beside (on i) (pool i))
+    c.in_ok-picked.ensures ∙ (λ i. first_beside (on i) (pool i))
     ∙ beside-reversed (proposed_above s.variables) s.pending in (
       c.count_of-count.ensures ∙ ap (λ l. length l) c.deref-2.ensures.value
           ∙ sym (length-map c.in_ok-picked.picked.items (λ r. r.now))

@@ -24,4 +24,4 @@ returns-in_ok-insert-in-None-clause-kept c =
     (c.in_ok-insert-in-None.ensures.entries
     ∙ ap (λ m. insert_entry (slice_cmp nat_cmp) m.entries c.args.digest c.in_ok-votes-in-None.votes)
     c.get_mut.follows.holds-at-none)
-    c.in_ok-votes-in-None.ensures.kept
+    c.in_ok-votes-in-None.ensures

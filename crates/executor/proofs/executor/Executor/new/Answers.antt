@@ -12,4 +12,4 @@ invariant_of-result c =
     subst (λ (h : History). IsStateOf (record { most_keys = most_keys; history = h }) c.in_ok-cache.cache rows)
     (sym c.new-3.ensures)
     (subst (λ (x : Cache). IsStateOf (record { most_keys = most_keys; history = [] }) x rows)
-    (sym c.in_ok-cache.ensures.made) (first-state most_keys rows c.in_ok-new.ensures.made))
+    (sym c.in_ok-cache.ensures.made) (first-state most_keys rows c.in_ok-new.ensures))

@@ -45,8 +45,8 @@ loop-i-preserved c =
           (sym c.stands_among.ensures ∙ w.if-not-stands_among.false) c.loop-i.invariant
     ]
 
-pub returns-clause-picked : goal.returns-clause-picked
-returns-clause-picked c =
+pub returns : goal.returns
+returns c =
     let on = c.args.on.now in
     let all = c.args.self.now in
     let i = c.loop-i.i in
