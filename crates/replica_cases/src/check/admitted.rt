@@ -3,14 +3,14 @@
 use crate::check::bytes_of;
 use crate::check::row::{Row, flip};
 use admission::admit;
-use authenticators::ReplicaKeyring;
+use authenticators::VerifyingKeyring;
 use ids::{Config, Fault, ReplicaId};
 use simulated_keys::replica_keyring_of;
 use std::alloc::Global;
 
 /// `ok` where the bytes are admitted, and else the number of the refusal.
-fn answer(ring: &ReplicaKeyring, bytes: &[u8]) -> &'static str {
-    match admit(ring.verifying(), bytes) {
+fn answer(ring: &VerifyingKeyring, bytes: &[u8]) -> &'static str {
+    match admit(ring, bytes) {
         Ok(_) => "ok",
         Err(Fault::NotAFrame) => "10",
         Err(Fault::BadTag) => "11",
@@ -20,14 +20,14 @@ fn answer(ring: &ReplicaKeyring, bytes: &[u8]) -> &'static str {
 }
 
 /// Each proper beginning of the bytes, the shortest first.
-fn add_cuts(ring: &ReplicaKeyring, bytes: &[u8], row: &mut Row) {
+fn add_cuts(ring: &VerifyingKeyring, bytes: &[u8], row: &mut Row) {
     for len in 0..bytes.len() {
         row.add(answer(ring, &bytes[..len]));
     }
 }
 
 /// The bytes with the one at a place changed to each other value.
-fn add_changes_at(ring: &ReplicaKeyring, bytes: &mut [u8], place: usize, row: &mut Row) {
+fn add_changes_at(ring: &VerifyingKeyring, bytes: &mut [u8], place: usize, row: &mut Row) {
     for mask in 1..=u8::MAX {
         flip(bytes, place, mask);
         row.add(answer(ring, bytes));
@@ -36,7 +36,7 @@ fn add_changes_at(ring: &ReplicaKeyring, bytes: &mut [u8], place: usize, row: &m
 }
 
 /// The bytes with one of them changed to each other value: each in turn, the first one first.
-fn add_changes(ring: &ReplicaKeyring, bytes: &mut [u8], row: &mut Row) {
+fn add_changes(ring: &VerifyingKeyring, bytes: &mut [u8], row: &mut Row) {
     for place in 0..bytes.len() {
         add_changes_at(ring, bytes, place, row);
     }
@@ -63,8 +63,8 @@ pub(crate) fn spoilt(
     let ring = replica_keyring_of(alloc, config, receiver)?;
     let mut row = Row::new();
     match spoiling {
-        Spoiling::Cut => add_cuts(&ring, &bytes, &mut row),
-        Spoiling::Change => add_changes(&ring, &mut bytes, &mut row),
+        Spoiling::Cut => add_cuts(ring.verifying(), &bytes, &mut row),
+        Spoiling::Change => add_changes(ring.verifying(), &mut bytes, &mut row),
     }
     row.into_text(alloc)
 }

@@ -9,7 +9,7 @@
 ghost use Rattle.definitions.specs.FrameLimits.{IsCertificate};
 ghost use Rattle.frames_view.specs.Views.{certificate_of};
 
-use authenticators::ReplicaKeyring;
+use authenticators::VerifyingKeyring;
 use certificates::{
     Authenticated, CarriesBlock, Certified, Checked, check_block, check_cert, check_fetch,
     check_new_view, check_proposal, check_request, check_vote,
@@ -78,7 +78,7 @@ fn tell_block<V: CarriesBlock + Drop>(
 
 /// A certificate alone.
 fn tell_alone(
-    ring: &ReplicaKeyring,
+    ring: &VerifyingKeyring,
     certificate: &CertificateView,
     text: &mut String,
 ) -> Result<(), Fault>
@@ -98,7 +98,7 @@ fn tell_alone(
 }
 
 /// What the check of bytes says, under the keys of a replica.
-pub(crate) fn tell(ring: &ReplicaKeyring, bytes: &[u8], text: &mut String) -> Result<(), Fault> {
+pub(crate) fn tell(ring: &VerifyingKeyring, bytes: &[u8], text: &mut String) -> Result<(), Fault> {
     let config = ring.config();
     let frame = match read(&config, bytes) {
         Ok(frame) => frame,
@@ -140,6 +140,6 @@ pub(crate) fn check(
 ) -> Result<String, Fault> {
     let ring = replica_keyring_of(alloc, config, receiver)?;
     let mut text = String::new(alloc);
-    tell(&ring, bytes, &mut text)?;
+    tell(ring.verifying(), bytes, &mut text)?;
     Ok(text)
 }

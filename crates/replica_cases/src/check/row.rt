@@ -85,7 +85,7 @@ pub(crate) fn changes(
     for place in 0..bytes.len() {
         flip(&mut bytes, place, mask);
         let mut text = String::new(alloc);
-        tell(&ring, &bytes, &mut text)?;
+        tell(ring.verifying(), &bytes, &mut text)?;
         row.add(&text);
         flip(&mut bytes, place, mask);
     }

@@ -43,7 +43,7 @@ impl Poll {
         let Frame::Vote(view) = read(&config, bytes)? else {
             return Err(Fault::NotAFrame);
         };
-        let checked = check_vote(&self.ring, &config, &view)?;
+        let checked = check_vote(self.ring.verifying(), &config, &view)?;
         let (digest, vote) = (Digest(*view.digest()), checked.view().vote());
         if self.certified.contains(&digest) {
             return Ok(Fate::Past);
