@@ -2,7 +2,7 @@
 
 ghost use Rattle.std.specs.Prelude.{◌≡◌, ◌<◌, ◌≤◌, ℕ, [], ◌∷◌, ◌++◌, None, length, map, IsTrue, IfOk, OnOk};
 ghost use Rattle.std.specs.Prelude.{OnErr};
-ghost use Rattle.ids.specs.Sizes.{replicas};
+ghost use Rattle.ids.specs.Sizes.{client_party, replicas};
 ghost use Rattle.definitions.specs.Keyrings.{is_party_of, client_at};
 ghost use Rattle.definitions.specs.Canonical.{is_canonical};
 ghost use Rattle.definitions.specs.Rulings.{timeout_in, beat_in, prune_in};
@@ -18,7 +18,7 @@ use crate::effect::Effect;
 use crate::event::Event;
 use crate::outcome::{History, SentFrame};
 use crate::replica_party::ReplicaParty;
-use crate::world::World;
+use crate::world::{World, client_at};
 use crate::{client, replica_turn};
 use client_accept::Session;
 use ids::{ClientId, Fault, Height, PartyId, ReplicaId};
@@ -130,16 +130,17 @@ impl Parties {
         replica_turn::receive(world.alloc(), replica, bytes)
     }
 
-    /// Brings bytes to a client.
-    fn bring_to_client(&mut self, world: &World, to: PartyId, bytes: &[u8]) -> Effect
+    /// Brings bytes to a client, which is the party of this number.
+    fn bring_to_client(&mut self, world: &World, to: PartyId, client: u16, bytes: &[u8]) -> Effect
         requires seated { AreSeated world.now self.old.replicas.items self.old.sessions.items }
-        requires client { 256 ≤ to }
-        requires party { client_at to < world.now.sizes.clients }
+        requires client { client_party 0 ≤ to }
+        requires number { client ≡ client_at to }
+        requires party { client < world.now.sizes.clients }
         ensures { (w : worlds.World) → AreOf world.now self.old.replicas.items self.old.sessions.items w
             → Brings world.now w to bytes.now self.new.replicas.items self.new.sessions.items result }
     {
         world.holds();
-        let session = &mut self.sessions[usize::from(to.0 - 256)];
+        let session = &mut self.sessions[usize::from(client)];
         client::receive(world.alloc(), session, bytes)
     }
 
@@ -153,10 +154,9 @@ impl Parties {
         ensures memory { OnErr result (result ≡ Err Fault.Memory) }
     {
         world.holds();
-        if to.0 < 256 {
-            self.bring_to_replica(world, to, bytes)
-        } else {
-            Ok(self.bring_to_client(world, to, bytes))
+        match client_at(to) {
+            None => self.bring_to_replica(world, to, bytes),
+            Some(client) => Ok(self.bring_to_client(world, to, client, bytes)),
         }
     }
 

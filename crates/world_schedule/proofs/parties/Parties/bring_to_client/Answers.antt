@@ -4,4 +4,4 @@ use Rattle.world_schedule.proofs.parties.Parties.bring_to_client.Goals as goal
 
 pub returns : goal.returns
 returns c = hears-at _ _ _ _ _ _ _ _ _ (omega arith) c.holds.ensures.sizes_are c.requires.client
-    c.requires.party c.index_mut-session.ensures.value c.receive.ensures
+    (omega (arith, c.requires.number, c.requires.party)) c.index_mut-session.ensures.value c.receive.ensures
