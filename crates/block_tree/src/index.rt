@@ -8,7 +8,8 @@ use std::alloc::{AllocError, Global};
 use std::collections::HashMap;
 use std::hash::RandomState;
 
-/// The number of each block that was entered. Its hash is keyed, so that nobody can choose digests that collide.
+/// The number of each block that was entered. A digest is hashed by its first eight bytes, under a key: who
+/// doesn't know the key can't choose digests whose hashes collide.
 #[derive(Drop)]
 pub(crate) struct Index {
     numbers: HashMap<Digest, u64, RandomState>,
