@@ -1,0 +1,41 @@
+-- What the rule is for.
+use Rattle.std.specs.Prelude.{◌≡◌, ℕ, ◌+◌, ◌*◌, ◌-◌, ◌≤◌, ◌==◌, true, not, List, [], ◌∷◌}
+use Rattle.std.specs.Prelude.{if◌then◌else◌}
+use Rattle.clock.specs.declared.watch.Pulse.{Pulse}
+use Rattle.clock.specs.declared.watch.Watch.{Watch}
+use Rattle.clock.specs.Watching.{is_due, lags, limit_of, looked, slow_after, unseen}
+
+-- the looks at one of so many replicas: each at a moment, and what was seen then; the last one first
+abbrev pub Looks : Type 0
+Looks = List (ℕ × Pulse)
+
+-- what is remembered after them
+unfoldable pub watched : ℕ → Looks → Watch
+watched replicas [] = unseen replicas
+watched replicas (x ∷ earlier) = looked (watched replicas earlier) x.0 x.1
+
+-- for how many milliseconds the replica lagged in the view that it was seen in last, and since the last timeout
+-- that was due in it
+unfoldable pub lagged : ℕ → Looks → ℕ
+lagged replicas [] = 0
+lagged replicas (x ∷ earlier) =
+    let w = watched replicas earlier in
+    if not (x.1.view == w.view) then 0
+    else if is_due w x.0 x.1 then 0
+    else if lags w x.0 x.1 then lagged replicas earlier + (x.0 - w.looked)
+    else lagged replicas earlier
+
+-- No timeout is due before the replica has lagged for a third of the limit of its view, this look included.
+abbrev pub IsEarned : Type 0
+IsEarned = (replicas : ℕ) (earlier : Looks) (now : ℕ) (p : Pulse)
+    → is_due (watched replicas earlier) now p ≡ true
+    → limit_of p.view ≤ 3 * (lagged replicas earlier + (now - (watched replicas earlier).looked))
+
+-- A timeout is due once it lags, and the lagging counts for as much as the limit of its view.
+abbrev pub IsGiven : Type 0
+IsGiven = (w : Watch) (now : ℕ) (p : Pulse) → lags w now p ≡ true → limit_of p.view ≤ slow_after w now p
+    → is_due w now p ≡ true
+
+-- A proposal may always wait for 20 milliseconds before there is a beat on top of it.
+abbrev pub IsPatient : Type 0
+IsPatient = (replicas : ℕ) (looks : Looks) → 20 ≤ (watched replicas looks).pause
