@@ -28,9 +28,10 @@ use Rattle.definitions.specs.Audit.{Cut, Member, Judged, Turns, steps_in, chroni
 use Rattle.definitions.specs.Audit.{AreAllowed, AreFronts}
 use Rattle.definitions.proofs.Branches.{branch_eq-decides, extends-true}
 use Rattle.definitions.proofs.Chronicles.{tree-grows}
+use Rattle.agreement.proofs.Certified.{any-among, among-any}
 use Rattle.audit_ground.specs.Law.{KnownTo, numbers, IsStored, IsLawfullyKept, AreOfFour}
 use Rattle.audit_ground.proofs.Fronts.{is_backed_if, may_move-is, fronts-from_turns}
-use Rattle.audit_ground.proofs.Lists.{any-found, any-from}
+use Rattle.audit_ground.proofs.Lists.{any-from}
 use Rattle.audit_ground.proofs.Stored.{stored-blocks_are_named}
 
 -- four replicas, of which one may be faulty
@@ -156,17 +157,6 @@ lives_well (t ∷ earlier) =
     (may_take t.0 (life earlier) && (not t.2 || votes_well t.0 (life (t ∷ earlier)) (life earlier)))
     && (is_certified t.0 t.1 && lives_well earlier)
 
--- what passes with some stands among them
-any-branch : (x : Branch) (xs : List Branch) → list_any (branch_eq x) xs ≡ true → Among x xs
-any-branch x xs h =
-    let r =
-    any-found (branch_eq x) xs h in
-    subst (λ (y : Branch). Among y xs) (sym ((branch_eq-decides x r.0).0 r.2)) r.1
-
--- and what stands there passes
-branch-any : (x : Branch) (xs : List Branch) → Among x xs → list_any (branch_eq x) xs ≡ true
-branch-any x xs m = any-from (branch_eq x) xs x m ((branch_eq-decides x x).1 refl)
-
 -- a block that may be taken is taken lawfully
 take-lawful : (b : Branch) (counted : List ℕ) (voted : Bool) (c : Chronicle) → may_take b c ≡ true
     → IsQuorum counted ⊎ (just1 b ≡ []) → IsLawfulTake sizes (admitted b counted voted) c
@@ -176,9 +166,9 @@ take-lawful (b ∷ parent) counted voted c h q =
     let p = and_parts _ _ h in
     let r = and_parts _ _ p.1 in
     record {
-      new = λ m. true≢false (sym (branch-any (b ∷ parent) (tree c) m) ∙ not-true _ p.0);
+      new = λ m. true≢false (sym (among-any (b ∷ parent) (tree c) m) ∙ not-true _ p.0);
       parent =
-          (b, parent, refl, ltb-true b.justify (suc (length parent)) r.0, any-branch parent (tree c) r.1);
+          (b, parent, refl, ltb-true b.justify (suc (length parent)) r.0, any-among parent (tree c) r.1);
       certified = q;
     }
 
