@@ -108,12 +108,13 @@ lower-within s is_member o whole g l i mi a b m n h =
 -- ---- certified blocks
 
 -- the test for a vote decides it
-any-among : (b : Branch) (xs : List Branch) → list_any (branch_eq b) xs ≡ true → Among b xs
+pub any-among : (b : Branch) (xs : List Branch) → list_any (branch_eq b) xs ≡ true → Among b xs
 any-among b [] h = absurd (true≢false (sym h))
 any-among b (x ∷ xs) h =
     elim (or_cases _ _ h) [ inl e ↦ inl ((branch_eq-decides b x).0 e) | inr k ↦ inr (any-among b xs k) ]
 
-among-any : (b : Branch) (xs : List Branch) → Among b xs → list_any (branch_eq b) xs ≡ true
+-- and the other way
+pub among-any : (b : Branch) (xs : List Branch) → Among b xs → list_any (branch_eq b) xs ≡ true
 among-any b [] m = absurd m
 among-any b (x ∷ xs) (inl e) = or_left _ _ ((branch_eq-decides b x).1 e)
 among-any b (x ∷ xs) (inr m) = or_right _ _ (among-any b xs m)

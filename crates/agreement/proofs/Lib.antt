@@ -1,3 +1,3 @@
-mod Certified
+pub mod Certified
 pub mod Agreement
 pub mod Example

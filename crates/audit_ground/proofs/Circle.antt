@@ -1,6 +1,6 @@
 -- Votes that stand only behind one another, in a circle: three replicas, with fronts of 1, 2 and 3 steps.
-use Rattle.std.proofs.Common.{ℕ, zero, suc, ◌≡◌, true, false, List, [], ◌∷◌, length, refl, sym, ap, ◌∙◌}
-use Rattle.std.proofs.Common.{arith, inl, inr, true≢false}
+use Rattle.std.proofs.Common.{ℕ, ◌≡◌, true, false, List, [], ◌∷◌, length, refl, sym, ap, ◌∙◌, inl, inr}
+use Rattle.std.proofs.Common.{true≢false}
 use Rattle.sha2.specs.Sha256.{sha256, digest_bytes, hash_after, compress, rounds, schedule, first_words}
 use Rattle.std.specs.List.{list_any}
 use Rattle.definitions.specs.Lists.{beginning, greatest}
@@ -11,15 +11,13 @@ use Rattle.definitions.specs.Digests.{digest, digest_of, core_of, core_over}
 use Rattle.definitions.specs.Chronicles.{Step.took_block, voted_blocks, taken_blocks, tree, vheight, lock}
 use Rattle.definitions.specs.Chronicles.{stored_blocks}
 use Rattle.definitions.specs.Trees.{is_clear, clear_above}
-use Rattle.definitions.specs.Audit.{Turns, steps_in, Judged, is_judged, chronicle_of, gives_vote}
-use Rattle.definitions.specs.Audit.{counted_by, counted_for, step_after, has_vote, is_backed, may_move}
-use Rattle.definitions.specs.Audit.{AreAllowed, AreFronts, IsUnbacked}
-use Rattle.audit_ground.specs.Law.{SomeCircle}
-use Rattle.audit_ground.proofs.Fronts.{fronts-from_turns, fronts-one}
-use Rattle.audit_ground.proofs.Examples.{sizes, command, admitted, Taking, judged_of, none-else}
-use Rattle.audit_ground.proofs.Examples.{may_move-no_steps, IsQuorum, AreKept, may_take, votes_well}
-use Rattle.audit_ground.proofs.Examples.{lives_well, life-kept, member-kept, can-be_judged}
-use Rattle.audit_ground.proofs.Examples.{AreDistinct-from}
+use Rattle.definitions.specs.Audit.{Turns, steps_in, Judged, is_judged, chronicle_of, gives_vote, counted_by}
+use Rattle.definitions.specs.Audit.{counted_for, step_after, has_vote, is_backed, may_move, AreFronts}
+use Rattle.definitions.specs.Audit.{IsUnbacked}
+use Rattle.audit_ground.specs.Law.{AreOfFour, SomeCircle}
+use Rattle.audit_ground.proofs.Fronts.{fronts-one}
+use Rattle.audit_ground.proofs.Examples.{sizes, command, admitted, Taking, judged_of, may_take, votes_well}
+use Rattle.audit_ground.proofs.Examples.{lives_well, all_live_well, four-from, AreAllTurns, fronts-from}
 
 -- a block on a branch
 abbrev over : Branch → ℕ → List Command → Branch
@@ -73,34 +71,33 @@ replicas = (1, first) ∷ (2, second) ∷ (3, third) ∷ []
 abbrev judged : Judged
 judged = judged_of replicas
 
+-- each lived lawfully
+well : all_live_well replicas ≡ true
+unfolding lives_well may_take votes_well vheight voted_blocks greatest lock highest just1 just2 justify_height
+    beginning tree taken_blocks extends branch_eq block_eq command_eq clear_above stored_blocks is_clear
+well = refl
+
+-- three of four
+of_four : AreOfFour sizes judged
+of_four = four-from replicas refl well
+
 -- the steps in an order in which each counted vote comes first
 abbrev turns : Turns
 turns = 3 ∷ 3 ∷ 3 ∷ 2 ∷ 2 ∷ 1 ∷ []
 
--- each turn was allowed
-turns-allowed : AreAllowed (may_move judged) turns
+-- these are all turns
+all-turns : AreAllTurns judged turns
 unfolding may_move is_backed has_vote step_after chronicle_of is_judged steps_in counted_by counted_for
     gives_vote beginning digest digest_of core_of core_over just1 justify_height sha256 digest_bytes
     hash_after compress rounds schedule first_words
-turns-allowed = (refl, (refl, (refl, (refl, (refl, (refl, tt))))))
-
--- after them none may move any more
-stuck : (u : ℕ) → may_move judged (steps_in turns) u ≡ false
-unfolding may_move is_backed has_vote step_after chronicle_of is_judged steps_in counted_by counted_for
-    gives_vote beginning digest digest_of core_of core_over just1 justify_height sha256 digest_bytes
-    hash_after compress rounds schedule first_words
-stuck zero = refl
-stuck (suc zero) = refl
-stuck (suc (suc zero)) = refl
-stuck (suc (suc (suc zero))) = refl
-stuck (suc (suc (suc (suc u)))) =
-    may_move-no_steps judged (steps_in turns) (suc (suc (suc (suc u))))
-    (none-else judged 3 (omega arith, (omega arith, (omega arith, tt))) (suc (suc (suc (suc u))))
-    (omega arith))
+all-turns = (
+  (refl, (refl, (refl, (refl, (refl, (refl, tt)))))),
+  (refl, (refl, (refl, (refl, tt)))),
+)
 
 -- so they lead to the fronts
 fronts : AreFronts judged (steps_in turns)
-fronts = fronts-from_turns judged turns turns-allowed stuck
+fronts = fronts-from judged of_four turns all-turns
 
 -- the fronts have 1, 2 and 3 steps
 front-lengths : (steps_in turns 1 ≡ 1) × (steps_in turns 2 ≡ 2) × (steps_in turns 3 ≡ 3)
@@ -169,56 +166,12 @@ no-reason r =
     (ap (λ (k : ℕ). list_any (gives_vote (digest_of a1)) (beginning k (chronicle_of judged 3))) e)
     ∙ r.missing))
 
--- these are a quorum
-first-quorum : IsQuorum first_voters
-first-quorum =
-    (AreDistinct-from first_voters refl, (omega arith, (omega arith, (omega arith, tt))), omega arith)
-
--- and so are these
-second-quorum : IsQuorum second_voters
-second-quorum =
-    (AreDistinct-from second_voters refl, (omega arith, (omega arith, (omega arith, tt))), omega arith)
-
--- the first life is lawful
-first-well : lives_well first ≡ true
-unfolding lives_well may_take votes_well vheight voted_blocks greatest lock highest just1 just2 justify_height
-    beginning tree taken_blocks extends branch_eq block_eq command_eq clear_above stored_blocks is_clear
-first-well = refl
-
--- and the second
-second-well : lives_well second ≡ true
-unfolding lives_well may_take votes_well vheight voted_blocks greatest lock highest just1 just2 justify_height
-    beginning tree taken_blocks extends branch_eq block_eq command_eq clear_above stored_blocks is_clear
-second-well = refl
-
--- and the third
-third-well : lives_well third ≡ true
-unfolding lives_well may_take votes_well vheight voted_blocks greatest lock highest just1 just2 justify_height
-    beginning tree taken_blocks extends branch_eq block_eq command_eq clear_above stored_blocks is_clear
-third-well = refl
-
--- each is kept well
-kept : AreKept replicas
-unfolding just1 justify_height beginning
-kept = (
-  life-kept first first-well (inr refl, (inr refl, (inl first-quorum, (inr refl, tt)))),
-  (
-    life-kept second second-well (inr refl, (inl second-quorum, (inr refl, (inr refl, tt)))),
-    (life-kept third third-well (inr refl, (inr refl, (inr refl, tt))), tt),
-  ),
-)
-
 -- the law of this name
 pub some-circle : SomeCircle
 some-circle = record {
   sizes = sizes;
   judged = judged;
-  of_four = record {
-    four = refl;
-    are_judged =
-        can-be_judged replicas (omega arith) refl (omega arith, (omega arith, (omega arith, tt))) kept;
-    kept = member-kept replicas kept;
-  };
+  of_four = of_four;
   fronts = steps_in turns;
   are_fronts = fronts;
   lengths = front-lengths;

@@ -3,9 +3,9 @@ use Rattle.std.proofs.Common.{ℕ, zero, suc, ◌≡◌, ◌<◌, ◌≤◌, ◌
 use Rattle.std.proofs.Common.{List, [], ◌∷◌, map, length, nat_lt, refl, sym, ap, subst, ◌∙◌, arith, inl}
 use Rattle.std.proofs.Common.{inr, true≢false}
 use Rattle.std.specs.List.{list_any, AllByRecursion}
-use Rattle.std.proofs.lemmas.Bool.{cond-false, ne_eqb, eq-eqb, and_parts, ltb-true, not-true, or_cases}
-use Rattle.std.proofs.lemmas.Bool.{not_from_true}
-use lib.Dec.{ltb}
+use Rattle.std.proofs.lemmas.Bool.{cond-false, ne_eqb, eq-eqb, and_parts, ltb-true, ltb-false, not-true}
+use Rattle.std.proofs.lemmas.Bool.{not_from_true, or_cases}
+use Rattle.std.proofs.lemmas.List.{length-map}
 use lib.Pointwise.{bytes_decides}
 use Rattle.std.specs.Str.{bytes_eq}
 use Rattle.definitions.specs.Bytes.{Bytes}
@@ -24,12 +24,14 @@ use Rattle.definitions.specs.Chronicles.{IsLawfulVote, IsLawfulTake, IsLawful}
 use Rattle.definitions.specs.Trees.{clear_above}
 use Rattle.definitions.proofs.Sound.{clear_above-each}
 use Rattle.definitions.specs.Replicas.{Standing.running, held_history}
-use Rattle.definitions.specs.Audit.{Cut, Member, Judged, chronicle_of, step_after, may_move}
+use Rattle.definitions.specs.Audit.{Cut, Member, Judged, Turns, steps_in, chronicle_of, step_after, may_move}
+use Rattle.definitions.specs.Audit.{AreAllowed, AreFronts}
 use Rattle.definitions.proofs.Branches.{branch_eq-decides, extends-true}
 use Rattle.definitions.proofs.Chronicles.{tree-grows}
-use Rattle.audit_ground.specs.Law.{KnownTo, numbers, IsStored, IsLawfullyKept, AreJudged}
-use Rattle.audit_ground.proofs.Fronts.{is_backed_if, may_move-is}
-use Rattle.audit_ground.proofs.Lists.{any-found, any-from}
+use Rattle.agreement.proofs.Certified.{any-among, among-any}
+use Rattle.audit_ground.specs.Law.{KnownTo, numbers, IsStored, IsLawfullyKept, AreOfFour}
+use Rattle.audit_ground.proofs.Fronts.{is_backed_if, may_move-is, fronts-from_turns}
+use Rattle.audit_ground.proofs.Lists.{any-from}
 use Rattle.audit_ground.proofs.Stored.{stored-blocks_are_named}
 
 -- four replicas, of which one may be faulty
@@ -66,7 +68,7 @@ judged_of (p ∷ rest) =
 -- ---- who may not move
 
 -- no steps stand for a number above all
-pub none-else : (ks : Judged) (n : ℕ) → AllByRecursion (λ i. i ≤ n) (numbers ks) → (u : ℕ) → n < u
+pub none-else : (ks : Judged) (n : ℕ) → AllByRecursion (λ i. i < n) (numbers ks) → (u : ℕ) → n ≤ u
     → chronicle_of ks u ≡ []
 unfolding chronicle_of
 none-else [] n h u l = refl
@@ -75,21 +77,65 @@ none-else (m ∷ rest) n h u l =
     ∙ none-else rest n h.1 u l
 
 -- who has no steps may not move
-pub may_move-no_steps : (ks : Judged) (k : Cut) (u : ℕ) → chronicle_of ks u ≡ [] → may_move ks k u ≡ false
+may_move-no_steps : (ks : Judged) (k : Cut) (u : ℕ) → chronicle_of ks u ≡ [] → may_move ks k u ≡ false
 unfolding is_backed_if step_after
 may_move-no_steps ks k u e =
     may_move-is ks k u ∙ ap (λ (c : Chronicle). is_backed_if ks k (step_after (k u) c)) e
 
 -- ---- a life that is kept
 
+-- no number stands twice
+abbrev are_distinct : List ℕ → Bool
+are_distinct [] = true
+are_distinct (x ∷ xs) = not (list_any (λ y. x == y) xs) && are_distinct xs
+
+-- each is the number of a replica
+abbrev are_below : List ℕ → Bool
+are_below [] = true
+are_below (x ∷ xs) = nat_lt x (replicas sizes) && are_below xs
+
 -- a quorum of distinct replicas
-abbrev pub IsQuorum : List ℕ → Type 0
+abbrev pub are_quorum : List ℕ → Bool
+are_quorum counted =
+    are_distinct counted && (are_below counted && not (nat_lt (length counted) (quorum sizes)))
+
+-- the same, as the law says it
+abbrev IsQuorum : List ℕ → Type 0
 IsQuorum counted =
     AreDistinct counted × AllByRecursion (λ v. v < replicas sizes) counted × (quorum sizes ≤ length counted)
 
--- each block justifies a certified one or genesis
-abbrev pub AreCertified : List Taking → Type 0
-AreCertified ts = AllByRecursion (λ t. IsQuorum t.1 ⊎ (just1 t.0 ≡ [])) ts
+-- numbers that pass are distinct
+AreDistinct-from : (xs : List ℕ) → are_distinct xs ≡ true → AreDistinct xs
+AreDistinct-from [] h = tt
+AreDistinct-from (x ∷ xs) h =
+    let p = and_parts (not (list_any (λ y. x == y) xs)) (are_distinct xs) h in (
+      (λ m. true≢false (sym (any-from (λ y. x == y) xs x m (eq-eqb x x refl)) ∙ not-true _ p.0)),
+      AreDistinct-from xs p.1,
+    )
+
+-- and those of replicas
+below-from : (xs : List ℕ) → are_below xs ≡ true → AllByRecursion (λ v. v < replicas sizes) xs
+below-from [] h = tt
+below-from (x ∷ xs) h =
+    let p = and_parts _ _ h in (ltb-true x (replicas sizes) p.0, below-from xs p.1)
+
+-- a quorum that passes is one
+IsQuorum-from : (xs : List ℕ) → are_quorum xs ≡ true → IsQuorum xs
+IsQuorum-from xs h =
+    let p = and_parts _ _ h in
+    let r = and_parts _ _ p.1 in
+    (AreDistinct-from xs p.0, below-from xs r.0, ltb-false _ _ (not-true _ r.1))
+
+-- the block justifies a certified one or genesis
+abbrev is_certified : Branch → List ℕ → Bool
+is_certified b counted = are_quorum counted || branch_eq (just1 b) []
+
+-- a block that passes does so
+certified-from : (b : Branch) (counted : List ℕ) → is_certified b counted ≡ true
+    → IsQuorum counted ⊎ (just1 b ≡ [])
+certified-from b counted h =
+    elim (or_cases (are_quorum counted) (branch_eq (just1 b) []) h)
+    [ inl q ↦ inl (IsQuorum-from counted q) | inr e ↦ inr ((branch_eq-decides (just1 b) []).0 e) ]
 
 -- the block is new, and stands on its parent
 unfoldable pub may_take : Branch → Chronicle → Bool
@@ -109,18 +155,7 @@ unfoldable pub lives_well : List Taking → Bool
 lives_well [] = true
 lives_well (t ∷ earlier) =
     (may_take t.0 (life earlier) && (not t.2 || votes_well t.0 (life (t ∷ earlier)) (life earlier)))
-    && lives_well earlier
-
--- what passes with some stands among them
-any-branch : (x : Branch) (xs : List Branch) → list_any (branch_eq x) xs ≡ true → Among x xs
-any-branch x xs h =
-    let r =
-    any-found (branch_eq x) xs h in
-    subst (λ (y : Branch). Among y xs) (sym ((branch_eq-decides x r.0).0 r.2)) r.1
-
--- and what stands there passes
-branch-any : (x : Branch) (xs : List Branch) → Among x xs → list_any (branch_eq x) xs ≡ true
-branch-any x xs m = any-from (branch_eq x) xs x m ((branch_eq-decides x x).1 refl)
+    && (is_certified t.0 t.1 && lives_well earlier)
 
 -- a block that may be taken is taken lawfully
 take-lawful : (b : Branch) (counted : List ℕ) (voted : Bool) (c : Chronicle) → may_take b c ≡ true
@@ -131,9 +166,9 @@ take-lawful (b ∷ parent) counted voted c h q =
     let p = and_parts _ _ h in
     let r = and_parts _ _ p.1 in
     record {
-      new = λ m. true≢false (sym (branch-any (b ∷ parent) (tree c) m) ∙ not-true _ p.0);
+      new = λ m. true≢false (sym (among-any (b ∷ parent) (tree c) m) ∙ not-true _ p.0);
       parent =
-          (b, parent, refl, ltb-true b.justify (suc (length parent)) r.0, any-branch parent (tree c) r.1);
+          (b, parent, refl, ltb-true b.justify (suc (length parent)) r.0, any-among parent (tree c) r.1);
       certified = q;
     }
 
@@ -152,24 +187,37 @@ vote-lawful b counted voted c h =
       taken = inl refl;
     }
 
--- a life that passes is lawful
-life-lawful : (ts : List Taking) → lives_well ts ≡ true → AreCertified ts → IsLawful sizes (life ts)
+-- what passes in a life that does
+record Passes (t : Taking) (earlier : List Taking) : Type 0 where
+  take : may_take t.0 (life earlier) ≡ true
+  vote : (not t.2 || votes_well t.0 (life (t ∷ earlier)) (life earlier)) ≡ true
+  certified : is_certified t.0 t.1 ≡ true
+  rest : lives_well earlier ≡ true
+
+-- it does, step by step
+passes : (t : Taking) (earlier : List Taking) → lives_well (t ∷ earlier) ≡ true → Passes t earlier
 unfolding lives_well
-life-lawful [] h q = tt
-life-lawful (t ∷ earlier) h q =
+passes t earlier h =
     let p = and_parts
     (may_take t.0 (life earlier) && (not t.2 || votes_well t.0 (life (t ∷ earlier)) (life earlier)))
-    (lives_well earlier) h in
-    let r =
-    and_parts (may_take t.0 (life earlier))
-    (not t.2 || votes_well t.0 (life (t ∷ earlier)) (life earlier)) p.0 in (
+    (is_certified t.0 t.1 && lives_well earlier) h in
+    let r = and_parts (may_take t.0 (life earlier))
+    (not t.2 || votes_well t.0 (life (t ∷ earlier)) (life earlier)) p.0 in
+    let s = and_parts (is_certified t.0 t.1) (lives_well earlier) p.1 in
+    record { take = r.0; vote = r.1; certified = s.0; rest = s.1 }
+
+-- a life that passes is lawful
+life-lawful : (ts : List Taking) → lives_well ts ≡ true → IsLawful sizes (life ts)
+life-lawful [] h = tt
+life-lawful (t ∷ earlier) h =
+    let p = passes t earlier h in (
       (
         (λ v. vote-lawful t.0 t.1 t.2 (life earlier) (elim (or_cases (not t.2)
-            (votes_well t.0 (life (t ∷ earlier)) (life earlier)) r.1)
+            (votes_well t.0 (life (t ∷ earlier)) (life earlier)) p.vote)
             [ inl n ↦ absurd (true≢false (sym n ∙ not_from_true t.2 v)) | inr w ↦ w ])),
-        (λ n. take-lawful t.0 t.1 t.2 (life earlier) r.0 q.0),
+        (λ n. take-lawful t.0 t.1 t.2 (life earlier) p.take (certified-from t.0 t.1 p.certified)),
       ),
-      life-lawful earlier p.1 q.1,
+      life-lawful earlier p.rest,
     )
 
 -- the digest of a block above genesis is that of its core
@@ -181,18 +229,13 @@ digest_of-core (b ∷ parent) c h = refl
 -- each block of a life is stored
 took-stored : (ts : List Taking) → lives_well ts ≡ true → (a : Admitted) → Among (took_block a) (life ts)
     → IsStored (life ts) a
-unfolding lives_well tree stored_blocks taken_blocks
+unfolding tree stored_blocks taken_blocks
 took-stored [] h a m = absurd m
 took-stored (t ∷ earlier) h a (inl e) =
-    let p = and_parts
-    (may_take t.0 (life earlier) && (not t.2 || votes_well t.0 (life (t ∷ earlier)) (life earlier)))
-    (lives_well earlier) h in
-    let r = and_parts (may_take t.0 (life earlier))
-    (not t.2 || votes_well t.0 (life (t ∷ earlier)) (life earlier)) p.0 in
     subst (IsStored (life (t ∷ earlier))) (one_block e)
     (record {
       stands = inl refl;
-      named = digest_of-core t.0 (life earlier) r.0;
+      named = digest_of-core t.0 (life earlier) (passes t earlier h).take;
       justified = refl;
       own = λ n. refl;
     })
@@ -200,10 +243,7 @@ took-stored (t ∷ earlier) h a (inl e) =
     one_block : took_block a ≡ took_block (admitted t.0 t.1 t.2) → admitted t.0 t.1 t.2 ≡ a
     one_block k = let i : a ≡ admitted t.0 t.1 t.2 = cc in sym i
 took-stored (t ∷ earlier) h a (inr m) =
-    let p = and_parts
-    (may_take t.0 (life earlier) && (not t.2 || votes_well t.0 (life (t ∷ earlier)) (life earlier)))
-    (lives_well earlier) h in
-    let s = took-stored earlier p.1 a m in
+    let s = took-stored earlier (passes t earlier h).rest a m in
     record {
       stands = tree-grows (took_block (admitted t.0 t.1 t.2)) (life earlier) a.branch s.stands;
       named = s.named;
@@ -212,49 +252,61 @@ took-stored (t ∷ earlier) h a (inr m) =
     }
 
 -- a life that passes is kept
-pub life-kept : (ts : List Taking) → lives_well ts ≡ true → AreCertified ts → IsLawfullyKept sizes (life ts)
-life-kept ts h q = stored-blocks_are_named sizes (life ts) (life-lawful ts h q) (took-stored ts h)
+life-kept : (ts : List Taking) → lives_well ts ≡ true → IsLawfullyKept sizes (life ts)
+life-kept ts h = stored-blocks_are_named sizes (life ts) (life-lawful ts h) (took-stored ts h)
 
--- each of some replicas has a life that is kept
-abbrev pub AreKept : List (ℕ × List Taking) → Type 0
-AreKept ps = AllByRecursion (λ p. IsLawfullyKept sizes (life p.1)) ps
+-- each of some replicas has a life that passes
+abbrev pub all_live_well : List (ℕ × List Taking) → Bool
+all_live_well [] = true
+all_live_well (p ∷ rest) = lives_well p.1 && all_live_well rest
 
--- so has each member
-pub member-kept : (ps : List (ℕ × List Taking)) → AreKept ps → (m : Member) → Among m (judged_of ps)
+-- so each member is kept
+member-kept : (ps : List (ℕ × List Taking)) → all_live_well ps ≡ true → (m : Member) → Among m (judged_of ps)
     → IsLawfullyKept sizes m.replica.chronicle
-member-kept [] k m n = absurd n
-member-kept (p ∷ rest) k m (inl e) =
-    subst (λ (x : Member). IsLawfullyKept sizes x.replica.chronicle) (sym e) k.0
-member-kept (p ∷ rest) k m (inr n) = member-kept rest k.1 m n
+member-kept [] h m n = absurd n
+member-kept (p ∷ rest) h m (inl e) =
+    subst (λ (x : Member). IsLawfullyKept sizes x.replica.chronicle) (sym e)
+    (life-kept p.1 (and_parts (lives_well p.1) (all_live_well rest) h).0)
+member-kept (p ∷ rest) h m (inr n) =
+    member-kept rest (and_parts (lives_well p.1) (all_live_well rest) h).1 m n
 
--- ---- distinct numbers
-
--- no number stands twice
-abbrev are_distinct : List ℕ → Bool
-are_distinct [] = true
-are_distinct (x ∷ xs) = not (list_any (λ y. x == y) xs) && are_distinct xs
-
--- numbers that pass are distinct
-pub AreDistinct-from : (xs : List ℕ) → are_distinct xs ≡ true → AreDistinct xs
-AreDistinct-from [] h = tt
-AreDistinct-from (x ∷ xs) h =
-    let p = and_parts (not (list_any (λ y. x == y) xs)) (are_distinct xs) h in (
-      (λ m. true≢false (sym (any-from (λ y. x == y) xs x m (eq-eqb x x refl)) ∙ not-true _ p.0)),
-      AreDistinct-from xs p.1,
-    )
-
--- enough such replicas can be judged
-pub can-be_judged : (ps : List (ℕ × List Taking)) → quorum sizes ≤ length (judged_of ps)
-    → are_distinct (numbers (judged_of ps)) ≡ true
-    → AllByRecursion (λ i. i < replicas sizes) (numbers (judged_of ps)) → AreKept ps
-    → AreJudged sizes (judged_of ps)
-can-be_judged ps enough distinct below kept =
+-- a quorum of such replicas can be judged
+pub four-from : (ps : List (ℕ × List Taking)) → are_quorum (numbers (judged_of ps)) ≡ true
+    → all_live_well ps ≡ true → AreOfFour sizes (judged_of ps)
+four-from ps q well =
+    let ks = judged_of ps in
+    let is = IsQuorum-from (numbers ks) q in
+    let enough = is.2 in
+    let count = length-map ks (λ m. m.number) in
     record {
-      enough = enough;
-      distinct = AreDistinct-from (numbers (judged_of ps)) distinct;
-      below = below;
-      kept = λ m n apart. member-kept ps kept m n;
+      four = refl;
+      are_judged = record {
+        enough = omega (arith, enough, count);
+        distinct = is.0;
+        below = is.1;
+        kept = λ m n apart. member-kept ps well m n;
+      };
+      kept = member-kept ps well;
     }
+
+-- each of these turns was allowed, and none is left to replicas 0 to 3
+abbrev pub AreAllTurns : Judged → Turns → Type 0
+AreAllTurns ks turns =
+    AreAllowed (may_move ks) turns
+    × AllByRecursion (λ u. may_move ks (steps_in turns) u ≡ false) (0 ∷ 1 ∷ 2 ∷ 3 ∷ [])
+
+-- so they lead to the fronts
+pub fronts-from : (ks : Judged) → AreOfFour sizes ks → (turns : Turns) → AreAllTurns ks turns
+    → AreFronts ks (steps_in turns)
+fronts-from ks four turns all = fronts-from_turns ks turns all.0 stuck
+  where
+    stuck : (u : ℕ) → may_move ks (steps_in turns) u ≡ false
+    stuck zero = all.1.0
+    stuck (suc zero) = all.1.1.0
+    stuck (suc (suc zero)) = all.1.1.1.0
+    stuck (suc (suc (suc zero))) = all.1.1.1.1.0
+    stuck (suc (suc (suc (suc u)))) =
+        may_move-no_steps ks (steps_in turns) _ (none-else ks 4 four.are_judged.below _ (omega arith))
 
 -- ---- no collisions
 
@@ -359,8 +411,3 @@ pub along-history : (client : ℕ) (voters : List ℕ)
 unfolding held_history history executed decided decided_by decides taken_blocks highest history_of just1 just2
     just3 beginning justify_height
 along-history client voters = refl
-
--- its blocks justify one another, from genesis on
-pub along-certified : (client : ℕ) (voters : List ℕ) → IsQuorum voters → AreCertified (along client voters)
-unfolding just1 justify_height beginning
-along-certified client voters q = (inl q, (inl q, (inl q, (inr refl, tt))))

@@ -1,6 +1,5 @@
 -- Two lives of a replica: 1 executed the first client's command, and 3 and the shown life of 2 the second's.
-use Rattle.std.proofs.Common.{ℕ, zero, suc, ◌≡◌, true, false, List, [], ◌∷◌, ◌++◌, refl, sym, ap, ◌∙◌}
-use Rattle.std.proofs.Common.{arith, inl, inr}
+use Rattle.std.proofs.Common.{ℕ, ◌≡◌, true, List, [], ◌∷◌, ◌++◌, refl, sym, ap, ◌∙◌, arith, inl, inr}
 use Rattle.sha2.specs.Sha256.{sha256, digest_bytes, hash_after, compress, rounds, schedule, first_words}
 use Rattle.definitions.specs.Lists.{beginning, greatest}
 use Rattle.definitions.specs.Frames.{Core, genesis_core}
@@ -12,16 +11,14 @@ use Rattle.definitions.specs.Chronicles.{stored_blocks}
 use Rattle.definitions.specs.Trees.{is_clear, clear_above}
 use Rattle.definitions.specs.Histories.{Entry, History}
 use Rattle.definitions.specs.Replicas.{Replica, Standing.running}
-use Rattle.definitions.specs.Audit.{Turns, steps_in, Judged, is_judged, chronicle_of, gives_vote}
-use Rattle.definitions.specs.Audit.{counted_by, counted_for, step_after, has_vote, is_backed, may_move}
-use Rattle.definitions.specs.Audit.{AreAllowed, AreFronts, IsUnbacked, HistoriesAgree}
-use Rattle.audit_ground.specs.Law.{SomeFork}
-use Rattle.audit_ground.proofs.Fronts.{fronts-from_turns}
-use Rattle.audit_ground.proofs.Examples.{sizes, admitted, Taking, life, judged_of, none-else}
-use Rattle.audit_ground.proofs.Examples.{may_move-no_steps, IsQuorum, AreKept, may_take, votes_well}
-use Rattle.audit_ground.proofs.Examples.{lives_well, life-kept, member-kept, can-be_judged}
-use Rattle.audit_ground.proofs.Examples.{AreDistinct-from, digests_apart, AreAmong, apart-from, branch}
-use Rattle.audit_ground.proofs.Examples.{along, cores, entry, along-history, along-certified}
+use Rattle.definitions.specs.Audit.{Turns, steps_in, Judged, is_judged, chronicle_of, gives_vote, counted_by}
+use Rattle.definitions.specs.Audit.{counted_for, step_after, has_vote, is_backed, may_move, AreFronts}
+use Rattle.definitions.specs.Audit.{IsUnbacked, HistoriesAgree}
+use Rattle.audit_ground.specs.Law.{AreOfFour, SomeFork}
+use Rattle.audit_ground.proofs.Examples.{sizes, admitted, Taking, life, judged_of, may_take, votes_well}
+use Rattle.audit_ground.proofs.Examples.{lives_well, digests_apart, AreAmong, apart-from, branch, along}
+use Rattle.audit_ground.proofs.Examples.{cores, entry, along-history, all_live_well, four-from, AreAllTurns}
+use Rattle.audit_ground.proofs.Examples.{fronts-from}
 
 -- who voted for the first client's branch
 abbrev first_voters : List ℕ
@@ -47,36 +44,35 @@ replicas = (1, first) ∷ (3, second) ∷ (2, second) ∷ []
 abbrev judged : Judged
 judged = judged_of replicas
 
+-- each lived lawfully
+well : all_live_well replicas ≡ true
+unfolding lives_well may_take votes_well vheight voted_blocks greatest lock highest just1 just2 justify_height
+    beginning tree taken_blocks extends branch_eq block_eq command_eq clear_above stored_blocks is_clear
+well = refl
+
+-- three of four
+of_four : AreOfFour sizes judged
+of_four = four-from replicas refl well
+
 -- ---- its fronts
 
 -- the steps in an order in which each counted vote comes first
 abbrev turns : Turns
 turns = 3 ∷ 2 ∷ 3 ∷ 2 ∷ 3 ∷ 2 ∷ 3 ∷ 2 ∷ 1 ∷ []
 
--- each turn was allowed
-turns-allowed : AreAllowed (may_move judged) turns
+-- these are all turns
+all-turns : AreAllTurns judged turns
 unfolding may_move is_backed has_vote step_after chronicle_of is_judged steps_in counted_by counted_for
     gives_vote beginning digest digest_of core_of core_over just1 justify_height sha256 digest_bytes
     hash_after compress rounds schedule first_words
-turns-allowed = (refl, (refl, (refl, (refl, (refl, (refl, (refl, (refl, (refl, tt)))))))))
-
--- after them none may move any more
-stuck : (u : ℕ) → may_move judged (steps_in turns) u ≡ false
-unfolding may_move is_backed has_vote step_after chronicle_of is_judged steps_in counted_by counted_for
-    gives_vote beginning digest digest_of core_of core_over just1 justify_height sha256 digest_bytes
-    hash_after compress rounds schedule first_words
-stuck zero = refl
-stuck (suc zero) = refl
-stuck (suc (suc zero)) = refl
-stuck (suc (suc (suc zero))) = refl
-stuck (suc (suc (suc (suc u)))) =
-    may_move-no_steps judged (steps_in turns) (suc (suc (suc (suc u))))
-    (none-else judged 3 (omega arith, (omega arith, (omega arith, tt))) (suc (suc (suc (suc u))))
-    (omega arith))
+all-turns = (
+  (refl, (refl, (refl, (refl, (refl, (refl, (refl, (refl, (refl, tt))))))))),
+  (refl, (refl, (refl, (refl, tt)))),
+)
 
 -- the front of 1 has its first step, and the others' are whole
 fronts : AreFronts judged (steps_in turns)
-fronts = fronts-from_turns judged turns turns-allowed stuck
+fronts = fronts-from judged of_four turns all-turns
 
 -- receiver 1, voter 2, the first block of the first client's branch
 reason : IsUnbacked judged 1 2 (digest_of (branch 0 1))
@@ -129,36 +125,7 @@ differ h =
           absurd (omega (arith, e)))
     ]
 
--- ---- each is kept well
-
--- these are a quorum
-first-quorum : IsQuorum first_voters
-first-quorum =
-    (AreDistinct-from first_voters refl, (omega arith, (omega arith, (omega arith, tt))), omega arith)
-
--- and so are these
-second-quorum : IsQuorum second_voters
-second-quorum =
-    (AreDistinct-from second_voters refl, (omega arith, (omega arith, (omega arith, tt))), omega arith)
-
--- the first life is lawful
-first-well : lives_well first ≡ true
-unfolding lives_well may_take votes_well vheight voted_blocks greatest lock highest just1 just2 justify_height
-    beginning tree taken_blocks extends branch_eq block_eq command_eq clear_above stored_blocks is_clear
-first-well = refl
-
--- and the second
-second-well : lives_well second ≡ true
-unfolding lives_well may_take votes_well vheight voted_blocks greatest lock highest just1 just2 justify_height
-    beginning tree taken_blocks extends branch_eq block_eq command_eq clear_above stored_blocks is_clear
-second-well = refl
-
--- each is kept well
-kept : AreKept replicas
-kept =
-    let a = life-kept first first-well (along-certified 0 first_voters first-quorum) in
-    let b = life-kept second second-well (along-certified 1 second_voters second-quorum) in
-    (a, (b, (b, tt)))
+-- ---- no collisions
 
 -- the cores of both lives
 abbrev all_cores : List Core
@@ -195,12 +162,7 @@ pub some-fork : SomeFork
 some-fork = record {
   sizes = sizes;
   judged = judged;
-  of_four = record {
-    four = refl;
-    are_judged =
-        can-be_judged replicas (omega arith) refl (omega arith, (omega arith, (omega arith, tt))) kept;
-    kept = member-kept replicas kept;
-  };
+  of_four = of_four;
   apart = apart-from all_cores cores-apart replicas (first-among, (second-among, (second-among, tt)));
   differ = differ;
   receiver = 1;

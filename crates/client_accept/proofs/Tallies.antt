@@ -1,11 +1,11 @@
 -- Answers that come behind others change nothing that was told.
 use Rattle.std.proofs.Common.{◌≡◌, ◌∙◌, ◌<◌, ◌≤◌, ◌+◌, ◌==◌, ◌&&◌, ◌||◌, ℕ, zero, suc, List, [], ◌∷◌, ◌++◌}
-use Rattle.std.proofs.Common.{Bool, true, false, Some, cond, length, take, get_or, refl, ap, sym, subst}
+use Rattle.std.proofs.Common.{Bool, true, Some, cond, length, take, get_or, refl, ap, sym, subst}
 use Rattle.std.proofs.Common.{arith}
 use Rattle.std.specs.Prelude.{filter}
 use Rattle.std.specs.List.{list_any, position}
 use Rattle.std.specs.Str.{bytes_eq}
-use Rattle.std.proofs.lemmas.Bool.{eqb-true}
+use Rattle.std.proofs.lemmas.Bool.{eqb-true, and_parts}
 use Rattle.std.proofs.lemmas.List.{get_or-map, get_or_append_left, length-map, length-append, map_more}
 use Rattle.std.proofs.lemmas.List.Quantifiers.{position-Some}
 use Rattle.std.proofs.lemmas.List.Sums.{length-filter, count_by-le-length, sum_by-append}
@@ -79,11 +79,6 @@ counted-kept answers [] replica = refl
 counted-kept answers (c ∷ counted) replica =
     ap (λ (b : Bool). (c.replica == replica) || b) (counted-kept answers counted replica)
 
--- both tests pass
-both_pass : (a b : Bool) → (a && b) ≡ true → (a ≡ true) × (b ≡ true)
-both_pass true b e = (refl, e)
-both_pass false b e = absurd cc
-
 -- an answer that is this place and text says so
 abbrev is_said : ℕ → Bytes → Answer → Bool
 is_said place text a = (a.place == place) && bytes_eq a.text.items text
@@ -91,7 +86,7 @@ is_said place text a = (a.place == place) && bytes_eq a.text.items text
 said-passed : (a : Answer) (place : ℕ) (text : Bytes) → is_said place text a ≡ true
     → said_in a ≡ (place, text)
 said-passed a place text e =
-    let both = both_pass (a.place == place) (bytes_eq a.text.items text) e in
+    let both = and_parts (a.place == place) (bytes_eq a.text.items text) e in
     ap (λ (p : ℕ). (p, a.text.items)) (eqb-true a.place place both.0)
     ∙ ap (λ (t : Bytes). (place, t)) ((bytes_eq-Decides a.text.items text).0 both.1)
 

@@ -3,6 +3,7 @@ use Rattle.ids.specs.declared.limits.TheConstants.{MOST_COMMANDS}
 use Rattle.std.proofs.Common.{sym, true≢false, arith, ◌≡◌, ℕ, max, nat_lt, nat_le, Bool, true, false, cond}
 use Rattle.std.proofs.Common.{◌&&◌, ◌||◌, ◌==◌, not, List, [], ◌∷◌, ◌++◌, map, filter, take, refl, ap, ◌∙◌}
 use Rattle.std.proofs.Common.{if◌then◌else◌}
+use Rattle.std.proofs.lemmas.Bool.{and_parts}
 use Rattle.std.proofs.lemmas.List.{append-nil}
 use Rattle.std.proofs.lemmas.List.Elements.{filter-append}
 use Rattle.std.specs.List.{list_any}
@@ -153,15 +154,11 @@ apart : (a : Bool) (m n : ℕ) → not (a && nat_le n m) ≡ true → (a && (m =
 apart true m n h = grind arith
 apart false m n h = refl
 
-both : (a b : Bool) → (a && b) ≡ true → (a ≡ true) × (b ≡ true)
-both true b h = (refl, h)
-both false b h = absurd (true≢false (sym h))
-
 -- a due request stands nowhere in the history
 not-executed : (h : History) (r : Command) → is_due h r ≡ true → list_any (is_entry_of r) h ≡ false
 not-executed [] r d = refl
 not-executed (e ∷ h) r d =
-    let two = both (is_due h r) (not (is_up_to e.client e.seq r)) (sym (due-after e h r) ∙ d) in
+    let two = and_parts (is_due h r) (not (is_up_to e.client e.seq r)) (sym (due-after e h r) ∙ d) in
     ap (λ b. b || list_any (is_entry_of r) h) (apart (e.client == r.client) e.seq r.seq two.1)
     ∙ not-executed h r two.0
 

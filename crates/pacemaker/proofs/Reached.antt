@@ -2,7 +2,7 @@
 use Rattle.std.proofs.Common.{ℕ, suc, ◌≡◌, ◌<◌, ◌≤◌, ◌⊎◌, ◌==◌, Bool, true, false, List, [], ◌∷◌, cond}
 use Rattle.std.proofs.Common.{nat_lt, nat_le, slice_index, slice_set, replicate, min, ◌-◌, ◌^◌, refl, sym}
 use Rattle.std.proofs.Common.{ap, subst, ◌∙◌, arith, inl, inr, map, filter, max}
-use Rattle.std.proofs.lemmas.Bool.{cases_lt, cond_both, ltb-true, lt-ltb}
+use Rattle.std.proofs.lemmas.Bool.{cases_lt, ltb-true, lt-ltb}
 use Rattle.std.proofs.lemmas.Bool.Decides.{eqb_tells}
 use Rattle.std.proofs.lemmas.List.{get_or-set_other, length-set, get_or-replicate}
 use Rattle.std.proofs.lemmas.Grind.{get_or-set_at}
@@ -15,7 +15,7 @@ use Rattle.definitions.specs.Chronicles.{Chronicle, Step, Step.took_block, Step.
 use Rattle.definitions.specs.Chronicles.{Note.got_new_view, Note.got_request, Note.got_fetch}
 use Rattle.definitions.specs.Chronicles.{Note.timed_out, Note.beat, Note.pruned}
 use Rattle.definitions.specs.States.{announcements, announced, reached_view, view}
-use Rattle.definitions.proofs.Lists.{greatest-above, Among-map, Among-mapped, Among-kept}
+use Rattle.definitions.proofs.Lists.{greatest-above, Among-map, Among-mapped, Among-filter, Among-kept}
 use Rattle.definitions.proofs.Counts.{count-same}
 use Rattle.pacemaker.specs.Pacing.{Pace, IsPaceOf, LeavesPace, IsReached, passed_by}
 use Rattle.pacemaker.proofs.Counting.{at_least, passed_least}
@@ -36,19 +36,6 @@ greatest-among (x ∷ xs) = elim (cases_lt x (greatest xs)) [
 pub greatest-below : (xs : List ℕ) (most : ℕ) → ((x : ℕ) → Among x xs → x ≤ most) → greatest xs ≤ most
 greatest-below xs most h = elim (greatest-among xs) [ inl z ↦ omega arith | inr m ↦ h (greatest xs) m ]
 
--- what a filter keeps is what passes
-pub kept-passes : {A : Type 0} (p : A → Bool) (xs : List A) (x : A) → Among x (filter p xs)
-    → Among x xs × (p x ≡ true)
-kept-passes p [] x m = absurd m
-kept-passes {A} p (y ∷ ys) x m =
-    cond_both (p y) (y ∷ filter p ys) (filter p ys)
-    (λ (l : List A). Among x l → Among x (y ∷ ys) × (p x ≡ true))
-    (λ e k. elim k [
-      | inl is ↦ (inl is, subst (λ (z : A). p z ≡ true) (sym is) e)
-      | inr m' ↦ let r = kept-passes p ys x m' in (inr r.0, r.1)
-    ])
-    (λ e k. let r = kept-passes p ys x k in (inr r.0, r.1)) m
-
 -- what a replica announced last is 0 or stands among the announcements
 pub announced-among : (i : ℕ) (c : Chronicle)
     → (announced i c ≡ 0) ⊎ Among (announced i c) (map (λ p. p.1) (announcements c))
@@ -61,7 +48,7 @@ announced-among i c =
           let r = Among-map (λ (p : ℕ × ℕ). p.1) own (announced i c) m in
           inr (subst (λ (v : ℕ). Among v (map (λ p. p.1) (announcements c))) (sym r.2)
           (Among-mapped (λ (p : ℕ × ℕ). p.1) (announcements c) r.0
-          (kept-passes (λ (p : ℕ × ℕ). p.0 == i) (announcements c) r.0 r.1).0))
+          (Among-filter (λ (p : ℕ × ℕ). p.0 == i) (announcements c) r.0 r.1).0))
     ]
 
 -- what a pacemaker finds is what the chronicle says
@@ -80,7 +67,7 @@ reached-is c p v rows r =
     λ w. count-same n (λ i. nat_le w (slice_index p.announced i)) (λ i. nat_le w (announced i c))
     (λ i l. ap (nat_le w) (rows i l)) in
     let at_most : greatest many ≤ v = greatest-below many v (λ w m.
-    let k = kept-passes test all w m in
+    let k = Among-filter test all w m in
     let least = passed_least n f (λ i. announced i c) w (ltb-true f (passed w) k.1) in
     let row : slice_index p.announced least.0 ≡ announced least.0 c = rows least.0 least.1 in
     let most = r.most least.0 least.1

@@ -1,7 +1,6 @@
 -- A new block over its parent in a tree that doesn't have it.
-use Rattle.std.proofs.Common.{ℕ, suc, ◌≡◌, ◌<◌, ◌&&◌, Bool, true, false, List, [], ◌∷◌, length, cond, refl}
+use Rattle.std.proofs.Common.{ℕ, suc, ◌≡◌, ◌<◌, ◌&&◌, Bool, true, List, [], ◌∷◌, length, cond, refl}
 use Rattle.std.proofs.Common.{sym, ap, subst, ◌∙◌, arith, inl, inr, nat_lt}
-use Rattle.std.specs.Prelude.{◌||◌}
 use Rattle.std.proofs.lemmas.Bool.{lt-ltb}
 use Rattle.definitions.specs.Branches.{Block, Branch, extends, branch_eq, justify_height, just1}
 use Rattle.definitions.specs.Digests.{digest_of}
@@ -12,13 +11,9 @@ use Rattle.definitions.specs.Trees.{placing, IsTree}
 use Rattle.definitions.proofs.Branches.{extends-true, extends-from, extends-cases, Extends-trans}
 use Rattle.definitions.proofs.Branches.{branch_eq-decides, just1-extends, justify_height-just1}
 use Rattle.definitions.proofs.Trees.{IsGrowth, IsPlaced, placed, tree-below, growth-tree}
-use Rattle.block_tree.proofs.Clear.{branch-differs, absent-clear}
+use Rattle.block_tree.proofs.Extends.{both_ways}
+use Rattle.block_tree.proofs.Clear.{branch-differs, passed, counts, absent-clear}
 use Rattle.replica_rules.specs.Ruled.{ref_of}
-
-both_ways : (s t : Bool) → (s ≡ true → t ≡ true) → (t ≡ true → s ≡ true) → s ≡ t
-both_ways true t f g = sym (f refl)
-both_ways false true f g = g refl
-both_ways false false f g = refl
 
 -- it extends what its parent does, but for itself
 pub extends-over : (b : Block) (parent x : Branch) → (x ≡ b ∷ parent → ⊥)
@@ -34,16 +29,6 @@ extends-over b parent x differs =
 
 -- ---- clear marks
 
-skipped : (clear same rest : Bool) → same ≡ false → (clear && same) || rest ≡ rest
-skipped true true rest e = absurd (cc)
-skipped true false rest e = refl
-skipped false same rest e = refl
-
-own : (clear same rest : Bool) → same ≡ true → rest ≡ false → (clear && same) || rest ≡ clear
-own true true rest e f = refl
-own true false rest e f = absurd (cc)
-own false same rest e f = f
-
 -- a higher block says nothing of the clear marks of a branch
 clear_below : (h : ℕ) (p : Branch) (s : Stored) (all : List Stored) → length p < length s.branch
     → clear_above h p (s ∷ all) ≡ clear_above h p all
@@ -53,7 +38,7 @@ clear_below h (b ∷ p) s all lt =
     let other : s.branch ≡ b ∷ p → ⊥ =
     λ e. (let k = ap (λ (x : Branch). length x) e in omega (arith, k, lt)) in
     let mark =
-    skipped s.clear (branch_eq s.branch (b ∷ p)) (is_clear (b ∷ p) all)
+    passed s.clear (branch_eq s.branch (b ∷ p)) (is_clear (b ∷ p) all)
     (branch-differs s.branch (b ∷ p) other) in
     let rest = clear_below h p s all (omega (arith, lt)) in
     λ i. cond (nat_lt h (suc (length p))) (mark i && rest i) true
@@ -68,7 +53,7 @@ unfolding clear_above is_clear
 clear-over b parent q clear all lt absent =
     let s : Stored = record { branch = b ∷ parent; certificate = q; clear = clear } in
     let mark =
-    own clear (branch_eq (b ∷ parent) (b ∷ parent)) (is_clear (b ∷ parent) all)
+    counts clear (branch_eq (b ∷ parent) (b ∷ parent)) (is_clear (b ∷ parent) all)
     ((branch_eq-decides (b ∷ parent) (b ∷ parent)).1 refl) (absent-clear (b ∷ parent) all absent) in
     let low : length parent < length s.branch = omega arith in
     let rest = clear_below b.justify parent s all low in

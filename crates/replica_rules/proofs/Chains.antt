@@ -13,6 +13,7 @@ use Rattle.definitions.specs.Chronicles.{Chronicle, decides, decides_against, ex
 use Rattle.definitions.proofs.Branches.{just2-is, just3-is, justify_height-just1}
 use Rattle.definitions.proofs.Trees.{found-in, found-itself}
 use Rattle.definitions.proofs.Windows.{IsChainSeen}
+use Rattle.block_tree.proofs.Steps.{and_none}
 use Rattle.replica_rules.specs.declared.block_ref.BlockRef.{BlockRef}
 use Rattle.replica_rules.specs.declared.chain.Chain.{Chain}
 use Rattle.replica_rules.specs.Ruled.{ref_of}
@@ -73,10 +74,6 @@ module _ (horizon : ℕ) (all : List Stored) (tr : IsTree horizon (blocks all)) 
       record { first = ref_of (just1 b); second = ref_of (just2 b); third = third }))
       asked
 
-and_false : (x y : Bool) → y ≡ false → (x && y) ≡ false
-and_false true y e = e
-and_false false y e = refl
-
 -- what hangs on a chain that decides is as it is where the third block was asked for
 decided_by : {A : Type 0} (f : Bool → BlockRef → A) (b : Branch)
     → ((x y : BlockRef) → f false x ≡ f false y) → (t : Bool)
@@ -85,9 +82,9 @@ decided_by : {A : Type 0} (f : Bool → BlockRef → A) (b : Branch)
 unfolding decides
 decided_by f b same true e = refl
 decided_by f b same false e =
-    let here : is_decisive (chain_by b false) ≡ false = and_false _ _ e in
+    let here : is_decisive (chain_by b false) ≡ false = and_none _ _ e in
     let none : ((length (just2 b) == suc (length (just3 b))) && (length (just1 b) == suc (length (just2 b))))
-    ≡ false = and_false _ _ e in
+    ≡ false = and_none _ _ e in
     ap (λ (d : Bool). f d (ref_of (just2 b))) here
     ∙ (same (ref_of (just2 b)) (ref_of (just3 b)) ∙ ap (λ (d : Bool). f d (ref_of (just3 b))) (sym none))
 

@@ -16,6 +16,7 @@ use Rattle.std.proofs.lemmas.Map.Text.{is_eq-slice_cmp}
 use Rattle.definitions.specs.Bytes.{Bytes}
 use Rattle.definitions.specs.Frames.{Vote, vote_bytes}
 use Rattle.definitions.specs.States.{insert_vote}
+use Rattle.definitions.proofs.Trees.{same_bytes}
 use Rattle.vote_collector.specs.Collecting.{Entry, VotesByDigest, votes_in, entry_for, votes_for, judged}
 use Rattle.vote_collector.specs.Collecting.{with_vote}
 use Rattle.vote_collector.specs.Collecting.{with_vote_to, kept_above, AreVotesOf}
@@ -62,9 +63,6 @@ seen_above height kept d = entry_above height (kept d)
 
 abbrev pub seen : VotesByDigest → Seen
 seen kept d = entry_for d kept
-
-same_bytes : (a b : Bytes) → bytes_eq a b ≡ true → a ≡ b
-same_bytes a b e = (bytes_eq-Decides a b).0 e
 
 -- a test of bytes goes either way
 turned : (a b : Bytes) → bytes_eq a b ≡ bytes_eq b a
