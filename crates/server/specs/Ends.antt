@@ -1,7 +1,7 @@
 -- How a deployment ends.
 use Rattle.std.specs.Prelude.{◌≡◌, ◌⊎◌, List, ⊤}
 use Rattle.ids.specs.declared.fault.Fault.{Fault}
-use Rattle.ids.specs.declared.fault.Fault.TheVariants.{Memory, AcceptFailed, NoSuchParty, NotAll, TooFew}
+use Rattle.ids.specs.declared.fault.Fault.TheVariants.{Memory, AcceptFailed, NoSuchParty, TooFew}
 use Rattle.std.specs.Borrow.{Bor}
 use Rattle.definitions.specs.Audit.{IsVerdict, HistoriesAgree}
 use Rattle.definitions.specs.Digests.{NoCollision}
@@ -41,7 +41,6 @@ IsWhole (Whole verdict) = ⊤
 IsWhole (Windows verdict) = ⊥
 
 -- Why there was no deployment: memory was refused, or there is no second handle of the listener; or there
--- was an end or an eye too few; or too few replicas could be judged.
+-- was an end too few; or too few replicas could be judged.
 abbrev pub IsNoRun : Fault → Type 0
-IsNoRun fault = (fault ≡ Memory) ⊎ (fault ≡ AcceptFailed) ⊎ (fault ≡ NoSuchParty) ⊎ (fault ≡ NotAll)
-    ⊎ (fault ≡ TooFew)
+IsNoRun fault = (fault ≡ Memory) ⊎ (fault ≡ AcceptFailed) ⊎ (fault ≡ NoSuchParty) ⊎ (fault ≡ TooFew)

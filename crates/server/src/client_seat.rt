@@ -14,18 +14,18 @@ use std::sync::{Arc, Wait};
 use std::time::Clock;
 use tcp_front::Seats;
 
-/// The service of a client, over the links of the process.
-pub(crate) type Desk<R> = ClientService<ClientLink<R>>;
+/// What serves at a client's seat: its service, over the links of the process.
+pub(crate) type ClientSeat<R> = ClientService<ClientLink<R>>;
 
 /// The seat of a client, at the end where its replies come out.
-fn desk<R: Wait + Clock + AllocGlobal + Clone + Drop>(
+fn seat<R: Wait + Clock + AllocGlobal + Clone + Drop>(
     rt: &R,
     links: &Arc<Links>,
     roll: &Arc<Roll>,
     keys: &PairKeys,
     client: ClientId,
     frames: ClientEnd,
-) -> Result<Desk<R>, Fault>
+) -> Result<ClientSeat<R>, Fault>
     ensures refused { OnErr result ((result ≡ Err Memory) ⊎ (result ≡ Err NoSuchParty)) }
 {
     let (alloc, config) = (rt.alloc(), keys.config());
@@ -37,24 +37,24 @@ fn desk<R: Wait + Clock + AllocGlobal + Clone + Drop>(
 }
 
 /// A seat for each client, at the ends where their replies come out.
-pub(crate) fn desks<R: Wait + Clock + AllocGlobal + Clone + Drop>(
+pub(crate) fn seats<R: Wait + Clock + AllocGlobal + Clone + Drop>(
     rt: &R,
     links: &Arc<Links>,
     roll: &Arc<Roll>,
     keys: &PairKeys,
     ends: Vec<ClientEnd>,
-) -> Result<Seats<Desk<R>>, Fault>
+) -> Result<Seats<ClientSeat<R>>, Fault>
     ensures refused { OnErr result ((result ≡ Err Memory) ⊎ (result ≡ Err NoSuchParty)) }
 {
     let alloc = rt.alloc();
     let mut ends = ends.into_iter();
-    let mut desks = Vec::new(alloc);
+    let mut seats = Vec::new(alloc);
     for number in 0..keys.config().clients() {
         let Some(frames) = ends.next() else {
             return Err(Fault::NoSuchParty);
         };
-        desks.reserve(1)?;
-        desks.push_reserved(desk(rt, links, roll, keys, ClientId(number), frames)?);
+        seats.reserve(1)?;
+        seats.push_reserved(seat(rt, links, roll, keys, ClientId(number), frames)?);
     }
-    Seats::new(alloc, desks)
+    Seats::new(alloc, seats)
 }

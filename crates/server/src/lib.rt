@@ -3,7 +3,7 @@
 #![tactic(auto)]
 
 mod bounded;
-mod desk;
+mod client_seat;
 mod ending;
 mod floods;
 mod guarded;

@@ -1,20 +1,24 @@
 //! From keys to a running deployment, and to its end.
 
-ghost use Rattle.std.specs.Prelude.{◌≡◌, IfOk, IfErr, None};
+ghost use Rattle.std.specs.Prelude.{◌≡◌, ◌⊎◌, map, Err, IfOk, IfErr, OnErr, None};
+ghost use Rattle.std.specs.List.{range_with_len};
+ghost use Rattle.ids.specs.Sizes.{replicas};
+ghost use Rattle.ids.specs.declared.fault.Fault.TheVariants.{AcceptFailed, Memory, NoSuchParty};
+ghost use Rattle.marks.specs.Eyes.{first_eye, first_eyes};
 ghost use Rattle.server.specs.Ends.{IsEndAudit, IsWhole, IsNoRun};
 
-use crate::desk::{Desk, desks};
+use crate::client_seat::{ClientSeat, seats};
 use crate::ending::{EndAudit, judge_by_terms};
 use crate::roll::Roll;
 use crate::stations::{Station, run_worker, stations, watch};
 use crate::terms::Terms;
 use crate::watching::Board;
 use crate::worker::WorkerStart;
-use fabric::{Ends, Links};
+use fabric::{ClientEnd, Ends, Inbox, Links};
 use ids::{Fault, ReplicaId};
 use key_file::PairKeys;
 use log::{Log, warn};
-use marks::{Marks, Watcher};
+use marks::{Eye, Marks, Watcher};
 use std::net::TcpListener;
 use std::sync::atomic::AtomicBool;
 use std::sync::atomic::Ordering::SeqCst;
@@ -41,20 +45,48 @@ fn stop_all<R: Wait>(rt: &R, links: &Links) {
     }
 }
 
-/// What the clock of a station needs, besides: what all threads share.
+/// A deployment without its replicas: what its threads share.
 #[derive(Drop)]
-struct Bell<'a, S> {
-    links: &'a Links,
-    roll: &'a Roll,
-    seats: &'a Seats<S>,
-    closer: &'a Closer,
+struct Deployment<'a, S> {
+    listener: &'a TcpListener,
+    closer: Closer,
+    links: Arc<Links>,
+    roll: Arc<Roll>,
+    seats: Seats<S>,
 }
 
-impl<'a, S: Drop> Bell<'a, S> {
+impl<'a, R: Wait + Clock + AllocGlobal + Clone + Drop> Deployment<'a, ClientSeat<R>> {
+    /// A deployment over these links, with a seat for each client at the end where its replies come out.
+    fn new(
+        rt: &R,
+        keys: &PairKeys,
+        listener: &'a TcpListener,
+        links: Links,
+        clients: Vec<ClientEnd>,
+    ) -> Result<Deployment<'a, ClientSeat<R>>, Fault>
+        ensures { OnErr result
+            ((result ≡ Err AcceptFailed) ⊎ (result ≡ Err Memory) ⊎ (result ≡ Err NoSuchParty)) }
+    {
+        let alloc = rt.alloc();
+        let closer = Closer::new(listener)?;
+        let links = Arc::new(alloc, links)?;
+        let roll = Arc::new(alloc, Roll::new(keys.config()))?;
+        let seats = seats(rt, &links, &roll, keys, clients)?;
+        Ok(Deployment {
+            listener,
+            closer,
+            links,
+            roll,
+            seats,
+        })
+    }
+}
+
+impl<'a, S: Drop> Deployment<'a, S> {
     /// Gives a station its beats and timeouts until it is told to stop. Where its replica stops, that is
     /// told; and where no request can be answered any more, the front is closed.
     fn keep<R: Wait + Clock + Log>(&self, rt: &R, station: &Station<'_>, stop: &AtomicBool) {
-        let Some(fault) = watch(rt, station, self.links, stop) else {
+        let Some(fault) = watch(rt, station, &self.links, stop) else {
             return;
         };
         self.roll.strike(rt, fault);
@@ -62,7 +94,7 @@ impl<'a, S: Drop> Bell<'a, S> {
         let going = self.roll.going(rt);
         warn!(rt; "replica {number} stopped: {fault}; {going} of {n} go on");
         if !self.roll.is_open() {
-            self.closer.close(self.seats);
+            self.closer.close(&self.seats);
         }
     }
 }
@@ -73,16 +105,16 @@ fn start_station<'s, E, R: Wait + Clock + Sync + Send + AllocGlobal + Log + Clon
     scope: &Scope<'s, E>,
     station: &'s Station<'_>,
     workers: Vec<WorkerStart>,
-    bell: &'s Bell<'_, Desk<R>>,
+    deployment: &'s Deployment<'_, ClientSeat<R>>,
     stop: &'s AtomicBool,
 ) -> bool {
-    let links = bell.links;
+    let links: &Links = &deployment.links;
     let mut all_started = true;
     for worker in workers {
         let started = scope.spawn(move || run_worker(rt, station, links, worker));
         all_started = all_started && started.is_ok();
     }
-    let timed = scope.spawn(move || bell.keep(rt, station, stop));
+    let timed = scope.spawn(move || deployment.keep(rt, station, stop));
     all_started && timed.is_ok()
 }
 
@@ -92,12 +124,12 @@ fn start_stations<'s, E, R: Wait + Clock + Sync + Send + AllocGlobal + Log + Clo
     scope: &Scope<'s, E>,
     stations: &'s [Station<'_>],
     workers: Vec<Vec<WorkerStart>>,
-    bell: &'s Bell<'_, Desk<R>>,
+    deployment: &'s Deployment<'_, ClientSeat<R>>,
     stop: &'s AtomicBool,
 ) -> bool {
     let mut all_started = true;
     for (station, workers) in stations.iter().zip(workers) {
-        let started = start_station(rt, scope, station, workers, bell, stop);
+        let started = start_station(rt, scope, station, workers, deployment, stop);
         all_started = all_started && started;
     }
     all_started
@@ -106,18 +138,19 @@ fn start_stations<'s, E, R: Wait + Clock + Sync + Send + AllocGlobal + Log + Clo
 /// Starts all stations, and serves so many connections. All threads have ended when it returns.
 fn serve_at<R: Threads + Wait + Clock + Sync + Send + AllocGlobal + Log + Clone + Drop>(
     rt: &R,
+    deployment: &Deployment<'_, ClientSeat<R>>,
     stations: &[Station<'_>],
     workers: Vec<Vec<WorkerStart>>,
-    bell: &Bell<'_, Desk<R>>,
     watcher: Watcher<'_>,
-    listener: &TcpListener,
     terms: Terms,
 ) -> Result<u64, Fault>
     ensures { IfOk result (λ served. served ≡ terms.most) }
 {
     let stop = AtomicBool::new(false);
     let stop = &stop;
-    let (links, roll, seats) = (bell.links, bell.roll, bell.seats);
+    let links: &Links = &deployment.links;
+    let roll: &Roll = &deployment.roll;
+    let seats = &deployment.seats;
     let board = Board {
         stations,
         links,
@@ -127,9 +160,9 @@ fn serve_at<R: Threads + Wait + Clock + Sync + Send + AllocGlobal + Log + Clone 
     };
     let served = thread::scope(thread::scope_env(), rt, |scope| {
         let watched = scope.spawn(move || board.keep(rt, terms.watch, stop));
-        let started = start_stations(rt, scope, stations, workers, bell, stop);
+        let started = start_stations(rt, scope, stations, workers, deployment, stop);
         let served = if started && watched.is_ok() {
-            front(rt, listener, seats, terms.most)
+            front(rt, deployment.listener, seats, terms.most)
         } else {
             Err(Fault::Memory)
         };
@@ -141,6 +174,45 @@ fn serve_at<R: Threads + Wait + Clock + Sync + Send + AllocGlobal + Log + Clone 
         Ok(_) => Ok(terms.most),
         Err(fault) => Err(roll.cause(rt).unwrap_or(fault)),
     }
+}
+
+/// Who only reads the marks of so many replicas, with the last of their first eyes, which owns no word. What is
+/// left are the words' owners.
+fn watcher_of<'m>(marks: &'m Marks, replicas: u8, eyes: &mut Vec<Eye>) -> Watcher<'m>
+    requires words { marks.now.words ≡ replicas }
+    requires eyes { eyes.old.items ≡ first_eyes marks.now }
+    ensures owners { eyes.new.items ≡ map (first_eye marks.now) (range_with_len 0 marks.now.words) }
+{
+    let last = eyes.pop();
+    Watcher::new(marks, replicas, last.unwrap())
+}
+
+/// Serves with replicas that have made no step, at these ends of the deployment's links. When all threads have
+/// ended, the replicas are judged.
+fn serve_and_judge<R: Threads + Wait + Clock + Sync + Send + AllocGlobal + Log + Clone + Drop>(
+    rt: &R,
+    keys: &PairKeys,
+    deployment: &Deployment<'_, ClientSeat<R>>,
+    marks: &Marks,
+    eyes: Vec<Eye>,
+    ends: Vec<Arc<Inbox>>,
+    terms: Terms,
+) -> Result<Ended, Fault>
+    requires words { marks.now.words ≡ replicas keys.now.sizes }
+    requires eyes { eyes.items ≡ first_eyes marks.now }
+    ensures served { IfOk result (λ ended. IfOk ended.served (λ served. served ≡ terms.most)) }
+    ensures audit { IfOk result (λ ended. IsEndAudit ended.audit) }
+    ensures whole { IfOk result (λ ended. terms.window ≡ None → IsWhole ended.audit) }
+    ensures refused { IfErr result IsNoRun }
+{
+    let (alloc, n) = (rt.alloc(), keys.config().n());
+    let mut eyes = eyes;
+    let watcher = watcher_of(marks, n, &mut eyes);
+    let room = Vec::with_capacity(alloc, usize::from(n))?;
+    let (stations, workers) = stations(alloc, keys, marks, eyes, ends, &terms)?;
+    let served = serve_at(rt, deployment, stations.as_slice(), workers, watcher, terms);
+    let audit = judge_by_terms(stations, terms, room)?;
+    Ok(Ended { served, audit })
 }
 
 /// Runs replicas with these keys, and serves as many connections as the terms say that come to the
@@ -162,34 +234,9 @@ pub fn run<R: Threads + Wait + Clock + Sync + Send + AllocGlobal + Log + Clone +
     ensures refused { IfErr result IsNoRun }
 {
     let (alloc, config) = (rt.alloc(), keys.config());
-    let closer = Closer::new(listener)?;
+    let (marks, eyes) = Marks::new(alloc, config.n())?;
     let (links, ends) = Links::new(alloc, config)?;
     let Ends { replicas, clients } = ends;
-    let (marks, mut eyes) = Marks::new(alloc, config.n())?;
-    let Some(eye) = eyes.pop() else {
-        return Err(Fault::NotAll);
-    };
-    let watcher = Watcher::new(&marks, config.n(), eye);
-    let roll = Arc::new(alloc, Roll::new(config))?;
-    let (stations, workers) = stations(alloc, keys, &marks, eyes, replicas, &terms)?;
-    let links = Arc::new(alloc, links)?;
-    let room = Vec::with_capacity(alloc, usize::from(config.n()))?;
-    let seats = desks(rt, &links, &roll, keys, clients)?;
-    let bell = Bell {
-        links: &links,
-        roll: &roll,
-        seats: &seats,
-        closer: &closer,
-    };
-    let served = serve_at(
-        rt,
-        stations.as_slice(),
-        workers,
-        &bell,
-        watcher,
-        listener,
-        terms,
-    );
-    let audit = judge_by_terms(stations, terms, room)?;
-    Ok(Ended { served, audit })
+    let deployment = Deployment::new(rt, keys, listener, links, clients)?;
+    serve_and_judge(rt, keys, &deployment, &marks, eyes, replicas, terms)
 }
