@@ -109,7 +109,7 @@ impl Scene {
     }
 
     /// What came of it.
-    fn tell(self, alloc: Global, gate: &Held, seen: &Seen, told: &Told) -> Result<String> {
+    fn tell(self, alloc: Global, gate: &Held<'_>, seen: &Seen, told: &Told) -> Result<String> {
         match self {
             Scene::TwoTurns => tell_turns(alloc, gate, told),
             Scene::TwoCalls => tell_calls(alloc, seen, told),
@@ -126,7 +126,7 @@ impl Scene {
         alloc: Global,
         config: Config,
         hasher: RandomState,
-        gate: &Held,
+        gate: &Held<'_>,
         seen: &Seen,
     ) -> Result<String> {
         let handed = self.handed(alloc, config)?;
@@ -147,16 +147,18 @@ impl Scene {
         let hasher = RandomState::new(rt)?;
         let answers = frames::answers(alloc, config)?;
         let seen = Seen::new(alloc, matches!(self, Scene::TwoCalls), answers)?;
-        let gate = Held::new(matches!(self, Scene::TwoTurns));
+        let gate = Held::new(matches!(self, Scene::TwoTurns), &seen);
         self.play_with(rt, alloc, config, hasher, &gate, &seen)
     }
 }
 
 /// What came of a turn that was held.
-fn tell_turns(alloc: Global, gate: &Held, told: &Told) -> Result<String> {
+fn tell_turns(alloc: Global, gate: &Held<'_>, told: &Told) -> Result<String> {
     Ok(format!(in alloc;
-        "frame 1 waited for frame 2's step: {}; a spoilt frame was entered: {}; steps: {}",
+        "frame 1 waited for frame 2's step: {}; its own was made before: {}; a spoilt frame was entered: {}; \
+        steps: {}",
         gate.has_met(),
+        gate.was_stepped_before(),
         gate.saw_third(),
         told.steps
     )?)
