@@ -30,7 +30,7 @@ pub(crate) enum Scene {
     /// One proposal, brought twice to one replica.
     OneVote,
     /// A thousand requests for replica 1, whose stand-in answers one of them with a frame to all, one
-    /// to replica 2, and one to client 0.
+    /// to replica 2, and one to each client.
     EachOnce,
     /// One request for all replicas, which each of them executes.
     OneSet,
@@ -186,9 +186,10 @@ fn tell_each(alloc: Global, seen: &Seen, told: &Told) -> Result<String> {
     let requested = seen.requested(alloc)?;
     let (announced, voted) = (seen.announced(alloc)?, seen.voted(alloc)?);
     let once = seen.came_once();
+    let [first, second] = told.replies;
     let mut text = format!(in alloc; "of 1000 requests {once} came once; requests{requested}")?;
     write!(text, ", announcements{announced}, votes{voted}")?;
-    write!(text, ", replies {}, others {}", told.replies, told.left)?;
+    write!(text, ", replies {first} {second}, others {}", told.left)?;
     Ok(text)
 }
 
