@@ -80,7 +80,7 @@ fn add(
     Ok(sendings.push(Sending { to, kind, frame })?)
 }
 
-/// What replica 1 sends at once: its view to all, a vote for genesis to replica 2, and a reply to client 0.
+/// What replica 1 sends at once: its view to all, a vote for genesis to replica 2, and a reply to each client.
 pub(crate) fn answers(alloc: Global, config: Config) -> Result<Vec<Sending>> {
     let keyring = replica_keyring_of(alloc, config, ReplicaId(1))?;
     let Some(text) = ReplyText::new(b"STORED\r\n") else {
@@ -91,7 +91,10 @@ pub(crate) fn answers(alloc: Global, config: Config) -> Result<Vec<Sending>> {
     add(&mut answers, To::All, Kind::NewView, announcement)?;
     let vote = vote_frame(alloc, &keyring, &genesis_digest());
     add(&mut answers, To::Replica(ReplicaId(2)), Kind::Vote, vote)?;
-    let reply = reply_frame(alloc, &keyring, ClientId(0), Seq(1), Place(1), &text);
-    add(&mut answers, To::Client(ClientId(0)), Kind::Reply, reply)?;
+    for number in 0..config.clients() {
+        let client = ClientId(number);
+        let reply = reply_frame(alloc, &keyring, client, Seq(1), Place(1), &text);
+        add(&mut answers, To::Client(client), Kind::Reply, reply)?;
+    }
     Ok(answers)
 }

@@ -5,7 +5,8 @@ use crate::workers::seen::Seen;
 use crate::workers::stations::{Station, stations};
 use bytes::Bytes;
 use fabric::{ClientEnd, Ends, Links, Worker};
-use ids::{Config, Fault, ReplicaId};
+use frames_view::Frame;
+use ids::{ClientId, Config, Fault, ReplicaId};
 use locked_replica::Share;
 use marks::{Marks, Watcher};
 use signed_frames::WorkerKeyring;
@@ -24,10 +25,11 @@ use turns::Gate;
 pub(crate) struct Told {
     /// How many steps the replicas made.
     pub(crate) steps: usize,
-    /// How many parcels the links of the replicas still hold.
+    /// How many parcels the links of the replicas still hold, and how many frames came to a client that weren't
+    /// replies to it.
     pub(crate) left: usize,
-    /// How many frames came to client 0, and to no other.
-    pub(crate) replies: usize,
+    /// How many replies to each client came to that client.
+    pub(crate) replies: [usize; 2],
     /// How far a new eye sees that each replica has executed.
     pub(crate) executed: [u64; 4],
 }
@@ -218,21 +220,41 @@ fn close_all(stations: Vec<Station<'_>>, worked: Result<(), Fault>) -> Result<us
     steps
 }
 
-/// How many frames came to a client.
-fn came_to<R: Wait>(rt: &R, end: &ClientEnd) -> usize {
-    let mut came = 0usize;
+/// How many frames came to a client: replies to it, and others.
+#[derive(Clone, Copy)]
+struct Came {
+    replies: usize,
+    others: usize,
+}
+
+/// Whether a frame is a reply to this client.
+fn is_reply_to(config: &Config, client: ClientId, frame: &[u8]) -> bool {
+    match frames_view::read(config, frame) {
+        Ok(Frame::Reply(reply)) => reply.client() == client,
+        _ => false,
+    }
+}
+
+/// What came to a client.
+fn came_to<R: Wait>(rt: &R, config: &Config, client: ClientId, end: &ClientEnd) -> Came {
+    let (mut replies, mut others) = (0usize, 0usize);
     for _ in 0..10_000 {
-        match end.try_recv(rt) {
-            Some(_) => came = came.wrapping_add(1),
-            None => break,
+        let Some(frame) = end.try_recv(rt) else {
+            break;
+        };
+        if is_reply_to(config, client, frame.as_slice()) {
+            replies = replies.wrapping_add(1);
+        } else {
+            others = others.wrapping_add(1);
         }
     }
-    came
+    Came { replies, others }
 }
 
 /// What is left in the links after a run, of which so much was told.
 fn look<R: Wait>(
     rt: &R,
+    config: &Config,
     ends: &Ends,
     run: Result<(usize, [u64; 4]), Fault>,
 ) -> Result<Told, Fault> {
@@ -240,18 +262,20 @@ fn look<R: Wait>(
     let mut told = Told {
         steps,
         left: 0,
-        replies: 0,
+        replies: [0; 2],
         executed,
     };
     for end in &ends.replicas {
         told.left = told.left.wrapping_add(end.waiting(rt));
     }
-    for (number, end) in ends.clients.iter().enumerate() {
-        let came = came_to(rt, end);
-        if number == 0 {
-            told.replies = came;
-        } else {
-            told.left = told.left.wrapping_add(came);
+    for number in 0..config.clients() {
+        let place = usize::from(number);
+        if let Some(end) = ends.clients.get(place) {
+            let came = came_to(rt, config, ClientId(number), end);
+            told.left = told.left.wrapping_add(came.others);
+            if let Some(replies) = told.replies.get_mut(place) {
+                *replies = came.replies;
+            }
         }
     }
     Ok(told)
@@ -319,5 +343,10 @@ pub(crate) fn run<R: Threads + Wait + Clock + Sync, G: Gate + Sync>(
         gate,
         seen,
     };
-    look(rt, &ends, run_at(rt, &stage, replicas, handed, until))
+    look(
+        rt,
+        &config,
+        &ends,
+        run_at(rt, &stage, replicas, handed, until),
+    )
 }

@@ -30,7 +30,7 @@ pub(crate) enum Scene {
     /// One proposal, brought twice to one replica.
     OneVote,
     /// A thousand requests for replica 1, whose stand-in answers one of them with a frame to all, one
-    /// to replica 2, and one to client 0.
+    /// to replica 2, and one to each client.
     EachOnce,
     /// One request for all replicas, which each of them executes.
     OneSet,
@@ -109,7 +109,7 @@ impl Scene {
     }
 
     /// What came of it.
-    fn tell(self, alloc: Global, gate: &Held, seen: &Seen, told: &Told) -> Result<String> {
+    fn tell(self, alloc: Global, gate: &Held<'_>, seen: &Seen, told: &Told) -> Result<String> {
         match self {
             Scene::TwoTurns => tell_turns(alloc, gate, told),
             Scene::TwoCalls => tell_calls(alloc, seen, told),
@@ -126,7 +126,7 @@ impl Scene {
         alloc: Global,
         config: Config,
         hasher: RandomState,
-        gate: &Held,
+        gate: &Held<'_>,
         seen: &Seen,
     ) -> Result<String> {
         let handed = self.handed(alloc, config)?;
@@ -147,16 +147,18 @@ impl Scene {
         let hasher = RandomState::new(rt)?;
         let answers = frames::answers(alloc, config)?;
         let seen = Seen::new(alloc, matches!(self, Scene::TwoCalls), answers)?;
-        let gate = Held::new(matches!(self, Scene::TwoTurns));
+        let gate = Held::new(matches!(self, Scene::TwoTurns), &seen);
         self.play_with(rt, alloc, config, hasher, &gate, &seen)
     }
 }
 
 /// What came of a turn that was held.
-fn tell_turns(alloc: Global, gate: &Held, told: &Told) -> Result<String> {
+fn tell_turns(alloc: Global, gate: &Held<'_>, told: &Told) -> Result<String> {
     Ok(format!(in alloc;
-        "frame 1 waited for frame 2's step: {}; a spoilt frame was entered: {}; steps: {}",
+        "frame 1 waited for frame 2's step: {}; its own was made before: {}; a spoilt frame was entered: {}; \
+        steps: {}",
         gate.has_met(),
+        gate.was_stepped_before(),
         gate.saw_third(),
         told.steps
     )?)
@@ -184,9 +186,10 @@ fn tell_each(alloc: Global, seen: &Seen, told: &Told) -> Result<String> {
     let requested = seen.requested(alloc)?;
     let (announced, voted) = (seen.announced(alloc)?, seen.voted(alloc)?);
     let once = seen.came_once();
+    let [first, second] = told.replies;
     let mut text = format!(in alloc; "of 1000 requests {once} came once; requests{requested}")?;
     write!(text, ", announcements{announced}, votes{voted}")?;
-    write!(text, ", replies {}, others {}", told.replies, told.left)?;
+    write!(text, ", replies {first} {second}, others {}", told.left)?;
     Ok(text)
 }
 

@@ -134,6 +134,14 @@ impl Seen {
         self.meeting.has_met()
     }
 
+    /// Whether what is asked under this number came.
+    pub(crate) fn came(&self, number: usize) -> bool {
+        match self.asked.get(number) {
+            Some(count) => count.load(SeqCst) > 0,
+            None => false,
+        }
+    }
+
     /// How many numbers came once, at whatever replica.
     pub(crate) fn came_once(&self) -> usize {
         self.asked
