@@ -12,7 +12,7 @@ use Rattle.definitions.specs.Replicas.{MemorySupply}
 use Rattle.definitions.specs.Sessions.{Client, Session, Receipt, Submitted, sent_request, not_sent}
 use Rattle.definitions.specs.Sessions.{is_ample, request_frame, submission}
 use Rattle.signed_frames.specs.Clients.{client_of}
-use Rattle.client_accept.specs.Sessions.{Held, IsBegun}
+use Rattle.client_accept.specs.Sessions.{Held, IsSubmittedInto}
 use Rattle.client_service.specs.Links.{Traffic}
 use Rattle.client_service.specs.Calls.{IsSubmittedFor, Asks, IsAsked}
 
@@ -38,7 +38,7 @@ three_stay s sent_state frame n false false false e = absurd cc
 
 three_wait : (s sent_state : Session) (frame : Frame) (old new : Bytes) (a b c : Bool)
     → sent_state.waiting ≡ true
-    → IsBegun (three_tests s (sent_state, sent_request frame) a b c).1 old (Ok tt) new
+    → IsSubmittedInto (three_tests s (sent_state, sent_request frame) a b c).1 old (Ok tt) new
     → (three_tests s (sent_state, sent_request frame) a b c).0.waiting ≡ true
 three_wait s sent_state frame old new true b c waits is = absurd is
 three_wait s sent_state frame old new false true c waits is = absurd is
@@ -55,26 +55,26 @@ refused_stays me m payload s n =
 
 -- where it isn't, the session waits
 submitted_waits : (me : Client) (m : MemorySupply) (payload : Bytes) (s : Session) (old new : Bytes)
-    → IsBegun (submission me m payload s).1 old (Ok tt) new → (submission me m payload s).0.waiting ≡ true
+    → IsSubmittedInto (submission me m payload s).1 old (Ok tt) new → (submission me m payload s).0.waiting ≡ true
 unfolding submission
 submitted_waits me m payload s old new =
     three_wait s (record { used = suc s.used; waiting = true; tally = [] })
     (request_frame me (suc s.used) payload) old new s.waiting (s.used == (2 ^ 64 - 1)) (not (is_ample m)) refl
 
 -- what a submission's answer says of it
-sent_by : (p : Session × Submitted) (old new : Bytes) → IsBegun p.1 old (Ok tt) new
+sent_by : (p : Session × Submitted) (old new : Bytes) → IsSubmittedInto p.1 old (Ok tt) new
     → (frame : Frame) × (p ≡ (p.0, sent_request frame)) × (new ≡ spelling frame)
 sent_by (s, sent_request frame) old new is = (frame, refl, is)
 sent_by (s, not_sent n) old new is = absurd is
 
-not_sent_by : (p : Session × Submitted) (n : Fault) (old new : Bytes) → IsBegun p.1 old (Err n) new
+not_sent_by : (p : Session × Submitted) (n : Fault) (old new : Bytes) → IsSubmittedInto p.1 old (Err n) new
     → (m : Fault) × (p.1 ≡ not_sent m) × (new ≡ old)
 not_sent_by (s, sent_request frame) n old new is = absurd is
 not_sent_by (s, not_sent m) n old new is = (m, refl, is.1)
 
 pub begun_waits : (old begun : Held) (m : MemorySupply) (payload : Bytes)
     → begun.session ≡ (submission (client_of old.keys) m payload old.session).0
-    → IsBegun (submission (client_of old.keys) m payload old.session).1 old.frame (Ok tt) begun.frame
+    → IsSubmittedInto (submission (client_of old.keys) m payload old.session).1 old.frame (Ok tt) begun.frame
     → begun.session.waiting ≡ true
 begun_waits old begun m payload state answer =
     ap (λ s. s.waiting) state
@@ -83,7 +83,7 @@ begun_waits old begun m payload state answer =
 pub submitted_for : (old begun : Held) (m : MemorySupply) (payload : Bytes) → is_canonical payload ≡ true
     → begun.keys ≡ old.keys
     → begun.session ≡ (submission (client_of old.keys) m payload old.session).0
-    → IsBegun (submission (client_of old.keys) m payload old.session).1 old.frame (Ok tt) begun.frame
+    → IsSubmittedInto (submission (client_of old.keys) m payload old.session).1 old.frame (Ok tt) begun.frame
     → IsSubmittedFor old payload begun
 submitted_for old begun m payload canonical keys state answer =
     let spelt = spells payload canonical in
@@ -106,7 +106,7 @@ asked carries old new begun payload None submitted asks = inr (begun, submitted,
 
 pub not_asked : (old begun : Held) (m : MemorySupply) (payload : Bytes) (n : Fault) → begun.keys ≡ old.keys
     → begun.session ≡ (submission (client_of old.keys) m payload old.session).0
-    → IsBegun (submission (client_of old.keys) m payload old.session).1 old.frame (Err n) begun.frame
+    → IsSubmittedInto (submission (client_of old.keys) m payload old.session).1 old.frame (Err n) begun.frame
     → begun ≡ old
 not_asked old begun m payload n keys state answer =
     let refused = not_sent_by (submission (client_of old.keys) m payload old.session) n old.frame begun.frame
