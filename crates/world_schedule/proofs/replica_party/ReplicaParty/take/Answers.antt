@@ -10,5 +10,5 @@ pub returns-in-Err-clause-taken : goal.returns-in-Err-clause-taken
 returns-in-Err-clause-taken c =
     let r = c.args.self.now in
     subst (λ (k : Keys). Answers (identity_of k) c.args.bytes.now r.replica r.replica (Err c.in-Err.fault))
-    (c.self.invariant ∙ ap (λ (h : Held). h.keys) c.self.view_is)
+    (c.verifying.ensures ∙ (c.self.invariant ∙ ap (λ (h : Held). h.keys) c.self.view_is))
     (refused-answers _ _ _ _ _ c.in-Err.ensures.admitted refl)
