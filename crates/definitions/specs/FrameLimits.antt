@@ -3,7 +3,7 @@ use Rattle.std.specs.Prelude.{◌≡◌, ◌*◌, ◌^◌, ◌<◌, ◌≤◌, �
 use Rattle.std.specs.List.{AllByRecursion}
 use Rattle.ids.specs.Sizes.{Sizes, replicas, quorum}
 use Rattle.ids.specs.declared.limits.TheConstants.{MOST_COMMANDS, MOST_PAYLOAD, MOST_TEXT}
-use Rattle.ids.specs.declared.limits.TheConstants.{MOST_FAULTS_OF_ONE}
+use Rattle.ids.specs.declared.limits.TheConstants.{MOST_FAULTS_OF_VERSION_ONE}
 use Rattle.definitions.specs.Bytes.{Bytes}
 use Rattle.definitions.specs.Tags.{tag_len}
 use Rattle.definitions.specs.Frames.{Command, Core, Vote, Certificate, Frame, request, proposal, vote}
@@ -88,7 +88,7 @@ IsWritten sizes frame = IsFrame sizes frame × CarriesCut sizes frame
 -- faulty replicas
 abbrev pub Spells : Sizes → Bytes → Frame → Type 0
 Spells sizes bytes frame = IsFrame sizes frame
-    × (((sizes.faults ≤ MOST_FAULTS_OF_ONE) × (bytes ≡ old_spelling frame))
+    × (((sizes.faults ≤ MOST_FAULTS_OF_VERSION_ONE) × (bytes ≡ old_spelling frame))
     ⊎ (CarriesCut sizes frame × (bytes ≡ spelling frame)))
 
 -- what the bytes are read as: the frame that they spell, or none where they spell none

@@ -16,7 +16,6 @@ pub use begun::{
     begin_block, begin_fetch, begin_new_view, begin_proposal, begin_reply, begin_request,
     begin_vote,
 };
-pub use big_endian::{in_eight, in_four, in_two};
 pub use bounded::{Bounded, Payload, ReplyText};
 pub use frames::{
     write_block, write_fetch, write_new_view, write_proposal, write_reply_frame,

@@ -18,7 +18,7 @@ use Rattle.definitions.specs.Bytes.{Bytes}
 use Rattle.definitions.specs.Frames.{Command, Core, Vote, Certificate, Frame, request, proposal, vote}
 use Rattle.definitions.specs.Frames.{new_view, reply, fetch, block, kind_of, old_spelling, spelling, is_marked}
 use Rattle.definitions.specs.FrameLimits.{IsFrame, IsCut, CarriesCut, Spells, IsReadAs}
-use Rattle.ids.specs.declared.limits.TheConstants.{VERSION_TWO, MOST_FAULTS_OF_ONE}
+use Rattle.ids.specs.declared.limits.TheConstants.{VERSION_TWO, MOST_FAULTS_OF_VERSION_ONE}
 use Rattle.frames_view.specs.Readings.{Reader, number, made}
 use Rattle.frames_view.specs.Parts.{proposal_in, vote_frame_in, new_view_in, reply_in, fetch_in, block_in}
 use Rattle.frames_view.specs.Parts.{command_in, kind_in, old_frame_in, new_frame_in, frame_in, is_cut}
@@ -312,7 +312,7 @@ module _ (sizes : Sizes) (are : AreFew sizes) where
   frame_found bytes f fits e =
       elim (cases_Bool (is_marked bytes)) [
         | inl m ↦ new_frame_found bytes f fits m (sym (cond-true _ _ _ m) ∙ e)
-        | inr m ↦ (let t = guard_true (nat_le sizes.faults MOST_FAULTS_OF_ONE) (old_frame_in sizes bytes) f
+        | inr m ↦ (let t = guard_true (nat_le sizes.faults MOST_FAULTS_OF_VERSION_ONE) (old_frame_in sizes bytes) f
             (sym (cond-false _ _ _ m) ∙ e) in
             let h = old_frame_found bytes f fits t.1 in (h.0, inl (leb-true _ _ t.0, h.1)))
       ]

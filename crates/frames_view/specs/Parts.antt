@@ -1,6 +1,6 @@
 -- How each part of a frame is read, where there are n replicas and so many clients.
 use Rattle.ids.specs.declared.limits.TheConstants.{MOST_COMMANDS, MOST_PAYLOAD, MOST_TEXT}
-use Rattle.ids.specs.declared.limits.TheConstants.{MOST_FAULTS_OF_ONE}
+use Rattle.ids.specs.declared.limits.TheConstants.{MOST_FAULTS_OF_VERSION_ONE}
 use Rattle.std.specs.Prelude.{ℕ, ◌*◌, Bool, true, List, length, drop, Option, Some, None, nat_lt, nat_le}
 use Rattle.std.specs.Prelude.{◌==◌, ◌&&◌, ◌||◌, if◌then◌else◌}
 use Rattle.std.specs.Option.{option_and_then}
@@ -150,4 +150,4 @@ unfoldable pub frame_in : Sizes → Bytes → Option Frame
 frame_in sizes bytes =
     if is_marked bytes
     then new_frame_in sizes (drop 1 bytes)
-    else (if nat_le sizes.faults MOST_FAULTS_OF_ONE then old_frame_in sizes bytes else None)
+    else (if nat_le sizes.faults MOST_FAULTS_OF_VERSION_ONE then old_frame_in sizes bytes else None)

@@ -18,7 +18,7 @@ use crate::new_view::take_new_view;
 use crate::proposal::take_proposal;
 use crate::reply::take_reply;
 use crate::vote_frame::take_vote_frame;
-use ids::{Config, Kind, MOST_FAULTS_OF_ONE, NotAFrame, VERSION_TWO};
+use ids::{Config, Kind, MOST_FAULTS_OF_VERSION_ONE, NotAFrame, VERSION_TWO};
 
 impl Frame<'_> {
     /// What kind of frame it is.
@@ -131,7 +131,7 @@ fn whole_frame<'a>(config: &Config, bytes: &'a [u8]) -> Option<Frame<'a>>
     if is_marked(bytes) {
         return new_frame(config, from(bytes, 1));
     }
-    if config.faults() > MOST_FAULTS_OF_ONE {
+    if config.faults() > MOST_FAULTS_OF_VERSION_ONE {
         return None;
     }
     old_frame(config, bytes)
@@ -152,7 +152,7 @@ pub fn version(bytes: &[u8]) -> Option<u8>
 }
 
 /// The frame that the bytes are, where they are one: of version 2, or, with at most
-/// `MOST_FAULTS_OF_ONE` faulty replicas, of version 1.
+/// `MOST_FAULTS_OF_VERSION_ONE` faulty replicas, of version 1.
 pub fn read<'a>(config: &Config, bytes: &'a [u8]) -> Result<Frame<'a>, NotAFrame>
     // It is the frame that the bytes spell, and where there is none they spell none.
     ensures value { IsReadAs config.now bytes.now (option_map frame_of (result_ok result)) }

@@ -50,4 +50,4 @@ pub const VERSION_TWO: u8 = 130;
 pub const HEAD_LEN: usize = 2;
 
 /// The most faulty replicas with which frames of version 1 are read.
-pub const MOST_FAULTS_OF_ONE: u8 = 4;
+pub const MOST_FAULTS_OF_VERSION_ONE: u8 = 4;

@@ -1,4 +1,4 @@
-ghost use Rattle.std.specs.Prelude.{◌≡◌, ◌+◌};
+ghost use Rattle.std.specs.Prelude.{◌≡◌, ◌+◌, ◌<◌, MatchOption};
 ghost use Rattle.ids.specs.Sizes.{client_party};
 
 use std::fmt;
@@ -58,6 +58,18 @@ impl Model for PartyId {
     ghost inverse = { λ n. record { 0 = n } };
 }
 
+/// The party of the first client. Those before it are for replicas.
+const FIRST_CLIENT: u16 = 256;
+
+impl PartyId {
+    /// The number of the client that it is. None where it is a replica.
+    pub fn client(self) -> Option<u16>
+        ensures { MatchOption result (self < client_party 0) (λ client. self ≡ client_party client) }
+    {
+        self.0.checked_sub(FIRST_CLIENT)
+    }
+}
+
 impl From<ReplicaId> for PartyId {
     ghost from_gives = { λ replica party. party ≡ replica };
 
@@ -70,16 +82,15 @@ impl From<ClientId> for PartyId {
     ghost from_gives = { λ client party. party ≡ client_party client };
 
     fn from(client: ClientId) -> PartyId {
-        PartyId(256 + u16::from(client.0))
+        PartyId(FIRST_CLIENT + u16::from(client.0))
     }
 }
 
 impl fmt::Display for PartyId {
     fn fmt<W: fmt::Write>(&self, f: &mut fmt::Formatter<W>) -> fmt::Result {
-        if self.0 < 256 {
-            write!(f, "r{}", self.0)
-        } else {
-            write!(f, "c{}", self.0 - 256)
+        match self.client() {
+            None => write!(f, "r{}", self.0),
+            Some(client) => write!(f, "c{client}"),
         }
     }
 }

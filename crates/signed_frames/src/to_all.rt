@@ -77,7 +77,7 @@ fn client_of(keyring: &Keyring) -> ClientId
     ensures { result ≡ client_at keyring.now.party }
 {
     let _most = keyring.config().clients();
-    ClientId((keyring.party().0 - 256) as u8)
+    ClientId(keyring.party().client().unwrap() as u8)
 }
 
 /// A client's request of this number: the payload is the canonical text of a request of the cache.

@@ -1,9 +1,9 @@
 //! The parties of a run.
 
-ghost use Rattle.std.specs.Prelude.{◌≡◌, ◌<◌, ◌≤◌, ℕ, [], ◌∷◌, ◌++◌, None, length, map, IsTrue, IfOk, OnOk};
+ghost use Rattle.std.specs.Prelude.{◌≡◌, ◌<◌, ℕ, [], ◌∷◌, ◌++◌, None, length, map, IsTrue, IfOk, OnOk};
 ghost use Rattle.std.specs.Prelude.{OnErr};
 ghost use Rattle.ids.specs.Sizes.{client_party, replicas};
-ghost use Rattle.definitions.specs.Keyrings.{is_party_of, client_at};
+ghost use Rattle.definitions.specs.Keyrings.{is_party_of};
 ghost use Rattle.definitions.specs.Canonical.{is_canonical};
 ghost use Rattle.definitions.specs.Rulings.{timeout_in, beat_in, prune_in};
 ghost use Rattle.definitions.specs.Worlds as worlds;
@@ -18,7 +18,7 @@ use crate::effect::Effect;
 use crate::event::Event;
 use crate::outcome::{History, SentFrame};
 use crate::replica_party::ReplicaParty;
-use crate::world::{World, client_at};
+use crate::world::World;
 use crate::{client, replica_turn};
 use client_accept::Session;
 use ids::{ClientId, Fault, Height, PartyId, ReplicaId};
@@ -133,8 +133,7 @@ impl Parties {
     /// Brings bytes to a client, which is the party of this number.
     fn bring_to_client(&mut self, world: &World, to: PartyId, client: u16, bytes: &[u8]) -> Effect
         requires seated { AreSeated world.now self.old.replicas.items self.old.sessions.items }
-        requires client { client_party 0 ≤ to }
-        requires number { client ≡ client_at to }
+        requires number { to ≡ client_party client }
         requires party { client < world.now.sizes.clients }
         ensures { (w : worlds.World) → AreOf world.now self.old.replicas.items self.old.sessions.items w
             → Brings world.now w to bytes.now self.new.replicas.items self.new.sessions.items result }
@@ -154,7 +153,7 @@ impl Parties {
         ensures memory { OnErr result (result ≡ Err Fault.Memory) }
     {
         world.holds();
-        match client_at(to) {
+        match to.client() {
             None => self.bring_to_replica(world, to, bytes),
             Some(client) => Ok(self.bring_to_client(world, to, client, bytes)),
         }

@@ -1,17 +1,17 @@
 //! A world: its sizes, its faulty parties, and the keys of all.
 
-ghost use Rattle.std.specs.Prelude.{◌≡◌, ◌<◌, ◌≤◌, ◌==◌, map, IsTrue, IsOk, IfOk, IfErr, OnErr, MatchResult};
-ghost use Rattle.std.specs.Prelude.{MatchOption, None, Some};
+ghost use Rattle.std.specs.Prelude.{◌≡◌, ◌==◌, map, IsTrue, IsOk, IfOk, IfErr, OnErr, MatchResult};
+ghost use Rattle.std.specs.Prelude.{None, Some};
 ghost use Rattle.std.specs.List.{list_all, list_any};
-ghost use Rattle.ids.specs.Sizes.{IsRoom, client_party, replicas};
+ghost use Rattle.ids.specs.Sizes.{IsRoom, replicas};
 ghost use Rattle.definitions.specs.Lists.{count_below};
-ghost use Rattle.definitions.specs.Keyrings.{client_at, is_party_of, keyring_of};
+ghost use Rattle.definitions.specs.Keyrings.{is_party_of, keyring_of};
 ghost use Rattle.world_schedule.specs.Seats.{HasKeysOf};
 ghost use Rattle.world_schedule.specs.Settings.{AreKeyrings, Holds, IsKeyringOf, is_faulty_in, is_named};
 ghost use Rattle.world_schedule.specs.Settings.{HasNoWorld, why_not, with_room};
 
 use authenticators::Keyring;
-use ids::{ClientId, Config, Fault, PartyId};
+use ids::{Config, Fault, PartyId};
 use std::alloc::Global;
 use std::hash::RandomState;
 use std::marker::Model;
@@ -38,22 +38,13 @@ impl Model for World {
         (record { sizes = w.config; faulty = w.faulty.items; keyrings = w.keyrings.items }) };
 }
 
-/// The number of the client that a party would be. None where it would be a replica.
-pub(crate) fn client_at(party: PartyId) -> Option<u16>
-    ensures { MatchOption result (party < client_party 0)
-        (λ client. (client_party 0 ≤ party) × (client ≡ client_at party)) }
-{
-    let first = PartyId::from(ClientId(0));
-    party.0.checked_sub(first.0)
-}
-
 /// Whether there is such a party.
 pub(crate) fn has_party(config: &Config, party: PartyId) -> bool
     ensures { result ≡ is_party_of config.now party }
 {
     let replicas = u16::from(config.n());
     let clients = u16::from(config.clients());
-    match client_at(party) {
+    match party.client() {
         None => party.0 < replicas,
         Some(client) => client < clients,
     }
@@ -194,7 +185,7 @@ impl World {
         requires { IsTrue (is_party_of self.now.sizes party) }
         ensures { HasKeysOf self.now party result.now }
     {
-        let place = match client_at(party) {
+        let place = match party.client() {
             None => usize::from(party.0),
             Some(client) => usize::from(self.config.n()) + usize::from(client),
         };

@@ -3,5 +3,6 @@ use Rattle.world_schedule.proofs.Seated.{hears-at}
 use Rattle.world_schedule.proofs.parties.Parties.bring_to_client.Goals as goal
 
 pub returns : goal.returns
-returns c = hears-at _ _ _ _ _ _ _ _ _ (omega arith) c.holds.ensures.sizes_are c.requires.client
-    (omega (arith, c.requires.number, c.requires.party)) c.index_mut-session.ensures.value c.receive.ensures
+returns c = hears-at _ _ _ _ _ _ _ _ _ (omega (arith, c.requires.number)) c.holds.ensures.sizes_are
+    (omega (arith, c.requires.number)) (omega (arith, c.requires.number, c.requires.party))
+    c.index_mut-session.ensures.value c.receive.ensures
