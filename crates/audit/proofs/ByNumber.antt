@@ -1,11 +1,10 @@
 -- Judged replicas by their numbers.
 use Rattle.std.proofs.Common.{ℕ, zero, suc, ◌≡◌, ◌<◌, length, get_or, arith, Bool, true, false, cond, List}
-use Rattle.std.proofs.Common.{[], ◌∷◌, refl, sym, ap, subst, ◌∙◌, inl, inr}
+use Rattle.std.proofs.Common.{[], ◌∷◌, refl, sym, ap, ◌∙◌, inl, inr}
 use Rattle.std.proofs.Common.{Option, None, Some, find}
 use Rattle.std.specs.Prelude.{All, MatchOption, ◌==◌}
 use Rattle.std.specs.Borrow.{Bor}
 use Rattle.std.proofs.lemmas.Bool.{cond-true, cond-false, or_left, or_right}
-use Rattle.std.proofs.lemmas.List.Elements.{All-head, All-tail}
 use Rattle.definitions.specs.Lists.{Among}
 use Rattle.definitions.specs.Audit.{Member, is_judged, chronicle_of}
 use Rattle.definitions.proofs.Lists.{Among-map, Among-mapped}
@@ -35,12 +34,6 @@ pub found : (rs : List (Bor Held)) (n : ℕ) → IsFound rs n (find (λ r. r.now
 unfolding is_judged
 found [] n = refl
 found (x ∷ rest) n = found-step x rest n (x.now.keys.party == n) refl (found rest n)
-
--- what holds of each element holds of any
-pub all-among : {A : Type 0} (P : A → Type 0) (xs : List A) → All P xs → (x : A) → Among x xs → P x
-all-among P [] a x m = absurd m
-all-among {A} P (y ∷ ys) a x (inl e) = subst P (sym e) (All-head P y ys a)
-all-among P (y ∷ ys) a x (inr m) = all-among P ys (All-tail P y ys a) x m
 
 -- a judged number is that of one of the replicas, whose chronicle is that of the number
 pub by-number : (rs : List (Bor Held)) (u : ℕ) → is_judged (judged rs) u ≡ true

@@ -16,7 +16,7 @@ use Rattle.audit_ground.proofs.Members.{chronicle-own}
 use Rattle.replica.specs.Steps.{Held}
 use Rattle.audit.specs.Judged.{member_of, judged}
 use Rattle.audit.specs.Cores.{Stores, Collide}
-use Rattle.audit.proofs.ByNumber.{all-among}
+use Rattle.audit.proofs.Lists.{each-holds}
 
 -- a stored core is that of the newest step, or of an earlier one
 stores-either : (s : Step) (earlier : Chronicle) (b : Core) → Stores (s ∷ earlier) b
@@ -96,7 +96,7 @@ none-known rs a g h b k c =
     elim (known-either rs b k) [
       | inl e ↦ g (subst (Collide a) e c)
       | inr r ↦
-          all-among (λ (x : Bor Held). (d : Core) → Stores x.now.replica.chronicle d → Collide a d → ⊥)
+          each-holds (λ (x : Bor Held). (d : Core) → Stores x.now.replica.chronicle d → Collide a d → ⊥)
           rs h r.0 r.1 b r.2 c
     ]
 
@@ -111,7 +111,7 @@ none-collide rs g h a b ka kb e =
       | inr n ↦ absurd (elim (known-either rs a ka) [
         | inl is ↦ g b kb (subst (λ (c : Core). Collide c b) is (n, e))
         | inr r ↦
-            all-among (λ (x : Bor Held). (c d : Core) → Stores x.now.replica.chronicle c
+            each-holds (λ (x : Bor Held). (c d : Core) → Stores x.now.replica.chronicle c
             → KnownTo (judged rs) d → Collide c d → ⊥) rs h r.0 r.1 a b r.2 kb (n, e)
       ])
     ]

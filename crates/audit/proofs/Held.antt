@@ -10,15 +10,15 @@ use Rattle.definitions.proofs.Lists.{Among-map, AllByRecursion-from}
 use Rattle.audit_ground.specs.Law.{AreJudged, IsLawfullyKept, numbers}
 use Rattle.replica.specs.Steps.{Held}
 use Rattle.audit.specs.Judged.{member_of, judged, AreEnough, IsHeld}
-use Rattle.audit.proofs.ByNumber.{all-among}
+use Rattle.audit.proofs.Lists.{each-holds}
 
 -- each is held at the sizes of all
 held : (rs : List (Bor Held)) (sizes : Sizes) → All (λ r. r.now.keys.sizes ≡ sizes) rs
     → All (λ r. IsHeld r.now) rs → (r : Bor Held) → Among r rs
     → (r.now.keys.party < replicas sizes) × IsLawfullyKept sizes r.now.replica.chronicle
 held rs sizes same h r m =
-    let e = all-among (λ (x : Bor Held). x.now.keys.sizes ≡ sizes) rs same r m in
-    let k = all-among (λ (x : Bor Held). IsHeld x.now) rs h r m in (
+    let e = each-holds (λ (x : Bor Held). x.now.keys.sizes ≡ sizes) rs same r m in
+    let k = each-holds (λ (x : Bor Held). IsHeld x.now) rs h r m in (
       subst (λ (s : Sizes). r.now.keys.party < replicas s) e k.0,
       subst (λ (s : Sizes). IsLawfullyKept s r.now.replica.chronicle) e k.1,
     )

@@ -18,7 +18,8 @@ use Rattle.audit_ground.proofs.Fronts.{behind-not_backed, unbacked-votes_are_see
 use Rattle.replica.specs.Steps.{Held}
 use Rattle.audit.specs.Judged.{judged}
 use Rattle.audit.specs.Fronts.{vote_stands}
-use Rattle.audit.proofs.ByNumber.{all-among, by-number}
+use Rattle.audit.proofs.ByNumber.{by-number}
+use Rattle.audit.proofs.Lists.{each-holds}
 use Rattle.audit.proofs.Moves.{no-steps}
 
 -- a step behind a front isn't backed
@@ -44,7 +45,7 @@ none-unbacked rs k f h u v d =
       | inl t ↦
           let r = by-number rs u t in
           subst (λ (i : ℕ). step_after (k i) (chronicle_of (judged rs) i) ≡ None) r.2
-          (all-among (λ (x : Bor Held).
+          (each-holds (λ (x : Bor Held).
           step_after (k x.now.keys.party) (chronicle_of (judged rs) x.now.keys.party) ≡ None) rs h r.0 r.1)
       | inr n ↦ no-steps (judged rs) (k u) u n
     ])

@@ -18,7 +18,8 @@ use Rattle.audit_ground.proofs.Fronts.{moving-finds_the_fronts, is_backed_if, ma
 use Rattle.replica.specs.Steps.{Held}
 use Rattle.audit.specs.Judged.{judged}
 use Rattle.audit.specs.Fronts.{cut_of}
-use Rattle.audit.proofs.ByNumber.{all-among, by-number}
+use Rattle.audit.proofs.ByNumber.{by-number}
+use Rattle.audit.proofs.Lists.{each-holds}
 
 -- who isn't judged has no steps
 pub no-steps : (ks : Judged) (k u : ℕ) → is_judged ks u ≡ false → step_after k (chronicle_of ks u) ≡ None
@@ -35,7 +36,7 @@ none-moves rs k h u =
       | inl t ↦
           let r = by-number rs u t in
           subst (λ (v : ℕ). may_move (judged rs) k v ≡ false) r.2
-          (all-among (λ (x : Bor Held). may_move (judged rs) k x.now.keys.party ≡ false) rs h r.0 r.1)
+          (each-holds (λ (x : Bor Held). may_move (judged rs) k x.now.keys.party ≡ false) rs h r.0 r.1)
       | inr f ↦
           may_move-is (judged rs) k u ∙ ap (is_backed_if (judged rs) k) (no-steps (judged rs) (k u) u f)
     ]

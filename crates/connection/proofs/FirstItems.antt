@@ -1,22 +1,14 @@
 -- The exchanges of a text are of its first items.
-use Rattle.std.proofs.Common.{◌≡◌, ℕ, List, [], ◌∷◌, ◌++◌, map, drop, Some, None, refl, sym, ap, subst, ◌∙◌}
-use Rattle.std.specs.Prelude.{◌≢◌, MatchBool}
+use Rattle.std.proofs.Common.{◌≡◌, ℕ, List, [], ◌∷◌, ◌++◌, map, drop, Some, None, refl, sym, ap, ◌∙◌}
+use Rattle.std.specs.Prelude.{◌≢◌}
 use Rattle.ids.specs.declared.line_fault.LineFault.TheVariants.{UnknownName, BadFields, TooLarge, BadChunk}
 use Rattle.ids.specs.declared.line_fault.LineFault.TheVariants.{LineTooLong}
 use Rattle.definitions.specs.Bytes.{Bytes}
-use Rattle.definitions.specs.Items.{Item, asked, quit, bad, goes_on, AreItems}
+use Rattle.definitions.specs.Items.{Item, asked, quit, bad, AreItems}
 use Rattle.definitions.specs.ServerText.{Exchange, answered, finished, told, item_in, AreExchanges}
-use Rattle.definitions.proofs.ItemLaws.{IsItemAt-unique, IsUnfinished-no_item}
+use Rattle.definitions.proofs.ItemLaws.{IsItemAt-unique, IsUnfinished-no_item, same_behind}
 use Rattle.connection.specs.declared.end.End.TheVariants.{NoReply}
 use Rattle.connection.specs.Serving.{end_of, ended_by}
-
--- what stands behind the one item stands behind the other
-moved : (text : Bytes) (x y : Item) (m n : ℕ) (ys : List Item) → (x ≡ y) × (m ≡ n)
-    → MatchBool (goes_on y) (AreItems (drop n text) ys) (ys ≡ [])
-    → MatchBool (goes_on x) (AreItems (drop m text) ys) (ys ≡ [])
-moved text x y m n ys same h =
-    subst (λ (i : Item). MatchBool (goes_on i) (AreItems (drop m text) ys) (ys ≡ [])) (sym same.0)
-    (subst (λ (k : ℕ). MatchBool (goes_on y) (AreItems (drop k text) ys) (ys ≡ [])) (sym same.1) h)
 
 -- so many items are left, and none unless the service refused
 abbrev pub Behind : List Exchange → List Item → Type 0
@@ -65,30 +57,30 @@ first_items text (x ∷ xs) [] a is = absurd (IsUnfinished-no_item text (item_in
 first_items text (answered r n (Some t) ∷ xs) (y ∷ ys) a is =
     let same = IsItemAt-unique text (asked r n) y a.0 is.0 a.1 is.1 in
     with_first (answered r n (Some t)) xs y ys same.0 refl
-    (first_items (drop a.0 text) xs ys a.2 (moved text (asked r n) y a.0 is.0 ys same is.2))
+    (first_items (drop a.0 text) xs ys a.2 (same_behind text (asked r n) y a.0 is.0 ys same is.2))
 first_items text (told UnknownName ∷ xs) (y ∷ ys) a is =
     let same = IsItemAt-unique text (bad UnknownName) y a.0 is.0 a.1 is.1 in
     with_first (told UnknownName) xs y ys same.0 refl
-    (first_items (drop a.0 text) xs ys a.2 (moved text (bad UnknownName) y a.0 is.0 ys same is.2))
+    (first_items (drop a.0 text) xs ys a.2 (same_behind text (bad UnknownName) y a.0 is.0 ys same is.2))
 first_items text (answered r n None ∷ xs) (y ∷ ys) a is =
     as_refused (answered r n None) xs y ys (IsItemAt-unique text (asked r n) y a.0 is.0 a.1 is.1).0 a.2 refl
 first_items text (finished ∷ xs) (y ∷ ys) a is =
     let same =
     IsItemAt-unique text quit y a.0 is.0 a.1 is.1 in
-    as_last finished xs y ys same.0 a.2 (moved text quit y a.0 is.0 ys same is.2)
+    as_last finished xs y ys same.0 a.2 (same_behind text quit y a.0 is.0 ys same is.2)
 first_items text (told BadFields ∷ xs) (y ∷ ys) a is =
     let same =
     IsItemAt-unique text (bad BadFields) y a.0 is.0 a.1 is.1 in
-    as_last (told BadFields) xs y ys same.0 a.2 (moved text (bad BadFields) y a.0 is.0 ys same is.2)
+    as_last (told BadFields) xs y ys same.0 a.2 (same_behind text (bad BadFields) y a.0 is.0 ys same is.2)
 first_items text (told TooLarge ∷ xs) (y ∷ ys) a is =
     let same =
     IsItemAt-unique text (bad TooLarge) y a.0 is.0 a.1 is.1 in
-    as_last (told TooLarge) xs y ys same.0 a.2 (moved text (bad TooLarge) y a.0 is.0 ys same is.2)
+    as_last (told TooLarge) xs y ys same.0 a.2 (same_behind text (bad TooLarge) y a.0 is.0 ys same is.2)
 first_items text (told BadChunk ∷ xs) (y ∷ ys) a is =
     let same =
     IsItemAt-unique text (bad BadChunk) y a.0 is.0 a.1 is.1 in
-    as_last (told BadChunk) xs y ys same.0 a.2 (moved text (bad BadChunk) y a.0 is.0 ys same is.2)
+    as_last (told BadChunk) xs y ys same.0 a.2 (same_behind text (bad BadChunk) y a.0 is.0 ys same is.2)
 first_items text (told LineTooLong ∷ xs) (y ∷ ys) a is =
     let same =
     IsItemAt-unique text (bad LineTooLong) y a.0 is.0 a.1 is.1 in
-    as_last (told LineTooLong) xs y ys same.0 a.2 (moved text (bad LineTooLong) y a.0 is.0 ys same is.2)
+    as_last (told LineTooLong) xs y ys same.0 a.2 (same_behind text (bad LineTooLong) y a.0 is.0 ys same is.2)

@@ -54,7 +54,7 @@ filter-all {A} p (x ∷ xs) h =
 -- ---- votes by number of voter
 
 -- one more
-length-insert_vote : (b : Vote) (xs : List Vote) → length (insert_vote b xs) ≡ suc (length xs)
+pub length-insert_vote : (b : Vote) (xs : List Vote) → length (insert_vote b xs) ≡ suc (length xs)
 unfolding insert_vote
 length-insert_vote b [] = refl
 length-insert_vote b (x ∷ xs) =
@@ -69,7 +69,7 @@ length-by_voter [] = refl
 length-by_voter (b ∷ bs) = length-insert_vote b (by_voter bs) ∙ ap suc (length-by_voter bs)
 
 -- what holds of each, and of the one that is put in
-all-insert_vote : (P : Vote → Type 0) (b : Vote) (xs : List Vote) → P b → AllByRecursion P xs
+pub all-insert_vote : (P : Vote → Type 0) (b : Vote) (xs : List Vote) → P b → AllByRecursion P xs
     → AllByRecursion P (insert_vote b xs)
 unfolding insert_vote
 all-insert_vote P b [] hb h = (hb, tt)

@@ -803,7 +803,7 @@ match_both true A B C D P p q f g = p f g
 match_both false A B C D P p q f g = q f g
 
 -- what goes on behind the same item
-same_behind : (text : Bytes) (x y : Item) (m n : ℕ) (ys : List Item) → (x ≡ y) × (m ≡ n)
+pub same_behind : (text : Bytes) (x y : Item) (m n : ℕ) (ys : List Item) → (x ≡ y) × (m ≡ n)
     → MatchBool (goes_on y) (AreItems (drop n text) ys) (ys ≡ [])
     → MatchBool (goes_on x) (AreItems (drop m text) ys) (ys ≡ [])
 same_behind text x y m n ys same behind =

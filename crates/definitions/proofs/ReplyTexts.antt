@@ -211,7 +211,7 @@ store-within cache prepend key flags stored h f l =
     (λ e. stays-within cache reply.too_large h (omega arith)))
 
 -- the number that an entry writes is below 2 ^ 64
-number_in-within : (text : Bytes) (n : ℕ) → number_in text ≡ Some n → n < 2 ^ 64
+pub number_in-within : (text : Bytes) (n : ℕ) → number_in text ≡ Some n → n < 2 ^ 64
 number_in-within text n =
     cond_both (nat_lt (digits_value 10 text) (2 ^ 64) && bytes_eq text (decimal (digits_value 10 text))) _ _
     (λ (o : Option ℕ). o ≡ Some n → n < 2 ^ 64)

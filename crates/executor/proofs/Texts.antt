@@ -1,16 +1,16 @@
 -- How long the texts of replies are that come with a change of the cache.
 use Rattle.ids.specs.declared.limits.TheConstants.{MOST_DATA}
-use Rattle.std.proofs.Common.{ℕ, ◌≡◌, ◌⊎◌, ◌≤◌, ◌<◌, ◌+◌, ◌-◌, ◌%◌, ◌^◌, ◌==◌, ◌&&◌, ◌||◌, ◌++◌, [], ◌∷◌}
+use Rattle.std.proofs.Common.{ℕ, ◌≡◌, ◌⊎◌, ◌≤◌, ◌<◌, ◌+◌, ◌-◌, ◌%◌, ◌^◌, ◌==◌, ◌||◌, ◌++◌, [], ◌∷◌}
 use Rattle.std.proofs.Common.{length, length-append, refl, ap, ◌∙◌, arith, Result, Ok, Err, OnErr, OnOk, inl, inr}
-use Rattle.std.proofs.Common.{Option, Some, None, nat_lt, nat_le, bytes_eq, decimal}
+use Rattle.std.proofs.Common.{Option, Some, None, nat_le, decimal}
 use Rattle.std.specs.Option.{option_map_or}
-use Rattle.std.specs.Str.Parse.{digits_value}
 use Rattle.std.proofs.lemmas.Fmt.{length-decimal-le}
-use Rattle.std.proofs.lemmas.Bool.{cond_both, ltb-true, and_parts}
+use Rattle.std.proofs.lemmas.Bool.{cond_both}
 use Rattle.definitions.specs.Bytes.{Bytes}
 use Rattle.definitions.specs.Requests.{Asked, Verb, set, add, replace, append, prepend, store, cas, get}
 use Rattle.definitions.specs.Requests.{gets, delete, incr, decr}
 use Rattle.definitions.specs.Canonical.{request_of}
+use Rattle.definitions.proofs.ReplyTexts.{number_in-within}
 use Rattle.executor.specs.Changing.{IsChanging}
 use Rattle.definitions.specs.Replies.{Reply, reply_text}
 use Rattle.definitions.specs.Replies as reply
@@ -58,18 +58,6 @@ store-short cache prepend key flags stored = present-short cache key reply.not_s
     cond_both (nat_le (length (stored ++ x.stored)) MOST_DATA) _ _ (IsShortOrSame cache)
     (λ e. stored-short cache key x.flags (stored ++ x.stored)) (λ e. inr refl))
 
--- the number that data writes is below 2 ^ 64
-number_in-small : (text : Bytes) (n : ℕ) → number_in text ≡ Some n → n < 2 ^ 64
-number_in-small text n =
-    cond_both (nat_lt (digits_value 10 text) (2 ^ 64) && bytes_eq text (decimal (digits_value 10 text))) _ _
-    (λ (o : Option ℕ). o ≡ Some n → n < 2 ^ 64)
-    (λ t e. (let k : digits_value 10 text ≡ n = cc in
-    let l = ltb-true (digits_value 10 text) (2 ^ 64) (and_parts _ _ t).0 in omega (arith, k, l)))
-    (λ t e. absurd (none e))
-  where
-    none : None ≡ Some n → ⊥
-    none j = cc
-
 -- the reply of a number below 2 ^ 64
 number-short : (n : ℕ) → n < 2 ^ 64 → length (reply_text (reply.number n)) ≤ 22
 number-short n l = let k = length-decimal-le 20 n (omega arith) (omega (arith, l)) l in
@@ -86,7 +74,7 @@ count-short cache key f small =
         (λ n. change cache key e.flags (decimal (f n)) (reply.number (f n))) o (cache, reply.non_numeric))
     by e None i = inr refl
     by e (Some n) i = changed-short cache key e.flags (decimal (f n)) (reply.number (f n))
-        (number-short (f n) (small n (number_in-small e.stored n i)))
+        (number-short (f n) (small n (number_in-within e.stored n i)))
 
 -- what such a request does
 apply-short : (cache : Cache) (r : Asked) → IsChanging r → IsShortOrSame cache (apply cache r)

@@ -75,7 +75,7 @@ code n = Some n
 abbrev well : Option Fault
 well = None
 
-not_conflict : (n : Fault) → (n ≡ fault.Conflict → ⊥) → code n ≡ code fault.Conflict → ⊥
+pub not_conflict : (n : Fault) → (n ≡ fault.Conflict → ⊥) → code n ≡ code fault.Conflict → ⊥
 not_conflict n h e = let b : n ≡ fault.Conflict = cc in h b
 
 no_frame-apart : code fault.NotAFrame ≡ code fault.Conflict → ⊥

@@ -20,7 +20,7 @@ use Rattle.linear_law.proofs.Sends.{Sends.its_block, Sends.its_proposal, sends}
 use Rattle.linear_law.proofs.Rows.{IsRow, same-row, put_row, put_row-both, StepMayFollow, row-grows}
 use Rattle.linear_law.proofs.Effects.{is_member, ComesFramed, Arises, Brings, Effects, Effects.idle}
 use Rattle.linear_law.proofs.Effects.{Effects.step_by, Effects.hearing, Effects.submitting, admits-good}
-use Rattle.linear_law.proofs.Effects.{effects}
+use Rattle.linear_law.proofs.Effects.{effects, not_conflict}
 use Rattle.definitions.specs.Lists.{Among, count_below}
 use Rattle.definitions.specs.Frames.{Core, Vote, Certificate, Frame, genesis_core, reply_content}
 use Rattle.definitions.specs.Branches.{Branch, just3, Conflict}
@@ -289,10 +289,6 @@ lacks-stand self m sender d c o =
 code : Fault → Option Fault
 code n = Some n
 
-mild-number : (n : Fault) → (n ≡ fault.Conflict → ⊥) → code n ≡ code fault.Conflict → ⊥
-unfolding code
-mild-number n h e = let b : n ≡ fault.Conflict = cc in h b
-
 done-mild : (out : List Sending) → answer_of (sends_out out) ≡ code fault.Conflict → ⊥
 unfolding code
 done-mild out e = cc
@@ -311,21 +307,21 @@ module _ (Known : Core → Type 0) (apart : NoCollision Known) (genesis : Known 
         row = row-kept Known w p (w.replica p) row refl;
         grows = λ x k. k;
         out = λ o k. nothing-stands _ o k;
-        mild = mild-number n l;
+        mild = not_conflict n l;
       }
   after-step w p m v r made row me more (refused s n u l) =
       record {
         row = row-kept Known w p _ row refl;
         grows = λ x k. k;
         out = λ o k. nothing-stands _ o k;
-        mild = mild-number n l;
+        mild = not_conflict n l;
       }
   after-step w p m v r made row me more (lacks sender d u) =
       record {
         row = row-kept Known w p _ row refl;
         grows = λ x k. k;
         out = λ o k. lacks-stand (self_of w p) m sender d _ o k;
-        mild = mild-number fault.UnknownParent (λ k. cc);
+        mild = not_conflict fault.UnknownParent (λ k. cc);
       }
   after-step w p m v r made row me more (conflict st u e h) =
       absurd (no-conflict Known w made p st me (more st e) h)
@@ -341,7 +337,7 @@ module _ (Known : Core → Type 0) (apart : NoCollision Known) (genesis : Known 
         row = row-more Known w p _ (more st e);
         grows = λ x k. voted-grows st _ x k;
         out = λ o k. nothing-stands _ o k;
-        mild = mild-number fault.Memory (λ k. cc);
+        mild = not_conflict fault.Memory (λ k. cc);
       }
 
   -- a member's step keeps the row
@@ -391,7 +387,7 @@ heard-mild x = heard_answer x.1 ≡ code fault.Conflict → ⊥
 
 told-mild : (n : Fault) → (n ≡ fault.Conflict → ⊥) → (s : Session) → heard-mild (s, not_counted n)
 unfolding code heard-mild
-told-mild n l s = mild-number n l
+told-mild n l s = not_conflict n l
 
 none-mild : (o : Option Fault) → o ≡ None → o ≡ code fault.Conflict → ⊥
 unfolding code
@@ -441,7 +437,7 @@ record IsSubmission (x : Session × Submitted) : Type 0 where
 
 not_sent-is : (n : Fault) → (n ≡ fault.Conflict → ⊥) → (s : Session) → IsSubmission (s, not_sent n)
 unfolding code
-not_sent-is n l s = record { out = λ c o k. absurd k; mild = mild-number n l }
+not_sent-is n l s = record { out = λ c o k. absurd k; mild = not_conflict n l }
 
 submission-is : (me : Client) (m : MemorySupply) (payload : Bytes) (s : Session)
     → IsSubmission (submission me m payload s)

@@ -1,5 +1,5 @@
 -- What is kept of all blocks: one more vote, and fewer.
-use Rattle.std.proofs.Common.{ℕ, suc, ◌≡◌, ◌<◌, Result, Ok, Err, length, arith, Bool, true, false, cond}
+use Rattle.std.proofs.Common.{ℕ, ◌≡◌, ◌<◌, Result, Ok, Err, length, arith, Bool, true, false, cond}
 use Rattle.std.proofs.Common.{Option, Some, None, List, [], ◌∷◌, refl, sym, ap, subst, ◌∙◌, nat_lt}
 use Rattle.std.proofs.Common.{bytes_eq, true≢false}
 use Rattle.std.specs.List.{AllByRecursion, flat_map}
@@ -16,6 +16,7 @@ use Rattle.std.proofs.lemmas.Map.Text.{is_eq-slice_cmp}
 use Rattle.definitions.specs.Bytes.{Bytes}
 use Rattle.definitions.specs.Frames.{Vote, vote_bytes}
 use Rattle.definitions.specs.States.{insert_vote}
+use Rattle.definitions.proofs.Certificates.{all-insert_vote, length-insert_vote}
 use Rattle.definitions.proofs.Trees.{same_bytes}
 use Rattle.vote_collector.specs.Collecting.{Entry, VotesByDigest, votes_in, entry_for, votes_for, judged}
 use Rattle.vote_collector.specs.Collecting.{with_vote}
@@ -304,20 +305,6 @@ module _ (d : Bytes) (kept : VotesByDigest) where
 
 -- ---- votes at these sizes
 
-all-put : (P : Vote → Type 0) (b : Vote) (xs : List Vote) → P b → AllByRecursion P xs
-    → AllByRecursion P (insert_vote b xs)
-unfolding insert_vote
-all-put P b [] hb h = (hb, tt)
-all-put P b (x ∷ xs) hb h =
-    cond_both (nat_lt b.voter x.voter) (b ∷ x ∷ xs) (x ∷ insert_vote b xs)
-    (λ (l : List Vote). AllByRecursion P l) (λ e. (hb, h)) (λ e. (h.0, all-put P b xs hb h.1))
-
-length-put : (b : Vote) (xs : List Vote) → length (insert_vote b xs) ≡ suc (length xs)
-unfolding insert_vote
-length-put b [] = refl
-length-put b (x ∷ xs) = cond_both (nat_lt b.voter x.voter) (b ∷ x ∷ xs) (x ∷ insert_vote b xs)
-    (λ (l : List Vote). length l ≡ suc (length (x ∷ xs))) (λ e. refl) (λ e. ap suc (length-put b xs))
-
 module _ (sizes : Sizes) (kept : VotesByDigest) (all : AreVotesOf sizes kept) where
   abbrev Fit : Bytes × Entry → Type 0
   Fit e = AllByRecursion (IsVote sizes) e.1.votes
@@ -334,7 +321,7 @@ module _ (sizes : Sizes) (kept : VotesByDigest) (all : AreVotesOf sizes kept) wh
   fit-with d height b hb = all-with Fit kept d height b
       (subst (λ (l : List Vote). AllByRecursion (IsVote sizes) l)
       (sym (votes-with height b (entry_for d kept)))
-      (all-put (IsVote sizes) b (votes_for d kept) hb (fit-for d))) all
+      (all-insert_vote (IsVote sizes) b (votes_for d kept) hb (fit-for d))) all
 
   pub fit-above : (height : ℕ) → AreVotesOf sizes (kept_above height kept)
   fit-above height = all-above Fit Fit height (λ e h l. h) kept all
@@ -349,8 +336,8 @@ module _ (sizes : Sizes) (kept : VotesByDigest) (all : AreVotesOf sizes kept) wh
       subst (Says (quorum sizes) b.voter (votes_for d kept)) judgement
       (judged-says (quorum sizes) b.voter (votes_for d kept)) in
       let full = told.1 in
-      let n = length-put b (votes_for d kept) in
-      (all-put (IsVote sizes) b (votes_for d kept) hb (fit-for d), omega (arith, n, full), spelled)
+      let n = length-insert_vote b (votes_for d kept) in
+      (all-insert_vote (IsVote sizes) b (votes_for d kept) hb (fit-for d), omega (arith, n, full), spelled)
 
 -- ---- outcomes
 
