@@ -1,12 +1,13 @@
 -- The laws of the rule.
 use Rattle.std.proofs.Common.{ℕ, ◌+◌, ◌*◌, ◌-◌, ◌^◌, ◌≤◌, ◌==◌, Bool, true, false, not, cond, min}
-use Rattle.std.proofs.Common.{[], ◌∷◌, arith, le_trans, nat_le}
-use Rattle.std.proofs.lemmas.Bool.{and_parts, and_from, cond_both, leb-true, le-leb}
-use Rattle.std.proofs.Math.Nat.{min-le_left}
+use Rattle.std.proofs.Common.{[], ◌∷◌, arith, le_trans, nat_le, ◌≡◌, refl, sym, subst, ◌∙◌}
+use Rattle.std.proofs.lemmas.Bool.{and_parts, and_from, cond_both, cond-true, cond-false, leb-true, leb-false}
+use Rattle.std.proofs.lemmas.Bool.{le-leb, eq-eqb, not_from_true}
+use Rattle.std.proofs.Math.Nat.{min-le_left, min-le_right, min-eq_left, min-eq_right, le-min}
 use Rattle.clock.specs.declared.watch.Pulse.{Pulse}
 use Rattle.clock.specs.declared.watch.Watch.{Watch}
 use Rattle.clock.specs.Watching.{is_due, is_overdue, lags, limit_of, moved, slow_after}
-use Rattle.clock.specs.Laws.{Looks, watched, lagged, IsEarned, IsGiven, IsPatient}
+use Rattle.clock.specs.Laws.{Looks, watched, lagged, lagged_on, IsEarned, IsGiven, IsPatient}
 
 -- three times the time is as much as the count, at most
 slow-most : (w : Watch) (now : ℕ) (p : Pulse) (k : ℕ) → w.slow ≤ 3 * k
@@ -48,8 +49,67 @@ is-earned replicas earlier now p due =
     let l = leb-true (limit_of p.view) (slow_after w now p) parts.1 in
     le_trans l k
 
+-- what a sum comes to, where it stops at the greatest number, is at least the sum so far and what is added
+most-added : (a b s most : ℕ) → min a most ≤ s → min (a + b) most ≤ min (s + min b most) most
+most-added a b s most h =
+    le-min (added (nat_le b most) refl) (min-le_right (a + b) most)
+  where
+    sum-within : min (a + b) most ≤ a + b
+    sum-within = min-le_left (a + b) most
+
+    stops : min (a + b) most ≤ most
+    stops = min-le_right (a + b) most
+
+    small : (t : Bool) → nat_le a most ≡ t → min (a + b) most ≤ s + b
+    small true e =
+        let k = min-eq_left (leb-true a most e) in omega (arith, h, k, sum-within)
+    small false e =
+        let l : most ≤ a = omega (arith, leb-false a most e) in
+        let k = min-eq_right l in omega (arith, h, k, stops)
+
+    added : (t : Bool) → nat_le b most ≡ t → min (a + b) most ≤ s + min b most
+    added true e = let k = min-eq_left (leb-true b most e) in
+        let l = small (nat_le a most) refl in omega (arith, k, l)
+    added false e = let l : most ≤ b = omega (arith, leb-false b most e) in
+        let k = min-eq_right l in omega (arith, k, stops)
+
+-- one look more, by what is found
+on-step : (new due lag : Bool) (slow passed k most : ℕ) → min (3 * k) most ≤ slow
+    → min (3 * cond new 0 (cond due 0 (cond lag (k + passed) 0))) most
+    ≤ cond due 0 (cond new 0 (cond lag (min (slow + min (passed * 3) most) most) (slow - passed)))
+on-step true true lag slow passed k most h = omega arith
+on-step true false lag slow passed k most h = omega arith
+on-step false true lag slow passed k most h = omega arith
+on-step false false true slow passed k most h =
+    let same : 3 * (k + passed) ≡ 3 * k + passed * 3 = omega arith in
+    subst (λ (n : ℕ). min n most ≤ min (slow + min (passed * 3) most) most) (sym same)
+    (most-added (3 * k) (passed * 3) slow most h)
+on-step false false false slow passed k most h = omega arith
+
+-- what is remembered counts three times the time in which it lagged at each look
+slow-on : (replicas : ℕ) (looks : Looks)
+    → min (3 * lagged_on replicas looks) (2 ^ 64 - 1) ≤ (watched replicas looks).slow
+unfolding watched lagged_on
+slow-on replicas [] = omega arith
+slow-on replicas (x ∷ earlier) =
+    let w = watched replicas earlier in
+    on-step (not (x.1.view == w.view)) (is_due w x.0 x.1) (lags w x.0 x.1) w.slow (x.0 - w.looked)
+    (lagged_on replicas earlier) (2 ^ 64 - 1) (slow-on replicas earlier)
+
 pub is-given : IsGiven
-is-given w now p l h = and_from _ _ l (le-leb _ _ h)
+is-given replicas earlier now p same l h =
+    let w = watched replicas earlier in
+    let most = 2 ^ 64 - 1 in
+    let passed = now - w.looked in
+    let seen : slow_after w now p ≡ min (w.slow + min (passed * 3) most) most =
+    cond-false _ _ _ (not_from_true _ (eq-eqb _ _ same)) ∙ cond-true _ _ _ l in
+    let k = most-added (3 * lagged_on replicas earlier) (passed * 3) w.slow most (slow-on replicas earlier) in
+    let least = le-min {b = most} h (min-le_right (min (p.view + 1) most * 1000) most) in
+    let sum : 3 * (lagged_on replicas earlier + passed) ≡ 3 * lagged_on replicas earlier + passed * 3 =
+    omega arith in
+    and_from _ _ l (le-leb _ _
+    (subst (λ (n : ℕ). limit_of p.view ≤ n) (sym seen)
+    (le_trans (subst (λ (n : ℕ). limit_of p.view ≤ min n most) sum least) k)))
 
 pub is-patient : IsPatient
 unfolding watched

@@ -3,7 +3,7 @@ use Rattle.std.specs.Prelude.{◌≡◌, ℕ, ◌+◌, ◌*◌, ◌-◌, ◌≤�
 use Rattle.std.specs.Prelude.{if◌then◌else◌}
 use Rattle.clock.specs.declared.watch.Pulse.{Pulse}
 use Rattle.clock.specs.declared.watch.Watch.{Watch}
-use Rattle.clock.specs.Watching.{is_due, lags, limit_of, looked, slow_after, unseen}
+use Rattle.clock.specs.Watching.{is_due, lags, limit_of, looked, unseen}
 
 -- the looks at one of so many replicas: each at a moment, and what was seen then; the last one first
 abbrev pub Looks : Type 0
@@ -31,10 +31,22 @@ IsEarned = (replicas : ℕ) (earlier : Looks) (now : ℕ) (p : Pulse)
     → is_due (watched replicas earlier) now p ≡ true
     → limit_of p.view ≤ 3 * (lagged replicas earlier + (now - (watched replicas earlier).looked))
 
--- A timeout is due once it lags, and the lagging counts for as much as the limit of its view.
+-- the same, as far back as it lagged at each look
+unfoldable pub lagged_on : ℕ → Looks → ℕ
+lagged_on replicas [] = 0
+lagged_on replicas (x ∷ earlier) =
+    let w = watched replicas earlier in
+    if not (x.1.view == w.view) then 0
+    else if is_due w x.0 x.1 then 0
+    else if lags w x.0 x.1 then lagged_on replicas earlier + (x.0 - w.looked)
+    else 0
+
+-- A timeout is due once the replica has lagged at each look for a third of the limit of its view, this look
+-- included.
 abbrev pub IsGiven : Type 0
-IsGiven = (w : Watch) (now : ℕ) (p : Pulse) → lags w now p ≡ true → limit_of p.view ≤ slow_after w now p
-    → is_due w now p ≡ true
+IsGiven = (replicas : ℕ) (earlier : Looks) (now : ℕ) (p : Pulse)
+    → (let w = watched replicas earlier in p.view ≡ w.view → lags w now p ≡ true
+    → limit_of p.view ≤ 3 * (lagged_on replicas earlier + (now - w.looked)) → is_due w now p ≡ true)
 
 -- A proposal may always wait for 20 milliseconds before there is a beat on top of it.
 abbrev pub IsPatient : Type 0
