@@ -1,12 +1,12 @@
 //! One block of the tree.
 
-ghost use Rattle.std.specs.Prelude.{◌≡◌, IfOk, OnErr};
+ghost use Rattle.std.specs.Prelude.{◌≡◌, IfOk};
 ghost use Rattle.std.specs.Str.{bytes_eq};
 ghost use Rattle.frames_view.specs.Views.{core_of, certificate_of};
 
 use frames_view::{CertificateBuf, CertificateView, CoreBuf, CoreView};
-use ids::{Digest, Fault, Height};
-use std::alloc::Global;
+use ids::{Digest, Height};
+use std::alloc::{AllocError, Global};
 
 /// A block with what came along, as it stands in a tree or is to stand there.
 #[derive(Drop)]
@@ -25,15 +25,14 @@ impl Node {
         core: &CoreView,
         certificate: &CertificateView,
         clear: bool,
-    ) -> Result<Node, Fault>
-        ensures copied { IfOk result (λ n. n
+    ) -> Result<Node, AllocError>
+        ensures { IfOk result (λ n. n
             ≡ record {
               digest = digest;
               core = core_of core.now;
               certificate = certificate_of certificate.now;
               clear = clear;
             }) }
-        ensures memory { OnErr result (result ≡ Err Fault.Memory) }
     {
         Ok(Node {
             digest,

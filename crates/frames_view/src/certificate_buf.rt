@@ -1,13 +1,13 @@
 //! Certificates that are kept.
 
-ghost use Rattle.std.specs.Prelude.{◌≡◌, List, [], IfOk, OnErr};
+ghost use Rattle.std.specs.Prelude.{◌≡◌, List, [], IfOk};
 ghost use Rattle.definitions.specs.Frames.{Vote};
 ghost use Rattle.frames_view.specs.Spelled.{AreVotes};
 ghost use Rattle.frames_view.specs.Views.{certificate_of};
 
 use crate::views::CertificateView;
-use ids::{Config, Digest, Fault};
-use std::alloc::Global;
+use ids::{Config, Digest};
+use std::alloc::{AllocError, Global};
 use std::marker::Model;
 
 /// A certificate of its own, as `CertificateView` is one that is lent.
@@ -37,9 +37,8 @@ impl Model for CertificateBuf {
 
 impl CertificateBuf {
     /// A copy of a certificate.
-    pub fn copy(alloc: Global, certificate: &CertificateView) -> Result<CertificateBuf, Fault>
-        ensures copied { IfOk result (λ q. q ≡ certificate_of certificate.now) }
-        ensures memory { OnErr result (result ≡ Err Fault.Memory) }
+    pub fn copy(alloc: Global, certificate: &CertificateView) -> Result<CertificateBuf, AllocError>
+        ensures { IfOk result (λ q. q ≡ certificate_of certificate.now) }
     {
         Ok(CertificateBuf {
             digest: Digest(*certificate.digest),

@@ -1,13 +1,12 @@
 //! Cores that are kept.
 
-ghost use Rattle.std.specs.Prelude.{◌≡◌, IfOk, OnErr};
+ghost use Rattle.std.specs.Prelude.{◌≡◌, IfOk};
 ghost use Rattle.frames_view.specs.Views.{core_of};
 
 use crate::core_fields::CoreFields;
 use crate::cursor::from;
 use crate::views::CoreView;
-use ids::Fault;
-use std::alloc::Global;
+use std::alloc::{AllocError, Global};
 use std::marker::Model;
 
 /// How many bytes stand before a core's commands.
@@ -53,9 +52,8 @@ impl Model for CoreBuf {
 
 impl CoreBuf {
     /// A copy of a core.
-    pub fn copy(alloc: Global, core: &CoreView) -> Result<CoreBuf, Fault>
-        ensures copied { IfOk result (λ k. k ≡ core_of core.now) }
-        ensures memory { OnErr result (result ≡ Err Fault.Memory) }
+    pub fn copy(alloc: Global, core: &CoreView) -> Result<CoreBuf, AllocError>
+        ensures { IfOk result (λ k. k ≡ core_of core.now) }
     {
         let fields = core.fields;
         Ok(CoreBuf {

@@ -15,7 +15,7 @@ use frame_writers::{ReplyText, write_core};
 use frames_view::{Frame, ProposalView, ReplyView, read};
 use ids::{Digest, Fault, Kind, ReplicaId};
 use signed_frames::{Sending, To, proposal_frame, reply_frame};
-use std::alloc::Global;
+use std::alloc::{AllocError, Global};
 
 /// The text that a bad reply has.
 const BAD_REPLY: &[u8] = b"EXISTS\r\n";
@@ -57,14 +57,13 @@ pub fn lie(
         Liar::TwoFaced => with_two_faces(alloc, keyring, sending),
         Liar::BadReply => with_bad_reply(alloc, keyring, sending),
         Liar::Crowder => with_crowd(alloc, keyring, sending),
-        Liar::Flooder => with_flood(alloc, sending),
+        Liar::Flooder => Ok(with_flood(alloc, sending)?),
     }
 }
 
 /// One frame.
-fn one(alloc: Global, sending: Sending) -> Result<Vec<Sending>, Fault>
-    ensures made { IfOk result (λ out. out.items ≡ sending ∷ []) }
-    ensures memory { OnErr result (result ≡ Err Fault.Memory) }
+fn one(alloc: Global, sending: Sending) -> Result<Vec<Sending>, AllocError>
+    ensures { IfOk result (λ out. out.items ≡ sending ∷ []) }
 {
     let mut out = Vec::new(alloc);
     out.push(sending)?;
@@ -85,9 +84,9 @@ fn with_two_faces(
     match read(&config, &sending.frame) {
         Ok(Frame::Proposal(view)) => {
             let empty = empty_proposal(alloc, keyring, &view)?;
-            to_each(alloc, config.n(), &sending.frame, &empty)
+            Ok(to_each(alloc, config.n(), &sending.frame, &empty)?)
         }
-        _ => one(alloc, sending),
+        _ => Ok(one(alloc, sending)?),
     }
 }
 
@@ -106,9 +105,9 @@ fn with_bad_reply(
         Ok(Frame::Reply(view)) => {
             let frame = bad_reply(alloc, keyring, &view)?;
             let (to, kind) = (sending.to, Kind::Reply);
-            one(alloc, Sending { to, kind, frame })
+            Ok(one(alloc, Sending { to, kind, frame })?)
         }
-        _ => one(alloc, sending),
+        _ => Ok(one(alloc, sending)?),
     }
 }
 
@@ -128,14 +127,13 @@ fn with_crowd(
             out.insert(0, sending)?;
             Ok(out)
         }
-        _ => one(alloc, sending),
+        _ => Ok(one(alloc, sending)?),
     }
 }
 
 /// What a flooder sends.
-fn with_flood(alloc: Global, sending: Sending) -> Result<Vec<Sending>, Fault>
-    ensures lies { IfOk result (λ out. map sent_of out.items ≡ flooded (sent_of sending)) }
-    ensures memory { OnErr result (result ≡ Err Fault.Memory) }
+fn with_flood(alloc: Global, sending: Sending) -> Result<Vec<Sending>, AllocError>
+    ensures { IfOk result (λ out. map sent_of out.items ≡ flooded (sent_of sending)) }
 {
     let kind = sending.kind;
     let mut out = Vec::new(alloc);
@@ -178,10 +176,9 @@ fn empty_proposal(
 }
 
 /// This frame to the replicas of even number, and that to the others.
-fn to_each(alloc: Global, n: u8, even: &[u8], odd: &[u8]) -> Result<Vec<Sending>, Fault>
-    ensures made { IfOk result (λ out. map sent_of out.items
+fn to_each(alloc: Global, n: u8, even: &[u8], odd: &[u8]) -> Result<Vec<Sending>, AllocError>
+    ensures { IfOk result (λ out. map sent_of out.items
         ≡ map (faces even.now odd.now) (range_with_len 0 n)) }
-    ensures memory { OnErr result (result ≡ Err Fault.Memory) }
 {
     let mut out = Vec::new(alloc);
     for number in 0..n {

@@ -38,7 +38,7 @@ fn announcement(
         kind: Kind::NewView,
         frame,
     };
-    Out::one(alloc, sending)
+    Ok(Out::one(alloc, sending)?)
 }
 
 /// What a timeout comes to: the replica goes on to the next view, and announces it.

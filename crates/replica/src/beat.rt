@@ -74,7 +74,7 @@ fn proposal_out(
         kind: Kind::Proposal,
         frame,
     };
-    Out::one(alloc, sending)
+    Ok(Out::one(alloc, sending)?)
 }
 
 /// Whether the replica leads its view.

@@ -20,7 +20,7 @@ use frames_view::{CertificateBuf, CertificateView, CoreBuf};
 use ids::{Digest, Fault, Height, Kind};
 use replica_rules::{BlockRef, Rules};
 use signed_frames::{Out, Sending, To, vote_frame};
-use std::alloc::Global;
+use std::alloc::{AllocError, Global};
 
 /// What goes out: the vote, if one was given.
 fn vote_out(
@@ -42,7 +42,7 @@ fn vote_out(
         kind: Kind::Vote,
         frame,
     };
-    Out::one(state.alloc, sending)
+    Ok(Out::one(state.alloc, sending)?)
 }
 
 /// The rules after a vote for a block of this height, if one was given.
@@ -67,9 +67,8 @@ fn with_vote_in(tree: &Tree, rules: Rules, voted: bool, digest: &Digest) -> Rule
 }
 
 /// A block that stood in the tree, as it is stored.
-fn stored_again(state: &State, offer: &Offer, voted: bool) -> Result<StoredStep, Fault>
-    ensures made { IfOk result (λ s. s ≡ again_step offer.now voted) }
-    ensures memory { OnErr result (result ≡ Err Fault.Memory) }
+fn stored_again(state: &State, offer: &Offer, voted: bool) -> Result<StoredStep, AllocError>
+    ensures { IfOk result (λ s. s ≡ again_step offer.now voted) }
 {
     let alloc = state.alloc;
     let again = Again {
@@ -111,10 +110,9 @@ pub(crate) fn raised(
     block: BlockRef,
     certificate: &CertificateView,
     high: &High,
-) -> Result<Option<High>, Fault>
-    ensures made { IfOk result (λ r. r
+) -> Result<Option<High>, AllocError>
+    ensures { IfOk result (λ r. r
         ≡ raise_of (record { block = block; certificate = certificate_of certificate.now }) high.now) }
-    ensures memory { OnErr result (result ≡ Err Fault.Memory) }
 {
     if block.height <= high.block.height {
         return Ok(None);

@@ -40,7 +40,7 @@ fn supply(
         kind: Kind::Block,
         frame,
     };
-    Out::one(state.alloc, sending)
+    Ok(Out::one(state.alloc, sending)?)
 }
 
 /// What a question for a block comes to: the block goes to the one who asked, where it stands in the tree.

@@ -23,7 +23,7 @@ announcement_if-requires c =
     let q : Certificate = frame_certificate (new_view_of c.args.announced.now) in
     let high : c.state.inside.high ≡ v.high = ap (λ (k : StateParts). k.variables.high) c.state.view_is in
     let raised : c.in_ok-high.high ≡ raise_of (record { block = c.args.block; certificate = q }) v.high =
-    c.in_ok-high.ensures.made
+    c.in_ok-high.ensures
     ∙ (λ i. raise_of (record { block = c.args.block; certificate = c.certificate.ensures.value i })
     (high i)) in
     record {
@@ -44,11 +44,11 @@ returns-clause-made c =
     let high : c.state.inside.high ≡ v.high = ap (λ (k : StateParts). k.variables.high) c.state.view_is in
     let raised : c.in_ok-high.high
     ≡ raise_of (record { block = c.args.block; certificate = frame_certificate frame }) v.high =
-    c.in_ok-high.ensures.made
+    c.in_ok-high.ensures
     ∙ (λ i. raise_of (record { block = c.args.block; certificate = c.certificate.ensures.value i })
     (high i)) in
     let certificate : c.in_ok-certificate.certificate ≡ frame_certificate frame =
-    c.in_ok-certificate.ensures.copied ∙ c.certificate-2.ensures.value in
+    c.in_ok-certificate.ensures ∙ c.certificate-2.ensures.value in
     let moved : c.on_new_view-moved.result ≡ nat_lt c.args.state.now.pace.view new.view =
     moved-is _ _ _ c.on_new_view-moved.ensures.moved ∙ ap (λ (p : Pace). nat_lt p.view new.view) pace in
     let highest = c.high_after-highest.ensures ∙ (λ i. unwrap_or (raised i) (high i)) in

@@ -31,4 +31,4 @@ returns-in_ok-node-in-Grows c =
     } in
     planned-grows t core q c.args.clear c.in_ok-node-in-Grows.node
     (placing t.horizon t.most core q (blocks t.stored)) answer
-    (subst (IsNodeFor t core q c.args.clear) (sym c.in_ok-node-in-Grows.ensures.copied) is)
+    (subst (IsNodeFor t core q c.args.clear) (sym c.in_ok-node-in-Grows.ensures) is)

@@ -25,8 +25,8 @@ invariant_of-result c =
           })) (sym list),
     )
 
-pub returns-clause-copied : goal.returns-clause-copied
-returns-clause-copied c =
+pub returns : goal.returns
+returns c =
     let fields = c.args.core.now.fields in
     let raw = c.in_ok-to_vec.ensures.items_if_clones_equal (λ x y h. h) ∙ c.args.core.now.spelled in
     let same : drop 49 c.in_ok-to_vec.field-0.items ≡ fields.commands.now =
