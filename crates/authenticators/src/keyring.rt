@@ -1,14 +1,16 @@
-ghost use Rattle.std.specs.Prelude.{◌≡◌, ◌+◌, ◌*◌, ◌↔◌, [], length, IsTrue, IsOk, IfOk, OnErr};
+ghost use Rattle.std.specs.Prelude.{◌≡◌, ◌<◌, ◌+◌, ◌*◌, ◌++◌, ◌↔◌, [], length, IsTrue, IsOk, IfOk, IfSome, OnErr};
 ghost use Rattle.definitions.specs.Writing.{IsAppended};
 ghost use Rattle.ids.specs.Sizes.{IsRoom};
-ghost use Rattle.definitions.specs.Tags.{tag_text};
+ghost use Rattle.definitions.specs.Tags.{hmac, tag_text};
 ghost use Rattle.definitions.specs.Keyrings.{keys_due, is_peer, place_of, keyring_of, tag_for, verify};
 ghost use Rattle.definitions.specs.Keyrings.{vector_for};
 
+use crate::known_tags::KnownTags;
 use crate::shared_key::SharedKey;
 use ids::{Config, Fault, Kind, PartyId};
-use std::alloc::Global;
+use std::alloc::{AllocError, Global};
 use std::marker::Model;
+use std::sync::Arc;
 
 /// The keys of one party. It makes tags for its peers and verifies theirs.
 ///
@@ -19,6 +21,8 @@ pub struct Keyring {
     config: Config,
     party: PartyId,
     keys: Vec<SharedKey>,
+    /// What was found short ago, so that it isn't hashed again.
+    known: Option<Arc<KnownTags>>,
 }
 
 impl Model for Keyring {
@@ -43,18 +47,37 @@ impl Keyring {
             config,
             party,
             keys,
+            known: None,
         }
     }
 
-    /// A second keyring of the same keys, for a party whose keys are wanted in two places.
-    pub fn duplicate(&self, alloc: Global) -> Result<Keyring, Fault>
-        ensures made { IfOk result (λ k. k ≡ self.now) }
-        ensures memory { OnErr result (result ≡ Err Fault.Memory) }
+    /// The same keys, with room to remember tags: one that was found to be right, or was made by the party for itself,
+    /// isn't hashed again until another of the same peer takes its place. It changes what calls cost, and not what
+    /// they answer.
+    pub fn remembering(self, alloc: Global) -> Result<Keyring, AllocError>
+        ensures { IfOk result (λ k. k ≡ self) }
+    {
+        let rows = self.keys.len() + usize::from(self.config.n());
+        let known = Arc::new(alloc, KnownTags::new(alloc, rows)?)?;
+        Ok(Keyring {
+            known: Some(known),
+            ..self
+        })
+    }
+
+    /// A second keyring of the same keys, for a party whose keys are wanted in two places. What one remembers the
+    /// other knows.
+    pub fn duplicate(&self, alloc: Global) -> Result<Keyring, AllocError>
+        ensures { IfOk result (λ k. k ≡ self.now) }
     {
         Ok(Keyring {
             config: self.config,
             party: self.party,
             keys: copied(alloc, self.keys.as_slice())?,
+            known: match &self.known {
+                Some(known) => Some(Arc::try_clone(known)?),
+                None => None,
+            },
         })
     }
 
@@ -91,7 +114,11 @@ impl Keyring {
         ensures { result ≡ tag_for (keyring_of self.now) label to content.now }
     {
         let head = head(label, self.party, to);
-        self.key(to).hmac_of_parts(&head, content)
+        let tag = self.key(to).hmac_of_parts(&head, content);
+        if to == self.party {
+            self.remember(label, to, &head, content, &tag);
+        }
+        tag
     }
 
     /// Whether this is the tag of a content from a sender. All 32 bytes are compared, wherever
@@ -102,8 +129,51 @@ impl Keyring {
         ensures { result ≡ verify (keyring_of self.now) label from content.now tag.now }
     {
         let head = head(label, from, self.party);
+        if let Some(right) = self.known(label, from, &head, content) {
+            return are_equal(tag, &right);
+        }
         let right = self.key(from).hmac_of_parts(&head, content);
-        are_equal(tag, &right)
+        let is_right = are_equal(tag, &right);
+        if is_right {
+            self.remember(label, from, &head, content, &right);
+        }
+        is_right
+    }
+
+    /// Where a tag of a peer is remembered: votes stand by themselves, since other frames of their voters come between.
+    fn row(&self, label: Kind, peer: PartyId) -> usize
+        requires { IsTrue (is_peer self.now peer) }
+    {
+        match label {
+            Kind::Vote => self.keys.len() + usize::from(peer.0),
+            _ => self.place(peer),
+        }
+    }
+
+    /// The HMAC of what stands under a tag, under the key that is shared with a peer, where it is known.
+    fn known(&self, label: Kind, peer: PartyId, head: &[u8; 5], content: &[u8]) -> Option<[u8; 32]>
+        requires { IsTrue (is_peer self.now peer) }
+        ensures { IfSome result
+            (λ tag. tag ≡ hmac ((keyring_of self.now).key peer) (head.now ++ content.now)) }
+    {
+        let known = self.known.as_ref()?;
+        known.find(self.row(label, peer), self.key(peer).bytes(), head, content)
+    }
+
+    /// Remembers the HMAC of what stands under a tag.
+    fn remember(&self, label: Kind, peer: PartyId, head: &[u8; 5], content: &[u8], tag: &[u8; 32])
+        requires peer { IsTrue (is_peer self.now peer) }
+        requires right { tag.now ≡ hmac ((keyring_of self.now).key peer) (head.now ++ content.now) }
+    {
+        if let Some(known) = &self.known {
+            known.put(
+                self.row(label, peer),
+                self.key(peer).bytes(),
+                head,
+                content,
+                tag,
+            );
+        }
     }
 
     /// Appends a vector: one tag for each replica, in order. `Memory` comes only where the spare room was too
@@ -127,23 +197,29 @@ impl Keyring {
         requires { IsTrue (is_peer self.now peer) }
         ensures { result.now ≡ (keyring_of self.now).key peer }
     {
-        let place = if peer.0 < 256 {
-            usize::from(peer.0)
-        } else {
-            usize::from(self.config.n()) + usize::from(peer.0 - 256)
-        };
-        &self.keys[place]
+        &self.keys[self.place(peer)]
+    }
+
+    /// Where the key with a peer stands.
+    fn place(&self, peer: PartyId) -> usize
+        requires { IsTrue (is_peer self.now peer) }
+        ensures place { result ≡ place_of self.now.sizes peer }
+        ensures within { result < length self.now.keys }
+    {
+        match peer.client() {
+            None => usize::from(peer.0),
+            Some(client) => usize::from(self.config.n()) + usize::from(client),
+        }
     }
 }
 
 /// The same keys again.
-fn copied(alloc: Global, keys: &[SharedKey]) -> Result<Vec<SharedKey>, Fault>
-    ensures made { IfOk result (λ copy. copy.items ≡ keys.now) }
-    ensures memory { OnErr result (result ≡ Err Fault.Memory) }
+fn copied(alloc: Global, keys: &[SharedKey]) -> Result<Vec<SharedKey>, AllocError>
+    ensures { IfOk result (λ copy. copy.items ≡ keys.now) }
 {
     let mut copy = Vec::with_capacity(alloc, keys.len())?;
     for key in keys {
-        copy.push(key.copied())?;
+        copy.push_reserved(key.copied());
     }
     Ok(copy)
 }

@@ -5,6 +5,7 @@
 #![tactic(auto)]
 
 mod keyring;
+mod known_tags;
 mod mac;
 mod replica_keyring;
 mod shared_key;

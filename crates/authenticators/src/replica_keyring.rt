@@ -4,7 +4,7 @@ ghost use Rattle.ids.specs.Sizes.{IsRoom, replicas};
 use crate::keyring::Keyring;
 use crate::verifying_keyring::VerifyingKeyring;
 use ids::{Config, Fault, ReplicaId};
-use std::alloc::Global;
+use std::alloc::{AllocError, Global};
 use std::marker::Model;
 
 /// The keys of a replica: a keyring whose party is one of the replicas of its sizes.
@@ -17,15 +17,11 @@ pub struct ReplicaKeyring {
 }
 
 impl Model for ReplicaKeyring {
-    ghost use Rattle.std.specs.Prelude.{◌<◌};
-    ghost use Rattle.ids.specs.Sizes.{replicas};
     ghost use Rattle.definitions.specs.Keyrings.{Keys};
 
     ghost Value = { Keys };
 
     ghost view = { λ k. k.verifying };
-
-    ghost invariant = { λ k. k.verifying.party < replicas k.verifying.sizes };
 }
 
 impl ReplicaKeyring {
@@ -35,17 +31,23 @@ impl ReplicaKeyring {
         ensures made { IfSome result (λ k. k ≡ keyring) }
     {
         let verifying = VerifyingKeyring::new(keyring)?;
-        verifying.replica();
         Some(ReplicaKeyring { verifying })
     }
 
-    /// A second keyring of the same keys, for a replica whose keys are wanted in two places.
-    pub fn duplicate(&self, alloc: Global) -> Result<ReplicaKeyring, Fault>
-        ensures made { IfOk result (λ k. k ≡ self.now) }
-        ensures memory { OnErr result (result ≡ Err Fault.Memory) }
+    /// The same keys, with room to remember tags, as [`Keyring::remembering`] says.
+    pub fn remembering(self, alloc: Global) -> Result<ReplicaKeyring, AllocError>
+        ensures { IfOk result (λ k. k ≡ self) }
     {
-        let keyring = self.as_keyring().duplicate(alloc)?;
-        Ok(ReplicaKeyring::new(keyring).unwrap())
+        let verifying = self.verifying.remembering(alloc)?;
+        Ok(ReplicaKeyring { verifying })
+    }
+
+    /// A second keyring of the same keys, for a replica whose keys are wanted in two places.
+    pub fn duplicate(&self, alloc: Global) -> Result<ReplicaKeyring, AllocError>
+        ensures { IfOk result (λ k. k ≡ self.now) }
+    {
+        let verifying = self.verifying.duplicate(alloc)?;
+        Ok(ReplicaKeyring { verifying })
     }
 
     /// The same keys, in a deployment whose caches have room for so many keys: 1 to `MOST_KEYS`, else
@@ -56,8 +58,8 @@ impl ReplicaKeyring {
         ensures refused { OnErr result (result ≡ Err Fault.BadKeys) }
         ensures only { IsOk result ↔ IsRoom most_keys }
     {
-        let keyring = self.verifying.into_keyring().with_most_keys(most_keys)?;
-        Ok(ReplicaKeyring::new(keyring).unwrap())
+        let verifying = self.verifying.with_most_keys(most_keys)?;
+        Ok(ReplicaKeyring { verifying })
     }
 
     /// The replica whose keys these are.

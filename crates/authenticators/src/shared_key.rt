@@ -32,6 +32,13 @@ impl SharedKey {
         SharedKey { bytes, hashers }
     }
 
+    /// The bytes of the key.
+    pub(crate) fn bytes(&self) -> &[u8; 32]
+        ensures { result.now ≡ self.now }
+    {
+        &self.bytes
+    }
+
     /// The same key again. It takes no memory.
     pub(crate) fn copied(&self) -> SharedKey
         ensures { result ≡ self.now }

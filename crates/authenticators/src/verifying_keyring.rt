@@ -1,9 +1,10 @@
-ghost use Rattle.std.specs.Prelude.{◌≡◌, ◌<◌, ◌↔◌, IsSome, IsTrue, IfSome};
-ghost use Rattle.ids.specs.Sizes.{replicas};
+ghost use Rattle.std.specs.Prelude.{◌≡◌, ◌<◌, ◌↔◌, IsSome, IsOk, IsTrue, IfSome, IfOk, OnErr};
+ghost use Rattle.ids.specs.Sizes.{IsRoom, replicas};
 ghost use Rattle.definitions.specs.Keyrings.{is_peer, keyring_of, verify};
 
 use crate::keyring::Keyring;
-use ids::{Config, Kind, PartyId, ReplicaId};
+use ids::{Config, Fault, Kind, PartyId, ReplicaId};
+use std::alloc::{AllocError, Global};
 use std::marker::Model;
 
 /// The keys of a replica, for who checks frames to it and makes none: it verifies tags, and gives none away.
@@ -69,11 +70,30 @@ impl VerifyingKeyring {
         &self.keyring
     }
 
-    /// The keyring that it is.
-    pub(crate) fn into_keyring(self) -> Keyring
-        ensures keys { result ≡ self }
-        ensures replica { self.party < replicas self.sizes }
+    /// The same keys, with room to remember tags, as [`Keyring::remembering`] says.
+    pub(crate) fn remembering(self, alloc: Global) -> Result<VerifyingKeyring, AllocError>
+        ensures { IfOk result (λ k. k ≡ self) }
     {
-        self.keyring
+        let keyring = self.keyring.remembering(alloc)?;
+        Ok(VerifyingKeyring { keyring })
+    }
+
+    /// A second keyring of the same keys.
+    pub(crate) fn duplicate(&self, alloc: Global) -> Result<VerifyingKeyring, AllocError>
+        ensures { IfOk result (λ k. k ≡ self.now) }
+    {
+        let keyring = self.keyring.duplicate(alloc)?;
+        Ok(VerifyingKeyring { keyring })
+    }
+
+    /// The same keys, where caches have room for so many keys: 1 to `MOST_KEYS`, else `BadKeys`.
+    pub(crate) fn with_most_keys(self, most_keys: usize) -> Result<VerifyingKeyring, Fault>
+        ensures made { IfOk result (λ k. k
+            ≡ record self { sizes = record self.sizes { most_keys = most_keys } }) }
+        ensures refused { OnErr result (result ≡ Err Fault.BadKeys) }
+        ensures only { IsOk result ↔ IsRoom most_keys }
+    {
+        let keyring = self.keyring.with_most_keys(most_keys)?;
+        Ok(VerifyingKeyring { keyring })
     }
 }

@@ -14,6 +14,7 @@ use crate::lying::{LiarKeys, LyingOut};
 use crate::terms::Terms;
 use crate::watching::Progress;
 use crate::worker::WorkerStart;
+use authenticators::ReplicaKeyring;
 use clock::{Pulse, Watched, keep_time};
 use doorkeeper::Doorkeeper;
 use fabric::{Inbox, Links, WaitingRoom, Worker};
@@ -24,7 +25,7 @@ use locked_replica::Kept;
 use marks::{Eye, Marks};
 use replica::Archived;
 use signed_frames::WorkerKeyring;
-use std::alloc::Global;
+use std::alloc::{AllocError, Global};
 use std::hash::RandomState;
 use std::sync::atomic::AtomicBool;
 use std::sync::{Arc, Mutex, Wait};
@@ -140,17 +141,10 @@ pub(crate) fn watch<R: Wait + Clock>(
 }
 
 /// What a replica lies with.
-fn liar_keys(
-    alloc: Global,
-    keys: &PairKeys,
-    number: ReplicaId,
-    liar: Liar,
-) -> Result<LiarKeys, Fault>
-    requires { number < replicas keys.now.sizes }
-    ensures made { IfOk result (λ keys. keys.liar ≡ liar) }
-    ensures memory { OnErr result (result ≡ Err Memory) }
+fn liar_keys(alloc: Global, keyring: &ReplicaKeyring, liar: Liar) -> Result<LiarKeys, AllocError>
+    ensures { IfOk result (λ keys. keys.liar ≡ liar) }
 {
-    let keyring = keys.replica_keyring(alloc, number)?;
+    let keyring = keyring.duplicate(alloc)?;
     Ok(LiarKeys {
         alloc,
         liar,
@@ -158,68 +152,62 @@ fn liar_keys(
     })
 }
 
-/// A worker of a kept replica.
+/// A worker of a kept replica with these keys. What the replica and its other workers found to be right it knows.
 fn new_worker(
     alloc: Global,
-    keys: &PairKeys,
+    keyring: &ReplicaKeyring,
     kept: &mut Kept<'_>,
-    number: ReplicaId,
     liar: Option<Liar>,
 ) -> Result<WorkerStart, Fault>
-    requires { number < replicas keys.now.sizes }
     ensures lies { IfOk result (λ worker. lie_of worker ≡ liar) }
     ensures memory { OnErr result (result ≡ Err Memory) }
 {
     let share = kept.share()?;
-    let keyring = WorkerKeyring::new(keys.replica_keyring(alloc, number)?);
     let liar_keys = match liar {
         None => None,
-        Some(liar) => Some(liar_keys(alloc, keys, number, liar)?),
+        Some(liar) => Some(liar_keys(alloc, keyring, liar)?),
     };
     Ok(WorkerStart {
         share,
-        keyring,
+        keyring: WorkerKeyring::new(keyring.duplicate(alloc)?),
         liar_keys,
     })
 }
 
-/// A replica that has made no step.
+/// A replica with these keys that has made no step.
 fn new_kept<'a>(
     alloc: Global,
-    keys: &PairKeys,
-    number: ReplicaId,
+    keyring: &ReplicaKeyring,
     eye: Eye,
     marks: &'a Marks,
     hasher: RandomState,
 ) -> Result<Kept<'a>, Fault>
-    requires number { number < replicas keys.now.sizes }
-    requires words { marks.now.words ≡ replicas keys.now.sizes }
-    requires eye { eye ≡ first_eye marks.now number }
+    requires words { marks.now.words ≡ replicas keyring.now.sizes }
+    requires eye { eye ≡ first_eye marks.now keyring.now.party }
     ensures memory { OnErr result (result ≡ Err Memory) }
 {
-    let keyring = keys.replica_keyring(alloc, number)?;
-    let replica = Archived::new(alloc, keys.config(), number, keyring, hasher)?;
+    let (config, number) = (keyring.config(), keyring.replica());
+    let own = keyring.duplicate(alloc)?;
+    let replica = Archived::new(alloc, config, number, own, hasher)?;
     Ok(Kept::new(alloc, replica, eye, marks))
 }
 
-/// The workers of a kept replica: as many as the terms say.
+/// The workers of a kept replica with these keys: as many as the terms say.
 fn new_workers(
     alloc: Global,
-    keys: &PairKeys,
+    keyring: &ReplicaKeyring,
     kept: &mut Kept<'_>,
-    number: ReplicaId,
     terms: &Terms,
 ) -> Result<Vec<WorkerStart>, Fault>
-    requires { number < replicas keys.now.sizes }
     ensures count { IfOk result (λ workers. vec_len workers ≡ worker_count terms.now.workers) }
     ensures lies { IfOk result
-        (λ workers. AllLieBy (if number == 0 then terms.now.liar else None) workers.items) }
+        (λ workers. AllLieBy (if keyring.now.party == 0 then terms.now.liar else None) workers.items) }
     ensures memory { OnErr result (result ≡ Err Memory) }
 {
-    let (count, liar) = (terms.workers.count(), terms.liar_of(number));
+    let (count, liar) = (terms.workers.count(), terms.liar_of(keyring.replica()));
     let mut workers = Vec::with_capacity(alloc, count)?;
     for _ in 0..count {
-        workers.push_reserved(new_worker(alloc, keys, kept, number, liar)?);
+        workers.push_reserved(new_worker(alloc, keyring, kept, liar)?);
     }
     Ok(workers)
 }
@@ -242,8 +230,9 @@ fn build_station<'a>(
         (λ made. AllLieBy (if number == 0 then terms.now.liar else None) made.1.items) }
     ensures memory { OnErr result (result ≡ Err Memory) }
 {
-    let mut kept = new_kept(alloc, keys, number, eye, marks, terms.hasher)?;
-    let workers = new_workers(alloc, keys, &mut kept, number, terms)?;
+    let keyring = keys.replica_keyring(alloc, number)?.remembering(alloc)?;
+    let mut kept = new_kept(alloc, &keyring, eye, marks, terms.hasher)?;
+    let workers = new_workers(alloc, &keyring, &mut kept, terms)?;
     let station = Station {
         number,
         locked: Mutex::new(Guarded {
