@@ -2,6 +2,7 @@
 
 ghost use Rattle.std.specs.Prelude.{◌≡◌, ◌+◌, ◌-◌, ◌^◌, ◌<◌, ◌≤◌, ◌⊎◌, ◌==◌, ◌&&◌, ◌||◌, ℕ, false, true, is_some, length};
 ghost use Rattle.std.specs.Prelude.{IfNone, IfOk, IfSome, MatchBool, OnErr, OnOk, OnSome, Some, map, min, nat_lt, option_map};
+ghost use Rattle.std.specs.Prelude.{if◌then◌else◌};
 ghost use Rattle.std.specs.Bool.{OnFalse, OnTrue};
 ghost use Rattle.std.specs.Option.{ForSome};
 ghost use Rattle.fair_queue.specs.Queues.{IsNext, NoneReady, Puts, Takes, ready_at, refilled, waiting_in};
@@ -55,6 +56,10 @@ struct Inside {
     refilled: Option<Instant>,
     /// How many workers sleep until the next time.
     timed: usize,
+    /// How many workers sleep.
+    asleep: usize,
+    /// For how many of them was rung since, and they aren't back yet.
+    rung: usize,
 }
 
 impl Inside {
@@ -148,6 +153,35 @@ impl Inside {
         self.before_stop.is_some() || (self.waiting > 0 && self.timed == 0)
     }
 
+    /// Whether a worker sleeps for which nobody has rung. Now somebody does.
+    fn rings(&mut self) -> bool
+        ensures rings { result ≡ nat_lt self.old.rung self.old.asleep }
+        ensures rung { self.new.rung ≡ (if result then self.old.rung + 1 else self.old.rung) }
+        ensures others { self.new ≡ record self.old { rung = self.new.rung } }
+    {
+        if self.rung >= self.asleep {
+            return false;
+        }
+        self.rung += 1;
+        true
+    }
+
+    /// A worker falls asleep.
+    fn falls_asleep(&mut self)
+        ensures { self.new ≡ record self.old { asleep = min (self.old.asleep + 1) (2 ^ 64 - 1) } }
+    {
+        self.asleep = self.asleep.saturating_add(1);
+    }
+
+    /// A worker that slept is back, whether somebody rang for it or not.
+    fn is_back(&mut self)
+        ensures { self.new
+            ≡ record self.old { asleep = self.old.asleep - 1; rung = self.old.rung - 1 } }
+    {
+        self.asleep = self.asleep.saturating_sub(1);
+        self.rung = self.rung.saturating_sub(1);
+    }
+
     /// Each sender is allowed its part again.
     fn refill(&mut self, now: Option<Instant>)
         ensures { self.new.queue.rows ≡ map refilled self.old.queue.rows }
@@ -172,6 +206,8 @@ fn until_refill<R: Clock>(rt: &R, refilled: Option<Instant>) -> Option<Duration>
 pub struct Inbox {
     inside: Mutex<Inside>,
     bell: Condvar,
+    /// How often something came that may be taken. A worker looks at it for a while before it sleeps.
+    arrivals: AtomicU64,
     /// How many requests wait.
     requests: AtomicU64,
 }
@@ -190,8 +226,11 @@ impl Inbox {
                 before_stop: None,
                 refilled: None,
                 timed: 0,
+                asleep: 0,
+                rung: 0,
             }),
             bell: Condvar::new(),
+            arrivals: AtomicU64::new(0),
             requests: AtomicU64::new(0),
         })
     }
@@ -199,6 +238,18 @@ impl Inbox {
     /// How many requests wait.
     pub(crate) fn requests(&self) -> u64 {
         self.requests.load(SeqCst)
+    }
+
+    /// Something came that may be taken. A worker that sleeps is woken, where none is on its way already: to ring
+    /// costs a call of the system.
+    fn tell(&self, inside: MutexGuard<'_, Inside>) {
+        let mut inside = inside;
+        let rings = inside.rings();
+        drop(inside);
+        self.arrivals.fetch_add(1, SeqCst);
+        if rings {
+            self.bell.notify_one();
+        }
     }
 
     /// Hands in a frame, which gets its number here.
@@ -214,18 +265,17 @@ impl Inbox {
         if row.is_request {
             self.requests.fetch_add(1, SeqCst);
         }
-        drop(inside);
         if wakes {
-            self.bell.notify_one();
+            self.tell(inside);
         }
         Ok(())
     }
 
     /// Hands in another parcel, which is no request.
     pub(crate) fn hand_in<R: Wait>(&self, rt: &R, row: Row, parcel: Parcel) -> Result<(), Refusal> {
-        let wakes = self.inside.lock(rt).add(row, parcel)?;
-        if wakes {
-            self.bell.notify_one();
+        let mut inside = self.inside.lock(rt);
+        if inside.add(row, parcel)? {
+            self.tell(inside);
         }
         Ok(())
     }
@@ -233,6 +283,7 @@ impl Inbox {
     /// All workers end, however many there are, once all was taken that was handed in before. It takes no memory.
     pub(crate) fn stop<R: Wait>(&self, rt: &R) {
         self.inside.lock(rt).stop();
+        self.arrivals.fetch_add(1, SeqCst);
         self.bell.notify_all();
     }
 
@@ -245,13 +296,11 @@ impl Inbox {
     fn try_recv<R: Wait>(&self, rt: &R) -> Option<Parcel> {
         let mut inside = self.inside.lock(rt);
         let Handed { is_request, parcel } = inside.next()?;
-        let leaves_more = inside.leaves_more();
         if is_request {
             self.requests.fetch_sub(1, SeqCst);
         }
-        drop(inside);
-        if leaves_more {
-            self.bell.notify_one();
+        if inside.leaves_more() {
+            self.tell(inside);
         }
         Some(parcel)
     }
@@ -269,11 +318,11 @@ impl Inbox {
         Parcel::Stop
     }
 
-    /// Whether something is told of within a few looks.
+    /// Whether something comes within a few looks.
     fn comes_soon(&self) -> bool {
-        let seen = self.bell.notifications();
+        let seen = self.arrivals.load(SeqCst);
         for _ in 0..LOOKS {
-            if self.bell.notifications() != seen {
+            if self.arrivals.load(SeqCst) != seen {
                 return true;
             }
             spin_loop();
@@ -284,12 +333,14 @@ impl Inbox {
     /// Sleeps until something is told of, where nothing can be taken; and not longer than until each sender is
     /// allowed its part again, where something waits for that.
     fn sleep<R: Wait + Clock>(&self, rt: &R) {
-        let inside = self.inside.lock(rt);
+        let mut inside = self.inside.lock(rt);
         if inside.has_next() {
             return;
         }
         if inside.waiting == 0 {
-            drop(self.bell.wait(rt, inside));
+            inside.falls_asleep();
+            let mut inside = self.bell.wait(rt, inside);
+            inside.is_back();
         } else {
             self.sleep_a_while(rt, inside);
         }
@@ -303,7 +354,9 @@ impl Inbox {
             return;
         };
         inside.timed = inside.timed.saturating_add(1);
+        inside.falls_asleep();
         let (mut inside, _) = self.bell.wait_timeout(rt, inside, left);
+        inside.is_back();
         inside.timed = inside.timed.saturating_sub(1);
     }
 }

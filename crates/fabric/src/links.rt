@@ -10,7 +10,7 @@ use bytes::Bytes;
 use fair_queue::Refusal;
 use ids::{ClientId, Config, Fault, Height, MOST_COMMANDS, ReplicaId};
 use signed_frames::To;
-use std::alloc::Global;
+use std::alloc::{AllocError, Global};
 use std::marker::Model;
 use std::sync::atomic::AtomicU64;
 use std::sync::atomic::Ordering::SeqCst;
@@ -57,9 +57,8 @@ pub struct Ends {
 }
 
 /// The inboxes of all replicas, twice.
-fn inboxes(alloc: Global, config: Config) -> Result<(Vec<Arc<Inbox>>, Vec<Arc<Inbox>>), Fault>
-    ensures links { IfOk result (λ r. (vec_len r.0 ≡ replicas config) × (vec_len r.1 ≡ replicas config)) }
-    ensures memory { OnErr result (result ≡ Err Fault.Memory) }
+fn inboxes(alloc: Global, config: Config) -> Result<(Vec<Arc<Inbox>>, Vec<Arc<Inbox>>), AllocError>
+    ensures { IfOk result (λ r. (vec_len r.0 ≡ replicas config) × (vec_len r.1 ≡ replicas config)) }
 {
     let count = usize::from(config.n());
     let mut links = Vec::with_capacity(alloc, count)?;
@@ -74,9 +73,7 @@ fn inboxes(alloc: Global, config: Config) -> Result<(Vec<Arc<Inbox>>, Vec<Arc<In
 }
 
 /// So many counters at 0.
-fn counters(alloc: Global, count: usize) -> Result<Vec<AtomicU64>, Fault>
-    ensures { OnErr result (result ≡ Err Fault.Memory) }
-{
+fn counters(alloc: Global, count: usize) -> Result<Vec<AtomicU64>, AllocError> {
     let mut counters = Vec::new(alloc);
     for _ in 0..count {
         counters.push(AtomicU64::new(0))?;
@@ -85,9 +82,11 @@ fn counters(alloc: Global, count: usize) -> Result<Vec<AtomicU64>, Fault>
 }
 
 /// The links of all clients.
-fn client_links(alloc: Global, config: Config) -> Result<(Vec<ClientStart>, Vec<ClientEnd>), Fault>
-    ensures links { IfOk result (λ r. (vec_len r.0 ≡ config.clients) × (vec_len r.1 ≡ config.clients)) }
-    ensures memory { OnErr result (result ≡ Err Fault.Memory) }
+fn client_links(
+    alloc: Global,
+    config: Config,
+) -> Result<(Vec<ClientStart>, Vec<ClientEnd>), AllocError>
+    ensures { IfOk result (λ r. (vec_len r.0 ≡ config.clients) × (vec_len r.1 ≡ config.clients)) }
 {
     let count = usize::from(config.clients());
     let mut links = Vec::with_capacity(alloc, count)?;
@@ -106,11 +105,10 @@ fn client_links(alloc: Global, config: Config) -> Result<(Vec<ClientStart>, Vec<
 /// network.
 impl Links {
     /// The links of all replicas and clients, with nothing in them.
-    pub fn new(alloc: Global, config: Config) -> Result<(Links, Ends), Fault>
+    pub fn new(alloc: Global, config: Config) -> Result<(Links, Ends), AllocError>
         ensures made { IfOk result (λ r. r.0 ≡ config) }
         ensures replicas { IfOk result (λ r. vec_len r.1.replicas ≡ replicas config) }
         ensures clients { IfOk result (λ r. vec_len r.1.clients ≡ config.clients) }
-        ensures memory { OnErr result (result ≡ Err Fault.Memory) }
     {
         let turned_away = counters(alloc, usize::from(config.n()))?;
         let (replicas, replica_ends) = inboxes(alloc, config)?;

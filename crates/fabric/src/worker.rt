@@ -10,7 +10,8 @@ use crate::queue::Question;
 use crate::waiting::{Brought, Waiting, WaitingRoom};
 use admission::Input;
 use bytes::Bytes;
-use ids::{Digest, Fault, Height, Kind, ReplicaId};
+use frames_view::{Frame, read};
+use ids::{Config, Digest, Fault, Height, Kind, ReplicaId};
 use signed_frames::{Out, Sending, To, WorkerKeyring};
 use std::alloc::Global;
 use std::sync::Wait;
@@ -27,6 +28,8 @@ pub struct Worker<'a, G, O = Links> {
     inbox: &'a Inbox,
     out: &'a O,
     room: &'a WaitingRoom,
+    /// The block that its last proposal's certificate is for.
+    certified: Option<Digest>,
 }
 
 /// What takes the frames that a replica sends.
@@ -47,6 +50,15 @@ impl Outgoing for Links {
         if self.send_from(rt, from, to, bytes).is_err() {
             self.lose();
         }
+    }
+}
+
+/// The block of the certificate in a proposal that goes out.
+fn certified_by(config: &Config, out: &Out) -> Option<Digest> {
+    let sending = out.sendings().first()?;
+    match read(config, &sending.frame) {
+        Ok(Frame::Proposal(view)) => Some(Digest(*view.certificate().digest())),
+        _ => None,
     }
 }
 
@@ -74,6 +86,7 @@ impl<'a, G: Gate, O: Outgoing> Worker<'a, G, O> {
             inbox,
             out,
             room,
+            certified: None,
         }
     }
 
@@ -175,6 +188,19 @@ impl<'a, G: Gate, O: Outgoing> Worker<'a, G, O> {
         }
     }
 
+    /// Whether a frame is a vote that comes too late: for the block of the certificate that this replica's last
+    /// proposal has. A step would write it down and change nothing else, and so it may get lost, as on any network.
+    /// Of each block's votes all but a quorum are such.
+    fn is_late(&self, bytes: &[u8]) -> bool {
+        let Some(certified) = self.certified else {
+            return false;
+        };
+        match read(&self.keyring.config(), bytes) {
+            Ok(Frame::Vote(vote)) => certified.0 == *vote.digest(),
+            _ => false,
+        }
+    }
+
     /// Takes one frame. Where it brings a block, what waited for that block comes next.
     fn take<R: Wait, S: Steps>(
         &self,
@@ -186,6 +212,9 @@ impl<'a, G: Gate, O: Outgoing> Worker<'a, G, O> {
     )
         ensures { HasGrown share.old share.new }
     {
+        if self.is_late(bytes.as_slice()) {
+            return;
+        }
         match self.bring(rt, steps, share, number, bytes.as_slice()) {
             Ok(()) if self.room.is_empty() => {}
             Ok(()) => {
@@ -208,17 +237,23 @@ impl<'a, G: Gate, O: Outgoing> Worker<'a, G, O> {
     }
 
     /// Where the replica has something to propose, and nothing of it waits for votes, it proposes.
-    fn propose<R: Wait, S: Steps>(&self, rt: &R, steps: &mut S, share: &mut Share)
+    fn propose<R: Wait, S: Steps>(&mut self, rt: &R, steps: &mut S, share: &mut Share)
         ensures { HasGrown share.old share.new }
     {
         if let Some(Ok(out)) = steps.beat_now(rt, share) {
+            self.certified = certified_by(&self.keyring.config(), &out);
             send_all(rt, self.out, self.keyring.replica(), out);
         }
     }
 
     /// Takes what comes over the replica's link until it is told to stop. It gives the share back, with the steps
     /// that it made.
-    pub fn run<R: Wait + Clock, S: Steps>(self, rt: &R, steps: &mut S, mut share: Share) -> Share
+    pub fn run<R: Wait + Clock, S: Steps>(
+        mut self,
+        rt: &R,
+        steps: &mut S,
+        mut share: Share,
+    ) -> Share
         ensures { HasGrown share result }
     {
         for _ in rt.forever() {
