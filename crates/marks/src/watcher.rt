@@ -1,7 +1,8 @@
 //! Who reads the marks.
 
-ghost use Rattle.std.specs.Prelude.{◌≡◌, ◌≤◌, slice_index, IfNone, IfOk, IfSome};
-ghost use Rattle.marks.specs.Eyes.{seeing, onlooker_of};
+ghost use Rattle.std.specs.Prelude.{◌≡◌, ◌≤◌, map, slice_index, IfNone, IfOk, IfSome};
+ghost use Rattle.std.specs.List.{range_with_len};
+ghost use Rattle.marks.specs.Eyes.{first_eye, first_eyes, seeing, onlooker_of};
 
 use crate::eye::Eye;
 use crate::marks::Marks;
@@ -29,16 +30,18 @@ impl<'m> Model for Watcher<'m> {
 }
 
 impl<'m> Watcher<'m> {
-    /// An eye with its marks, which are those of so many replicas.
-    pub fn new(marks: &'m Marks, replicas: u8, eye: Eye) -> Watcher<'m>
-        requires own { eye.marks ≡ marks.now }
+    /// Who reads the marks of so many replicas, with the last of their first eyes, which owns no word. What is left
+    /// of the eyes are the words' owners.
+    pub fn new(marks: &'m Marks, replicas: u8, eyes: &mut Vec<Eye>) -> Watcher<'m>
         requires words { marks.now.words ≡ replicas }
-        ensures { result ≡ eye }
+        requires eyes { eyes.old.items ≡ first_eyes marks.now }
+        ensures owners { eyes.new.items ≡ map (first_eye marks.now) (range_with_len 0 marks.now.words) }
     {
+        let last = eyes.pop();
         Watcher {
             marks,
             replicas,
-            eye,
+            eye: last.unwrap(),
         }
     }
 

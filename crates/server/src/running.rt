@@ -176,17 +176,6 @@ fn serve_at<R: Threads + Wait + Clock + Sync + Send + AllocGlobal + Log + Clone 
     }
 }
 
-/// Who only reads the marks of so many replicas, with the last of their first eyes, which owns no word. What is
-/// left are the words' owners.
-fn watcher_of<'m>(marks: &'m Marks, replicas: u8, eyes: &mut Vec<Eye>) -> Watcher<'m>
-    requires words { marks.now.words ≡ replicas }
-    requires eyes { eyes.old.items ≡ first_eyes marks.now }
-    ensures owners { eyes.new.items ≡ map (first_eye marks.now) (range_with_len 0 marks.now.words) }
-{
-    let last = eyes.pop();
-    Watcher::new(marks, replicas, last.unwrap())
-}
-
 /// Serves with replicas that have made no step, at these ends of the deployment's links. When all threads have
 /// ended, the replicas are judged.
 fn serve_and_judge<R: Threads + Wait + Clock + Sync + Send + AllocGlobal + Log + Clone + Drop>(
@@ -207,7 +196,7 @@ fn serve_and_judge<R: Threads + Wait + Clock + Sync + Send + AllocGlobal + Log +
 {
     let (alloc, n) = (rt.alloc(), keys.config().n());
     let mut eyes = eyes;
-    let watcher = watcher_of(marks, n, &mut eyes);
+    let watcher = Watcher::new(marks, n, &mut eyes);
     let room = Vec::with_capacity(alloc, usize::from(n))?;
     let (stations, workers) = stations(alloc, keys, marks, eyes, ends, &terms)?;
     let served = serve_at(rt, deployment, stations.as_slice(), workers, watcher, terms);

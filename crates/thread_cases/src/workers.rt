@@ -3,6 +3,7 @@
 mod fake;
 mod frames;
 mod held;
+mod late;
 mod meeting;
 mod runs;
 mod scenes;
@@ -33,5 +34,6 @@ where
     for scene in SCENES {
         println!(rt; "{}", scene.play(rt, rt.alloc())?)?;
     }
+    println!(rt; "{}", late::play(rt, rt.alloc())?)?;
     Ok(())
 }

@@ -49,14 +49,31 @@ fn genesis_certificate() -> [u8; 33] {
     certificate
 }
 
-/// The first proposal of replica 0: a block of height 1 without commands, on genesis and with its certificate.
-pub(crate) fn proposal(alloc: Global, config: Config) -> Result<Bytes> {
+/// The bytes of the first proposal of replica 0: a block of height 1 without commands, on genesis and with its
+/// certificate.
+pub(crate) fn proposal_bytes(alloc: Global, config: Config) -> Result<Vec<u8>> {
     let keyring = replica_keyring_of(alloc, config, ReplicaId(0))?;
     let mut core = [0; 49];
     core[..32].copy_from_slice(&genesis_digest().0);
     core[39] = 1;
-    let frame = proposal_frame(alloc, &keyring, View(0), &core, &genesis_certificate())?;
-    Ok(Bytes::from_vec(frame)?)
+    let certificate = genesis_certificate();
+    Ok(proposal_frame(alloc, &keyring, View(0), &core, &certificate)?)
+}
+
+/// The first proposal of replica 0.
+pub(crate) fn proposal(alloc: Global, config: Config) -> Result<Bytes> {
+    Ok(Bytes::from_vec(proposal_bytes(alloc, config)?)?)
+}
+
+/// A replica's vote for a block.
+pub(crate) fn vote(
+    alloc: Global,
+    config: Config,
+    voter: ReplicaId,
+    block: &Digest,
+) -> Result<Bytes> {
+    let keyring = replica_keyring_of(alloc, config, voter)?;
+    Ok(Bytes::from_vec(vote_frame(alloc, &keyring, block)?)?)
 }
 
 /// Client 0's request of this number: it sets an item.

@@ -306,10 +306,7 @@ fn run_at<R: Threads + Wait + Clock + Sync, G: Gate + Sync>(
     until: Until,
 ) -> Result<(usize, [u64; 4]), Fault> {
     let (marks, mut eyes) = Marks::new(stage.alloc, stage.config.n())?;
-    let Some(eye) = eyes.pop() else {
-        return Err(Fault::NotAll);
-    };
-    let watcher = Watcher::new(&marks, stage.config.n(), eye);
+    let watcher = Watcher::new(&marks, stage.config.n(), &mut eyes);
     let stations = stations(
         stage.alloc,
         stage.config,
