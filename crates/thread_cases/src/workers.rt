@@ -3,8 +3,8 @@
 mod fake;
 mod frames;
 mod held;
-mod late;
 mod meeting;
+mod order;
 mod runs;
 mod scenes;
 mod seen;
@@ -34,6 +34,14 @@ where
     for scene in SCENES {
         println!(rt; "{}", scene.play(rt, rt.alloc())?)?;
     }
-    println!(rt; "{}", late::play(rt, rt.alloc())?)?;
+    let alloc = rt.alloc();
+    println!(rt;
+        "one late vote, the second of three: voters{}",
+        order::late_vote(rt, alloc)?
+    )?;
+    println!(rt;
+        "its own vote, the last of three: voters{}",
+        order::own_vote(rt, alloc)?
+    )?;
     Ok(())
 }

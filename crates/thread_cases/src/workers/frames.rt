@@ -65,15 +65,15 @@ pub(crate) fn proposal(alloc: Global, config: Config) -> Result<Bytes> {
     Ok(Bytes::from_vec(proposal_bytes(alloc, config)?)?)
 }
 
-/// A replica's vote for a block.
+/// The bytes of a replica's vote for a block.
 pub(crate) fn vote(
     alloc: Global,
     config: Config,
     voter: ReplicaId,
     block: &Digest,
-) -> Result<Bytes> {
+) -> Result<Vec<u8>> {
     let keyring = replica_keyring_of(alloc, config, voter)?;
-    Ok(Bytes::from_vec(vote_frame(alloc, &keyring, block)?)?)
+    Ok(vote_frame(alloc, &keyring, block)?)
 }
 
 /// Client 0's request of this number: it sets an item.
