@@ -4,7 +4,7 @@ use Rattle.std.specs.Prelude.{sum_by, slice_get, Some}
 use Rattle.std.proofs.lemmas.List.Sums.{sum_by-set}
 use Rattle.std.proofs.lemmas.List.{length-append}
 use Rattle.std.proofs.lemmas.Option.{get_or_from_slice_get, slice_get_within}
-use Rattle.fair_queue.specs.Queues.{Rows, Row, Puts, Takes, TakesFrom, after_one}
+use Rattle.fair_queue.specs.Queues.{Rows, Row, Puts, Takes, after_one}
 use Rattle.fabric.specs.Inboxes.{count_of}
 
 -- of rows of which one was changed
@@ -30,12 +30,4 @@ pub one_less : {T : Type 0} (old : Rows T) (value : T) (new : Rows T)
 one_less {T} old value new t =
     let one : length t.row.items ≡ length t.rest + 1 = rw add-one (ap length t.oldest) in
     let sums = count-set old.rows t.number t.row (after_one t.row t.size t.rest) t.at in
-    ap (λ (q : Rows T). count_of q + 1) t.is ∙ omega (arith, one, sums)
-
--- the same of one row
-pub one_less_from : {T : Type 0} (old : Rows T) (number : ℕ) (value : T) (new : Rows T)
-    → TakesFrom old number value new → count_of new + 1 ≡ count_of old
-one_less_from {T} old number value new t =
-    let one : length t.row.items ≡ length t.rest + 1 = rw add-one (ap length t.oldest) in
-    let sums = count-set old.rows number t.row (after_one t.row t.size t.rest) t.at in
     ap (λ (q : Rows T). count_of q + 1) t.is ∙ omega (arith, one, sums)

@@ -1,6 +1,6 @@
 -- What waits at a link.
-use Rattle.std.specs.Prelude.{◌≡◌, ◌==◌, ◌⊎◌, ℕ, Bool, false, Option, Some, None, length, sum_by}
-use Rattle.fair_queue.specs.Queues.{Rows, Row, Takes, TakesFrom, ready_at}
+use Rattle.std.specs.Prelude.{◌==◌, ℕ, Bool, false, Option, Some, None, length, sum_by}
+use Rattle.fair_queue.specs.Queues.{Rows, Row}
 
 -- how many values wait in all rows
 abbrev pub count_of : {T : Type 0} → Rows T → ℕ
@@ -10,8 +10,3 @@ count_of {T} queue = sum_by (λ (row : Row T). length row.items) queue.rows
 abbrev pub is_over : Option ℕ → Bool
 is_over (Some before) = before == 0
 is_over None = false
-
--- A value was taken, where one row goes first: its oldest, or, where that may not be taken, the one whose turn it was.
-abbrev pub TakesFirst : {T : Type 0} → ℕ → Rows T → T → Rows T → Type 0
-TakesFirst own old value new =
-    TakesFrom old own value new ⊎ ((ready_at old.rows own ≡ false) × Takes old value new)

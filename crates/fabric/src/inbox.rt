@@ -5,9 +5,9 @@ ghost use Rattle.std.specs.Prelude.{IfNone, IfOk, IfSome, MatchBool, OnErr, OnOk
 ghost use Rattle.std.specs.Prelude.{if◌then◌else◌};
 ghost use Rattle.std.specs.Bool.{OnFalse, OnTrue};
 ghost use Rattle.std.specs.Option.{ForSome};
-ghost use Rattle.fair_queue.specs.Queues.{IsNext, NoneReady, Puts, ready_at, refilled, waiting_in};
+ghost use Rattle.fair_queue.specs.Queues.{IsNext, NoneReady, Puts, Takes, ready_at, refilled, waiting_in};
 ghost use Rattle.fair_queue.specs.declared.row.TheConstants.{MOST_SIZE};
-ghost use Rattle.fabric.specs.Inboxes.{TakesFirst, count_of, is_over};
+ghost use Rattle.fabric.specs.Inboxes.{count_of, is_over};
 ghost use Rattle.fabric.specs.Parcels.{size_of};
 
 use crate::parcel::Parcel;
@@ -44,8 +44,6 @@ struct Handed {
 #[derive(Drop)]
 struct Inside {
     queue: FairQueue<Handed>,
-    /// The row of the replica's own frames, which go first.
-    own: usize,
     /// How many parcels wait.
     waiting: usize,
     /// How many frames were handed in.
@@ -107,13 +105,13 @@ impl Inside {
         self.before_stop == Some(0)
     }
 
-    /// Takes the replica's own oldest frame, where it may be taken, and else the parcel whose turn it is. Once all was taken that was handed in before the workers were told to
+    /// Takes the parcel whose turn it is. Once all was taken that was handed in before the workers were told to
     /// end, it is a stop, for each worker that asks.
-    #[tactic(auto, using(crate::proofs::Counting::one_less, crate::proofs::Counting::one_less_from))]
+    #[tactic(auto, using(crate::proofs::Counting::one_less))]
     fn next(&mut self) -> Option<Handed>
         ensures taken { MatchBool (is_over self.old.before_stop)
             ((result ≡ Some (record { is_request = false; parcel = Parcel.Stop })) × (self.new ≡ self.old))
-            (IfSome result (λ handed. TakesFirst self.old.own self.old.queue handed self.new.queue)) }
+            (IfSome result (λ handed. Takes self.old.queue handed self.new.queue)) }
         ensures none { IfNone result ((self.new ≡ self.old) × NoneReady self.old.queue) }
         ensures left { OnSome result
             (self.new.before_stop ≡ option_map (λ before. before - 1) self.old.before_stop) }
@@ -124,10 +122,7 @@ impl Inside {
                 parcel: Parcel::Stop,
             });
         }
-        let handed = match self.queue.take_from(self.own) {
-            Some(own) => own,
-            None => self.queue.take()?,
-        };
+        let handed = self.queue.take()?;
         self.waiting -= 1;
         self.before_stop = self.before_stop.map(|before| before.saturating_sub(1));
         Some(handed)
@@ -205,9 +200,8 @@ fn until_refill<R: Clock>(rt: &R, refilled: Option<Instant>) -> Option<Duration>
 
 /// Where the parcels of one replica's link wait. Threads share it by reference.
 ///
-/// Each sender has a row with a share of its own (`fair_queue`). The replica's own frames go first, so that a leader
-/// has its block before votes for it come. The others take turns, and in ten milliseconds no more is taken from one
-/// than its allowance.
+/// Each sender has a row with a share of its own (`fair_queue`). Senders take turns, and in ten milliseconds no more
+/// is taken from one than its allowance.
 #[derive(Drop)]
 pub struct Inbox {
     inside: Mutex<Inside>,
@@ -219,15 +213,14 @@ pub struct Inbox {
 }
 
 impl Inbox {
-    /// An inbox of so many rows, in which nothing waits. The row of the replica's own frames has this number.
-    pub(crate) fn new(alloc: Global, rows: usize, own: usize) -> Result<Inbox, AllocError>
+    /// An inbox of so many rows, in which nothing waits.
+    pub(crate) fn new(alloc: Global, rows: usize) -> Result<Inbox, AllocError>
         requires { 0 < rows }
     {
         let queue = FairQueue::new(alloc, rows)?;
         Ok(Inbox {
             inside: Mutex::new(Inside {
                 queue,
-                own,
                 waiting: 0,
                 numbered: 0,
                 before_stop: None,

@@ -63,8 +63,8 @@ fn inboxes(alloc: Global, config: Config) -> Result<(Vec<Arc<Inbox>>, Vec<Arc<In
     let count = usize::from(config.n());
     let mut links = Vec::with_capacity(alloc, count)?;
     let mut ends = Vec::with_capacity(alloc, count)?;
-    for number in 0..count {
-        let inbox = Inbox::new(alloc, count + 1 + CLIENT_ROWS, number)?;
+    for _ in 0..count {
+        let inbox = Inbox::new(alloc, count + 1 + CLIENT_ROWS)?;
         let inbox = Arc::new(alloc, inbox)?;
         ends.push_reserved(Arc::try_clone(&inbox)?);
         links.push_reserved(inbox);
@@ -257,13 +257,24 @@ impl Links {
         self.hand_in_frame(rt, row, to, copy)
     }
 
-    /// Hands in a frame at each replica's link. One that can't take it doesn't keep it from the others.
-    fn share_with_all<R: Wait>(&self, rt: &R, row: Row, frame: Bytes) -> Result<(), Fault>
+    /// Hands in a frame at each replica's link, but its sender's, where a replica sent it. One that can't take it
+    /// doesn't keep it from the others.
+    fn share_with_all<R: Wait>(
+        &self,
+        rt: &R,
+        row: Row,
+        from: Option<ReplicaId>,
+        frame: Bytes,
+    ) -> Result<(), Fault>
         ensures { OnErr result ((result ≡ Err Fault.Memory) ⊎ (result ≡ Err Fault.NoSuchParty)) }
     {
         let mut all = Ok(());
         for number in 0..self.config.n() {
-            if let Err(fault) = self.share_with(rt, row, ReplicaId(number), &frame) {
+            let to = ReplicaId(number);
+            if from == Some(to) {
+                continue;
+            }
+            if let Err(fault) = self.share_with(rt, row, to, &frame) {
                 all = Err(fault);
             }
         }
@@ -281,10 +292,10 @@ impl Links {
     pub fn to_all<R: Wait>(&self, rt: &R, frame: Bytes) -> Result<(), Fault>
         ensures { OnErr result ((result ≡ Err Fault.Memory) ⊎ (result ≡ Err Fault.NoSuchParty)) }
     {
-        self.share_with_all(rt, self.client_row(), frame)
+        self.share_with_all(rt, self.client_row(), None, frame)
     }
 
-    /// Hands in a frame of a replica where it goes.
+    /// Hands in a frame of a replica where it goes. What goes to itself goes over no link.
     pub(crate) fn send_from<R: Wait>(
         &self,
         rt: &R,
@@ -296,8 +307,13 @@ impl Links {
     {
         let row = self.replica_row(from);
         match to {
-            To::All => self.share_with_all(rt, row, frame),
-            To::Replica(replica) => self.hand_in_frame(rt, row, replica, frame),
+            To::All => self.share_with_all(rt, row, Some(from), frame),
+            To::Replica(to) => {
+                if to == from {
+                    return Ok(());
+                }
+                self.hand_in_frame(rt, row, to, frame)
+            }
             To::Client(client) => self.to_client(rt, from, client, frame),
         }
     }

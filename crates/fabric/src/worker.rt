@@ -14,6 +14,7 @@ use frames_view::{Frame, read};
 use ids::{Config, Digest, Fault, Height, Kind, ReplicaId};
 use signed_frames::{Out, Sending, To, WorkerKeyring};
 use std::alloc::Global;
+use std::collections::VecDeque;
 use std::sync::Wait;
 use std::time::Clock;
 use turns::{Gate, Share, Steps, turn};
@@ -30,14 +31,19 @@ pub struct Worker<'a, G, O = Links> {
     room: &'a WaitingRoom,
     /// The block that its last proposal's certificate is for.
     certified: Option<Digest>,
+    /// What was sent to the replica itself, and isn't taken yet.
+    own: VecDeque<Bytes>,
 }
 
-/// What takes the frames that a replica sends.
+/// What takes the frames that a replica sends to others.
 pub trait Outgoing {
-    /// Sends a frame of a replica of the deployment where it goes. One that can't be taken is lost, as on any
-    /// network.
+    /// Sends a frame of a replica of the deployment where it goes, but not to that replica itself. One that can't be
+    /// taken is lost, as on any network.
     fn send<R: Wait>(&self, rt: &R, from: ReplicaId, sending: Sending);
 }
+
+/// The number of a frame that a replica sends to itself: it goes over no link.
+const OWN: u64 = 0;
 
 /// The links take them as they are.
 impl Outgoing for Links {
@@ -62,13 +68,6 @@ fn certified_by(config: &Config, out: &Out) -> Option<Digest> {
     }
 }
 
-/// Sends all frames of a step of a replica.
-fn send_all<R: Wait, O: Outgoing>(rt: &R, to: &O, from: ReplicaId, out: Out) {
-    for sending in out.into_sendings() {
-        to.send(rt, from, sending);
-    }
-}
-
 impl<'a, G: Gate, O: Outgoing> Worker<'a, G, O> {
     /// A worker of the keyring's replica. The replica's workers share the room.
     pub fn new(
@@ -87,7 +86,41 @@ impl<'a, G: Gate, O: Outgoing> Worker<'a, G, O> {
             out,
             room,
             certified: None,
+            own: VecDeque::new(alloc),
         }
+    }
+
+    /// Sends all frames of a step. What goes to the replica itself is its next parcel: over its link it would come
+    /// behind the others' answers to it, which would lack its block.
+    fn send_all<R: Wait>(&mut self, rt: &R, out: Out) {
+        let own = self.keyring.replica();
+        for sending in out.into_sendings() {
+            if sending.to == To::Replica(own) {
+                self.keep(Bytes::from_vec(sending.frame).ok());
+                continue;
+            }
+            if sending.to == To::All {
+                let copy = Bytes::copy_from_slice(self.alloc, sending.frame.as_slice());
+                self.keep(copy.ok());
+            }
+            self.out.send(rt, own, sending);
+        }
+    }
+
+    /// Keeps what was sent to the replica itself. Where memory was refused it is lost, as on any network.
+    fn keep(&mut self, frame: Option<Bytes>) {
+        if let Some(bytes) = frame {
+            let _refused = self.own.push_back(bytes);
+        }
+    }
+
+    /// The next parcel: what the replica sent to itself goes before what comes over its link.
+    fn next<R: Wait + Clock>(&mut self, rt: &R) -> Parcel {
+        if let Some(bytes) = self.own.pop_front() {
+            return Parcel::Frame { number: OWN, bytes };
+        }
+        self.room.hold_back(rt);
+        self.inbox.recv(rt)
     }
 
     /// A parcel is done. Asks for the block that a waiting frame lacks, if it has waited long enough.
@@ -110,7 +143,7 @@ impl<'a, G: Gate, O: Outgoing> Worker<'a, G, O> {
 
     /// The turn of one frame. What it sends goes out.
     fn bring<R: Wait, S: Steps>(
-        &self,
+        &mut self,
         rt: &R,
         steps: &mut S,
         share: &mut Share,
@@ -128,13 +161,19 @@ impl<'a, G: Gate, O: Outgoing> Worker<'a, G, O> {
             self.keyring.verifying(),
             bytes,
         )?;
-        send_all(rt, self.out, self.keyring.replica(), out);
+        self.send_all(rt, out);
         Ok(())
     }
 
     /// Brings the frames that lack this block, which the replica has by now, and those that lack a
     /// block that one of them brought.
-    fn release<R: Wait, S: Steps>(&self, rt: &R, steps: &mut S, share: &mut Share, block: Digest)
+    fn release<R: Wait, S: Steps>(
+        &mut self,
+        rt: &R,
+        steps: &mut S,
+        share: &mut Share,
+        block: Digest,
+    )
         ensures { HasGrown share.old share.new }
     {
         let mut known = Vec::new(self.alloc);
@@ -158,7 +197,7 @@ impl<'a, G: Gate, O: Outgoing> Worker<'a, G, O> {
     /// the replica has another worker, that may have taken the block before the frame began to wait: so the frame
     /// is brought once more.
     fn take_later<R: Wait, S: Steps>(
-        &self,
+        &mut self,
         rt: &R,
         steps: &mut S,
         share: &mut Share,
@@ -203,7 +242,7 @@ impl<'a, G: Gate, O: Outgoing> Worker<'a, G, O> {
 
     /// Takes one frame. Where it brings a block, what waited for that block comes next.
     fn take<R: Wait, S: Steps>(
-        &self,
+        &mut self,
         rt: &R,
         steps: &mut S,
         share: &mut Share,
@@ -228,11 +267,17 @@ impl<'a, G: Gate, O: Outgoing> Worker<'a, G, O> {
     }
 
     /// One step that no frame brings.
-    fn step<R: Wait, S: Steps>(&self, rt: &R, steps: &mut S, share: &mut Share, input: Input<'_>)
+    fn step<R: Wait, S: Steps>(
+        &mut self,
+        rt: &R,
+        steps: &mut S,
+        share: &mut Share,
+        input: Input<'_>,
+    )
         ensures { HasGrown share.old share.new }
     {
         if let Ok(out) = steps.step(rt, share, input) {
-            send_all(rt, self.out, self.keyring.replica(), out);
+            self.send_all(rt, out);
         }
     }
 
@@ -242,7 +287,7 @@ impl<'a, G: Gate, O: Outgoing> Worker<'a, G, O> {
     {
         if let Some(Ok(out)) = steps.beat_now(rt, share) {
             self.certified = certified_by(&self.keyring.config(), &out);
-            send_all(rt, self.out, self.keyring.replica(), out);
+            self.send_all(rt, out);
         }
     }
 
@@ -257,8 +302,7 @@ impl<'a, G: Gate, O: Outgoing> Worker<'a, G, O> {
         ensures { HasGrown share result }
     {
         for _ in rt.forever() {
-            self.room.hold_back(rt);
-            let parcel = self.inbox.recv(rt);
+            let parcel = self.next(rt);
             self.room.begin();
             match parcel {
                 Parcel::Frame { number, bytes } => {

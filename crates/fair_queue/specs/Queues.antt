@@ -90,15 +90,6 @@ pub record Takes {T : Type 0} (old : Rows T) (value : T) (new : Rows T) : Type 0
     turn = row_behind (length old.rows) number;
   }
 
--- A value was taken: the oldest of the row of this number. The turn and all else stayed.
-pub record TakesFrom {T : Type 0} (old : Rows T) (number : ℕ) (value : T) (new : Rows T) : Type 0 where
-  pub row : Row T
-  pub at : slice_get old.rows number ≡ Some row
-  pub size : ℕ
-  pub rest : List (ℕ × T)
-  pub oldest : row.items ≡ (size, value) ∷ rest
-  pub is : new ≡ record old { rows = set old.rows number (after_one row size rest) }
-
 -- nothing may be taken from any row
 abbrev pub NoneReady : {T : Type 0} → Rows T → Type 0
 NoneReady queue = (place : ℕ) → place < length queue.rows

@@ -1,8 +1,8 @@
 //! All rows, and whose turn it is.
 
-ghost use Rattle.std.specs.Prelude.{◌≡◌, ◌+◌, ◌<◌, ◌≤◌, ℕ, false, length, IfOk, OnOk, OnErr, IfSome, IfNone, MatchBool, map, nat_lt, replicate};
+ghost use Rattle.std.specs.Prelude.{◌≡◌, ◌+◌, ◌<◌, ◌≤◌, ℕ, length, IfOk, OnOk, OnErr, IfSome, IfNone, MatchBool, map, nat_lt, replicate};
 ghost use Rattle.std.specs.Bool.{OnTrue, OnFalse};
-ghost use Rattle.fair_queue.specs.Queues.{IsNext, NoneReady, Puts, Takes, TakesFrom, empty_row, ready_at, refilled, row_at, row_behind, waiting_in};
+ghost use Rattle.fair_queue.specs.Queues.{IsNext, NoneReady, Puts, Takes, empty_row, ready_at, refilled, row_at, row_behind, waiting_in};
 ghost use Rattle.fair_queue.specs.declared.row.TheConstants.{MOST_SIZE};
 ghost use Rattle.fair_queue.specs.declared.refusal.Refusal.TheVariants.{Full, Memory};
 
@@ -89,19 +89,6 @@ impl<T: Drop> FairQueue<T> {
         let number = self.next()?;
         let value = self.rows[number].take()?;
         self.turn = row_behind(self.rows.len(), number);
-        Some(value)
-    }
-
-    /// Takes the oldest value of the row of this number, where it may be taken. The turn stays.
-    pub fn take_from(&mut self, number: usize) -> Option<T>
-        ensures taken { IfSome result (λ value. TakesFrom self.old number value self.new) }
-        ensures none { IfNone result
-            ((self.new ≡ self.old) × (ready_at self.old.rows number ≡ false)) }
-    {
-        if number >= self.rows.len() || !self.is_ready_at(number) {
-            return None;
-        }
-        let value = self.rows[number].take()?;
         Some(value)
     }
 

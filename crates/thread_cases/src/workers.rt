@@ -40,7 +40,7 @@ where
         order::late_vote(rt, alloc)?
     )?;
     println!(rt;
-        "its own vote, the last of three: voters{}",
+        "its own vote, sent behind the first of three: voters{}",
         order::own_vote(rt, alloc)?
     )?;
     Ok(())

@@ -17,14 +17,14 @@ use std::sync::Wait;
 use std::time::Clock;
 use turns::{Open, Steps};
 
-/// Proposes this as soon as it is asked, if anything, and notes whose votes come, in their order.
+/// Sends this when it is first asked whether a beat is due, and notes whose votes come, in their order.
 #[derive(Drop)]
-struct Proposer {
-    proposal: Option<Out>,
+struct Sender {
+    out: Option<Out>,
     voters: Vec<u8>,
 }
 
-impl Steps for Proposer {
+impl Steps for Sender {
     ghost moved = { λ _ _ _ _ _ _. ⊤ };
 
     ghost rests = { λ _. ⊤ };
@@ -45,9 +45,9 @@ impl Steps for Proposer {
         if share.count() == usize::MAX {
             return None;
         }
-        let proposal = self.proposal.take()?;
+        let out = self.out.take()?;
         share.add(1);
-        Some(Ok(proposal))
+        Some(Ok(out))
     }
 }
 
@@ -59,14 +59,9 @@ impl Outgoing for Nowhere {
     fn send<R: Wait>(&self, _rt: &R, _from: ReplicaId, _sending: Sending) {}
 }
 
-/// Replica 0's first block, which has the certificate of genesis.
-fn first_proposal(alloc: Global, config: Config) -> Result<Out> {
-    let sending = Sending {
-        to: To::All,
-        kind: Kind::Proposal,
-        frame: frames::proposal_bytes(alloc, config)?,
-    };
-    Ok(Out::one(alloc, sending)?)
+/// One frame goes out.
+fn out_of(alloc: Global, to: To, kind: Kind, frame: Vec<u8>) -> Result<Out> {
+    Ok(Out::one(alloc, Sending { to, kind, frame })?)
 }
 
 /// Hands in the votes of these replicas for these blocks at the link of replica 0, in this order, and then a stop.
@@ -93,64 +88,62 @@ fn voters_of<R: Wait + Clock>(
     alloc: Global,
     ends: &Ends,
     keyring: ReplicaKeyring,
-    proposal: Option<Out>,
+    out: Out,
 ) -> Result<Vec<u8>> {
     let Some(inbox) = ends.replicas.first() else {
         bail!("no link of replica 0");
     };
     let room = WaitingRoom::new(alloc, 1);
     let keyring = WorkerKeyring::new(keyring);
-    let mut proposer = Proposer {
-        proposal,
+    let mut sender = Sender {
+        out: Some(out),
         voters: Vec::new(alloc),
     };
     let worker = Worker::new(alloc, keyring, &Open, inbox, &Nowhere, &room);
-    let _share = worker.run(rt, &mut proposer, Share::new(ReplicaId(0), 0));
-    Ok(proposer.voters)
+    let _share = worker.run(rt, &mut sender, Share::new(ReplicaId(0), 0));
+    Ok(sender.voters)
 }
 
-/// Whose votes come to replica 0's steps, of these that are handed in: in their order.
+/// Whose votes come to replica 0's steps, in their order, where the first is followed by what replica 0 sends.
 fn play<R: Wait + Clock>(
     rt: &R,
     alloc: Global,
+    config: Config,
     votes: [(ReplicaId, Digest); 3],
-    proposes: bool,
+    out: Out,
 ) -> Result<String> {
-    let config = Config::new(1, 2)?;
     let keyring = replica_keyring_of(alloc, config, ReplicaId(0))?;
-    let proposal = if proposes {
-        Some(first_proposal(alloc, config)?)
-    } else {
-        None
-    };
     let (links, ends) = Links::new(alloc, config)?;
     hand_in(rt, alloc, &links, votes)?;
     let mut text = String::new(alloc);
-    for voter in voters_of(rt, alloc, &ends, keyring, proposal)? {
+    for voter in voters_of(rt, alloc, &ends, keyring, out)? {
         write!(text, " {voter}")?;
     }
     Ok(text)
 }
 
-/// Of three votes the second is late: when the first was taken, a proposal goes out with the certificate of their
-/// block. The third is for another block.
-pub(crate) fn late_vote<R: Wait + Clock>(rt: &R, alloc: Global) -> Result<String> {
+/// The votes of replicas 1 and 2 for genesis, and that of replica 3 for another block.
+fn votes() -> [(ReplicaId, Digest); 3] {
     let (genesis, other) = (genesis_digest(), Digest([0xaa; 32]));
-    let votes = [
+    [
         (ReplicaId(1), genesis),
         (ReplicaId(2), genesis),
         (ReplicaId(3), other),
-    ];
-    play(rt, alloc, votes, true)
+    ]
 }
 
-/// Replica 0's own vote is handed in behind two others.
+/// The vote of replica 2 is late: when that of replica 1 was taken, a proposal goes out with genesis's certificate.
+pub(crate) fn late_vote<R: Wait + Clock>(rt: &R, alloc: Global) -> Result<String> {
+    let config = Config::new(1, 2)?;
+    let proposal = frames::proposal_bytes(alloc, config)?;
+    let out = out_of(alloc, To::All, Kind::Proposal, proposal)?;
+    play(rt, alloc, config, votes(), out)
+}
+
+/// Replica 0 sends itself a vote when that of replica 1 was taken and the others wait.
 pub(crate) fn own_vote<R: Wait + Clock>(rt: &R, alloc: Global) -> Result<String> {
-    let genesis = genesis_digest();
-    let votes = [
-        (ReplicaId(1), genesis),
-        (ReplicaId(2), genesis),
-        (ReplicaId(0), genesis),
-    ];
-    play(rt, alloc, votes, false)
+    let config = Config::new(1, 2)?;
+    let vote = frames::vote(alloc, config, ReplicaId(0), &genesis_digest())?;
+    let out = out_of(alloc, To::Replica(ReplicaId(0)), Kind::Vote, vote)?;
+    play(rt, alloc, config, votes(), out)
 }
