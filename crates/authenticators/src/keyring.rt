@@ -21,7 +21,7 @@ pub struct Keyring {
     config: Config,
     party: PartyId,
     keys: Vec<SharedKey>,
-    /// What was found short ago, so that it isn't hashed again.
+    /// What was found right a short while ago, so that it isn't hashed again.
     known: Option<Arc<KnownTags>>,
 }
 

@@ -136,7 +136,8 @@ impl Links {
     }
 
     /// How many frames were to be sent and are lost: for want of memory, where one that is for all counts once; or
-    /// since they didn't fit in their sender's share, where each counts that didn't come to a replica.
+    /// since they didn't fit in their sender's share, where each counts that didn't come to a replica. What a replica
+    /// sends to itself goes over no link, and isn't counted.
     pub fn lost(&self) -> u64 {
         self.lost.load(SeqCst)
     }

@@ -29,21 +29,26 @@ all_owners z all owners n made len rest =
     rest ∙ (λ i. take (less i) (made i))
     ∙ take-map-range_with_len (first_eye z) 0 (z.words + 1) z.words (omega arith)
 
--- these eyes are of these marks
-abbrev OfMarks : TableId → List EyeState → Type 0
-OfMarks z [] = z ≡ z
-OfMarks z (e ∷ es) = (e.marks ≡ z) × OfMarks z es
+-- these are the first eyes from k on
+abbrev FirstEyes : TableId → ℕ → List EyeState → Type 0
+FirstEyes z k [] = k ≡ z.words + 1
+FirstEyes z k (e ∷ es) = (e ≡ first_eye z k) × FirstEyes z (k + 1) es
 
-of_marks : (z : TableId) (n k : ℕ) → OfMarks z (map (first_eye z) (range_with_len k n))
-of_marks z zero k = refl
-of_marks z (suc n) k = (refl, of_marks z n (k + 1))
+eyes_from : (z : TableId) (n k : ℕ) → k + n ≡ z.words + 1
+    → FirstEyes z k (map (first_eye z) (range_with_len k n))
+eyes_from z zero k end = omega (arith, end)
+eyes_from z (suc n) k end = (refl, eyes_from z n (k + 1) (omega (arith, end)))
 
-last_of : (z : TableId) (xs : List EyeState) (e : EyeState) → OfMarks z (xs ++ e ∷ []) → e.marks ≡ z
-last_of z [] e all = all.0
-last_of z (x ∷ xs) e all = last_of z xs e all.1
+last_from : (z : TableId) (k : ℕ) (rest : List EyeState) (e : EyeState)
+    → FirstEyes z k (rest ++ e ∷ []) → e ≡ first_eye z z.words
+last_from z k [] e eyes =
+    let last : k ≡ z.words = omega (arith, eyes.1) in
+    eyes.0 ∙ (λ i. first_eye z (last i))
+last_from z k (x ∷ rest) e eyes = last_from z (k + 1) rest e eyes.1
 
--- the last, too, is of these marks
+-- the last is the one that owns none
 pub last_eye : (z : TableId) (all rest : List EyeState) (e : EyeState) → all ≡ first_eyes z
-    → all ≡ rest ++ e ∷ [] → e.marks ≡ z
+    → all ≡ rest ++ e ∷ [] → e ≡ first_eye z z.words
 last_eye z all rest e made items =
-    last_of z rest e (subst (OfMarks z) items (subst (OfMarks z) (sym made) (of_marks z (z.words + 1) 0)))
+    let eyes : FirstEyes z 0 all = subst (FirstEyes z 0) (sym made) (eyes_from z (z.words + 1) 0 (omega arith)) in
+    last_from z 0 rest e (subst (FirstEyes z 0) items eyes)

@@ -35,6 +35,7 @@ impl<'m> Watcher<'m> {
     pub fn new(marks: &'m Marks, replicas: u8, eyes: &mut Vec<Eye>) -> Watcher<'m>
         requires words { marks.now.words ≡ replicas }
         requires eyes { eyes.old.items ≡ first_eyes marks.now }
+        ensures reads { result ≡ first_eye marks.now marks.now.words }
         ensures owners { eyes.new.items ≡ map (first_eye marks.now) (range_with_len 0 marks.now.words) }
     {
         let last = eyes.pop();
