@@ -14,16 +14,21 @@ unfoldable pub watched : ℕ → Looks → Watch
 watched replicas [] = unseen replicas
 watched replicas (x ∷ earlier) = looked (watched replicas earlier) x.0 x.1
 
+-- for how many milliseconds it has lagged after a look, where it had lagged for so many before it; or so many as are
+-- kept, where it doesn't lag. In a new view, and once a timeout is due, it is none
+abbrev lagged_after : Watch → ℕ × Pulse → (before kept : ℕ) → ℕ
+lagged_after w x before kept =
+    if not (x.1.view == w.view) then 0
+    else if is_due w x.0 x.1 then 0
+    else if lags w x.0 x.1 then before + (x.0 - w.looked)
+    else kept
+
 -- for how many milliseconds the replica lagged in the view that it was seen in last, and since the last timeout
 -- that was due in it
 unfoldable pub lagged : ℕ → Looks → ℕ
 lagged replicas [] = 0
 lagged replicas (x ∷ earlier) =
-    let w = watched replicas earlier in
-    if not (x.1.view == w.view) then 0
-    else if is_due w x.0 x.1 then 0
-    else if lags w x.0 x.1 then lagged replicas earlier + (x.0 - w.looked)
-    else lagged replicas earlier
+    let before = lagged replicas earlier in lagged_after (watched replicas earlier) x before before
 
 -- No timeout is due before the replica has lagged for a third of the limit of its view, this look included.
 abbrev pub IsEarned : Type 0
@@ -34,12 +39,7 @@ IsEarned = (replicas : ℕ) (earlier : Looks) (now : ℕ) (p : Pulse)
 -- the same, as far back as it lagged at each look
 unfoldable pub lagged_on : ℕ → Looks → ℕ
 lagged_on replicas [] = 0
-lagged_on replicas (x ∷ earlier) =
-    let w = watched replicas earlier in
-    if not (x.1.view == w.view) then 0
-    else if is_due w x.0 x.1 then 0
-    else if lags w x.0 x.1 then lagged_on replicas earlier + (x.0 - w.looked)
-    else 0
+lagged_on replicas (x ∷ earlier) = lagged_after (watched replicas earlier) x (lagged_on replicas earlier) 0
 
 -- A timeout is due once the replica has lagged at each look for a third of the limit of its view, this look
 -- included.
