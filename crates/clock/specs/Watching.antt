@@ -15,7 +15,6 @@ abbrev pub unseen : ℕ → Watch
 unseen replicas = record {
   view = 0;
   executed = 0;
-  height = 0;
   looked = 0;
   patience = patience_of replicas;
   slow = 0;
@@ -27,17 +26,12 @@ unseen replicas = record {
 abbrev pub moved : Watch → Pulse → Bool
 moved w p = not ((p.view == w.view) && (p.executed == w.executed))
 
--- so many of something took longer than so many milliseconds each, where so many passed
-abbrev pub took_longer : (count each passed : ℕ) → Bool
-took_longer count each passed = nat_lt (min (count * each) (2 ^ 64 - 1)) passed
-
--- requests wait, and of what was executed since it was looked at last the commands took longer than they may, or
--- the heights longer than half of that
+-- The commands that were executed since it was looked at last took longer than they may, for each request that
+-- waits, up to 8 of them. Where none waits it doesn't lag.
 abbrev pub lags : Watch → ℕ → Pulse → Bool
 lags w now p =
-    let passed = now - w.looked in
-    p.is_pending && (took_longer (p.executed - w.executed) w.patience passed
-    || took_longer (p.height - w.height) (w.patience / 2) passed)
+    nat_lt (min ((p.executed - w.executed) * w.patience) (2 ^ 64 - 1))
+    (min ((now - w.looked) * min p.pending 8) (2 ^ 64 - 1))
 
 -- how slow its view was: each millisecond in which it lagged counts three, each other one takes one back
 abbrev pub slow_after : Watch → ℕ → Pulse → ℕ
@@ -91,7 +85,6 @@ abbrev pub looked : Watch → ℕ → Pulse → Watch
 looked w now p = record {
   view = p.view;
   executed = p.executed;
-  height = p.height;
   looked = now;
   patience = w.patience;
   slow = if is_due w now p then 0 else slow_after w now p;

@@ -2,7 +2,7 @@
 
 ghost use Rattle.std.specs.Prelude.{◌≡◌, if◌then◌else◌};
 ghost use Rattle.clock.specs.Watching.{due_of, is_over, is_overdue, lags, limit_of, looked, moved};
-ghost use Rattle.clock.specs.Watching.{patience_of, pause_after, prune_at, rests, slow_after, took_longer, unseen};
+ghost use Rattle.clock.specs.Watching.{patience_of, pause_after, prune_at, rests, slow_after, unseen};
 
 use ids::{Fault, Height, View};
 
@@ -14,6 +14,10 @@ const LEAST_PAUSE: u64 = 20;
 /// two looks, so that a leader which brings one command at each beat of the clock is slow.
 const LEAST_PATIENCE: u64 = 10;
 
+/// Of how many requests that wait it is asked, at most, that each be executed within that time. More may wait longer,
+/// on a machine that can't serve so many at once.
+const MOST_AT_ONCE: u64 = 8;
+
 /// What is seen of a replica at one moment.
 #[derive(Clone, Copy, Debug, PartialEq, Eq)]
 pub struct Pulse {
@@ -21,8 +25,8 @@ pub struct Pulse {
     pub wants_beat: bool,
     /// Whether it does so at once: no votes are out that it should wait for.
     pub wants_beat_now: bool,
-    /// Whether requests are pending.
-    pub is_pending: bool,
+    /// How many requests are pending.
+    pub pending: u64,
     /// The view that it is in.
     pub view: View,
     /// How many commands it has executed.
@@ -49,7 +53,6 @@ pub struct Due {
 pub struct Watch {
     view: View,
     executed: u64,
-    height: Height,
     /// When it was looked at last, in milliseconds.
     looked: u64,
     /// How many milliseconds a command may take.
@@ -91,13 +94,6 @@ fn patience_of(replicas: u8) -> u64
     (replicas * replicas * replicas / 64).max(LEAST_PATIENCE)
 }
 
-/// Whether so many of something took longer than so many milliseconds each.
-fn took_longer(count: u64, each: u64, passed: u64) -> bool
-    ensures { result ≡ took_longer count each passed }
-{
-    count.saturating_mul(each) < passed
-}
-
 /// How long a proposal may wait for votes from now on, where the replica has got on, or has waited so long.
 fn pause_after(pause: u64, moved: bool, overdue: bool) -> u64
     ensures { result ≡ pause_after pause moved overdue }
@@ -119,7 +115,6 @@ impl Watch {
         Watch {
             view: View(0),
             executed: 0,
-            height: Height(0),
             looked: 0,
             patience: patience_of(replicas),
             slow: 0,
@@ -135,18 +130,16 @@ impl Watch {
         !(pulse.view.0 == self.view.0 && pulse.executed == self.executed)
     }
 
-    /// Whether requests wait, and what was executed since it was looked at last took too long: its commands, or its
-    /// heights, of which each may take half as long as a command. A lone command needs four of them; where several
-    /// wait together, a leader that brings few blocks brings each command late, though it brings many.
+    /// Whether requests wait, and the commands that were executed since it was looked at last took too long. Where
+    /// several wait, so many more have to come in the same time: else a leader could let each wait, and bring them
+    /// together.
     fn lags(&self, now: u64, pulse: Pulse) -> bool
         ensures { result ≡ lags self.now now pulse }
     {
-        let commands = pulse.executed.saturating_sub(self.executed);
-        let heights = pulse.height.0.saturating_sub(self.height.0);
+        let executed = pulse.executed.saturating_sub(self.executed);
         let passed = now.saturating_sub(self.looked);
-        pulse.is_pending
-            && (took_longer(commands, self.patience, passed)
-                || took_longer(heights, self.patience / 2, passed))
+        let waiting = pulse.pending.min(MOST_AT_ONCE);
+        executed.saturating_mul(self.patience) < passed.saturating_mul(waiting)
     }
 
     /// How slow its view has been with what is seen at this moment.
@@ -197,7 +190,6 @@ impl Watch {
         *self = Watch {
             view: pulse.view,
             executed: pulse.executed,
-            height: pulse.height,
             looked: now,
             patience: self.patience,
             slow: if over { 0 } else { slow },

@@ -89,7 +89,7 @@ impl<'a> Watched for Station<'a> {
         Pulse {
             wants_beat: replica.wants_beat(),
             wants_beat_now: replica.wants_beat_now(),
-            is_pending: replica.pending() > 0,
+            pending: replica.pending() as u64,
             view: replica.view(),
             executed: replica.executed() as u64,
             height: replica.height(),
