@@ -1,8 +1,8 @@
 -- What waits in the rows of a fair queue, and whose turn it is.
-use Rattle.std.specs.Prelude.{◌≡◌, ℕ, ◌+◌, ◌-◌, ◌*◌, ◌<◌, min, nat_lt, Bool, true, false, ◌&&◌, List, [], ◌∷◌, ◌++◌}
+use Rattle.std.specs.Prelude.{◌≡◌, ℕ, ◌+◌, ◌-◌, ◌<◌, nat_lt, Bool, true, false, ◌&&◌, List, [], ◌∷◌, ◌++◌}
 use Rattle.std.specs.Prelude.{if◌then◌else◌, sum_by, slice_get, set, length, Some}
 use Rattle.std.specs.Option.{option_map_or}
-use Rattle.fair_queue.specs.declared.row.TheConstants.{COUNT_ALLOWED, REFILLS_KEPT, SIZE_ALLOWED}
+use Rattle.fair_queue.specs.declared.row.TheConstants.{COUNT_ALLOWED, SIZE_ALLOWED}
 
 -- What waits in a row, oldest first, each value with its size; and how many values, and of how much size, may be
 -- taken until the next refill.
@@ -29,28 +29,18 @@ is_some_waiting (item ∷ items) = true
 abbrev pub is_ready : {T : Type 0} → Row T → Bool
 is_ready row = is_some_waiting row.items && nat_lt 0 row.count_left && nat_lt 0 row.size_left
 
--- how many values may be taken from a row at most until the next refill, and of how much size
-abbrev pub most_count : ℕ
-most_count = REFILLS_KEPT * COUNT_ALLOWED
-
-abbrev pub most_allowed : ℕ
-most_allowed = REFILLS_KEPT * SIZE_ALLOWED
-
--- nothing waits, and as much may be taken as ever
+-- nothing waits, and the whole allowance is left
 abbrev pub empty_row : {T : Type 0} → Row T
-empty_row = record { items = []; count_left = most_count; size_left = most_allowed }
+empty_row = record { items = []; count_left = COUNT_ALLOWED; size_left = SIZE_ALLOWED }
 
 -- a row from which its oldest value was taken, of this size
 abbrev pub after_one : {T : Type 0} → Row T → ℕ → List (ℕ × T) → Row T
 after_one row size rest =
     record { items = rest; count_left = row.count_left - 1; size_left = row.size_left - size }
 
--- a row from which so much more may be taken as one refill allows; what wasn't used of the last is kept, no more
+-- a row whose whole allowance is left
 abbrev pub refilled : {T : Type 0} → Row T → Row T
-refilled row = record row {
-  count_left = min (row.count_left + COUNT_ALLOWED) most_count;
-  size_left = min (row.size_left + SIZE_ALLOWED) most_allowed;
-}
+refilled row = record row { count_left = COUNT_ALLOWED; size_left = SIZE_ALLOWED }
 
 -- the row so many places behind the turn
 abbrev pub row_at : (rows turn place : ℕ) → ℕ

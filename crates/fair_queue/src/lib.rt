@@ -10,4 +10,4 @@ mod row;
 pub use laws::others_come_nearer;
 pub use queue::FairQueue;
 pub use refusal::Refusal;
-pub use row::{COUNT_ALLOWED, MOST_SIZE, REFILLS_KEPT, SIZE_ALLOWED};
+pub use row::{COUNT_ALLOWED, MOST_SIZE, SIZE_ALLOWED};

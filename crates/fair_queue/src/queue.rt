@@ -100,7 +100,7 @@ impl<T: Drop> FairQueue<T> {
         self.next().is_some()
     }
 
-    /// From each row so much more may be taken as one refill allows. A row keeps what it didn't use of the last.
+    /// From each row as much may be taken again as its allowance says.
     pub fn refill(&mut self)
         ensures { self.new ≡ record self.old { rows = map refilled self.old.rows } }
     {

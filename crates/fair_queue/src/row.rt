@@ -1,7 +1,7 @@
 //! What one sender has waiting.
 
 ghost use Rattle.std.specs.Prelude.{◌≡◌, ◌+◌, ◌-◌, ◌<◌, ◌≤◌, [], ◌∷◌, ◌++◌, nat_lt, OnOk, OnErr, IfSome, IfNone, MatchBool, List, ℕ, is_some};
-ghost use Rattle.fair_queue.specs.Queues.{size_of, empty_row, is_ready, after_one, refilled};
+ghost use Rattle.fair_queue.specs.Queues.{size_of, is_ready, after_one, refilled};
 ghost use Rattle.fair_queue.specs.declared.refusal.Refusal.TheVariants.{Full, Memory};
 
 use crate::refusal::Refusal;
@@ -12,14 +12,11 @@ use std::marker::Model;
 /// How much size may wait in a row.
 pub const MOST_SIZE: usize = 16_777_216;
 
-/// How many values more may be taken from a row after a refill.
+/// How many values may be taken from a row between two refills.
 pub const COUNT_ALLOWED: usize = 192;
 
-/// How much size more may be taken from a row after a refill.
+/// How much size may be taken from a row between two refills, beside that of one value more.
 pub const SIZE_ALLOWED: usize = 524_288;
-
-/// Of how many refills a row keeps what it doesn't use.
-pub const REFILLS_KEPT: usize = 2;
 
 /// The values of one sender that wait, oldest first.
 #[derive(Drop)]
@@ -45,20 +42,19 @@ impl<T> Model for Row<T> {
       size_left = row.size_left;
     } };
 
-    ghost invariant = { λ row. (row.size ≡ queues.size_of row.items.items) × (row.size ≤ MOST_SIZE)
-        × (row.count_left ≤ queues.most_count) × (row.size_left ≤ queues.most_allowed) };
+    ghost invariant = { λ row. (row.size ≡ queues.size_of row.items.items) × (row.size ≤ MOST_SIZE) };
 }
 
 impl<T: Drop> Row<T> {
-    /// Nothing waits, and as much may be taken as ever.
+    /// Nothing waits, and the whole allowance is left.
     pub(crate) fn new(alloc: Global) -> Row<T>
-        ensures { result ≡ empty_row }
+        ensures { result ≡ record { items = []; count_left = COUNT_ALLOWED; size_left = SIZE_ALLOWED } }
     {
         Row {
             items: VecDeque::new(alloc),
             size: 0,
-            count_left: REFILLS_KEPT * COUNT_ALLOWED,
-            size_left: REFILLS_KEPT * SIZE_ALLOWED,
+            count_left: COUNT_ALLOWED,
+            size_left: SIZE_ALLOWED,
         }
     }
 
@@ -112,11 +108,11 @@ impl<T: Drop> Row<T> {
         Some(value)
     }
 
-    /// So much more may be taken as one refill allows. What wasn't used of the last is kept, and no more.
+    /// The whole allowance is left again.
     pub(crate) fn refill(&mut self)
         ensures { self.new ≡ refilled self.old }
     {
-        self.count_left = (self.count_left + COUNT_ALLOWED).min(REFILLS_KEPT * COUNT_ALLOWED);
-        self.size_left = (self.size_left + SIZE_ALLOWED).min(REFILLS_KEPT * SIZE_ALLOWED);
+        self.count_left = COUNT_ALLOWED;
+        self.size_left = SIZE_ALLOWED;
     }
 }
