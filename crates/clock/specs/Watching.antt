@@ -64,7 +64,7 @@ is_overdue w now p = not (rests w p) && nat_le w.pause (now - w.asked)
 abbrev pub due_of : Watch → ℕ → Pulse → Due
 due_of w now p = record {
   beat = p.wants_beat_now || is_overdue w now p;
-  timeout = is_due w now p;
+  timeout = if is_due w now p then Some p.view else None;
 }
 
 -- the next pause, in milliseconds: half of the last, and at least 20, where the replica has got on, and

@@ -65,7 +65,7 @@ fn hand_in<R: Wait>(rt: &R, links: &Links, number: ReplicaId, due: Due) {
     if due.beat {
         let _ = links.beat(rt, number);
     }
-    if due.timeout {
-        let _ = links.timeout(rt, number);
+    if let Some(view) = due.timeout {
+        let _ = links.timeout(rt, number, view);
     }
 }

@@ -44,8 +44,8 @@ pub struct Pulse {
 pub struct Due {
     /// Leave to make a proposal.
     pub beat: bool,
-    /// A timeout: its view was slow for too long.
-    pub timeout: bool,
+    /// A timeout of this view: it was slow for too long.
+    pub timeout: Option<View>,
 }
 
 /// What was seen of a replica so far.
@@ -198,7 +198,7 @@ impl Watch {
         };
         Due {
             beat: pulse.wants_beat_now || overdue,
-            timeout: over,
+            timeout: over.then_some(pulse.view),
         }
     }
 }

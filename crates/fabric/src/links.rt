@@ -8,7 +8,7 @@ use crate::inbox::{Inbox, Row};
 use crate::parcel::Parcel;
 use bytes::Bytes;
 use fair_queue::Refusal;
-use ids::{ClientId, Config, Fault, Height, MOST_COMMANDS, ReplicaId};
+use ids::{ClientId, Config, Fault, Height, MOST_COMMANDS, ReplicaId, View};
 use signed_frames::To;
 use std::alloc::{AllocError, Global};
 use std::marker::Model;
@@ -350,11 +350,12 @@ impl Links {
         self.hand_in(rt, to, Parcel::Beat)
     }
 
-    /// Tells a replica that its view has lasted too long.
-    pub fn timeout<R: Wait>(&self, rt: &R, to: ReplicaId) -> Result<(), Fault>
+    /// Tells a replica that this view has lasted too long. It makes no step by that where it has left the view by the
+    /// time that a worker takes it.
+    pub fn timeout<R: Wait>(&self, rt: &R, to: ReplicaId, view: View) -> Result<(), Fault>
         ensures { OnErr result ((result ≡ Err Fault.Memory) ⊎ (result ≡ Err Fault.NoSuchParty)) }
     {
-        self.hand_in(rt, to, Parcel::Timeout)
+        self.hand_in(rt, to, Parcel::Timeout(view))
     }
 
     /// Gives a replica leave to prune its tree up to a height.

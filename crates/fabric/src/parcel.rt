@@ -4,6 +4,7 @@ ghost use Rattle.std.specs.Prelude.{◌≡◌, ◌+◌, length};
 ghost use Rattle.fabric.specs.declared.parcel.TheConstants.{PARCEL_SIZE};
 
 use bytes::Bytes;
+use ids::View;
 
 /// How much a parcel counts beside its bytes: for the memory that it takes where it waits.
 const PARCEL_SIZE: usize = 128;
@@ -27,8 +28,8 @@ pub enum Parcel {
     },
     /// Leave to make a proposal.
     Beat,
-    /// The view has lasted too long.
-    Timeout,
+    /// This view has lasted too long.
+    Timeout(View),
     /// Leave to prune the tree up to this height.
     Prune(u64),
     /// The worker that takes it ends.

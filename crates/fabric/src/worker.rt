@@ -11,7 +11,7 @@ use crate::waiting::{Brought, Waiting, WaitingRoom};
 use admission::Input;
 use bytes::Bytes;
 use frames_view::{Frame, read};
-use ids::{Config, Digest, Fault, Height, Kind, ReplicaId};
+use ids::{Config, Digest, Fault, Height, Kind, ReplicaId, View};
 use signed_frames::{Out, Sending, To, WorkerKeyring};
 use std::alloc::Global;
 use std::collections::VecDeque;
@@ -281,6 +281,15 @@ impl<'a, G: Gate, O: Outgoing> Worker<'a, G, O> {
         }
     }
 
+    /// Where the replica is in this view still, it leaves it.
+    fn time_out<R: Wait, S: Steps>(&mut self, rt: &R, steps: &mut S, share: &mut Share, view: View)
+        ensures { HasGrown share.old share.new }
+    {
+        if let Some(Ok(out)) = steps.time_out(rt, share, view) {
+            self.send_all(rt, out);
+        }
+    }
+
     /// Where the replica has something to propose, and nothing of it waits for votes, it proposes.
     fn propose<R: Wait, S: Steps>(&mut self, rt: &R, steps: &mut S, share: &mut Share)
         ensures { HasGrown share.old share.new }
@@ -309,7 +318,7 @@ impl<'a, G: Gate, O: Outgoing> Worker<'a, G, O> {
                     self.take(rt, steps, &mut share, number, bytes);
                 }
                 Parcel::Beat => self.step(rt, steps, &mut share, Input::Beat),
-                Parcel::Timeout => self.step(rt, steps, &mut share, Input::Timeout),
+                Parcel::Timeout(view) => self.time_out(rt, steps, &mut share, view),
                 Parcel::Prune(height) => {
                     self.step(rt, steps, &mut share, Input::Prune(Height(height)));
                 }

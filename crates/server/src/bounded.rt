@@ -3,7 +3,7 @@
 ghost use Rattle.std.specs.Prelude.{◌≡◌};
 
 use crate::guarded::Guarded;
-use ids::Fault;
+use ids::{Fault, View};
 use locked_replica::Share;
 use replica::{Input, Out, Replica};
 use std::sync::{Mutex, Wait};
@@ -28,8 +28,9 @@ pub(crate) fn stopped(replica: &Replica, most: usize) -> Option<Fault> {
 /// Each step is one of the replica, or is refused: with `Full`, or with `Crowded` or `Memory` where its
 /// doorkeeper doesn't let a block in.
 impl<'l, 'a> Steps for Bounded<'l, 'a> {
-    ghost use Rattle.std.specs.Prelude.{◌≡◌, ◌≤◌, ◌⊎◌, false, length, Err};
+    ghost use Rattle.std.specs.Prelude.{◌≡◌, ◌≤◌, ◌⊎◌, ◌==◌, true, false, length, Err};
     ghost use Rattle.definitions.specs.Chronicles.{window};
+    ghost use Rattle.definitions.specs.States.{view};
     ghost use Rattle.ids.specs.declared.fault.Fault.TheVariants.{Full, Crowded, Memory};
     ghost use Rattle.locked_replica.specs.Stepping.{SomeStep};
     ghost use Rattle.replica.specs.Steps.{Held};
@@ -41,6 +42,14 @@ impl<'l, 'a> Steps for Bounded<'l, 'a> {
     /// Some replica held as many blocks as it may, or wanted no beat.
     ghost rests = { λ way. (held : Held) × ((way.most ≤ length (window held.replica.chronicle))
         ⊎ (wants_beat_now held ≡ false)) };
+
+    /// Some replica was in that view.
+    ghost stayed = { λ _ number. (held : Held)
+        × ((view held.keys.sizes held.replica.chronicle == number) ≡ true) };
+
+    /// Some replica held as many blocks as it may, or was in another view.
+    ghost left = { λ way number. (held : Held) × ((way.most ≤ length (window held.replica.chronicle))
+        ⊎ ((view held.keys.sizes held.replica.chronicle == number) ≡ false)) };
 
     fn step<R: Wait>(&mut self, rt: &R, share: &mut Share, input: Input<'_>) -> Result<Out, Fault> {
         let mut guarded = self.locked.lock(rt);
@@ -57,5 +66,19 @@ impl<'l, 'a> Steps for Bounded<'l, 'a> {
             return None;
         }
         Some(guarded.step(share, Input::Beat))
+    }
+
+    fn time_out<R: Wait>(
+        &mut self,
+        rt: &R,
+        share: &mut Share,
+        view: View,
+    ) -> Option<Result<Out, Fault>> {
+        let mut guarded = self.locked.lock(rt);
+        let replica = guarded.replica();
+        if replica.blocks() >= self.most || replica.view().0 != view.0 {
+            return None;
+        }
+        Some(guarded.step(share, Input::Timeout))
     }
 }

@@ -9,6 +9,7 @@ mod runs;
 mod scenes;
 mod seen;
 mod stations;
+mod timeouts;
 
 use crate::workers::scenes::Scene;
 use anyhow::Result;
@@ -42,6 +43,10 @@ where
     println!(rt;
         "its own vote, sent behind the first of three: voters{}",
         order::own_vote(rt, alloc)?
+    )?;
+    println!(rt;
+        "timeouts of views 0, 0, 7, 1 and 0: {}",
+        timeouts::play(rt, alloc)?
     )?;
     Ok(())
 }

@@ -1,6 +1,6 @@
 //! What steps a replica.
 
-ghost use Rattle.std.specs.Prelude.{◌≡◌, Bool, false, List, Result, IfSome, IfNone};
+ghost use Rattle.std.specs.Prelude.{◌≡◌, ℕ, Bool, true, false, List, Result, IfSome, IfNone};
 ghost use Rattle.ids.specs.declared.fault.Fault.{Fault};
 ghost use Rattle.admission.specs.declared.input.Input.{Input};
 ghost use Rattle.signed_frames.specs.Outs.{SentBytes};
@@ -8,7 +8,7 @@ ghost use Rattle.turns.specs.Shares.{ShareState, Counts};
 
 use crate::share::Share;
 use admission::Input;
-use ids::Fault;
+use ids::{Fault, View};
 use signed_frames::Out;
 use std::sync::{Mutex, Wait};
 
@@ -20,6 +20,12 @@ pub trait Steps {
 
     /// What was seen of the replica where `beat_now` makes no step.
     ghost rests: { Self → Type 0 };
+
+    /// What was seen of the replica where `time_out` makes a step for this view.
+    ghost stayed: { Self → (view : ℕ) → Type 0 };
+
+    /// What was seen of it where it makes none.
+    ghost left: { Self → (view : ℕ) → Type 0 };
 
     /// One step. It may wait for the replica.
     fn step<R: Wait>(&mut self, rt: &R, share: &mut Share, input: Input<'_>) -> Result<Out, Fault>
@@ -35,6 +41,22 @@ pub trait Steps {
         ensures counts { IfSome result (λ answer. Counts share.old answer share.new) }
         ensures rests { IfNone result (rests self.old) }
         ensures same { IfNone result ((self.new ≡ self.old) × (share.new ≡ share.old)) };
+
+    /// A timeout, where the replica is in this view. None, and no step, where it isn't: another's timeout has ended
+    /// that view, and one more step would end the next, which has just begun. The question and the step are one, as in
+    /// `beat_now`. It may wait for the replica.
+    fn time_out<R: Wait>(
+        &mut self,
+        rt: &R,
+        share: &mut Share,
+        view: View,
+    ) -> Option<Result<Out, Fault>>
+        ensures moved { IfSome result
+            (λ answer. moved self.old share.old Input.Timeout answer self.new share.new) }
+        ensures counts { IfSome result (λ answer. Counts share.old answer share.new) }
+        ensures stayed { IfSome result (λ _. stayed self.old view) }
+        ensures left { IfNone result (left self.old view) }
+        ensures same { IfNone result ((self.new ≡ self.old) × (share.new ≡ share.old)) };
 }
 
 /// What lies under a lock, where any thread may step it.
@@ -46,6 +68,9 @@ pub trait UnderLock {
     /// Whether a beat brings something at once.
     ghost wants: { Self → Bool };
 
+    /// Whether it is in this view.
+    ghost stays_in: { Self → (view : ℕ) → Bool };
+
     /// One step.
     fn step(&mut self, share: &mut Share, input: Input<'_>) -> Result<Out, Fault>
         ensures made { made share.old input.entry result share.new }
@@ -54,6 +79,10 @@ pub trait UnderLock {
     /// Whether a beat brings something at once, as `Replica::wants_beat_now` says.
     fn wants_beat_now(&self) -> bool
         ensures { result ≡ wants self.now };
+
+    /// Whether it is in this view.
+    fn is_in(&self, view: View) -> bool
+        ensures { result ≡ stays_in self.now view };
 }
 
 /// By any thread: what lies under the lock makes the step.
@@ -62,6 +91,12 @@ impl<'l, K: UnderLock + Drop> Steps for &'l Mutex<K> {
 
     /// What lay under the lock just then wanted none.
     ghost rests = { λ _. (under : K) × (K.wants under ≡ false) };
+
+    /// What lay under the lock just then was in that view.
+    ghost stayed = { λ _ view. (under : K) × (K.stays_in under view ≡ true) };
+
+    /// What lay under the lock just then was in another.
+    ghost left = { λ _ view. (under : K) × (K.stays_in under view ≡ false) };
 
     fn step<R: Wait>(&mut self, rt: &R, share: &mut Share, input: Input<'_>) -> Result<Out, Fault> {
         self.lock(rt).step(share, input)
@@ -73,5 +108,18 @@ impl<'l, K: UnderLock + Drop> Steps for &'l Mutex<K> {
             return None;
         }
         Some(locked.step(share, Input::Beat))
+    }
+
+    fn time_out<R: Wait>(
+        &mut self,
+        rt: &R,
+        share: &mut Share,
+        view: View,
+    ) -> Option<Result<Out, Fault>> {
+        let mut locked = self.lock(rt);
+        if !locked.is_in(view) {
+            return None;
+        }
+        Some(locked.step(share, Input::Timeout))
     }
 }

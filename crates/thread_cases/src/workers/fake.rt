@@ -3,7 +3,7 @@
 ghost use Rattle.std.specs.Prelude.{⊤};
 
 use crate::workers::seen::Seen;
-use ids::{Fault, ReplicaId};
+use ids::{Fault, ReplicaId, View};
 use replica::{Input, Out};
 use std::sync::Wait;
 use turns::{Share, Steps};
@@ -21,6 +21,10 @@ impl<'l, S: Steps> Steps for Fake<'l, S> {
 
     ghost rests = { λ _. ⊤ };
 
+    ghost stayed = { λ _ _. ⊤ };
+
+    ghost left = { λ _ _. ⊤ };
+
     fn step<R: Wait>(&mut self, rt: &R, share: &mut Share, input: Input<'_>) -> Result<Out, Fault> {
         let question = self.seen.note(self.number, &input);
         self.seen.meet(question);
@@ -34,5 +38,14 @@ impl<'l, S: Steps> Steps for Fake<'l, S> {
 
     fn beat_now<R: Wait>(&mut self, rt: &R, share: &mut Share) -> Option<Result<Out, Fault>> {
         self.below.beat_now(rt, share)
+    }
+
+    fn time_out<R: Wait>(
+        &mut self,
+        rt: &R,
+        share: &mut Share,
+        view: View,
+    ) -> Option<Result<Out, Fault>> {
+        self.below.time_out(rt, share, view)
     }
 }

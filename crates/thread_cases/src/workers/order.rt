@@ -7,7 +7,7 @@ use anyhow::{Result, bail};
 use authenticators::ReplicaKeyring;
 use fabric::{Ends, Links, Outgoing, WaitingRoom, Worker};
 use frames_view::genesis_digest;
-use ids::{Config, Digest, Fault, Kind, ReplicaId};
+use ids::{Config, Digest, Fault, Kind, ReplicaId, View};
 use locked_replica::Share;
 use replica::{Input, Out, Sending, To};
 use signed_frames::WorkerKeyring;
@@ -29,6 +29,10 @@ impl Steps for Sender {
 
     ghost rests = { λ _. ⊤ };
 
+    ghost stayed = { λ _ _. ⊤ };
+
+    ghost left = { λ _ _. ⊤ };
+
     fn step<R: Wait>(
         &mut self,
         _rt: &R,
@@ -48,6 +52,15 @@ impl Steps for Sender {
         let out = self.out.take()?;
         share.add(1);
         Some(Ok(out))
+    }
+
+    fn time_out<R: Wait>(
+        &mut self,
+        _rt: &R,
+        _share: &mut Share,
+        _view: View,
+    ) -> Option<Result<Out, Fault>> {
+        None
     }
 }
 
