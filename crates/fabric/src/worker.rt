@@ -17,7 +17,7 @@ use std::alloc::Global;
 use std::collections::VecDeque;
 use std::sync::Wait;
 use std::time::Clock;
-use turns::{Gate, Share, Steps, turn};
+use turns::{Gate, Prompt, Share, Steps, turn};
 
 /// A worker of a replica: it takes from the replica's link, sends by `out`, and has keys of its own, with which it
 /// checks frames and asks for blocks, and can't say anything else in the replica's name.
@@ -285,7 +285,7 @@ impl<'a, G: Gate, O: Outgoing> Worker<'a, G, O> {
     fn time_out<R: Wait, S: Steps>(&mut self, rt: &R, steps: &mut S, share: &mut Share, view: View)
         ensures { HasGrown share.old share.new }
     {
-        if let Some(Ok(out)) = steps.time_out(rt, share, view) {
+        if let Some(Ok(out)) = steps.prompt(rt, share, Prompt::Timeout(view)) {
             self.send_all(rt, out);
         }
     }
@@ -294,7 +294,7 @@ impl<'a, G: Gate, O: Outgoing> Worker<'a, G, O> {
     fn propose<R: Wait, S: Steps>(&mut self, rt: &R, steps: &mut S, share: &mut Share)
         ensures { HasGrown share.old share.new }
     {
-        if let Some(Ok(out)) = steps.beat_now(rt, share) {
+        if let Some(Ok(out)) = steps.prompt(rt, share, Prompt::Beat) {
             self.certified = certified_by(&self.keyring.config(), &out);
             self.send_all(rt, out);
         }

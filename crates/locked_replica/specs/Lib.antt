@@ -1,3 +1,4 @@
 pub mod Kept
 pub mod Addressed
+pub mod Heeding
 pub mod Stepping

@@ -1,10 +1,11 @@
-//! A replica and its doorkeeper.
+//! A replica, its doorkeeper, and how many blocks it may hold.
 
-ghost use Rattle.std.specs.Prelude.{◌≡◌, ◌-◌, ◌⊎◌, Err, length, nat_lt, if◌then◌else◌};
+ghost use Rattle.std.specs.Prelude.{◌≡◌, ◌-◌, ◌⊎◌, ◌&&◌, Err, length, nat_lt, if◌then◌else◌};
 ghost use Rattle.std.specs.Bool.{OnFalse};
-ghost use Rattle.ids.specs.declared.fault.Fault.TheVariants.{Crowded, Memory};
+ghost use Rattle.ids.specs.declared.fault.Fault.TheVariants.{Full, Crowded, Memory};
 ghost use Rattle.definitions.specs.Chronicles.{horizon, window};
 ghost use Rattle.doorkeeper.specs.Doors.{passes, remembered, with_block};
+ghost use Rattle.locked_replica.specs.Heeding as heeding;
 ghost use Rattle.locked_replica.specs.Stepping.{SomeStep};
 ghost use Rattle.turns.specs.Shares.{Counts};
 
@@ -12,7 +13,7 @@ use doorkeeper::{Brought, Doorkeeper, brings};
 use ids::{Fault, Height};
 use locked_replica::{Kept, Share};
 use replica::{Input, Out, Replica};
-use turns::UnderLock;
+use turns::{Prompt, UnderLock};
 
 /// A kept replica, and who lets blocks in to it. They stand under one lock: to ask, to step and to count is
 /// one turn.
@@ -20,6 +21,8 @@ use turns::UnderLock;
 pub(crate) struct Guarded<'a> {
     pub(crate) kept: Kept<'a>,
     pub(crate) door: Doorkeeper,
+    /// Once it holds so many blocks it makes no step any more.
+    pub(crate) most_blocks: usize,
 }
 
 impl<'a> Guarded<'a> {
@@ -28,6 +31,22 @@ impl<'a> Guarded<'a> {
         ensures { result.now ≡ record { keys = self.now.kept.keys; replica = self.now.kept.replica } }
     {
         self.kept.replica().replica()
+    }
+
+    /// Whether it holds fewer blocks than it may.
+    fn has_room(&self) -> bool
+        ensures { result ≡ nat_lt (length (window self.now.kept.replica.chronicle)) self.now.most_blocks }
+    {
+        self.replica().blocks() < self.most_blocks
+    }
+
+    /// Why it makes no step any more, if it makes none: the replica stopped, or it holds as many blocks as it may.
+    pub(crate) fn stopped(&self) -> Option<Fault> {
+        if self.has_room() {
+            self.replica().stopped()
+        } else {
+            Some(Fault::Full)
+        }
     }
 
     /// A step with a block, where the doorkeeper lets it in. It is counted where the replica took it: then
@@ -65,17 +84,30 @@ impl<'a> Guarded<'a> {
         self.door.forget_below(Height(horizon.0.saturating_sub(2)));
         answer
     }
+}
 
-    /// One step of the replica. A block that the doorkeeper doesn't let in is lost, as on any network: the
-    /// answer is `Crowded`, or `Memory` where it couldn't be counted.
-    pub(crate) fn step(&mut self, share: &mut Share, input: Input<'_>) -> Result<Out, Fault>
-        ensures stepped { SomeStep share.old input.entry result share.new
-            ⊎ ((result ≡ Err Crowded) ⊎ (result ≡ Err Memory)) × (share.new ≡ share.old) }
-        ensures counts { Counts share.old result share.new }
-    {
+/// Each step is one of the replica, or is refused: with `Full` where it holds as many blocks as it may, and for a
+/// block that the doorkeeper doesn't let in, which is lost as on any network, with `Crowded`, or with `Memory` where
+/// it couldn't be counted.
+impl<'a> UnderLock for Guarded<'a> {
+    ghost made = { λ share input answer share'. SomeStep share input answer share'
+        ⊎ ((answer ≡ Err Full) ⊎ (answer ≡ Err Crowded) ⊎ (answer ≡ Err Memory)) × (share' ≡ share) };
+
+    ghost heeds = { λ guarded prompt.
+        nat_lt (length (window guarded.kept.replica.chronicle)) guarded.most_blocks
+        && heeding.heeds guarded.kept prompt };
+
+    fn step(&mut self, share: &mut Share, input: Input<'_>) -> Result<Out, Fault> {
+        if !self.has_room() {
+            return Err(Fault::Full);
+        }
         match brings(&self.replica().config(), &input) {
             Some(block) => self.take(share, input, &block),
             None => self.note(share, input),
         }
+    }
+
+    fn heeds(&self, prompt: Prompt) -> bool {
+        self.has_room() && self.kept.heeds(prompt)
     }
 }

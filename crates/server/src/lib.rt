@@ -2,7 +2,6 @@
 //! connect to.
 #![tactic(auto)]
 
-mod bounded;
 mod client_seat;
 mod ending;
 mod floods;

@@ -7,7 +7,6 @@ ghost use Rattle.std.specs.List.{range_with_len};
 ghost use Rattle.ids.specs.Sizes.{replicas};
 ghost use Rattle.marks.specs.Eyes.{first_eye};
 
-use crate::bounded::{Bounded, stopped};
 use crate::guarded::Guarded;
 use crate::laggards::Reach;
 use crate::lying::{LiarKeys, LyingOut};
@@ -37,8 +36,6 @@ use turns::Open;
 pub(crate) struct Station<'a> {
     number: ReplicaId,
     locked: Mutex<Guarded<'a>>,
-    /// At how many blocks it stops.
-    most_blocks: usize,
     /// How many heights it keeps, if it is to forget others.
     window: Option<u64>,
     inbox: Arc<Inbox>,
@@ -53,8 +50,7 @@ impl<'a> Station<'a> {
 
     /// The replica, out of its lock.
     pub(crate) fn into_kept(self) -> Kept<'a> {
-        let Guarded { kept, door: _ } = self.locked.into_inner();
-        kept
+        self.locked.into_inner().kept
     }
 
     /// How far the replica is, which has executed so many commands.
@@ -77,7 +73,7 @@ impl<'a> Station<'a> {
         Reach {
             height: replica.height(),
             horizon: replica.horizon(),
-            goes_on: replica.stopped().is_none(),
+            goes_on: guarded.stopped().is_none(),
         }
     }
 }
@@ -94,7 +90,7 @@ impl<'a> Watched for Station<'a> {
             executed: replica.executed() as u64,
             height: replica.height(),
             horizon: replica.horizon(),
-            stopped: stopped(replica, self.most_blocks),
+            stopped: guarded.stopped(),
         }
     }
 }
@@ -112,10 +108,7 @@ pub(crate) fn run_worker<R: Wait + Clock + AllocGlobal>(
         liar_keys,
     } = worker;
     let (alloc, gate) = (rt.alloc(), Open);
-    let mut steps = Bounded {
-        locked: &station.locked,
-        most: station.most_blocks,
-    };
+    let mut steps = &station.locked;
     let _share = match liar_keys {
         None => {
             let worker = Worker::new(alloc, keyring, &gate, &station.inbox, links, &station.room);
@@ -238,8 +231,8 @@ fn build_station<'a>(
         locked: Mutex::new(Guarded {
             kept,
             door: Doorkeeper::new(alloc, keys.config()),
+            most_blocks: terms.most_blocks(),
         }),
-        most_blocks: terms.most_blocks(),
         window: terms.window,
         inbox,
         room: WaitingRoom::new(alloc, terms.workers.count()),

@@ -1,1 +1,2 @@
+pub mod Prompts
 pub mod Shares

@@ -4,10 +4,12 @@
 
 mod frame_turn;
 mod gate;
+mod prompt;
 mod share;
 mod steps;
 
 pub use frame_turn::turn;
 pub use gate::{Gate, Open};
+pub use prompt::Prompt;
 pub use share::Share;
 pub use steps::{Steps, UnderLock};

@@ -3,10 +3,10 @@
 ghost use Rattle.std.specs.Prelude.{⊤};
 
 use crate::workers::seen::Seen;
-use ids::{Fault, ReplicaId, View};
+use ids::{Fault, ReplicaId};
 use replica::{Input, Out};
 use std::sync::Wait;
-use turns::{Share, Steps};
+use turns::{Prompt, Share, Steps};
 
 /// Notes what comes, and lets `below` make the steps.
 #[derive(Drop)]
@@ -19,11 +19,9 @@ pub(crate) struct Fake<'l, S> {
 impl<'l, S: Steps> Steps for Fake<'l, S> {
     ghost moved = { λ _ _ _ _ _ _. ⊤ };
 
-    ghost rests = { λ _. ⊤ };
+    ghost heeded = { λ _ _. ⊤ };
 
-    ghost stayed = { λ _ _. ⊤ };
-
-    ghost left = { λ _ _. ⊤ };
+    ghost passed = { λ _ _. ⊤ };
 
     fn step<R: Wait>(&mut self, rt: &R, share: &mut Share, input: Input<'_>) -> Result<Out, Fault> {
         let question = self.seen.note(self.number, &input);
@@ -36,16 +34,12 @@ impl<'l, S: Steps> Steps for Fake<'l, S> {
         }
     }
 
-    fn beat_now<R: Wait>(&mut self, rt: &R, share: &mut Share) -> Option<Result<Out, Fault>> {
-        self.below.beat_now(rt, share)
-    }
-
-    fn time_out<R: Wait>(
+    fn prompt<R: Wait>(
         &mut self,
         rt: &R,
         share: &mut Share,
-        view: View,
+        prompt: Prompt,
     ) -> Option<Result<Out, Fault>> {
-        self.below.time_out(rt, share, view)
+        self.below.prompt(rt, share, prompt)
     }
 }

@@ -7,7 +7,7 @@ use anyhow::{Result, bail};
 use authenticators::ReplicaKeyring;
 use fabric::{Ends, Links, Outgoing, WaitingRoom, Worker};
 use frames_view::genesis_digest;
-use ids::{Config, Digest, Fault, Kind, ReplicaId, View};
+use ids::{Config, Digest, Fault, Kind, ReplicaId};
 use locked_replica::Share;
 use replica::{Input, Out, Sending, To};
 use signed_frames::WorkerKeyring;
@@ -15,7 +15,7 @@ use simulated_keys::replica_keyring_of;
 use std::alloc::Global;
 use std::sync::Wait;
 use std::time::Clock;
-use turns::{Open, Steps};
+use turns::{Open, Prompt, Steps};
 
 /// Sends this when it is first asked whether a beat is due, and notes whose votes come, in their order.
 #[derive(Drop)]
@@ -27,11 +27,9 @@ struct Sender {
 impl Steps for Sender {
     ghost moved = { λ _ _ _ _ _ _. ⊤ };
 
-    ghost rests = { λ _. ⊤ };
+    ghost heeded = { λ _ _. ⊤ };
 
-    ghost stayed = { λ _ _. ⊤ };
-
-    ghost left = { λ _ _. ⊤ };
+    ghost passed = { λ _ _. ⊤ };
 
     fn step<R: Wait>(
         &mut self,
@@ -45,22 +43,18 @@ impl Steps for Sender {
         Err(Fault::Stopped)
     }
 
-    fn beat_now<R: Wait>(&mut self, _rt: &R, share: &mut Share) -> Option<Result<Out, Fault>> {
-        if share.count() == usize::MAX {
+    fn prompt<R: Wait>(
+        &mut self,
+        _rt: &R,
+        share: &mut Share,
+        prompt: Prompt,
+    ) -> Option<Result<Out, Fault>> {
+        if prompt != Prompt::Beat || share.count() == usize::MAX {
             return None;
         }
         let out = self.out.take()?;
         share.add(1);
         Some(Ok(out))
-    }
-
-    fn time_out<R: Wait>(
-        &mut self,
-        _rt: &R,
-        _share: &mut Share,
-        _view: View,
-    ) -> Option<Result<Out, Fault>> {
-        None
     }
 }
 
