@@ -1,18 +1,20 @@
 //! Where the parcels of one replica's link wait.
 
-ghost use Rattle.std.specs.Prelude.{◌≡◌, ◌+◌, ◌-◌, ◌^◌, ◌<◌, ◌≤◌, ◌⊎◌, ◌==◌, ◌&&◌, ◌||◌, ℕ, false, true, is_some, length};
+ghost use Rattle.std.specs.Prelude.{◌≡◌, ◌+◌, ◌-◌, ◌/◌, ◌^◌, ◌<◌, ◌≤◌, ◌⊎◌, ◌==◌, ◌&&◌, ◌||◌, ℕ, false, true, is_some, length};
 ghost use Rattle.std.specs.Prelude.{IfNone, IfOk, IfSome, MatchBool, OnErr, OnOk, OnSome, Some, map, min, nat_lt, option_map};
 ghost use Rattle.std.specs.Prelude.{if◌then◌else◌};
 ghost use Rattle.std.specs.Bool.{OnFalse, OnTrue};
 ghost use Rattle.std.specs.Option.{ForSome};
 ghost use Rattle.fair_queue.specs.Queues.{IsNext, NoneReady, Puts, Takes, ready_at, refilled, waiting_in};
 ghost use Rattle.fair_queue.specs.declared.row.TheConstants.{MOST_SIZE};
+ghost use Rattle.ids.specs.Sizes.{replicas};
 ghost use Rattle.fabric.specs.Inboxes.{count_of, is_over};
 ghost use Rattle.fabric.specs.Parcels.{size_of};
 
 use crate::parcel::Parcel;
 use bytes::Bytes;
-use fair_queue::{FairQueue, Refusal};
+use fair_queue::{Allowance, FairQueue, Refusal};
+use ids::Config;
 use std::alloc::{AllocError, Global};
 use std::hint::spin_loop;
 use std::sync::atomic::AtomicU64;
@@ -22,6 +24,12 @@ use std::time::{Clock, Duration, Instant};
 
 /// For how many milliseconds at least what each sender is allowed has to last.
 const PERIOD_MILLIS: u64 = 10;
+
+/// How many frames all replicas together are allowed.
+const FRAMES_ALLOWED: usize = 768;
+
+/// How many bytes all replicas together are allowed.
+const BYTES_ALLOWED: usize = 2_097_152;
 
 /// How often a worker looks whether something came, before it sleeps.
 const LOOKS: u32 = 100;
@@ -184,10 +192,23 @@ impl Inside {
 
     /// Each sender is allowed its part again.
     fn refill(&mut self, now: Option<Instant>)
-        ensures { self.new.queue.rows ≡ map refilled self.old.queue.rows }
+        ensures { self.new.queue.rows ≡ map (refilled self.old.queue.allowed) self.old.queue.rows }
     {
         self.queue.refill();
         self.refilled = now;
+    }
+}
+
+/// What each sender is allowed: of what all replicas together are, the same part for each. So what a faulty one can
+/// have checked by all others together doesn't grow with their number.
+fn allowance(config: Config) -> Allowance
+    ensures count { result.count ≡ 768 / replicas config }
+    ensures size { result.size ≡ 2097152 / replicas config }
+{
+    let replicas = usize::from(config.n());
+    Allowance {
+        count: FRAMES_ALLOWED / replicas,
+        size: BYTES_ALLOWED / replicas,
     }
 }
 
@@ -214,10 +235,10 @@ pub struct Inbox {
 
 impl Inbox {
     /// An inbox of so many rows, in which nothing waits.
-    pub(crate) fn new(alloc: Global, rows: usize) -> Result<Inbox, AllocError>
+    pub(crate) fn new(alloc: Global, config: Config, rows: usize) -> Result<Inbox, AllocError>
         requires { 0 < rows }
     {
-        let queue = FairQueue::new(alloc, rows)?;
+        let queue = FairQueue::new(alloc, rows, allowance(config))?;
         Ok(Inbox {
             inside: Mutex::new(Inside {
                 queue,

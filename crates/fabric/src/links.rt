@@ -64,7 +64,7 @@ fn inboxes(alloc: Global, config: Config) -> Result<(Vec<Arc<Inbox>>, Vec<Arc<In
     let mut links = Vec::with_capacity(alloc, count)?;
     let mut ends = Vec::with_capacity(alloc, count)?;
     for _ in 0..count {
-        let inbox = Inbox::new(alloc, count + 1 + CLIENT_ROWS)?;
+        let inbox = Inbox::new(alloc, config, count + 1 + CLIENT_ROWS)?;
         let inbox = Arc::new(alloc, inbox)?;
         ends.push_reserved(Arc::try_clone(&inbox)?);
         links.push_reserved(inbox);

@@ -2,7 +2,7 @@
 use Rattle.std.specs.Prelude.{◌≡◌, ℕ, ◌+◌, ◌-◌, ◌<◌, nat_lt, Bool, true, false, ◌&&◌, List, [], ◌∷◌, ◌++◌}
 use Rattle.std.specs.Prelude.{if◌then◌else◌, sum_by, slice_get, set, length, Some}
 use Rattle.std.specs.Option.{option_map_or}
-use Rattle.fair_queue.specs.declared.row.TheConstants.{COUNT_ALLOWED, SIZE_ALLOWED}
+use Rattle.fair_queue.specs.declared.allowance.Allowance.{Allowance}
 
 -- What waits in a row, oldest first, each value with its size; and how many values, and of how much size, may be
 -- taken until the next refill.
@@ -11,10 +11,11 @@ pub record Row (T : Type 0) : Type 0 where
   pub count_left : ℕ
   pub size_left : ℕ
 
--- all rows, and the one whose turn it is
+-- all rows, the one whose turn it is, and how much may be taken from each between two refills
 pub record Rows (T : Type 0) : Type 0 where
   pub rows : List (Row T)
   pub turn : ℕ
+  pub allowed : Allowance
 
 -- how much size waits
 abbrev pub size_of : {T : Type 0} → List (ℕ × T) → ℕ
@@ -30,8 +31,8 @@ abbrev pub is_ready : {T : Type 0} → Row T → Bool
 is_ready row = is_some_waiting row.items && nat_lt 0 row.count_left && nat_lt 0 row.size_left
 
 -- nothing waits, and the whole allowance is left
-abbrev pub empty_row : {T : Type 0} → Row T
-empty_row = record { items = []; count_left = COUNT_ALLOWED; size_left = SIZE_ALLOWED }
+abbrev pub empty_row : {T : Type 0} → Allowance → Row T
+empty_row allowed = record { items = []; count_left = allowed.count; size_left = allowed.size }
 
 -- a row from which its oldest value was taken, of this size
 abbrev pub after_one : {T : Type 0} → Row T → ℕ → List (ℕ × T) → Row T
@@ -39,8 +40,8 @@ after_one row size rest =
     record { items = rest; count_left = row.count_left - 1; size_left = row.size_left - size }
 
 -- a row whose whole allowance is left
-abbrev pub refilled : {T : Type 0} → Row T → Row T
-refilled row = record row { count_left = COUNT_ALLOWED; size_left = SIZE_ALLOWED }
+abbrev pub refilled : {T : Type 0} → Allowance → Row T → Row T
+refilled allowed row = record row { count_left = allowed.count; size_left = allowed.size }
 
 -- the row so many places behind the turn
 abbrev pub row_at : (rows turn place : ℕ) → ℕ
@@ -85,7 +86,7 @@ pub record Takes {T : Type 0} (old : Rows T) (value : T) (new : Rows T) : Type 0
   pub size : ℕ
   pub rest : List (ℕ × T)
   pub oldest : row.items ≡ (size, value) ∷ rest
-  pub is : new ≡ record {
+  pub is : new ≡ record old {
     rows = set old.rows number (after_one row size rest);
     turn = row_behind (length old.rows) number;
   }

@@ -2,12 +2,14 @@
 //! each gets its turn.
 #![tactic(auto)]
 
+mod allowance;
 mod laws;
 mod queue;
 mod refusal;
 mod row;
 
+pub use allowance::Allowance;
 pub use laws::others_come_nearer;
 pub use queue::FairQueue;
 pub use refusal::Refusal;
-pub use row::{COUNT_ALLOWED, MOST_SIZE, SIZE_ALLOWED};
+pub use row::MOST_SIZE;

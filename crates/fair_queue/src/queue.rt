@@ -6,6 +6,7 @@ ghost use Rattle.fair_queue.specs.Queues.{IsNext, NoneReady, Puts, Takes, empty_
 ghost use Rattle.fair_queue.specs.declared.row.TheConstants.{MOST_SIZE};
 ghost use Rattle.fair_queue.specs.declared.refusal.Refusal.TheVariants.{Full, Memory};
 
+use crate::allowance::Allowance;
 use crate::refusal::Refusal;
 use crate::row::Row;
 use std::alloc::{AllocError, Global};
@@ -16,6 +17,7 @@ use std::marker::Model;
 pub struct FairQueue<T> {
     rows: Vec<Row<T>>,
     turn: usize,
+    allowed: Allowance,
 }
 
 impl<T> Model for FairQueue<T> {
@@ -24,7 +26,7 @@ impl<T> Model for FairQueue<T> {
 
     ghost Value = { queues.Rows T };
 
-    ghost view = { λ queue. record { rows = queue.rows.items; turn = queue.turn } };
+    ghost view = { λ queue. record { rows = queue.rows.items; turn = queue.turn; allowed = queue.allowed } };
 
     ghost invariant = { λ queue. queue.turn < length queue.rows.items };
 }
@@ -53,18 +55,20 @@ fn row_behind(rows: usize, number: usize) -> usize
 }
 
 impl<T: Drop> FairQueue<T> {
-    /// So many rows, with nothing in them.
-    pub fn new(alloc: Global, rows: usize) -> Result<FairQueue<T>, AllocError>
+    /// So many rows, with nothing in them, from each of which so much is allowed.
+    pub fn new(alloc: Global, rows: usize, allowed: Allowance) -> Result<FairQueue<T>, AllocError>
         requires { 0 < rows }
-        ensures { IfOk result (λ queue. queue ≡ record { rows = replicate rows empty_row; turn = 0 }) }
+        ensures { IfOk result (λ queue. queue
+            ≡ record { rows = replicate rows (empty_row allowed); turn = 0; allowed = allowed }) }
     {
         let mut made = Vec::with_capacity(alloc, rows)?;
         for _ in 0..rows {
-            made.push_reserved(Row::new(alloc));
+            made.push_reserved(Row::new(alloc, allowed));
         }
         Ok(FairQueue {
             rows: made,
             turn: 0,
+            allowed,
         })
     }
 
@@ -100,12 +104,13 @@ impl<T: Drop> FairQueue<T> {
         self.next().is_some()
     }
 
-    /// From each row as much may be taken again as its allowance says.
+    /// From each row as much may be taken again as is allowed.
     pub fn refill(&mut self)
-        ensures { self.new ≡ record self.old { rows = map refilled self.old.rows } }
+        ensures { self.new ≡ record self.old { rows = map (refilled self.old.allowed) self.old.rows } }
     {
+        let allowed = self.allowed;
         for row in self.rows.iter_mut() {
-            row.refill();
+            row.refill(allowed);
         }
     }
 

@@ -1,9 +1,10 @@
 //! What one sender has waiting.
 
 ghost use Rattle.std.specs.Prelude.{◌≡◌, ◌+◌, ◌-◌, ◌<◌, ◌≤◌, [], ◌∷◌, ◌++◌, nat_lt, OnOk, OnErr, IfSome, IfNone, MatchBool, List, ℕ, is_some};
-ghost use Rattle.fair_queue.specs.Queues.{size_of, is_ready, after_one, refilled};
+ghost use Rattle.fair_queue.specs.Queues.{size_of, is_ready, after_one, empty_row, refilled};
 ghost use Rattle.fair_queue.specs.declared.refusal.Refusal.TheVariants.{Full, Memory};
 
+use crate::allowance::Allowance;
 use crate::refusal::Refusal;
 use std::alloc::Global;
 use std::collections::VecDeque;
@@ -11,12 +12,6 @@ use std::marker::Model;
 
 /// How much size may wait in a row.
 pub const MOST_SIZE: usize = 16_777_216;
-
-/// How many values may be taken from a row between two refills.
-pub const COUNT_ALLOWED: usize = 192;
-
-/// How much size may be taken from a row between two refills, beside that of one value more.
-pub const SIZE_ALLOWED: usize = 524_288;
 
 /// The values of one sender that wait, oldest first.
 #[derive(Drop)]
@@ -47,14 +42,14 @@ impl<T> Model for Row<T> {
 
 impl<T: Drop> Row<T> {
     /// Nothing waits, and the whole allowance is left.
-    pub(crate) fn new(alloc: Global) -> Row<T>
-        ensures { result ≡ record { items = []; count_left = COUNT_ALLOWED; size_left = SIZE_ALLOWED } }
+    pub(crate) fn new(alloc: Global, allowed: Allowance) -> Row<T>
+        ensures { result ≡ empty_row allowed }
     {
         Row {
             items: VecDeque::new(alloc),
             size: 0,
-            count_left: COUNT_ALLOWED,
-            size_left: SIZE_ALLOWED,
+            count_left: allowed.count,
+            size_left: allowed.size,
         }
     }
 
@@ -109,10 +104,10 @@ impl<T: Drop> Row<T> {
     }
 
     /// The whole allowance is left again.
-    pub(crate) fn refill(&mut self)
-        ensures { self.new ≡ refilled self.old }
+    pub(crate) fn refill(&mut self, allowed: Allowance)
+        ensures { self.new ≡ refilled allowed self.old }
     {
-        self.count_left = COUNT_ALLOWED;
-        self.size_left = SIZE_ALLOWED;
+        self.count_left = allowed.count;
+        self.size_left = allowed.size;
     }
 }

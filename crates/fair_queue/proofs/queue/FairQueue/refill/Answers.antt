@@ -7,5 +7,5 @@ pub loop-row-preserved : goal.loop-row-preserved
 loop-row-preserved g c =
     let within : c.loop-row.row-index < length c.deref_mut-row-items.result.now = search rules in
     ap (set c.loop-row.row-items c.loop-row.row-index) c.refill.ensures
-    ∙ map_over_more refilled _ _ _ _ within c.loop-row.invariant
+    ∙ map_over_more (refilled _) _ _ _ _ within c.loop-row.invariant
     (ap (get_or c.loop-row.row-items c.loop-row.row-index) c.row-item.is)

@@ -5,4 +5,5 @@ use Rattle.fair_queue.proofs.queue.FairQueue.refill.Given as goal
 
 abbrev pub invariant-loop-row : goal.invariant-loop-row
 invariant-loop-row g l =
-    l.row-items ≡ map refilled (take l.row-index l.initial.row-items) ++ drop l.row-index l.initial.row-items
+    l.row-items
+    ≡ map (refilled l.allowed) (take l.row-index l.initial.row-items) ++ drop l.row-index l.initial.row-items
