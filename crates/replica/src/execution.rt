@@ -21,6 +21,22 @@ use mempool::Mempool;
 use signed_frames::{Out, Sending, To, reply_frame};
 use std::alloc::Global;
 
+/// Who tells clients: with these keys, in frames whose memory comes from here.
+#[derive(Drop)]
+struct Teller<'k> {
+    alloc: Global,
+    keyring: &'k ReplicaKeyring,
+}
+
+/// The blocks of a branch above one height, up to another.
+#[derive(Drop)]
+struct Decided<'t> {
+    tree: &'t Tree,
+    tip: &'t Digest,
+    from: u64,
+    to: u64,
+}
+
 /// The text of an answer, where it is short enough for a frame.
 fn text_of(answer: &Answer) -> Option<ReplyText<'_>>
     ensures short { IfSome result (λ t. (t ≡ answer.now.text) × (length answer.now.text ≤ MOST_TEXT)) }
@@ -69,17 +85,12 @@ pub(crate) fn tell_one(
 }
 
 /// The replies to executed commands go out too.
-fn tell(
-    alloc: Global,
-    keyring: &ReplicaKeyring,
-    answers: &[Answer],
-    out: &mut Out,
-) -> Result<(), Fault>
-    ensures told { OnOk result (out.new ≡ out.old ++ told keyring.now answers.now) }
+fn tell(teller: &Teller<'_>, answers: &[Answer], out: &mut Out) -> Result<(), Fault>
+    ensures told { OnOk result (out.new ≡ out.old ++ told teller.now.keyring.now answers.now) }
     ensures some { OnErr result (1 ≤ length answers.now) }
 {
     for answer in answers {
-        tell_one(alloc, keyring, answer, out)?;
+        tell_one(teller.alloc, teller.keyring, answer, out)?;
     }
     Ok(())
 }
@@ -90,12 +101,11 @@ fn execute_block<L: Ledger>(
     executor: &mut Executor,
     ledger: &mut L,
     pool: &mut Mempool,
-    alloc: Global,
-    keyring: &ReplicaKeyring,
     block: &Node,
+    teller: &Teller<'_>,
     out: &mut Out,
 ) -> Result<(), Fault>
-    requires room { executor.old.most_keys ≡ keyring.now.sizes.most_keys }
+    requires room { executor.old.most_keys ≡ teller.now.keyring.now.sizes.most_keys }
     ensures room { executor.new.most_keys ≡ executor.old.most_keys }
     ensures executed { OnOk result (executor.new.history
         ≡ with_commands block.now.core.commands executor.old.history) }
@@ -103,46 +113,41 @@ fn execute_block<L: Ledger>(
     ensures left { OnOk result
         (pool.new ≡ left_after (reverse (map entry_of block.now.core.commands)) pool.old) }
     ensures told { OnOk result
-        (out.new ≡ out.old ++ told keyring.now
-        (new_answers keyring.now.sizes.most_keys executor.old.history executor.new.history)) }
+        (out.new ≡ out.old ++ told teller.now.keyring.now
+        (new_answers teller.now.keyring.now.sizes.most_keys executor.old.history executor.new.history)) }
     ensures cut { OnErr result (IsCutIn block.now.core.commands executor.old.history
         executor.new.history pool.old pool.new) }
 {
     let answers = executor.run_block(block.core().commands(), ledger)?;
     pool.drop_all_executed(block.core().commands());
-    tell(alloc, keyring, &answers, out)
+    tell(teller, &answers, out)
 }
 
-/// Executes the blocks of a branch above one height up to another, lowest first. Where memory is
-/// refused, some of their commands were executed.
-fn execute_between<L: Ledger>(
+/// Executes these blocks, lowest first. Where memory is refused, some of their commands were executed.
+fn execute_all<L: Ledger>(
     executor: &mut Executor,
     ledger: &mut L,
     pool: &mut Mempool,
-    tree: &Tree,
-    tip: &Digest,
-    from: u64,
-    to: u64,
-    alloc: Global,
-    keyring: &ReplicaKeyring,
+    decided: &Decided<'_>,
+    teller: &Teller<'_>,
     out: &mut Out,
 ) -> Result<(), Fault>
-    requires room { executor.old.most_keys ≡ keyring.now.sizes.most_keys }
+    requires room { executor.old.most_keys ≡ teller.now.keyring.now.sizes.most_keys }
     ensures room { executor.new.most_keys ≡ executor.old.most_keys }
     ensures executed { OnOk result
-        (executor.new.history ≡ history_above tip.now tree.now from (to - from) executor.old.history) }
+        (executor.new.history ≡ history_above decided.now.tip.now decided.now.tree.now decided.now.from (decided.now.to - decided.now.from) executor.old.history) }
     ensures written { L.holds ledger.old executor.old.history → L.holds ledger.new executor.new.history }
     ensures left { OnOk result
-        (pool.new ≡ left_after (history_above tip.now tree.now from (to - from) []) pool.old) }
+        (pool.new ≡ left_after (history_above decided.now.tip.now decided.now.tree.now decided.now.from (decided.now.to - decided.now.from) []) pool.old) }
     ensures told { OnOk result
-        (out.new ≡ out.old ++ told keyring.now
-        (new_answers keyring.now.sizes.most_keys executor.old.history executor.new.history)) }
+        (out.new ≡ out.old ++ told teller.now.keyring.now
+        (new_answers teller.now.keyring.now.sizes.most_keys executor.old.history executor.new.history)) }
     ensures cut { OnErr result
-        (IsCut tip.now tree.now from to executor.old.history executor.new.history pool.old pool.new) }
+        (IsCut decided.now.tip.now decided.now.tree.now decided.now.from decided.now.to executor.old.history executor.new.history pool.old pool.new) }
 {
-    for height in from..to {
-        if let Some(block) = block_at(tree, tip, Height(height + 1)) {
-            execute_block(executor, ledger, pool, alloc, keyring, block, out)?;
+    for height in decided.from..decided.to {
+        if let Some(block) = block_at(decided.tree, decided.tip, Height(height + 1)) {
+            execute_block(executor, ledger, pool, block, teller, out)?;
         }
     }
     Ok(())
@@ -181,16 +186,15 @@ pub(crate) fn execute<L: Ledger>(
         state.old.pending state.new.pending) }
 {
     let last = state.rules.executed();
-    execute_between(
-        executor,
-        ledger,
-        &mut state.pool,
-        &state.tree,
-        &last.digest,
-        from.0,
-        last.height.0,
-        state.alloc,
+    let decided = Decided {
+        tree: &state.tree,
+        tip: &last.digest,
+        from: from.0,
+        to: last.height.0,
+    };
+    let teller = Teller {
+        alloc: state.alloc,
         keyring,
-        out,
-    )
+    };
+    execute_all(executor, ledger, &mut state.pool, &decided, &teller, out)
 }

@@ -10,10 +10,10 @@ returns-clause-cut g c =
     let was = c.args.executor.now.history in
     let waits = c.state.inside.pool in
     let Cut : ℕ → BlockRef → Type 0 = λ from last.
-    OnErr c.execute_between.result (IsCut last.digest tree from last.height was
-    c.execute_between.new.executor.history waits c.execute_between.new.pool) in
-    subst (λ (s : StateParts). OnErr c.execute_between.result (IsCut s.variables.rules.executed.digest
-    (tree_of s.variables) c.args.from s.variables.rules.executed.height was c.execute_between.new.executor.history
-    s.pending c.execute_between.new.pool)) c.state.view_is
+    OnErr c.execute_all.result (IsCut last.digest tree from last.height was
+    c.execute_all.new.executor.history waits c.execute_all.new.pool) in
+    subst (λ (s : StateParts). OnErr c.execute_all.result (IsCut s.variables.rules.executed.digest
+    (tree_of s.variables) c.args.from s.variables.rules.executed.height was c.execute_all.new.executor.history
+    s.pending c.execute_all.new.pool)) c.state.view_is
     (subst (λ (from : ℕ). Cut from c.state.inside.rules.executed) c.from.view_is
-    (subst (Cut _) (c.last.view_is ∙ c.executed-last.ensures) c.execute_between.ensures.cut))
+    (subst (Cut _) (c.last.view_is ∙ c.executed-last.ensures) c.execute_all.ensures.cut))

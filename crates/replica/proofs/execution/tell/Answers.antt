@@ -14,7 +14,7 @@ loop-answer-init c = sym (append-nil c.args.out.now)
 
 pub loop-answer-preserved : goal.loop-answer-preserved
 loop-answer-preserved c =
-    let keys = c.args.keyring.now in
+    let keys = c.args.teller.now.keyring.now in
     let xs : List Answer = c.args.answers.now in
     let i = c.loop-answer.answer-index in
     let a : Answer = c.answer-item.result in
@@ -30,5 +30,5 @@ loop-answer-preserved c =
 pub returns-clause-told : goal.returns-clause-told
 returns-clause-told c =
     c.loop-answer.invariant
-    ∙ ap (λ (l : List Answer). c.args.out.now ++ told c.args.keyring.now l)
+    ∙ ap (λ (l : List Answer). c.args.out.now ++ told c.args.teller.now.keyring.now l)
     (take_all c.loop-answer.answer-index c.args.answers.now c.loop-answer-test.false)
