@@ -16,10 +16,10 @@ pub fn missing_of(config: &Config, frame: &Frame<'_>) -> Option<(ReplicaId, Dige
     ensures replica { IfSome result (λ m. m.0 < replicas config.now) }
 {
     let (sender, block) = match frame {
-        Frame::Proposal(view) => (config.leader(view.view()), view.core().parent()),
-        Frame::Block(view) => (view.sender(), view.core().parent()),
-        Frame::Vote(view) => (view.vote().voter(), view.digest()),
-        Frame::NewView(view) => (view.sender(), view.certificate().digest()),
+        Frame::Proposal(proposal) => { (config.leader(proposal.view()), proposal.core().parent()) }
+        Frame::Block(block) => (block.sender(), block.core().parent()),
+        Frame::Vote(vote) => (vote.vote().voter(), vote.digest()),
+        Frame::NewView(new_view) => (new_view.sender(), new_view.certificate().digest()),
         Frame::Request(_) | Frame::Reply(_) | Frame::Fetch(_) => return None,
     };
     Some((sender, Digest(*block)))

@@ -1,8 +1,7 @@
 //! The thread that looks at a replica.
 
 use crate::watch::{Due, Pulse, Watch, prune_at};
-use fabric::Links;
-use ids::{Fault, ReplicaId};
+use ids::{Fault, Height};
 use std::sync::Wait;
 use std::sync::atomic::AtomicBool;
 use std::sync::atomic::Ordering::SeqCst;
@@ -12,10 +11,16 @@ use std::time::{Clock, Duration, Instant};
 /// For how many milliseconds it isn't looked at.
 const PAUSE_MILLIS: u64 = 20;
 
-/// A replica that can be looked at.
+/// A replica that can be looked at, and handed what is due to it. What doesn't come to it is due again soon.
 pub trait Watched {
     /// What is seen of it now.
     fn pulse<R: Wait>(&self, rt: &R) -> Pulse;
+
+    /// Hands in a beat or a timeout, or both.
+    fn hand_in<R: Wait>(&self, rt: &R, due: Due);
+
+    /// Hands in leave to prune its tree up to a height.
+    fn prune<R: Wait>(&self, rt: &R, height: Height);
 }
 
 /// The milliseconds since a moment. Where the clock can't be read none have passed.
@@ -27,21 +32,19 @@ fn millis_since<R: Clock>(rt: &R, start: Option<Instant>) -> u64 {
     }
 }
 
-/// Looks at a replica each 20 milliseconds until it is told to stop, and hands in beats and
-/// timeouts at its link, and prunings that leave it so many heights, if it is to prune. What the link
-/// doesn't take is lost, and due again soon.
+/// Looks at a replica, one of so many, each 20 milliseconds until it is told to stop, and hands in beats,
+/// timeouts, and prunings that leave it so many heights, if it is to prune.
 ///
 /// It ends where the replica has stopped, too, and tells why; where it was told to stop, it tells nothing.
 pub fn keep_time<R: Wait + Clock, W: Watched>(
     rt: &R,
-    links: &Links,
-    number: ReplicaId,
     replica: &W,
+    replicas: u8,
     window: Option<u64>,
     stop: &AtomicBool,
 ) -> Option<Fault> {
     let start = Instant::now(rt).ok();
-    let mut watch = Watch::new(links.config().n());
+    let mut watch = Watch::new(replicas);
     for _ in rt.forever() {
         if stop.load(SeqCst) {
             break;
@@ -51,21 +54,10 @@ pub fn keep_time<R: Wait + Clock, W: Watched>(
         if pulse.stopped.is_some() {
             return pulse.stopped;
         }
-        let due = watch.look(millis_since(rt, start), pulse);
-        hand_in(rt, links, number, due);
+        replica.hand_in(rt, watch.look(millis_since(rt, start), pulse));
         if let Some(height) = window.and_then(|window| prune_at(window, pulse)) {
-            let _ = links.prune(rt, number, height);
+            replica.prune(rt, height);
         }
     }
     None
-}
-
-/// Hands in what is due to a replica.
-fn hand_in<R: Wait>(rt: &R, links: &Links, number: ReplicaId, due: Due) {
-    if due.beat {
-        let _ = links.beat(rt, number);
-    }
-    if let Some(view) = due.timeout {
-        let _ = links.timeout(rt, number, view);
-    }
 }

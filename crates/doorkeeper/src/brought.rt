@@ -34,19 +34,19 @@ pub fn brings(config: &Config, input: &Input<'_>) -> Option<Brought>
     // There are at most 31.
     let _replicas = config.n();
     match input {
-        Input::Proposal(proposal) => {
-            let view = proposal.view();
+        Input::Proposal(checked) => {
+            let proposal = checked.view();
             Some(Brought {
-                height: view.core().height(),
-                sender: config.leader(view.view()),
+                height: proposal.core().height(),
+                sender: config.leader(proposal.view()),
             })
         }
-        Input::Block(block) => {
-            let _replicas = block.config().n();
-            let view = block.view();
+        Input::Block(checked) => {
+            let _replicas = checked.config().n();
+            let block = checked.view();
             Some(Brought {
-                height: view.core().height(),
-                sender: view.sender(),
+                height: block.core().height(),
+                sender: block.sender(),
             })
         }
         _ => None,

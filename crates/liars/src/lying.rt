@@ -153,13 +153,13 @@ fn with_flood(alloc: Global, sending: Sending) -> Result<Vec<Sending>, AllocErro
 fn empty_proposal(
     alloc: Global,
     keyring: &ReplicaKeyring,
-    view: &ProposalView<'_>,
+    proposal: &ProposalView<'_>,
 ) -> Result<Vec<u8>, Fault>
-    ensures made { IfOk result (λ frame. frame.items ≡ spelling (empty_proposal keyring.now view.now.view
-        (core_of view.now.core) (certificate_of view.now.certificate))) }
+    ensures made { IfOk result (λ frame. frame.items ≡ spelling (empty_proposal keyring.now proposal.now.view
+        (core_of proposal.now.core) (certificate_of proposal.now.certificate))) }
     ensures memory { OnErr result (result ≡ Err Fault.Memory) }
 {
-    let core = view.core();
+    let core = proposal.core();
     let parent = Digest(*core.parent());
     let mut bytes = Vec::new(alloc);
     write_core(
@@ -171,8 +171,8 @@ fn empty_proposal(
         &mut bytes,
     )?;
     let mut certificate = Vec::new(alloc);
-    view.certificate().write(&mut certificate)?;
-    proposal_frame(alloc, keyring, view.view(), &bytes, &certificate)
+    proposal.certificate().write(&mut certificate)?;
+    proposal_frame(alloc, keyring, proposal.view(), &bytes, &certificate)
 }
 
 /// This frame to the replicas of even number, and that to the others.

@@ -42,19 +42,19 @@ impl<'a, 'b> Model for Offer<'a, 'b> {
 
 impl<'a, 'b> Offer<'a, 'b> {
     /// The block of a proposal.
-    pub(crate) fn of_proposal(proposal: &'b Checked<'a, ProposalView<'a>>) -> Offer<'a, 'b>
-        ensures offered { result ≡ proposal_offered proposal.entry.now }
-        ensures frame { IsFrame proposal.entry.now.keys.sizes (proposal_of proposal.entry.now.view) }
+    pub(crate) fn of_proposal(checked: &'b Checked<'a, ProposalView<'a>>) -> Offer<'a, 'b>
+        ensures offered { result ≡ proposal_offered checked.entry.now }
+        ensures frame { IsFrame checked.entry.now.keys.sizes (proposal_of checked.entry.now.view) }
         ensures passed { IsTrue
-            (is_passed (check (identity_of proposal.entry.now.keys) (proposal_of proposal.entry.now.view))) }
+            (is_passed (check (identity_of checked.entry.now.keys) (proposal_of checked.entry.now.view))) }
     {
-        let view = proposal.view();
+        let proposal = checked.view();
         Offer {
-            core: view.core(),
-            certificate: view.certificate(),
-            counted: proposal.counted(),
-            clear: proposal.is_clear(),
-            view: Some(view.view()),
+            core: proposal.core(),
+            certificate: proposal.certificate(),
+            counted: checked.counted(),
+            clear: checked.is_clear(),
+            view: Some(proposal.view()),
         }
     }
 

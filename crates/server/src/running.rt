@@ -158,20 +158,26 @@ fn serve_at<R: Threads + Wait + Clock + Sync + Send + AllocGlobal + Log + Clone 
         seats,
         watcher,
     };
-    let served = thread::scope(thread::scope_env(), rt, |scope| {
-        let watched = scope.spawn(move || board.keep(rt, terms.watch, stop));
-        let started = start_stations(rt, scope, stations, workers, deployment, stop);
-        let served = if started && watched.is_ok() {
-            front(rt, deployment.listener, seats, terms.most)
-        } else {
-            Err(Fault::Memory)
-        };
-        stop.store(true, SeqCst);
-        stop_all(rt, links);
-        served
-    });
+    let served = thread::scope(
+        thread::scope_env(),
+        rt,
+        |scope| -> Result<u64, Fault>
+            ensures served { IfOk result (λ served. served ≡ terms.most) }
+        {
+            let watched = scope.spawn(move || board.keep(rt, terms.watch, stop));
+            let started = start_stations(rt, scope, stations, workers, deployment, stop);
+            let served = if started && watched.is_ok() {
+                front(rt, deployment.listener, seats, terms.most)
+            } else {
+                Err(Fault::Memory)
+            };
+            stop.store(true, SeqCst);
+            stop_all(rt, links);
+            served
+        },
+    );
     match served {
-        Ok(_) => Ok(terms.most),
+        Ok(served) => Ok(served),
         Err(fault) => Err(roll.cause(rt).unwrap_or(fault)),
     }
 }

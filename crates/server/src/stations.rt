@@ -14,10 +14,10 @@ use crate::terms::Terms;
 use crate::watching::Progress;
 use crate::worker::WorkerStart;
 use authenticators::ReplicaKeyring;
-use clock::{Pulse, Watched, keep_time};
+use clock::{Due, Pulse, Watched, keep_time};
 use doorkeeper::Doorkeeper;
 use fabric::{Inbox, Links, WaitingRoom, Worker};
-use ids::{Fault, ReplicaId};
+use ids::{Fault, Height, ReplicaId};
 use key_file::PairKeys;
 use liars::Liar;
 use locked_replica::Kept;
@@ -78,9 +78,17 @@ impl<'a> Station<'a> {
     }
 }
 
-impl<'a> Watched for Station<'a> {
+/// A replica as its clock sees it, and the links over which it is handed what is due.
+#[derive(Drop)]
+struct Timed<'s, 'a> {
+    station: &'s Station<'a>,
+    links: &'s Links,
+}
+
+/// What a link doesn't take is lost.
+impl<'s, 'a> Watched for Timed<'s, 'a> {
     fn pulse<R: Wait>(&self, rt: &R) -> Pulse {
-        let guarded = self.locked.lock(rt);
+        let guarded = self.station.locked.lock(rt);
         let replica = guarded.replica();
         Pulse {
             wants_beat: replica.wants_beat(),
@@ -92,6 +100,19 @@ impl<'a> Watched for Station<'a> {
             horizon: replica.horizon(),
             stopped: guarded.stopped(),
         }
+    }
+
+    fn hand_in<R: Wait>(&self, rt: &R, due: Due) {
+        if due.beat {
+            let _ = self.links.beat(rt, self.station.number);
+        }
+        if let Some(view) = due.timeout {
+            let _ = self.links.timeout(rt, self.station.number, view);
+        }
+    }
+
+    fn prune<R: Wait>(&self, rt: &R, height: Height) {
+        let _ = self.links.prune(rt, self.station.number, height);
     }
 }
 
@@ -130,7 +151,8 @@ pub(crate) fn watch<R: Wait + Clock>(
     links: &Links,
     stop: &AtomicBool,
 ) -> Option<Fault> {
-    keep_time(rt, links, station.number, station, station.window, stop)
+    let timed = Timed { station, links };
+    keep_time(rt, &timed, links.config().n(), station.window, stop)
 }
 
 /// What a replica lies with.

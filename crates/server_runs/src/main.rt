@@ -1,5 +1,6 @@
 //! A deployment and its clients in one process: with no liar, and with each; one whose replicas forget what
-//! is a few heights below; one whose replicas have one worker each; and one whose replicas may hold few blocks.
+//! is a few heights below; one whose replicas have one worker each; one of seven replicas; and one whose replicas
+//! may hold few blocks.
 //! What each client reads is printed.
 #![tactic(auto)]
 
@@ -83,16 +84,17 @@ fn write_line(alloc: Global, text: &mut String, one: u16, other: u16) -> Result<
     Ok(())
 }
 
-/// A key file for four replicas and one client, which anyone can compute.
-fn keys(alloc: Global) -> Result<String> {
+/// The keys of the replicas of these sizes and one client, which anyone can compute, by way of their file.
+fn keys(alloc: Global, config: Config) -> Result<PairKeys> {
+    let replicas = u16::from(config.n());
     let mut text = String::new(alloc);
-    for one in 0..4u16 {
-        for other in one..4 {
+    for one in 0..replicas {
+        for other in one..replicas {
             write_line(alloc, &mut text, one, other)?;
         }
         write_line(alloc, &mut text, one, 256)?;
     }
-    Ok(text)
+    Ok(PairKeys::read(alloc, config, text.as_bytes())?)
 }
 
 /// Whether replicas were seen to fork.
@@ -112,10 +114,12 @@ enum Trial {
     Window(u64),
     /// Each replica has one worker.
     OneWorker,
+    /// Two of seven replicas may lie, and replica 0 does.
+    TwoFaults(Liar),
 }
 
 /// The deployments, in the order in which they are told.
-const TRIALS: [Trial; 8] = [
+const TRIALS: [Trial; 9] = [
     Trial::Liar(None),
     Trial::Liar(Some(Liar::Mute)),
     Trial::Liar(Some(Liar::TwoFaced)),
@@ -124,6 +128,7 @@ const TRIALS: [Trial; 8] = [
     Trial::Liar(Some(Liar::Flooder)),
     Trial::Window(4),
     Trial::OneWorker,
+    Trial::TwoFaults(Liar::BadReply),
 ];
 
 impl Trial {
@@ -133,6 +138,15 @@ impl Trial {
             Trial::Liar(liar) => Ok(format!(in alloc; "{liar:?}")?),
             Trial::Window(heights) => Ok(format!(in alloc; "a window of {heights} heights")?),
             Trial::OneWorker => Ok(format!(in alloc; "one worker")?),
+            Trial::TwoFaults(liar) => Ok(format!(in alloc; "seven replicas, {liar:?}")?),
+        }
+    }
+
+    /// How many faulty replicas are tolerated.
+    fn faults(self) -> u8 {
+        match self {
+            Trial::TwoFaults(_) => 2,
+            _ => 1,
         }
     }
 
@@ -157,15 +171,18 @@ impl Trial {
                 workers: Workers::One,
                 ..usual
             },
+            Trial::TwoFaults(liar) => Terms {
+                liar: Some(liar),
+                ..usual
+            },
         }
     }
 }
 
 fn main(rt: HostRuntime) -> Result<()> {
-    let text = keys(rt.alloc())?;
-    let keys = PairKeys::read(rt.alloc(), Config::new(1, 1)?, text.as_bytes())?;
     for trial in TRIALS {
         println!(rt; "{}", trial.name(rt.alloc())?)?;
+        let keys = keys(rt.alloc(), Config::new(trial.faults(), 1)?)?;
         let listener = TcpListener::bind(&rt, "127.0.0.1:0")?;
         let at = listener.local_addr()?;
         let terms = trial.terms(RandomState::new(&rt)?);
@@ -185,5 +202,6 @@ fn main(rt: HostRuntime) -> Result<()> {
             (_, audit) => println!(rt; "served {}, fork: {}", ended.served?, is_fork(audit))?,
         }
     }
+    let keys = keys(rt.alloc(), Config::new(1, 1)?)?;
     end_of_few_blocks(&rt, &keys)
 }

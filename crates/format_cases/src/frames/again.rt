@@ -118,18 +118,24 @@ fn write_again(alloc: Global, frame: &Frame, out: &mut Vec<u8>) -> Result<(), Fa
             write_command_again(view, &mut command)?;
             write_request_frame(&command, out)
         }
-        Frame::Proposal(view) => {
-            let core = core_again(alloc, &view.core())?;
-            let certificate = certificate_again(alloc, &view.certificate())?;
-            write_proposal(view.view(), &core, &certificate, view.vector(), out)
+        Frame::Proposal(proposal) => {
+            let core = core_again(alloc, &proposal.core())?;
+            let certificate = certificate_again(alloc, &proposal.certificate())?;
+            write_proposal(proposal.view(), &core, &certificate, proposal.vector(), out)
         }
         Frame::Vote(view) => {
             let vote = view.vote();
             write_vote(&Digest(*view.digest()), vote.voter(), vote.vector(), out)
         }
-        Frame::NewView(view) => {
-            let certificate = certificate_again(alloc, &view.certificate())?;
-            write_new_view(view.view(), view.sender(), &certificate, view.vector(), out)
+        Frame::NewView(new_view) => {
+            let certificate = certificate_again(alloc, &new_view.certificate())?;
+            write_new_view(
+                new_view.view(),
+                new_view.sender(),
+                &certificate,
+                new_view.vector(),
+                out,
+            )
         }
         Frame::Reply(view) => write_reply_again(view, out),
         Frame::Fetch(view) => {
