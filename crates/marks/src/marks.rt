@@ -52,8 +52,8 @@ impl Marks {
 
     /// How far a replica has executed. It takes no memory and waits for nobody.
     ///
-    /// It is at least what this eye has seen of that replica, and is seen from then on. It is
-    /// exactly the owner's put where the eye owns the word.
+    /// It is at least what this eye has seen of that replica, and is seen from then on. Where the eye owns the word
+    /// it is what was last put by it.
     pub fn executed(&self, eye: &mut Eye, replica: ReplicaId) -> u64
         requires from { eye.old.marks ≡ self.now }
         requires number { replica < self.now.words }
