@@ -1,4 +1,3 @@
 pub mod Following
 mod Keyed
 mod Overtaking
-mod Picking

@@ -133,16 +133,10 @@ impl Mempool {
     pub fn pick(&self, on: &[(ClientId, Seq)]) -> Result<Vec<&Pending>, AllocError>
         ensures { IfOk result (λ v. map (λ r. r.now) v.items ≡ first_beside on.now self.now) }
     {
-        let mut picked = Vec::new(self.alloc);
-        for i in 0..self.requests.len() {
-            let request = &self.requests[i];
-            if picked.len() >= MOST_COMMANDS {
-                break;
-            }
-            if !request.stands_among(on) {
-                picked.push(request)?;
-            }
-        }
-        Ok(picked)
+        self.requests
+            .values()
+            .filter(|request| !request.stands_among(on))
+            .take(MOST_COMMANDS)
+            .collect(self.alloc)
     }
 }
