@@ -1,14 +1,13 @@
 -- Answers that come behind others change nothing that was told.
-use Rattle.std.proofs.Common.{◌≡◌, ◌∙◌, ◌<◌, ◌≤◌, ◌+◌, ◌==◌, ◌&&◌, ◌||◌, ℕ, zero, suc, List, [], ◌∷◌, ◌++◌}
-use Rattle.std.proofs.Common.{Bool, true, Some, cond, length, take, get_or, refl, ap, sym, subst}
+use Rattle.std.proofs.Common.{◌≡◌, ◌∙◌, ◌<◌, ◌==◌, ◌&&◌, ◌||◌, ℕ, zero, suc, List, [], ◌∷◌, ◌++◌}
+use Rattle.std.proofs.Common.{Bool, true, Some, length, get_or, refl, ap, sym, subst}
 use Rattle.std.proofs.Common.{arith}
 use Rattle.std.specs.Prelude.{filter}
 use Rattle.std.specs.List.{list_any, position}
 use Rattle.std.specs.Str.{bytes_eq}
 use Rattle.std.proofs.lemmas.Bool.{eqb-true, and_parts}
-use Rattle.std.proofs.lemmas.List.{get_or-map, get_or_append_left, length-map, length-append, map_more}
+use Rattle.std.proofs.lemmas.List.{get_or-map, get_or_append_left, length-append}
 use Rattle.std.proofs.lemmas.List.Quantifiers.{position-Some}
-use Rattle.std.proofs.lemmas.List.Sums.{length-filter, count_by-le-length, sum_by-append}
 use Rattle.std.proofs.lemmas.Slice.Eq.{bytes_eq-Decides}
 use Rattle.definitions.specs.Bytes.{Bytes}
 use Rattle.definitions.specs.Tally.{Told, is_counted, agrees, agreeing}
@@ -98,45 +97,12 @@ said-found (a ∷ answers) i place text found =
     let at = position-Some (is_said place text) (a ∷ answers) i a found in
     (at.0, said-is (a ∷ answers) i a at.0 ∙ said-passed (get_or (a ∷ answers) i a) place text at.1)
 
--- one more that is told agrees or not
-agreeing-last : (p : Told → Bool) (tally : List Told) (t : Told)
-    → length (filter p (tally ++ t ∷ [])) ≡ length (filter p tally) + cond (p t) 1 0
-agreeing-last p tally t = omega (
-  arith,
-  length-filter p (tally ++ t ∷ []),
-  length-filter p tally,
-  sum_by-append (λ (x : Told). cond (p x) 1 0) tally (t ∷ []),
-)
-
-pub agreeing-more :
-    (answers : List Answer) (counted : List Counted) (i : ℕ) (d : Counted) (place : ℕ) (text : Bytes)
-    → i < length counted
-    → agreeing (tally_of answers (take (i + 1) counted)) place text
-    ≡ agreeing (tally_of answers (take i counted)) place text
-    + cond (agrees place text (told_in answers (get_or counted i d))) 1 0
-agreeing-more answers counted i d place text below =
-    ap (λ (tally : List Told). agreeing tally place text) (map_more (told_in answers) counted i d below)
-    ∙ agreeing-last (agrees place text) (tally_of answers (take i counted))
-    (told_in answers (get_or counted i d))
-
--- no more agree than are counted
-pub agreeing-few : (answers : List Answer) (counted : List Counted) (place : ℕ) (text : Bytes)
-    → agreeing (tally_of answers counted) place text ≤ length counted
-agreeing-few answers counted place text =
-    omega (
-      arith,
-      length-filter (agrees place text) (tally_of answers counted),
-      count_by-le-length (agrees place text) (tally_of answers counted),
-      length-map counted (told_in answers),
-    )
-
--- what an answer that is looked up says, tested
-pub agrees-is : (answers : List Answer) (c : Counted) (a : Answer) (place : ℕ) (text : Bytes)
-    → c.answer < length answers → a ≡ get_or answers c.answer a
-    → agrees place text (told_in answers c) ≡ ((a.place == place) && bytes_eq a.text.items text)
-agrees-is answers c a place text below is =
-    ap (λ (s : Said). (s.0 == place) && bytes_eq s.1 text)
-    (said-is answers c.answer a below ∙ ap said_in (sym is))
+-- how many of what was told agree, by who was counted
+pub agreeing-counted : (answers : List Answer) (counted : List Counted) (place : ℕ) (text : Bytes)
+    → length (filter (λ c. agrees place text (told_in answers c)) counted)
+    ≡ agreeing (tally_of answers counted) place text
+agreeing-counted answers [] place text = refl
+agreeing-counted answers (c ∷ counted) place text = grind (arith, agreeing-counted answers counted place text)
 
 -- each counted replica's answer is there
 pub among-at : (answers : List Answer) (counted : List Counted) (i : ℕ) (d : Counted)
@@ -145,20 +111,3 @@ among-at answers [] i d among below = absurd (omega (arith, below))
 among-at answers (c ∷ counted) zero d among below = among.0
 among-at answers (c ∷ counted) (suc i) d among below =
     among-at answers counted i d among.1 (omega (arith, below))
-
--- one more that was looked at
-pub agreeing-step : (answers : List Answer) (counted : List Counted) (i : ℕ) (k : Counted) (a : Answer)
-    (place : ℕ) (text : Bytes) (count new : ℕ) (b : Bool)
-    → AreAmong answers counted → i < length counted → k ≡ get_or counted i k → a ≡ get_or answers k.answer a
-    → b ≡ ((a.place == place) && bytes_eq a.text.items text)
-    → count ≡ agreeing (tally_of answers (take i counted)) place text → new ≡ count + cond b 1 0
-    → new ≡ agreeing (tally_of answers (take (i + 1) counted)) place text
-agreeing-step answers counted i k a place text count new b among below told found tested so_far next =
-    let there : k.answer < length answers =
-    subst (λ (x : Counted). x.answer < length answers) (sym told)
-    (among-at answers counted i k among below) in
-    let agree : agrees place text (told_in answers (get_or counted i k)) ≡ b =
-    ap (λ (x : Counted). agrees place text (told_in answers x)) (sym told)
-    ∙ agrees-is answers k a place text there found ∙ sym tested in
-    let more = agreeing-more answers counted i k place text below in
-    omega (arith, more, ap {B = ℕ} (λ (t : Bool). cond t 1 0) agree, so_far, next)

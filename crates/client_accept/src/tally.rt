@@ -1,9 +1,9 @@
 //! What replicas told of the outstanding request.
 
-ghost use Rattle.std.specs.Prelude.{◌≡◌, ◌==◌, ◌∷◌, [], OnOk, OnErr};
+ghost use Rattle.std.specs.Prelude.{◌≡◌, ◌==◌, ◌<◌, ◌∷◌, [], length, OnOk, OnErr};
 ghost use Rattle.std.specs.List.{list_any};
-ghost use Rattle.definitions.specs.Tally.{is_counted, agreeing};
-ghost use Rattle.client_accept.specs.Tallies.{tally_of, AreAmong};
+ghost use Rattle.definitions.specs.Tally.{is_counted, agrees, agreeing};
+ghost use Rattle.client_accept.specs.Tallies.{told_in, tally_of, AreAmong};
 
 use crate::answers::{Answer, keep};
 use ids::{Fault, Place, ReplicaId};
@@ -50,13 +50,15 @@ fn agreeing_of(answers: &[Answer], counted: &[Counted], place: Place, text: &[u8
     requires { AreAmong answers.now counted.now }
     ensures { result ≡ agreeing (tally_of answers.now counted.now) place text.now }
 {
-    let mut count = 0;
-    for told in counted {
-        if answers[told.answer].is(place, text) {
-            count += 1;
-        }
-    }
-    count
+    counted
+        .iter()
+        .filter(
+            |told| -> bool
+                requires { told.now.now.answer < length answers.now }
+                ensures { result ≡ agrees place text.entry.now (told_in answers.entry.now told.now.now) }
+            { answers[told.answer].is(place, text) },
+        )
+        .count()
 }
 
 impl Tally {

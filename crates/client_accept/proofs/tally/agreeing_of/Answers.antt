@@ -1,43 +1,21 @@
-use Rattle.std.proofs.Common.{◌≡◌, ◌<◌, ◌+◌, ◌∙◌, Bool, ap, sym, subst, arith, take, cond, length, List, ℕ}
-use Rattle.std.proofs.lemmas.List.{length-take-le, take_all}
-use Rattle.definitions.specs.Tally.{agreeing}
-use Rattle.client_accept.specs.declared.tally.Counted.{Counted}
-use Rattle.client_accept.specs.Tallies.{tally_of}
-use Rattle.client_accept.proofs.Tallies.{agreeing-few, agreeing-step, among-at}
+use Rattle.std.proofs.Common.{rules, tests, arith, ◌∙◌}
+use Rattle.std.proofs.lemmas.Iterator.{YieldsList-from_slice}
+use Rattle.std.proofs.lemmas.Iterator.Adapters.{serves_from_places}
+use Rattle.std.proofs.lemmas.Iterator.Consumers.{YieldsList-from_filter, count_from_yields_List}
+use Rattle.client_accept.proofs.Tallies.{agreeing-counted, among-at}
 use Rattle.client_accept.proofs.tally.agreeing_of.Goals as goal
-use Rattle.client_accept.proofs.tally.agreeing_of.Goals.{then-is, else-is}
 
-pub overflow_add-count : goal.overflow_add-count
-overflow_add-count c =
-    let few = agreeing-few c.args.answers.now (take c.loop-told.told-index c.args.counted.now) c.args.place
-    c.args.text.now in
-    let len =
-    length-take-le c.loop-told.told-index c.args.counted.now (omega (arith, c.loop-told-test.true)) in
-    omega (arith, few, len, c.loop-told.invariant, c.loop-told-test.true)
-
-pub bounds-answers-told : goal.bounds-answers-told
-bounds-answers-told c =
-    subst (λ (k : Counted). k.answer < length c.args.answers.now) (sym c.told-item.is)
-    (among-at c.args.answers.now c.args.counted.now c.loop-told.told-index c.told-item.result c.requires
-    c.loop-told-test.true)
-
-pub loop-told-preserved : goal.loop-told-preserved
-loop-told-preserved c =
-    let step : c.if-is.count ≡ c.loop-told.count + cond c.is.result 1 0
-    → c.if-is.count
-    ≡ agreeing (tally_of c.args.answers.now (take (c.loop-told.told-index + 1) c.args.counted.now))
-    c.args.place c.args.text.now =
-    agreeing-step c.args.answers.now c.args.counted.now c.loop-told.told-index c.told-item.result
-    c.index-answers-told.result c.args.place c.args.text.now c.loop-told.count c.if-is.count c.is.result
-    c.requires c.loop-told-test.true c.told-item.is c.index-answers-told.is c.is.ensures
-    c.loop-told.invariant in
-    elim c.if-is.branch [
-      | then-is w ↦ step (omega (arith, w.count-is, ap {B = ℕ} (λ (t : Bool). cond t 1 0) w.if-is.true))
-      | else-is w ↦ step (omega (arith, w.count-is, ap {B = ℕ} (λ (t : Bool). cond t 1 0) w.if-is.false))
-    ]
+pub count-requires-clause-can : goal.count-requires-clause-can
+count-requires-clause-can c =
+    let all = c.args.counted.now in (
+      tt,
+      tt,
+      serves_from_places (YieldsList-from_slice all cc) (λ x q r. search (rules, tests))
+          (λ x k below at y e. grind (arith, among-at c.args.answers.now all k x.now c.requires below)),
+    )
 
 pub returns : goal.returns
 returns c =
-    c.loop-told.invariant
-    ∙ ap (λ (cs : List Counted). agreeing (tally_of c.args.answers.now cs) c.args.place c.args.text.now)
-    (take_all c.loop-told.told-index c.args.counted.now c.loop-told-test.false)
+    count_from_yields_List c.filter.result _ c.count.ensures.ran (YieldsList-from_filter _ _
+    (YieldsList-from_slice c.args.counted.now cc) c.filter.ensures.closure (λ x b q k. search (rules, tests)))
+    ∙ agreeing-counted c.args.answers.now c.args.counted.now c.args.place c.args.text.now
