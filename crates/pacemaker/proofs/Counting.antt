@@ -1,6 +1,8 @@
 -- How many numbers are at least a bound, and which of these is the least.
 use Rattle.std.proofs.Common.{ℕ, zero, suc, ◌≡◌, ◌+◌, ◌<◌, ◌≤◌, ◌⊎◌, Bool, true, false, cond, leb, refl}
 use Rattle.std.proofs.Common.{subst, arith, inl, inr}
+use Rattle.std.proofs.Common.{List, length, filter, take, slice_index, ap, sym, ◌∙◌, add-one}
+use Rattle.std.proofs.lemmas.List.Filters.{length-filter_more}
 use Rattle.std.proofs.lemmas.Bool.{cases_lt, cond_both, leb-true, le-leb}
 use Rattle.definitions.specs.Lists.{count_below}
 
@@ -8,14 +10,19 @@ use Rattle.definitions.specs.Lists.{count_below}
 abbrev pub at_least : ℕ → (ℕ → ℕ) → ℕ → ℕ
 at_least n a v = count_below n (λ i. leb v (a i))
 
-pub count-zero : (p : ℕ → Bool) → count_below 0 p ≡ 0
-unfolding count_below
-count-zero p = refl
+taken-step : (b : Bool) (x y z : ℕ) → x ≡ y + cond b 1 0 → y ≡ z → x ≡ cond b (suc z) z
+taken-step b x y z e h = grind arith
 
-pub count-next : (n : ℕ) (p : ℕ → Bool)
-    → count_below (n + 1) p ≡ cond (p n) (count_below n p + 1) (count_below n p)
+-- of the first n numbers of a list, those that pass are counted by their places
+pub count-taken : (n : ℕ) (p : ℕ → Bool) (xs : List ℕ) → n ≤ length xs
+    → length (filter p (take n xs)) ≡ count_below n (λ i. p (slice_index xs i))
 unfolding count_below
-count-next n p = grind arith
+count-taken zero p xs l = refl
+count-taken (suc n) p xs l =
+    taken-step (p (slice_index xs n)) _ _ _
+    (ap (λ k. length (filter p (take k xs))) (sym (add-one n))
+    ∙ length-filter_more p xs n 0 (omega (arith, l)))
+    (count-taken n p xs (omega (arith, l)))
 
 mono-step : (a b : Bool) (x y : ℕ) → (a ≡ true → b ≡ true) → x ≤ y → cond a (suc x) x ≤ cond b (suc y) y
 mono-step true true x y h l = omega arith

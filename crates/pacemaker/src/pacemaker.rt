@@ -105,16 +105,14 @@ impl Pacemaker {
     }
 
     /// How many replicas have announced or passed a view.
-    fn passed_by(&self, view: u64) -> u8
+    fn passed_by(&self, view: u64) -> usize
         ensures { result ≡ passed_by self.now view }
     {
-        let mut count = 0;
-        for i in 0..self.config.n() {
-            if self.announced[usize::from(i)] >= view {
-                count += 1;
-            }
-        }
-        count
+        let n = usize::from(self.config.n());
+        self.announced[..n]
+            .iter()
+            .filter(|announced| **announced >= view)
+            .count()
     }
 
     /// The greatest view that more than f replicas have announced or passed, of those that were
@@ -125,7 +123,7 @@ impl Pacemaker {
         let mut reached = 0;
         for i in 0..self.config.n() {
             let view = self.announced[usize::from(i)];
-            if view > reached && self.passed_by(view) > self.config.faults() {
+            if view > reached && self.passed_by(view) > usize::from(self.config.faults()) {
                 reached = view;
             }
         }
