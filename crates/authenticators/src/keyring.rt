@@ -233,13 +233,13 @@ fn head(label: Kind, sender: PartyId, receiver: PartyId) -> [u8; 5]
     [label.number(), s0, s1, r0, r1]
 }
 
-/// Whether all bytes are equal. Each pair is looked at, wherever they differ.
+/// Whether all bytes are equal. Each pair is looked at, wherever they differ; the loop itself compares nothing.
 fn are_equal(a: &[u8; 32], b: &[u8; 32]) -> bool
     ensures { IsTrue result ↔ (a.now ≡ b.now) }
 {
     let mut differing: u8 = 0;
     for i in 0..32 {
-        differing += u8::from(a[i] != b[i]);
+        differing |= a[i] ^ b[i];
     }
     differing == 0
 }
