@@ -1,6 +1,6 @@
 ghost use Rattle.std.specs.Prelude.{◌≡◌, ◌==◌, ◌&&◌, ◌⊎◌, ◌≤◌, ◌++◌, find, option_map, List, IfOk, OnOk};
 ghost use Rattle.std.specs.Prelude.{OnErr, IsSome, IsTrue, if◌then◌else◌};
-ghost use Rattle.ids.specs.Sizes.{replicas};
+ghost use Rattle.ids.specs.Sizes.{replicas, client_party};
 ghost use Rattle.definitions.specs.Bytes.{Bytes};
 ghost use Rattle.key_file.specs.KeyFile.{IsFileOf, HasKeys, found_key, keys_with, keys_of_party};
 ghost use Rattle.definitions.specs.Keyrings.{is_party_of, is_replica_of};
@@ -115,7 +115,7 @@ impl PairKeys {
         first: PartyId,
         count: u8,
     ) -> Result<(), Fault>
-        requires { first ≤ 256 }
+        requires { first ≤ client_party 0 }
         ensures made { OnOk result
             (out.new.items ≡ out.old.items ++ keys_with self.now.keys party first count) }
         ensures there { OnOk result (HasKeys self.now.keys party first count) }

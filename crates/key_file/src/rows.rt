@@ -1,7 +1,7 @@
 //! The lines of a key file, one after the other.
 
 ghost use Rattle.std.specs.Prelude.{◌≡◌, ◌≤◌, ◌<◌, ◌++◌, List, IfOk};
-ghost use Rattle.ids.specs.Sizes.{replicas};
+ghost use Rattle.ids.specs.Sizes.{replicas, client_party};
 ghost use Rattle.key_file.specs.KeyFile.{pairs_with, pairs_of};
 ghost use Rattle.key_file.specs.Reading.{Reads, HasNo};
 ghost use Rattle.key_file.specs.declared.pair_key.PairKey.{PairKey};
@@ -19,7 +19,7 @@ fn read_with<'a>(
     count: u8,
     keys: &mut Vec<PairKey>,
 ) -> Result<&'a [u8], KeyFileFault>
-    requires { first ≤ 256 }
+    requires { first ≤ client_party 0 }
     ensures read { IfOk result (λ rest. (read : List PairKey) × (keys.new.items ≡ keys.old.items ++ read)
         × Reads (pairs_with one first count) text.now read rest.now) }
     ensures bad { result ≡ Err KeyFileFault.NotOne → HasNo (pairs_with one first count) text.now }

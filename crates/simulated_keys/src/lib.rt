@@ -3,6 +3,7 @@
 #![tactic(auto)]
 
 ghost use Rattle.std.specs.Prelude.{◌≡◌, ◌+◌, ◌≤◌, ◌^◌, ◌++◌, IfOk, OnOk, OnErr, if◌then◌else◌};
+ghost use Rattle.ids.specs.Sizes.{client_party};
 ghost use Rattle.definitions.specs.Keyrings.{is_replica_of};
 ghost use Rattle.simulated_keys.specs.Keys.{simulated_key, keys_with, simulated_keys};
 
@@ -50,7 +51,7 @@ fn push_keys(
     first: PartyId,
     count: u8,
 ) -> Result<(), Fault>
-    requires { first ≤ 256 }
+    requires { first ≤ client_party 0 }
     ensures made { OnOk result (keys.new.items ≡ keys.old.items ++ keys_with party first count) }
     ensures memory { OnErr result (result ≡ Err Fault.Memory) }
 {
