@@ -20,12 +20,13 @@ pub(crate) struct Clients {
 impl Model for Clients {
     ghost use Rattle.std.specs.Prelude.{◌≡◌, List, Option, length};
     ghost use Rattle.definitions.specs.Histories as histories;
+    ghost use Rattle.executor.specs.declared.clients.TheConstants.{NUMBERS};
 
     ghost Value = { List (Option histories.Answer) };
 
     ghost view = { λ c. c.rows.items };
 
-    ghost invariant = { λ c. length c.rows.items ≡ 256 };
+    ghost invariant = { λ c. length c.rows.items ≡ NUMBERS };
 }
 
 impl Clients {
