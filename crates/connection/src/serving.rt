@@ -1,6 +1,7 @@
-ghost use Rattle.std.specs.Prelude.{◌≡◌, ◌≤◌, [], IfOk, OnOk, OnErr, Err, length};
+ghost use Rattle.std.specs.Prelude.{◌≡◌, ◌≤◌, ◌+◌, [], IfOk, OnOk, OnErr, Err, length};
 ghost use Rattle.std.specs.Io.KnownBytes.{Consumes};
 ghost use Rattle.ids.specs.declared.fault.Fault.TheVariants.{ReadFailed};
+ghost use Rattle.ids.specs.declared.limits.TheConstants.{MOST_DATA, MOST_LINE};
 ghost use Rattle.connection.specs.Devices.{CountsOne};
 ghost use Rattle.connection.specs.Serving.{IsServed, state};
 ghost use Rattle.connection.specs.Steps.{IsHeld, IsRound, IsPulled};
@@ -53,7 +54,7 @@ fn serve_round<W: Write, S: Service>(
 
 /// Takes in what the reader gives next. Says whether there was something.
 fn pull<R: Read>(reader: &mut Counted<R>, feed: &mut Feed) -> Result<bool, Fault>
-    requires { length feed.old ≤ 8193 }
+    requires { length feed.old ≤ MOST_LINE + MOST_DATA + 1 }
     ensures read { IfOk result
         (IsPulled (R.remaining reader.old.device) (R.remaining reader.new.device) feed.old feed.new) }
     ensures kept { OnOk result (reader.new.failures ≡ reader.old.failures) }
