@@ -1,6 +1,6 @@
 //! Certificates as they are passed on.
 
-ghost use Rattle.std.specs.Prelude.{◌≡◌, ◌<◌, ◌+◌, ◌*◌, ◌++◌, ◌∷◌, [], length, IfSome, IfNone, IfOk, OnErr};
+ghost use Rattle.std.specs.Prelude.{◌≡◌, ◌<◌, ◌+◌, ◌*◌, ◌^◌, ◌++◌, ◌∷◌, [], length, IfSome, IfNone, IfOk, OnErr};
 ghost use Rattle.ids.specs.Sizes.{quorum, replicas};
 ghost use Rattle.std.specs.List.{AllByRecursion, flat_map};
 ghost use Rattle.definitions.specs.Frames.{vote_bytes, certificate_bytes};
@@ -95,7 +95,7 @@ fn cut<'a>(keyring: &'a VerifyingKeyring, certificate: &CertificateView<'a>) -> 
     requires certificate { IsCertificate keyring.now.sizes (certificate_of certificate.now) }
     ensures votes { result
         ≡ (cut (identity_of keyring.entry.now) (certificate_of certificate.entry.now)).votes }
-    ensures few { length result < 256 }
+    ensures few { length result < 2 ^ 8 }
 {
     CutVotes {
         keyring,
@@ -124,7 +124,7 @@ fn quorum_len(config: &Config) -> usize
 
 /// Appends the bytes of these votes, and tells how many they are.
 fn write_votes(votes: CutVotes<'_>, out: &mut Vec<u8>) -> Result<u8, Fault>
-    requires few { length votes < 256 }
+    requires few { length votes < 2 ^ 8 }
     ensures count { IfOk result (λ count. count ≡ length votes.entry) }
     ensures bytes { IfOk result (λ count. out.new.items ≡ out.old.items ++ flat_map vote_bytes votes.entry) }
     ensures memory { OnErr result (result ≡ Err Fault.Memory) }
