@@ -3,14 +3,11 @@
 ghost use Rattle.std.specs.Prelude.{◌≡◌, IfOk};
 ghost use Rattle.frames_view.specs.Views.{core_of};
 
-use crate::core_fields::CoreFields;
+use crate::core_fields::{CORE_HEAD, CoreFields};
 use crate::cursor::from;
 use crate::views::CoreView;
 use std::alloc::{AllocError, Global};
 use std::marker::Model;
-
-/// How many bytes stand before a core's commands.
-const HEAD: usize = 49;
 
 /// A core of its own, as `CoreView` is one that is lent.
 #[derive(Drop)]
@@ -29,6 +26,7 @@ impl Model for CoreBuf {
     ghost use Rattle.definitions.specs.Frames.{Core, core_bytes};
     ghost use Rattle.frames_view.specs.Readings.{elements};
     ghost use Rattle.frames_view.specs.Parts.{command_in};
+    ghost use Rattle.frames_view.specs.declared.core_fields.TheConstants.{CORE_HEAD};
 
     ghost Value = { Core };
 
@@ -36,11 +34,11 @@ impl Model for CoreBuf {
       parent = k.parent;
       height = k.height;
       justify_height = k.justify_height;
-      commands = elements (command_in k.replicas k.clients) k.count (drop 49 k.raw.items);
+      commands = elements (command_in k.replicas k.clients) k.count (drop CORE_HEAD k.raw.items);
     } };
 
     ghost invariant = { λ k. let commands =
-        elements (command_in k.replicas k.clients) k.count (drop 49 k.raw.items) in
+        elements (command_in k.replicas k.clients) k.count (drop CORE_HEAD k.raw.items) in
         (length k.parent ≡ 32) × (length commands ≡ k.count) × (k.justify_height < k.height)
         × (k.raw.items ≡ core_bytes (record {
           parent = k.parent;
@@ -79,7 +77,7 @@ impl CoreBuf {
             replicas: self.replicas,
             clients: self.clients,
             count: self.count,
-            commands: from(raw, HEAD),
+            commands: from(raw, CORE_HEAD),
         };
         CoreView { raw, fields }
     }

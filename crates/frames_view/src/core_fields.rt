@@ -6,6 +6,9 @@ ghost use Rattle.definitions.specs.Frames.{command_bytes};
 ghost use Rattle.frames_view.specs.Readings.{elements};
 ghost use Rattle.frames_view.specs.Parts.{command_in};
 
+/// How many bytes stand before a core's commands.
+pub(crate) const CORE_HEAD: usize = 49;
+
 #[derive(Clone, Copy)]
 pub(crate) struct CoreFields<'a> {
     pub(crate) parent: &'a [u8; 32],

@@ -9,6 +9,7 @@ ghost use Rattle.frames_view.specs.Parts.{command_in, core_in};
 ghost use Rattle.frames_view.specs.Cores.{core_of_fields};
 ghost use Rattle.frames_view.specs.Views.{Gives, core_of, commands_left};
 ghost use Rattle.frames_view.specs.Places.{IsSplit, AreFieldsAt, IsCoreAt};
+ghost use Rattle.frames_view.specs.declared.core_fields.TheConstants.{CORE_HEAD};
 
 use crate::command::take_command;
 use crate::core_fields::CoreFields;
@@ -91,7 +92,7 @@ fn take_commands<'a>(config: &Config, bytes: &'a [u8], count: u8) -> Option<(&'a
 fn take_fields<'a>(config: &Config, bytes: &'a [u8]) -> Option<(CoreFields<'a>, &'a [u8])>
     ensures taken { Gives (λ p. (core_of_fields p.0, p.1.now)) result (core_in config.now bytes.now) }
     ensures lent { IfSome result
-        (λ p. AreFieldsAt bytes.entry 0 p.0 × LeftAt bytes.entry (49 + length p.0.commands.now) p.1) }
+        (λ p. AreFieldsAt bytes.entry 0 p.0 × LeftAt bytes.entry (CORE_HEAD + length p.0.commands.now) p.1) }
 {
     let (replicas, clients) = (config.n(), config.clients());
     let (parent, rest) = take_32(bytes)?;
