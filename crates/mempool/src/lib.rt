@@ -5,7 +5,9 @@
 mod laws;
 mod mempool;
 mod pending;
+mod request_id;
 
 pub use laws::{executed_leave_pending, pick_is_for_child, request_joins_pending};
 pub use mempool::Mempool;
 pub use pending::Pending;
+pub use request_id::RequestId;

@@ -13,6 +13,7 @@ ghost use Rattle.mempool.specs.Pool.{is_of, is_overtaken, is_up_to, left_after, 
 ghost use Rattle.mempool.specs.Pool.{first_beside};
 
 use crate::pending::Pending;
+use crate::request_id::RequestId;
 use frames_view::{CommandView, Commands};
 use ids::{ClientId, Fault, MOST_COMMANDS, MOST_PENDING, Seq};
 use indexmap::IndexMap;
@@ -23,7 +24,7 @@ use std::marker::Model;
 #[derive(Debug, Drop)]
 pub struct Mempool {
     alloc: Global,
-    requests: IndexMap<(ClientId, Seq), Pending>,
+    requests: IndexMap<RequestId, Pending>,
 }
 
 impl Model for Mempool {
@@ -68,7 +69,7 @@ impl Mempool {
     pub fn contains(&self, client: ClientId, seq: Seq) -> bool
         ensures { result ≡ list_any (is_of client seq) self.now }
     {
-        self.requests.contains_key(&(client, seq))
+        self.requests.contains_key(&RequestId { client, seq })
     }
 
     /// What `insert` needs to add a request, with its bytes; nothing where its client and number are pending.
@@ -100,7 +101,7 @@ impl Mempool {
         if self.contains(client, seq) {
             return Ok(());
         }
-        self.requests.insert((client, seq), request)?;
+        self.requests.insert(RequestId { client, seq }, request)?;
         Ok(())
     }
 
@@ -109,7 +110,7 @@ impl Mempool {
         ensures { self.new ≡ filter (λ r. not (is_up_to client seq r)) self.old }
     {
         self.requests.retain(
-            |_key: &(ClientId, Seq), request: &mut Pending| -> bool
+            |_id: &RequestId, request: &mut Pending| -> bool
                 ensures { (result ≡ not (is_up_to client seq request.old)) × (request.new ≡ request.old) }
             { !request.is_up_to(client, seq) },
         );
@@ -121,7 +122,7 @@ impl Mempool {
         ensures { self.new ≡ left_after (reverse (map entry_of (commands_left executed.entry))) self.old }
     {
         self.requests.retain(
-            |_key: &(ClientId, Seq), request: &mut Pending| -> bool
+            |_id: &RequestId, request: &mut Pending| -> bool
                 ensures { (result ≡ not (is_overtaken (commands_left executed.entry) request.old))
                     × (request.new ≡ request.old) }
             { !request.is_overtaken(executed) },
@@ -130,7 +131,7 @@ impl Mempool {
 
     /// The first 16 requests whose client and number are not among those of `on`, in order of
     /// arrival. `on` is of the commands that stand on a branch, in any order.
-    pub fn pick(&self, on: &[(ClientId, Seq)]) -> Result<Vec<&Pending>, AllocError>
+    pub fn pick(&self, on: &[RequestId]) -> Result<Vec<&Pending>, AllocError>
         ensures { IfOk result (λ v. map (λ r. r.now) v.items ≡ first_beside on.now self.now) }
     {
         self.requests

@@ -5,6 +5,7 @@ ghost use Rattle.definitions.specs.Frames.{command_bytes};
 ghost use Rattle.frames_view.specs.Views.{command_of, commands_left};
 ghost use Rattle.mempool.specs.Pool.{is_of, is_overtaken, is_up_to, stands_among};
 
+use crate::request_id::RequestId;
 use appending::append;
 use frames_view::{CommandView, Commands};
 use ids::{ClientId, Fault, Seq};
@@ -98,10 +99,10 @@ impl Pending {
     }
 
     /// Whether its client and number are among these.
-    pub(crate) fn stands_among(&self, on: &[(ClientId, Seq)]) -> bool
+    pub(crate) fn stands_among(&self, on: &[RequestId]) -> bool
         ensures { result ≡ stands_among on.now self.now }
     {
-        let (client, seq) = (self.client, self.seq);
-        on.iter().any(|e| e.0 == client && e.1 == seq)
+        on.iter()
+            .any(|id| id.client == self.client && id.seq == self.seq)
     }
 }

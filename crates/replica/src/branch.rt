@@ -10,7 +10,8 @@ ghost use Rattle.replica.specs.Picks.{key_of, keys_of};
 
 use block_tree::{Node, Tree};
 use frames_view::Commands;
-use ids::{ClientId, Digest, Height, Seq};
+use ids::{Digest, Height};
+use mempool::RequestId;
 use std::alloc::{AllocError, Global};
 
 /// The digest of the block of this height on the branch of a block of the tree, as far as it is in reach.
@@ -31,11 +32,14 @@ pub(crate) fn block_at<'a>(tree: &'a Tree, tip: &Digest, height: Height) -> Opti
 }
 
 /// Puts the client and number of each command last.
-fn put_keys(commands: Commands<'_>, keys: &mut Vec<(ClientId, Seq)>) -> Result<(), AllocError>
+fn put_keys(commands: Commands<'_>, keys: &mut Vec<RequestId>) -> Result<(), AllocError>
     ensures { OnOk result (keys.new.items ≡ keys.old.items ++ map key_of (commands_left commands.entry)) }
 {
     for command in commands {
-        keys.push((command.client(), command.seq()))?;
+        keys.push(RequestId {
+            client: command.client(),
+            seq: command.seq(),
+        })?;
     }
     Ok(())
 }
@@ -47,7 +51,7 @@ pub(crate) fn keys_between(
     tip: &Digest,
     from: u64,
     to: u64,
-) -> Result<Vec<(ClientId, Seq)>, AllocError>
+) -> Result<Vec<RequestId>, AllocError>
     ensures { IfOk result
         (λ keys. keys.items ≡ reverse (keys_of (history_above tip.now tree.now from (to - from) []))) }
 {

@@ -8,8 +8,8 @@ ghost use Rattle.replica.specs.Picks.{executed_below, proposed_above, picked};
 use crate::branch::keys_between;
 use crate::state::State;
 use appending::append;
-use ids::{ClientId, Fault, Height, Seq};
-use mempool::Pending;
+use ids::{Fault, Height};
+use mempool::{Pending, RequestId};
 use std::alloc::{AllocError, Global};
 
 /// The height above which requests that wait may stand on the leaf's branch: nothing that was executed waits.
@@ -25,7 +25,7 @@ fn executed_below(state: &State) -> Height
 }
 
 /// The clients and numbers of what stands above it on the leaf's branch, in any order.
-fn proposed_above(state: &State) -> Result<Vec<(ClientId, Seq)>, AllocError>
+fn proposed_above(state: &State) -> Result<Vec<RequestId>, AllocError>
     ensures { IfOk result (λ keys. keys.items ≡ reverse (proposed_above state.now.variables)) }
 {
     let (tree, leaf) = (&state.tree, &state.leaf.digest);

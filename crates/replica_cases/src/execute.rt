@@ -19,7 +19,7 @@ use crate::execute::pending::{ask, bytes_of, client, drop_executed, fill, key_of
 use executor::{Answer, Entries, Executor};
 use frames_view::{CommandView, Commands, Frame, read};
 use ids::{Config, Fault, MOST_KEYS};
-use mempool::Mempool;
+use mempool::{Mempool, RequestId};
 use sha2::{Digest, Sha256};
 use std::alloc::Global;
 use std::hash::RandomState;
@@ -84,7 +84,7 @@ fn tell_frame(
 
 /// The answer that is kept for a client's number.
 fn tell_reply(alloc: Global, executor: &Executor, words: &str) -> Result<String, Fault> {
-    let (client, seq) = key_of(words)?;
+    let RequestId { client, seq } = key_of(words)?;
     match executor.reply_of(client, seq) {
         Some(answer) => answer_text(alloc, answer),
         None => Ok(String::from_str(alloc, "none")?),

@@ -2,7 +2,7 @@
 
 use frames_view::{CommandView, Frame, read};
 use ids::{ClientId, Config, Fault, Seq};
-use mempool::Mempool;
+use mempool::{Mempool, RequestId};
 use std::alloc::Global;
 
 /// Bytes in hexadecimal.
@@ -22,9 +22,12 @@ pub(crate) fn client(digits: &str) -> Result<ClientId, Fault> {
 }
 
 /// The client and the number of a request.
-pub(crate) fn key_of(words: &str) -> Result<(ClientId, Seq), Fault> {
+pub(crate) fn key_of(words: &str) -> Result<RequestId, Fault> {
     let (first, second) = words.split_once(' ').unwrap_or((words, ""));
-    Ok((client(first)?, Seq(number(second)?)))
+    Ok(RequestId {
+        client: client(first)?,
+        seq: Seq(number(second)?),
+    })
 }
 
 /// Adds a request, and says whether it is new.
@@ -96,7 +99,7 @@ pub(crate) fn pick(alloc: Global, pool: &Mempool, words: &str) -> Result<String,
 
 /// Drops what is executed, and says how many requests are left.
 pub(crate) fn drop_executed(pool: &mut Mempool, words: &str) -> Result<usize, Fault> {
-    let (client, seq) = key_of(words)?;
+    let RequestId { client, seq } = key_of(words)?;
     pool.drop_executed(client, seq);
     Ok(pool.len())
 }
