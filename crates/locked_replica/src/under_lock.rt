@@ -1,16 +1,16 @@
 //! What a kept replica does under its lock.
 
 ghost use Rattle.locked_replica.specs.Heeding as heeding;
-ghost use Rattle.locked_replica.specs.Stepping.{SomeStep};
+ghost use Rattle.locked_replica.specs.Stepping.{WholeStep};
 
 use crate::kept::Kept;
 use ids::Fault;
 use replica::{Input, Out};
 use turns::{Prompt, Share, UnderLock};
 
-/// It is some kept replica, which makes this step.
+/// A step is one of the replica.
 impl<'a> UnderLock for Kept<'a> {
-    ghost made = { SomeStep };
+    ghost made = { WholeStep };
 
     ghost heeds = { heeding.heeds };
 

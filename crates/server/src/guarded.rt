@@ -1,12 +1,12 @@
 //! A replica, its doorkeeper, and how many blocks it may hold.
 
-ghost use Rattle.std.specs.Prelude.{◌≡◌, ◌-◌, ◌⊎◌, ◌&&◌, Err, length, nat_lt, if◌then◌else◌};
+ghost use Rattle.std.specs.Prelude.{◌≡◌, ◌-◌, ◌⊎◌, ◌&&◌, Err, MatchBool, length, nat_lt, if◌then◌else◌};
 ghost use Rattle.std.specs.Bool.{OnFalse};
 ghost use Rattle.ids.specs.declared.fault.Fault.TheVariants.{Full, Crowded, Memory};
 ghost use Rattle.definitions.specs.Chronicles.{horizon, window};
 ghost use Rattle.doorkeeper.specs.Doors.{passes, remembered, with_block};
 ghost use Rattle.locked_replica.specs.Heeding as heeding;
-ghost use Rattle.locked_replica.specs.Stepping.{SomeStep};
+ghost use Rattle.locked_replica.specs.Stepping.{WholeStep};
 ghost use Rattle.turns.specs.Shares.{Counts};
 
 use doorkeeper::{Brought, Doorkeeper, brings};
@@ -52,8 +52,9 @@ impl<'a> Guarded<'a> {
     /// A step with a block, where the doorkeeper lets it in. It is counted where the replica took it: then
     /// more blocks stand in its window.
     fn take(&mut self, share: &mut Share, input: Input<'_>, block: &Brought) -> Result<Out, Fault>
-        ensures stepped { SomeStep share.old input.entry result share.new
-            ⊎ ((result ≡ Err Crowded) ⊎ (result ≡ Err Memory)) × (share.new ≡ share.old) }
+        ensures stepped { WholeStep self.old.kept share.old input.entry result self.new.kept share.new
+            ⊎ ((result ≡ Err Crowded) ⊎ (result ≡ Err Memory)) × (self.new.kept ≡ self.old.kept)
+            × (share.new ≡ share.old) }
         ensures counts { Counts share.old result share.new }
         ensures kept_out { OnFalse (passes self.old.door.replicas block.now self.old.door.taken)
             ((result ≡ Err Crowded) × (self.new.kept ≡ self.old.kept)) }
@@ -74,7 +75,7 @@ impl<'a> Guarded<'a> {
 
     /// A step without a block. What the replica forgets by it the doorkeeper forgets too.
     fn note(&mut self, share: &mut Share, input: Input<'_>) -> Result<Out, Fault>
-        ensures stepped { SomeStep share.old input.entry result share.new }
+        ensures stepped { WholeStep self.old.kept share.old input.entry result self.new.kept share.new }
         ensures counts { Counts share.old result share.new }
         ensures forgotten { self.new.door.taken
             ≡ remembered (horizon self.new.kept.replica.chronicle - 2) self.old.door.taken }
@@ -90,8 +91,11 @@ impl<'a> Guarded<'a> {
 /// block that the doorkeeper doesn't let in, which is lost as on any network, with `Crowded`, or with `Memory` where
 /// it couldn't be counted.
 impl<'a> UnderLock for Guarded<'a> {
-    ghost made = { λ share input answer share'. SomeStep share input answer share'
-        ⊎ ((answer ≡ Err Full) ⊎ (answer ≡ Err Crowded) ⊎ (answer ≡ Err Memory)) × (share' ≡ share) };
+    ghost made = { λ old share input answer new share'.
+        MatchBool (nat_lt (length (window old.kept.replica.chronicle)) old.most_blocks)
+        (WholeStep old.kept share input answer new.kept share'
+        ⊎ ((answer ≡ Err Crowded) ⊎ (answer ≡ Err Memory)) × (new.kept ≡ old.kept) × (share' ≡ share))
+        ((answer ≡ Err Full) × (new ≡ old) × (share' ≡ share)) };
 
     ghost heeds = { λ guarded prompt.
         nat_lt (length (window guarded.kept.replica.chronicle)) guarded.most_blocks

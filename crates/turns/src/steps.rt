@@ -21,10 +21,10 @@ pub trait Steps {
     /// the share after.
     ghost moved: { Self → ShareState → Input → Result (List SentBytes) Fault → Self → ShareState → Type 0 };
 
-    /// What was seen of the replica where it makes a prompt's step.
-    ghost heeded: { Self → Prompt → Type 0 };
+    /// What a prompt's step does, in the same way.
+    ghost prompted: { Self → ShareState → Prompt → Result (List SentBytes) Fault → Self → ShareState → Type 0 };
 
-    /// What was seen of it where it makes none.
+    /// What was seen of the replica where a prompt's step isn't made.
     ghost passed: { Self → Prompt → Type 0 };
 
     /// One step. It may wait for the replica.
@@ -40,26 +40,25 @@ pub trait Steps {
         share: &mut Share,
         prompt: Prompt,
     ) -> Option<Result<Out, Fault>>
-        ensures moved { IfSome result
-            (λ answer. moved self.old share.old (input_of prompt) answer self.new share.new) }
+        ensures prompted { IfSome result
+            (λ answer. prompted self.old share.old prompt answer self.new share.new) }
         ensures counts { IfSome result (λ answer. Counts share.old answer share.new) }
-        ensures heeded { IfSome result (λ _. heeded self.old prompt) }
         ensures passed { IfNone result (passed self.old prompt) }
         ensures same { IfNone result ((self.new ≡ self.old) × (share.new ≡ share.old)) };
 }
 
 /// What lies under a lock, where any thread may step it.
 pub trait UnderLock {
-    /// What a step does, as far as a caller can be told who can't name what lies under the lock: the
-    /// share before, the input, the answer, and the share after.
-    ghost made: { ShareState → Input → Result (List SentBytes) Fault → ShareState → Type 0 };
+    /// What a step does: the value and the share before, the input, the answer, and the value and
+    /// the share after.
+    ghost made: { Self → ShareState → Input → Result (List SentBytes) Fault → Self → ShareState → Type 0 };
 
     /// Whether what a prompt is for isn't over.
     ghost heeds: { Self → Prompt → Bool };
 
     /// One step.
     fn step(&mut self, share: &mut Share, input: Input<'_>) -> Result<Out, Fault>
-        ensures made { made share.old input.entry result share.new }
+        ensures made { made self.old share.old input.entry result self.new share.new }
         ensures counts { Counts share.old result share.new };
 
     /// Whether what a prompt is for isn't over.
@@ -67,14 +66,16 @@ pub trait UnderLock {
         ensures { result ≡ heeds self.now prompt };
 }
 
-/// By any thread: what lies under the lock makes the step.
+/// By any thread: what lies under the lock just then makes the step.
 impl<'l, K: UnderLock + Drop> Steps for &'l Mutex<K> {
-    ghost moved = { λ _ share input answer _ share'. K.made share input answer share' };
+    ghost moved = { λ _ share input answer _ share'. (under : K) × (after : K)
+        × K.made under share input answer after share' };
 
-    /// What lay under the lock just then heeds the prompt.
-    ghost heeded = { λ _ prompt. (under : K) × (K.heeds under prompt ≡ true) };
+    /// It heeds the prompt, too.
+    ghost prompted = { λ _ share prompt answer _ share'. (under : K) × (after : K)
+        × (K.heeds under prompt ≡ true) × K.made under share (input_of prompt) answer after share' };
 
-    /// What lay under the lock just then doesn't.
+    /// What lay under the lock just then doesn't heed it.
     ghost passed = { λ _ prompt. (under : K) × (K.heeds under prompt ≡ false) };
 
     fn step<R: Wait>(&mut self, rt: &R, share: &mut Share, input: Input<'_>) -> Result<Out, Fault> {

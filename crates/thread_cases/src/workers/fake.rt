@@ -19,7 +19,7 @@ pub(crate) struct Fake<'l, S> {
 impl<'l, S: Steps> Steps for Fake<'l, S> {
     ghost moved = { λ _ _ _ _ _ _. ⊤ };
 
-    ghost heeded = { λ _ _. ⊤ };
+    ghost prompted = { λ _ _ _ _ _ _. ⊤ };
 
     ghost passed = { λ _ _. ⊤ };
 

@@ -27,7 +27,7 @@ struct Sender {
 impl Steps for Sender {
     ghost moved = { λ _ _ _ _ _ _. ⊤ };
 
-    ghost heeded = { λ _ _. ⊤ };
+    ghost prompted = { λ _ _ _ _ _ _. ⊤ };
 
     ghost passed = { λ _ _. ⊤ };
 
