@@ -11,4 +11,4 @@ returns-clause-made c =
     let step = kept_step c.args.self.now c.args.share.now c.args.input c.step-answer.result
     c.step-answer.new.self c.step-answer.new.share
     s.not_mine s.not_all s.unchanged s.same_share s.stepped s.share s.shares s.eye s.keys in
-    (c.args.self.now, c.step-answer.new.self, before, after, step)
+    (before, after, step)
