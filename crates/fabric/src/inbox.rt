@@ -8,6 +8,7 @@ ghost use Rattle.std.specs.Option.{ForSome};
 ghost use Rattle.fair_queue.specs.Queues.{IsNext, NoneReady, Puts, Takes, ready_at, refilled, waiting_in};
 ghost use Rattle.fair_queue.specs.declared.row.TheConstants.{MOST_SIZE};
 ghost use Rattle.ids.specs.Sizes.{replicas};
+ghost use Rattle.fabric.specs.declared.inbox.TheConstants.{BYTES_ALLOWED, FRAMES_ALLOWED};
 ghost use Rattle.fabric.specs.Inboxes.{count_of, is_over};
 ghost use Rattle.fabric.specs.Parcels.{size_of};
 
@@ -202,8 +203,8 @@ impl Inside {
 /// What each sender is allowed: of what all replicas together are, the same part for each. So what a faulty one can
 /// have checked by all others together doesn't grow with their number.
 fn allowance(config: Config) -> Allowance
-    ensures count { result.count ≡ 768 / replicas config }
-    ensures size { result.size ≡ 2097152 / replicas config }
+    ensures count { result.count ≡ FRAMES_ALLOWED / replicas config }
+    ensures size { result.size ≡ BYTES_ALLOWED / replicas config }
 {
     let replicas = usize::from(config.n());
     Allowance {
