@@ -134,16 +134,21 @@ fn execute_all<L: Ledger>(
 ) -> Result<(), Fault>
     requires room { executor.old.most_keys ≡ teller.now.keyring.now.sizes.most_keys }
     ensures room { executor.new.most_keys ≡ executor.old.most_keys }
-    ensures executed { OnOk result
-        (executor.new.history ≡ history_above decided.now.tip.now decided.now.tree.now decided.now.from (decided.now.to - decided.now.from) executor.old.history) }
+    ensures executed { OnOk result (
+        let d = decided.now in
+        executor.new.history
+        ≡ history_above d.tip.now d.tree.now d.from (d.to - d.from) executor.old.history) }
     ensures written { L.holds ledger.old executor.old.history → L.holds ledger.new executor.new.history }
-    ensures left { OnOk result
-        (pool.new ≡ left_after (history_above decided.now.tip.now decided.now.tree.now decided.now.from (decided.now.to - decided.now.from) []) pool.old) }
+    ensures left { OnOk result (
+        let d = decided.now in
+        pool.new ≡ left_after (history_above d.tip.now d.tree.now d.from (d.to - d.from) []) pool.old) }
     ensures told { OnOk result
         (out.new ≡ out.old ++ told teller.now.keyring.now
         (new_answers teller.now.keyring.now.sizes.most_keys executor.old.history executor.new.history)) }
-    ensures cut { OnErr result
-        (IsCut decided.now.tip.now decided.now.tree.now decided.now.from decided.now.to executor.old.history executor.new.history pool.old pool.new) }
+    ensures cut { OnErr result (
+        let d = decided.now in
+        IsCut d.tip.now d.tree.now d.from d.to executor.old.history executor.new.history pool.old
+        pool.new) }
 {
     for height in decided.from..decided.to {
         if let Some(block) = block_at(decided.tree, decided.tip, Height(height + 1)) {

@@ -11,7 +11,8 @@ use Rattle.replica.proofs.execution.execute_all.Goals.{in-Some+in_ok-execute_blo
 
 pub loop-height-init : goal.loop-height-init
 loop-height-init g c = (
-  begins-up c.args.teller.now.keyring.now c.args.decided.now.tip.now c.args.decided.now.tree.now c.args.decided.now.from c.args.executor.now.history
+  begins-up c.args.teller.now.keyring.now c.args.decided.now.tip.now c.args.decided.now.tree.now
+      c.args.decided.now.from c.args.executor.now.history
       c.args.pool.now c.args.out.now,
   refl,
   λ l. refl,
@@ -30,8 +31,10 @@ returns-in_err-execute_block-clause-cut g c =
     ∙ commands-some tip (h + 1) all core
     (ap (option_map (λ n. n.now.core)) (sym c.in-Some.is) ∙ c.block_at.ensures) in
     on_err c.from_residual.result
-    (cuts-up c.args.teller.now.keyring.now tip all c.args.decided.now.from c.args.executor.now.history c.args.pool.now c.args.out.now h
-    c.args.decided.now.to c.loop-height.executor.history c.execute_block.new.executor.history c.loop-height.pool
+    (cuts-up c.args.teller.now.keyring.now tip all c.args.decided.now.from c.args.executor.now.history
+    c.args.pool.now c.args.out.now h
+    c.args.decided.now.to c.loop-height.executor.history c.execute_block.new.executor.history
+    c.loop-height.pool
     c.execute_block.new.pool c.loop-height.out _ c.loop-height.invariant.0 cs c.loop-height-test.true
     c.in_err-execute_block.ensures.cut)
 
@@ -52,8 +55,10 @@ loop-height-preserved g c =
             subst (λ (n : ℕ). IsUpTo keys tip all c.args.decided.now.from n c.args.executor.now.history
             c.match-block_at.executor.history c.args.pool.now c.match-block_at.pool c.args.out.now
             c.match-block_at.out) up
-            (goes-up keys tip all c.args.decided.now.from c.args.executor.now.history c.args.pool.now c.args.out.now h
-            c.loop-height.executor.history c.match-block_at.executor.history c.loop-height.pool c.match-block_at.pool
+            (goes-up keys tip all c.args.decided.now.from c.args.executor.now.history c.args.pool.now
+            c.args.out.now h
+            c.loop-height.executor.history c.match-block_at.executor.history c.loop-height.pool
+            c.match-block_at.pool
             c.loop-height.out c.match-block_at.out _ c.loop-height.invariant.0 cs
             (ap (λ (x : Execution). x.history) w.executor-is ∙ w.in_ok-execute_block.ensures.executed)
             (w.pool-is ∙ w.in_ok-execute_block.ensures.left)
@@ -62,9 +67,11 @@ loop-height-preserved g c =
             ++ told keys (new_answers keys.sizes.most_keys c.loop-height.executor.history x.history))
             (sym w.executor-is)))
         | in_default w ↦ rw (w.executor-is, w.pool-is, w.out-is)
-            (subst (λ (n : ℕ). IsUpTo keys tip all c.args.decided.now.from n c.args.executor.now.history c.loop-height.executor.history
+            (subst (λ (n : ℕ). IsUpTo keys tip all c.args.decided.now.from n c.args.executor.now.history
+            c.loop-height.executor.history
             c.args.pool.now c.loop-height.pool c.args.out.now c.loop-height.out) up
-            (passes-up keys tip all c.args.decided.now.from c.args.executor.now.history c.args.pool.now c.args.out.now h
+            (passes-up keys tip all c.args.decided.now.from c.args.executor.now.history c.args.pool.now
+            c.args.out.now h
             c.loop-height.executor.history c.loop-height.pool c.loop-height.out c.loop-height.invariant.0
             (ap (λ (n : ℕ). commands_at tip n all) up
             ∙ commands-none tip (h + 1) all
@@ -88,19 +95,23 @@ loop-height-preserved g c =
 pub returns-clause-executed : goal.returns-clause-executed
 returns-clause-executed g c =
     c.loop-height.invariant.0.now_is
-    ∙ ap (λ (n : ℕ). history_above c.args.decided.now.tip.now c.args.decided.now.tree.now c.args.decided.now.from n c.args.executor.now.history)
+    ∙ ap (λ (n : ℕ). history_above c.args.decided.now.tip.now c.args.decided.now.tree.now
+    c.args.decided.now.from n c.args.executor.now.history)
     (all-heights c.args.decided.now.from c.args.decided.now.to c.loop-height.height c.loop-height.invariant.2
     c.loop-height-test.false c.loop-height.auto.height-end)
 
 pub returns-clause-left : goal.returns-clause-left
 returns-clause-left g c =
     c.loop-height.invariant.0.left_are
-    ∙ ap (λ (n : ℕ). left_after (history_above c.args.decided.now.tip.now c.args.decided.now.tree.now c.args.decided.now.from n [])
+    ∙ ap (λ (n : ℕ). left_after (history_above c.args.decided.now.tip.now c.args.decided.now.tree.now
+    c.args.decided.now.from n [])
     c.args.pool.now)
     (all-heights c.args.decided.now.from c.args.decided.now.to c.loop-height.height c.loop-height.invariant.2
     c.loop-height-test.false c.loop-height.auto.height-end)
 
 pub returns-clause-told : goal.returns-clause-told
-returns-clause-told g c = told-up c.args.teller.now.keyring.now c.args.decided.now.tip.now c.args.decided.now.tree.now c.args.decided.now.from
-    c.args.executor.now.history c.args.pool.now c.args.out.now c.loop-height.height c.loop-height.executor.history
+returns-clause-told g c = told-up c.args.teller.now.keyring.now c.args.decided.now.tip.now
+    c.args.decided.now.tree.now c.args.decided.now.from
+    c.args.executor.now.history c.args.pool.now c.args.out.now c.loop-height.height
+    c.loop-height.executor.history
     c.loop-height.pool c.loop-height.out c.loop-height.invariant.0

@@ -18,7 +18,8 @@ returns-clause-cut g c =
     ∙ ap (λ n. new_answers n c.args.executor.now.history c.run_block.new.self.history) c.requires.room in
     on-err c.tell.result c.tell.ensures.some (λ l. record {
       count = length all;
-      some = some-told c.args.teller.now.keyring.now.sizes.most_keys all c.args.executor.now.history c.run_block.new.self.history executed
+      some = some-told c.args.teller.now.keyring.now.sizes.most_keys all c.args.executor.now.history
+          c.run_block.new.self.history executed
           (subst (λ (x : List Answer). 1 ≤ length x) answers l);
       most = omega arith;
       history =
