@@ -68,6 +68,7 @@ pub(crate) fn hold<J: Judged>(replicas: &[&J])
     ensures { All (λ r. IsHeld (J.held r.now)) replicas.now }
 {
     for replica in replicas {
+        // For the proof: its chronicle is lawful.
         replica.holds();
     }
 }

@@ -36,6 +36,7 @@ pub(crate) fn place(replica: &Whole<'_>) -> usize
     ensures number { result ≡ replica.now.keys.party }
     ensures within { result < MOST_REPLICAS }
 {
+    // For the proof: a replica's number is below that of replicas, of which there are few.
     replica.holds();
     let _replicas = replica.config().n();
     usize::from(replica.number().0)

@@ -43,6 +43,7 @@ impl VerifyingKeyring {
         ensures party { result ≡ self.now.party }
         ensures replica { self.now.party < replicas self.now.sizes }
     {
+        // For the proof: there are few replicas.
         let _most = self.keyring.config().n();
         ReplicaId(self.keyring.party().0 as u8)
     }

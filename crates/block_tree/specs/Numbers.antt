@@ -2,6 +2,7 @@
 use Rattle.std.specs.Prelude.{count_by, ◌≡◌, ◌==◌, ◌+◌, ◌-◌, ◌<◌, ◌≤◌, ◌^◌, ℕ, suc, get_or, List, [], ◌∷◌}
 use Rattle.std.specs.Prelude.{length, drop, slice_get, MatchOption, Option, Some, None, if◌then◌else◌, nat_le}
 use Rattle.std.specs.Str.{bytes_eq}
+use Rattle.ids.specs.declared.limits.TheConstants.{BELOW_HORIZON}
 use Rattle.definitions.specs.Bytes.{Bytes}
 use Rattle.definitions.specs.Lists.{Among}
 use Rattle.definitions.specs.Branches.{Branch}
@@ -43,8 +44,8 @@ pub record IsDown (tree : List Branch) (distance : ℕ) (b : Branch) (m : ℕ) :
 -- in reach once may be no more.
 abbrev pub AreLinks : ℕ → List Branch → Branch → List ℕ → Type 0
 AreLinks horizon tree b links =
-    (i : ℕ) → MatchOption (slice_get links i) (length b < 2 ^ i + (horizon - 2))
-    (λ m. 2 ^ i + (horizon - 2) ≤ length b → IsDown tree (2 ^ i) b m)
+    (i : ℕ) → MatchOption (slice_get links i) (length b < 2 ^ i + (horizon - BELOW_HORIZON))
+    (λ m. 2 ^ i + (horizon - BELOW_HORIZON) ≤ length b → IsDown tree (2 ^ i) b m)
 
 -- ---- counts
 

@@ -9,6 +9,7 @@ ghost use Rattle.frames_view.specs.Views.{core_of};
 ghost use Rattle.block_tree.specs.Nodes.{block_in, branch_in, window, IsHere, IsBlockAt};
 ghost use Rattle.block_tree.specs.Numbers.{numbered, IsDown, AreLinks};
 ghost use Rattle.block_tree.specs.Finding.{IsSeen, at_height, turns_to};
+ghost use Rattle.ids.specs.declared.limits.TheConstants.{BELOW_HORIZON};
 
 use crate::forest::Forest;
 use crate::links::Links;
@@ -56,8 +57,8 @@ impl Forest {
     fn link(&self, at: u64, level: usize) -> Option<u64>
         requires { IsHere self.now at }
         ensures { MatchOption result
-            (length (numbered (blocks self.now.all) at) < 2 ^ level + (self.now.horizon - 2))
-            (λ m. (2 ^ level + (self.now.horizon - 2) ≤ length (numbered (blocks self.now.all) at))
+            (length (numbered (blocks self.now.all) at) < 2 ^ level + (self.now.horizon - BELOW_HORIZON))
+            (λ m. (2 ^ level + (self.now.horizon - BELOW_HORIZON) ≤ length (numbered (blocks self.now.all) at))
             × IsDown (blocks self.now.all) (2 ^ level) (numbered (blocks self.now.all) at) m) }
     {
         if at == 0 {
@@ -75,7 +76,7 @@ impl Forest {
     /// Follows one link, and counts it.
     fn turn(&self, at: u64, level: usize, turns: &mut Turns) -> u64
         requires here { IsHere self.now at }
-        requires high { 2 ^ level + (self.now.horizon - 2)
+        requires high { 2 ^ level + (self.now.horizon - BELOW_HORIZON)
             ≤ length (numbered (blocks self.now.all) at) }
         requires room { turns.old + 1 < 2 ^ 64 }
         ensures down { IsDown (blocks self.now.all) (2 ^ level) (numbered (blocks self.now.all) at) result }
@@ -88,13 +89,13 @@ impl Forest {
     /// The ancestor so many blocks down, by one link for each one bit of the distance. It is in reach.
     fn descend(&self, from: u64, distance: u64, turns: &mut Turns) -> u64
         requires known { from < length (blocks self.now.all) }
-        requires high { distance + (self.now.horizon - 2)
+        requires high { distance + (self.now.horizon - BELOW_HORIZON)
             ≤ length (numbered (blocks self.now.all) from) }
         requires room { turns.old + count_ones distance < 2 ^ 64 }
         ensures down { IsDown (blocks self.now.all) distance (numbered (blocks self.now.all) from) result }
         ensures counted { turns.new ≡ turns.old + count_ones distance }
     {
-        // A block in reach has not left the row.
+        // For the proof: a block in reach has not left the row.
         let _entries = &self.entries;
         let mut at = from;
         let mut level: usize = 0;
@@ -122,12 +123,12 @@ impl Forest {
             → result
             ≡ option_map digest_of
             (option_and_then (at_height height) (find_in digest.now (blocks (window self.now)))) }
-        ensures below { 0 < height → height + 2 < self.now.horizon → result ≡ None }
+        ensures below { 0 < height → height + BELOW_HORIZON < self.now.horizon → result ≡ None }
         ensures counted { turns.new ≡ turns.old
             + turns_to self.now.horizon height (find_in digest.now (blocks (window self.now))) }
         ensures few { turns.new ≤ turns.old + 20 }
     {
-        // They make a tree, so a block has fewer ancestors in reach than blocks stand.
+        // For the proof: they make a tree, so a block has fewer ancestors in reach than blocks stand.
         let _entries = &self.entries;
         let from = self.number(digest)?;
         if height.0 < self.floor() {
@@ -149,11 +150,11 @@ impl Forest {
     pub(crate) fn links_over(&self, core: &CoreView) -> Links
         requires stands { IsSome (find_in (core_of core.now).parent (blocks (window self.now))) }
         requires reach { self.now.horizon
-            ≤ length (branch_in (core_of core.now).parent (blocks (window self.now))) + 2 }
+            ≤ length (branch_in (core_of core.now).parent (blocks (window self.now))) + BELOW_HORIZON }
         ensures { AreLinks self.now.horizon (blocks self.now.all)
             (block_in (core_of core.now) (blocks (window self.now))) result }
     {
-        // They make a tree, so a block has fewer ancestors in reach than blocks stand.
+        // For the proof: they make a tree, so a block has fewer ancestors in reach than blocks stand.
         let _entries = &self.entries;
         let mut at = self.number(&Digest(*core.parent())).unwrap();
         let mut links = Links::new();

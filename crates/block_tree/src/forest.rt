@@ -1,6 +1,6 @@
 //! Blocks by numbers, with links from each to its ancestors.
 
-ghost use Rattle.ids.specs.declared.limits.TheConstants.{MOST_BLOCKS};
+ghost use Rattle.ids.specs.declared.limits.TheConstants.{BELOW_HORIZON, MOST_BLOCKS};
 ghost use Rattle.std.specs.Prelude.{◌≡◌, ◌+◌, ◌-◌, ◌<◌, ◌≤◌, List, [], ◌∷◌, length, drop, nat_lt};
 ghost use Rattle.std.specs.Prelude.{option_map, bytes_eq, MatchOption, None, OnErr, OnOk};
 ghost use Rattle.definitions.specs.Branches.{just1};
@@ -82,9 +82,9 @@ impl Forest {
 
     /// The lowest height in reach.
     pub(crate) fn floor(&self) -> u64
-        ensures { result ≡ self.now.horizon - 2 }
+        ensures { result ≡ self.now.horizon - BELOW_HORIZON }
     {
-        self.horizon.0.saturating_sub(2)
+        self.horizon.lowest_kept().0
     }
 
     /// Whether this is the digest of genesis.
@@ -108,9 +108,9 @@ impl Forest {
         requires kept { self.now.first ≤ number }
         requires known { number ≤ length self.now.all }
         ensures { result
-            ≡ nat_lt (length (numbered (blocks self.now.all) number)) (self.now.horizon - 2) }
+            ≡ nat_lt (length (numbered (blocks self.now.all) number)) (self.now.horizon - BELOW_HORIZON) }
     {
-        // No block has the number 0.
+        // For the proof: no block has the number 0.
         let _first = self.first;
         self.entry_at(number).node.height().0 < self.floor()
     }

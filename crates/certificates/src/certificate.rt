@@ -36,6 +36,7 @@ fn counted(keyring: &VerifyingKeyring, certificate: &CertificateView) -> Voters
     requires certificate { IsCertificate keyring.now.sizes (certificate_of certificate.now) }
     ensures { result ≡ counted_voters (identity_of keyring.now) (certificate_of certificate.now) }
 {
+    // For the proof: there are few replicas.
     let _n = keyring.config().n();
     let mut voters = Voters::new();
     for vote in certificate.votes() {

@@ -3,6 +3,7 @@ use Rattle.std.specs.Prelude.{◌≡◌, ◌≤◌, ◌⊎◌, ◌-◌, ◌^◌,
 use Rattle.std.specs.Prelude.{List, [], ◌∷◌}
 use Rattle.std.specs.Prelude.{◌++◌, length, map, Option, Some, None}
 use Rattle.std.specs.List.{flat_map}
+use Rattle.tuning.specs.declared.clients.TheConstants.{LATE_TRIES, MOST_TRIES}
 use Rattle.definitions.specs.Bytes.{Bytes}
 use Rattle.definitions.specs.Requests.{Asked}
 use Rattle.definitions.specs.Canonical.{request_of}
@@ -35,8 +36,8 @@ ClosedFor tries late =
 
 -- a request is given up: after thirty tries, or after the second one since the link was found closed
 abbrev pub GivesUp : List Try → Type 0
-GivesUp tries = (length tries ≤ 30)
-    × ((length tries ≡ 30) ⊎ ((late : List Try) × ClosedFor tries late × (length late ≡ 2)))
+GivesUp tries = (length tries ≤ MOST_TRIES)
+    × ((length tries ≡ MOST_TRIES) ⊎ ((late : List Try) × ClosedFor tries late × (length late ≡ LATE_TRIES)))
 
 -- the payload's request was submitted, and the bytes of its frame stand in the session
 pub record IsSubmittedFor (old : Held) (payload : Bytes) (new : Held) : Type 0 where

@@ -9,4 +9,4 @@ mod link;
 mod service;
 
 pub use link::Link;
-pub use service::{ClientService, TRIES};
+pub use service::ClientService;

@@ -3,6 +3,7 @@ ghost use Rattle.std.specs.Result.{result_ok};
 ghost use Rattle.definitions.specs.Keyrings.{client_at};
 ghost use Rattle.client_service.specs.Links.{Passes, Hears, came, sent};
 ghost use Rattle.client_service.specs.Calls.{Listens, Asks, IsAsked, LooksAndAsks};
+ghost use Rattle.tuning.specs.declared.clients.TheConstants.{LATE_TRIES};
 
 use crate::link::Link;
 use client_accept::{Receipt, Session};
@@ -11,17 +12,12 @@ use frames_view::{Frame, read};
 use ids::{ClientId, Fault};
 use mc_lines::CanonicalText;
 use std::alloc::Global;
-
-/// How often a request is sent to all replicas before the service gives it up.
-pub const TRIES: u32 = 30;
-
-/// How often it is still sent when the link was found closed.
-const LATE_TRIES: u32 = 2;
+use tuning::{LATE_TRIES, MOST_TRIES};
 
 /// How many tries are left after one more, and as the link was found then.
 fn tries_left(left: u32, is_open: bool) -> u32
     requires { 0 < left }
-    ensures { result ≡ (if is_open then left - 1 else min (left - 1) 2) }
+    ensures { result ≡ (if is_open then left - 1 else min (left - 1) LATE_TRIES) }
 {
     if is_open {
         left - 1
@@ -125,7 +121,7 @@ impl<L: Link> ClientService<L> {
         ensures { Asks L.carries (self.old.session, self.old.link) (result_ok result)
             (self.new.session, self.new.link) }
     {
-        let mut left = TRIES;
+        let mut left = MOST_TRIES;
         while left > 0 {
             self.send();
             if let Some(receipt) = self.listen() {
@@ -141,6 +137,7 @@ impl<L: Link> ClientService<L> {
         ensures { IsAsked L.carries (self.old.session, self.old.link) text.now (result_ok result)
             (self.new.session, self.new.link) }
     {
+        // For the proof: the text is canonical.
         let _canonical = text.as_slice();
         match self.session.submit_text(text) {
             Ok(()) => self.ask(),

@@ -1,6 +1,7 @@
 -- What the rule is for.
 use Rattle.std.specs.Prelude.{◌≡◌, ℕ, ◌+◌, ◌*◌, ◌-◌, ◌≤◌, ◌==◌, true, not, List, [], ◌∷◌}
 use Rattle.std.specs.Prelude.{if◌then◌else◌}
+use Rattle.tuning.specs.declared.clocks.TheConstants.{LAG_WEIGHT, LEAST_BEAT_MILLIS}
 use Rattle.clock.specs.declared.watch.Pulse.{Pulse}
 use Rattle.clock.specs.declared.watch.Watch.{Watch}
 use Rattle.clock.specs.Watching.{is_due, lags, limit_of, looked, unseen}
@@ -30,11 +31,12 @@ lagged replicas [] = 0
 lagged replicas (x ∷ earlier) =
     let before = lagged replicas earlier in lagged_after (watched replicas earlier) x before before
 
--- No timeout is due before the replica has lagged for a third of the limit of its view, this look included.
+-- No timeout is due before the replica has lagged for a third (one in `LAG_WEIGHT`) of the limit of its view, this
+-- look included.
 abbrev pub IsEarned : Type 0
 IsEarned = (replicas : ℕ) (earlier : Looks) (now : ℕ) (p : Pulse)
     → is_due (watched replicas earlier) now p ≡ true
-    → limit_of p.view ≤ 3 * (lagged replicas earlier + (now - (watched replicas earlier).looked))
+    → limit_of p.view ≤ LAG_WEIGHT * (lagged replicas earlier + (now - (watched replicas earlier).looked))
 
 -- the same, as far back as it lagged at each look
 unfoldable pub lagged_on : ℕ → Looks → ℕ
@@ -46,8 +48,8 @@ lagged_on replicas (x ∷ earlier) = lagged_after (watched replicas earlier) x (
 abbrev pub IsGiven : Type 0
 IsGiven = (replicas : ℕ) (earlier : Looks) (now : ℕ) (p : Pulse)
     → (let w = watched replicas earlier in p.view ≡ w.view → lags w now p ≡ true
-    → limit_of p.view ≤ 3 * (lagged_on replicas earlier + (now - w.looked)) → is_due w now p ≡ true)
+    → limit_of p.view ≤ LAG_WEIGHT * (lagged_on replicas earlier + (now - w.looked)) → is_due w now p ≡ true)
 
--- A proposal may always wait for 20 milliseconds before there is a beat on top of it.
+-- A proposal may always wait for the least pause before there is a beat on top of it.
 abbrev pub IsPatient : Type 0
-IsPatient = (replicas : ℕ) (looks : Looks) → 20 ≤ (watched replicas looks).pause
+IsPatient = (replicas : ℕ) (looks : Looks) → LEAST_BEAT_MILLIS ≤ (watched replicas looks).pause

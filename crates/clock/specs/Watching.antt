@@ -1,16 +1,17 @@
 -- What is due to a replica, by what was seen of it.
 use Rattle.std.specs.Prelude.{ℕ, ◌+◌, ◌*◌, ◌/◌, ◌-◌, ◌^◌, ◌==◌, ◌&&◌, ◌||◌, not, min, max, nat_le, Bool}
 use Rattle.std.specs.Prelude.{if◌then◌else◌, nat_lt, Option, Some, None}
+use Rattle.tuning.specs.declared.clocks.TheConstants.{COMMAND_SHARE, LAG_WEIGHT, LEAST_BEAT_MILLIS, LEAST_COMMAND_MILLIS}
+use Rattle.tuning.specs.declared.clocks.TheConstants.{MOST_COUNTED, VIEW_LIMIT, WINDOW_SLACK}
 use Rattle.clock.specs.declared.watch.Pulse.{Pulse}
 use Rattle.clock.specs.declared.watch.Due.{Due}
 use Rattle.clock.specs.declared.watch.Watch.{Watch}
 
--- the milliseconds that a command may take among so many replicas: the cube of a quarter of them, and at least
--- 10
+-- the milliseconds that a command may take among so many replicas: their cube, divided, and at least so many
 abbrev pub patience_of : ℕ → ℕ
-patience_of replicas = max (replicas * replicas * replicas / 64) 10
+patience_of replicas = max (replicas * replicas * replicas / COMMAND_SHARE) LEAST_COMMAND_MILLIS
 
--- nothing was seen yet: view 0, nothing executed, and a pause of 20 milliseconds
+-- nothing was seen yet: view 0, nothing executed, and the least pause
 abbrev pub unseen : ℕ → Watch
 unseen replicas = record {
   view = 0;
@@ -19,7 +20,7 @@ unseen replicas = record {
   patience = patience_of replicas;
   slow = 0;
   asked = 0;
-  pause = 20;
+  pause = LEAST_BEAT_MILLIS;
 }
 
 -- its view or its history changed since it was looked at last
@@ -27,22 +28,22 @@ abbrev pub moved : Watch → Pulse → Bool
 moved w p = not ((p.view == w.view) && (p.executed == w.executed))
 
 -- The commands that were executed since it was looked at last took longer than they may, for each request that
--- waits, up to 8 of them. Where none waits it doesn't lag.
+-- waits, up to so many of them. Where none waits it doesn't lag.
 abbrev pub lags : Watch → ℕ → Pulse → Bool
 lags w now p =
     nat_lt (min ((p.executed - w.executed) * w.patience) (2 ^ 64 - 1))
-    (min ((now - w.looked) * min p.pending 8) (2 ^ 64 - 1))
+    (min ((now - w.looked) * min p.pending MOST_COUNTED) (2 ^ 64 - 1))
 
--- how slow its view was: each millisecond in which it lagged counts three, each other one takes one back
+-- how slow its view was: each millisecond in which it lagged counts so much, each other one takes one back
 abbrev pub slow_after : Watch → ℕ → Pulse → ℕ
 slow_after w now p =
     if not (p.view == w.view) then 0
-    else if lags w now p then min (w.slow + min ((now - w.looked) * 3) (2 ^ 64 - 1)) (2 ^ 64 - 1)
+    else if lags w now p then min (w.slow + min ((now - w.looked) * LAG_WEIGHT) (2 ^ 64 - 1)) (2 ^ 64 - 1)
     else w.slow - (now - w.looked)
 
--- how slow a view may be: one second, and one more for each view before it
+-- how slow a view may be: the limit, and as much more for each view before it
 abbrev pub limit_of : ℕ → ℕ
-limit_of view = min (min (view + 1) (2 ^ 64 - 1) * 1000) (2 ^ 64 - 1)
+limit_of view = min (min (view + 1) (2 ^ 64 - 1) * VIEW_LIMIT) (2 ^ 64 - 1)
 
 -- it lags, and has been slow for so long
 abbrev pub is_over : Watch → ℕ → ℕ → Pulse → Bool
@@ -67,17 +68,17 @@ due_of w now p = record {
   timeout = if is_due w now p then Some p.view else None;
 }
 
--- the next pause, in milliseconds: half of the last, and at least 20, where the replica has got on, and
+-- the next pause, in milliseconds: half of the last, and no less than the least, where the replica has got on, and
 -- twice as long where it passed in vain
 abbrev pub pause_after : ℕ → Bool → Bool → ℕ
 pause_after pause got_on passed =
-    if got_on then max (pause / 2) 20 else if passed then min (pause * 2) (2 ^ 64 - 1) else pause
+    if got_on then max (pause / 2) LEAST_BEAT_MILLIS else if passed then min (pause * 2) (2 ^ 64 - 1) else pause
 
--- Where more heights than a window and an eighth of it lie between the horizon and the last executed block,
+-- Where more heights than a window and a part of it lie between the horizon and the last executed block,
 -- what is a window below that block.
 abbrev pub prune_at : ℕ → Pulse → Option ℕ
 prune_at window p =
-    if nat_lt (min (window + window / 8) (2 ^ 64 - 1)) (p.height - p.horizon) then Some (p.height - window)
+    if nat_lt (min (window + window / WINDOW_SLACK) (2 ^ 64 - 1)) (p.height - p.horizon) then Some (p.height - window)
     else None
 
 -- what was seen so far, with this. How slow the view was begins anew where a timeout is due

@@ -7,9 +7,7 @@ use std::sync::atomic::AtomicBool;
 use std::sync::atomic::Ordering::SeqCst;
 use std::thread;
 use std::time::{Clock, Duration, Instant};
-
-/// For how many milliseconds it isn't looked at.
-const PAUSE_MILLIS: u64 = 20;
+use tuning::LOOK_MILLIS;
 
 /// A replica that can be looked at, and handed what is due to it. What doesn't come to it is due again soon.
 pub trait Watched {
@@ -32,7 +30,7 @@ fn millis_since<R: Clock>(rt: &R, start: Option<Instant>) -> u64 {
     }
 }
 
-/// Looks at a replica, one of so many, each 20 milliseconds until it is told to stop, and hands in beats,
+/// Looks at a replica, one of so many, each `LOOK_MILLIS` until it is told to stop, and hands in beats,
 /// timeouts, and prunings that leave it so many heights, if it is to prune.
 ///
 /// It ends where the replica has stopped, too, and tells why; where it was told to stop, it tells nothing.
@@ -49,7 +47,7 @@ pub fn keep_time<R: Wait + Clock, W: Watched>(
         if stop.load(SeqCst) {
             break;
         }
-        thread::sleep(rt, Duration::from_millis(PAUSE_MILLIS));
+        thread::sleep(rt, Duration::from_millis(LOOK_MILLIS));
         let pulse = replica.pulse(rt);
         if pulse.stopped.is_some() {
             return pulse.stopped;

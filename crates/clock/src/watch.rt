@@ -5,18 +5,10 @@ ghost use Rattle.clock.specs.Watching.{due_of, is_over, is_overdue, lags, limit_
 ghost use Rattle.clock.specs.Watching.{patience_of, pause_after, prune_at, rests, slow_after, unseen};
 
 use ids::{Fault, Height, View};
-
-/// For how many milliseconds a proposal may wait for votes, at first and at least, before a beat on
-/// top of it.
-const LEAST_PAUSE: u64 = 20;
-
-/// How many milliseconds a command may take at least before a view counts as slow: half of the time between
-/// two looks, so that a leader which brings one command at each beat of the clock is slow.
-const LEAST_PATIENCE: u64 = 10;
-
-/// Of how many requests that wait it is asked, at most, that each be executed within that time. More may wait longer,
-/// on a machine that can't serve so many at once.
-const MOST_AT_ONCE: u64 = 8;
+use tuning::{
+    COMMAND_SHARE, LAG_WEIGHT, LEAST_BEAT_MILLIS, LEAST_COMMAND_MILLIS, MOST_COUNTED, VIEW_LIMIT,
+    WINDOW_SLACK,
+};
 
 /// What is seen of a replica at one moment.
 #[derive(Clone, Copy, Debug, PartialEq, Eq)]
@@ -57,7 +49,7 @@ pub struct Watch {
     looked: u64,
     /// How many milliseconds a command may take.
     patience: u64,
-    /// How slow its view was so far: three for each millisecond in which it lagged, less one for each other.
+    /// How slow its view was so far: `LAG_WEIGHT` for each millisecond in which it lagged, less one for each other.
     slow: u64,
     /// Since when a proposal of it has waited for votes, and how long that may last.
     asked: u64,
@@ -65,33 +57,32 @@ pub struct Watch {
 }
 
 /// The height up to which a replica may forget, if it is to keep so many heights below its last executed
-/// block. None until it holds an eighth more, so that it isn't asked for each block.
+/// block. None until it holds a part more, one in `WINDOW_SLACK`, so that it isn't asked for each block.
 pub fn prune_at(window: u64, pulse: Pulse) -> Option<Height>
     ensures { result ≡ prune_at window pulse }
 {
     let held = pulse.height.0.saturating_sub(pulse.horizon.0);
-    if held > window.saturating_add(window / 8) {
+    if held > window.saturating_add(window / WINDOW_SLACK) {
         Some(Height(pulse.height.0 - window))
     } else {
         None
     }
 }
 
-/// How slow a view may be: one second, and one more for each view before.
+/// How slow a view may be: `VIEW_LIMIT`, and as much more for each view before.
 fn limit_of(view: u64) -> u64
     ensures { result ≡ limit_of view }
 {
-    view.saturating_add(1).saturating_mul(1000)
+    view.saturating_add(1).saturating_mul(VIEW_LIMIT)
 }
 
-/// How many milliseconds a command may take among so many replicas: 10 up to 8 of them, and then as the third
-/// power of their number, since each checks the tags of the others on longer frames. That is seven times and
-/// more what a lone command takes where processors are free.
+/// How many milliseconds a command may take among so many replicas: `LEAST_COMMAND_MILLIS` among few, and then as the
+/// third power of their number, since each checks the tags of the others on longer frames.
 fn patience_of(replicas: u8) -> u64
     ensures { result ≡ patience_of replicas }
 {
     let replicas = u64::from(replicas);
-    (replicas * replicas * replicas / 64).max(LEAST_PATIENCE)
+    (replicas * replicas * replicas / COMMAND_SHARE).max(LEAST_COMMAND_MILLIS)
 }
 
 /// How long a proposal may wait for votes from now on, where the replica has got on, or has waited so long.
@@ -99,7 +90,7 @@ fn pause_after(pause: u64, moved: bool, overdue: bool) -> u64
     ensures { result ≡ pause_after pause moved overdue }
 {
     if moved {
-        (pause / 2).max(LEAST_PAUSE)
+        (pause / 2).max(LEAST_BEAT_MILLIS)
     } else if overdue {
         pause.saturating_mul(2)
     } else {
@@ -119,7 +110,7 @@ impl Watch {
             patience: patience_of(replicas),
             slow: 0,
             asked: 0,
-            pause: LEAST_PAUSE,
+            pause: LEAST_BEAT_MILLIS,
         }
     }
 
@@ -138,7 +129,7 @@ impl Watch {
     {
         let executed = pulse.executed.saturating_sub(self.executed);
         let passed = now.saturating_sub(self.looked);
-        let waiting = pulse.pending.min(MOST_AT_ONCE);
+        let waiting = pulse.pending.min(MOST_COUNTED);
         executed.saturating_mul(self.patience) < passed.saturating_mul(waiting)
     }
 
@@ -150,7 +141,7 @@ impl Watch {
         if pulse.view.0 != self.view.0 {
             0
         } else if self.lags(now, pulse) {
-            self.slow.saturating_add(passed.saturating_mul(3))
+            self.slow.saturating_add(passed.saturating_mul(LAG_WEIGHT))
         } else {
             self.slow.saturating_sub(passed)
         }

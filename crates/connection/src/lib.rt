@@ -8,8 +8,8 @@
 mod counted;
 mod end;
 mod laws;
-mod payload;
 mod replies;
+mod request_text;
 mod service;
 mod serving;
 

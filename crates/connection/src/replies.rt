@@ -10,7 +10,7 @@ ghost use Rattle.connection.specs.Steps.{MayBeServed, IsNext};
 
 use crate::counted::Counted;
 use crate::end::End;
-use crate::payload::Payload;
+use crate::request_text::RequestText;
 use crate::service::Service;
 use ids::{Fault, LineFault};
 use line_feed::{Feed, Item};
@@ -21,7 +21,7 @@ use std::io::Write;
 /// Room for a payload and for the service's answer.
 #[derive(Drop)]
 pub(crate) struct Room {
-    payload: Payload,
+    payload: RequestText,
     answer: Vec<u8>,
 }
 
@@ -30,7 +30,7 @@ impl Room {
     pub(crate) fn new(alloc: Global) -> Result<Room, Fault>
         ensures { OnErr result (result ≡ Err Memory) }
     {
-        let payload = Payload::new(alloc)?;
+        let payload = RequestText::new(alloc)?;
         Ok(Room {
             payload,
             answer: Vec::new(alloc),

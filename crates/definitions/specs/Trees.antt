@@ -3,7 +3,7 @@
 -- HotStuff, PODC 2019, the tree of nodes).
 use Rattle.ids.specs.declared.fault.Fault.{Fault}
 use Rattle.ids.specs.declared.fault.Fault.TheVariants as fault
-use Rattle.ids.specs.declared.limits.TheConstants.{MOST_OF_HEIGHT, HEIGHT_LIMIT}
+use Rattle.ids.specs.declared.limits.TheConstants.{BELOW_HORIZON, MOST_OF_HEIGHT, HEIGHT_LIMIT}
 use Rattle.std.specs.Prelude.{suc, ◌&&◌, true, ℕ, ◌≡◌, ◌==◌, ◌+◌, ◌≤◌, not, Bool, List, [], ◌∷◌, ◌++◌}
 use Rattle.std.specs.Prelude.{map, length, if◌then◌else◌, nat_lt, nat_le, Option, Some, None, find, filter}
 use Rattle.std.specs.Prelude.{count_by}
@@ -32,10 +32,10 @@ pub record TreeState : Type 0 where
 abbrev pub blocks : List Stored → List Branch
 blocks stored = map (λ s. s.branch) stored ++ [] ∷ []
 
--- A block stands in the tree until it is more than two below the horizon. No block may justify one below the
+-- A block stands in the tree until it is more than `BELOW_HORIZON` below the horizon. No block may justify one below the
 -- horizon, so that three blocks in direct succession are seen whole.
 abbrev pub is_in_reach : ℕ → Branch → Bool
-is_in_reach horizon b = nat_le horizon (length b + 2)
+is_in_reach horizon b = nat_le horizon (length b + BELOW_HORIZON)
 
 -- what still stands of these blocks
 abbrev pub standing : ℕ → List Stored → List Stored
@@ -106,6 +106,6 @@ placing horizon most core q tree = elim (find_in (digest core) tree) [
 pub record IsTree (horizon : ℕ) (t : List Branch) : Type 0 where
   pub branches : (x : Branch) → Among x t → IsBranch x
   pub one : (x y : Branch) → Among x t → Among y t → digest_of x ≡ digest_of y → x ≡ y
-  pub parents : (b : Block) (parent : Branch) → Among (b ∷ parent) t → horizon ≤ length parent + 2
+  pub parents : (b : Block) (parent : Branch) → Among (b ∷ parent) t → horizon ≤ length parent + BELOW_HORIZON
       → Among parent t
   pub genesis : Among [] t

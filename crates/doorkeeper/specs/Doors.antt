@@ -10,7 +10,7 @@ use Rattle.definitions.specs.Checks.{Identity}
 use Rattle.definitions.specs.Chronicles.{Chronicle, taken_blocks}
 use Rattle.definitions.specs.Rulings.{Input, Input.proposal_in, Input.block_in, Ruling.refusing, ruling}
 use Rattle.doorkeeper.specs.declared.brought.Brought.{Brought}
-use Rattle.doorkeeper.specs.declared.brought.TheConstants.{MOST_OF_SENDER}
+use Rattle.tuning.specs.declared.links.TheConstants.{MOST_OF_SENDER}
 
 -- the block that an input brings: a proposal's by the leader of its view, and another by its sender
 abbrev pub brings : Sizes → Input → Option Brought
@@ -27,7 +27,7 @@ brought height sender taken = count_by (λ b. (b.height == height) && (b.sender 
 abbrev pub of_height : ℕ → List Brought → ℕ
 of_height height taken = count_by (λ b. b.height == height) taken
 
--- how many of a height each of n replicas may bring: four, or fewer where all of them could fill it
+-- how many of a height each of n replicas may bring: `MOST_OF_SENDER`, or fewer where all of them could fill it
 abbrev pub most_of_each : ℕ → ℕ
 most_of_each n = min MOST_OF_SENDER ((MOST_OF_HEIGHT - 1) / n)
 

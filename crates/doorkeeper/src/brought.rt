@@ -7,10 +7,7 @@ ghost use Rattle.admission.specs.Inputs.{input_of};
 use admission::Input;
 use ghost_list::Tells;
 use ids::{Config, Height, MOST_OF_HEIGHT, ReplicaId};
-
-/// The most blocks of one height that are let in from one sender. In all runs that were tried, of 4 to 13
-/// replicas, a correct one brought three at most.
-pub const MOST_OF_SENDER: usize = 4;
+use tuning::MOST_OF_SENDER;
 
 /// A block that comes to a replica, by its height, and who brings it: the leader of a proposal's view, or
 /// the sender of a Block frame.
@@ -31,7 +28,7 @@ pub fn brings(config: &Config, input: &Input<'_>) -> Option<Brought>
     ensures brings { result ≡ brings config.now (input_of input.now) }
     ensures sender { IfSome result (λ b. b.sender < MOST_REPLICAS) }
 {
-    // There are at most 31.
+    // For the proof: there are few replicas.
     let _replicas = config.n();
     match input {
         Input::Proposal(checked) => {
@@ -42,6 +39,7 @@ pub fn brings(config: &Config, input: &Input<'_>) -> Option<Brought>
             })
         }
         Input::Block(checked) => {
+            // For the proof: there are few replicas.
             let _replicas = checked.config().n();
             let block = checked.view();
             Some(Brought {

@@ -7,6 +7,6 @@ mod door;
 mod laws;
 mod row;
 
-pub use brought::{Brought, MOST_OF_SENDER, brings};
+pub use brought::{Brought, brings};
 pub use door::Doorkeeper;
 pub use laws::{few_of_a_height, few_pass, never_crowded, none_crowded_out, others_do_not_count};

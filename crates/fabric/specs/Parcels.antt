@@ -1,6 +1,6 @@
 -- How much a parcel takes of its sender's share.
 use Rattle.std.specs.Prelude.{ℕ, ◌+◌, length}
-use Rattle.fabric.specs.declared.parcel.TheConstants.{PARCEL_SIZE}
+use Rattle.tuning.specs.declared.links.TheConstants.{PARCEL_SIZE}
 use Rattle.fabric.specs.declared.parcel.Parcel.{Parcel}
 use Rattle.fabric.specs.declared.parcel.Parcel.TheVariants.{Frame}
 

@@ -9,17 +9,11 @@ use std::sync::atomic::Ordering::SeqCst;
 use std::sync::atomic::{AtomicBool, AtomicU64};
 use std::sync::{Arc, Condvar, Mutex, Wait};
 use std::time::{Clock, Duration, Instant};
-
-/// How much of one replica may wait at a client's link, by `frame_size`: the longest reply has 70,000 bytes, and a
-/// correct replica answers one request at a time.
-const MOST_WAITING: u64 = 1 << 18;
-
-/// For how many milliseconds at most a client sleeps before it looks what waits.
-const SLICE_MILLIS: u64 = 5;
+use tuning::{CLIENT_SHARE_BYTES, CLIENT_SLEEP_MILLIS};
 
 /// A frame, and which replica handed it in.
 #[derive(Drop)]
-struct Told {
+struct FromReplica {
     from: ReplicaId,
     frame: Bytes,
 }
@@ -37,7 +31,7 @@ pub(crate) enum NotTold {
 
 /// What both ends of a client's link know beside its channel.
 #[derive(Drop)]
-struct Waiting {
+struct BothEnds {
     /// How much of each replica waits.
     shares: Vec<AtomicU64>,
     /// How many frames were handed in, and how many were taken.
@@ -55,8 +49,8 @@ struct Waiting {
 /// The end of a client's link at which replicas hand in frames. Each has a share of its own.
 #[derive(Drop)]
 pub(crate) struct ClientStart {
-    frames: Sender<Told>,
-    waiting: Arc<Waiting>,
+    frames: Sender<FromReplica>,
+    both: Arc<BothEnds>,
 }
 
 /// The end of a client's link at which frames come out, in the order in which they were handed in. While a client
@@ -69,8 +63,8 @@ pub(crate) struct ClientStart {
 /// late or lost, a slice bounds what that costs: after each the client takes what waits.
 #[derive(Drop)]
 pub struct ClientEnd {
-    frames: Receiver<Told>,
-    waiting: Arc<Waiting>,
+    frames: Receiver<FromReplica>,
+    both: Arc<BothEnds>,
 }
 
 /// The two ends of a client's link, in which nothing waits, with a counter at 0 for each replica, of which f may be
@@ -81,7 +75,7 @@ pub(crate) fn client_link(
     faults: u8,
 ) -> Result<(ClientStart, ClientEnd), AllocError> {
     let (frames, end) = crossbeam_channel::unbounded(alloc)?;
-    let waiting = Waiting {
+    let both = BothEnds {
         shares,
         handed_in: AtomicU64::new(0),
         taken: AtomicU64::new(0),
@@ -90,24 +84,18 @@ pub(crate) fn client_link(
         bed: Mutex::new(()),
         bell: Condvar::new(),
     };
-    let waiting = Arc::new(alloc, waiting)?;
+    let both = Arc::new(alloc, both)?;
     let start = ClientStart {
         frames,
-        waiting: Arc::try_clone(&waiting)?,
+        both: Arc::try_clone(&both)?,
     };
-    Ok((
-        start,
-        ClientEnd {
-            frames: end,
-            waiting,
-        },
-    ))
+    Ok((start, ClientEnd { frames: end, both }))
 }
 
 /// Takes so much more of a share, where that has room for them.
 fn enter(share: &AtomicU64, size: u64) -> bool {
     let before = share.fetch_add(size, SeqCst);
-    let fits = before.saturating_add(size) <= MOST_WAITING;
+    let fits = before.saturating_add(size) <= CLIENT_SHARE_BYTES;
     if !fits {
         share.fetch_sub(size, SeqCst);
     }
@@ -115,7 +103,7 @@ fn enter(share: &AtomicU64, size: u64) -> bool {
 }
 
 /// Why a frame wasn't sent.
-fn not_told(error: SendError<Told>) -> NotTold {
+fn not_told(error: SendError<FromReplica>) -> NotTold {
     match error {
         SendError::OutOfMemory(_) => NotTold::Memory,
         SendError::Disconnected(_) => NotTold::Closed,
@@ -130,10 +118,10 @@ fn slice_until<R: Clock>(rt: &R, until: Instant) -> Option<Duration> {
     if left.is_zero() {
         return None;
     }
-    Some(left.min(Duration::from_millis(SLICE_MILLIS)))
+    Some(left.min(Duration::from_millis(CLIENT_SLEEP_MILLIS)))
 }
 
-impl Waiting {
+impl BothEnds {
     /// Whether enough frames wait to wake the client.
     fn are_enough(&self) -> bool {
         let handed_in = self.handed_in.load(SeqCst);
@@ -150,7 +138,7 @@ impl Waiting {
     }
 
     /// The frame that was taken out waits no more.
-    fn one_less(&self, told: &Told) {
+    fn one_less(&self, told: &FromReplica) {
         self.taken.fetch_add(1, SeqCst);
         if let Some(share) = self.shares.get(usize::from(told.from.0)) {
             share.fetch_sub(frame_size(&told.frame) as u64, SeqCst);
@@ -177,15 +165,15 @@ impl ClientStart {
         frame: Bytes,
     ) -> Result<(), NotTold> {
         let size = frame_size(&frame) as u64;
-        let Some(share) = self.waiting.shares.get(usize::from(from.0)) else {
+        let Some(share) = self.both.shares.get(usize::from(from.0)) else {
             return Err(NotTold::Full);
         };
         if !enter(share, size) {
             return Err(NotTold::Full);
         }
-        match self.frames.send(rt, Told { from, frame }) {
+        match self.frames.send(rt, FromReplica { from, frame }) {
             Ok(()) => {
-                self.waiting.one_more(rt);
+                self.both.one_more(rt);
                 Ok(())
             }
             Err(error) => {
@@ -203,11 +191,11 @@ impl ClientEnd {
         for _ in rt.forever() {
             match self.frames.try_recv(rt) {
                 Ok(told) => {
-                    self.waiting.one_less(&told);
+                    self.both.one_less(&told);
                     return Some(told.frame);
                 }
                 Err(TryRecvError::Disconnected) => return None,
-                Err(TryRecvError::Empty) => self.waiting.sleep(rt, slice_until(rt, until)?),
+                Err(TryRecvError::Empty) => self.both.sleep(rt, slice_until(rt, until)?),
             }
         }
         None
@@ -216,7 +204,7 @@ impl ClientEnd {
     /// Takes the oldest frame, where one waits.
     pub fn try_recv<R: Wait>(&self, rt: &R) -> Option<Bytes> {
         let told = self.frames.try_recv(rt).ok()?;
-        self.waiting.one_less(&told);
+        self.both.one_less(&told);
         Some(told.frame)
     }
 }

@@ -6,9 +6,8 @@ ghost use Rattle.std.specs.Prelude.{if◌then◌else◌};
 ghost use Rattle.std.specs.Bool.{OnFalse, OnTrue};
 ghost use Rattle.std.specs.Option.{ForSome};
 ghost use Rattle.fair_queue.specs.Queues.{IsNext, NoneReady, Puts, Takes, ready_at, refilled, waiting_in};
-ghost use Rattle.fair_queue.specs.declared.row.TheConstants.{MOST_SIZE};
+ghost use Rattle.tuning.specs.declared.links.TheConstants.{LINK_SHARE_BYTES, REFILL_BYTES, REFILL_FRAMES};
 ghost use Rattle.ids.specs.Sizes.{replicas};
-ghost use Rattle.fabric.specs.declared.inbox.TheConstants.{BYTES_ALLOWED, FRAMES_ALLOWED};
 ghost use Rattle.fabric.specs.Inboxes.{count_of, is_over};
 ghost use Rattle.fabric.specs.Parcels.{size_of};
 
@@ -22,18 +21,7 @@ use std::sync::atomic::AtomicU64;
 use std::sync::atomic::Ordering::SeqCst;
 use std::sync::{Condvar, Mutex, MutexGuard, Wait};
 use std::time::{Clock, Duration, Instant};
-
-/// For how many milliseconds at least what each sender is allowed has to last.
-const PERIOD_MILLIS: u64 = 10;
-
-/// How many frames all replicas together are allowed.
-const FRAMES_ALLOWED: usize = 768;
-
-/// How many bytes all replicas together are allowed.
-const BYTES_ALLOWED: usize = 2_097_152;
-
-/// How often a worker looks whether something came, before it sleeps.
-const LOOKS: u32 = 100;
+use tuning::{LOOKS, REFILL_BYTES, REFILL_FRAMES, REFILL_MILLIS};
 
 /// In which row a parcel waits, and whether it is a client's request.
 #[derive(Clone, Copy)]
@@ -92,7 +80,7 @@ impl Inside {
             wakes ≡ (count_of self.old.queue == 0 || ready_at self.new.queue.rows row.number)) }
         ensures unchanged { OnErr result (self.new ≡ self.old) }
         ensures room { row.number < length self.old.queue.rows → count_of self.old.queue < 2 ^ 64 - 1
-            → waiting_in self.old.queue.rows row.number + size_of parcel ≤ MOST_SIZE
+            → waiting_in self.old.queue.rows row.number + size_of parcel ≤ LINK_SHARE_BYTES
             → OnErr result (result ≡ Err Refusal.Memory) }
     {
         if row.number >= self.queue.rows() {
@@ -203,13 +191,13 @@ impl Inside {
 /// What each sender is allowed: of what all replicas together are, the same part for each. So what a faulty one can
 /// have checked by all others together doesn't grow with their number.
 fn allowance(config: Config) -> Allowance
-    ensures count { result.count ≡ FRAMES_ALLOWED / replicas config }
-    ensures size { result.size ≡ BYTES_ALLOWED / replicas config }
+    ensures count { result.count ≡ REFILL_FRAMES / replicas config }
+    ensures size { result.size ≡ REFILL_BYTES / replicas config }
 {
     let replicas = usize::from(config.n());
     Allowance {
-        count: FRAMES_ALLOWED / replicas,
-        size: BYTES_ALLOWED / replicas,
+        count: REFILL_FRAMES / replicas,
+        size: REFILL_BYTES / replicas,
     }
 }
 
@@ -217,13 +205,13 @@ fn allowance(config: Config) -> Allowance
 /// can't be read.
 fn until_refill<R: Clock>(rt: &R, refilled: Option<Instant>) -> Option<Duration> {
     let passed = refilled.and_then(|since| since.elapsed(rt).ok())?;
-    Duration::from_millis(PERIOD_MILLIS).checked_sub(passed)
+    Duration::from_millis(REFILL_MILLIS).checked_sub(passed)
 }
 
 /// Where the parcels of one replica's link wait. Threads share it by reference.
 ///
-/// Each sender has a row with a share of its own (`fair_queue`). Senders take turns, and in ten milliseconds no more
-/// is taken from one than its allowance.
+/// Each sender has a row with a share of its own (`fair_queue`). Senders take turns, and in `REFILL_MILLIS` no more is
+/// taken from one than its allowance.
 #[derive(Drop)]
 pub struct Inbox {
     inside: Mutex<Inside>,

@@ -8,17 +8,14 @@ use crate::inbox::{Inbox, Row};
 use crate::parcel::Parcel;
 use bytes::Bytes;
 use fair_queue::Refusal;
-use ids::{ClientId, Config, Fault, Height, MOST_COMMANDS, ReplicaId, View};
+use ids::{ClientId, Config, Fault, Height, ReplicaId, View};
 use signed_frames::To;
 use std::alloc::{AllocError, Global};
 use std::marker::Model;
 use std::sync::atomic::AtomicU64;
 use std::sync::atomic::Ordering::SeqCst;
 use std::sync::{Arc, Wait};
-
-/// In how many rows clients' requests wait. A frame comes without its client's number, so they are dealt out: as
-/// many requests get their turn between two frames of a replica as go into one block.
-const CLIENT_ROWS: usize = MOST_COMMANDS;
+use tuning::CLIENT_ROWS;
 
 /// The ends at which parcels are handed in, of the links of all parties. Threads share them by reference.
 ///

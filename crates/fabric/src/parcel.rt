@@ -1,13 +1,11 @@
 //! What comes to a replica over its link.
 
 ghost use Rattle.std.specs.Prelude.{◌≡◌, ◌+◌, length};
-ghost use Rattle.fabric.specs.declared.parcel.TheConstants.{PARCEL_SIZE};
+ghost use Rattle.tuning.specs.declared.links.TheConstants.{PARCEL_SIZE};
 
 use bytes::Bytes;
 use ids::View;
-
-/// How much a parcel counts beside its bytes: for the memory that it takes where it waits.
-const PARCEL_SIZE: usize = 128;
+use tuning::PARCEL_SIZE;
 
 /// How much a frame takes of its sender's share, at a replica's link and at a client's.
 pub(crate) fn frame_size(frame: &Bytes) -> usize

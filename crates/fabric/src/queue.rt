@@ -1,25 +1,14 @@
 //! The list of the frames that wait for a block.
 
 ghost use Rattle.std.specs.Prelude.{◌≡◌, ◌<◌, ◌≤◌, ◌-◌, IfSome};
-ghost use Rattle.fabric.specs.declared.queue.TheConstants.{MOST_WAITING};
+ghost use Rattle.tuning.specs.declared.waiting.TheConstants.{MOST_WAITING_FRAMES};
 
 use crate::waiting::Waiting;
 use ids::{Digest, ReplicaId};
 use std::alloc::Global;
 use std::collections::{BTreeMap, VecDeque};
 use std::marker::Model;
-
-/// How many frames wait at one replica, at most.
-const MOST_WAITING: usize = 8192;
-
-/// How many bytes they have together, at most, beside the one that came last.
-const MOST_BYTES: usize = 33_554_432;
-
-/// How many parcels must be done before the same is asked again.
-const PATIENCE: u64 = 64;
-
-/// How many waiting frames are passed at most on the way down to a missing block.
-const MOST_PASSED: usize = 64;
+use tuning::{ASK_AGAIN, MOST_PASSED, MOST_WAITING_BYTES, MOST_WAITING_FRAMES};
 
 /// Whom to ask for which block.
 #[derive(Clone, Copy)]
@@ -55,13 +44,13 @@ pub(crate) struct Queue {
 impl Model for Queue {
     ghost use Rattle.std.specs.Prelude.{ℕ, ◌≤◌};
     ghost use Rattle.std.specs.BTreeMap.{btree_map_len};
-    ghost use Rattle.fabric.specs.declared.queue.TheConstants.{MOST_WAITING};
+    ghost use Rattle.tuning.specs.declared.waiting.TheConstants.{MOST_WAITING_FRAMES};
 
     ghost Value = { ℕ };
 
     ghost view = { λ queue. btree_map_len queue.frames };
 
-    ghost invariant = { λ queue. btree_map_len queue.frames ≤ MOST_WAITING };
+    ghost invariant = { λ queue. btree_map_len queue.frames ≤ MOST_WAITING_FRAMES };
 }
 
 impl Queue {
@@ -195,15 +184,15 @@ impl Queue {
 
     /// Takes out the oldest frames, as long as all have too many bytes, and one where there are too many.
     fn make_room(&mut self)
-        ensures { self.new < MOST_WAITING }
+        ensures { self.new < MOST_WAITING_FRAMES }
     {
-        for _ in 0..MOST_WAITING {
-            if self.bytes <= MOST_BYTES {
+        for _ in 0..MOST_WAITING_FRAMES {
+            if self.bytes <= MOST_WAITING_BYTES {
                 break;
             }
             self.drop_oldest();
         }
-        if self.frames.len() >= MOST_WAITING {
+        if self.frames.len() >= MOST_WAITING_FRAMES {
             self.drop_oldest();
         }
     }
@@ -250,7 +239,7 @@ impl Queue {
         };
         last.question.sender == question.sender
             && last.question.block == question.block
-            && done.saturating_sub(last.done) < PATIENCE
+            && done.saturating_sub(last.done) < ASK_AGAIN
     }
 
     /// Whom to ask, and for which block, if for any, when so many parcels were done.

@@ -11,16 +11,11 @@ use std::sync::atomic::Ordering::SeqCst;
 use std::sync::{Mutex, Wait};
 use std::thread;
 use std::time::{Clock, Duration};
+use tuning::{WORKER_CROWD, WORKER_HELD_MILLIS};
 
-/// How many frames may wait without a worker's holding back.
-const CROWD: u64 = 512;
-
-/// For how many milliseconds at most a worker holds back.
-const MOST_HELD_MILLIS: u64 = 1000;
-
-/// What a frame brings to its receiver's tree.
+/// What a frame carries to its receiver's tree.
 #[derive(Clone, Copy)]
-pub(crate) enum Brought {
+pub(crate) enum Carried {
     /// No block.
     Nothing,
     /// A block that was asked for.
@@ -29,39 +24,39 @@ pub(crate) enum Brought {
     Proposal(Digest),
 }
 
-impl Brought {
-    /// What a frame brings.
-    fn of(frame: &Frame<'_>) -> Brought {
+impl Carried {
+    /// What a frame carries.
+    fn of(frame: &Frame<'_>) -> Carried {
         match frame {
-            Frame::Proposal(view) => Brought::Proposal(view.core().digest()),
-            Frame::Block(view) => Brought::Block(view.core().digest()),
-            _ => Brought::Nothing,
+            Frame::Proposal(view) => Carried::Proposal(view.core().digest()),
+            Frame::Block(view) => Carried::Block(view.core().digest()),
+            _ => Carried::Nothing,
         }
     }
 
-    /// What the frame of these bytes brings.
-    pub(crate) fn by(config: &Config, bytes: &[u8]) -> Brought {
+    /// What the frame of these bytes carries.
+    pub(crate) fn by(config: &Config, bytes: &[u8]) -> Carried {
         match read(config, bytes) {
-            Ok(frame) => Brought::of(&frame),
-            Err(_) => Brought::Nothing,
+            Ok(frame) => Carried::of(&frame),
+            Err(_) => Carried::Nothing,
         }
     }
 
     /// The block.
     pub(crate) fn block(self) -> Option<Digest> {
         match self {
-            Brought::Nothing => None,
-            Brought::Block(block) | Brought::Proposal(block) => Some(block),
+            Carried::Nothing => None,
+            Carried::Block(block) | Carried::Proposal(block) => Some(block),
         }
     }
 
     /// Whether a frame that brings this does all that one does that brings the other.
-    pub(crate) fn serves_for(self, other: Brought) -> bool {
+    pub(crate) fn serves_for(self, other: Carried) -> bool {
         match other {
-            Brought::Nothing => false,
-            Brought::Block(block) => self.block() == Some(block),
-            Brought::Proposal(block) => match self {
-                Brought::Proposal(own) => own == block,
+            Carried::Nothing => false,
+            Carried::Block(block) => self.block() == Some(block),
+            Carried::Proposal(block) => match self {
+                Carried::Proposal(own) => own == block,
                 _ => false,
             },
         }
@@ -75,7 +70,7 @@ pub(crate) struct Waiting {
     pub(crate) number: u64,
     pub(crate) sender: ReplicaId,
     pub(crate) lacks: Digest,
-    pub(crate) brings: Brought,
+    pub(crate) brings: Carried,
     pub(crate) bytes: Bytes,
     /// The first block that no waiting frame brought when it came, from the one that it lacks down.
     pub(crate) bottom: Digest,
@@ -88,7 +83,7 @@ impl Waiting {
     pub(crate) fn new(config: &Config, number: u64, bytes: Bytes) -> Option<Waiting> {
         let frame = read(config, bytes.as_slice()).ok()?;
         let (sender, lacks) = missing_of(config, &frame)?;
-        let brings = Brought::of(&frame);
+        let brings = Carried::of(&frame);
         Some(Waiting {
             number,
             sender,
@@ -103,9 +98,9 @@ impl Waiting {
 
 /// Where the frames of one replica's link wait that lack a block. Its workers share it by reference.
 ///
-/// At most 8,192 wait, of 32 MB together and one more; what comes then drives out the oldest. What is driven
+/// `tuning` says how many wait at most, and with how many bytes; what comes then drives out the oldest. What is driven
 /// out, or for which memory is refused, is lost, as on any network. So that none is lost while one worker
-/// sleeps over the block that the others lack, the other holds back once 512 wait. Each call takes the lock
+/// sleeps over the block that the others lack, the other holds back once many wait. Each call takes the lock
 /// once at most, and holds it while it looks at the list; where nothing waits, no lock is taken.
 #[derive(Drop)]
 pub struct WaitingRoom {
@@ -146,8 +141,8 @@ impl WaitingRoom {
     /// lack, and what is taken meanwhile would wait too. Not for long: they may be a faulty replica's, and
     /// lack what never comes.
     pub(crate) fn hold_back<R: Clock>(&self, rt: &R) {
-        for _ in 0..MOST_HELD_MILLIS {
-            if self.waiting.load(SeqCst) <= CROWD || self.busy.load(SeqCst) == 0 {
+        for _ in 0..WORKER_HELD_MILLIS {
+            if self.waiting.load(SeqCst) <= WORKER_CROWD || self.busy.load(SeqCst) == 0 {
                 break;
             }
             thread::sleep(rt, Duration::from_millis(1));

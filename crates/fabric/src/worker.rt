@@ -7,7 +7,7 @@ use crate::inbox::Inbox;
 use crate::links::Links;
 use crate::parcel::Parcel;
 use crate::queue::Question;
-use crate::waiting::{Brought, Waiting, WaitingRoom};
+use crate::waiting::{Carried, Waiting, WaitingRoom};
 use admission::Input;
 use bytes::Bytes;
 use frames_view::{Frame, read};
@@ -257,7 +257,7 @@ impl<'a, G: Gate, O: Outgoing> Worker<'a, G, O> {
         match self.bring(rt, steps, share, number, bytes.as_slice()) {
             Ok(()) if self.room.is_empty() => {}
             Ok(()) => {
-                if let Some(block) = Brought::by(&self.keyring.config(), bytes.as_slice()).block() {
+                if let Some(block) = Carried::by(&self.keyring.config(), bytes.as_slice()).block() {
                     self.release(rt, steps, share, block);
                 }
             }

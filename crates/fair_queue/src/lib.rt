@@ -12,4 +12,3 @@ pub use allowance::Allowance;
 pub use laws::others_come_nearer;
 pub use queue::FairQueue;
 pub use refusal::Refusal;
-pub use row::MOST_SIZE;

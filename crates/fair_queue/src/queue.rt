@@ -3,7 +3,7 @@
 ghost use Rattle.std.specs.Prelude.{◌≡◌, ◌+◌, ◌<◌, ◌≤◌, ℕ, length, IfOk, OnOk, OnErr, IfSome, IfNone, MatchBool, map, nat_lt, replicate};
 ghost use Rattle.std.specs.Bool.{OnTrue, OnFalse};
 ghost use Rattle.fair_queue.specs.Queues.{IsNext, NoneReady, Puts, Takes, empty_row, ready_at, refilled, row_at, row_behind, waiting_in};
-ghost use Rattle.fair_queue.specs.declared.row.TheConstants.{MOST_SIZE};
+ghost use Rattle.tuning.specs.declared.links.TheConstants.{LINK_SHARE_BYTES};
 ghost use Rattle.fair_queue.specs.declared.refusal.Refusal.TheVariants.{Full, Memory};
 
 use crate::allowance::Allowance;
@@ -78,7 +78,7 @@ impl<T: Drop> FairQueue<T> {
         requires { number < length self.old.rows }
         ensures put { OnOk result (Puts self.old number size value self.new) }
         ensures unchanged { OnErr result (self.new ≡ self.old) }
-        ensures share { MatchBool (nat_lt MOST_SIZE (waiting_in self.old.rows number + size))
+        ensures share { MatchBool (nat_lt LINK_SHARE_BYTES (waiting_in self.old.rows number + size))
             (result ≡ Err Full) (OnErr result (result ≡ Err Memory)) }
     {
         self.rows[number].put(size, value)
@@ -111,17 +111,6 @@ impl<T: Drop> FairQueue<T> {
         let allowed = self.allowed;
         for row in self.rows.iter_mut() {
             row.refill(allowed);
-        }
-    }
-
-    /// How much size waits in the row of this number; 0 where there is no such row.
-    pub fn waiting_in(&self, number: usize) -> usize
-        ensures is { result ≡ waiting_in self.now.rows number }
-        ensures share { result ≤ MOST_SIZE }
-    {
-        match self.rows.get(number) {
-            Some(row) => row.size(),
-            None => 0,
         }
     }
 

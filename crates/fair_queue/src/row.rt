@@ -9,9 +9,7 @@ use crate::refusal::Refusal;
 use std::alloc::Global;
 use std::collections::VecDeque;
 use std::marker::Model;
-
-/// How much size may wait in a row.
-pub const MOST_SIZE: usize = 16_777_216;
+use tuning::LINK_SHARE_BYTES;
 
 /// The values of one sender that wait, oldest first.
 #[derive(Drop)]
@@ -27,7 +25,7 @@ pub(crate) struct Row<T> {
 impl<T> Model for Row<T> {
     ghost use Rattle.std.specs.Prelude.{◌≡◌, ◌≤◌};
     ghost use Rattle.fair_queue.specs.Queues as queues;
-    ghost use Rattle.fair_queue.specs.declared.row.TheConstants.{MOST_SIZE};
+    ghost use Rattle.tuning.specs.declared.links.TheConstants.{LINK_SHARE_BYTES};
 
     ghost Value = { queues.Row T };
 
@@ -37,7 +35,7 @@ impl<T> Model for Row<T> {
       size_left = row.size_left;
     } };
 
-    ghost invariant = { λ row. (row.size ≡ queues.size_of row.items.items) × (row.size ≤ MOST_SIZE) };
+    ghost invariant = { λ row. (row.size ≡ queues.size_of row.items.items) × (row.size ≤ LINK_SHARE_BYTES) };
 }
 
 impl<T: Drop> Row<T> {
@@ -60,23 +58,15 @@ impl<T: Drop> Row<T> {
         !self.items.is_empty() && self.count_left > 0 && self.size_left > 0
     }
 
-    /// How much size waits.
-    pub(crate) fn size(&self) -> usize
-        ensures size { result ≡ size_of self.now.items }
-        ensures share { result ≤ MOST_SIZE }
-    {
-        self.size
-    }
-
     /// A value more waits, at the end.
     pub(crate) fn put(&mut self, size: usize, value: T) -> Result<(), Refusal>
         ensures put { OnOk result
             (self.new ≡ record self.old { items = self.old.items ++ (size, value) ∷ [] }) }
         ensures unchanged { OnErr result (self.new ≡ self.old) }
-        ensures share { MatchBool (nat_lt MOST_SIZE (size_of self.old.items + size))
+        ensures share { MatchBool (nat_lt LINK_SHARE_BYTES (size_of self.old.items + size))
             (result ≡ Err Full) (OnErr result (result ≡ Err Memory)) }
     {
-        if size > MOST_SIZE - self.size {
+        if size > LINK_SHARE_BYTES - self.size {
             return Err(Refusal::Full);
         }
         if self.items.push_back((size, value)).is_err() {

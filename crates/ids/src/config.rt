@@ -67,6 +67,7 @@ impl Config {
     pub fn holds(&self)
         ensures { AreSizes self.now }
     {
+        // For the proof: a body reads a value whose limits it claims.
         let _faults = self.faults;
     }
 

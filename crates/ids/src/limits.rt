@@ -16,6 +16,10 @@ pub const MOST_BLOCKS: usize = 1_048_576;
 /// No block is as high as this, 2^58: so the places of commands, sixteen a block, fit into eight bytes.
 pub const HEIGHT_LIMIT: u64 = 288_230_376_151_711_744;
 
+/// How many heights below its horizon a tree still keeps: three blocks in direct succession are seen whole, of which
+/// the highest may stand at the horizon.
+pub const BELOW_HORIZON: u64 = 2;
+
 /// The most requests that wait for a block.
 pub const MOST_PENDING: usize = 4096;
 

@@ -1,3 +1,7 @@
+ghost use Rattle.std.specs.Prelude.{◌≡◌, ◌-◌};
+ghost use Rattle.ids.specs.declared.limits.TheConstants.{BELOW_HORIZON};
+
+use crate::limits::BELOW_HORIZON;
 use std::fmt;
 use std::marker::Model;
 
@@ -13,6 +17,15 @@ impl Model for Height {
     ghost view = { λ height. height.0 };
 
     ghost inverse = { λ n. record { 0 = n } };
+}
+
+impl Height {
+    /// The lowest height that a tree with this horizon keeps. Genesis stays beside it.
+    pub fn lowest_kept(self) -> Height
+        ensures { result ≡ self - BELOW_HORIZON }
+    {
+        Height(self.0.saturating_sub(BELOW_HORIZON))
+    }
 }
 
 impl fmt::Display for Height {

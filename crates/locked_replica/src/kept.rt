@@ -72,7 +72,7 @@ impl<'a> Kept<'a> {
         requires put { eye.sight.put ≡ 0 }
         ensures { result ≡ record { keys = replica.keys; replica = replica.replica; shares = []; eye = eye } }
     {
-        // It is lawful.
+        // For the proof: the replica's chronicle is lawful.
         let _steps = replica.replica().steps();
         Kept {
             replica,
@@ -86,6 +86,7 @@ impl<'a> Kept<'a> {
     pub fn holds(&self)
         ensures { Holds self.now }
     {
+        // For the proof: a body reads a value whose invariant it claims.
         let _replica = &self.replica;
     }
 

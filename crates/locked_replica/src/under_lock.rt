@@ -15,8 +15,10 @@ impl<'a> UnderLock for Kept<'a> {
     ghost heeds = { heeding.heeds };
 
     fn step(&mut self, share: &mut Share, input: Input<'_>) -> Result<Out, Fault> {
+        // For the proof: what holds before the step.
         self.holds();
         let answer = Kept::step(self, share, input);
+        // For the proof: what holds after it.
         self.holds();
         answer
     }

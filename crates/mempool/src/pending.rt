@@ -3,7 +3,7 @@
 ghost use Rattle.std.specs.Prelude.{◌≡◌, length, IfOk, OnErr};
 ghost use Rattle.definitions.specs.Frames.{command_bytes};
 ghost use Rattle.frames_view.specs.Views.{command_of, commands_left};
-ghost use Rattle.mempool.specs.Pool.{is_of, is_overtaken, is_up_to, stands_among};
+ghost use Rattle.mempool.specs.Pool.{is_overtaken, is_up_to, stands_among};
 
 use crate::request_id::RequestId;
 use appending::append;
@@ -70,13 +70,6 @@ impl Pending {
         ensures { result.now ≡ command_bytes self.now }
     {
         &self.bytes
-    }
-
-    /// Whether it has this client and number.
-    pub(crate) fn is_of(&self, client: ClientId, seq: Seq) -> bool
-        ensures { result ≡ is_of client seq self.now }
-    {
-        client == self.client && seq == self.seq
     }
 
     /// Whether it is this client's, and its number is at most this one.

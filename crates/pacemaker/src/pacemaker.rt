@@ -33,6 +33,7 @@ impl Pacemaker {
         ensures sizes { result.sizes ≡ config }
         ensures begins { IsPaceOf [] result }
     {
+        // For the proof: there are few replicas.
         let _n = config.n();
         Pacemaker {
             config,
@@ -73,6 +74,7 @@ impl Pacemaker {
             → IsPaceOf (noted (got_new_view view sender q b) ∷ c) self.new }
         ensures moved { IsTrue result ↔ (self.old.view < self.new.view) }
     {
+        // For the proof: there are few replicas.
         let _n = self.config.n();
         self.note(sender, view.0);
         let reached = self.reached();
@@ -99,6 +101,7 @@ impl Pacemaker {
                   slice_set self.old.announced sender (max view (slice_index self.old.announced sender));
             } }
     {
+        // For the proof: there are few replicas.
         let _n = self.config.n();
         let place = usize::from(sender.0);
         self.announced[place] = view.max(self.announced[place]);

@@ -1,5 +1,5 @@
 -- What is executed between two blocks of a branch, and the replies to it.
-use Rattle.ids.specs.declared.limits.TheConstants.{MOST_TEXT}
+use Rattle.ids.specs.declared.limits.TheConstants.{BELOW_HORIZON, MOST_TEXT}
 use Rattle.std.specs.Prelude.{ℕ, zero, suc, ◌+◌, ◌<◌, ◌≤◌, ◌≡◌, ◌&&◌, ◌++◌, Bool, List, [], ◌∷◌, map}
 use Rattle.std.specs.Prelude.{reverse, take, length, if◌then◌else◌, option_to_list, nat_lt, nat_le, Option}
 use Rattle.std.specs.Prelude.{Some, None, option_map, ◌||◌, ◌==◌}
@@ -23,7 +23,7 @@ use Rattle.replica.specs.Steps.{bytes_of}
 -- the block of this height on a branch, where it stands in the tree
 abbrev pub seen_at : (horizon height : ℕ) → Branch → Option Branch
 seen_at horizon height b =
-    if nat_le horizon (height + 2) || (height == 0) then at_height height b else None
+    if nat_le horizon (height + BELOW_HORIZON) || (height == 0) then at_height height b else None
 
 -- the stored block of this height on the branch of a block
 abbrev pub block_at : Bytes → ℕ → TreeState → Option Stored

@@ -203,6 +203,7 @@ impl<'a> Whole<'a> {
         ensures number { self.now.keys.party < replicas self.now.keys.sizes }
         ensures kept { IsLawfullyKept self.now.keys.sizes self.now.replica.chronicle }
     {
+        // For the proof: the replica's chronicle is lawful.
         self.replica.holds();
     }
 

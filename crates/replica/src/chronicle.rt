@@ -138,7 +138,7 @@ impl<'a> Iterator for ChronicleView<'a> {
     ghost remaining = { item_count (λ left. left) };
 
     fn next(&mut self) -> Option<StepView<'a>> {
-        // Fewer blocks stand than fit any memory.
+        // For the proof: fewer blocks stand than fit any memory.
         let _blocks = self.tree.len();
         let (step, earlier) = self.steps.split_last()?;
         let newest = StepView {

@@ -43,6 +43,7 @@ fn text_of(answer: &Answer) -> Option<ReplyText<'_>>
     ensures long { IfNone result (MOST_TEXT < length answer.now.text) }
 {
     let text = ReplyText::new(answer.text())?;
+    // For the proof: the text is short enough to be sent.
     let _few = text.as_slice();
     Some(text)
 }

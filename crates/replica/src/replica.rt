@@ -129,7 +129,7 @@ fn decide(
         Input::Fetch(asked) => decide_fetch(state, keyring, asked.view()),
         Input::Timeout => decide_timeout(state, keyring),
         Input::Beat => {
-            // Few steps stand.
+            // For the proof: few steps stand.
             let _count = state.count;
             decide_beat(state, keyring)
         }
@@ -232,6 +232,7 @@ impl Replica {
             (λ r. r ≡ record { keys = keyring; replica = record { chronicle = []; standing = running } }) }
         ensures memory { OnErr result (result ≡ Err Fault.Memory) }
     {
+        // For the proof: the cache has room for a key.
         config.holds();
         let executor = Executor::new(alloc, config.most_keys(), hasher)?;
         Ok(Replica {
@@ -292,6 +293,7 @@ impl Replica {
         ensures number { self.now.keys.party < replicas self.now.keys.sizes }
         ensures kept { IsLawfullyKept self.now.keys.sizes self.now.replica.chronicle }
     {
+        // For the proof: a body reads a value whose invariant it claims.
         let _number = self.keyring.replica();
         let _steps = self.state.count();
     }

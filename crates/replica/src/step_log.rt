@@ -77,6 +77,7 @@ impl StepLog for NoLog {
     }
 
     fn push(&mut self, step: StoredStep) {
+        // For the proof: the step is taken, and dropped.
         let _step = step;
     }
 }

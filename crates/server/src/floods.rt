@@ -5,19 +5,17 @@ ghost use Rattle.std.specs.Prelude.{◌≡◌, ◌&&◌, nat_le, nat_lt};
 use fabric::Links;
 use ids::{MOST_REPLICAS, ReplicaId};
 use log::{Log, warn};
-
-/// For how many seconds no more is told of a replica that was told of.
-const PAUSE_SECONDS: u64 = 60;
+use tuning::FLOOD_PAUSE_SECONDS;
 
 /// What was told of a replica: how many of its frames were lost by then, and from when on it may be told of again.
 #[derive(Clone, Copy)]
-pub(crate) struct Told {
+pub(crate) struct Warned {
     pub(crate) lost: u64,
     pub(crate) again: u64,
 }
 
 /// Whether it is to be told that so many are lost, in this second.
-fn is_due(told: Told, lost: u64, second: u64) -> bool
+fn is_due(told: Warned, lost: u64, second: u64) -> bool
     ensures { result ≡ (nat_lt told.lost lost && nat_le told.again second) }
 {
     told.lost < lost && told.again <= second
@@ -26,14 +24,14 @@ fn is_due(told: Told, lost: u64, second: u64) -> bool
 /// Which replicas were told of.
 #[derive(Clone, Copy)]
 pub(crate) struct Floods {
-    told: [Told; MOST_REPLICAS],
+    told: [Warned; MOST_REPLICAS],
 }
 
 impl Floods {
     /// None was.
     pub(crate) fn none() -> Floods {
         Floods {
-            told: [Told { lost: 0, again: 0 }; MOST_REPLICAS],
+            told: [Warned { lost: 0, again: 0 }; MOST_REPLICAS],
         }
     }
 
@@ -50,15 +48,15 @@ impl Floods {
 }
 
 /// What is told of a replica by now, of which this was told before.
-fn look_at<R: Log>(rt: &R, links: &Links, number: ReplicaId, told: Told, second: u64) -> Told {
+fn look_at<R: Log>(rt: &R, links: &Links, number: ReplicaId, told: Warned, second: u64) -> Warned {
     let lost = links.turned_away(number);
     if !is_due(told, lost, second) {
         return told;
     }
     let more = lost.saturating_sub(told.lost);
     warn!(rt; "replica {} sends more than links hold: {more} of its frames were lost", number.0);
-    Told {
+    Warned {
         lost,
-        again: second.saturating_add(PAUSE_SECONDS),
+        again: second.saturating_add(FLOOD_PAUSE_SECONDS),
     }
 }

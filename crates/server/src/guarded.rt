@@ -8,6 +8,7 @@ ghost use Rattle.doorkeeper.specs.Doors.{passes, remembered, with_block};
 ghost use Rattle.locked_replica.specs.Heeding as heeding;
 ghost use Rattle.locked_replica.specs.Stepping.{WholeStep};
 ghost use Rattle.turns.specs.Shares.{Counts};
+ghost use Rattle.ids.specs.declared.limits.TheConstants.{BELOW_HORIZON};
 
 use doorkeeper::{Brought, Doorkeeper, brings};
 use ids::{Fault, Height};
@@ -78,11 +79,11 @@ impl<'a> Guarded<'a> {
         ensures stepped { WholeStep self.old.kept share.old input.entry result self.new.kept share.new }
         ensures counts { Counts share.old result share.new }
         ensures forgotten { self.new.door.taken
-            ≡ remembered (horizon self.new.kept.replica.chronicle - 2) self.old.door.taken }
+            ≡ remembered (horizon self.new.kept.replica.chronicle - BELOW_HORIZON) self.old.door.taken }
     {
         let answer = UnderLock::step(&mut self.kept, share, input);
         let horizon = self.replica().horizon();
-        self.door.forget_below(Height(horizon.0.saturating_sub(2)));
+        self.door.forget_below(horizon.lowest_kept());
         answer
     }
 }

@@ -1,6 +1,7 @@
 //! Replicas that have fallen behind what the others keep.
 
-ghost use Rattle.std.specs.Prelude.{◌≡◌, ◌+◌, ◌&&◌, ◌==◌, nat_lt};
+ghost use Rattle.std.specs.Prelude.{◌≡◌, ◌+◌, ◌-◌, ◌&&◌, ◌==◌, nat_lt};
+ghost use Rattle.ids.specs.declared.limits.TheConstants.{BELOW_HORIZON};
 
 use crate::stations::Station;
 use ids::{Height, MOST_REPLICAS, ReplicaId};
@@ -16,12 +17,13 @@ pub(crate) struct Reach {
 }
 
 /// Whether a replica has executed nothing since it had come to a height, and lacks the next block where the
-/// others have this horizon: they keep what is at most two heights below it.
+/// others have this horizon.
 fn is_stuck(reach: Reach, before: Height, horizon: Height) -> bool
     ensures { result
-        ≡ (reach.goes_on && (reach.height == before) && nat_lt (reach.height + 3) horizon) }
+        ≡ (reach.goes_on && (reach.height == before) && nat_lt (reach.height + 1) (horizon - BELOW_HORIZON)) }
 {
-    let lacks_next = horizon.0 > 3 && reach.height.0 < horizon.0 - 3;
+    let kept = horizon.lowest_kept().0;
+    let lacks_next = kept > 1 && reach.height.0 < kept - 1;
     reach.goes_on && reach.height.0 == before.0 && lacks_next
 }
 

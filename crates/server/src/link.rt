@@ -9,15 +9,7 @@ use fabric::{ClientEnd, Links};
 use std::sync::{Arc, Wait};
 use std::thread;
 use std::time::{Clock, Duration, Instant};
-
-/// For how many milliseconds a client waits before it sends its request again.
-const PATIENCE_MILLIS: u64 = 1000;
-
-/// How many requests may wait at a replica's link without a client's holding back.
-const MOST_WAITING: usize = 1024;
-
-/// For how many milliseconds at most a client holds back a request.
-const MOST_HELD_MILLIS: u64 = 20;
+use tuning::{CLIENT_CROWD, CLIENT_HELD_MILLIS, REPLY_WAIT_MILLIS};
 
 /// The link of one client: where it hands in frames for all replicas, and where its replies come out.
 #[derive(Drop)]
@@ -50,8 +42,8 @@ impl<R: Wait + Clock + AllocGlobal> ClientLink<R> {
     /// While many requests wait at a replica's link, lets it catch up, where processors are too few for all. Not
     /// for long: a faulty replica could be slow for ever.
     fn hold_back(&self) {
-        for _ in 0..MOST_HELD_MILLIS {
-            if self.links.longest() <= MOST_WAITING {
+        for _ in 0..CLIENT_HELD_MILLIS {
+            if self.links.longest() <= CLIENT_CROWD {
                 break;
             }
             thread::sleep(&self.rt, Duration::from_millis(1));
@@ -73,7 +65,7 @@ impl<R: Wait + Clock + AllocGlobal> Link for ClientLink<R> {
             let _ = self.links.to_all(&self.rt, bytes);
         }
         self.until = match Instant::now(&self.rt) {
-            Ok(now) => now.checked_add(Duration::from_millis(PATIENCE_MILLIS)),
+            Ok(now) => now.checked_add(Duration::from_millis(REPLY_WAIT_MILLIS)),
             Err(_) => None,
         };
     }

@@ -16,9 +16,7 @@ use std::sync::atomic::Ordering::SeqCst;
 use std::thread;
 use std::time::{Clock, Duration};
 use tcp_front::Seats;
-
-/// For how many milliseconds the thread that tells it doesn't look whether it is to end.
-const PAUSE_MILLIS: u64 = 100;
+use tuning::{STATUS_LOOK_MILLIS, STATUS_LOOKS};
 
 /// How far a replica is.
 #[derive(Clone, Copy)]
@@ -126,11 +124,11 @@ impl<'a, 's, 'm, S: Drop> Board<'a, 's, 'm, S> {
 
 /// Sleeps for a second. False where it was told to stop in the meantime.
 fn sleep_a_second<R: Wait + Clock>(rt: &R, stop: &AtomicBool) -> bool {
-    for _ in 0..1000 / PAUSE_MILLIS {
+    for _ in 0..STATUS_LOOKS {
         if stop.load(SeqCst) {
             return false;
         }
-        thread::sleep(rt, Duration::from_millis(PAUSE_MILLIS));
+        thread::sleep(rt, Duration::from_millis(STATUS_LOOK_MILLIS));
     }
     true
 }

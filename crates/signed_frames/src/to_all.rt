@@ -76,6 +76,7 @@ fn client_of(keyring: &Keyring) -> ClientId
     requires { IsTrue (is_client_of keyring.now.sizes keyring.now.party) }
     ensures { result ≡ client_at keyring.now.party }
 {
+    // For the proof: there are few clients.
     let _most = keyring.config().clients();
     ClientId(keyring.party().client().unwrap() as u8)
 }

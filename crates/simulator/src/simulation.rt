@@ -101,6 +101,7 @@ pub fn keyrings_of(alloc: Global, config: Config) -> Result<Vec<Keyring>, Fault>
     ensures each { IfOk result (λ keyrings. AreKeyrings config keyrings.items) }
     ensures memory { OnErr result (result ≡ Err Fault.Memory) }
 {
+    // For the proof: there are few parties.
     config.holds();
     let mut keyrings = Vec::new(alloc);
     for replica in 0..config.n() {

@@ -8,11 +8,7 @@ use std::io::{Read, Write};
 use std::net::{Shutdown, TcpStream};
 use std::sync::Wait;
 use std::time::Duration;
-
-/// For how many milliseconds at once, and how often, a closed connection is listened to.
-const LINGER_MILLIS: u64 = 20;
-
-const LINGER_TIMES: u32 = 10;
+use tuning::{LINGER_BYTES, LINGER_MILLIS, LINGER_TIMES};
 
 /// Serves a connection with a seat. Afterwards the seat is free again, unless it is lost.
 pub(crate) fn attend<R: Wait + AllocGlobal + Log, S: Seat + Drop>(
@@ -48,7 +44,7 @@ fn close(stream: &TcpStream) {
     {
         return;
     }
-    let mut piece = [0; 1024];
+    let mut piece = [0; LINGER_BYTES];
     for _ in 0..LINGER_TIMES {
         if let Ok(0) | Err(_) = (&mut &*stream).read(&mut piece) {
             return;

@@ -7,9 +7,7 @@ use std::io;
 use std::io::{Error, ErrorKind, Read, Write};
 use std::net::TcpStream;
 use std::time::Duration;
-
-/// After how many milliseconds a connection that waits looks whether the seats were closed.
-const LOOK_MILLIS: u64 = 500;
+use tuning::CLOSED_LOOK_MILLIS;
 
 /// A connection as long as its server's seats are open.
 ///
@@ -24,7 +22,7 @@ pub(crate) struct Line<'a, S> {
 impl<'a, S> Line<'a, S> {
     /// The line of this connection. Where the system sets no limit to waiting, it ends with its peer alone.
     pub(crate) fn new(stream: &'a TcpStream, seats: &'a Seats<S>) -> Line<'a, S> {
-        let limit = Some(Duration::from_millis(LOOK_MILLIS));
+        let limit = Some(Duration::from_millis(CLOSED_LOOK_MILLIS));
         let _ = stream.set_read_timeout(limit);
         let _ = stream.set_write_timeout(limit);
         Line { stream, seats }

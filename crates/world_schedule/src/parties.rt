@@ -138,6 +138,7 @@ impl Parties {
         ensures { (w : worlds.World) → AreOf world.now self.old.replicas.items self.old.sessions.items w
             → Brings world.now w to bytes.now self.new.replicas.items self.new.sessions.items result }
     {
+        // For the proof: the world's keyrings are its parties'.
         world.holds();
         let session = &mut self.sessions[usize::from(client)];
         client::receive(world.alloc(), session, bytes)
@@ -152,6 +153,7 @@ impl Parties {
             → Brings world.now w to bytes.now self.new.replicas.items self.new.sessions.items e) }
         ensures memory { OnErr result (result ≡ Err Fault.Memory) }
     {
+        // For the proof: the world's keyrings are its parties'.
         world.holds();
         match to.client() {
             None => self.bring_to_replica(world, to, bytes),
@@ -222,6 +224,7 @@ impl Parties {
             → Acts world.now w event.now self.new.replicas.items self.new.sessions.items e) }
         ensures memory { OnErr result (result ≡ Err Fault.Memory) }
     {
+        // For the proof: the world's keyrings are its parties'.
         world.holds();
         match event {
             Event::Submit { client, payload } => self.submit(world, *client, payload),

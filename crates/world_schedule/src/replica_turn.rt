@@ -74,6 +74,7 @@ pub(crate) fn receive(
         (λ e. Takes (identity_of replica.old.keys) bytes.now replica.old.replica replica.new.replica e) }
     ensures memory { OnErr result (result ≡ Err Fault.Memory) }
 {
+    // For the proof: there are few replicas.
     replica.replica().config().holds();
     match replica.take(bytes) {
         Ok(out) => Ok(Effect::sends(out)),

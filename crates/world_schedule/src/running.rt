@@ -111,6 +111,7 @@ fn do_event(
     ensures memory { OnErr result (result ≡ Err Fault.Memory) }
 {
     if world.is_faulty(event.party()) {
+        // For the proof: what the event would bring is decided all the same.
         let _read = brings_frame(&world.config(), event);
         return Ok(Effect::only(world.alloc(), None));
     }
@@ -179,6 +180,7 @@ pub fn run(world: &World, events: &[Event]) -> Result<Outcome, Fault>
     ensures ran { IfOk result (IsRunOf world.now events.now) }
     ensures refused { IfErr result (λ n. (n ≡ Fault.Memory) ⊎ IsRefusedFor world.now events.now n) }
 {
+    // For the proof: the world's keyrings are its parties'.
     world.holds();
     let mut state = State::new(world)?;
     for event in events {

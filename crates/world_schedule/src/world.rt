@@ -197,6 +197,7 @@ impl World {
     pub fn holds(&self)
         ensures { Holds self.now }
     {
+        // For the proof: a body reads a value whose limits it claims.
         self.config.holds();
     }
 }

@@ -7,7 +7,7 @@ use anyhow::{Result, bail};
 use bytes::Bytes;
 use frames_view::{Payload, ReplyText, genesis_digest};
 use ids::{ClientId, Config, Digest, Fault, Kind, Place, ReplicaId, Seq, View};
-use replica::{Sending, To};
+use replica::{Out, Sending, To};
 use signed_frames::{
     fetch_frame, new_view_frame, proposal_frame, reply_frame, request_frame, vote_frame,
 };
@@ -87,23 +87,18 @@ pub(crate) fn set(alloc: Global, config: Config, number: u64) -> Result<Bytes> {
 }
 
 /// Adds a frame that goes out.
-fn add(
-    sendings: &mut Vec<Sending>,
-    to: To,
-    kind: Kind,
-    frame: Result<Vec<u8>, Fault>,
-) -> Result<(), Fault> {
+fn add(out: &mut Out, to: To, kind: Kind, frame: Result<Vec<u8>, Fault>) -> Result<(), Fault> {
     let frame = frame?;
-    Ok(sendings.push(Sending { to, kind, frame })?)
+    Ok(out.push(Sending { to, kind, frame })?)
 }
 
 /// What replica 1 sends at once: its view to all, a vote for genesis to replica 2, and a reply to each client.
-pub(crate) fn answers(alloc: Global, config: Config) -> Result<Vec<Sending>> {
+pub(crate) fn answers(alloc: Global, config: Config) -> Result<Out> {
     let keyring = replica_keyring_of(alloc, config, ReplicaId(1))?;
     let Some(text) = ReplyText::new(b"STORED\r\n") else {
         bail!("no text of a reply");
     };
-    let mut answers = Vec::new(alloc);
+    let mut answers = Out::none(alloc);
     let announcement = new_view_frame(alloc, &keyring, View(1), &genesis_certificate());
     add(&mut answers, To::All, Kind::NewView, announcement)?;
     let vote = vote_frame(alloc, &keyring, &genesis_digest());

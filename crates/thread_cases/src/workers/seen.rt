@@ -2,7 +2,7 @@
 
 use crate::workers::meeting::Meeting;
 use ids::{Fault, ReplicaId};
-use replica::{Input, Out, Sending};
+use replica::{Input, Out};
 use std::alloc::Global;
 use std::sync::atomic::AtomicU64;
 use std::sync::atomic::Ordering::SeqCst;
@@ -26,7 +26,7 @@ pub(crate) struct Seen {
     waits: bool,
     meeting: Meeting,
     /// What is asked under one number is answered with these.
-    answers: Mutex<Option<Vec<Sending>>>,
+    answers: Mutex<Option<Out>>,
 }
 
 /// So many counters at 0.
@@ -57,7 +57,7 @@ fn listed(alloc: Global, counters: &[AtomicU64]) -> Result<String, Fault> {
 
 impl Seen {
     /// What is asked under one number is answered with these frames.
-    pub(crate) fn new(alloc: Global, waits: bool, answers: Vec<Sending>) -> Result<Seen, Fault> {
+    pub(crate) fn new(alloc: Global, waits: bool, answers: Out) -> Result<Seen, Fault> {
         let asked = counters(alloc, 1001)?;
         let requested = counters(alloc, 4)?;
         let announced = counters(alloc, 4)?;
@@ -114,7 +114,7 @@ impl Seen {
             return out;
         }
         match self.answers.lock(rt).take() {
-            Some(answers) => Out::of(answers),
+            Some(answers) => answers,
             None => out,
         }
     }

@@ -2,7 +2,7 @@ use Rattle.std.proofs.Common.{arith}
 use Rattle.definitions.proofs.RequestTexts.{length-canonical}
 use Rattle.mc_lines.specs.Meaning.{asked_of}
 use Rattle.connection.proofs.Devices.{appends_with_room}
-use Rattle.connection.proofs.payload.Payload.fill.Goals as goal
+use Rattle.connection.proofs.request_text.RequestText.fill.Goals as goal
 
 pub unwrap-requires : goal.unwrap-requires
 unwrap-requires c =

@@ -10,11 +10,11 @@ use std::marker::Model;
 
 /// A request's canonical text, in memory that is taken once.
 #[derive(Drop)]
-pub(crate) struct Payload {
+pub(crate) struct RequestText {
     bytes: Vec<u8>,
 }
 
-impl Model for Payload {
+impl Model for RequestText {
     ghost use Rattle.std.specs.Prelude.{ℕ, List, ◌≤◌, vec_capacity};
 
     ghost Value = { List ℕ };
@@ -26,13 +26,13 @@ impl Model for Payload {
     ghost invariant = { λ p. MOST_CANONICAL ≤ vec_capacity p.bytes };
 }
 
-impl Payload {
+impl RequestText {
     /// An empty one.
-    pub(crate) fn new(alloc: Global) -> Result<Payload, Fault>
+    pub(crate) fn new(alloc: Global) -> Result<RequestText, Fault>
         ensures { OnErr result (result ≡ Err Memory) }
     {
         let bytes = Vec::with_capacity(alloc, MOST_CANONICAL)?;
-        Ok(Payload { bytes })
+        Ok(RequestText { bytes })
     }
 
     /// Makes it that of this request.

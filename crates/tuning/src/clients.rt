@@ -1,0 +1,30 @@
+//! Clients' requests and connections.
+
+/// Times that a request is sent to all replicas before it is given up, and its seat is lost. Fewer: seats are lost
+/// while views change.
+pub const MOST_TRIES: u32 = 30;
+
+/// Times that it is still sent when the link was found closed, for answers that are on their way.
+pub const LATE_TRIES: u32 = 2;
+
+/// Milliseconds that a client waits for replies before it sends its request again.
+pub const REPLY_WAIT_MILLIS: u64 = 1000;
+
+/// Requests that may wait at a replica's link without a client's holding back, so that the replica can catch up.
+pub const CLIENT_CROWD: usize = 1024;
+
+/// Milliseconds for which a client holds back a request at most. Longer: one slow replica slows all clients.
+pub const CLIENT_HELD_MILLIS: u64 = 20;
+
+/// Milliseconds after which a connection that waits for its peer looks whether the server ends.
+pub const CLOSED_LOOK_MILLIS: u64 = 500;
+
+/// Milliseconds of one look for what a closed connection still brings: the system takes back what was written if
+/// something unread is there when a socket goes.
+pub const LINGER_MILLIS: u64 = 20;
+
+/// Looks of that kind.
+pub const LINGER_TIMES: u32 = 10;
+
+/// Bytes that one look takes at most.
+pub const LINGER_BYTES: usize = 1024;

@@ -1,0 +1,32 @@
+//! When a replica is looked at, and when its view is slow.
+
+/// Milliseconds between two looks of a clock at its replica. Longer: lost votes and mute leaders are noticed later.
+/// Shorter: more processor time while nothing is to do.
+pub const LOOK_MILLIS: u64 = 20;
+
+/// Milliseconds that a proposal may wait for votes, at first and at least, before a beat on top of it. Shorter: leaders
+/// propose empty blocks while votes are on their way.
+pub const LEAST_BEAT_MILLIS: u64 = 20;
+
+/// Milliseconds that a command may take at least before a view lags: half of the time between two looks, so that a
+/// leader which brings one command at each beat of the clock lags. Shorter: a correct leader on a slow machine lags.
+pub const LEAST_COMMAND_MILLIS: u64 = 10;
+
+/// By what the cube of the number of replicas is divided for the milliseconds that a command may take among many: each
+/// replica checks the tags of the others on longer frames. Greater: correct leaders among many replicas lag.
+pub const COMMAND_SHARE: u64 = 64;
+
+/// Requests of those that wait of which it is asked, at most, that each be executed in time. More: a machine that
+/// can't serve so many at once loses correct leaders. Fewer: a leader that brings little stays.
+pub const MOST_COUNTED: u64 = 8;
+
+/// What a millisecond in which a view lags counts; one in which it doesn't takes one back.
+pub const LAG_WEIGHT: u64 = 3;
+
+/// How much a view's lag may count, times one more than the view's number: a view that lags all along ends after a third
+/// of a second, the next one after two thirds. Less: correct leaders are replaced while they catch up.
+pub const VIEW_LIMIT: u64 = 1000;
+
+/// Which part of its window a replica holds beyond it before it is asked to forget: one in so many. A smaller part: it
+/// is asked more often.
+pub const WINDOW_SLACK: u64 = 8;

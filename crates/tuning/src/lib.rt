@@ -1,0 +1,29 @@
+//! The numbers of the running server that no rule of the protocol knows: shares, pauses, patience, allowances. Each is
+//! said once, with its unit, its reason, and what breaks where it is changed. Specifications cite them.
+//!
+//! None of them makes an answer wrong: they say who waits, how long, and for how much there is room.
+#![tactic(auto)]
+
+mod clients;
+mod clocks;
+mod links;
+mod waiting;
+mod warnings;
+
+pub use clients::{
+    CLIENT_CROWD, CLIENT_HELD_MILLIS, CLOSED_LOOK_MILLIS, LATE_TRIES, LINGER_BYTES, LINGER_MILLIS,
+    LINGER_TIMES, MOST_TRIES, REPLY_WAIT_MILLIS,
+};
+pub use clocks::{
+    COMMAND_SHARE, LAG_WEIGHT, LEAST_BEAT_MILLIS, LEAST_COMMAND_MILLIS, LOOK_MILLIS, MOST_COUNTED,
+    VIEW_LIMIT, WINDOW_SLACK,
+};
+pub use links::{
+    CLIENT_ROWS, CLIENT_SHARE_BYTES, CLIENT_SLEEP_MILLIS, LINK_SHARE_BYTES, LOOKS, MOST_OF_SENDER,
+    PARCEL_SIZE, REFILL_BYTES, REFILL_FRAMES, REFILL_MILLIS,
+};
+pub use waiting::{
+    ASK_AGAIN, MOST_PASSED, MOST_WAITING_BYTES, MOST_WAITING_FRAMES, WORKER_CROWD,
+    WORKER_HELD_MILLIS,
+};
+pub use warnings::{FLOOD_PAUSE_SECONDS, STATUS_LOOK_MILLIS, STATUS_LOOKS};

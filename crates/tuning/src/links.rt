@@ -1,0 +1,38 @@
+//! What waits at links, and how much of it is taken.
+
+use ids::MOST_COMMANDS;
+
+/// Bytes of one sender that may wait at a replica's link; more is lost. Less: a replica that slept for a second loses
+/// frames that it then asks for. More: a flooder fills more memory.
+pub const LINK_SHARE_BYTES: usize = 16_777_216;
+
+/// Bytes of one replica that may wait at a client's link; more is lost. The longest reply has some 70,000, and a correct
+/// replica answers a client's one request at a time. Less than that: such a reply never comes.
+pub const CLIENT_SHARE_BYTES: u64 = 262_144;
+
+/// Bytes that a parcel counts beside its own, for the memory that it takes where it waits.
+pub const PARCEL_SIZE: usize = 128;
+
+/// Milliseconds that what a sender is allowed has to last.
+pub const REFILL_MILLIS: u64 = 10;
+
+/// Frames that a replica takes from all other replicas in that time; each of n gets the n-th part. More: a flooder
+/// takes more of the processors. Fewer: correct senders wait.
+pub const REFILL_FRAMES: usize = 768;
+
+/// Bytes that a replica takes from all other replicas in that time; each of n gets the n-th part.
+pub const REFILL_BYTES: usize = 2_097_152;
+
+/// Rows in which clients' requests wait at a replica's link: as many get their turn between two frames of a replica as
+/// go into one block.
+pub const CLIENT_ROWS: usize = MOST_COMMANDS;
+
+/// Looks of a worker whether something came, before it sleeps: to be woken costs a call of the system.
+pub const LOOKS: u32 = 100;
+
+/// Milliseconds that a client sleeps at most before it looks what waits, where fewer than f + 1 frames do.
+pub const CLIENT_SLEEP_MILLIS: u64 = 5;
+
+/// Blocks of one height that a replica takes from one sender, at most. In all runs that were tried a correct replica
+/// brought three. More: with many replicas a faulty one fills a height. Fewer: correct leaders are refused.
+pub const MOST_OF_SENDER: usize = 4;
