@@ -9,22 +9,11 @@ use std::hash::RandomState;
 
 /// What stands behind the options in `--help`.
 const EXAMPLE: &str = "\
-Limits: keys of 250 bytes, data of 4,096, requests of a line of 4,096 bytes, 16 keys in a get. It listens
-on 127.0.0.1 alone, keeps all in memory, and a restart empties it. With --archive a replica keeps 1,048,576
-blocks, which is some hundred thousand commands of one connection, and more of many. docs/OPERATING.md
-tells what comes then.
-
-Example, with f = 1 and 8 clients:
-  bin/make-keys 1 8 > keys
-  mcbft --keys keys --port 11211
-and in another terminal:
-  printf 'set a 0 0 1\\r\\nx\\r\\nget a\\r\\nquit\\r\\n' | nc 127.0.0.1 11211";
+Example: bin/make-keys 1 8 > keys; mcbft --keys keys --port 11211
+docs/OPERATING.md tells its limits, and what to do at each message.";
 
 /// The names of the lies.
 const LIARS: [&str; 5] = ["mute", "two-faced", "bad-reply", "crowder", "flooder"];
-
-/// The numbers of workers that a replica may have.
-const WORKERS: [&str; 2] = ["1", "2"];
 
 /// The greatest number of 32 bits.
 const MOST_OF_32_BITS: u64 = 4_294_967_295;
@@ -35,6 +24,7 @@ struct Number {
     name: &'static str,
     /// How help calls it.
     value: &'static str,
+    least: u64,
     most: u64,
     /// What stands for it where it is left out.
     default: &'static str,
@@ -48,7 +38,6 @@ enum Word {
     Number(Number),
     Liar,
     Archive,
-    Workers,
 }
 
 /// All options, in the order in which help has them.
@@ -57,61 +46,76 @@ const WORDS: [Word; 12] = [
     Word::Number(Number {
         name: "faults",
         value: "F",
+        least: 0,
         most: 255,
         default: "1",
-        help: "How many faulty replicas are tolerated, of 3 F + 1: 1 to 10",
+        help: "Faulty replicas, of 3F + 1: 1 to 10",
     }),
     Word::Number(Number {
         name: "clients",
         value: "C",
+        least: 0,
         most: 255,
         default: "8",
-        help: "How many connections are served at once: 1 to 64",
+        help: "Connections at once: 1 to 64",
     }),
     Word::Number(Number {
         name: "port",
         value: "P",
+        least: 0,
         most: 65_535,
         default: "0",
-        help: "The port to listen on; 0 for a free one",
+        help: "Port on 127.0.0.1; 0: a free one",
     }),
     Word::Liar,
     Word::Number(Number {
         name: "serve",
         value: "N",
+        least: 0,
         most: u64::MAX,
         default: "0",
-        help: "Ends after N connections; 0 to go on",
+        help: "Ends after N connections; 0: never",
     }),
     Word::Number(Number {
         name: "keys-held",
         value: "N",
+        least: 0,
         most: MOST_OF_32_BITS,
         default: "65536",
-        help: "The cache has room for N keys: 1 to 65,536; the least recently used makes way",
+        help: "Keys in the cache: 1 to 65,536",
     }),
     Word::Number(Number {
         name: "blocks",
         value: "B",
+        least: 0,
         most: MOST_OF_32_BITS,
         default: "0",
-        help: "A replica stops when it holds B blocks; 0 for 1,048,576",
+        help: "Stops a replica at B blocks; 0: 1,048,576",
     }),
     Word::Number(Number {
         name: "window",
         value: "H",
+        least: 0,
         most: MOST_OF_32_BITS,
         default: "4096",
-        help: "A replica forgets blocks more than H heights below the last executed one",
+        help: "Heights that replicas remember",
     }),
     Word::Archive,
-    Word::Workers,
+    Word::Number(Number {
+        name: "workers",
+        value: "N",
+        least: 1,
+        most: 2,
+        default: "1",
+        help: "Threads of each replica: 1 or 2",
+    }),
     Word::Number(Number {
         name: "watch",
         value: "SECONDS",
+        least: 0,
         most: MOST_OF_32_BITS,
         default: "0",
-        help: "Tells each so many seconds how it goes; 0 for never",
+        help: "Seconds between lines of status; 0: none",
     }),
 ];
 
@@ -141,7 +145,6 @@ fn arg_of(alloc: Global, word: Word) -> Arg<'static> {
         Word::Number(number) => number_arg(alloc, number),
         Word::Liar => liar_arg(alloc),
         Word::Archive => archive_arg(alloc),
-        Word::Workers => workers_arg(alloc),
     }
 }
 
@@ -149,7 +152,7 @@ fn number_arg(alloc: Global, number: Number) -> Arg<'static> {
     Arg::new(alloc, number.name)
         .long(number.name)
         .value_name(number.value)
-        .value_parser(ValueParser::Unsigned(0, number.most))
+        .value_parser(ValueParser::Unsigned(number.least, number.most))
         .default_value(number.default)
         .help(number.help)
 }
@@ -159,7 +162,7 @@ fn keys_arg(alloc: Global) -> Arg<'static> {
         .long("keys")
         .value_name("FILE")
         .required(true)
-        .help("The key file, which bin/make-keys F C writes")
+        .help("Key file, made by bin/make-keys F C")
 }
 
 fn liar_arg(alloc: Global) -> Arg<'static> {
@@ -167,23 +170,14 @@ fn liar_arg(alloc: Global) -> Arg<'static> {
         .long("liar")
         .value_name("LIE")
         .value_parser(LIARS.as_slice())
-        .help("Makes replica 0 lie")
+        .help("Replica 0 lies")
 }
 
 fn archive_arg(alloc: Global) -> Arg<'static> {
     Arg::new(alloc, "archive")
         .long("archive")
         .action(ArgAction::SetTrue)
-        .help("No replica forgets anything, so that all is judged at the end; goes before --window")
-}
-
-fn workers_arg(alloc: Global) -> Arg<'static> {
-    Arg::new(alloc, "workers")
-        .long("workers")
-        .value_name("N")
-        .value_parser(WORKERS.as_slice())
-        .default_value("1")
-        .help("How many threads check the frames of each replica and step it")
+        .help("Replicas forget nothing; the end judges all")
 }
 
 /// What the words ask for.
@@ -223,7 +217,7 @@ impl<'a> Options<'a> {
                 } else {
                     Some(u64::from(window))
                 },
-                workers: matches.get_str("workers").and_then(workers_of)?,
+                workers: workers_of(matches.get_one("workers")?),
                 watch: if watch == 0 {
                     None
                 } else {
@@ -235,12 +229,12 @@ impl<'a> Options<'a> {
     }
 }
 
-/// So many workers.
-fn workers_of(number: &str) -> Option<Workers> {
-    match number {
-        "1" => Some(Workers::One),
-        "2" => Some(Workers::Two),
-        _ => None,
+/// So many workers, of which there are at most two.
+fn workers_of(number: u8) -> Workers {
+    if number < 2 {
+        Workers::One
+    } else {
+        Workers::Two
     }
 }
 
