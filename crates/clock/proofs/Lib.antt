@@ -1,1 +1,1 @@
-mod Laws
+mod Lagging
