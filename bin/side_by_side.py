@@ -3,7 +3,8 @@
 `rt` lets nobody else work on a crate and on those below it while it does. So each crate is proved in a room: a folder
 of its own with its sources, those of the crates below it and their libraries, all by hard links. What was made there is
 moved to the crate's own `out/`. A crate begins when those below it are built; of those that could, the one with the
-heaviest chain of crates above it is first, and all of them share the processors that are idle, by their weights.
+heaviest chain of crates above it is first. A large crate is proved by several jobs, of which all that could begin get
+their share by their weights.
 """
 import contextlib
 import fcntl
@@ -16,8 +17,9 @@ from crate_list import CRATES, TOP, stands_on, with_those_below
 
 PARTS = ("src", "specs", "proofs")
 MADE = ("rlib", "incremental")                  # what `rt` keeps in out/
-A_RUN, A_JOB = 1_000_000_000, 1_500_000_000     # bytes of memory of a run, and of each of its jobs
-MOST_JOBS = 4                                   # of one run, as many as `rt` itself takes
+A_RUN, A_LINE, A_JOB = 10 ** 9, 10 ** 6, 10 ** 9    # bytes of memory of a run, for each line of its weight and each job
+LARGE, MOST_JOBS = 300, 4                       # lines of Rust from which on jobs gain, and how many do
+BUSY = 2 / 3                                    # of its jobs a run keeps about so many busy
 PAUSE = 0.2                                     # seconds between two looks at what runs
 
 
@@ -98,8 +100,8 @@ def move(source, target):
 class Room:
     """Where one crate is proved, from when the crates below it are built."""
 
-    def __init__(self, crate, folder, log, jobs):
-        self.crate, self.log, self.jobs, self.began = crate, log, jobs, time.time()
+    def __init__(self, crate, folder, log, jobs, memory):
+        self.crate, self.log, self.jobs, self.memory, self.began = crate, log, jobs, memory, time.time()
         self.room = os.path.join(folder, crate)
         self.place = os.path.join(self.room, "crates", crate)
         self.furnish(with_those_below(crate))
@@ -128,9 +130,6 @@ class Room:
         move(os.path.join(self.place, "out"), os.path.join(CRATES, self.crate, "out"))
         shutil.rmtree(self.room)
 
-    def memory(self):
-        return A_RUN + self.jobs * A_JOB
-
 
 class Build:
     """The crates that are to be built, lowest first, of which the last is a program; which of them are being built, and
@@ -153,7 +152,7 @@ class Build:
             ended = subprocess.run(words, cwd=place, stdin=subprocess.DEVNULL, stdout=out, stderr=out, check=False)
         if ended.returncode:
             raise Failed(self.program, self.log(self.program))
-        self.tell(self.program, time.time() - began)
+        self.say(f"all proved: {self.program} ({time.time() - began:.0f} s)")
 
     def log(self, crate):
         return os.path.join(self.folder, crate + ".log")
@@ -178,14 +177,20 @@ class Build:
         ready = [crate for crate in self.waiting if left.isdisjoint(self.named[crate])]
         ready.sort(key=self.chains.get, reverse=True)
         for number, crate in enumerate(ready):
-            idle = self.processors - sum(room.jobs for room in self.rooms)
-            free = self.memory - sum(room.memory() for room in self.rooms)
-            if self.rooms and (idle < 1 or free < A_RUN + A_JOB):
+            idle = int(self.processors / BUSY) - sum(room.jobs for room in self.rooms)
+            free = self.memory - sum(room.memory for room in self.rooms)
+            least = A_RUN + A_LINE * self.weights[crate]
+            share = self.jobs(crate, idle * self.weights[crate] / sum(self.weights[other] for other in ready[number:]))
+            jobs = min(share, int((free - least) / A_JOB))
+            if self.rooms and min(idle, jobs) < 1:
                 return
-            share = self.weights[crate] / sum(self.weights[other] for other in ready[number:])
-            jobs = max(min(round(idle * share), int((free - A_RUN) / A_JOB), MOST_JOBS), 1)
             self.waiting.remove(crate)
-            self.rooms.append(Room(crate, rooms, self.log(crate), jobs))
+            jobs = max(jobs, 1)
+            self.rooms.append(Room(crate, rooms, self.log(crate), jobs, least + A_JOB * jobs))
+
+    def jobs(self, crate, share):
+        """How many jobs it gets where so many are its share: a small one has nothing for a second."""
+        return min(max(round(share), 2), MOST_JOBS, self.processors) if lines(crate, "src") >= LARGE else 1
 
     def close(self, room):
         self.rooms.remove(room)
@@ -197,15 +202,16 @@ class Build:
     def tell(self, crate, seconds):
         """Notes that it took so long, and says how far all is."""
         self.took[crate] = seconds
-        left = f"; some {self.seconds_left() / 60:.0f} minutes left" if len(self.took) < len(self.weights) else ""
-        self.say(f"{len(self.took)} of {len(self.weights)} proved: {crate} ({seconds:.0f} s){left}")
+        minutes = round(self.seconds_left() / 60)
+        left = f"some {minutes} minutes left" if minutes > 1 else "a minute or less is left"
+        self.say(f"{len(self.took)} of {len(self.weights)} proved: {crate} ({seconds:.0f} s); {left}")
 
     def seconds_left(self):
-        """By what a line took so far: for all that is left, as much of it at once as so far, or for the heaviest chain."""
+        """By what a line took so far: for all that is left, as much at once as so far, or for the heaviest chain."""
         done = sum(self.weights[crate] for crate in self.took)
         alone, together = sum(self.took.values()) / done, (time.time() - self.began) / done
         left = {crate: self.weights[crate] for crate in self.weights if crate not in self.took}
         for room in self.rooms:
             left[room.crate] = max(left[room.crate] - (time.time() - room.began) / alone, 0)
-        chain = max(self.chains[crate] - self.weights[crate] + left[crate] for crate in left)
+        chain = max((self.chains[crate] - self.weights[crate] + left[crate] for crate in left), default=0)
         return max(together * sum(left.values()), alone * chain)

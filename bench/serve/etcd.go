@@ -1,10 +1,10 @@
 // etcd ADDRESS[,ADDRESS..] CONNECTIONS LENGTH GETS
 //
 // Puts on etcd the load that load.rs puts on a server of memcached's protocol, by etcd's own client for Go (clientv3,
-// which speaks gRPC): so many clients with a connection each, to the nodes in turn, as etcd's own benchmark has them with
-// as many connections as clients, and each with one request under way. Each sets a key of its own to 32 bytes, gets it so
-// many times, and goes on with its next key; gets are linearizable, as they are by default. LENGTH and what is printed
-// are as load.rs has them. Built by bench/serve/run.
+// which speaks gRPC): so many clients with a connection each, to the nodes in turn, as etcd's own benchmark has them
+// where it is given as many connections as clients. Each has one request under way: it sets a key of its own to 32
+// bytes, gets it so many times, and goes on with its next key. Gets are linearizable, as they are by default. LENGTH
+// and what is printed are as load.rs has them. Built by bench/serve/run.
 package main
 
 import (
