@@ -12,7 +12,10 @@ PROGRAMS = ["mcbft_main", "hsim_main"]
 CALL = re.compile(r"(?:\b([A-Za-z_]\w*)\s*::\s*)?(\.)?\b([a-z_]\w*)\s*(?:::\s*<[^()]*>\s*)?\(")
 NAMED = re.compile(r"\b([A-Z]\w*)::([a-z_]\w*)\b(?!\s*[(:])|[(,]\s*(?:[a-z_]\w*::)*([a-z_]\w*)\s*(?=[,)])")
 FUNCTION = re.compile(r"\bfn\s+([a-z_]\w*)")
-OWNER = re.compile(r"^(?:impl(?:<.*?>)?\s+(?:(?P<trait>[^{]*?)\s+for\s+)?(?P<type>[A-Z]\w*)|(?:pub )?trait\s+(?P<own>\w+))")
+ALIAS = re.compile(r"^pub type (\w+)(?:<.*?>)? = (\w+)", re.M)
+OWNER = re.compile(
+    r"^(?:impl(?:<.*?>)?\s+(?:(?P<trait>[^{]*?)\s+for\s+)?(?P<type>[A-Z]\w*)|(?:pub )?trait\s+(?P<own>\w+))"
+)
 
 
 def sources(crate):
@@ -108,6 +111,11 @@ def functions_in(crate, module, text):
             begun = (number, owner, trait)
 
 
+def aliases_of(crates):
+    """Other names of types: what stands for `pub type Name = Type`."""
+    return {name: kind for crate in crates for _, text in sources(crate) for name, kind in ALIAS.findall(text)}
+
+
 def own_traits_of(crates):
     for crate in crates:
         for _, text in sources(crate):
@@ -123,13 +131,14 @@ def reached(functions, below, promised=()):
     programs, own = set().union(*(below[program] for program in PROGRAMS)), {None, *own_traits_of(below)}
     todo = [f for f in functions if f.crate in programs and (f.trait not in own or f.crate in PROGRAMS)]
     todo += promised
-    seen = set(todo)
+    seen, aliases = set(todo), aliases_of(below)
     while todo:
         caller = todo.pop()
         for owner, is_method, name, count in caller.calls():
             for callee in by_name.get(name, []):
                 is_there = callee.crate in (programs if callee.trait else below[caller.crate])
-                if callee not in seen and is_there and callee.is_called_by(caller, owner, is_method, count):
+                by = aliases.get(owner, owner)
+                if callee not in seen and is_there and callee.is_called_by(caller, by, is_method, count):
                     seen.add(callee)
                     todo.append(callee)
     return seen

@@ -1,6 +1,5 @@
 ghost use Rattle.std.specs.Prelude.{◌≡◌, ◌-◌, ◌<◌, min, None, true, if◌then◌else◌};
 ghost use Rattle.std.specs.Result.{result_ok};
-ghost use Rattle.definitions.specs.Keyrings.{client_at};
 ghost use Rattle.client_service.specs.Links.{Passes, Hears, came, sent};
 ghost use Rattle.client_service.specs.Calls.{Listens, Asks, IsAsked, LooksAndAsks};
 ghost use Rattle.tuning.specs.declared.clients.TheConstants.{LATE_TRIES};
@@ -9,7 +8,7 @@ use crate::link::Link;
 use client_accept::{Receipt, Session};
 use connection::Service;
 use frames_view::{Frame, read};
-use ids::{ClientId, Fault};
+use ids::Fault;
 use mc_lines::CanonicalText;
 use std::alloc::Global;
 use tuning::{LATE_TRIES, MOST_TRIES};
@@ -45,13 +44,6 @@ impl<L: Link> ClientService<L> {
             session,
             link,
         }
-    }
-
-    /// Whose session it is.
-    pub fn client(&self) -> ClientId
-        ensures { result ≡ client_at self.now.session.keys.party }
-    {
-        self.session.client()
     }
 
     /// Whether a request is outstanding: it was given up, and may still be executed. Then each

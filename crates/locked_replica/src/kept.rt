@@ -90,14 +90,6 @@ impl<'a> Kept<'a> {
         let _replica = &self.replica;
     }
 
-    /// The marks that its eye is of.
-    pub fn marks(&self) -> &'a Marks
-        ensures which { result.now ≡ self.now.eye.marks }
-        ensures number { self.now.keys.party < result.now.words }
-    {
-        self.marks
-    }
-
     /// The replica.
     pub fn replica(&self) -> &Archived
         ensures { result.now ≡ record { keys = self.now.keys; replica = self.now.replica } }
