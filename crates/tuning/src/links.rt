@@ -34,5 +34,6 @@ pub const LOOKS: u32 = 100;
 pub const CLIENT_SLEEP_MILLIS: u64 = 5;
 
 /// Blocks of one height that a replica takes from one sender, at most. In all runs that were tried a correct replica
-/// brought three. More: with many replicas a faulty one fills a height. Fewer: correct leaders are refused.
+/// brought three. More: faulty senders bring more. Fewer: correct leaders are refused. Among many replicas the
+/// doorkeeper lets in fewer, so that no height is ever full.
 pub const MOST_OF_SENDER: usize = 4;
