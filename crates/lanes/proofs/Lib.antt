@@ -1,0 +1,4 @@
+mod ByLane
+mod Words
+mod Windows
+pub mod Hashing
