@@ -115,9 +115,7 @@ impl Keyring {
     {
         let head = head(label, self.party, to);
         let tag = self.key(to).hmac_of_parts(&head, content);
-        if to == self.party {
-            self.remember(label, to, &head, content, &tag);
-        }
+        self.remember_own(label, to, &head, content, &tag);
         tag
     }
 
@@ -176,24 +174,25 @@ impl Keyring {
         }
     }
 
-    /// Appends a vector: one tag for each replica, in order. `Memory` comes only where the spare room was too
-    /// small, and `out` is as before then.
-    #[tactic(auto, unfolding(definitions::specs::Keyrings::tags_for))]
-    pub fn vector(&self, label: Kind, content: &[u8], out: &mut Vec<u8>) -> Result<(), Fault>
-        ensures { IsAppended out.old out.new
-            (vector_for self.now.sizes (keyring_of self.now) label content.now) result }
+    /// Remembers a tag that the party made for itself, and no other.
+    pub(crate) fn remember_own(
+        &self,
+        label: Kind,
+        to: PartyId,
+        head: &[u8; 5],
+        content: &[u8],
+        tag: &[u8; 32],
+    )
+        requires peer { IsTrue (is_peer self.now to) }
+        requires right { tag.now ≡ hmac ((keyring_of self.now).key to) (head.now ++ content.now) }
     {
-        let n = self.config.n();
-        out.reserve(32 * usize::from(n))?;
-        for u in 0..n {
-            let tag = self.tag(label, PartyId(u16::from(u)), content);
-            out.extend_from_slice(&tag).unwrap();
+        if to == self.party {
+            self.remember(label, to, head, content, tag);
         }
-        Ok(())
     }
 
     /// The key that is shared with a peer.
-    fn key(&self, peer: PartyId) -> &SharedKey
+    pub(crate) fn key(&self, peer: PartyId) -> &SharedKey
         requires { IsTrue (is_peer self.now peer) }
         ensures { result.now ≡ (keyring_of self.now).key peer }
     {
@@ -225,7 +224,7 @@ fn copied(alloc: Global, keys: &[SharedKey]) -> Result<Vec<SharedKey>, AllocErro
 }
 
 /// What stands before the content under a tag: the label, the sender and the receiver.
-fn head(label: Kind, sender: PartyId, receiver: PartyId) -> [u8; 5]
+pub(crate) fn head(label: Kind, sender: PartyId, receiver: PartyId) -> [u8; 5]
     ensures { result ≡ tag_text label sender receiver [] }
 {
     let [s0, s1] = sender.0.to_be_bytes();

@@ -9,6 +9,7 @@ mod known_tags;
 mod mac;
 mod replica_keyring;
 mod shared_key;
+mod vectors;
 mod verifying_keyring;
 
 pub use keyring::Keyring;

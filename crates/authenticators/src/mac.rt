@@ -1,8 +1,9 @@
 ghost use Rattle.std.specs.Prelude.{◌≡◌, ◌-◌, ◌≤◌, ◌++◌, length, map, bit_xor, replicate};
 ghost use Rattle.definitions.specs.Bytes.{Bytes};
 ghost use Rattle.definitions.specs.Tags.{hmac, block_key};
-ghost use Rattle.authenticators.specs.Keyed.{IsKeyed};
+ghost use Rattle.authenticators.specs.Keyed.{AreStates, IsKeyed};
 
+use lanes::after_block;
 use sha2::{Digest, Sha256};
 
 /// The bytes of a block of SHA-256.
@@ -60,6 +61,36 @@ impl KeyedHashers {
         let digest = inner.finalize();
         outer.update(digest.as_slice());
         outer.finalize()
+    }
+}
+
+/// The hash values after the two blocks that HMAC makes of a key: where lanes begin, since hashers don't show theirs.
+#[derive(Drop)]
+pub(crate) struct KeyStates {
+    pub(crate) inner: [u32; 8],
+    pub(crate) outer: [u32; 8],
+}
+
+impl KeyStates {
+    /// Those of a key of any length.
+    pub(crate) fn new(key: &[u8]) -> KeyStates
+        ensures { AreStates key.now result }
+    {
+        let block = block_of_key(key);
+        KeyStates {
+            inner: after_block(&masked(&block, 0x36)),
+            outer: after_block(&masked(&block, 0x5c)),
+        }
+    }
+
+    /// The same ones again.
+    pub(crate) fn copied(&self) -> KeyStates
+        ensures { result ≡ self.now }
+    {
+        KeyStates {
+            inner: self.inner,
+            outer: self.outer,
+        }
     }
 }
 

@@ -1,26 +1,29 @@
 ghost use Rattle.std.specs.Prelude.{◌≡◌, ◌++◌};
 ghost use Rattle.definitions.specs.Tags.{hmac};
+ghost use Rattle.authenticators.specs.Keyed.{AreStates};
 
-use crate::mac::KeyedHashers;
+use crate::mac::{KeyStates, KeyedHashers};
 use std::marker::Model;
 
 /// The key of two parties, made ready for tags: with it stand the hashers that have taken its
-/// blocks, so that no tag hashes these again. Contracts see the 32 bytes of the key.
+/// blocks, so that no tag hashes these again, and the hash values after these, for tags in lanes.
+/// Contracts see the 32 bytes of the key.
 #[derive(Drop)]
 pub struct SharedKey {
     bytes: [u8; 32],
     hashers: KeyedHashers,
+    states: KeyStates,
 }
 
 impl Model for SharedKey {
     ghost use Rattle.definitions.specs.Bytes.{Bytes};
-    ghost use Rattle.authenticators.specs.Keyed.{IsKeyed};
+    ghost use Rattle.authenticators.specs.Keyed.{AreStates, IsKeyed};
 
     ghost Value = { Bytes };
 
     ghost view = { λ k. k.bytes };
 
-    ghost invariant = { λ k. IsKeyed k.bytes k.hashers };
+    ghost invariant = { λ k. IsKeyed k.bytes k.hashers × AreStates k.bytes k.states };
 }
 
 impl SharedKey {
@@ -29,7 +32,12 @@ impl SharedKey {
         ensures { result ≡ bytes }
     {
         let hashers = KeyedHashers::new(&bytes);
-        SharedKey { bytes, hashers }
+        let states = KeyStates::new(&bytes);
+        SharedKey {
+            bytes,
+            hashers,
+            states,
+        }
     }
 
     /// The bytes of the key.
@@ -39,6 +47,13 @@ impl SharedKey {
         &self.bytes
     }
 
+    /// The hash values after its blocks.
+    pub(crate) fn states(&self) -> &KeyStates
+        ensures { AreStates self.now result.now }
+    {
+        &self.states
+    }
+
     /// The same key again. It takes no memory.
     pub(crate) fn copied(&self) -> SharedKey
         ensures { result ≡ self.now }
@@ -46,6 +61,7 @@ impl SharedKey {
         SharedKey {
             bytes: self.bytes,
             hashers: self.hashers.copied(),
+            states: self.states.copied(),
         }
     }
 
