@@ -10,7 +10,7 @@ use Rattle.definitions.specs.Bytes.{Bytes}
 use Rattle.definitions.specs.Tags.{block_key, hmac, masked, padded, tag_text}
 use Rattle.definitions.specs.Keyrings.{Keyring}
 use Rattle.ids.specs.declared.kind.Kind.{Kind}
-use Rattle.authenticators.specs.Keyed.{AreStates, after_key}
+use Rattle.authenticators.specs.Keyed.{AreStates, after_key, begun_for}
 use Rattle.authenticators.specs.declared.mac.KeyStates.{KeyStates}
 
 length-padded : (key : Bytes) → length key ≤ 64 → length (padded key) ≡ 64
@@ -40,7 +40,7 @@ hmac_of_states key text inner outer ei eo =
 -- a lane that has begun with the key and the head of a replica
 pub begun_lane : (ring : Keyring) (label : Kind) (content : Bytes) (u r me : ℕ) (s : KeyStates) (key head state result : List ℕ)
     → r ≡ u → key ≡ ring.key r → AreStates key s → me ≡ ring.party → head ≡ tag_text label me r [] → state ≡ s.inner → result ≡ after_first state (head ++ content)
-    → result ≡ after_first (after_key 0x36 (ring.key u)) (tag_text label ring.party u content)
+    → result ≡ begun_for ring label u content
 begun_lane ring label content u r me s key head state result er ek states em eh es e =
     let of_key : state ≡ after_key 0x36 (ring.key u) = es ∙ states.inner ∙ ap (after_key 0x36) (ek ∙ ap ring.key er) in
     let text : head ++ content ≡ tag_text label ring.party u content = ap (λ (l : Bytes). l ++ content) eh ∙ ap₂ (λ (x y : ℕ). tag_text label x y content) em er in

@@ -3,7 +3,10 @@ use Rattle.std.specs.Prelude.{◌≡◌, ℕ, List}
 use Rattle.sha2.specs.Hashers.{Holds256}
 use Rattle.sha2.specs.Sha256.{compress, initial_hash_256}
 use Rattle.definitions.specs.Bytes.{Bytes}
-use Rattle.definitions.specs.Tags.{masked}
+use Rattle.ids.specs.declared.kind.Kind.{Kind}
+use Rattle.lanes.specs.Texts.{after_first}
+use Rattle.definitions.specs.Tags.{masked, tag_text}
+use Rattle.definitions.specs.Keyrings.{Keyring}
 use Rattle.authenticators.specs.declared.mac.KeyedHashers.{KeyedHashers}
 use Rattle.authenticators.specs.declared.mac.KeyStates.{KeyStates}
 
@@ -21,3 +24,8 @@ after_key mask key = compress initial_hash_256 (masked mask key)
 pub record AreStates (key : Bytes) (s : KeyStates) : Type 0 where
   pub inner : s.inner ≡ after_key 0x36 key
   pub outer : s.outer ≡ after_key 0x5c key
+
+-- the hash value after the first block of what is hashed under a key, the inner hash of a replica's tag
+abbrev pub begun_for : Keyring → Kind → ℕ → Bytes → List ℕ
+begun_for ring label u content =
+    after_first (after_key 0x36 (ring.key u)) (tag_text label ring.party u content)

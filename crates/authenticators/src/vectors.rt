@@ -8,10 +8,10 @@ ghost use Rattle.definitions.specs.Writing.{IsAppended};
 ghost use Rattle.ids.specs.Sizes.{replicas};
 ghost use Rattle.sha2.specs.Sha256.{digest_bytes};
 ghost use Rattle.lanes.specs.Lanes.{group_lane, state_lane};
-ghost use Rattle.lanes.specs.Texts.{after_first, after_text};
-ghost use Rattle.definitions.specs.Tags.{hmac, tag_text};
+ghost use Rattle.lanes.specs.Texts.{after_text};
+ghost use Rattle.definitions.specs.Tags.{hmac};
 ghost use Rattle.definitions.specs.Keyrings.{is_peer, keyring_of, tag_for, vector_for};
-ghost use Rattle.authenticators.specs.Keyed.{after_key};
+ghost use Rattle.authenticators.specs.Keyed.{after_key, begun_for};
 ghost use Rattle.authenticators.specs.declared.vectors.TheConstants.{HEAD, LANES, MOST_GROUPS};
 
 use crate::keyring::{Keyring, head};
@@ -50,7 +50,7 @@ impl Keyring {
         Ok(())
     }
 
-    /// The hash values that the tags of a vector are.
+    /// The hash values that the tags of a vector are, in the first groups.
     #[tactic(auto, unfolding(definitions::specs::Keyrings::tag_for))]
     fn make_macs(&self, label: Kind, content: &[u8], groups: &mut [Group; MOST_GROUPS])
         ensures { (u : ℕ) → u < replicas self.now.sizes
@@ -69,8 +69,8 @@ impl Keyring {
         requires { length groups.old ≤ MOST_GROUPS }
         ensures length { length groups.new ≡ length groups.old }
         ensures lanes { let ring = keyring_of self.now in (g j : ℕ) → g < length groups.old → j < LANES
-            → LANES * g + j < replicas self.now.sizes → group_lane groups.new g j
-            ≡ after_first (after_key 0x36 (ring.key (LANES * g + j))) (tag_text label ring.party (LANES * g + j) content.now) }
+            → LANES * g + j < replicas self.now.sizes
+            → group_lane groups.new g j ≡ begun_for ring label (LANES * g + j) content.now }
     {
         for g in 0..groups.len() {
             groups[g] = self.begun(label, content, g);
@@ -80,9 +80,9 @@ impl Keyring {
     /// Those of one group.
     fn begun(&self, label: Kind, content: &[u8], g: usize) -> Group
         requires { g < MOST_GROUPS }
-        ensures { let ring = keyring_of self.now in (j : ℕ) → j < LANES → LANES * g + j < replicas self.now.sizes
-            → state_lane result j
-            ≡ after_first (after_key 0x36 (ring.key (LANES * g + j))) (tag_text label ring.party (LANES * g + j) content.now) }
+        ensures { let ring = keyring_of self.now in (j : ℕ) → j < LANES
+            → LANES * g + j < replicas self.now.sizes
+            → state_lane result j ≡ begun_for ring label (LANES * g + j) content.now }
     {
         let a = self.replica(LANES * g);
         let b = self.replica(LANES * g + 1);
@@ -109,7 +109,8 @@ impl Keyring {
     fn finish(&self, groups: &mut [Group])
         requires { length groups.old ≤ MOST_GROUPS }
         ensures length { length groups.new ≡ length groups.old }
-        ensures macs { let ring = keyring_of self.now in (g j : ℕ) (text : Bytes) → g < length groups.old → j < LANES
+        ensures macs { let ring = keyring_of self.now in (g j : ℕ) (text : Bytes)
+            → g < length groups.old → j < LANES
             → LANES * g + j < replicas self.now.sizes
             → group_lane groups.old g j ≡ after_text (after_key 0x36 (ring.key (LANES * g + j))) text
             → digest_bytes (group_lane groups.new g j) 8 ≡ hmac (ring.key (LANES * g + j)) text }

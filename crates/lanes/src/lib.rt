@@ -2,7 +2,8 @@
 //!
 //! Each text stands behind one block that was hashed before it, as it does in an HMAC (RFC 2104), whose first block is
 //! made of the key. The texts differ in their heads alone, which are as long and end within the first block. So the
-//! message schedule of each block behind it is made once, for all lanes of all groups.
+//! message schedule of each block behind it is made once, for all lanes of all groups. Sections named here are those of
+//! FIPS 180-4.
 #![tactic(auto)]
 
 use std::simd::prelude::*;
