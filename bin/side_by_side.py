@@ -19,7 +19,6 @@ PARTS = ("src", "specs", "proofs")
 MADE = ("rlib", "incremental")                  # what `rt` keeps in out/
 A_RUN, A_LINE, A_JOB = 10 ** 9, 10 ** 6, 10 ** 9    # bytes of memory of a run, for each line of its weight and each job
 LARGE, MOST_JOBS = 300, 4                       # lines of Rust from which on jobs gain, and how many do
-BUSY = 2 / 3                                    # of its jobs a run keeps about so many busy
 PAUSE = 0.2                                     # seconds between two looks at what runs
 
 
@@ -177,7 +176,8 @@ class Build:
         ready = [crate for crate in self.waiting if left.isdisjoint(self.named[crate])]
         ready.sort(key=self.chains.get, reverse=True)
         for number, crate in enumerate(ready):
-            idle = int(self.processors / BUSY) - sum(room.jobs for room in self.rooms)
+            # a run keeps about two of three jobs busy
+            idle = self.processors * 3 // 2 - sum(room.jobs for room in self.rooms)
             free = self.memory - sum(room.memory for room in self.rooms)
             least = A_RUN + A_LINE * self.weights[crate]
             share = self.jobs(crate, idle * self.weights[crate] / sum(self.weights[other] for other in ready[number:]))
