@@ -1,3 +1,4 @@
 pub mod Shares
 pub mod Inboxes
 pub mod Parcels
+pub mod Orders

@@ -303,7 +303,7 @@ impl Inbox {
     }
 
     /// Takes a parcel, where one may be taken now.
-    fn try_recv<R: Wait>(&self, rt: &R) -> Option<Parcel> {
+    pub(crate) fn try_recv<R: Wait>(&self, rt: &R) -> Option<Parcel> {
         let mut inside = self.inside.lock(rt);
         let Handed { is_request, parcel } = inside.next()?;
         if is_request {

@@ -4,7 +4,9 @@
 
 mod client_end;
 mod inbox;
+mod laws;
 mod links;
+mod own;
 mod parcel;
 mod queue;
 mod waiting;
@@ -12,6 +14,7 @@ mod worker;
 
 pub use client_end::ClientEnd;
 pub use inbox::Inbox;
+pub use laws::link_is_served;
 pub use links::{Ends, Links};
 pub use parcel::Parcel;
 pub use waiting::WaitingRoom;

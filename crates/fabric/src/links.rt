@@ -1,21 +1,23 @@
 //! The links of all parties: what goes to whom.
 
 ghost use Rattle.std.specs.Prelude.{◌≡◌, ◌+◌, ◌<◌, ◌≤◌, ◌⊎◌, IfOk, OnErr, false, true, vec_len};
+ghost use Rattle.std.specs.Prelude.{count_by, nat_lt};
 ghost use Rattle.ids.specs.Sizes.{replicas};
+ghost use Rattle.tuning.specs.declared.clients.TheConstants.{CLIENT_CROWD};
 
 use crate::client_end::{ClientEnd, ClientStart, NotTold, client_link};
 use crate::inbox::{Inbox, Row};
 use crate::parcel::Parcel;
 use bytes::Bytes;
 use fair_queue::Refusal;
-use ids::{ClientId, Config, Fault, Height, ReplicaId, View};
+use ids::{ClientId, Config, Fault, Height, MOST_REPLICAS, ReplicaId, View};
 use signed_frames::To;
 use std::alloc::{AllocError, Global};
 use std::marker::Model;
 use std::sync::atomic::AtomicU64;
 use std::sync::atomic::Ordering::SeqCst;
 use std::sync::{Arc, Wait};
-use tuning::CLIENT_ROWS;
+use tuning::{CLIENT_CROWD, CLIENT_ROWS};
 
 /// The ends at which parcels are handed in, of the links of all parties. Threads share them by reference.
 ///
@@ -97,6 +99,15 @@ fn client_links(
     Ok((links, ends))
 }
 
+/// Whether more than `CLIENT_CROWD` requests wait at the links of more replicas than may be faulty, where so many wait at
+/// each.
+fn are_crowded(counts: &[u64], faults: u8) -> bool
+    ensures { result ≡ nat_lt faults (count_by (λ count. nat_lt CLIENT_CROWD count) counts.now) }
+{
+    let crowded = counts.iter().filter(|count| **count > CLIENT_CROWD as u64);
+    crowded.count() > usize::from(faults)
+}
+
 /// Each call refuses with `NoSuchParty` where there is no such party, or the end of a client's link was dropped,
 /// and with `Memory` where memory was refused; what was to be handed in is then lost, as on any
 /// network.
@@ -160,11 +171,14 @@ impl Links {
         }
     }
 
-    /// How many requests of clients wait at the link of the replica that is furthest behind. No replica can
-    /// raise it.
-    pub fn longest(&self) -> usize {
-        let counts = self.replicas.iter().map(|inbox| inbox.requests() as usize);
-        counts.max().unwrap_or(0)
+    /// Whether more than `CLIENT_CROWD` requests of clients wait at the links of more than f replicas. No replica can
+    /// raise these numbers, and f that are slow hold up nobody.
+    pub fn are_crowded(&self) -> bool {
+        let mut counts = [0; MOST_REPLICAS];
+        for (count, inbox) in counts.iter_mut().zip(&self.replicas) {
+            *count = inbox.requests();
+        }
+        are_crowded(&counts, self.config.faults())
     }
 
     /// The row of a replica's frames.

@@ -5,6 +5,7 @@ ghost use Rattle.fabric.specs.Shares.{HasGrown};
 
 use crate::inbox::Inbox;
 use crate::links::Links;
+use crate::own::OwnFrames;
 use crate::parcel::Parcel;
 use crate::queue::Question;
 use crate::waiting::{Carried, Waiting, WaitingRoom};
@@ -14,7 +15,6 @@ use frames_view::{Frame, read};
 use ids::{Config, Digest, Fault, Height, Kind, ReplicaId, View};
 use signed_frames::{Out, Sending, To, WorkerKeyring};
 use std::alloc::Global;
-use std::collections::VecDeque;
 use std::sync::Wait;
 use std::time::Clock;
 use turns::{Gate, Prompt, Share, Steps, turn};
@@ -32,7 +32,7 @@ pub struct Worker<'a, G, O = Links> {
     /// The block that its last proposal's certificate is for.
     certified: Option<Digest>,
     /// What was sent to the replica itself, and isn't taken yet.
-    own: VecDeque<Bytes>,
+    own: OwnFrames,
 }
 
 /// What takes the frames that a replica sends to others.
@@ -86,7 +86,7 @@ impl<'a, G: Gate, O: Outgoing> Worker<'a, G, O> {
             out,
             room,
             certified: None,
-            own: VecDeque::new(alloc),
+            own: OwnFrames::new(alloc),
         }
     }
 
@@ -110,17 +110,33 @@ impl<'a, G: Gate, O: Outgoing> Worker<'a, G, O> {
     /// Keeps what was sent to the replica itself. Where memory was refused it is lost, as on any network.
     fn keep(&mut self, frame: Option<Bytes>) {
         if let Some(bytes) = frame {
-            let _refused = self.own.push_back(bytes);
+            let _refused = self.own.add(bytes);
         }
     }
 
-    /// The next parcel: what the replica sent to itself goes before what comes over its link.
+    /// The next parcel of the replica's link. It is waited for where nothing is there that the replica sent to itself.
+    fn next_of_link<R: Wait + Clock>(&mut self, rt: &R) -> Option<Parcel> {
+        self.own.link_had_its_turn();
+        if self.own.is_empty() {
+            self.room.hold_back(rt);
+            return Some(self.inbox.recv(rt));
+        }
+        self.inbox.try_recv(rt)
+    }
+
+    /// The next parcel: what the replica sent to itself goes before what comes over its link. But behind each such frame
+    /// the link has its turn: a leader that proposes block on block has to hear that its view is over.
     fn next<R: Wait + Clock>(&mut self, rt: &R) -> Parcel {
-        if let Some(bytes) = self.own.pop_front() {
+        if let Some(bytes) = self.own.take() {
             return Parcel::Frame { number: OWN, bytes };
         }
-        self.room.hold_back(rt);
-        self.inbox.recv(rt)
+        if let Some(parcel) = self.next_of_link(rt) {
+            return parcel;
+        }
+        match self.own.take() {
+            Some(bytes) => Parcel::Frame { number: OWN, bytes },
+            None => self.inbox.recv(rt),
+        }
     }
 
     /// A parcel is done. Asks for the block that a waiting frame lacks, if it has waited long enough.

@@ -9,7 +9,7 @@ use fabric::{ClientEnd, Links};
 use std::sync::{Arc, Wait};
 use std::thread;
 use std::time::{Clock, Duration, Instant};
-use tuning::{CLIENT_CROWD, CLIENT_HELD_MILLIS, REPLY_WAIT_MILLIS};
+use tuning::{CLIENT_HELD_MILLIS, REPLY_WAIT_MILLIS};
 
 /// The link of one client: where it hands in frames for all replicas, and where its replies come out.
 #[derive(Drop)]
@@ -39,11 +39,11 @@ impl<R: Wait + Clock + AllocGlobal> ClientLink<R> {
         }
     }
 
-    /// While many requests wait at a replica's link, lets it catch up, where processors are too few for all. Not
-    /// for long: a faulty replica could be slow for ever.
+    /// While many requests wait at the links of more than f replicas, lets them catch up, where processors are too few
+    /// for all. Not for long: they might not.
     fn hold_back(&self) {
         for _ in 0..CLIENT_HELD_MILLIS {
-            if self.links.longest() <= CLIENT_CROWD {
+            if !self.links.are_crowded() {
                 break;
             }
             thread::sleep(&self.rt, Duration::from_millis(1));

@@ -5,6 +5,7 @@ mod frames;
 mod held;
 mod meeting;
 mod order;
+mod padding;
 mod runs;
 mod scenes;
 mod seen;
@@ -43,6 +44,10 @@ where
     println!(rt;
         "its own vote, sent behind the first of three: voters{}",
         order::own_vote(rt, alloc)?
+    )?;
+    println!(rt;
+        "a leader that proposes 100 times: {}",
+        padding::play(rt, alloc)?
     )?;
     println!(rt;
         "timeouts of views 0, 0, 7, 1 and 0: {}",

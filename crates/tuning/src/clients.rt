@@ -10,10 +10,11 @@ pub const LATE_TRIES: u32 = 2;
 /// Milliseconds that a client waits for replies before it sends its request again.
 pub const REPLY_WAIT_MILLIS: u64 = 1000;
 
-/// Requests that may wait at a replica's link without a client's holding back, so that the replica can catch up.
+/// Requests that may wait at the links of more than f replicas without a client's holding back, so that these can catch
+/// up. More: they fall behind.
 pub const CLIENT_CROWD: usize = 1024;
 
-/// Milliseconds for which a client holds back a request at most. Longer: one slow replica slows all clients.
+/// Milliseconds for which a client holds back a request at most. Longer: f + 1 slow replicas slow all clients more.
 pub const CLIENT_HELD_MILLIS: u64 = 20;
 
 /// Milliseconds after which a connection that waits for its peer looks whether the server ends.

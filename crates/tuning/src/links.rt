@@ -37,3 +37,8 @@ pub const CLIENT_SLEEP_MILLIS: u64 = 5;
 /// brought three. More: faulty senders bring more. Fewer: correct leaders are refused. Among many replicas the
 /// doorkeeper lets in fewer, so that no height is ever full.
 pub const MOST_OF_SENDER: usize = 4;
+
+/// Heights by which a proposal's block may stand above the block that it justifies, times one more than the number of its
+/// view. More: a faulty leader has correct ones propose longer before anything is decided. Below four: nothing is decided
+/// in view 0.
+pub const MOST_CLIMB: u64 = 64;

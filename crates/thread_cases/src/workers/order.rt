@@ -60,7 +60,7 @@ impl Steps for Sender {
 
 /// What is sent goes nowhere.
 #[derive(Drop)]
-struct Nowhere;
+pub(crate) struct Nowhere;
 
 impl Outgoing for Nowhere {
     fn send<R: Wait>(&self, _rt: &R, _from: ReplicaId, _sending: Sending) {}
