@@ -1,3 +1,4 @@
+pub mod Climbing
 pub mod Counted
 pub mod Crowds
 pub mod Remembering

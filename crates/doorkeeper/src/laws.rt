@@ -2,6 +2,7 @@
 
 ghost use Rattle.doorkeeper.specs.Doors.{FewPass, OthersDontCount, FewOfHeight, NeverCrowded};
 ghost use Rattle.doorkeeper.specs.Doors.{NoneCrowdedOut};
+ghost use Rattle.doorkeeper.specs.Climbs.{LeadersPass};
 
 /// With at most fifteen replicas, one that brought at most three blocks of a height may bring one more.
 pub fn few_pass()
@@ -26,4 +27,9 @@ pub fn never_crowded()
 /// A replica behind a doorkeeper never refuses an input because its height is crowded, whoever lies.
 pub fn none_crowded_out()
     ensures { NoneCrowdedOut }
+{}
+
+/// A leader of a later view that justifies no lower block than one that passed may propose four blocks above that.
+pub fn leaders_pass()
+    ensures { LeadersPass }
 {}

@@ -3,10 +3,14 @@
 #![tactic(auto)]
 
 mod brought;
+mod climb;
 mod door;
 mod laws;
 mod row;
 
 pub use brought::{Brought, brings};
+pub use climb::climbs_too_far;
 pub use door::Doorkeeper;
-pub use laws::{few_of_a_height, few_pass, never_crowded, none_crowded_out, others_do_not_count};
+pub use laws::{
+    few_of_a_height, few_pass, leaders_pass, never_crowded, none_crowded_out, others_do_not_count,
+};

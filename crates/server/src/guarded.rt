@@ -1,16 +1,17 @@
 //! A replica, its doorkeeper, and how many blocks it may hold.
 
-ghost use Rattle.std.specs.Prelude.{◌≡◌, ◌-◌, ◌⊎◌, ◌&&◌, Err, MatchBool, length, nat_lt, if◌then◌else◌};
+ghost use Rattle.std.specs.Prelude.{◌≡◌, ◌-◌, ◌⊎◌, ◌&&◌, Err, MatchBool, MatchOption, length, nat_lt, not, if◌then◌else◌};
 ghost use Rattle.std.specs.Bool.{OnFalse};
 ghost use Rattle.ids.specs.declared.fault.Fault.TheVariants.{Full, Crowded, Memory};
 ghost use Rattle.definitions.specs.Chronicles.{horizon, window};
 ghost use Rattle.doorkeeper.specs.Doors.{passes, remembered, with_block};
 ghost use Rattle.locked_replica.specs.Heeding as heeding;
+ghost use Rattle.server.specs.Guarding as guarding;
 ghost use Rattle.locked_replica.specs.Stepping.{WholeStep};
 ghost use Rattle.turns.specs.Shares.{Counts};
 ghost use Rattle.ids.specs.declared.limits.TheConstants.{BELOW_HORIZON};
 
-use doorkeeper::{Brought, Doorkeeper, brings};
+use doorkeeper::{Brought, Doorkeeper, brings, climbs_too_far};
 use ids::{Fault, Height};
 use locked_replica::{Kept, Share};
 use replica::{Input, Out, Replica};
@@ -24,6 +25,28 @@ pub(crate) struct Guarded<'a> {
     pub(crate) door: Doorkeeper,
     /// Once it holds so many blocks it makes no step any more.
     pub(crate) most_blocks: usize,
+    /// Whether its last proposal is out: it took no block, vote or view since.
+    pub(crate) is_out: bool,
+}
+
+/// Whether by an input a proposal may come to stand, or another block be the one to propose on.
+fn moves(input: &Input<'_>) -> bool
+    ensures { result ≡ guarding.moves input.now }
+{
+    matches!(
+        input,
+        Input::Proposal(_) | Input::Block(_) | Input::Vote(_) | Input::NewView(_)
+    )
+}
+
+/// Whether a step was made that sends something.
+fn sends(answer: &Result<Out, Fault>) -> bool
+    ensures { result ≡ guarding.sends answer.now }
+{
+    match answer {
+        Ok(out) => !out.sendings().is_empty(),
+        Err(_) => false,
+    }
 }
 
 impl<'a> Guarded<'a> {
@@ -50,6 +73,44 @@ impl<'a> Guarded<'a> {
         }
     }
 
+    /// Whether it is leave to propose for a replica that doesn't lead its view, or has no request.
+    fn is_vain(&self, input: &Input<'_>) -> bool
+        ensures { result ≡ guarding.is_vain self.now.kept input.now }
+    {
+        matches!(input, Input::Beat) && !self.replica().wants_beat()
+    }
+
+    /// Why an input is refused before the doorkeeper counts, if it is: a vain beat, or a proposal that climbs too far.
+    fn refusal(&self, input: &Input<'_>) -> Option<Fault>
+        ensures { result ≡ guarding.refusal self.now.kept input.now }
+    {
+        if self.is_vain(input) {
+            Some(Fault::NotMine)
+        } else if climbs_too_far(input) {
+            Some(Fault::BadHeight)
+        } else {
+            None
+        }
+    }
+
+    /// A step, after which it is known whether the last proposal is out.
+    fn step_and_note(&mut self, share: &mut Share, input: Input<'_>) -> Result<Out, Fault>
+        ensures stepped { WholeStep self.old.kept share.old input.entry result self.new.kept share.new }
+        ensures counts { Counts share.old result share.new }
+        ensures door { self.new.door ≡ self.old.door }
+        ensures limit { self.new.most_blocks ≡ self.old.most_blocks }
+        ensures out { self.new.is_out ≡ guarding.out_after self.old.is_out input.entry result }
+    {
+        let (moves, is_beat) = (moves(&input), matches!(input, Input::Beat));
+        let answer = UnderLock::step(&mut self.kept, share, input);
+        if moves && answer.is_ok() {
+            self.is_out = false;
+        } else if is_beat && sends(&answer) {
+            self.is_out = true;
+        }
+        answer
+    }
+
     /// A step with a block, where the doorkeeper lets it in. It is counted where the replica took it: then
     /// more blocks stand in its window.
     fn take(&mut self, share: &mut Share, input: Input<'_>, block: &Brought) -> Result<Out, Fault>
@@ -64,10 +125,11 @@ impl<'a> Guarded<'a> {
             (length (window self.new.kept.replica.chronicle))
             then with_block self.old.door.base block.now self.old.door.taken
             else self.old.door.taken) }
+        ensures out { self.new.is_out ≡ guarding.out_after self.old.is_out input.entry result }
     {
         self.door.let_in(block)?;
         let before = self.replica().blocks();
-        let answer = UnderLock::step(&mut self.kept, share, input);
+        let answer = self.step_and_note(share, input);
         if self.replica().blocks() > before {
             self.door.took(block);
         }
@@ -80,31 +142,42 @@ impl<'a> Guarded<'a> {
         ensures counts { Counts share.old result share.new }
         ensures forgotten { self.new.door.taken
             ≡ remembered (horizon self.new.kept.replica.chronicle - BELOW_HORIZON) self.old.door.taken }
+        ensures out { self.new.is_out ≡ guarding.out_after self.old.is_out input.entry result }
     {
-        let answer = UnderLock::step(&mut self.kept, share, input);
+        let answer = self.step_and_note(share, input);
         let horizon = self.replica().horizon();
         self.door.forget_below(horizon.lowest_kept());
         answer
     }
 }
 
-/// Each step is one of the replica, or is refused: with `Full` where it holds as many blocks as it may, and for a
-/// block that the doorkeeper doesn't let in, which is lost as on any network, with `Crowded`, or with `Memory` where
-/// it couldn't be counted.
+/// Each step is one of the replica, or is refused: with `Full` where it holds as many blocks as it may; with `NotMine`
+/// for a beat of a replica that doesn't lead or has no request; with `BadHeight` for a proposal that climbs too far; and
+/// for a block that the doorkeeper doesn't let in with `Crowded`, or with `Memory` where it couldn't be counted. A block
+/// that is refused is lost, as on any network.
+///
+/// It heeds no prompt to propose at once while its last proposal is out: a beat would bring that proposal once more. The
+/// clock sends it again.
 impl<'a> UnderLock for Guarded<'a> {
     ghost made = { λ old share input answer new share'.
         MatchBool (nat_lt (length (window old.kept.replica.chronicle)) old.most_blocks)
-        (WholeStep old.kept share input answer new.kept share'
+        (MatchOption (guarding.refusal old.kept input)
+        ((WholeStep old.kept share input answer new.kept share'
         ⊎ ((answer ≡ Err Crowded) ⊎ (answer ≡ Err Memory)) × (new.kept ≡ old.kept) × (share' ≡ share))
+        × (new.is_out ≡ guarding.out_after old.is_out input answer))
+        (λ fault. (answer ≡ Err fault) × (new ≡ old) × (share' ≡ share)))
         ((answer ≡ Err Full) × (new ≡ old) × (share' ≡ share)) };
 
     ghost heeds = { λ guarded prompt.
         nat_lt (length (window guarded.kept.replica.chronicle)) guarded.most_blocks
-        && heeding.heeds guarded.kept prompt };
+        && (not (guarded.is_out && guarding.asks_for_proposal prompt) && heeding.heeds guarded.kept prompt) };
 
     fn step(&mut self, share: &mut Share, input: Input<'_>) -> Result<Out, Fault> {
         if !self.has_room() {
             return Err(Fault::Full);
+        }
+        if let Some(fault) = self.refusal(&input) {
+            return Err(fault);
         }
         match brings(&self.replica().config(), &input) {
             Some(block) => self.take(share, input, &block),
@@ -113,6 +186,7 @@ impl<'a> UnderLock for Guarded<'a> {
     }
 
     fn heeds(&self, prompt: Prompt) -> bool {
-        self.has_room() && self.kept.heeds(prompt)
+        let waits = self.is_out && prompt == Prompt::Beat;
+        self.has_room() && !waits && self.kept.heeds(prompt)
     }
 }

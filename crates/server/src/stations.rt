@@ -254,6 +254,7 @@ fn build_station<'a>(
             kept,
             door: Doorkeeper::new(alloc, keys.config()),
             most_blocks: terms.most_blocks(),
+            is_out: false,
         }),
         window: terms.window,
         inbox,

@@ -1,0 +1,62 @@
+-- When a proposal is out, and which beats are in vain.
+use Rattle.std.specs.Prelude.{◌≡◌, ◌&&◌, Bool, true, false, not, List, [], ◌∷◌, Result, Ok, Err}
+use Rattle.std.specs.Prelude.{if◌then◌else◌, Option, Some, None}
+use Rattle.ids.specs.declared.fault.Fault.{Fault}
+use Rattle.ids.specs.declared.fault.Fault.TheVariants.{BadHeight, NotMine}
+use Rattle.admission.specs.declared.input.Input.{Input}
+use Rattle.admission.specs.declared.input.Input.TheVariants as input
+use Rattle.admission.specs.Inputs.{input_of}
+use Rattle.doorkeeper.specs.Climbs.{climbs_too_far}
+use Rattle.signed_frames.specs.Outs.{SentBytes}
+use Rattle.turns.specs.declared.prompt.Prompt.{Prompt}
+use Rattle.turns.specs.declared.prompt.Prompt.TheVariants as prompt
+use Rattle.locked_replica.specs.Kept.{KeptState}
+use Rattle.replica.specs.Wanting.{wants_beat}
+
+-- a block, a vote or a view: by it a proposal may have come to stand, or another block may be the one to propose on
+abbrev pub moves : Input → Bool
+moves (input.Proposal checked) = true
+moves (input.Block checked) = true
+moves (input.Vote checked) = true
+moves (input.NewView checked) = true
+moves other = false
+
+-- leave to propose
+abbrev pub is_beat : Input → Bool
+is_beat input.Beat = true
+is_beat other = false
+
+-- the step was made
+abbrev pub was_made : Result (List SentBytes) Fault → Bool
+was_made (Ok out) = true
+was_made (Err n) = false
+
+-- the step was made, and sends something
+abbrev pub sends : Result (List SentBytes) Fault → Bool
+sends (Ok (sent ∷ others)) = true
+sends (Ok []) = false
+sends (Err n) = false
+
+-- Whether the last proposal is out after a step: it is after a beat that sent one, and isn't once a block, a vote or a
+-- view was taken.
+abbrev pub out_after : Bool → Input → Result (List SentBytes) Fault → Bool
+out_after before input answer =
+    if moves input && was_made answer then false
+    else if is_beat input && sends answer then true
+    else before
+
+-- a beat of a replica that doesn't lead its view, or has no request
+abbrev pub is_vain : KeptState → Input → Bool
+is_vain kept input = is_beat input && not (wants_beat (record { keys = kept.keys; replica = kept.replica }))
+
+-- Why an input is refused before the doorkeeper counts: a vain beat, or a proposal that climbs too far.
+abbrev pub refusal : KeptState → Input → Option Fault
+refusal kept input =
+    if is_vain kept input then Some NotMine
+    else if climbs_too_far (input_of input) then Some BadHeight
+    else None
+
+-- a prompt to propose at once
+abbrev pub asks_for_proposal : Prompt → Bool
+asks_for_proposal prompt.Beat = true
+asks_for_proposal (prompt.Timeout view) = false
