@@ -1,6 +1,6 @@
 -- What a lying replica sends.
 use Rattle.std.specs.Prelude.{◌≡◌, ℕ, ◌+◌, ◌-◌, ◌*◌, ◌/◌, ◌%◌, ◌^◌, ◌==◌, min, List, [], ◌∷◌, map, replicate}
-use Rattle.std.specs.Prelude.{Option, Some, if◌then◌else◌}
+use Rattle.std.specs.Prelude.{◌++◌, zero, suc, Option, None, Some, nat_lt, if◌then◌else◌}
 use Rattle.std.specs.List.{range_with_len}
 use Rattle.ids.specs.declared.kind.Kind.TheVariants as kind
 use Rattle.ids.specs.Sizes.{Sizes, replicas}
@@ -9,17 +9,20 @@ use Rattle.definitions.specs.Bytes.{Bytes}
 use Rattle.definitions.specs.Keyrings.{Keys, keyring_of, tag_for, vector_for}
 use Rattle.definitions.specs.Checks.{identity_of}
 use Rattle.definitions.specs.Digests.{digest}
-use Rattle.definitions.specs.Frames.{Command, Core, Certificate, Frame, proposal, reply, block}
+use Rattle.definitions.specs.Frames.{Command, Core, Vote, Certificate, Frame, proposal, vote, reply, block}
 use Rattle.definitions.specs.Frames.{proposal_content, block_content, spelling}
 use Rattle.definitions.specs.Tags.{tag_len}
 use Rattle.definitions.specs.FrameLimits.{IsReadAs}
 use Rattle.definitions.specs.Replies.{reply_text, exists}
 use Rattle.definitions.specs.Histories.{Answer}
-use Rattle.definitions.specs.Sendings.{to_all, to_party, reply_to}
+use Rattle.definitions.specs.Sendings.{To, to_all, to_party, reply_to}
 use Rattle.signed_frames.specs.Outs.{SentBytes}
+use Rattle.liars.specs.declared.climb.TheConstants.{CLIMB}
+use Rattle.liars.specs.declared.half.TheConstants.{LATE, SOON}
 use Rattle.liars.specs.declared.lying.TheConstants.{REPEATS}
 use Rattle.liars.specs.declared.lying.Liar.{Liar}
 use Rattle.liars.specs.declared.lying.Liar.TheVariants.{Mute, TwoFaced, BadReply, Crowder, Flooder}
+use Rattle.liars.specs.declared.lying.Liar.TheVariants.{HalfVoter, LateHalfVoter, HalfVotes, Climber}
 
 -- the proposal of a block that has no commands, with a replica's tags
 abbrev pub empty_proposal : Keys → ℕ → Core → Certificate → Frame
@@ -84,6 +87,91 @@ crowded ring sent read = sent ∷ []
 abbrev pub flooded : SentBytes → List SentBytes
 flooded sent = sent ∷ replicate REPEATS (to_all, sent.1, sent.2)
 
+-- the tags of a vote of which one receiver's alone is right
+abbrev pub half_vector : Keys → Bytes → ℕ → Bytes
+half_vector ring d r =
+    replicate (tag_len * r) 0 ++ tag_for (keyring_of ring) kind.Vote r d
+    ++ replicate (tag_len * (replicas ring.sizes - r - 1)) 0
+
+-- a vote, which has such tags where it is the own one
+abbrev pub halved_vote : Keys → Bytes → ℕ → Vote → Vote
+halved_vote ring d r v =
+    record { voter = v.voter; vector = if v.voter == ring.party then half_vector ring d r else v.vector }
+
+-- a certificate that is right for one receiver, where the own vote is needed
+abbrev pub halved : Keys → ℕ → Certificate → Certificate
+halved ring r q = record { digest = q.digest; votes = map (halved_vote ring q.digest r) q.votes }
+
+-- a proposal with a certificate that is right for one receiver
+abbrev pub half_proposal : Keys → ℕ → Core → Certificate → ℕ → Frame
+half_proposal ring view core q r = proposal view core (halved ring r q)
+    (vector_for ring.sizes (keyring_of ring) kind.Proposal (proposal_content view core (halved ring r q)))
+
+-- to each receiver its own
+abbrev pub half_proposal_to : Keys → ℕ → Core → Certificate → ℕ → SentBytes
+half_proposal_to ring view core q r = (to_party r, kind.Proposal, spelling (half_proposal ring view core q r))
+
+-- what a leader of half certificates sends in place of a frame: such proposals up to a height, replies, and nothing else
+abbrev pub half_led : ℕ → Keys → SentBytes → Option Frame → List SentBytes
+half_led most ring sent (Some (proposal view core q vector)) =
+    if nat_lt most core.height then []
+    else map (half_proposal_to ring view core q) (range_with_len 0 (replicas ring.sizes))
+half_led most ring sent (Some (reply replica client seq place text tag)) = sent ∷ []
+half_led most ring sent read = []
+
+-- the replica to which a frame goes, if it goes to one
+abbrev pub replica_in : Sizes → To → Option ℕ
+replica_in sizes (to_party r) = if nat_lt r (replicas sizes) then Some r else None
+replica_in sizes to_all = None
+
+-- the own vote for a receiver alone; what goes to no one replica as it is
+abbrev pub half_vote : Keys → SentBytes → Bytes → Option ℕ → SentBytes
+half_vote ring sent d (Some r) = (
+  to_party r,
+  kind.Vote,
+  spelling (vote d (record { voter = ring.party; vector = half_vector ring d r })),
+)
+half_vote ring sent d None = sent
+
+-- what a voter of half votes sends in place of a frame: no proposals, and such votes
+abbrev pub half_voted : Keys → SentBytes → Option Frame → List SentBytes
+half_voted ring sent (Some (proposal view core q vector)) = []
+half_voted ring sent (Some (vote d v)) = half_vote ring sent d (replica_in ring.sizes sent.0) ∷ []
+half_voted ring sent read = sent ∷ []
+
+-- the block of this number of a chain of empty ones, the first of which stands in place of a block
+unfoldable pub climbing : Core → ℕ → Core
+climbing core zero = record {
+  parent = core.parent;
+  height = core.height;
+  justify_height = core.justify_height;
+  commands = [];
+}
+climbing core (suc number) = record {
+  parent = digest (climbing core number);
+  height = min ((climbing core number).height + 1) (2 ^ 64 - 1);
+  justify_height = core.justify_height;
+  commands = [];
+}
+
+-- its proposal, to all
+abbrev pub climb_to_all : Keys → ℕ → Core → Certificate → ℕ → SentBytes
+climb_to_all ring view core q number =
+    let own = climbing core number in (
+      to_all,
+      kind.Proposal,
+      spelling (proposal view own q
+          (vector_for ring.sizes (keyring_of ring) kind.Proposal (proposal_content view own q))),
+    )
+
+-- what a climber sends in place of a frame: in place of a proposal on the block that it justifies a chain, and nothing
+-- else
+abbrev pub climbed : Keys → SentBytes → Option Frame → List SentBytes
+climbed ring sent (Some (proposal view core q vector)) =
+    if core.height == core.justify_height + 1 then map (climb_to_all ring view core q) (range_with_len 0 CLIMB)
+    else []
+climbed ring sent read = []
+
 -- it is sent in place of a frame, by what the frame's bytes are read as
 abbrev pub IsTold : (SentBytes → Option Frame → List SentBytes) → Sizes → SentBytes → List SentBytes → Type 0
 IsTold told sizes sent out = (read : Option Frame) × IsReadAs sizes sent.2 read × (out ≡ told sent read)
@@ -95,3 +183,7 @@ IsLie ring TwoFaced sent out = IsTold (two_faced ring) ring.sizes sent out
 IsLie ring BadReply sent out = IsTold (bad_reply ring) ring.sizes sent out
 IsLie ring Crowder sent out = IsTold (crowded ring) ring.sizes sent out
 IsLie ring Flooder sent out = out ≡ flooded sent
+IsLie ring HalfVoter sent out = IsTold (half_led SOON ring) ring.sizes sent out
+IsLie ring LateHalfVoter sent out = IsTold (half_led LATE ring) ring.sizes sent out
+IsLie ring HalfVotes sent out = IsTold (half_voted ring) ring.sizes sent out
+IsLie ring Climber sent out = IsTold (climbed ring) ring.sizes sent out

@@ -2,7 +2,9 @@
 //! demonstrations and tests.
 #![tactic(auto)]
 
+mod climb;
 mod crowd;
+mod half;
 mod lying;
 
 pub use lying::{Liar, lie};

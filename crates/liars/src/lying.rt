@@ -9,7 +9,9 @@ ghost use Rattle.frames_view.specs.Views.{reply_of, proposal_of, core_of, certif
 ghost use Rattle.signed_frames.specs.Outs.{sent_of};
 ghost use Rattle.liars.specs.Lies.{IsLie, IsTold, bad_reply, crowded, empty_proposal, faces, flooded, two_faced};
 
+use crate::climb::with_climb;
 use crate::crowd::crowd;
+use crate::half::{LATE, SOON, with_half_certificates, with_half_votes};
 use authenticators::ReplicaKeyring;
 use frame_writers::{ReplyText, write_core};
 use frames_view::{Frame, ProposalView, ReplyView, read};
@@ -35,6 +37,16 @@ pub enum Liar {
     Crowder,
     /// It sends each frame 64 times more, to all replicas.
     Flooder,
+    /// As a leader it sends each replica a certificate in which its own vote is right for that one alone, up to height
+    /// 2. It sends replies, and nothing else.
+    HalfVoter,
+    /// The same, up to height 50,000.
+    LateHalfVoter,
+    /// It proposes nothing, and its votes are right for their receiver alone.
+    HalfVotes,
+    /// In place of a proposal on the block that it justifies it sends 8,192 empty ones, each on the one before, that
+    /// justify that block. It sends nothing else.
+    Climber,
 }
 
 /// How many times more a flooder sends each frame.
@@ -58,11 +70,15 @@ pub fn lie(
         Liar::BadReply => with_bad_reply(alloc, keyring, sending),
         Liar::Crowder => with_crowd(alloc, keyring, sending),
         Liar::Flooder => Ok(with_flood(alloc, sending)?),
+        Liar::HalfVoter => with_half_certificates(alloc, keyring, SOON, sending),
+        Liar::LateHalfVoter => with_half_certificates(alloc, keyring, LATE, sending),
+        Liar::HalfVotes => with_half_votes(alloc, keyring, sending),
+        Liar::Climber => with_climb(alloc, keyring, sending),
     }
 }
 
 /// One frame.
-fn one(alloc: Global, sending: Sending) -> Result<Vec<Sending>, AllocError>
+pub(crate) fn one(alloc: Global, sending: Sending) -> Result<Vec<Sending>, AllocError>
     ensures { IfOk result (λ out. out.items ≡ sending ∷ []) }
 {
     let mut out = Vec::new(alloc);

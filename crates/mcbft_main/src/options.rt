@@ -13,7 +13,17 @@ Example: bin/make-keys 1 8 > keys; mcbft --keys keys --port 11211
 docs/OPERATING.md tells its limits, and what to do at each message.";
 
 /// The names of the lies.
-const LIARS: [&str; 5] = ["mute", "two-faced", "bad-reply", "crowder", "flooder"];
+const LIARS: [&str; 9] = [
+    "mute",
+    "two-faced",
+    "bad-reply",
+    "crowder",
+    "flooder",
+    "half-voter",
+    "late-half-voter",
+    "half-votes",
+    "climber",
+];
 
 /// The greatest number of 32 bits.
 const MOST_OF_32_BITS: u64 = 4_294_967_295;
@@ -246,6 +256,10 @@ fn liar_of(name: &str) -> Option<Liar> {
         "bad-reply" => Some(Liar::BadReply),
         "crowder" => Some(Liar::Crowder),
         "flooder" => Some(Liar::Flooder),
+        "half-voter" => Some(Liar::HalfVoter),
+        "late-half-voter" => Some(Liar::LateHalfVoter),
+        "half-votes" => Some(Liar::HalfVotes),
+        "climber" => Some(Liar::Climber),
         _ => None,
     }
 }

@@ -1,4 +1,4 @@
-//! A deployment and its clients in one process: with no liar, and with each; one whose replicas forget what
+//! A deployment and its clients in one process: with no liar, and with each that doesn't end the service; one whose replicas forget what
 //! is a few heights below; one whose replicas have one worker each; one of seven replicas; and one whose replicas
 //! may hold few blocks.
 //! What each client reads is printed.
@@ -119,13 +119,14 @@ enum Trial {
 }
 
 /// The deployments, in the order in which they are told.
-const TRIALS: [Trial; 9] = [
+const TRIALS: [Trial; 10] = [
     Trial::Liar(None),
     Trial::Liar(Some(Liar::Mute)),
     Trial::Liar(Some(Liar::TwoFaced)),
     Trial::Liar(Some(Liar::BadReply)),
     Trial::Liar(Some(Liar::Crowder)),
     Trial::Liar(Some(Liar::Flooder)),
+    Trial::Liar(Some(Liar::Climber)),
     Trial::Window(4),
     Trial::OneWorker,
     Trial::TwoFaults(Liar::BadReply),
