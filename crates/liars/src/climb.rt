@@ -72,7 +72,7 @@ fn climb(
             frame,
         })?;
         height = Height(height.0.saturating_add(1));
-        own = empty_core(alloc, &Digest(*core.parent()), height, justified)?;
+        own = empty_core(alloc, &digest_of(&own), height, justified)?;
     }
     Ok(out)
 }
