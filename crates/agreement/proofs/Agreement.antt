@@ -75,7 +75,7 @@ chain-of s is_member o c l counted b a m e d h =
 module _ (s : Sizes) (is_member : ℕ → Bool) (enough : quorum s ≤ count_below (replicas s) is_member)
     (whole : Order) (course : IsLawfulOrder s is_member whole) where
   -- of each height one branch at most is certified
-  one-certified : (o : Order) → IsBeginning o whole → (a b : Branch)
+  pub one-certified : (o : Order) → IsBeginning o whole → (a b : Branch)
       → MayBeCertified (family_at s is_member o) a → MayBeCertified (family_at s is_member whole) b
       → length a ≡ length b → a ≡ b
   one-certified o g a b p q e =
@@ -128,7 +128,7 @@ module _ (s : Sizes) (is_member : ℕ → Bool) (enough : quorum s ≤ count_bel
         ]
 
     -- the lock of a member that voted for the top is no lower than b
-    lock-high : (c : Chronicle) → IsLawful s c → Among chain.top (voted_blocks c) → length b ≤ length (lock c)
+    pub lock-high : (c : Chronicle) → IsLawful s c → Among chain.top (voted_blocks c) → length b ≤ length (lock c)
     lock-high c l m =
         let a = tree-taken c chain.top (voted-tree s c l chain.top m) (omega (arith, chain.top_height)) in
         let same : just2 a.0.branch ≡ b =
@@ -200,14 +200,14 @@ decided-chain s is_member o l i mi (x ∷ b) m =
     ]
 
 -- the order of a lawful family's steps
-lawful-order : (fam : Family) (l : IsLawfulFamily fam) → IsLawfulOrder fam.sizes fam.is_member l.orderly.order
+pub lawful-order : (fam : Family) (l : IsLawfulFamily fam) → IsLawfulOrder fam.sizes fam.is_member l.orderly.order
 lawful-order fam l = record {
   ordered = l.orderly.ordered;
   lawful = λ v mv. subst (IsLawful fam.sizes) (sym (l.orderly.whole v mv)) (l.lawful v mv);
 }
 
 -- what is decided in a lawful family is genesis, or has its chain
-family-chain : (fam : Family) (l : IsLawfulFamily fam) (b : Branch) → IsDecided fam b
+pub family-chain : (fam : Family) (l : IsLawfulFamily fam) (b : Branch) → IsDecided fam b
     → (b ≡ []) ⊎ IsChain (family_at fam.sizes fam.is_member l.orderly.order) b
 family-chain fam l b d =
     decided-chain fam.sizes fam.is_member l.orderly.order (lawful-order fam l) d.0 d.1 b
@@ -230,7 +230,7 @@ no-conflict fam a b l da db conflict =
     elim (one-extends fam a b l da db) [ inl e ↦ conflict.0 e | inr e ↦ conflict.1 e ]
 
 -- who supports a branch doesn't depend on what stands for those that are no members
-supports-same : (fam : Family) (l : IsLawfulFamily fam) (x : Branch) (i : ℕ)
+pub supports-same : (fam : Family) (l : IsLawfulFamily fam) (x : Branch) (i : ℕ)
     → supports fam x i ≡ supports (family_at fam.sizes fam.is_member l.orderly.order) x i
 unfolding supports
 supports-same fam l x i = by (fam.is_member i) (l.orderly.whole i)

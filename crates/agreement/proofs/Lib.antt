@@ -1,3 +1,4 @@
 pub mod Certified
 pub mod Agreement
+pub mod Careful
 pub mod Example

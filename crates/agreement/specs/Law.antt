@@ -2,8 +2,9 @@
 use Rattle.std.specs.Prelude.{ℕ, ◌≡◌, ◌<◌, ◌≤◌, ◌⊎◌, true, false, length}
 use Rattle.ids.specs.Sizes.{replicas}
 use Rattle.definitions.specs.Lists.{Among}
-use Rattle.definitions.specs.Branches.{Branch, Extends, Conflict}
+use Rattle.definitions.specs.Branches.{Branch, justify_height, Extends, Conflict}
 use Rattle.definitions.specs.Chronicles.{decided}
+use Rattle.definitions.specs.Careful.{AreCareful}
 use Rattle.definitions.specs.Agreement.{Family, IsLawfulFamily, MayBeCertified}
 
 -- a member decided the branch
@@ -26,6 +27,13 @@ abbrev pub CertifiedExtends : Type 0
 CertifiedExtends =
     (fam : Family) (x b : Branch) → IsLawfulFamily fam → MayBeCertified fam x → IsDecided fam b
     → length b ≤ length x → Extends x b
+
+-- Where members vote carefully, no block above a decided one, of a certified branch, justifies one below the decided one.
+abbrev pub NoneJustifiesBelow : Type 0
+NoneJustifiesBelow =
+    (fam : Family) (c b x : Branch) → IsLawfulFamily fam
+    → ((i : ℕ) → fam.is_member i ≡ true → AreCareful (fam.chronicle i))
+    → MayBeCertified fam c → IsDecided fam b → Extends c x → length b < length x → length b ≤ justify_height x
 
 -- a family of four replicas, one of them no member, in which a branch above genesis is decided
 pub record SomeDecision : Type 0 where

@@ -20,6 +20,7 @@ pub mod Digests
 pub mod Trees
 pub mod Histories
 pub mod Chronicles
+pub mod Careful
 pub mod Checks
 pub mod States
 pub mod Rulings
