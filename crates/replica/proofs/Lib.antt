@@ -21,5 +21,6 @@ pub mod Fits
 pub mod First
 pub mod WholeSteps
 pub mod Waiting
+pub mod Careful
 pub mod Keeping
 pub mod Sized

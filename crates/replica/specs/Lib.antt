@@ -16,4 +16,5 @@ pub mod Requests
 pub mod Ballots
 pub mod Inputs
 pub mod Wanting
+pub mod Careful
 pub mod Prunings

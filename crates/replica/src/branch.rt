@@ -1,15 +1,16 @@
 //! The blocks along a branch of the tree.
 
-ghost use Rattle.std.specs.Prelude.{◌≡◌, ◌-◌, ◌++◌, reverse, map, [], option_map, IfOk, OnOk};
+ghost use Rattle.std.specs.Prelude.{◌≡◌, ◌≤◌, ◌-◌, ◌++◌, reverse, map, [], option_map, IfOk, OnOk};
 ghost use Rattle.std.specs.Option.{option_and_then};
-ghost use Rattle.definitions.specs.Digests.{digest_of, core_of};
+ghost use Rattle.definitions.specs.Digests.{digest_of, core_of as block_core};
 ghost use Rattle.definitions.specs.Trees.{blocks, find_in};
-ghost use Rattle.frames_view.specs.Views.{commands_left};
+ghost use Rattle.frames_view.specs.Views.{commands_left, core_of};
+ghost use Rattle.replica.specs.Careful as careful;
 ghost use Rattle.replica.specs.Execution.{seen_at, block_at, history_above};
 ghost use Rattle.replica.specs.Picks.{key_of, keys_of};
 
 use block_tree::{Node, Tree};
-use frames_view::Commands;
+use frames_view::{Commands, CoreView};
 use ids::{Digest, Height};
 use mempool::RequestId;
 use std::alloc::{AllocError, Global};
@@ -25,10 +26,30 @@ pub(crate) fn digest_at(tree: &Tree, tip: &Digest, height: Height) -> Option<Dig
 /// The block of this height on the branch of a block of the tree. Genesis isn't kept.
 pub(crate) fn block_at<'a>(tree: &'a Tree, tip: &Digest, height: Height) -> Option<&'a Node>
     ensures { option_map (λ n. n.now.core) result
-        ≡ option_map (λ s. core_of s.branch) (block_at tip.now height tree.now) }
+        ≡ option_map (λ s. block_core s.branch) (block_at tip.now height tree.now) }
 {
     let digest = digest_at(tree, tip, height)?;
     tree.block(&digest)
+}
+
+/// Whether the block of a core, on its parent in the tree, or one between it and the block that it justifies, justifies
+/// one lower than the least height. It is asked where no lower one than that can be justified in the tree.
+pub(crate) fn justifies_below(tree: &Tree, core: &CoreView<'_>, least: Height) -> bool
+    ensures { tree.now.horizon ≤ least
+        → result ≡ careful.justifies_below least (core_of core.now) (blocks tree.now.stored) }
+{
+    let parent = Digest(*core.parent());
+    let Some(height) = tree.height(&parent) else {
+        return false;
+    };
+    let justified = core.justify_height();
+    if justified.0 > height.0 {
+        return false;
+    }
+    if justified.0 < least.0 {
+        return true;
+    }
+    !tree.justifies_from(&parent, justified, least)
 }
 
 /// Puts the client and number of each command last.

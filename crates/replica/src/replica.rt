@@ -14,6 +14,8 @@ ghost use Rattle.definitions.specs.Replicas.{running, held_history, held_pending
 ghost use Rattle.definitions.specs.Sendings.{fetch_frame};
 ghost use Rattle.definitions.specs.States.{view};
 ghost use Rattle.definitions.specs.WindowAudit.{shown_at};
+ghost use Rattle.frames_view.specs.Views.{core_of};
+ghost use Rattle.replica.specs.Careful.{is_careless};
 ghost use Rattle.replica.specs.Steps.{Stepped};
 ghost use Rattle.replica.specs.Wanting.{wants_beat, wants_beat_now};
 ghost use Rattle.definitions.specs.Keyrings.{Keys};
@@ -45,7 +47,7 @@ use admission::Input;
 use authenticators::ReplicaKeyring;
 use block_tree::Tree;
 use executor::{Executor, Ledger, NoLedger};
-use frames_view::{CertificateBuf, genesis_digest};
+use frames_view::{CertificateBuf, CoreView, genesis_digest};
 use ghost_list::GhostList;
 use ids::{Config, Digest, Fault, Height, MOST_BLOCKS, ReplicaId, View};
 use mempool::Mempool;
@@ -340,6 +342,17 @@ impl Replica {
         let (leaf, high) = (&self.state.leaf, &self.state.high.block);
         let is_idle = leaf.digest == high.digest;
         self.wants_beat() && (is_idle || leaf.height < self.state.rules.vheight())
+    }
+
+    /// Whether a vote for the block of a core would be careless: the block, or one between it and the block that it
+    /// justifies, justifies one below the lock. Its parent stands in the tree; else it is false.
+    ///
+    /// A careful replica loses such a proposal. Then no certified branch has a block above a decided one that justifies
+    /// one below that, so who pruned what lies below can follow it.
+    pub fn is_careless(&self, core: &CoreView<'_>) -> bool
+        ensures { result ≡ is_careless (core_of core.now) self.now.replica.chronicle }
+    {
+        self.state.is_careless(core)
     }
 
     /// Why it stopped: the refusal after which it takes no further input. None while it goes on.

@@ -1,23 +1,25 @@
 //! What a replica keeps beside its keys.
 
-ghost use Rattle.std.specs.Prelude.{◌≡◌, false, length, reverse, option_map, IfOk, OnOk, OnErr};
+ghost use Rattle.std.specs.Prelude.{◌≡◌, ◌≤◌, false, length, reverse, option_map, IfOk, OnOk, OnErr};
 ghost use Rattle.std.specs.Option.{unwrap_or, option_and_then};
 ghost use Rattle.definitions.specs.Chronicles.{stored_blocks};
 ghost use Rattle.definitions.specs.Digests.{digest_of};
 ghost use Rattle.definitions.specs.Trees.{Stored, blocks, find_in};
+ghost use Rattle.frames_view.specs.Views.{core_of};
+ghost use Rattle.replica.specs.Careful as careful;
 ghost use Rattle.replica.specs.Changes.{changed, tree_after, collected, pended, left_above, MayGrow, Fits};
 ghost use Rattle.replica.specs.Execution.{seen_at};
 ghost use Rattle.replica.specs.Logs.{Logs};
 ghost use Rattle.replica.specs.Replay.{is_pruning, replay};
 
-use crate::branch::digest_at;
+use crate::branch::{digest_at, justifies_below};
 use crate::change::{Change, Growth};
 use crate::chronicle::ChronicleView;
 use crate::step_log::StepLog;
 use crate::stored::StoredStep;
 use crate::telling::{AStep, Newest};
 use block_tree::Tree;
-use frames_view::CertificateBuf;
+use frames_view::{CertificateBuf, CoreView};
 use ghost_list::GhostList;
 use ids::{Digest, Height};
 use mempool::Mempool;
@@ -171,6 +173,18 @@ impl State {
     {
         let last = self.rules.executed();
         digest_at(&self.tree, &last.digest, height)
+    }
+
+    /// Whether the block of a core, on its parent in the tree, or one between it and the block that it justifies,
+    /// justifies one below the lock.
+    pub(crate) fn is_careless(&self, core: &CoreView<'_>) -> bool
+        ensures { (
+            let v = self.now.variables in
+            v.horizon ≤ v.rules.lock.height
+            → result ≡ careful.justifies_below v.rules.lock.height (core_of core.now) (blocks v.stored)) }
+    {
+        let lock = self.rules.lock();
+        justifies_below(&self.tree, core, lock.height)
     }
 
     /// The steps that stand, where each block of the tree was taken by one of these. Oldest first.
