@@ -7,7 +7,7 @@ ghost use Rattle.ids.specs.Sizes.{IsRoom, HasNoRoom, replicas};
 ghost use Rattle.audit_ground.specs.Law.{IsLawfullyKept};
 ghost use Rattle.definitions.specs.Checks.{identity_of};
 ghost use Rattle.definitions.specs.Chronicles.{Chronicle, IsLawful, executed, horizon, standing_blocks};
-ghost use Rattle.definitions.specs.Chronicles.{window, was_pruned};
+ghost use Rattle.definitions.specs.Chronicles.{window, vheight, was_pruned};
 ghost use Rattle.definitions.specs.Digests.{digest_of};
 ghost use Rattle.definitions.specs.Frames.{spelling};
 ghost use Rattle.definitions.specs.Replicas.{running, held_history, held_pending};
@@ -367,6 +367,13 @@ impl Replica {
         ensures { result ≡ length (executed self.now.replica.chronicle) }
     {
         self.state.rules.executed().height
+    }
+
+    /// The greatest height that it voted for, 0 where there was no vote.
+    pub fn voted(&self) -> Height
+        ensures { result ≡ vheight self.now.replica.chronicle }
+    {
+        self.state.rules.vheight()
     }
 
     /// The digest of the last block that was decided.

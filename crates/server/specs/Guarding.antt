@@ -2,15 +2,17 @@
 use Rattle.std.specs.Prelude.{◌≡◌, ◌&&◌, Bool, true, false, not, List, [], ◌∷◌, Result, Ok, Err}
 use Rattle.std.specs.Prelude.{if◌then◌else◌, Option, Some, None}
 use Rattle.ids.specs.declared.fault.Fault.{Fault}
-use Rattle.ids.specs.declared.fault.Fault.TheVariants.{BadHeight, NotMine}
+use Rattle.ids.specs.declared.fault.Fault.TheVariants.{BadHeight, NotMine, WrongJustify}
 use Rattle.admission.specs.declared.input.Input.{Input}
 use Rattle.admission.specs.declared.input.Input.TheVariants as input
 use Rattle.admission.specs.Inputs.{input_of}
+use Rattle.definitions.specs.Rulings.{Input as Ruled, Input.proposal_in}
 use Rattle.doorkeeper.specs.Climbs.{climbs_too_far}
 use Rattle.signed_frames.specs.Outs.{SentBytes}
 use Rattle.turns.specs.declared.prompt.Prompt.{Prompt}
 use Rattle.turns.specs.declared.prompt.Prompt.TheVariants as prompt
 use Rattle.locked_replica.specs.Kept.{KeptState}
+use Rattle.replica.specs.Careful.{is_careless as is_careless_core}
 use Rattle.replica.specs.Wanting.{wants_beat}
 
 -- a block, a vote or a view: by it a proposal may have come to stand, or another block may be the one to propose on
@@ -49,11 +51,17 @@ out_after before input answer =
 abbrev pub is_vain : KeptState → Input → Bool
 is_vain kept input = is_beat input && not (wants_beat (record { keys = kept.keys; replica = kept.replica }))
 
--- Why an input is refused before the doorkeeper counts: a vain beat, or a proposal that climbs too far.
+-- a proposal for which a vote would be careless
+abbrev pub is_careless : KeptState → Ruled → Bool
+is_careless kept (proposal_in view core q found) = is_careless_core core kept.replica.chronicle
+is_careless kept other = false
+
+-- Why an input is refused before the doorkeeper counts: a vain beat, a proposal that climbs too far, or a careless one.
 abbrev pub refusal : KeptState → Input → Option Fault
 refusal kept input =
     if is_vain kept input then Some NotMine
     else if climbs_too_far (input_of input) then Some BadHeight
+    else if is_careless kept (input_of input) then Some WrongJustify
     else None
 
 -- a prompt to propose at once

@@ -5,6 +5,7 @@ ghost use Rattle.std.specs.Bool.{OnFalse};
 ghost use Rattle.ids.specs.declared.fault.Fault.TheVariants.{Full, Crowded, Memory};
 ghost use Rattle.definitions.specs.Chronicles.{horizon, window};
 ghost use Rattle.doorkeeper.specs.Doors.{passes, remembered, with_block};
+ghost use Rattle.admission.specs.Inputs.{input_of};
 ghost use Rattle.locked_replica.specs.Heeding as heeding;
 ghost use Rattle.server.specs.Guarding as guarding;
 ghost use Rattle.locked_replica.specs.Stepping.{WholeStep};
@@ -80,7 +81,18 @@ impl<'a> Guarded<'a> {
         matches!(input, Input::Beat) && !self.replica().wants_beat()
     }
 
-    /// Why an input is refused before the doorkeeper counts, if it is: a vain beat, or a proposal that climbs too far.
+    /// Whether it is a proposal for which a vote would be careless.
+    fn is_careless(&self, input: &Input<'_>) -> bool
+        ensures { result ≡ guarding.is_careless self.now.kept (input_of input.now) }
+    {
+        match input {
+            Input::Proposal(checked) => self.replica().is_careless(&checked.view().core()),
+            _ => false,
+        }
+    }
+
+    /// Why an input is refused before the doorkeeper counts, if it is: a vain beat, a proposal that climbs too far, or a
+    /// careless one.
     fn refusal(&self, input: &Input<'_>) -> Option<Fault>
         ensures { result ≡ guarding.refusal self.now.kept input.now }
     {
@@ -88,6 +100,8 @@ impl<'a> Guarded<'a> {
             Some(Fault::NotMine)
         } else if climbs_too_far(input) {
             Some(Fault::BadHeight)
+        } else if self.is_careless(input) {
+            Some(Fault::WrongJustify)
         } else {
             None
         }
@@ -152,9 +166,9 @@ impl<'a> Guarded<'a> {
 }
 
 /// Each step is one of the replica, or is refused: with `Full` where it holds as many blocks as it may; with `NotMine`
-/// for a beat of a replica that doesn't lead or has no request; with `BadHeight` for a proposal that climbs too far; and
-/// for a block that the doorkeeper doesn't let in with `Crowded`, or with `Memory` where it couldn't be counted. A block
-/// that is refused is lost, as on any network.
+/// for a beat of a replica that doesn't lead or has no request; with `BadHeight` for a proposal that climbs too far; with
+/// `WrongJustify` for one of which a block justifies one below the lock; and for a block that the doorkeeper doesn't let
+/// in with `Crowded`, or with `Memory` where it couldn't be counted. A block that is refused is lost, as on any network.
 ///
 /// It heeds no prompt to propose at once while its last proposal is out: a beat would bring that proposal once more. The
 /// clock sends it again.
