@@ -14,11 +14,10 @@ use Rattle.definitions.specs.Agreement.{Family, MayBeCertified, supports, Order,
 use Rattle.definitions.proofs.Branches.{just1-extends, Extends-trans, just2-is, just3-is}
 use Rattle.definitions.proofs.Chronicles.{voted-tree, one-vote, IsVote, lock-above, tree-taken, tree-just1}
 use Rattle.definitions.proofs.Chronicles.{taken-tree, decided-cases}
-use Rattle.definitions.proofs.Orders.{counted-voted}
 use Rattle.agreement.specs.Law.{IsDecided, OneExtends, NoConflict, CertifiedExtends}
 use Rattle.agreement.proofs.Certified.{family_at, IsLawfulOrder, order-cases, lower-earlier, lower-within}
-use Rattle.agreement.proofs.Certified.{lawful-older, lawful-beginning, voted-later, AreCounted}
-use Rattle.agreement.proofs.Certified.{counted-before, taken-certified, certified, lock-certified}
+use Rattle.agreement.proofs.Certified.{lawful-older, lawful-beginning, voted-later, JustifiesCertified}
+use Rattle.agreement.proofs.Certified.{certified-before, taken-certified, certified, lock-certified}
 use Rattle.agreement.proofs.Certified.{voted-both}
 
 -- a beginning without its newest step is one
@@ -40,11 +39,11 @@ pub record IsChain (fam : Family) (b : Branch) : Type 0 where
 
 -- a branch above genesis that is decided has its chain
 chain-of : (s : Sizes) (is_member : ℕ → Bool) (o : Order) (c : Chronicle) → IsLawful s c
-    → AreCounted is_member c o → (b : Branch) → (a : Admitted) → Among a (taken_blocks c) → b ≡ just3 a.branch
+    → JustifiesCertified s is_member c o → (b : Branch) → (a : Admitted) → Among a (taken_blocks c) → b ≡ just3 a.branch
     → decides a.branch ≡ true → 0 < length b
     → IsChain (family_at s is_member o) b
 unfolding decides
-chain-of s is_member o c l counted b a m e d h =
+chain-of s is_member o c l taken b a m e d h =
     let x : Branch = a.branch in
     let fam : Family = family_at s is_member o in
     let heights = and_parts _ _ d in
@@ -62,12 +61,12 @@ chain-of s is_member o c l counted b a m e d h =
       middle_height = omega (arith, low, own);
       top_height = omega (arith, low, high, own);
       above = h;
-      top_certified = taken-certified s is_member o c l counted a m (omega (arith, high));
+      top_certified = taken a m (omega (arith, high));
       middle_certified = subst (MayBeCertified fam) (just2-is x)
-          (certified s is_member o c l counted (just1 x) in1
+          (certified s is_member o c taken (just1 x) in1
           (omega (arith, low, ap (λ (z : Branch). length z) (just2-is x))));
       own_certified = subst (MayBeCertified fam) (just3-is x ∙ sym e)
-          (certified s is_member o c l counted (just2 x) in2
+          (certified s is_member o c taken (just2 x) in2
           (omega (arith, h, own, ap (λ (z : Branch). length z) (just3-is x))));
     }
 
@@ -147,11 +146,12 @@ module _ (s : Sizes) (is_member : ℕ → Bool) (enough : quorum s ≤ count_bel
         let high : length b ≤ length (lock c) = lock-high c own m in
         elim v.law.safe [
           | inl e ↦ Extends-trans x (lock c) b e (before (lock c)
-              (lock-certified s is_member o c own (counted-voted is_member o l.ordered.1 i)
+              (lock-certified s is_member o c own
+              (taken-certified s is_member enough o (lawful-older s is_member p o l) i mi)
               (omega (arith, chain.above, high))) high)
           | inr k ↦ Extends-trans x (just1 x) b (just1-extends x)
-              (before (just1 x) (certified s is_member o (steps_of i (p ∷ o)) (l.lawful i mi)
-              (counted-before is_member p o l.ordered i) x v.law.taken (omega (arith, k)))
+              (before (just1 x) (certified s is_member o (steps_of i (p ∷ o))
+              (certified-before s is_member enough p o l i mi) x v.law.taken (omega (arith, k)))
               (omega (arith, high, k)))
         ]
 
@@ -188,15 +188,16 @@ extends-genesis : (a b : Branch) → b ≡ [] → Extends a b
 extends-genesis a b e = subst (λ (x : Branch). Extends a x) (sym e) (a, append-nil a)
 
 -- what is decided is genesis, or has its chain
-decided-chain : (s : Sizes) (is_member : ℕ → Bool) (o : Order) → IsLawfulOrder s is_member o → (i : ℕ)
+decided-chain : (s : Sizes) (is_member : ℕ → Bool) → quorum s ≤ count_below (replicas s) is_member
+    → (o : Order) → IsLawfulOrder s is_member o → (i : ℕ)
     → is_member i ≡ true → (b : Branch) → Among b (decided (steps_of i o))
     → (b ≡ []) ⊎ IsChain (family_at s is_member o) b
-decided-chain s is_member o l i mi [] m = inl refl
-decided-chain s is_member o l i mi (x ∷ b) m =
+decided-chain s is_member enough o l i mi [] m = inl refl
+decided-chain s is_member enough o l i mi (x ∷ b) m =
     elim (decided-cases (steps_of i o) (x ∷ b) m) [
       | inl e ↦ inl e
       | inr a ↦ inr (chain-of s is_member o (steps_of i o) (l.lawful i mi)
-          (counted-voted is_member o l.ordered i) (x ∷ b) a.0 a.1 a.2 a.3 (omega arith))
+          (taken-certified s is_member enough o l i mi) (x ∷ b) a.0 a.1 a.2 a.3 (omega arith))
     ]
 
 -- the order of a lawful family's steps
@@ -210,7 +211,7 @@ lawful-order fam l = record {
 pub family-chain : (fam : Family) (l : IsLawfulFamily fam) (b : Branch) → IsDecided fam b
     → (b ≡ []) ⊎ IsChain (family_at fam.sizes fam.is_member l.orderly.order) b
 family-chain fam l b d =
-    decided-chain fam.sizes fam.is_member l.orderly.order (lawful-order fam l) d.0 d.1 b
+    decided-chain fam.sizes fam.is_member l.enough l.orderly.order (lawful-order fam l) d.0 d.1 b
     (subst (λ (c : Chronicle). Among b (decided c)) (sym (l.orderly.whole d.0 d.1)) d.2)
 
 -- of two decided branches one extends the other

@@ -9,15 +9,15 @@ use Rattle.ids.specs.Sizes.{Sizes, replicas, quorum}
 use Rattle.definitions.specs.Chronicles.{Admitted, Step.took_block, Step.noted, Chronicle, voted_blocks, lock}
 use Rattle.definitions.specs.Chronicles.{IsLawful}
 use Rattle.definitions.specs.Careful.{justifies_from, is_careful, AreCareful}
-use Rattle.definitions.specs.Agreement.{Family, MayBeCertified, supports, Order, steps_of}
-use Rattle.definitions.proofs.Lists.{beginning-whole, IsBeginning-beginning}
+use Rattle.definitions.specs.Agreement.{MayBeCertified, supports, Order, steps_of}
+use Rattle.definitions.proofs.Lists.{IsBeginning-beginning}
 use Rattle.definitions.proofs.Branches.{extends-cases, extends-between, length-extends, just1-extends, just1-below}
 use Rattle.definitions.proofs.Branches.{justify_height-just1, Extends-trans}
 use Rattle.definitions.proofs.Chronicles.{voted-cases, vote-higher, same-vote, voted-tree, tree-branch}
 use Rattle.definitions.proofs.Chronicles.{lawful-taken}
-use Rattle.definitions.proofs.Orders.{counted-voted}
 use Rattle.agreement.specs.Law.{NoneJustifiesBelow}
-use Rattle.agreement.proofs.Certified.{family_at, IsLawfulOrder, certified, voted-both}
+use Rattle.agreement.proofs.Certified.{family_at, IsLawfulOrder, taken-certified}
+use Rattle.agreement.proofs.Certified.{certified, voted-both}
 use Rattle.agreement.proofs.Agreement.{IsChain, one-certified, lock-high, lawful-order, family-chain, supports-same}
 
 -- what the test says of each block of the branch
@@ -156,7 +156,7 @@ module _ (s : Sizes) (is_member : ℕ → Bool) (enough : quorum s ≤ count_bel
                 | inr below ↦ (
                     let shorter = just1-below c is_branch (omega (arith, high)) in
                     justifies-below k y (omega (arith, shorter, low))
-                    (certified s is_member whole own l (counted-voted is_member whole course.ordered i.0) c
+                    (certified s is_member whole own (taken-certified s is_member enough whole course i.0 i.1) c
                     (voted-tree s own l c i.2) (omega (arith, j, below, h)))
                     x (extends-between c y x (just1-extends c) e (omega (arith, j, below))) h)
               ])

@@ -7,20 +7,23 @@ use Rattle.definitions.specs.Lists.{Among, IsBeginning, count_below}
 use Rattle.definitions.specs.Branches.{Branch, just1, branch_eq}
 use Rattle.ids.specs.Sizes.{Sizes, replicas, quorum}
 use Rattle.definitions.specs.Chronicles.{Admitted, Step, Chronicle, voted_blocks, taken_blocks, tree, lock}
-use Rattle.definitions.specs.Chronicles.{IsLawful}
-use Rattle.definitions.specs.Agreement.{Family, supports, MayBeCertified, Order, steps_of, IsOrdered}
+use Rattle.definitions.specs.Chronicles.{Step.took_block, HasGrounds.by_genesis, HasGrounds.by_votes}
+use Rattle.definitions.specs.Chronicles.{HasGrounds.by_take, HasGrounds.by_senders, IsLawfulTake}
+use Rattle.definitions.specs.Chronicles.{IsLawfulStep, IsLawful}
+use Rattle.definitions.specs.Agreement.{Family, supports, MayBeCertified, Order, steps_of, IsBacked}
+use Rattle.definitions.specs.Agreement.{IsOrdered}
 use Rattle.definitions.proofs.Branches.{branch_eq-decides, length-extends, just1-extends, just2-is}
-use Rattle.definitions.proofs.Orders.{backed-now, order-grows, counted-voted}
-use Rattle.definitions.proofs.Chronicles.{lawful-taken, taken-now, voted-cases, IsVote, vote-higher}
+use Rattle.definitions.proofs.Orders.{order-grows}
+use Rattle.definitions.proofs.Chronicles.{taken-now, voted-cases, IsVote, vote-higher}
 use Rattle.definitions.proofs.Chronicles.{same-vote, lock-cases, tree-taken, tree-just1, taken-tree}
-use Rattle.definitions.proofs.Quorums.{shared}
-use Rattle.definitions.proofs.Counts.{count-listed}
+use Rattle.definitions.proofs.Quorums.{shared, some-member}
+use Rattle.definitions.proofs.Counts.{count-listed, count-mono}
 
 -- the family whose members have made the steps of this order
 abbrev pub family_at : Sizes → (ℕ → Bool) → Order → Family
 family_at s is_member o = record { sizes = s; is_member = is_member; chronicle = λ i. steps_of i o }
 
--- each step of this order is lawful, and stands behind the votes that it counts
+-- each step of this order is lawful, and stands behind what it has of others
 pub record IsLawfulOrder (s : Sizes) (is_member : ℕ → Bool) (o : Order) : Type 0 where
   pub ordered : IsOrdered is_member o
   pub lawful : (i : ℕ) → is_member i ≡ true → IsLawful s (steps_of i o)
@@ -132,64 +135,100 @@ unfolding supports
 supports-from fam b i h = cond_both (fam.is_member i) _ true (λ (t : Bool). t ≡ true)
     (λ m. among-any b (voted_blocks (fam.chronicle i)) (h m)) (λ n. refl)
 
--- the votes that this chronicle counts in members' names stand in this order
-abbrev pub AreCounted : (ℕ → Bool) → Chronicle → Order → Type 0
-AreCounted is_member c o =
-    (a : Admitted) → Among a (taken_blocks c) → a.new ≡ true → (v : ℕ) → Among v a.counted
-    → is_member v ≡ true
-    → Among (just1 a.branch) (voted_blocks (steps_of v o))
+-- what may be certified by the steps of an order may be certified after one more
+certified-grows : (s : Sizes) (is_member : ℕ → Bool) (p : ℕ × Step) (o : Order) (b : Branch)
+    → MayBeCertified (family_at s is_member o) b → MayBeCertified (family_at s is_member (p ∷ o)) b
+certified-grows s is_member p o b h =
+    let k = count-mono (replicas s) (supports (family_at s is_member o) b)
+    (supports (family_at s is_member (p ∷ o)) b)
+    (λ i l t. supports-from (family_at s is_member (p ∷ o)) b i
+    (λ mi. order-grows p.0 p.1 o i b (supporter-voted (family_at s is_member o) b i mi t))) in
+    omega (arith, h, k)
 
--- they stand before the newest step
-pub counted-before : (is_member : ℕ → Bool) (p : ℕ × Step) (o : Order) → IsOrdered is_member (p ∷ o)
-    → (i : ℕ) → AreCounted is_member (steps_of i (p ∷ o)) o
-unfolding steps_of
-counted-before is_member p o h i a m n v k mv =
-    cond_both (p.0 == i) (p.1 ∷ steps_of i o) (steps_of i o)
-    (λ (c : Chronicle). Among a (taken_blocks c) → Among (just1 a.branch) (voted_blocks (steps_of v o)))
-    (λ e x. elim (taken-now p.1 (steps_of i o) a x) [
-      | inl now ↦ backed-now is_member p.1 o a now.0 h.0 n v k mv
-      | inr y ↦ counted-voted is_member o h.1 i a y n v k mv
-    ])
-    (λ e x. counted-voted is_member o h.1 i a x n v k mv) m
-
--- so the block that a taken one justifies is certified
-pub taken-certified : (s : Sizes) (is_member : ℕ → Bool) (o : Order) (c : Chronicle) → IsLawful s c
-    → AreCounted is_member c o → (a : Admitted) → Among a (taken_blocks c) → 0 < length (just1 a.branch)
+-- what the blocks that this chronicle took justify may be certified by the steps of this order
+abbrev pub JustifiesCertified : Sizes → (ℕ → Bool) → Chronicle → Order → Type 0
+JustifiesCertified s is_member c o =
+    (a : Admitted) → Among a (taken_blocks c) → 0 < length (just1 a.branch)
     → MayBeCertified (family_at s is_member o) (just1 a.branch)
-taken-certified s is_member o c l counted a m h =
-    let x : Branch = just1 a.branch in
-    let fam : Family = family_at s is_member o in
-    let law = lawful-taken s c l a m in
-    elim law.0 [
-      | inl q ↦ omega (
-        arith,
-        q.2,
-        count-listed (replicas s) (supports fam x) a.counted q.0 q.1
-            (λ v k. supports-from fam x v (λ mv. counted a m law.2 v k mv)),
-      )
-      | inr e ↦ absurd (omega (arith, h, ap (λ (z : Branch). length z) e))
-    ]
 
--- and so is the one that a block of the tree justifies
-pub certified : (s : Sizes) (is_member : ℕ → Bool) (o : Order) (c : Chronicle) → IsLawful s c
-    → AreCounted is_member c o → (b : Branch) → Among b (tree c) → 0 < length (just1 b)
+-- from here on: enough members for a quorum
+module _ (s : Sizes) (is_member : ℕ → Bool) (enough : quorum s ≤ count_below (replicas s) is_member) where
+  -- what the blocks that members took in an order justify may be certified in it
+  abbrev EachJustifiesCertified : Order → Type 0
+  EachJustifiesCertified o = (i : ℕ) → is_member i ≡ true → JustifiesCertified s is_member (steps_of i o) o
+
+  -- the block that a member's newest step takes justifies what could be certified before
+  step-certified : (o : Order) → EachJustifiesCertified o → (i : ℕ) → is_member i ≡ true → (a : Admitted)
+      → a.new ≡ true → IsLawfulTake s a (steps_of i o) → IsBacked is_member (took_block a) o
+      → 0 < length (just1 a.branch) → MayBeCertified (family_at s is_member o) (just1 a.branch)
+  step-certified o older i mi a new law backed h =
+      let fam : Family = family_at s is_member o in
+      elim law.certified [
+        | by_genesis e ↦ absurd (omega (arith, h, ap (λ (z : Branch). length z) e))
+        | by_votes q ↦ omega (
+          arith,
+          q.2,
+          count-listed (replicas s) (supports fam (just1 a.branch)) a.counted q.0 q.1
+              (λ v k. supports-from fam (just1 a.branch) v (λ mv. (backed new v mv).0 k)),
+        )
+        | by_take x m e ↦ subst (MayBeCertified fam) e
+            (older i mi x m (omega (arith, h, ap (λ (z : Branch). length z) e)))
+        | by_senders q ↦
+            let v = some-member s is_member a.senders enough q.0 q.1 q.2 in
+            let y = (backed new v.0 v.2).1 v.1 in
+            let e : just1 y.0.branch ≡ just1 a.branch = ap just1 y.2 in
+            subst (MayBeCertified fam) e
+            (older v.0 v.2 y.0 y.1 (omega (arith, h, ap (λ (z : Branch). length z) e)))
+      ]
+
+  -- so each taken block of a member justifies what could be certified before the newest step
+  older-certified : (p : ℕ × Step) (o : Order) → EachJustifiesCertified o → IsLawfulOrder s is_member (p ∷ o)
+      → (i : ℕ) → is_member i ≡ true → JustifiesCertified s is_member (steps_of i (p ∷ o)) o
+  unfolding steps_of
+  older-certified p o older l i mi =
+      cond_both (p.0 == i) (p.1 ∷ steps_of i o) (steps_of i o)
+      (λ (c : Chronicle). IsLawful s c → JustifiesCertified s is_member c o)
+      (λ e lc a m h. elim (taken-now p.1 (steps_of i o) a m) [
+        | inl now ↦ step-certified o older i mi a now.1
+            ((subst (λ (x : Step). IsLawfulStep s x (steps_of i o)) now.0 lc.0).1 now.1)
+            (subst (λ (x : Step). IsBacked is_member x o) now.0 l.ordered.0) h
+        | inr k ↦ older i mi a k h
+      ])
+      (λ e lc. older i mi) (l.lawful i mi)
+
+  -- by induction on the order: what a block justifies that a member took may be certified
+  pub taken-certified : (o : Order) → IsLawfulOrder s is_member o → EachJustifiesCertified o
+  unfolding steps_of taken_blocks
+  taken-certified [] l i mi a m h = absurd m
+  taken-certified (p ∷ o) l i mi a m h =
+      certified-grows s is_member p o (just1 a.branch)
+      (older-certified p o (taken-certified o (lawful-older s is_member p o l)) l i mi a m h)
+
+  -- also before the newest step
+  pub certified-before : (p : ℕ × Step) (o : Order) → IsLawfulOrder s is_member (p ∷ o) → (i : ℕ)
+      → is_member i ≡ true → JustifiesCertified s is_member (steps_of i (p ∷ o)) o
+  certified-before p o l = older-certified p o (taken-certified o (lawful-older s is_member p o l)) l
+
+-- so may what a block of the tree justifies
+pub certified : (s : Sizes) (is_member : ℕ → Bool) (o : Order) (c : Chronicle)
+    → JustifiesCertified s is_member c o → (b : Branch) → Among b (tree c) → 0 < length (just1 b)
     → MayBeCertified (family_at s is_member o) (just1 b)
-certified s is_member o c l counted b m h =
+certified s is_member o c taken b m h =
     let a = tree-taken c b m (omega (arith, length-extends b (just1 b) (just1-extends b))) in
     let high : 0 < length (just1 a.0.branch) = omega (arith, h, ap (λ (z : Branch). length (just1 z)) a.2) in
-    subst (λ (x : Branch). MayBeCertified (family_at s is_member o) (just1 x)) a.2
-    (taken-certified s is_member o c l counted a.0 a.1 high)
+    subst (λ (x : Branch). MayBeCertified (family_at s is_member o) (just1 x)) a.2 (taken a.0 a.1 high)
 
 -- a lock above genesis is certified
 pub lock-certified : (s : Sizes) (is_member : ℕ → Bool) (o : Order) (c : Chronicle) → IsLawful s c
-    → AreCounted is_member c o → 0 < length (lock c) → MayBeCertified (family_at s is_member o) (lock c)
-lock-certified s is_member o c l counted h =
+    → JustifiesCertified s is_member c o → 0 < length (lock c)
+    → MayBeCertified (family_at s is_member o) (lock c)
+lock-certified s is_member o c l taken h =
     elim (lock-cases c) [
       | inl e ↦ absurd (omega (arith, ap (λ (z : Branch). length z) e))
       | inr a ↦ (
           let same : just1 (just1 a.0.branch) ≡ lock c = just2-is a.0.branch ∙ sym a.2 in
           subst (MayBeCertified (family_at s is_member o)) same
-          (certified s is_member o c l counted (just1 a.0.branch)
+          (certified s is_member o c taken (just1 a.0.branch)
           (tree-just1 s c l a.0.branch (taken-tree c a.0 a.1))
           (omega (arith, h, ap (λ (z : Branch). length z) same))))
     ]

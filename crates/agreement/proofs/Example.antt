@@ -1,13 +1,14 @@
 -- Three of four replicas take and vote for four blocks, each on the one before, and decide the first.
-use Rattle.std.proofs.Common.{ℕ, zero, suc, ◌≡◌, ◌<◌, ◌≤◌, ◌⊎◌, Bool, true, List, [], ◌∷◌, length, refl}
-use Rattle.std.proofs.Common.{sym, ap, subst, ◌∙◌, arith, inl, inr, nat_lt, ltb-true}
+use Rattle.std.proofs.Common.{ℕ, zero, suc, ◌≡◌, ◌<◌, ◌≤◌, Bool, true, List, [], ◌∷◌, length, refl}
+use Rattle.std.proofs.Common.{sym, ap, subst, arith, inl, inr, nat_lt, ltb-true}
 use Rattle.definitions.specs.Digests.{core_of}
 use Rattle.std.specs.List.{AllByRecursion}
 use Rattle.definitions.specs.Lists.{beginning, Among, AreDistinct, greatest, count_below}
 use Rattle.definitions.specs.Branches.{Branch, justify_height, just1, just2, just3, Extends, highest}
-use Rattle.ids.specs.Sizes.{Sizes, replicas, quorum}
+use Rattle.ids.specs.Sizes.{Sizes}
 use Rattle.definitions.specs.Chronicles.{Admitted, Step, Step.took_block, Chronicle, voted_blocks}
-use Rattle.definitions.specs.Chronicles.{taken_blocks, tree}
+use Rattle.definitions.specs.Chronicles.{taken_blocks, tree, HasGrounds, HasGrounds.by_genesis}
+use Rattle.definitions.specs.Chronicles.{HasGrounds.by_votes}
 use Rattle.definitions.specs.Chronicles.{vheight, lock, decides, decided_by, decided, IsLawful, stored_blocks}
 use Rattle.definitions.specs.Agreement.{Order, steps_of, IsOrdered}
 use Rattle.definitions.proofs.Lists.{beginning-append}
@@ -34,6 +35,7 @@ took b voters = record {
   core = core_of b;
   certificate = record { digest = []; votes = [] };
   counted = voters;
+  senders = [];
   clear = true;
   new = true;
   voted = true;
@@ -68,9 +70,7 @@ record MayDo (parent : Branch) (voters : List ℕ) (c : Chronicle) : Type 0 wher
   safe : Extends (on parent) (lock c)
   lower : AllByRecursion (λ x. length x < suc (length parent)) (tree c)
   stands : Among parent (tree c)
-  certified :
-      (AreDistinct voters × AllByRecursion (λ v. v < replicas sizes) voters
-      × (quorum sizes ≤ length voters)) ⊎ (parent ≡ [])
+  certified : HasGrounds sizes parent voters [] c
 
 does-lawful : (parent : Branch) (voters : List ℕ) (c : Chronicle) → MayDo parent voters c → IsLawful sizes c
     → IsLawful sizes (does (on parent) voters ∷ c)
@@ -86,7 +86,7 @@ does-lawful parent voters c h l = (
     λ n. record {
       new = lower-apart (on parent) (tree c) h.lower;
       parent = (record { commands = []; justify = length parent }, parent, refl, omega arith, h.stands);
-      certified = elim h.certified [ inl q ↦ inl q | inr e ↦ inr (just1-on parent ∙ e) ];
+      certified = subst (λ (b : Branch). HasGrounds sizes b voters [] c) (sym (just1-on parent)) h.certified;
     },
   ),
   l,
@@ -133,7 +133,7 @@ lawful1 = does-lawful [] [] [] (record {
   safe = (block1, refl);
   lower = (omega arith, tt);
   stands = inl refl;
-  certified = inr refl;
+  certified = by_genesis refl;
 }) tt
 
 lawful2 : IsLawful sizes history2
@@ -144,7 +144,7 @@ lawful2 = does-lawful block1 three history1 (record {
   safe = (block2, refl);
   lower = (omega arith, (omega arith, tt));
   stands = inl refl;
-  certified = inl three-quorum;
+  certified = by_votes three-quorum;
 }) lawful1
 
 lawful3 : IsLawful sizes history3
@@ -155,7 +155,7 @@ lawful3 = does-lawful block2 three history2 (record {
   safe = (block3, refl);
   lower = (omega arith, (omega arith, (omega arith, tt)));
   stands = inl refl;
-  certified = inl three-quorum;
+  certified = by_votes three-quorum;
 }) lawful2
 
 -- the lock is block1 by now
@@ -171,7 +171,7 @@ lawful4 = does-lawful block3 three history3 (record {
   );
   lower = (omega arith, (omega arith, (omega arith, (omega arith, tt))));
   stands = inl refl;
-  certified = inl three-quorum;
+  certified = by_votes three-quorum;
 }) lawful3
 
 -- the members make one step each
@@ -180,14 +180,23 @@ round st o = (2, st) ∷ (1, st) ∷ (0, st) ∷ o
 
 -- where each voter that a step counts voted before, the members may make it in a round
 round-ordered : (a : Admitted) (o : Order)
-    → ((v : ℕ) → Among v a.counted → Among (just1 a.branch) (voted_blocks (steps_of v o)))
+    → ((v : ℕ) → Among v a.counted → Among (just1 a.branch) (voted_blocks (steps_of v o))) → a.senders ≡ []
     → IsOrdered is_member o
     → IsOrdered is_member (round (took_block a) o)
-round-ordered a o votes h = (
-  λ n v k m. order-grows 1 (took_block a) ((0, took_block a) ∷ o) v (just1 a.branch)
-      (order-grows 0 (took_block a) o v (just1 a.branch) (votes v k)),
-  (λ n v k m. order-grows 0 (took_block a) o v (just1 a.branch) (votes v k), (λ n v k m. votes v k, h)),
+round-ordered a o votes sent h = (
+  λ n v m. (
+    λ k. order-grows 1 (took_block a) ((0, took_block a) ∷ o) v (just1 a.branch)
+        (order-grows 0 (took_block a) o v (just1 a.branch) (votes v k)),
+    λ k. none-sent v k,
+  ),
+  (
+    λ n v m. (λ k. order-grows 0 (took_block a) o v (just1 a.branch) (votes v k), λ k. none-sent v k),
+    (λ n v m. (λ k. votes v k, λ k. none-sent v k), h),
+  ),
 )
+  where
+    none-sent : {P : Type 0} (v : ℕ) → Among v a.senders → P
+    none-sent v k = absurd (subst (Among v) sent k)
 
 each-three : (P : ℕ → Type 0) → P 0 → P 1 → P 2 → (v : ℕ) → Among v three → P v
 each-three P x y z v (inl e) = subst P (sym e) x
@@ -214,12 +223,12 @@ order4-ordered : IsOrdered is_member order4
 unfolding steps_of voted_blocks just1 justify_height beginning
 order4-ordered =
     round-ordered (took (on block3) three) order3
-    (each-three (voted-on block3 order3) (inl refl) (inl refl) (inl refl))
+    (each-three (voted-on block3 order3) (inl refl) (inl refl) (inl refl)) refl
     (round-ordered (took block3 three) order2
-    (each-three (voted-on block2 order2) (inl refl) (inl refl) (inl refl))
+    (each-three (voted-on block2 order2) (inl refl) (inl refl) (inl refl)) refl
     (round-ordered (took block2 three) order1
-    (each-three (voted-on block1 order1) (inl refl) (inl refl) (inl refl))
-    (round-ordered (took block1 []) [] (λ v k. absurd k) tt)))
+    (each-three (voted-on block1 order1) (inl refl) (inl refl) (inl refl)) refl
+    (round-ordered (took block1 []) [] (λ v k. absurd k) refl tt)))
 
 whole : (i : ℕ) → is_member i ≡ true → steps_of i order4 ≡ history4
 unfolding steps_of

@@ -1,20 +1,22 @@
 -- Votes that are missing at the fronts.
 use Rattle.std.proofs.Common.{ℕ, ◌≡◌, Bool, true, false, List, [], refl, sym, ap, subst, ◌∙◌, inl, inr}
-use Rattle.std.proofs.Common.{Option, None, Some, true≢false, not}
+use Rattle.std.proofs.Common.{Option, None, Some, true≢false, not, length, arith}
 use Rattle.std.specs.Prelude.{◌==◌, All, MatchOption}
 use Rattle.std.specs.Option.{is_some}
 use Rattle.std.specs.Borrow.{Bor}
 use Rattle.std.specs.List.{list_all, list_any}
-use Rattle.std.proofs.lemmas.Bool.{cases_Bool, eqb-true, eq-eqb}
+use Rattle.std.proofs.lemmas.Bool.{cases_Bool, cases_lt, eqb-true, eq-eqb, and_parts, and_from}
 use Rattle.definitions.specs.Bytes.{Bytes}
 use Rattle.definitions.specs.Lists.{Among}
 use Rattle.definitions.specs.Chronicles.{Step}
-use Rattle.definitions.specs.Audit.{Judged, Cut, is_judged, chronicle_of, counted_by, counted_for, step_after}
-use Rattle.definitions.specs.Audit.{is_backed, may_move, AreFronts, IsUnbacked}
+use Rattle.definitions.specs.Audit.{Judged, Cut, is_judged, chronicle_of, counted_by, counted_for, sent_by}
+use Rattle.definitions.specs.Audit.{sent_block, step_after, has_taken, each_judged, is_backed, may_move}
+use Rattle.definitions.specs.Audit.{AreFronts}
 use Rattle.audit_ground.specs.Law.{NoneUnbacked}
 use Rattle.definitions.proofs.Lists.{all-passes}
-use Rattle.audit_ground.proofs.Lists.{any-found, any-from}
-use Rattle.audit_ground.proofs.Fronts.{behind-not_backed, unbacked-votes_are_seen, is_backed_if, may_move-is}
+use Rattle.audit_ground.proofs.Lists.{any-found, any-from, step_after-some}
+use Rattle.audit_ground.proofs.Fronts.{behind-not_backed, whole-none_unbacked, fronts-short, is_backed_if}
+use Rattle.audit_ground.proofs.Fronts.{may_move-is}
 use Rattle.replica.specs.Steps.{Held}
 use Rattle.audit.specs.Judged.{judged}
 use Rattle.audit.specs.Fronts.{vote_stands}
@@ -30,25 +32,30 @@ not-behind ks k u s f behind b = true≢false (sym b ∙ behind-not_backed ks k 
 none_some : {A : Type 0} {x : A} → None ≡ Some x → ⊥
 none_some e = cc
 
--- where nothing is behind a front, it has no unbacked vote
-none-of : (ks : Judged) (k : Cut) (u v : ℕ) (d : Bytes) → AreFronts ks k
-    → step_after (k u) (chronicle_of ks u) ≡ None → IsUnbacked ks u v d → ⊥
-none-of ks k u v d f none r =
-    let s = unbacked-votes_are_seen ks k u v d f r in none_some (sym none ∙ s.1)
+-- where nothing is behind a front, it is whole
+whole : (ks : Judged) (k : Cut) (u : ℕ) → AreFronts ks k → step_after (k u) (chronicle_of ks u) ≡ None
+    → k u ≡ length (chronicle_of ks u)
+whole ks k u f none =
+    elim (cases_lt (k u) (length (chronicle_of ks u))) [
+      | inl l ↦ absurd (none_some (sym none ∙ (step_after-some (k u) (chronicle_of ks u) l).1))
+      | inr g ↦ let s = fronts-short ks k f u in omega (arith, s, g)
+    ]
 
 -- where all fronts are whole, no vote is unbacked
 pub none-unbacked : (rs : List (Bor Held)) (k : Cut) → AreFronts (judged rs) k
     → All (λ r. step_after (k r.now.keys.party) (chronicle_of (judged rs) r.now.keys.party) ≡ None) rs
     → NoneUnbacked (judged rs)
-none-unbacked rs k f h u v d =
-    none-of (judged rs) k u v d f (elim (cases_Bool (is_judged (judged rs) u)) [
+none-unbacked rs k f h = whole-none_unbacked (judged rs) k f (λ u. whole (judged rs) k u f (ends u))
+  where
+    ends : (u : ℕ) → step_after (k u) (chronicle_of (judged rs) u) ≡ None
+    ends u = elim (cases_Bool (is_judged (judged rs) u)) [
       | inl t ↦
           let r = by-number rs u t in
           subst (λ (i : ℕ). step_after (k i) (chronicle_of (judged rs) i) ≡ None) r.2
           (each-holds (λ (x : Bor Held).
           step_after (k x.now.keys.party) (chronicle_of (judged rs) x.now.keys.party) ≡ None) rs h r.0 r.1)
       | inr n ↦ no-steps (judged rs) (k u) u n
-    ])
+    ]
 
 -- one vote that doesn't stand is enough
 lacking : (ks : Judged) (k : Cut) (s : Step) (v : ℕ) (d : Bytes) → Among v (counted_by s)
@@ -56,21 +63,28 @@ lacking : (ks : Judged) (k : Cut) (s : Step) (v : ℕ) (d : Bytes) → Among v (
 unfolding is_backed
 lacking ks k s v d m e h =
     elim (cases_Bool (is_backed ks k s)) [
-      | inl t ↦ absurd (true≢false (sym (all-passes (vote_stands ks k (counted_for s)) (counted_by s) v t m)
-          ∙ ap (λ (x : Bytes). vote_stands ks k x v) e ∙ h))
+      | inl t ↦ absurd (true≢false (sym (all-passes (vote_stands ks k (counted_for s)) (counted_by s) v
+          (and_parts _ _ t).0 m) ∙ ap (λ (x : Bytes). vote_stands ks k x v) e ∙ h))
       | inr f ↦ f
     ]
 
+-- where the step names no senders, the votes alone decide
+by-votes : (ks : Judged) (k : Cut) (s : Step) → sent_by s ≡ []
+    → list_all (vote_stands ks k (counted_for s)) (counted_by s) ≡ true → is_backed ks k s ≡ true
+unfolding is_backed
+by-votes ks k s none h = and_from _ _ h (ap (each_judged ks (has_taken ks k (sent_block s))) none)
+
 -- all that stand are enough
 pub all-backed : (ks : Judged) (k : Cut) (s : Step) (d : Bytes) (voters : List ℕ) → voters ≡ counted_by s
-    → d ≡ counted_for s → list_all (vote_stands ks k d) voters ≡ true → is_backed ks k s ≡ true
-unfolding is_backed
-all-backed ks k s d voters v e h = sym (λ i. list_all (vote_stands ks k (e i)) (v i)) ∙ h
+    → d ≡ counted_for s → sent_by s ≡ [] → list_all (vote_stands ks k d) voters ≡ true
+    → is_backed ks k s ≡ true
+all-backed ks k s d voters v e none h =
+    by-votes ks k s none (sym (λ i. list_all (vote_stands ks k (e i)) (v i)) ∙ h)
 
 -- a step that counts none is backed
-pub none-counted : (ks : Judged) (k : Cut) (s : Step) → counted_by s ≡ [] → is_backed ks k s ≡ true
-unfolding is_backed
-none-counted ks k s e = ap (list_all (vote_stands ks k (counted_for s))) e
+pub none-counted : (ks : Judged) (k : Cut) (s : Step) → counted_by s ≡ [] → sent_by s ≡ []
+    → is_backed ks k s ≡ true
+none-counted ks k s e none = by-votes ks k s none (ap (list_all (vote_stands ks k (counted_for s))) e)
 
 -- the replica may move where its next step is backed
 pub moves : (ks : Judged) (k : Cut) (u : ℕ) (s : Step) → Some s ≡ step_after (k u) (chronicle_of ks u)

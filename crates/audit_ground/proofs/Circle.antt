@@ -12,6 +12,7 @@ use Rattle.definitions.specs.Chronicles.{Step.took_block, voted_blocks, taken_bl
 use Rattle.definitions.specs.Chronicles.{stored_blocks}
 use Rattle.definitions.specs.Trees.{is_clear, clear_above}
 use Rattle.definitions.specs.Audit.{Turns, steps_in, Judged, is_judged, chronicle_of, gives_vote, counted_by}
+use Rattle.definitions.specs.Audit.{takes, sent_by, sent_block, has_taken}
 use Rattle.definitions.specs.Audit.{counted_for, step_after, has_vote, is_backed, may_move, AreFronts}
 use Rattle.definitions.specs.Audit.{IsUnbacked}
 use Rattle.audit_ground.specs.Law.{AreOfFour, SomeCircle}
@@ -88,7 +89,7 @@ turns = 3 ∷ 3 ∷ 3 ∷ 2 ∷ 2 ∷ 1 ∷ []
 -- these are all turns
 all-turns : AreAllTurns judged turns
 unfolding may_move is_backed has_vote step_after chronicle_of is_judged steps_in counted_by counted_for
-    gives_vote beginning digest digest_of core_of core_over just1 justify_height sha256 digest_bytes
+    takes sent_by sent_block has_taken gives_vote beginning digest digest_of core_of core_over just1 justify_height sha256 digest_bytes
     hash_after compress rounds schedule first_words
 all-turns = (
   (refl, (refl, (refl, (refl, (refl, (refl, tt)))))),

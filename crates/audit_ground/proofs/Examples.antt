@@ -1,5 +1,5 @@
 -- What the examples share: lives of replicas, and tests that they are kept.
-use Rattle.std.proofs.Common.{ℕ, zero, suc, ◌≡◌, ◌<◌, ◌≤◌, ◌⊎◌, ◌&&◌, ◌||◌, ◌==◌, not, Bool, true, false}
+use Rattle.std.proofs.Common.{ℕ, zero, suc, ◌≡◌, ◌<◌, ◌≤◌, ◌&&◌, ◌||◌, ◌==◌, not, Bool, true, false}
 use Rattle.std.proofs.Common.{List, [], ◌∷◌, map, length, nat_lt, refl, sym, ap, subst, ◌∙◌, arith, inl}
 use Rattle.std.proofs.Common.{inr, true≢false}
 use Rattle.std.specs.List.{list_any, AllByRecursion}
@@ -20,7 +20,8 @@ use Rattle.definitions.specs.Digests.{digest, digest_of, core_of, NoCollision}
 use Rattle.definitions.specs.Chronicles.{Admitted, Step.took_block, Chronicle, taken_blocks, tree, vheight}
 use Rattle.definitions.specs.Chronicles.{lock}
 use Rattle.definitions.specs.Chronicles.{decides, decided_by, decided, executed, history, stored_blocks}
-use Rattle.definitions.specs.Chronicles.{IsLawfulVote, IsLawfulTake, IsLawful}
+use Rattle.definitions.specs.Chronicles.{AreReplicas, HasGrounds, HasGrounds.by_genesis}
+use Rattle.definitions.specs.Chronicles.{HasGrounds.by_votes, IsLawfulVote, IsLawfulTake, IsLawful}
 use Rattle.definitions.specs.Trees.{clear_above}
 use Rattle.definitions.proofs.Sound.{clear_above-each}
 use Rattle.definitions.specs.Replicas.{Standing.running, held_history}
@@ -45,6 +46,7 @@ admitted b counted voted = record {
   core = core_of b;
   certificate = record { digest = digest_of (just1 b); votes = [] };
   counted = counted;
+  senders = [];
   clear = true;
   new = true;
   voted = voted;
@@ -101,8 +103,7 @@ are_quorum counted =
 
 -- the same, as the law says it
 abbrev IsQuorum : List ℕ → Type 0
-IsQuorum counted =
-    AreDistinct counted × AllByRecursion (λ v. v < replicas sizes) counted × (quorum sizes ≤ length counted)
+IsQuorum counted = AreReplicas sizes (quorum sizes) counted
 
 -- numbers that pass are distinct
 AreDistinct-from : (xs : List ℕ) → are_distinct xs ≡ true → AreDistinct xs
@@ -131,11 +132,13 @@ abbrev is_certified : Branch → List ℕ → Bool
 is_certified b counted = are_quorum counted || branch_eq (just1 b) []
 
 -- a block that passes does so
-certified-from : (b : Branch) (counted : List ℕ) → is_certified b counted ≡ true
-    → IsQuorum counted ⊎ (just1 b ≡ [])
-certified-from b counted h =
-    elim (or_cases (are_quorum counted) (branch_eq (just1 b) []) h)
-    [ inl q ↦ inl (IsQuorum-from counted q) | inr e ↦ inr ((branch_eq-decides (just1 b) []).0 e) ]
+certified-from : (b : Branch) (counted : List ℕ) (c : Chronicle) → is_certified b counted ≡ true
+    → HasGrounds sizes (just1 b) counted [] c
+certified-from b counted c h =
+    elim (or_cases (are_quorum counted) (branch_eq (just1 b) []) h) [
+      | inl q ↦ by_votes (IsQuorum-from counted q)
+      | inr e ↦ by_genesis ((branch_eq-decides (just1 b) []).0 e)
+    ]
 
 -- the block is new, and stands on its parent
 unfoldable pub may_take : Branch → Chronicle → Bool
@@ -159,7 +162,7 @@ lives_well (t ∷ earlier) =
 
 -- a block that may be taken is taken lawfully
 take-lawful : (b : Branch) (counted : List ℕ) (voted : Bool) (c : Chronicle) → may_take b c ≡ true
-    → IsQuorum counted ⊎ (just1 b ≡ []) → IsLawfulTake sizes (admitted b counted voted) c
+    → HasGrounds sizes (just1 b) counted [] c → IsLawfulTake sizes (admitted b counted voted) c
 unfolding may_take
 take-lawful [] counted voted c h q = absurd (true≢false (sym h))
 take-lawful (b ∷ parent) counted voted c h q =
@@ -215,7 +218,7 @@ life-lawful (t ∷ earlier) h =
         (λ v. vote-lawful t.0 t.1 t.2 (life earlier) (elim (or_cases (not t.2)
             (votes_well t.0 (life (t ∷ earlier)) (life earlier)) p.vote)
             [ inl n ↦ absurd (true≢false (sym n ∙ not_from_true t.2 v)) | inr w ↦ w ])),
-        (λ n. take-lawful t.0 t.1 t.2 (life earlier) p.take (certified-from t.0 t.1 p.certified)),
+        (λ n. take-lawful t.0 t.1 t.2 (life earlier) p.take (certified-from t.0 t.1 (life earlier) p.certified)),
       ),
       life-lawful earlier p.rest,
     )

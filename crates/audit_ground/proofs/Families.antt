@@ -1,11 +1,10 @@
 -- Where all fronts are whole and no cores collide, the judged are a lawful family: their turns are an order
 -- of their steps.
-use Rattle.std.proofs.Common.{ℕ, suc, ◌≡◌, ◌≤◌, ◌||◌, not, true, false, List, [], ◌∷◌, length, refl, sym}
+use Rattle.std.proofs.Common.{ℕ, suc, ◌≡◌, ◌≤◌, true, false, List, [], ◌∷◌, length, refl, sym}
 use Rattle.std.proofs.Common.{ap, subst, ◌∙◌, arith, inl, inr, Option, Some, None, true≢false}
 use Rattle.std.proofs.lemmas.List.{length-map}
 use Rattle.std.specs.Str.{bytes_eq}
-use Rattle.std.proofs.lemmas.Bool.{cond-true, cond-false, cases_Bool, eqb-true, eq-eqb, and_parts, or_cases}
-use Rattle.std.proofs.lemmas.Bool.{not_from_true}
+use Rattle.std.proofs.lemmas.Bool.{cond-true, cond-false, cases_Bool, eqb-true, eq-eqb, and_parts}
 use lib.Dec.{eqb}
 use lib.Pointwise.{bytes_decides}
 use Rattle.ids.specs.Sizes.{Sizes, replicas, quorum}
@@ -15,18 +14,20 @@ use Rattle.definitions.specs.Frames.{Core, genesis_core}
 use Rattle.definitions.specs.Branches.{Branch, just1}
 use Rattle.definitions.specs.Digests.{digest, StandsFor, NoCollision}
 use Rattle.definitions.specs.Chronicles.{Admitted, Step, Step.took_block, Step.noted, Chronicle, voted_blocks}
+use Rattle.definitions.specs.Chronicles.{taken_blocks, HasTaken}
 use Rattle.definitions.specs.Agreement.{Order, steps_of, IsBacked, IsOrdered, IsOrderly}
 use Rattle.definitions.specs.Audit.{Cut, Turns, steps_in, Judged, is_judged, chronicle_of, gives_vote}
-use Rattle.definitions.specs.Audit.{counted_by, counted_for, step_after, has_vote, is_backed, may_move}
+use Rattle.definitions.specs.Audit.{counted_by, counted_for, takes, sent_by, sent_block, step_after}
+use Rattle.definitions.specs.Audit.{has_vote, has_taken, is_backed, may_move}
 use Rattle.definitions.specs.Audit.{AreAllowed, AreFronts}
-use Rattle.definitions.proofs.Lists.{beginning-whole, all-passes}
+use Rattle.definitions.proofs.Lists.{beginning-whole}
 use Rattle.definitions.proofs.Counts.{count-listed}
-use Rattle.definitions.proofs.Chronicles.{voted-grows}
+use Rattle.definitions.proofs.Chronicles.{voted-grows, taken-grows}
 use Rattle.audit_ground.specs.Law.{KnownTo, IsNamed, AreJudged, NoneUnbacked, judged_family, numbers}
 use Rattle.audit_ground.specs.Law.{BackedChroniclesAreOrderly}
 use Rattle.audit_ground.proofs.Lists.{any-found, Among-beginning, beginning-none, beginning-next, extend}
 use Rattle.audit_ground.proofs.Lists.{step_after-among}
-use Rattle.audit_ground.proofs.Members.{number-judged}
+use Rattle.audit_ground.proofs.Members.{number-judged, each_judged-passes}
 use Rattle.audit_ground.proofs.Fronts.{is_backed_if, may_move-is, fronts-exist, whole-or-unbacked}
 use Rattle.audit_ground.proofs.Known.{stands_for-one, known-genesis, judged-lawful, judged-named}
 
@@ -105,20 +106,42 @@ voted-taken a v (s ∷ c) (inl e) =
     (sym (cond-true a.voted (a.branch ∷ voted_blocks c) (voted_blocks c) v)) (inl refl))
 voted-taken a v (s ∷ c) (inr m) = voted-grows s c a.branch (voted-taken a v c m)
 
+-- what takes a block of this digest takes it as a new one
+given-take : (d : Bytes) (s : Step) → takes d s ≡ true
+    → (a : Admitted) × (s ≡ took_block a) × (a.new ≡ true) × (digest a.core ≡ d)
+unfolding takes
+given-take d (took_block a) h =
+    let p = and_parts a.new (bytes_eq (digest a.core) d) h in
+    (a, refl, p.0, (bytes_decides (digest a.core) d).0 p.1)
+given-take d (noted n) h = absurd (true≢false (sym h))
+
+-- a block that a step takes as a new one is among those taken
+took-taken : (a : Admitted) → a.new ≡ true → (c : Chronicle) → Among (took_block a) c → Among a (taken_blocks c)
+unfolding taken_blocks
+took-taken a n [] m = absurd m
+took-taken a n (s ∷ c) (inl e) =
+    subst (λ (x : Step). Among a (taken_blocks (x ∷ c))) e
+    (subst (λ (l : List Admitted). Among a l)
+    (sym (cond-true a.new (a ∷ taken_blocks c) (taken_blocks c) n)) (inl refl))
+took-taken a n (s ∷ c) (inr m) = taken-grows s c a (took-taken a n c m)
+
 -- a judged replica's vote that a backed step counts stands in the cut
 backed-has_vote : (ks : Judged) (k : Cut) (a : Admitted) → is_backed ks k (took_block a) ≡ true
     → a.new ≡ true → (v : ℕ) → Among v a.counted → is_judged ks v ≡ true
     → has_vote ks k a.certificate.digest v ≡ true
 unfolding is_backed counted_by counted_for
 backed-has_vote ks k a h new v m t =
-    let here : Among v (counted_by (took_block a)) =
-    subst (λ (l : List ℕ). Among v l) (sym (cond-true a.new a.counted [] new)) m in
-    let passes = all-passes (λ i. not (is_judged ks i) || has_vote ks k (counted_for (took_block a)) i)
-    (counted_by (took_block a)) v h here in
-    elim (or_cases (not (is_judged ks v)) (has_vote ks k a.certificate.digest v) passes) [
-      | inl n ↦ absurd (true≢false (sym n ∙ not_from_true (is_judged ks v) t))
-      | inr t ↦ t
-    ]
+    each_judged-passes ks (has_vote ks k a.certificate.digest) (counted_by (took_block a)) (and_parts _ _ h).0 v
+    (subst (λ (l : List ℕ). Among v l) (sym (cond-true a.new a.counted [] new)) m) t
+
+-- and a judged sender of its block took it there
+backed-has_taken : (ks : Judged) (k : Cut) (a : Admitted) → is_backed ks k (took_block a) ≡ true
+    → a.new ≡ true → (v : ℕ) → Among v a.senders → is_judged ks v ≡ true
+    → has_taken ks k (digest a.core) v ≡ true
+unfolding is_backed sent_by sent_block
+backed-has_taken ks k a h new v m t =
+    each_judged-passes ks (has_taken ks k (digest a.core)) (sent_by (took_block a)) (and_parts _ _ h).1 v
+    (subst (λ (l : List ℕ). Among v l) (sym (cond-true a.new a.senders [] new)) m) t
 
 -- from here on: no known cores collide, and the digests of the judged stand for their branches
 module _ (Known : Core → Type 0) (apart : NoCollision Known) (genesis : Known genesis_core) (ks : Judged)
@@ -139,14 +162,34 @@ module _ (Known : Core → Type 0) (apart : NoCollision Known) (genesis : Known 
       subst (λ (y : Branch). Among y (voted_blocks (beginning (k v) (chronicle_of ks v)))) same
       (voted-taken given.0 given.2 (beginning (k v) (chronicle_of ks v)) m)
 
+  -- so is the taking of a digest
+  take-stands : (k : Cut) (v : ℕ) (d : Bytes) (x : Branch) → StandsFor Known d x → has_taken ks k d v ≡ true
+      → HasTaken x (beginning (k v) (chronicle_of ks v))
+  unfolding has_taken
+  take-stands k v d x stands h =
+      let some = any-found (takes d) (beginning (k v) (chronicle_of ks v)) h in
+      let given = given-take d some.0 some.2 in
+      let m : Among (took_block given.0) (beginning (k v) (chronicle_of ks v)) =
+      subst (λ (s : Step). Among s (beginning (k v) (chronicle_of ks v))) given.1 some.1 in
+      let n = named v given.0 (Among-beginning (k v) (chronicle_of ks v) (took_block given.0) m) in (
+        given.0,
+        took-taken given.0 given.2 (beginning (k v) (chronicle_of ks v)) m,
+        stands_for-one Known apart genesis d given.0.branch x
+            (subst (λ (e : Bytes). StandsFor Known e given.0.branch) given.3 n.block) stands,
+      )
+
   -- a step that is backed by digests is backed by branches
   backed-step : (k : Cut) (u : ℕ) (earlier : Order)
       → ((i : ℕ) → steps_of i earlier ≡ beginning (k i) (chronicle_of ks i)) → (s : Step)
       → Among s (chronicle_of ks u) → is_backed ks k s ≡ true → IsBacked (is_judged ks) s earlier
-  backed-step k u earlier same (took_block a) m h = λ new v among t.
-      subst (λ (c : Chronicle). Among (just1 a.branch) (voted_blocks c)) (sym (same v))
-      (vote-stands k v a.certificate.digest (just1 a.branch) (named u a m).justified
-      (backed-has_vote ks k a h new v among t))
+  backed-step k u earlier same (took_block a) m h = λ new v t. (
+    λ among. subst (λ (c : Chronicle). Among (just1 a.branch) (voted_blocks c)) (sym (same v))
+        (vote-stands k v a.certificate.digest (just1 a.branch) (named u a m).justified
+        (backed-has_vote ks k a h new v among t)),
+    λ among. subst (HasTaken a.branch) (sym (same v))
+        (take-stands k v (digest a.core) a.branch (named u a m).block
+        (backed-has_taken ks k a h new v among t)),
+  )
   backed-step k u earlier same (noted n) m h = tt
 
   -- an order with one more step that is backed
@@ -198,7 +241,11 @@ whole-orderly sizes ks j apart k f whole = record {
 fronts-whole : (ks : Judged) → NoneUnbacked ks → (k : Cut) → AreFronts ks k → (u : ℕ)
     → k u ≡ length (chronicle_of ks u)
 fronts-whole ks none k f =
-    elim (whole-or-unbacked ks k f) [ inl whole ↦ whole | inr r ↦ absurd (none r.0 r.1 r.2 r.3) ]
+    elim (whole-or-unbacked ks k f) [
+      | inl whole ↦ whole
+      | inr (inl r) ↦ absurd (none.votes r.0 r.1 r.2 r.3)
+      | inr (inr r) ↦ absurd (none.takes r.0 r.1 r.2 r.3)
+    ]
 
 -- the law of this name
 pub backed-chronicles_are_orderly : BackedChroniclesAreOrderly

@@ -12,6 +12,7 @@ use Rattle.definitions.specs.Trees.{is_clear, clear_above}
 use Rattle.definitions.specs.Histories.{Entry, History}
 use Rattle.definitions.specs.Replicas.{Replica, Standing.running}
 use Rattle.definitions.specs.Audit.{Turns, steps_in, Judged, is_judged, chronicle_of, gives_vote, counted_by}
+use Rattle.definitions.specs.Audit.{takes, sent_by, sent_block, has_taken}
 use Rattle.definitions.specs.Audit.{counted_for, step_after, has_vote, is_backed, may_move, AreFronts}
 use Rattle.definitions.specs.Audit.{IsUnbacked, HistoriesAgree}
 use Rattle.audit_ground.specs.Law.{AreOfFour, SomeFork}
@@ -63,7 +64,7 @@ turns = 3 ∷ 2 ∷ 3 ∷ 2 ∷ 3 ∷ 2 ∷ 3 ∷ 2 ∷ 1 ∷ []
 -- these are all turns
 all-turns : AreAllTurns judged turns
 unfolding may_move is_backed has_vote step_after chronicle_of is_judged steps_in counted_by counted_for
-    gives_vote beginning digest digest_of core_of core_over just1 justify_height sha256 digest_bytes
+    takes sent_by sent_block has_taken gives_vote beginning digest digest_of core_of core_over just1 justify_height sha256 digest_bytes
     hash_after compress rounds schedule first_words
 all-turns = (
   (refl, (refl, (refl, (refl, (refl, (refl, (refl, (refl, (refl, tt))))))))),

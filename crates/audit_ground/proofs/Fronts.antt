@@ -1,24 +1,24 @@
 -- The fronts of judged chronicles: they exist, they are one, and a step behind one counts a vote that is
 -- unbacked.
-use Rattle.std.proofs.Common.{ℕ, ◌≡◌, ◌<◌, ◌⊎◌, ◌||◌, not, Bool, true, false, length, refl, sym, ap, subst}
+use Rattle.std.proofs.Common.{ℕ, ◌≡◌, ◌<◌, ◌⊎◌, Bool, true, false, length, refl, sym, ap, subst}
 use Rattle.std.proofs.Common.{◌∙◌, arith, inl, inr, Option, Some, None, true≢false}
-use Rattle.std.proofs.lemmas.Bool.{cases_lt, ltb-true, lt-ltb, or_cases, or_parts, or_left, or_right}
-use Rattle.std.proofs.lemmas.Bool.{not-false}
+use Rattle.std.proofs.lemmas.Bool.{cases_lt, ltb-true, lt-ltb, and_parts, and_from, and_cases}
 use lib.Dec.{ltb}
 use Rattle.std.specs.List.{list_any}
 use Rattle.definitions.specs.Lists.{beginning, Among}
 use Rattle.definitions.specs.Bytes.{Bytes}
 use Rattle.definitions.specs.Chronicles.{Step}
 use Rattle.definitions.specs.Audit.{Cut, Turns, AreAllowed, steps_in, Judged, is_judged, chronicle_of}
-use Rattle.definitions.specs.Audit.{gives_vote, counted_by, counted_for, step_after, has_vote, is_backed}
-use Rattle.definitions.specs.Audit.{may_move, AreFronts, IsUnbacked}
+use Rattle.definitions.specs.Audit.{gives_vote, counted_by, counted_for, takes, sent_by, sent_block}
+use Rattle.definitions.specs.Audit.{step_after, has_vote, has_taken, is_backed, may_move, AreFronts}
+use Rattle.definitions.specs.Audit.{IsUnbacked, IsUntaken}
 use Rattle.audit_ground.specs.Law.{FrontsAreOne, MovingFindsTheFronts, NoneUnbacked, UnbackedVotesAreSeen}
-use Rattle.audit_ground.proofs.Lists.{any-longer, all-weaker, all-fails, step_after-some, step_after-none}
+use Rattle.audit_ground.proofs.Lists.{any-longer, step_after-some, step_after-none}
 use Rattle.audit_ground.proofs.Lists.{step_after-within}
 use Rattle.audit_ground.proofs.Turns.{greatest-from_stuck, greatest-one, greatest-stuck, Under, IsGrowing}
 use Rattle.audit_ground.proofs.Turns.{IsBounded, IsStuck, stuck-exists, some-mover, reached-start}
 use Rattle.audit_ground.proofs.Turns.{reached-moved, reached-short}
-use Rattle.audit_ground.proofs.Members.{bound, steps-below}
+use Rattle.audit_ground.proofs.Members.{bound, steps-below, each_judged-weaker, each_judged-fails}
 
 -- ---- the rule
 
@@ -28,21 +28,23 @@ has_vote-grows : (ks : Judged) (m k : Cut) (d : Bytes) (v : ℕ) → Under m k �
 unfolding has_vote
 has_vote-grows ks m k d v l = any-longer (gives_vote d) (m v) (k v) (chronicle_of ks v) (l v)
 
+-- so does a block that was taken
+has_taken-grows : (ks : Judged) (m k : Cut) (d : Bytes) (v : ℕ) → Under m k → has_taken ks m d v ≡ true
+    → has_taken ks k d v ≡ true
+unfolding has_taken
+has_taken-grows ks m k d v l = any-longer (takes d) (m v) (k v) (chronicle_of ks v) (l v)
+
 -- a step that is backed by a cut is backed by a longer one
 backed-grows : (ks : Judged) (m k : Cut) (s : Step) → Under m k → is_backed ks m s ≡ true
     → is_backed ks k s ≡ true
 unfolding is_backed
-backed-grows ks m k s l = all-weaker (λ v. not (is_judged ks v) || has_vote ks m (counted_for s) v)
-    (λ v. not (is_judged ks v) || has_vote ks k (counted_for s) v) (counted_by s) one
-  where
-    one : (v : ℕ) → (not (is_judged ks v) || has_vote ks m (counted_for s) v) ≡ true
-        → (not (is_judged ks v) || has_vote ks k (counted_for s) v) ≡ true
-    one v h =
-        elim (or_cases (not (is_judged ks v)) (has_vote ks m (counted_for s) v) h) [
-          | inl a ↦ or_left (not (is_judged ks v)) (has_vote ks k (counted_for s) v) a
-          | inr a ↦ or_right (not (is_judged ks v)) (has_vote ks k (counted_for s) v)
-              (has_vote-grows ks m k (counted_for s) v l a)
-        ]
+backed-grows ks m k s l h =
+    let p = and_parts _ _ h in
+    and_from _ _
+    (each_judged-weaker ks (has_vote ks m (counted_for s)) (has_vote ks k (counted_for s)) (counted_by s)
+    (λ v. has_vote-grows ks m k (counted_for s) v l) p.0)
+    (each_judged-weaker ks (has_taken ks m (sent_block s)) (has_taken ks k (sent_block s)) (sent_by s)
+    (λ v. has_taken-grows ks m k (sent_block s) v l) p.1)
 
 -- whether there is such a step, and it is backed
 unfoldable pub is_backed_if : Judged → Cut → Option Step → Bool
@@ -136,14 +138,22 @@ fronts-stuck ks = greatest-stuck (may_move ks) (may_move-grows ks)
 
 -- ---- behind the fronts
 
--- a step that is not backed counts a judged replica's vote that the cut lacks
-pub not-backed : (ks : Judged) (k : Cut) (s : Step) → is_backed ks k s ≡ false
-    → (v : ℕ) × Among v (counted_by s) × (is_judged ks v ≡ true) × (has_vote ks k (counted_for s) v ≡ false)
+-- a vote is unbacked, or a sender lacks the block that it sent
+abbrev pub SomeUnbacked : Judged → Type 0
+SomeUnbacked ks =
+    ((u v : ℕ) × (d : Bytes) × IsUnbacked ks u v d) ⊎ ((u v : ℕ) × (d : Bytes) × IsUntaken ks u v d)
+
+-- a step that is not backed counts a judged replica's vote that the cut lacks, or names a judged sender that
+-- lacks the block there
+not-backed : (ks : Judged) (k : Cut) (s : Step) → is_backed ks k s ≡ false
+    → ((v : ℕ) × Among v (counted_by s) × (is_judged ks v ≡ true) × (has_vote ks k (counted_for s) v ≡ false))
+    ⊎ ((v : ℕ) × Among v (sent_by s) × (is_judged ks v ≡ true) × (has_taken ks k (sent_block s) v ≡ false))
 unfolding is_backed
 not-backed ks k s e =
-    let r = all-fails (λ v. not (is_judged ks v) || has_vote ks k (counted_for s) v) (counted_by s) e in
-    let p = or_parts (not (is_judged ks r.0)) (has_vote ks k (counted_for s) r.0) r.2 in
-    (r.0, r.1, not-false (is_judged ks r.0) p.0, p.1)
+    elim (and_cases _ _ e) [
+      | inl h ↦ inl (each_judged-fails ks (has_vote ks k (counted_for s)) (counted_by s) h)
+      | inr h ↦ inr (each_judged-fails ks (has_taken ks k (sent_block s)) (sent_by s) h)
+    ]
 
 -- the step after a front is not backed
 pub behind-not_backed : (ks : Judged) (k : Cut) → AreFronts ks k → (u : ℕ) (s : Step)
@@ -152,46 +162,72 @@ unfolding is_backed_if
 behind-not_backed ks k f u s e =
     ap (is_backed_if ks k) (sym e) ∙ (sym (may_move-is ks k u) ∙ fronts-stuck ks k f u)
 
--- a step that stands behind a front counts an unbacked vote
-pub behind-unbacked : (ks : Judged) (k : Cut) → AreFronts ks k → (u : ℕ) → k u < length (chronicle_of ks u)
-    → (v : ℕ) × (d : Bytes) × IsUnbacked ks u v d
+-- a step that stands behind a front gives a reason
+behind-unbacked : (ks : Judged) (k : Cut) → AreFronts ks k → (u : ℕ) → k u < length (chronicle_of ks u)
+    → SomeUnbacked ks
 behind-unbacked ks k f u l =
     let next = step_after-some (k u) (chronicle_of ks u) l in
-    let r = not-backed ks k next.0 (behind-not_backed ks k f u next.0 next.1) in (
-      r.0,
-      counted_for next.0,
-      record {
-        fronts = k;
-        are_fronts = f;
-        step = next.0;
-        behind = next.1;
-        counted = r.1;
-        digest = refl;
-        judged = r.2;
-        missing = r.3;
-      },
-    )
+    elim (not-backed ks k next.0 (behind-not_backed ks k f u next.0 next.1)) [
+      | inl r ↦ inl (
+        u,
+        r.0,
+        counted_for next.0,
+        record {
+          fronts = k;
+          are_fronts = f;
+          step = next.0;
+          behind = next.1;
+          counted = r.1;
+          digest = refl;
+          judged = r.2;
+          missing = r.3;
+        },
+      )
+      | inr r ↦ inr (
+        u,
+        r.0,
+        sent_block next.0,
+        record {
+          fronts = k;
+          are_fronts = f;
+          step = next.0;
+          behind = next.1;
+          sent = r.1;
+          digest = refl;
+          judged = r.2;
+          missing = r.3;
+        },
+      )
+    ]
 
--- the fronts are whole, or some vote is unbacked
+-- the fronts are whole, or there is a reason
 pub whole-or-unbacked : (ks : Judged) (k : Cut) → AreFronts ks k
-    → ((u : ℕ) → k u ≡ length (chronicle_of ks u)) ⊎ ((u v : ℕ) × (d : Bytes) × IsUnbacked ks u v d)
+    → ((u : ℕ) → k u ≡ length (chronicle_of ks u)) ⊎ SomeUnbacked ks
 whole-or-unbacked ks k f =
     elim (some-mover (λ u. ltb (k u) (length (chronicle_of ks u))) (bound ks)) [
-      | inl r ↦ let b = behind-unbacked ks k f r.0 (ltb-true _ _ r.2) in inr (r.0, b.0, b.1, b.2)
+      | inl r ↦ inr (behind-unbacked ks k f r.0 (ltb-true _ _ r.2))
       | inr none ↦ inl (λ u. elim (cases_lt (k u) (length (chronicle_of ks u))) [
         | inl l ↦ absurd (true≢false (sym (lt-ltb _ _ l) ∙ none u (steps-below ks u (omega arith))))
         | inr g ↦ let s = fronts-short ks k f u in omega (arith, s)
       ])
     ]
 
+-- no step stands behind whole fronts
+whole-none_behind : (ks : Judged) (k : Cut) → AreFronts ks k → ((u : ℕ) → k u ≡ length (chronicle_of ks u))
+    → (m : Cut) → AreFronts ks m → (u : ℕ) (s : Step) → step_after (m u) (chronicle_of ks u) ≡ Some s → ⊥
+whole-none_behind ks k f whole m g u s e =
+    let l = step_after-within (m u) (chronicle_of ks u) s e in
+    let same = fronts-one ks m k g f u in
+    let w = whole u in
+    absurd (omega (arith, l, same, w))
+
 -- where some fronts are whole, no vote is unbacked
 pub whole-none_unbacked : (ks : Judged) (k : Cut) → AreFronts ks k
     → ((u : ℕ) → k u ≡ length (chronicle_of ks u)) → NoneUnbacked ks
-whole-none_unbacked ks k f whole u v d r =
-    let l = step_after-within (r.fronts u) (chronicle_of ks u) r.step r.behind in
-    let e = fronts-one ks r.fronts k r.are_fronts f u in
-    let w = whole u in
-    absurd (omega (arith, l, e, w))
+whole-none_unbacked ks k f whole = record {
+  votes = λ u v d r. whole-none_behind ks k f whole r.fronts r.are_fronts u r.step r.behind;
+  takes = λ u v d r. whole-none_behind ks k f whole r.fronts r.are_fronts u r.step r.behind;
+}
 
 -- the law of this name
 pub unbacked-votes_are_seen : UnbackedVotesAreSeen

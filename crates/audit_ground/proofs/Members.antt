@@ -1,12 +1,14 @@
 -- Judged replicas by their numbers.
-use Rattle.std.proofs.Common.{ℕ, suc, ◌≡◌, ◌<◌, ◌||◌, ◌==◌, Bool, true, false, [], ◌∷◌, length, refl, sym}
+use Rattle.std.proofs.Common.{ℕ, suc, ◌≡◌, ◌<◌, ◌||◌, ◌==◌, not, Bool, true, false, List, [], ◌∷◌, length}
+use Rattle.std.proofs.Common.{refl, sym}
 use Rattle.std.proofs.Common.{ap, subst, ◌∙◌, arith, inl, inr, true≢false}
 use Rattle.std.proofs.lemmas.Bool.{cond-true, cond-false, cases_Bool, eqb-true, eq-eqb, or_left, or_right}
-use Rattle.std.proofs.lemmas.Bool.{or_parts}
+use Rattle.std.proofs.lemmas.Bool.{or_parts, or_cases, not_from_true, not_from_false, not-false}
 use Rattle.definitions.specs.Lists.{Among, AreDistinct, greatest}
 use Rattle.definitions.specs.Chronicles.{Chronicle}
-use Rattle.definitions.specs.Audit.{Member, Judged, is_judged, chronicle_of}
-use Rattle.definitions.proofs.Lists.{Among-mapped, Among-map, greatest-above}
+use Rattle.definitions.specs.Audit.{Member, Judged, is_judged, chronicle_of, each_judged}
+use Rattle.definitions.proofs.Lists.{Among-mapped, Among-map, greatest-above, all-passes}
+use Rattle.audit_ground.proofs.Lists.{all-from, all-fails}
 use Rattle.audit_ground.specs.Law.{numbers}
 
 -- a member's number is judged
@@ -78,3 +80,38 @@ steps-below ks i l =
       | inr f ↦
           absurd (let e = ap (λ (c : Chronicle). length c) (unjudged-none ks i f) in omega (arith, l, e))
     ]
+
+-- ---- tests of those that are judged
+
+-- where each judged one of them passes, the test does
+pub each_judged-from : (ks : Judged) (p : ℕ → Bool) (vs : List ℕ)
+    → ((v : ℕ) → Among v vs → is_judged ks v ≡ true → p v ≡ true) → each_judged ks p vs ≡ true
+each_judged-from ks p vs h =
+    all-from (λ v. not (is_judged ks v) || p v) vs (λ v m.
+    elim (cases_Bool (is_judged ks v)) [
+      | inl j ↦ or_right (not (is_judged ks v)) (p v) (h v m j)
+      | inr f ↦ or_left (not (is_judged ks v)) (p v) (not_from_false (is_judged ks v) f)
+    ])
+
+-- and the other way
+pub each_judged-passes : (ks : Judged) (p : ℕ → Bool) (vs : List ℕ) → each_judged ks p vs ≡ true → (v : ℕ)
+    → Among v vs → is_judged ks v ≡ true → p v ≡ true
+each_judged-passes ks p vs h v m j =
+    elim (or_cases (not (is_judged ks v)) (p v) (all-passes (λ i. not (is_judged ks i) || p i) vs v h m)) [
+      | inl n ↦ absurd (true≢false (sym n ∙ not_from_true (is_judged ks v) j))
+      | inr t ↦ t
+    ]
+
+-- so for a weaker test too
+pub each_judged-weaker : (ks : Judged) (p q : ℕ → Bool) (vs : List ℕ) → ((v : ℕ) → p v ≡ true → q v ≡ true)
+    → each_judged ks p vs ≡ true → each_judged ks q vs ≡ true
+each_judged-weaker ks p q vs up h =
+    each_judged-from ks q vs (λ v m j. up v (each_judged-passes ks p vs h v m j))
+
+-- where the test fails, a judged one of them does
+pub each_judged-fails : (ks : Judged) (p : ℕ → Bool) (vs : List ℕ) → each_judged ks p vs ≡ false
+    → (v : ℕ) × Among v vs × (is_judged ks v ≡ true) × (p v ≡ false)
+each_judged-fails ks p vs e =
+    let r = all-fails (λ v. not (is_judged ks v) || p v) vs e in
+    let f = or_parts (not (is_judged ks r.0)) (p r.0) r.2 in
+    (r.0, r.1, not-false (is_judged ks r.0) f.0, f.1)

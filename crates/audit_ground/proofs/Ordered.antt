@@ -1,10 +1,9 @@
 -- Where the judged chronicles stand in one order, its steps are allowed turns: the fronts are whole, and no
 -- vote is unbacked.
-use Rattle.std.proofs.Common.{ℕ, suc, ◌≡◌, ◌⊎◌, ◌||◌, not, Bool, true, false, [], ◌∷◌, length, cond, refl}
+use Rattle.std.proofs.Common.{ℕ, suc, ◌≡◌, ◌⊎◌, Bool, true, false, [], ◌∷◌, length, cond, refl}
 use Rattle.std.proofs.Common.{sym, ap, subst, ◌∙◌, arith, inl, inr, Some, ◌==◌}
 use Rattle.std.specs.Str.{bytes_eq}
 use Rattle.std.proofs.lemmas.Bool.{cond_both, cond-true, cond-false, cases_Bool, eqb-true, eq-eqb, and_from}
-use Rattle.std.proofs.lemmas.Bool.{or_left, or_right, not_from_false}
 use lib.Dec.{eqb}
 use lib.Pointwise.{bytes_decides}
 use Rattle.definitions.specs.Bytes.{Bytes}
@@ -13,17 +12,20 @@ use Rattle.definitions.specs.Frames.{Core}
 use Rattle.definitions.specs.Branches.{Branch, just1}
 use Rattle.definitions.specs.Digests.{digest, digest_of, StandsFor}
 use Rattle.definitions.specs.Chronicles.{Admitted, Step, Step.took_block, Step.noted, Chronicle, voted_blocks}
+use Rattle.definitions.specs.Chronicles.{HasTaken}
 use Rattle.definitions.specs.Agreement.{Order, steps_of, IsBacked, IsOrdered}
 use Rattle.definitions.specs.Audit.{Cut, Turns, steps_in, Judged, is_judged, chronicle_of, gives_vote}
-use Rattle.definitions.specs.Audit.{counted_by, counted_for, step_after, has_vote, is_backed, may_move}
+use Rattle.definitions.specs.Audit.{counted_by, counted_for, takes, sent_by, sent_block, step_after}
+use Rattle.definitions.specs.Audit.{has_vote, has_taken, is_backed, may_move}
 use Rattle.definitions.specs.Audit.{AreAllowed, AreFronts}
 use Rattle.definitions.proofs.Lists.{IsBeginning-beginning}
 use Rattle.definitions.proofs.Digests.{stands_for-digest}
 use Rattle.audit_ground.specs.Law.{KnownTo, IsNamed, OrderlyChroniclesAreBacked}
-use Rattle.audit_ground.proofs.Lists.{any-from, all-from, Among-beginning, step_after-beginning}
+use Rattle.audit_ground.proofs.Lists.{any-from, Among-beginning, step_after-beginning}
 use Rattle.audit_ground.proofs.Lists.{step_after-among}
 use Rattle.definitions.proofs.Lists.{IsBeginning-trans}
-use Rattle.audit_ground.proofs.Members.{unjudged-none}
+use Rattle.audit_ground.proofs.Members.{unjudged-none, each_judged-from}
+use Rattle.audit_ground.proofs.Stored.{taken-took}
 use Rattle.audit_ground.proofs.Fronts.{is_backed_if, may_move-is, fronts-exist, fronts-short}
 use Rattle.audit_ground.proofs.Fronts.{whole-none_unbacked}
 use Rattle.audit_ground.proofs.Known.{judged-named}
@@ -67,6 +69,11 @@ took-gives_vote : (d : Bytes) (a : Admitted) → a.voted ≡ true → digest a.c
 unfolding gives_vote
 took-gives_vote d a v e =
     and_from a.voted (bytes_eq (digest a.core) d) v ((bytes_decides (digest a.core) d).1 e)
+
+-- a block that was taken as a new one takes its digest
+took-takes : (d : Bytes) (a : Admitted) → a.new ≡ true → digest a.core ≡ d → takes d (took_block a) ≡ true
+unfolding takes
+took-takes d a n e = and_from a.new (bytes_eq (digest a.core) d) n ((bytes_decides (digest a.core) d).1 e)
 
 -- ---- turns
 
@@ -125,6 +132,19 @@ module _ (Known : Core → Type 0) (ks : Judged)
       any-from (gives_vote d) (beginning (k v) (chronicle_of ks v)) (took_block r.0) r.1
       (took-gives_vote d r.0 r.2 same)
 
+  -- a branch that was taken was so by each digest that stands for it
+  taken-has_taken : (k : Cut) (v : ℕ) (d : Bytes) (x : Branch) → StandsFor Known d x
+      → HasTaken x (beginning (k v) (chronicle_of ks v)) → has_taken ks k d v ≡ true
+  unfolding has_taken
+  taken-has_taken k v d x stands m =
+      let r = taken-took m.0 (beginning (k v) (chronicle_of ks v)) m.1 in
+      let n = named v m.0 (Among-beginning (k v) (chronicle_of ks v) (took_block m.0) r.0) in
+      let same : digest m.0.core ≡ d =
+      (stands_for-digest Known (digest m.0.core) m.0.branch n.block).0
+      ∙ (ap digest_of m.2 ∙ sym (stands_for-digest Known d x stands).0) in
+      any-from (takes d) (beginning (k v) (chronicle_of ks v)) (took_block m.0) r.0
+      (took-takes d m.0 r.1 same)
+
   -- the steps of each judged replica begin its chronicle
   abbrev AreBeginnings : Order → Type 0
   AreBeginnings o = (i : ℕ) → is_judged ks i ≡ true → IsBeginning (steps_of i o) (chronicle_of ks i)
@@ -160,7 +180,21 @@ module _ (Known : Core → Type 0) (ks : Judged)
       by : (t : Bool) → a.new ≡ t → Among v (cond t a.counted [])
           → has_vote ks k a.certificate.digest v ≡ true
       by true new m = voted-has_vote k v a.certificate.digest (just1 a.branch) n.justified
-          (subst (λ (c : Chronicle). Among (just1 a.branch) (voted_blocks c)) (same v j) (h new v m j))
+          (subst (λ (c : Chronicle). Among (just1 a.branch) (voted_blocks c)) (same v j) ((h new v j).0 m))
+      by false new m = absurd m
+
+  -- so does the taking of a sender that it names
+  sent-has_taken : (k : Cut) (earlier : Order)
+      → ((i : ℕ) → is_judged ks i ≡ true → steps_of i earlier ≡ beginning (k i) (chronicle_of ks i))
+      → (a : Admitted) → IsNamed Known a → IsBacked (is_judged ks) (took_block a) earlier
+      → (v : ℕ) → Among v (sent_by (took_block a)) → is_judged ks v ≡ true
+      → has_taken ks k (digest a.core) v ≡ true
+  unfolding sent_by
+  sent-has_taken k earlier same a n h v m j = by a.new refl m
+    where
+      by : (t : Bool) → a.new ≡ t → Among v (cond t a.senders []) → has_taken ks k (digest a.core) v ≡ true
+      by true new m = taken-has_taken k v (digest a.core) a.branch n.block
+          (subst (HasTaken a.branch) (same v j) ((h new v j).1 m))
       by false new m = absurd m
 
   -- a step that is backed by branches is backed by digests
@@ -168,16 +202,13 @@ module _ (Known : Core → Type 0) (ks : Judged)
       → ((i : ℕ) → is_judged ks i ≡ true → steps_of i earlier ≡ beginning (k i) (chronicle_of ks i))
       → (s : Step) → Among s (chronicle_of ks u) → IsBacked (is_judged ks) s earlier
       → is_backed ks k s ≡ true
-  unfolding is_backed counted_by counted_for
+  unfolding is_backed counted_for sent_block counted_by sent_by
   backed-by_digests k u earlier same (took_block a) m h =
-      all-from (λ v. not (is_judged ks v) || has_vote ks k a.certificate.digest v)
-      (counted_by (took_block a)) (λ v n.
-      elim (cases_Bool (is_judged ks v)) [
-        | inl j ↦ or_right (not (is_judged ks v)) (has_vote ks k a.certificate.digest v)
-            (counted-has_vote k earlier same a (named u a m) h v n j)
-        | inr f ↦ or_left (not (is_judged ks v)) (has_vote ks k a.certificate.digest v)
-            (not_from_false (is_judged ks v) f)
-      ])
+      and_from _ _
+      (each_judged-from ks (has_vote ks k a.certificate.digest) (counted_by (took_block a))
+      (λ v n j. counted-has_vote k earlier same a (named u a m) h v n j))
+      (each_judged-from ks (has_taken ks k (digest a.core)) (sent_by (took_block a))
+      (λ v n j. sent-has_taken k earlier same a (named u a m) h v n j))
   backed-by_digests k u earlier same (noted n) m h = refl
 
   -- a judged replica's next step in the order is its step after the cut
@@ -239,7 +270,7 @@ module _ (Known : Core → Type 0) (ks : Judged)
 -- a step that is backed in a family is backed in a smaller one
 backed-fewer : (fewer more : ℕ → Bool) → ((i : ℕ) → fewer i ≡ true → more i ≡ true) → (s : Step) (o : Order)
     → IsBacked more s o → IsBacked fewer s o
-backed-fewer fewer more up (took_block a) o h = λ new v m f. h new v m (up v f)
+backed-fewer fewer more up (took_block a) o h = λ new v f. h new v (up v f)
 backed-fewer fewer more up (noted n) o h = tt
 
 -- so are all steps of an order

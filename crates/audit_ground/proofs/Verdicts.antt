@@ -3,7 +3,8 @@ use Rattle.std.proofs.Common.{◌⊎◌, inl, inr}
 use Rattle.ids.specs.Sizes.{Sizes}
 use Rattle.definitions.specs.Lists.{IsBeginning}
 use Rattle.definitions.specs.Replicas.{held_history}
-use Rattle.definitions.specs.Audit.{Member, Judged, Reason, Reason.missing_vote, Reason.collision}
+use Rattle.definitions.specs.Audit.{Member, Judged, Reason, Reason.missing_vote, Reason.missing_take}
+use Rattle.definitions.specs.Audit.{Reason.collision}
 use Rattle.definitions.specs.Audit.{Verdict.agree, Verdict.fork, Holds, HistoriesAgree}
 use Rattle.audit_ground.specs.Law.{AreJudged, EachForkHasAReason, EachAuditAnswers}
 use Rattle.audit_ground.proofs.Decisions.{OrNot, all-pairs, either-or_not, IsBeginning-or_not}
@@ -33,7 +34,8 @@ reason-or_agree : (sizes : Sizes) (ks : Judged) → AreJudged sizes ks
 reason-or_agree sizes ks j =
     let f = fronts-exist ks in
     elim (whole-or-unbacked ks f.0 f.1) [
-      | inr v ↦ inl (missing_vote v.0 v.1 v.2, v.3)
+      | inr v ↦ inl (elim v
+          [ inl r ↦ (missing_vote r.0 r.1 r.2, r.3) | inr r ↦ (missing_take r.0 r.1 r.2, r.3) ])
       | inl whole ↦ elim (apart-or_collision ks j.distinct) [
         | inr c ↦ inl (collision c.0 c.1, c.2)
         | inl apart ↦ inr (backed-histories_agree sizes ks j apart (whole-none_unbacked ks f.0 f.1 whole))

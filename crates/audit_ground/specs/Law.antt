@@ -13,7 +13,8 @@ use Rattle.definitions.specs.Replicas.{held_history}
 use Rattle.definitions.specs.Agreement.{Family, IsOrderly, IsLawfulFamily}
 use Rattle.definitions.specs.Audit.{Member, Judged, is_judged, chronicle_of, Cut, Turns, steps_in}
 use Rattle.definitions.specs.Audit.{AreAllowed, counted_by, counted_for, step_after, has_vote, may_move}
-use Rattle.definitions.specs.Audit.{AreFronts, Reason, Verdict, IsUnbacked, Holds, HistoriesAgree}
+use Rattle.definitions.specs.Audit.{AreFronts, Reason, Verdict, IsUnbacked, IsUntaken, Holds}
+use Rattle.definitions.specs.Audit.{HistoriesAgree}
 use Rattle.definitions.specs.Audit.{IsVerdict}
 use Rattle.definitions.specs.WindowAudit.{WindowVerdict, WindowVerdict.agree, WindowVerdict.fork}
 use Rattle.definitions.specs.WindowAudit.{WindowVerdict.unmet, WindowsShow, Stands, BlocksConflict}
@@ -65,9 +66,10 @@ pub record AreJudged (sizes : Sizes) (ks : Judged) : Type 0 where
 abbrev pub judged_family : Sizes → Judged → Family
 judged_family sizes ks = record { sizes = sizes; is_member = is_judged ks; chronicle = chronicle_of ks }
 
--- no vote is unbacked
-abbrev pub NoneUnbacked : Judged → Type 0
-NoneUnbacked ks = (u v : ℕ) (d : Bytes) → IsUnbacked ks u v d → ⊥
+-- no vote is unbacked, and no sender lacks the block that it sent
+pub record NoneUnbacked (ks : Judged) : Type 0 where
+  pub votes : (u v : ℕ) (d : Bytes) → IsUnbacked ks u v d → ⊥
+  pub takes : (u v : ℕ) (d : Bytes) → IsUntaken ks u v d → ⊥
 
 -- ---- moving one counter at a time
 

@@ -2,12 +2,11 @@
 use Rattle.definitions.proofs.Branches.{just1-extends, extends-cases, highest-above, highest-among}
 use Rattle.std.proofs.Common.{◌≡◌, ◌<◌, ◌≤◌, ◌⊎◌, Bool, true, false, List, [], ◌∷◌, ◌++◌, length, cond}
 use Rattle.std.proofs.Common.{refl, sym, ap, subst, ◌∙◌, arith, inl, inr, map}
-use Rattle.std.specs.List.{AllByRecursion}
 use Rattle.definitions.proofs.Lists.{Among-after, Among-either, Among-map, greatest-above, Among-before}
 use Rattle.definitions.proofs.Lists.{Among-mapped}
-use Rattle.definitions.specs.Lists.{Among, AreDistinct}
+use Rattle.definitions.specs.Lists.{Among}
 use Rattle.definitions.specs.Branches.{Block, Branch, just1, Extends, IsBranch, just2, just3}
-use Rattle.ids.specs.Sizes.{Sizes, replicas, quorum}
+use Rattle.ids.specs.Sizes.{Sizes}
 use Rattle.definitions.specs.Trees.{Stored, blocks}
 use Rattle.definitions.specs.Chronicles.{Admitted, Step, Step.took_block, Step.noted, Chronicle, taken_blocks}
 use Rattle.definitions.specs.Chronicles.{stored_blocks, stored_block, tree, lock, IsLawfulVote, IsLawfulStep}
@@ -100,32 +99,27 @@ tree-cases c b m =
       | inr k ↦ (elim k [ inl e ↦ inl e | inr n ↦ absurd n ])
     ]
 
--- what was taken has a certificate
-abbrev pub Certifies : Sizes → Admitted → Type 0
-Certifies s a =
-    (AreDistinct a.counted × AllByRecursion (λ v. v < replicas s) a.counted × (quorum s ≤ length a.counted))
-    ⊎ (just1 a.branch ≡ [])
-
+-- what was taken is a branch, and was new
 pub take-step : (s : Sizes) (a : Admitted) (c : Chronicle) (x : Admitted) (t : Bool) → a.new ≡ t
     → (a.new ≡ true → IsLawfulTake s a c)
-    → (Among x (taken_blocks c) → Certifies s x × (IsBranch x.branch) × (x.new ≡ true))
+    → (Among x (taken_blocks c) → IsBranch x.branch × (x.new ≡ true))
     → ((b : Branch) → Among b (tree c) → IsBranch b) → Among x (cond t (a ∷ taken_blocks c) (taken_blocks c))
-    → Certifies s x × IsBranch x.branch × (x.new ≡ true)
+    → IsBranch x.branch × (x.new ≡ true)
 take-step s a c x true e law rest br (inl i) =
     let l = law e in
-    subst (λ (y : Admitted). Certifies s y × IsBranch y.branch × (y.new ≡ true)) (sym i)
-    (l.certified, subst IsBranch (sym l.parent.2) (l.parent.3, br l.parent.1 l.parent.4), e)
+    subst (λ (y : Admitted). IsBranch y.branch × (y.new ≡ true)) (sym i)
+    (subst IsBranch (sym l.parent.2) (l.parent.3, br l.parent.1 l.parent.4), e)
 take-step s a c x true e law rest br (inr m) = rest m
 take-step s a c x false e law rest br m = rest m
 
 pub tree-branch : (s : Sizes) (c : Chronicle)
-    → ((x : Admitted) → Among x (taken_blocks c) → Certifies s x × IsBranch x.branch × (x.new ≡ true))
+    → ((x : Admitted) → Among x (taken_blocks c) → IsBranch x.branch × (x.new ≡ true))
     → (b : Branch) → Among b (tree c) → IsBranch b
 tree-branch s c f b m =
-    elim (tree-cases c b m) [ inl e ↦ subst IsBranch (sym e) tt | inr r ↦ subst IsBranch r.2 (f r.0 r.1).1 ]
+    elim (tree-cases c b m) [ inl e ↦ subst IsBranch (sym e) tt | inr r ↦ subst IsBranch r.2 (f r.0 r.1).0 ]
 
 pub lawful-taken : (s : Sizes) (c : Chronicle) → IsLawful s c → (x : Admitted) → Among x (taken_blocks c)
-    → Certifies s x × IsBranch x.branch × (x.new ≡ true)
+    → IsBranch x.branch × (x.new ≡ true)
 unfolding taken_blocks
 lawful-taken s [] l x m = absurd m
 lawful-taken s (took_block a ∷ c) l x m =

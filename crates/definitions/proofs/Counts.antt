@@ -132,3 +132,17 @@ count-same zero p q h = refl
 count-same (suc n) p q h =
     let rest : count_below n p ≡ count_below n q = count-same n p q (λ i l. h i (omega (arith, l))) in
     λ k. cond (h n (omega arith) k) (suc (rest k)) (rest k)
+
+mono-step : (a b : Bool) (x y : ℕ) → (a ≡ true → b ≡ true) → x ≤ y → cond a (suc x) x ≤ cond b (suc y) y
+mono-step true true x y h l = omega arith
+mono-step true false x y h l = cc (h refl)
+mono-step false true x y h l = omega arith
+mono-step false false x y h l = l
+
+-- where each that passes one test passes the other, the other counts no fewer
+pub count-mono : (n : ℕ) (p q : ℕ → Bool) → ((i : ℕ) → i < n → p i ≡ true → q i ≡ true)
+    → count_below n p ≤ count_below n q
+unfolding count_below
+count-mono zero p q h = omega arith
+count-mono (suc n) p q h =
+    mono-step (p n) (q n) _ _ (h n (omega arith)) (count-mono n p q (λ i l. h i (omega (arith, l))))

@@ -19,10 +19,10 @@ shared s m p q hm hp hq =
     let inner = and_parts (p some.0) (q some.0) outer.1 in
     (some.0, outer.0, inner.0, inner.1)
 
--- a quorum has a member
-pub quorum-member : (s : Sizes) (p : ℕ → Bool) (vs : List ℕ) → quorum s ≤ count_below (replicas s) p
-    → AreDistinct vs → AllByRecursion (λ v. v < replicas s) vs → quorum s ≤ length vs
+-- more replicas than may be faulty have a member among them
+pub some-member : (s : Sizes) (p : ℕ → Bool) (vs : List ℕ) → quorum s ≤ count_below (replicas s) p
+    → AreDistinct vs → AllByRecursion (λ v. v < replicas s) vs → s.faults < length vs
     → (v : ℕ) × Among v vs × (p v ≡ true)
-quorum-member s p vs q d l k =
+some-member s p vs q d l k =
     elim (first-passing p vs)
     [ inl r ↦ r | inr f ↦ absurd (let h = apart-count (replicas s) p vs d l f in omega (arith, h, q, k)) ]

@@ -28,6 +28,7 @@ use Rattle.definitions.specs.Chronicles.{Admitted, Step, Step.took_block, Step.n
 use Rattle.definitions.specs.Chronicles.{Note.got_new_view, Note.got_request, Note.timed_out, Note.beat}
 use Rattle.definitions.specs.Chronicles.{Note.pruned, Chronicle, taken_blocks, stored_blocks, stored_block}
 use Rattle.definitions.specs.Chronicles.{tree, lock, history, horizon, standing_blocks, window, is_safe}
+use Rattle.definitions.specs.Chronicles.{HasGrounds, HasGrounds.by_genesis, HasGrounds.by_votes}
 use Rattle.definitions.specs.Chronicles.{IsLawfulVote, IsLawfulStep, AreKnown, IsSound}
 use Rattle.definitions.specs.Checks.{Identity, Findings, is_genesis}
 use Rattle.definitions.specs.States.{find_block, is_due, pending, is_same_request}
@@ -201,15 +202,14 @@ OnStands P (missing sender d) = ⊤
 OnStands P (refusing n) = n ≡ fault.Conflict → ⊥
 
 -- what a good certificate of the justified block gives
-certified : (sizes : Sizes) (core : Core) (q : Certificate) (f : Findings) (j : Branch) (h : ℕ)
-    (t : List Branch) → IsTree h t → Among j t → IsChecked sizes core q f → q.digest ≡ digest_of j
-    → (AreDistinct f.counted × AllByRecursion (λ v. v < replicas sizes) f.counted
-    × (quorum sizes ≤ length f.counted)) ⊎ (j ≡ [])
+certified : (sizes : Sizes) (core : Core) (q : Certificate) (f : Findings) (j : Branch) (c : Chronicle)
+    (h : ℕ) (t : List Branch) → IsTree h t → Among j t → IsChecked sizes core q f → q.digest ≡ digest_of j
+    → HasGrounds sizes j f.counted [] c
 unfolding digest_of
-certified sizes core q f j h t tr m ch e =
+certified sizes core q f j c h t tr m ch e =
     elim ch.good [
-      | inl k ↦ inr (tr.one j [] m tr.genesis (sym e ∙ same_bytes _ _ k))
-      | inr k ↦ inl (ch.distinct, ch.voters, k)
+      | inl k ↦ by_genesis (tr.one j [] m tr.genesis (sym e ∙ same_bytes _ _ k))
+      | inr k ↦ by_votes (ch.distinct, ch.voters, k)
     ]
 
 -- a new block that passes the tests
@@ -230,7 +230,7 @@ new-step self w parent core q f c so tr fresh m ch e room low above = record {
       λ n. record {
         new = fresh;
         parent = (block_of core, parent, refl, (tr.branches _ (inl refl)).0, m);
-        certified = certified self.sizes core q f (just1 (block_of core ∷ parent)) (horizon c) _ tr
+        certified = certified self.sizes core q f (just1 (block_of core ∷ parent)) c (horizon c) _ tr
             (tree-below (horizon c) _ tr (block_of core ∷ parent) _ (inl refl) (just1-extends _)
             (let k = length-just1 (block_of core) parent branch in omega (arith, k, above))) ch e;
       },

@@ -4,7 +4,7 @@ use Rattle.std.specs.List.{list_any}
 use Rattle.definitions.specs.Lists.{Among, count_below}
 use Rattle.definitions.specs.Branches.{Branch, just1, branch_eq}
 use Rattle.ids.specs.Sizes.{Sizes, replicas, quorum}
-use Rattle.definitions.specs.Chronicles.{Step, Step.took_block, Chronicle, voted_blocks, IsLawful}
+use Rattle.definitions.specs.Chronicles.{Step, Step.took_block, Chronicle, voted_blocks, HasTaken, IsLawful}
 
 -- The chronicles of some replicas, the members.
 pub record Family : Type 0 where
@@ -35,11 +35,13 @@ unfoldable pub steps_of : ℕ → Order → Chronicle
 steps_of i [] = []
 steps_of i (p ∷ earlier) = if p.0 == i then p.1 ∷ steps_of i earlier else steps_of i earlier
 
--- each vote that a step counts in a member's name is an earlier vote of it
+-- each vote that a step counts in a member's name is an earlier vote of it, and each member that sent the
+-- block took it earlier
 abbrev pub IsBacked : (ℕ → Bool) → Step → Order → Type 0
 IsBacked is_member (took_block a) earlier =
-    a.new ≡ true → (v : ℕ) → Among v a.counted → is_member v ≡ true
-    → Among (just1 a.branch) (voted_blocks (steps_of v earlier))
+    a.new ≡ true → (v : ℕ) → is_member v ≡ true
+    → (Among v a.counted → Among (just1 a.branch) (voted_blocks (steps_of v earlier)))
+    × (Among v a.senders → HasTaken a.branch (steps_of v earlier))
 IsBacked is_member s earlier = ⊤
 
 -- each step in the order is backed by the earlier ones

@@ -30,7 +30,7 @@ unfoldable pub chronicle_of : Judged → ℕ → Chronicle
 chronicle_of [] i = []
 chronicle_of (m ∷ rest) i = if m.number == i then m.replica.chronicle else chronicle_of rest i
 
--- ---- votes, by digests
+-- ---- votes and taken blocks, by digests
 
 -- the step gives a vote for the block of this digest
 unfoldable pub gives_vote : Bytes → Step → Bool
@@ -47,6 +47,21 @@ unfoldable pub counted_for : Step → Bytes
 counted_for (took_block a) = a.certificate.digest
 counted_for s = []
 
+-- the step takes the block of this digest
+unfoldable pub takes : Bytes → Step → Bool
+takes d (took_block a) = a.new && bytes_eq (digest a.core) d
+takes d s = false
+
+-- the senders that a step names, where it takes a block
+unfoldable pub sent_by : Step → List ℕ
+sent_by (took_block a) = if a.new then a.senders else []
+sent_by s = []
+
+-- the block that they sent
+unfoldable pub sent_block : Step → Bytes
+sent_block (took_block a) = digest a.core
+sent_block s = []
+
 -- ---- fronts
 
 -- a beginning of each judged chronicle, by its length
@@ -62,9 +77,20 @@ step_after k (x ∷ older) = if length older == k then Some x else step_after k 
 unfoldable pub has_vote : Judged → Cut → Bytes → ℕ → Bool
 has_vote ks k d v = list_any (gives_vote d) (beginning (k v) (chronicle_of ks v))
 
--- each vote that a step counts in a judged replica's name stands in the cut
+-- v took the block of digest d in the cut
+unfoldable pub has_taken : Judged → Cut → Bytes → ℕ → Bool
+has_taken ks k d v = list_any (takes d) (beginning (k v) (chronicle_of ks v))
+
+-- each of these that is judged passes
+abbrev pub each_judged : Judged → (ℕ → Bool) → List ℕ → Bool
+each_judged ks passes vs = list_all (λ v. not (is_judged ks v) || passes v) vs
+
+-- each vote that a step counts in a judged replica's name stands in the cut, and each judged sender of its
+-- block took it there
 unfoldable pub is_backed : Judged → Cut → Step → Bool
-is_backed ks k s = list_all (λ v. not (is_judged ks v) || has_vote ks k (counted_for s) v) (counted_by s)
+is_backed ks k s =
+    each_judged ks (has_vote ks k (counted_for s)) (counted_by s)
+    && each_judged ks (has_taken ks k (sent_block s)) (sent_by s)
 
 -- u has a step that follows the cut, and it is backed
 unfoldable pub may_move : Judged → Cut → ℕ → Bool
@@ -92,7 +118,8 @@ pub record IsGreatest (may : Cut → ℕ → Bool) (k : Cut) : Type 0 where
   pub greatest : (other : Turns) → AreAllowed may other → (i : ℕ) → steps_in other i ≤ k i
 
 -- the fronts: the greatest beginnings whose steps stand in one order in which each counted vote of a judged
--- replica comes before the step that counts it
+-- replica comes before the step that counts it, and each taking of a judged sender before the step that
+-- names it
 abbrev pub AreFronts : Judged → Cut → Type 0
 AreFronts ks k = IsGreatest (may_move ks) k
 
@@ -106,6 +133,7 @@ pub data CorePlace : Type 0 where
 -- why histories fork
 pub data Reason : Type 0 where
   missing_vote : (receiver voter : ℕ) → (digest : Bytes) → Reason
+  missing_take : (receiver sender : ℕ) → (digest : Bytes) → Reason
   collision : (first second : CorePlace) → Reason
 
 -- what an audit answers
@@ -123,6 +151,18 @@ pub record IsUnbacked (ks : Judged) (u v : ℕ) (d : Bytes) : Type 0 where
   pub digest : counted_for step ≡ d
   pub judged : is_judged ks v ≡ true
   pub missing : has_vote ks fronts d v ≡ false
+
+-- an unbacked block: the first step of u behind its front names v as a sender of the block of digest d, and
+-- within its front v didn't take it
+pub record IsUntaken (ks : Judged) (u v : ℕ) (d : Bytes) : Type 0 where
+  pub fronts : Cut
+  pub are_fronts : AreFronts ks fronts
+  pub step : Step
+  pub behind : step_after (fronts u) (chronicle_of ks u) ≡ Some step
+  pub sent : Among v (sent_by step)
+  pub digest : sent_block step ≡ d
+  pub judged : is_judged ks v ≡ true
+  pub missing : has_taken ks fronts d v ≡ false
 
 -- the core that a step stored, where it admitted a block
 unfoldable pub core_in : Option Step → Option Core
@@ -147,6 +187,7 @@ pub record IsCollision (ks : Judged) (first second : CorePlace) : Type 0 where
 -- the reason holds of the judged replicas
 abbrev pub Holds : Judged → Reason → Type 0
 Holds ks (missing_vote u v d) = IsUnbacked ks u v d
+Holds ks (missing_take u v d) = IsUntaken ks u v d
 Holds ks (collision p q) = IsCollision ks p q
 
 -- the histories are pairwise beginnings of one another

@@ -19,6 +19,7 @@ pub record Admitted : Type 0 where
   pub core : Core  -- as it came
   pub certificate : Certificate
   pub counted : List ℕ  -- the voters whose tags for this replica verified
+  pub senders : List ℕ  -- the replicas that sent this very block, where so many of them were asked for
   pub clear : Bool  -- so did the tag of each command
   pub new : Bool  -- it was not in the tree before
   pub voted : Bool
@@ -141,15 +142,31 @@ pub record IsLawfulVote (b : Branch) (now earlier : Chronicle) : Type 0 where
       → (a : Admitted) × Among a (taken_blocks now) × (a.branch ≡ x) × (a.clear ≡ true)
   pub taken : Among b (tree now)
 
--- a taken block is new, stands on its parent, and justifies a certified block or genesis
+-- these are distinct replicas, and at least so many
+abbrev pub AreReplicas : Sizes → ℕ → List ℕ → Type 0
+AreReplicas sizes least vs =
+    AreDistinct vs × AllByRecursion (λ v. v < replicas sizes) vs × (least ≤ length vs)
+
+-- it took the block
+abbrev pub HasTaken : Branch → Chronicle → Type 0
+HasTaken b c = (a : Admitted) × Among a (taken_blocks c) × (a.branch ≡ b)
+
+-- Why b, which a taken block justifies, may be certified: it is genesis; a quorum of counted voters voted for
+-- it; a block that was taken earlier justifies it too; or more than f replicas sent the taken block, so that
+-- a correct one took that block earlier.
+pub data HasGrounds (sizes : Sizes) (b : Branch) (counted senders : List ℕ) (earlier : Chronicle) : Type 0 where
+  by_genesis : b ≡ [] → HasGrounds sizes b counted senders earlier
+  by_votes : AreReplicas sizes (quorum sizes) counted → HasGrounds sizes b counted senders earlier
+  by_take : (x : Admitted) → Among x (taken_blocks earlier) → just1 x.branch ≡ b
+      → HasGrounds sizes b counted senders earlier
+  by_senders : AreReplicas sizes (suc sizes.faults) senders → HasGrounds sizes b counted senders earlier
+
+-- a taken block is new, stands on its parent, and what it justifies has grounds
 pub record IsLawfulTake (sizes : Sizes) (a : Admitted) (earlier : Chronicle) : Type 0 where
   pub new : Among a.branch (tree earlier) → ⊥
   pub parent : (b : Block) × (parent : Branch) × (a.branch ≡ b ∷ parent) × (b.justify < suc (length parent))
       × Among parent (tree earlier)
-  pub certified :
-      (AreDistinct a.counted × AllByRecursion (λ v. v < replicas sizes) a.counted
-      × (quorum sizes ≤ length a.counted))
-      ⊎ (just1 a.branch ≡ [])
+  pub certified : HasGrounds sizes (just1 a.branch) a.counted a.senders earlier
 
 -- what a step has to be
 abbrev pub IsLawfulStep : Sizes → Step → Chronicle → Type 0

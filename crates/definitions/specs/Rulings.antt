@@ -2,7 +2,7 @@
 use Rattle.ids.specs.declared.fault.Fault.{Fault}
 use Rattle.ids.specs.declared.fault.Fault.TheVariants as fault
 use Rattle.ids.specs.declared.limits.TheConstants.{MOST_BLOCKS, MOST_PENDING}
-use Rattle.std.specs.Prelude.{ℕ, ◌==◌, ◌&&◌, not, Bool, true, false, ◌∷◌, length, if◌then◌else◌, nat_lt}
+use Rattle.std.specs.Prelude.{ℕ, ◌==◌, ◌&&◌, not, Bool, true, false, [], ◌∷◌, length, if◌then◌else◌, nat_lt}
 use Rattle.std.specs.Prelude.{Option, Some, None}
 use Rattle.std.specs.List.{list_any}
 use Rattle.definitions.specs.Frames.{Command, Core, Vote, Certificate}
@@ -43,6 +43,7 @@ admitted b core q found new = record {
   core = core;
   certificate = q;
   counted = found.counted;
+  senders = [];
   clear = found.clear;
   new = new;
   voted = false;

@@ -1,17 +1,17 @@
 -- Each block at or below a certified one was clear for some member that took it.
-use Rattle.definitions.proofs.Orders.{counted-voted}
-use Rattle.definitions.proofs.Chronicles.{tree-cases, lawful-taken, taken-grows, tree-grows}
+use Rattle.definitions.proofs.Chronicles.{tree-taken, lawful-taken, taken-grows, tree-grows}
 use Rattle.definitions.proofs.Branches.{extends-between, just1-below, length-extends, just1-extends}
-use Rattle.definitions.proofs.Quorums.{quorum-member}
-use Rattle.std.proofs.Common.{ℕ, zero, suc, ◌≡◌, ◌<◌, ◌≤◌, ◌⊎◌, Bool, true, false, [], ◌∷◌, length, cond}
+use Rattle.std.proofs.Common.{ℕ, zero, suc, ◌≡◌, ◌<◌, ◌≤◌, Bool, true, false, [], ◌∷◌, length, cond}
 use Rattle.std.proofs.Common.{refl, sym, ap, subst, arith, inl, inr}
 use Rattle.std.proofs.lemmas.Bool.{cases_lt}
-use Rattle.definitions.specs.Lists.{Among, count_below}
+use Rattle.definitions.specs.Lists.{Among}
 use Rattle.definitions.specs.Branches.{Branch, just1, Extends, IsBranch}
-use Rattle.ids.specs.Sizes.{Sizes, replicas, quorum}
+use Rattle.ids.specs.Sizes.{Sizes}
 use Rattle.definitions.specs.Chronicles.{Admitted, Step, Step.took_block, Step.noted, Chronicle, voted_blocks}
 use Rattle.definitions.specs.Chronicles.{taken_blocks, tree, IsLawful, IsLawfulVote}
-use Rattle.definitions.specs.Agreement.{Family, IsOrderly}
+use Rattle.definitions.specs.Agreement.{Family, MayBeCertified, Order, IsLawfulFamily}
+use Rattle.agreement.proofs.Certified.{family_at, taken-certified, voted-both}
+use Rattle.agreement.proofs.Agreement.{lawful-order}
 
 -- the block was taken, and as a clear one
 abbrev pub IsClearIn : Chronicle → Branch → Type 0
@@ -46,61 +46,42 @@ vote-clear s [] l b m = absurd m
 vote-clear s (took_block a ∷ c) l b m = vote-step a c b a.voted refl l.0.0 (vote-clear s c l.1 b) m
 vote-clear s (noted n ∷ c) l b m = clear-vote-grows _ b c (vote-clear s c l.1 b m)
 
--- the chronicles of some members, in order
-pub record IsCourse (fam : Family) : Type 0 where
-  pub enough : quorum fam.sizes ≤ count_below (replicas fam.sizes) fam.is_member
-  pub orderly : IsOrderly fam
-  pub lawful : (p : ℕ) → fam.is_member p ≡ true → IsLawful fam.sizes (fam.chronicle p)
-
 abbrev pub IsClearSomewhere : Family → Branch → Type 0
 IsClearSomewhere fam y = (v : ℕ) × (fam.is_member v ≡ true) × IsClearIn (fam.chronicle v) y
 
--- a member voted for the block that a taken one justifies
-justified-vote : (fam : Family) → IsCourse fam → (p : ℕ) (a : Admitted) → fam.is_member p ≡ true
-    → Among a (taken_blocks (fam.chronicle p))
-    → ((v : ℕ) × (fam.is_member v ≡ true) × IsClearVote (just1 a.branch) (fam.chronicle v))
-    ⊎ (just1 a.branch ≡ [])
-justified-vote fam co p a mp m =
-    let t = lawful-taken fam.sizes (fam.chronicle p) (co.lawful p mp) a m in
-    elim t.0 [
-      | inl q ↦ (
-          let v = quorum-member fam.sizes fam.is_member a.counted co.enough q.0 q.1 q.2 in
-          let vote = counted-voted fam.is_member co.orderly.order co.orderly.ordered p a
-          (subst (λ (c : Chronicle). Among a (taken_blocks c)) (sym (co.orderly.whole p mp)) m) t.2 v.0 v.1
-          v.2 in
-          inl (
-            v.0,
-            v.2,
-            vote-clear fam.sizes (fam.chronicle v.0) (co.lawful v.0 v.2) (just1 a.branch)
-                (subst (λ (c : Chronicle). Among (just1 a.branch) (voted_blocks c)) (co.orderly.whole v.0 v.2)
-                vote),
-          ))
-      | inr e ↦ inr e
-    ]
+-- a member voted for the block above genesis that a taken one justifies
+justified-vote : (fam : Family) → IsLawfulFamily fam → (p : ℕ) (a : Admitted) → fam.is_member p ≡ true
+    → Among a (taken_blocks (fam.chronicle p)) → 0 < length (just1 a.branch)
+    → (v : ℕ) × (fam.is_member v ≡ true) × IsClearVote (just1 a.branch) (fam.chronicle v)
+justified-vote fam l p a mp m h =
+    let o : Order = l.orderly.order in
+    let certified : MayBeCertified (family_at fam.sizes fam.is_member o) (just1 a.branch) =
+    taken-certified fam.sizes fam.is_member l.enough o (lawful-order fam l) p mp a
+    (subst (λ (c : Chronicle). Among a (taken_blocks c)) (sym (l.orderly.whole p mp)) m) h in
+    let v = voted-both fam.sizes fam.is_member l.enough o o _ _ certified certified in (
+      v.0,
+      v.1,
+      vote-clear fam.sizes (fam.chronicle v.0) (l.lawful v.0 v.1) (just1 a.branch)
+          (subst (λ (c : Chronicle). Among (just1 a.branch) (voted_blocks c)) (l.orderly.whole v.0 v.1) v.2),
+    )
 
-pub clear-below : (fuel : ℕ) (fam : Family) → IsCourse fam → (p : ℕ) (a : Admitted) → fam.is_member p ≡ true
+pub clear-below : (fuel : ℕ) (fam : Family) → IsLawfulFamily fam → (p : ℕ) (a : Admitted) → fam.is_member p ≡ true
     → Among a (taken_blocks (fam.chronicle p)) → length (just1 a.branch) ≤ fuel → (y : Branch)
     → Extends (just1 a.branch) y → 0 < length y → IsClearSomewhere fam y
 clear-below zero fam co p a mp m f y e l =
     absurd (let h = length-extends (just1 a.branch) y e in omega (arith, h, f, l))
 clear-below (suc fuel) fam co p a mp m f y e l =
-    elim (justified-vote fam co p a mp m) [
-      | inr z ↦ absurd (let h = length-extends (just1 a.branch) y e in let k = ap (λ (x : Branch). length x)
-          z in omega (arith, h, k, l))
-      | inl v ↦ (elim (cases_lt (length (just1 (just1 a.branch))) (length y)) [
-        | inl higher ↦ (v.0, v.1, v.2.clear y e higher)
-        | inr lower ↦ (elim (tree-cases (fam.chronicle v.0) (just1 a.branch) v.2.taken) [
-          | inl z ↦ absurd (let h = length-extends (just1 a.branch) y e in let k = ap
-              (λ (x : Branch). length x) z in omega (arith, h, k, l))
-          | inr r ↦ (
-              let t = lawful-taken fam.sizes (fam.chronicle v.0) (co.lawful v.0 v.1) r.0 r.1 in
-              let same : just1 r.0.branch ≡ just1 (just1 a.branch) = ap just1 r.2 in
-              let h = length-extends (just1 a.branch) y e in
-              let short = just1-below (just1 a.branch) (subst IsBranch r.2 t.1) (omega (arith, h, l)) in
-              let long = ap (λ (x : Branch). length x) same in
-              clear-below fuel fam co v.0 r.0 v.1 r.1 (omega (arith, short, long, f)) y
-              (subst (λ (x : Branch). Extends x y) (sym same) (extends-between (just1 a.branch)
-              (just1 (just1 a.branch)) y (just1-extends (just1 a.branch)) e lower)) l)
-        ])
-      ])
+    let h = length-extends (just1 a.branch) y e in
+    let v = justified-vote fam co p a mp m (omega (arith, h, l)) in
+    elim (cases_lt (length (just1 (just1 a.branch))) (length y)) [
+      | inl higher ↦ (v.0, v.1, v.2.clear y e higher)
+      | inr lower ↦
+          let r = tree-taken (fam.chronicle v.0) (just1 a.branch) v.2.taken (omega (arith, h, l)) in
+          let t = lawful-taken fam.sizes (fam.chronicle v.0) (co.lawful v.0 v.1) r.0 r.1 in
+          let same : just1 r.0.branch ≡ just1 (just1 a.branch) = ap just1 r.2 in
+          let short = just1-below (just1 a.branch) (subst IsBranch r.2 t.0) (omega (arith, h, l)) in
+          let long = ap (λ (x : Branch). length x) same in
+          clear-below fuel fam co v.0 r.0 v.1 r.1 (omega (arith, short, long, f)) y
+          (subst (λ (x : Branch). Extends x y) (sym same) (extends-between (just1 a.branch)
+          (just1 (just1 a.branch)) y (just1-extends (just1 a.branch)) e lower)) l
     ]

@@ -6,7 +6,8 @@ use Rattle.std.proofs.Common.{ℕ, ◌≡◌, true, false, List, [], ◌∷◌, 
 use Rattle.std.proofs.Common.{inl, inr, map, reverse}
 use Rattle.linear_law.proofs.Effects.{is_member}
 use Rattle.linear_law.proofs.Runs.{chronicles}
-use Rattle.linear_law.proofs.Clear.{IsCourse, clear-below}
+use Rattle.linear_law.proofs.Clear.{clear-below}
+use Rattle.definitions.specs.Agreement.{IsLawfulFamily}
 use Rattle.linear_law.proofs.Requested.{AllRequested, WasRequested}
 use Rattle.definitions.specs.Lists.{Among}
 use Rattle.definitions.specs.Frames.{Command}
@@ -55,7 +56,7 @@ nothing-of e k = k
 
 -- the command behind an entry of a member's history
 pub entry-requested : (w : World)
-    → IsCourse (record { sizes = w.sizes; is_member = is_member w; chronicle = chronicles w })
+    → IsLawfulFamily (record { sizes = w.sizes; is_member = is_member w; chronicle = chronicles w })
     → ((p : ℕ) → is_member w p ≡ true → AllRequested w w.sent (chronicles w p)) → (p : ℕ)
     → is_member w p ≡ true → (e : Entry) → Among e (history (chronicles w p))
     → w.is_faulty (client_party e.client) ≡ false → (k : Command) × (entry_of k ≡ e) × WasRequested w.sent k

@@ -45,6 +45,7 @@ Carries i core q f = ⊥
 pub record TookFrom (core : Core) (q : Certificate) (f : Findings) (a : Admitted) : Type 0 where
   pub stored : a.core ≡ core
   pub counted_is : a.counted ≡ f.counted
+  pub none_sent : a.senders ≡ []
   pub core_is : a.new ≡ true → core_of a.branch ≡ core
   pub justified : q.digest ≡ digest_of (just1 a.branch)
   pub clear_is : a.clear ≡ f.clear
@@ -72,6 +73,7 @@ placed-from self i w sender core q f c ca (stands b) h = (
   record {
     stored = refl;
     counted_is = refl;
+    none_sent = refl;
     core_is = λ n. absurd (true≢false (sym n));
     justified = h.1;
     clear_is = refl;
@@ -86,6 +88,7 @@ placed-from self i w sender core q f c ca (grows b) (parent, g) =
       record {
         stored = refl;
         counted_is = refl;
+        none_sent = refl;
         core_is = λ n. ap core_of g.is ∙ core-known core parent ep g.height;
         justified = g.justified ∙ ap (λ (x : Branch). digest_of (just1 x)) (sym g.is);
         clear_is = refl;

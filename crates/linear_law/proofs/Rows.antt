@@ -1,5 +1,5 @@
 -- The chronicles of the correct replicas, side by side: each lawful, all in one order.
-use Rattle.definitions.proofs.Chronicles.{voted-tree}
+use Rattle.definitions.proofs.Chronicles.{voted-tree, taken-tree}
 use Rattle.std.proofs.Common.{ℕ, ◌≡◌, Bool, true, false, ◌∷◌, cond, refl, sym, ap, subst, ◌∙◌}
 use Rattle.std.proofs.Common.{inl, inr, map, true≢false, ◌==◌}
 use Rattle.std.specs.Bool.{⊤}
@@ -14,7 +14,7 @@ use Rattle.definitions.specs.Digests.{digest_of, core_of, AllKnown, NoCollision}
 use Rattle.definitions.specs.Trees.{blocks}
 use Rattle.definitions.specs.Chronicles.{Admitted, Step, Step.took_block, Step.noted, Chronicle, voted_blocks}
 use Rattle.definitions.specs.Chronicles.{taken_blocks, tree, IsLawful, IsLawfulTake, IsSound, stored_blocks}
-use Rattle.definitions.specs.Chronicles.{stored_block}
+use Rattle.definitions.specs.Chronicles.{stored_block, HasTaken}
 use Rattle.definitions.specs.Agreement.{Order, steps_of, IsBacked, IsOrderly}
 
 abbrev pub put_row : ℕ → Chronicle → (ℕ → Chronicle) → ℕ → Chronicle
@@ -36,13 +36,16 @@ pub same-row : (Known : Core → Type 0) (sizes : Sizes) (is_member : ℕ → Bo
     → ((i : ℕ) → row i ≡ new i) → IsRow Known sizes is_member row → IsRow Known sizes is_member new
 same-row Known sizes is_member row new e r = subst (IsRow Known sizes is_member) (λ k i. e i k) r
 
--- what has to be known of a step for the row to go on: where it takes a block, the core is known, and each
--- counted vote of a member is for some block of the certificate's digest
+-- what has to be known of a step for the row to go on: where it takes a block, the core is known, each
+-- counted vote of a member is for some block of the certificate's digest, and each member that sent the block
+-- took one of its digest
 pub record MayFollow (Known : Core → Type 0) (is_member : ℕ → Bool) (row : ℕ → Chronicle) (a : Admitted) :
     Type 0 where
   pub known : a.new ≡ true → Known (core_of a.branch)
   pub votes : (v : ℕ) → Among v a.counted → is_member v ≡ true
       → (x : Branch) × Among x (voted_blocks (row v)) × (digest_of x ≡ digest_of (just1 a.branch))
+  pub sent : (v : ℕ) → Among v a.senders → is_member v ≡ true
+      → (x : Branch) × HasTaken x (row v) × (digest_of x ≡ digest_of a.branch)
 
 abbrev pub StepMayFollow : (Core → Type 0) → (ℕ → Bool) → (ℕ → Chronicle) → Step → Type 0
 StepMayFollow Known is_member row (took_block a) = MayFollow Known is_member row a
@@ -75,23 +78,33 @@ grows-known Known need (noted n) is_member row c l f old = old
 
 module _ (Known : Core → Type 0) (apart : NoCollision Known) (genesis : Known genesis_core)
     (ground : genesis_core.height ≡ 0) where
-  -- each vote counted in a member's name is an earlier vote of it
+  -- each vote counted in a member's name is an earlier vote of it, and each member that sent the block took it
   grows-backed : (sizes : Sizes) (is_member : ℕ → Bool) (row : ℕ → Chronicle)
       (r : IsRow Known sizes is_member row) (p : ℕ) → is_member p ≡ true → (st : Step)
       → IsSound sizes (st ∷ row p) → StepMayFollow Known is_member row st
       → IsBacked is_member st r.orderly.order
-  grows-backed sizes is_member row r p m (took_block a) so f = λ n v k mv.
-      let x = f.votes v k mv in
-      let kx : AllKnown Known x.0 =
-      r.known v mv x.0 (voted-tree sizes (row v) (r.sound v mv).lawful x.0 x.1) in
+  grows-backed sizes is_member row r p m (took_block a) so f = λ n v mv.
       let kb : AllKnown Known a.branch =
       taken-known Known sizes a (row p) (so.lawful.0.1 n) (r.known p m) (f.known n) in
       let kj : AllKnown Known (just1 a.branch) =
-      all_known-below Known a.branch (just1 a.branch) kb (just1-extends a.branch) in
-      let e : x.0 ≡ just1 a.branch =
-      digest_of-one Known apart genesis ground x.0 (just1 a.branch) kx kj x.2 in
-      subst (λ (c : Chronicle). Among (just1 a.branch) (voted_blocks c)) (sym (r.orderly.whole v mv))
-      (subst (λ (y : Branch). Among y (voted_blocks (row v))) e x.1)
+      all_known-below Known a.branch (just1 a.branch) kb (just1-extends a.branch) in (
+        λ k.
+            let x = f.votes v k mv in
+            let kx : AllKnown Known x.0 =
+            r.known v mv x.0 (voted-tree sizes (row v) (r.sound v mv).lawful x.0 x.1) in
+            let e : x.0 ≡ just1 a.branch =
+            digest_of-one Known apart genesis ground x.0 (just1 a.branch) kx kj x.2 in
+            subst (λ (c : Chronicle). Among (just1 a.branch) (voted_blocks c))
+            (sym (r.orderly.whole v mv)) (subst (λ (y : Branch). Among y (voted_blocks (row v))) e x.1),
+        λ k.
+            let x = f.sent v k mv in
+            let kx : AllKnown Known x.0 =
+            r.known v mv x.0 (subst (λ (y : Branch). Among y (tree (row v))) x.1.2
+            (taken-tree (row v) x.1.0 x.1.1)) in
+            let e : x.0 ≡ a.branch = digest_of-one Known apart genesis ground x.0 a.branch kx kb x.2 in
+            subst (HasTaken a.branch) (sym (r.orderly.whole v mv))
+            (subst (λ (y : Branch). HasTaken y (row v)) e x.1),
+      )
   grows-backed sizes is_member row r p m (noted n) so f = tt
 
   whole-step : (p : ℕ) (st : Step) (o : Order) (row : ℕ → Chronicle) (i : ℕ) → steps_of i o ≡ row i

@@ -132,6 +132,7 @@ module _ (Known : Core → Type 0) where
             let r = counted-vote w e i f.0 f.1 f.2 run honest me b.0 b.1 v
             (subst (λ (l : List ℕ). Among v l) f.4.counted_is m) mv in
             (r.0, r.1, r.2 ∙ f.4.justified);
+        sent = λ v m mv. absurd (subst (Among v) f.4.none_sent m);
       }
   may-follow w e i run honest me ar (noted n) f = tt
 

@@ -1,10 +1,11 @@
 -- How many numbers are at least a bound, and which of these is the least.
-use Rattle.std.proofs.Common.{ℕ, zero, suc, ◌≡◌, ◌+◌, ◌<◌, ◌≤◌, ◌⊎◌, Bool, true, false, cond, leb, refl}
+use Rattle.std.proofs.Common.{ℕ, zero, suc, ◌≡◌, ◌+◌, ◌<◌, ◌≤◌, ◌⊎◌, Bool, true, cond, leb, refl}
 use Rattle.std.proofs.Common.{subst, arith, inl, inr}
 use Rattle.std.proofs.Common.{List, length, filter, take, slice_index, ap, sym, ◌∙◌, add-one}
 use Rattle.std.proofs.lemmas.List.Filters.{length-filter_more}
 use Rattle.std.proofs.lemmas.Bool.{cases_lt, cond_both, leb-true, le-leb}
 use Rattle.definitions.specs.Lists.{count_below}
+use Rattle.definitions.proofs.Counts.{count-mono}
 
 -- how many of the numbers below n have a value of at least v
 abbrev pub at_least : ℕ → (ℕ → ℕ) → ℕ → ℕ
@@ -23,20 +24,6 @@ count-taken (suc n) p xs l =
     (ap (λ k. length (filter p (take k xs))) (sym (add-one n))
     ∙ length-filter_more p xs n 0 (omega (arith, l)))
     (count-taken n p xs (omega (arith, l)))
-
-mono-step : (a b : Bool) (x y : ℕ) → (a ≡ true → b ≡ true) → x ≤ y → cond a (suc x) x ≤ cond b (suc y) y
-mono-step true true x y h l = omega arith
-mono-step true false x y h l = cc (h refl)
-mono-step false true x y h l = omega arith
-mono-step false false x y h l = l
-
--- where each that passes one test passes the other, the other counts no fewer
-pub count-mono : (n : ℕ) (p q : ℕ → Bool) → ((i : ℕ) → i < n → p i ≡ true → q i ≡ true)
-    → count_below n p ≤ count_below n q
-unfolding count_below
-count-mono zero p q h = omega arith
-count-mono (suc n) p q h =
-    mono-step (p n) (q n) _ _ (h n (omega arith)) (count-mono n p q (λ i l. h i (omega (arith, l))))
 
 -- where none passes, none is counted
 pub count-none : (n : ℕ) (p : ℕ → Bool) → ((i : ℕ) → i < n → p i ≡ true → ⊥) → count_below n p ≡ 0

@@ -7,6 +7,7 @@ use Rattle.std.proofs.lemmas.List.{drop-drop, reverse-append}
 use Rattle.definitions.specs.Branches.{Branch}
 use Rattle.definitions.specs.Digests.{digest, digest_of, core_of}
 use Rattle.definitions.specs.Trees.{Stored}
+use Rattle.definitions.specs.Audit.{sent_by}
 use Rattle.definitions.specs.Chronicles.{taken_blocks}
 use Rattle.block_tree.specs.declared.node.Node.{Node}
 use Rattle.block_tree.specs.Nodes.{IsNodeOf}
@@ -51,6 +52,19 @@ taken-count (GotFetch f ∷ earlier) stored = taken-count earlier (before (GotFe
 taken-count (TimedOut ∷ earlier) stored = taken-count earlier (before TimedOut stored)
 taken-count (Beat ∷ earlier) stored = taken-count earlier (before Beat stored)
 taken-count (Pruned height ∷ earlier) stored = taken-count earlier (before (Pruned height) stored)
+
+-- no stored step names senders of its block
+pub none-sent : (s : StoredStep) (stored : List Stored) → sent_by (step_of s stored) ≡ []
+unfolding sent_by
+none-sent (TookNew t) stored = refl
+none-sent (TookAgain t) stored = refl
+none-sent (GotVote g) stored = refl
+none-sent (GotNewView n) stored = refl
+none-sent (GotRequest r) stored = refl
+none-sent (GotFetch f) stored = refl
+none-sent TimedOut stored = refl
+none-sent Beat stored = refl
+none-sent (Pruned height) stored = refl
 
 -- the node of the newest of these blocks
 pub newest-node : (k : ℕ) (stored : List Stored) → k < length stored → (n : Node)

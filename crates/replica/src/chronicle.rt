@@ -1,7 +1,7 @@
 //! The chronicle of a replica, as it is lent.
 
 ghost use Rattle.std.specs.Prelude.{◌≡◌, [], ◌∷◌, length, reverse, option_map, MatchOption};
-ghost use Rattle.definitions.specs.Audit.{gives_vote, counted_by, counted_for, core_in};
+ghost use Rattle.definitions.specs.Audit.{gives_vote, counted_by, counted_for, sent_by, core_in};
 ghost use Rattle.frames_view.specs.Views.{core_of};
 ghost use Rattle.replica.specs.Replay.{taken_new, replay};
 
@@ -72,8 +72,9 @@ impl<'a> StepView<'a> {
     /// The votes that it counts; none where it took no new block.
     #[tactic(auto, unfolding(definitions::specs::Audit::counted_by, definitions::specs::Audit::counted_for))]
     pub fn counts(&self) -> Option<CountedVotes<'a>>
-        ensures { MatchOption result (counted_by self.now ≡ [])
+        ensures votes { MatchOption result (counted_by self.now ≡ [])
             (λ c. (c.voters.now ≡ counted_by self.now) × (c.block ≡ counted_for self.now)) }
+        ensures no_senders { sent_by self.now ≡ [] }
     {
         match self.step {
             StoredStep::TookNew(taken) => Some(CountedVotes {

@@ -134,6 +134,7 @@ took r = took_block (record {
   core = r.core;
   certificate = r.certificate;
   counted = r.counted;
+  senders = [];
   clear = true;
   new = true;
   voted = true;

@@ -15,6 +15,7 @@ took b = took_block (record {
   core = core_of b;
   certificate = record { digest = []; votes = [] };
   counted = [];
+  senders = [];
   clear = true;
   new = true;
   voted = false;

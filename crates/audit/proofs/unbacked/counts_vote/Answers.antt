@@ -9,11 +9,11 @@ returns-then-contains c =
     let v = c.args.voter in
     let own = c.in-Some.counted in (
       (λ t. (
-        subst (Among v) c.in-Some.ensures.0
+        subst (Among v) c.in-Some.ensures.votes.0
             (among-from v own.voters.now (sym c.contains.ensures.value ∙ c.if-contains.true)),
-        sym c.in-Some.ensures.1 ∙ (bytes_eq-Decides own.block c.args.block.now).0 (sym c.eq.ensures ∙ t),
+        sym c.in-Some.ensures.votes.1 ∙ (bytes_eq-Decides own.block c.args.block.now).0 (sym c.eq.ensures ∙ t),
       )),
-      (λ p. c.eq.ensures ∙ (bytes_eq-Decides own.block c.args.block.now).1 (c.in-Some.ensures.1 ∙ p.1)),
+      (λ p. c.eq.ensures ∙ (bytes_eq-Decides own.block c.args.block.now).1 (c.in-Some.ensures.votes.1 ∙ p.1)),
     )
 
 pub returns-else-contains : goal.returns-else-contains
@@ -22,5 +22,5 @@ returns-else-contains c =
     let own = c.in-Some.counted in (
       (λ t. absurd (true≢false (sym t ∙ c.if-contains.false))),
       (λ p. c.contains.ensures.value
-          ∙ among-to v own.voters.now (subst (Among v) (sym c.in-Some.ensures.0) p.0)),
+          ∙ among-to v own.voters.now (subst (Among v) (sym c.in-Some.ensures.votes.0) p.0)),
     )
