@@ -1,1 +1,2 @@
 mod Lagging
+mod Slower

@@ -1,8 +1,8 @@
 -- What is due to a replica, by what was seen of it.
 use Rattle.std.specs.Prelude.{ℕ, ◌+◌, ◌*◌, ◌/◌, ◌-◌, ◌^◌, ◌==◌, ◌&&◌, ◌||◌, not, min, max, nat_le, Bool}
-use Rattle.std.specs.Prelude.{if◌then◌else◌, nat_lt, Option, Some, None}
+use Rattle.std.specs.Prelude.{if◌then◌else◌, nat_lt, Some, None}
 use Rattle.tuning.specs.declared.clocks.TheConstants.{COMMAND_SHARE, LAG_WEIGHT, LEAST_BEAT_MILLIS, LEAST_COMMAND_MILLIS}
-use Rattle.tuning.specs.declared.clocks.TheConstants.{MOST_COUNTED, VIEW_LIMIT, WINDOW_SLACK}
+use Rattle.tuning.specs.declared.clocks.TheConstants.{MOST_COUNTED, VIEW_LIMIT}
 use Rattle.clock.specs.declared.watch.Pulse.{Pulse}
 use Rattle.clock.specs.declared.watch.Due.{Due}
 use Rattle.clock.specs.declared.watch.Watch.{Watch}
@@ -73,13 +73,6 @@ due_of w now p = record {
 abbrev pub pause_after : ℕ → Bool → Bool → ℕ
 pause_after pause got_on passed =
     if got_on then max (pause / 2) LEAST_BEAT_MILLIS else if passed then min (pause * 2) (2 ^ 64 - 1) else pause
-
--- Where more heights than a window and a part of it lie between the horizon and the last executed block,
--- what is a window below that block.
-abbrev pub prune_at : ℕ → Pulse → Option ℕ
-prune_at window p =
-    if nat_lt (min (window + window / WINDOW_SLACK) (2 ^ 64 - 1)) (p.height - p.horizon) then Some (p.height - window)
-    else None
 
 -- what was seen so far, with this. How slow the view was begins anew where a timeout is due
 abbrev pub looked : Watch → ℕ → Pulse → Watch

@@ -1,7 +1,8 @@
 //! The thread that looks at a replica.
 
-use crate::watch::{Due, Pulse, Watch, prune_at};
-use ids::{Fault, Height};
+use crate::forgetting::{Keep, prune_at, shown_by};
+use crate::watch::{Due, Pulse, Watch};
+use ids::{Fault, Height, MOST_REPLICAS};
 use std::sync::Wait;
 use std::sync::atomic::AtomicBool;
 use std::sync::atomic::Ordering::SeqCst;
@@ -17,6 +18,12 @@ pub trait Watched {
     /// Hands in a beat or a timeout, or both.
     fn hand_in<R: Wait>(&self, rt: &R, due: Due);
 
+    /// Shows all replicas the height up to which it has executed, or that it goes on no more.
+    fn show(&self, height: Height);
+
+    /// What each replica has shown; the greatest height where there is none.
+    fn shown(&self) -> [Height; MOST_REPLICAS];
+
     /// Hands in leave to prune its tree up to a height.
     fn prune<R: Wait>(&self, rt: &R, height: Height);
 }
@@ -31,14 +38,14 @@ fn millis_since<R: Clock>(rt: &R, start: Option<Instant>) -> u64 {
 }
 
 /// Looks at a replica, one of so many, each `LOOK_MILLIS` until it is told to stop, and hands in beats,
-/// timeouts, and prunings that leave it so many heights, if it is to prune.
+/// timeouts, and prunings that leave it so much, if it is to prune.
 ///
 /// It ends where the replica has stopped, too, and tells why; where it was told to stop, it tells nothing.
 pub fn keep_time<R: Wait + Clock, W: Watched>(
     rt: &R,
     replica: &W,
     replicas: u8,
-    window: Option<u64>,
+    keep: Option<Keep>,
     stop: &AtomicBool,
 ) -> Option<Fault> {
     let start = Instant::now(rt).ok();
@@ -49,11 +56,12 @@ pub fn keep_time<R: Wait + Clock, W: Watched>(
         }
         thread::sleep(rt, Duration::from_millis(LOOK_MILLIS));
         let pulse = replica.pulse(rt);
+        replica.show(shown_by(pulse));
         if pulse.stopped.is_some() {
             return pulse.stopped;
         }
         replica.hand_in(rt, watch.look(millis_since(rt, start), pulse));
-        if let Some(height) = window.and_then(|window| prune_at(window, pulse)) {
+        if let Some(height) = keep.and_then(|keep| prune_at(keep, &replica.shown(), &pulse)) {
             replica.prune(rt, height);
         }
     }

@@ -1,6 +1,7 @@
 //! What the rules are for. Each law stands as the contract of a function with an empty body.
 
 ghost use Rattle.clock.specs.Laws.{IsEarned, IsGiven, IsPatient};
+ghost use Rattle.clock.specs.Pruning.{HelpsSlower, KeepsWindow, KeepsWithin};
 
 /// No timeout is due before the replica has lagged in its view for a third of the view's limit.
 pub fn timeouts_are_earned()
@@ -15,4 +16,19 @@ pub fn timeouts_are_given()
 /// A proposal may always wait for the least pause before there is a beat on top of it.
 pub fn proposals_may_wait()
     ensures { IsPatient }
+{}
+
+/// A replica forgets nothing that a slower one needs, as long as that one is no further behind than the most that it keeps.
+pub fn slower_ones_are_helped()
+    ensures { HelpsSlower }
+{}
+
+/// However far behind others are, a replica keeps no more than the most, and the part of a window by which it waits.
+pub fn what_is_kept_is_within()
+    ensures { KeepsWithin }
+{}
+
+/// A replica keeps its window.
+pub fn the_window_is_kept()
+    ensures { KeepsWindow }
 {}

@@ -4,10 +4,15 @@
 //! clock. [`keep_time`] looks at one again and again, and hands in what is due.
 #![tactic(auto)]
 
+mod forgetting;
 mod keeping;
 mod laws;
 mod watch;
 
+pub use forgetting::{Keep, lacks_next, prune_at};
 pub use keeping::{Watched, keep_time};
-pub use laws::{proposals_may_wait, timeouts_are_earned, timeouts_are_given};
-pub use watch::{Due, Pulse, Watch, prune_at};
+pub use laws::{
+    proposals_may_wait, slower_ones_are_helped, the_window_is_kept, timeouts_are_earned,
+    timeouts_are_given, what_is_kept_is_within,
+};
+pub use watch::{Due, Pulse, Watch};

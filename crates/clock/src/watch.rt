@@ -2,12 +2,11 @@
 
 ghost use Rattle.std.specs.Prelude.{◌≡◌, if◌then◌else◌};
 ghost use Rattle.clock.specs.Watching.{due_of, is_over, is_overdue, lags, limit_of, looked, moved};
-ghost use Rattle.clock.specs.Watching.{patience_of, pause_after, prune_at, rests, slow_after, unseen};
+ghost use Rattle.clock.specs.Watching.{patience_of, pause_after, rests, slow_after, unseen};
 
 use ids::{Fault, Height, View};
 use tuning::{
     COMMAND_SHARE, LAG_WEIGHT, LEAST_BEAT_MILLIS, LEAST_COMMAND_MILLIS, MOST_COUNTED, VIEW_LIMIT,
-    WINDOW_SLACK,
 };
 
 /// What is seen of a replica at one moment.
@@ -54,19 +53,6 @@ pub struct Watch {
     /// Since when a proposal of it has waited for votes, and how long that may last.
     asked: u64,
     pause: u64,
-}
-
-/// The height up to which a replica may forget, if it is to keep so many heights below its last executed
-/// block. None until it holds a part more, one in `WINDOW_SLACK`, so that it isn't asked for each block.
-pub fn prune_at(window: u64, pulse: Pulse) -> Option<Height>
-    ensures { result ≡ prune_at window pulse }
-{
-    let held = pulse.height.0.saturating_sub(pulse.horizon.0);
-    if held > window.saturating_add(window / WINDOW_SLACK) {
-        Some(Height(pulse.height.0 - window))
-    } else {
-        None
-    }
 }
 
 /// How slow a view may be: `VIEW_LIMIT`, and as much more for each view before.
