@@ -67,6 +67,12 @@ module _ {L : Type 0} (carries : L → Traffic → L → Type 0) where
   Asks old None new =
       (tries : List Try) × GivesUp tries × Goes carries old (flat_map (try_traffic old.0.frame) tries) new
 
+  -- The service asks once more: it sends the frame and listens.
+  abbrev pub AsksAgain : Held × L → Option Receipt → Held × L → Type 0
+  AsksAgain old r new =
+      (listening : Held × L) × Passes carries old (sent old.0.frame) None listening
+      × Listens listening r new
+
   -- The service asks for the payload's request, once it is submitted. Where it isn't, all is as before.
   abbrev pub IsAsked : Held × L → Bytes → Option Receipt → Held × L → Type 0
   IsAsked old payload (Some r) new =

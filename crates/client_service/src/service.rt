@@ -1,7 +1,7 @@
 ghost use Rattle.std.specs.Prelude.{◌≡◌, ◌-◌, ◌<◌, min, None, true, if◌then◌else◌};
 ghost use Rattle.std.specs.Result.{result_ok};
 ghost use Rattle.client_service.specs.Links.{Passes, Hears, came, sent};
-ghost use Rattle.client_service.specs.Calls.{Listens, Asks, IsAsked, LooksAndAsks};
+ghost use Rattle.client_service.specs.Calls.{Listens, Asks, AsksAgain, IsAsked, LooksAndAsks};
 ghost use Rattle.tuning.specs.declared.clients.TheConstants.{LATE_TRIES};
 
 use crate::link::Link;
@@ -47,7 +47,7 @@ impl<L: Link> ClientService<L> {
     }
 
     /// Whether a request is outstanding: it was given up, and may still be executed. Then each
-    /// further call refuses, and no connection can be served.
+    /// further call refuses, and no connection can be served until `ask_again` gets its receipt.
     pub fn is_waiting(&self) -> bool
         ensures { result ≡ self.now.session.session.waiting }
     {
@@ -122,6 +122,16 @@ impl<L: Link> ClientService<L> {
             left = tries_left(left, self.link.is_open());
         }
         Err(Fault::Busy)
+    }
+
+    /// Asks once more for the receipt of a request that was given up. Once it is there, the next connection can be served.
+    pub fn ask_again(&mut self) -> Option<Receipt>
+        requires { self.old.session.session.waiting ≡ true }
+        ensures { AsksAgain L.carries (self.old.session, self.old.link) result
+            (self.new.session, self.new.link) }
+    {
+        self.send();
+        self.listen()
     }
 
     /// Submits the request that has this text, and asks for its receipt.

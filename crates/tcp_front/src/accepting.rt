@@ -10,7 +10,8 @@ use std::net::{Shutdown, TcpListener, TcpStream};
 use std::os::fd::OwnedFd;
 use std::sync::Wait;
 use std::thread;
-use std::thread::Threads;
+use std::thread::{Scope, Threads};
+use std::time::Clock;
 
 /// What ends a front from outside. It is made before the front begins, so that to close one takes neither
 /// memory nor a file.
@@ -65,13 +66,44 @@ fn accept<S: Drop>(listener: &TcpListener, seats: &Seats<S>) -> Result<TcpStream
     Err(Fault::AcceptFailed)
 }
 
+/// Accepts so many connections, and begins each in a thread of its own.
+fn accept_all<'s, E, R: Threads + Wait + Clock + Sync + AllocGlobal + Log, S: Seat + Send + Drop>(
+    rt: &'s R,
+    scope: &Scope<'s, E>,
+    listener: &TcpListener,
+    seats: &'s Seats<S>,
+    most: u64,
+) -> Result<u64, Fault>
+    ensures served { IfOk result (λ served. served ≡ most) }
+    ensures failed { OnErr result ((result ≡ Err AcceptFailed) ⊎ (result ≡ Err Stopped)) }
+{
+    for _ in 0..most {
+        let stream = accept(listener, seats)?;
+        match seats.take(rt) {
+            Some(taken) => {
+                let begun = scope.spawn(move || attend(rt, stream, seats, taken));
+                // Where no thread can be had, this one does it.
+                if let Err(refused) = begun {
+                    (refused.value)();
+                }
+            }
+            None => {
+                if let Err(refused) = scope.spawn(move || refuse(stream)) {
+                    (refused.value)();
+                }
+            }
+        }
+    }
+    Ok(most)
+}
+
 /// Serves so many connections, those for which there was no seat included, and answers how many they were.
 ///
 /// Each takes a free seat for its time, and is served in a thread of its own. Where none is free it
 /// is told `SERVER_ERROR too many connections` and closed. `AcceptFailed` comes only where
 /// accepting failed, and `Stopped` only where the seats were closed (`Closer`). It returns when all
-/// connections have ended.
-pub fn front<R: Threads + Wait + Sync + AllocGlobal + Log, S: Seat + Send + Drop>(
+/// connections have ended, and no lost seat tries any more.
+pub fn front<R: Threads + Wait + Clock + Sync + AllocGlobal + Log, S: Seat + Send + Drop>(
     rt: &R,
     listener: &TcpListener,
     seats: &Seats<S>,
@@ -87,24 +119,9 @@ pub fn front<R: Threads + Wait + Sync + AllocGlobal + Log, S: Seat + Send + Drop
             ensures served { IfOk result (λ served. served ≡ most) }
             ensures failed { OnErr result ((result ≡ Err AcceptFailed) ⊎ (result ≡ Err Stopped)) }
         {
-            for _ in 0..most {
-                let stream = accept(listener, seats)?;
-                match seats.take(rt) {
-                    Some(taken) => {
-                        let begun = scope.spawn(move || attend(rt, stream, seats, taken));
-                        // Where no thread can be had, this one does it.
-                        if let Err(refused) = begun {
-                            (refused.value)();
-                        }
-                    }
-                    None => {
-                        if let Err(refused) = scope.spawn(move || refuse(stream)) {
-                            (refused.value)();
-                        }
-                    }
-                }
-            }
-            Ok(most)
+            let served = accept_all(rt, scope, listener, seats, most);
+            seats.end();
+            served
         },
     )
 }

@@ -3,15 +3,16 @@
 use crate::line::Line;
 use crate::seats::{Seat, Seats, Taken};
 use connection::{Counted, serve};
-use log::{Log, warn};
+use log::{Log, info, warn};
 use std::io::{Read, Write};
 use std::net::{Shutdown, TcpStream};
 use std::sync::Wait;
-use std::time::Duration;
-use tuning::{LINGER_BYTES, LINGER_MILLIS, LINGER_TIMES};
+use std::thread;
+use std::time::{Clock, Duration};
+use tuning::{CLOSED_LOOK_MILLIS, LINGER_BYTES, LINGER_MILLIS, LINGER_TIMES};
 
-/// Serves a connection with a seat. Afterwards the seat is free again, unless it is lost.
-pub(crate) fn attend<R: Wait + AllocGlobal + Log, S: Seat + Drop>(
+/// Serves a connection with a seat. Afterwards the seat is free again; where it is lost, once it is of use again.
+pub(crate) fn attend<R: Wait + Clock + AllocGlobal + Log, S: Seat + Drop>(
     rt: &R,
     stream: TcpStream,
     seats: &Seats<S>,
@@ -20,12 +21,28 @@ pub(crate) fn attend<R: Wait + AllocGlobal + Log, S: Seat + Drop>(
     let mut reader = Counted::new(Line::new(&stream, seats));
     let mut writer = Counted::new(Line::new(&stream, seats));
     let _end = serve(rt.alloc(), &mut reader, &mut writer, &mut taken.seat);
-    if taken.seat.is_lost() {
-        let number = taken.number;
-        warn!(rt; "client {number} is out of use: its last request has no receipt");
-    }
-    seats.leave(rt, taken);
+    let lost = seats.leave(rt, taken);
     close(&stream);
+    if let Some(lost) = lost {
+        win_back(rt, seats, lost);
+    }
+}
+
+/// Has a lost seat try again until it is of use, and frees it then; or until no connection is accepted any more.
+fn win_back<R: Wait + Clock + Log, S: Seat + Drop>(rt: &R, seats: &Seats<S>, mut lost: Taken<S>) {
+    let number = lost.number;
+    warn!(rt; "client {number} is out of use: its last request has no receipt");
+    for _ in rt.forever() {
+        if seats.are_over() {
+            return;
+        }
+        if lost.seat.try_again() {
+            break;
+        }
+        thread::sleep(rt, Duration::from_millis(CLOSED_LOOK_MILLIS));
+    }
+    let _free = seats.free(rt, lost);
+    info!(rt; "client {number} is of use again");
 }
 
 /// Tells a connection for which there is no seat.

@@ -1,4 +1,4 @@
-ghost use Rattle.std.specs.Prelude.{◌≡◌, Bool, length, IfOk, OnErr, Err};
+ghost use Rattle.std.specs.Prelude.{◌≡◌, Bool, false, true, length, not, IfNone, IfOk, IfSome, OnErr, Err};
 ghost use Rattle.ids.specs.declared.fault.Fault.TheVariants.{Memory};
 
 use client_service::{ClientService, Link};
@@ -19,14 +19,26 @@ pub trait Seat: Service {
     /// Whether it can serve no further connection.
     fn is_lost(&self) -> bool
         ensures { result ≡ lost self.now };
+
+    /// Tries once more to be of use. Whether it is.
+    fn try_again(&mut self) -> bool
+        ensures { result ≡ not (lost self.new) };
 }
 
-/// It is lost where a request was given up, which may still be executed.
+/// It is lost while a request is outstanding that was given up: it may still be executed. It tries again by asking for
+/// that request's receipt.
 impl<L: Link> Seat for ClientService<L> {
     ghost lost = { λ service. service.session.session.waiting };
 
     fn is_lost(&self) -> bool {
         self.is_waiting()
+    }
+
+    fn try_again(&mut self) -> bool {
+        if self.is_waiting() {
+            let _receipt = self.ask_again();
+        }
+        !self.is_waiting()
     }
 }
 
@@ -50,7 +62,7 @@ impl<'a, S> Tells<S> for Seated<'a, S> {
 /// The seats of a server, which its threads share by reference: contracts see them as they were made, in their
 /// order.
 ///
-/// Each is free, or a connection has it, or it is lost. Which, lies under its lock.
+/// Each is free, or a connection has it, or it is lost and tries again. Which, lies under its lock.
 #[derive(Drop)]
 pub struct Seats<S> {
     /// By number. A free one stands in its slot.
@@ -58,6 +70,8 @@ pub struct Seats<S> {
     /// How many are taken now.
     taken: AtomicU64,
     is_closed: AtomicBool,
+    /// Whether no further connection is accepted.
+    is_over: AtomicBool,
     /// What was put into the slots when they were made, the last one first.
     made_with: GhostList<S>,
 }
@@ -88,6 +102,7 @@ impl<S: Drop> Seats<S> {
             slots,
             taken: AtomicU64::new(0),
             is_closed: AtomicBool::new(false),
+            is_over: AtomicBool::new(false),
             made_with,
         })
     }
@@ -112,6 +127,17 @@ impl<S: Drop> Seats<S> {
     /// Closes them: the front accepts no further connection, and each that there is ends.
     pub(crate) fn close(&self) {
         self.is_closed.store(true, SeqCst);
+        self.end();
+    }
+
+    /// No further connection is accepted, and lost seats try no more.
+    pub(crate) fn end(&self) {
+        self.is_over.store(true, SeqCst);
+    }
+
+    /// Whether no further connection is accepted.
+    pub(crate) fn are_over(&self) -> bool {
+        self.is_over.load(SeqCst)
     }
 
     /// Takes the first free seat.
@@ -125,18 +151,33 @@ impl<S: Drop> Seats<S> {
         None
     }
 
-    /// A connection that had a seat has ended. The seat is free again, unless it is lost, before the
-    /// connection is counted out.
-    pub(crate) fn leave<R: Wait>(&self, rt: &R, taken: Taken<S>)
+    /// Frees a seat. One that is lost is handed back.
+    pub(crate) fn free<R: Wait>(&self, rt: &R, taken: Taken<S>) -> Option<Taken<S>>
     where
         S: Seat,
+        ensures lost { IfSome result (λ back. (back ≡ taken) × (S.lost taken.seat ≡ true)) }
+        ensures freed { IfNone result (S.lost taken.seat ≡ false) }
     {
-        let Taken { number, seat } = taken;
-        if !seat.is_lost() {
-            if let Some(slot) = self.slots.get(number) {
-                *slot.lock(rt) = Some(seat);
-            }
+        if taken.seat.is_lost() {
+            return Some(taken);
         }
+        let Taken { number, seat } = taken;
+        if let Some(slot) = self.slots.get(number) {
+            *slot.lock(rt) = Some(seat);
+        }
+        None
+    }
+
+    /// A connection that had a seat has ended. The seat is free again before the connection is counted out; one that is
+    /// lost is handed back.
+    pub(crate) fn leave<R: Wait>(&self, rt: &R, taken: Taken<S>) -> Option<Taken<S>>
+    where
+        S: Seat,
+        ensures lost { IfSome result (λ back. (back ≡ taken) × (S.lost taken.seat ≡ true)) }
+        ensures freed { IfNone result (S.lost taken.seat ≡ false) }
+    {
+        let lost = self.free(rt, taken);
         self.taken.fetch_sub(1, SeqCst);
+        lost
     }
 }
