@@ -35,6 +35,10 @@ pub struct Links {
     lost: AtomicU64,
     /// How many frames of each replica didn't fit in its share.
     turned_away: Vec<AtomicU64>,
+    /// How many of them were the same as the one before that didn't fit at that link.
+    repeated: Vec<AtomicU64>,
+    /// By sender and then by receiver, the last bytes of the frame that didn't fit there last.
+    last_turned_away: Vec<AtomicU64>,
 }
 
 impl Model for Links {
@@ -99,6 +103,14 @@ fn client_links(
     Ok((links, ends))
 }
 
+/// The last bytes of a frame as a number. They are of a tag: two frames don't end alike but by chance.
+fn last_bytes(frame: &[u8]) -> u64 {
+    match frame.last_chunk() {
+        Some(bytes) => u64::from_be_bytes(*bytes),
+        None => 0,
+    }
+}
+
 /// Whether more than `CLIENT_CROWD` requests wait at the links of more replicas than may be faulty, where so many wait at
 /// each.
 fn are_crowded(counts: &[u64], faults: u8) -> bool
@@ -118,7 +130,10 @@ impl Links {
         ensures replicas { IfOk result (λ r. vec_len r.1.replicas ≡ replicas config) }
         ensures clients { IfOk result (λ r. vec_len r.1.clients ≡ config.clients) }
     {
-        let turned_away = counters(alloc, usize::from(config.n()))?;
+        let count = usize::from(config.n());
+        let turned_away = counters(alloc, count)?;
+        let repeated = counters(alloc, count)?;
+        let last_turned_away = counters(alloc, count * count)?;
         let (replicas, replica_ends) = inboxes(alloc, config)?;
         let (clients, client_ends) = client_links(alloc, config)?;
         let links = Links {
@@ -128,6 +143,8 @@ impl Links {
             dealt: AtomicU64::new(0),
             lost: AtomicU64::new(0),
             turned_away,
+            repeated,
+            last_turned_away,
         };
         let ends = Ends {
             replicas: replica_ends,
@@ -158,6 +175,15 @@ impl Links {
         }
     }
 
+    /// How many of these were the same as the frame before that didn't fit at that link. Who sends the same again and again
+    /// floods; of who answers a replica that is far behind no frame is like the last.
+    pub fn repeated(&self, from: ReplicaId) -> u64 {
+        match self.repeated.get(usize::from(from.0)) {
+            Some(count) => count.load(SeqCst),
+            None => 0,
+        }
+    }
+
     /// A frame that was to be sent is lost.
     pub(crate) fn lose(&self) {
         self.lost.fetch_add(1, SeqCst);
@@ -167,6 +193,22 @@ impl Links {
     fn turn_away(&self, row: Row) {
         self.lose();
         if let Some(count) = self.turned_away.get(row.number) {
+            count.fetch_add(1, SeqCst);
+        }
+    }
+
+    /// A replica's frame that ends so didn't fit at a replica's link. Whether it is like the last such frame is noted.
+    fn compare(&self, row: Row, to: ReplicaId, ends: u64) {
+        let n = usize::from(self.config.n());
+        if row.number >= n {
+            return;
+        }
+        let place = row.number * n + usize::from(to.0);
+        let is_same = match self.last_turned_away.get(place) {
+            Some(last) => last.swap(ends, SeqCst) == ends,
+            None => false,
+        };
+        if let (true, Some(count)) = (is_same, self.repeated.get(row.number)) {
             count.fetch_add(1, SeqCst);
         }
     }
@@ -249,10 +291,15 @@ impl Links {
     ) -> Result<(), Fault>
         ensures { OnErr result ((result ≡ Err Fault.Memory) ⊎ (result ≡ Err Fault.NoSuchParty)) }
     {
-        match self.replicas.get(usize::from(to.0)) {
-            Some(inbox) => self.handed(row, inbox.hand_in_frame(rt, row, frame)),
-            None => Err(Fault::NoSuchParty),
+        let Some(inbox) = self.replicas.get(usize::from(to.0)) else {
+            return Err(Fault::NoSuchParty);
+        };
+        let ends = last_bytes(frame.as_slice());
+        let answer = inbox.hand_in_frame(rt, row, frame);
+        if matches!(answer, Err(Refusal::Full)) {
+            self.compare(row, to, ends);
         }
+        self.handed(row, answer)
     }
 
     /// Hands in one more copy of a frame at a replica's link. Its bytes are shared.

@@ -10,6 +10,7 @@ use crate::parcel::Parcel;
 use crate::queue::Question;
 use crate::waiting::{Carried, Waiting, WaitingRoom};
 use admission::Input;
+use authenticators::VerifyingKeyring;
 use bytes::Bytes;
 use frames_view::{Frame, read};
 use ids::{Config, Digest, Fault, Height, Kind, ReplicaId, View};
@@ -35,11 +36,14 @@ pub struct Worker<'a, G, O = Links> {
     own: OwnFrames,
 }
 
-/// What takes the frames that a replica sends to others.
+/// What takes the frames that a replica sends to others, and is told of some that it refuses.
 pub trait Outgoing {
     /// Sends a frame of a replica of the deployment where it goes, but not to that replica itself. One that can't be
     /// taken is lost, as on any network.
     fn send<R: Wait>(&self, rt: &R, from: ReplicaId, sending: Sending);
+
+    /// Is told of a frame that this keyring's replica refused, since a tag in it isn't right.
+    fn refused<R: Wait>(&self, _rt: &R, _keyring: &VerifyingKeyring, _bytes: &[u8]) {}
 }
 
 /// The number of a frame that a replica sends to itself: it goes over no link.
@@ -278,6 +282,10 @@ impl<'a, G: Gate, O: Outgoing> Worker<'a, G, O> {
                 }
             }
             Err(Fault::UnknownParent) => self.take_later(rt, steps, share, number, bytes),
+            Err(Fault::BadTag) => {
+                self.out
+                    .refused(rt, self.keyring.verifying(), bytes.as_slice());
+            }
             Err(_) => {}
         }
     }

@@ -1,7 +1,7 @@
 //! What an operator is told.
 
-/// Seconds in which a replica is named as a flooder once at most.
-pub const FLOOD_PAUSE_SECONDS: u64 = 60;
+/// Seconds in which each warning of a replica, and that views passed, is told once at most.
+pub const WARNING_PAUSE_SECONDS: u64 = 60;
 
 /// Milliseconds between two looks whether the thread that tells is to end.
 pub const STATUS_LOOK_MILLIS: u64 = 100;
