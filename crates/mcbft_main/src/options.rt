@@ -51,7 +51,7 @@ enum Word {
 }
 
 /// All options, in the order in which help has them.
-const WORDS: [Word; 12] = [
+const WORDS: [Word; 13] = [
     Word::Keys,
     Word::Number(Number {
         name: "faults",
@@ -109,6 +109,14 @@ const WORDS: [Word; 12] = [
         most: MOST_OF_32_BITS,
         default: "4096",
         help: "Heights that replicas remember",
+    }),
+    Word::Number(Number {
+        name: "window-most",
+        value: "H",
+        least: 0,
+        most: MOST_OF_32_BITS,
+        default: "0",
+        help: "Heights kept for replicas that are behind; 0: 65,536 among all",
     }),
     Word::Archive,
     Word::Number(Number {
@@ -208,6 +216,7 @@ impl<'a> Options<'a> {
         let watch: u32 = matches.get_one("watch")?;
         let blocks: u32 = matches.get_one("blocks")?;
         let window: u32 = matches.get_one("window")?;
+        let window_most: u32 = matches.get_one("window-most")?;
         Some(Options {
             keys: matches.get_str("keys")?,
             faults: matches.get_one("faults")?,
@@ -226,6 +235,11 @@ impl<'a> Options<'a> {
                     None
                 } else {
                     Some(u64::from(window))
+                },
+                window_most: if window_most == 0 {
+                    None
+                } else {
+                    Some(u64::from(window_most))
                 },
                 workers: workers_of(matches.get_one("workers")?),
                 watch: if watch == 0 {

@@ -1,3 +1,5 @@
+pub mod Doubting
 pub mod Ends
 pub mod Guarding
+pub mod Keeping
 pub mod Workers

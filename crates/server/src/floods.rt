@@ -5,12 +5,14 @@ ghost use Rattle.std.specs.Prelude.{◌≡◌, ◌&&◌, nat_le, nat_lt};
 use fabric::Links;
 use ids::{MOST_REPLICAS, ReplicaId};
 use log::{Log, warn};
-use tuning::FLOOD_PAUSE_SECONDS;
+use tuning::WARNING_PAUSE_SECONDS;
 
-/// What was told of a replica: how many of its frames were lost by then, and from when on it may be told of again.
+/// What was told of a replica: how many of its frames were lost by then, how many of them were repeats, and from when on it
+/// may be told of again.
 #[derive(Clone, Copy)]
 pub(crate) struct Warned {
     pub(crate) lost: u64,
+    pub(crate) repeated: u64,
     pub(crate) again: u64,
 }
 
@@ -20,6 +22,13 @@ fn is_due(told: Warned, lost: u64, second: u64) -> bool
 {
     told.lost < lost && told.again <= second
 }
+
+/// Nothing was told.
+const NONE: Warned = Warned {
+    lost: 0,
+    repeated: 0,
+    again: 0,
+};
 
 /// Which replicas were told of.
 #[derive(Clone, Copy)]
@@ -31,7 +40,7 @@ impl Floods {
     /// None was.
     pub(crate) fn none() -> Floods {
         Floods {
-            told: [Warned { lost: 0, again: 0 }; MOST_REPLICAS],
+            told: [NONE; MOST_REPLICAS],
         }
     }
 
@@ -49,14 +58,16 @@ impl Floods {
 
 /// What is told of a replica by now, of which this was told before.
 fn look_at<R: Log>(rt: &R, links: &Links, number: ReplicaId, told: Warned, second: u64) -> Warned {
-    let lost = links.turned_away(number);
+    let (lost, repeated) = (links.turned_away(number), links.repeated(number));
     if !is_due(told, lost, second) {
         return told;
     }
     let more = lost.saturating_sub(told.lost);
-    warn!(rt; "replica {} sends more than links hold: {more} of its frames were lost", number.0);
+    let repeats = repeated.saturating_sub(told.repeated);
+    warn!(rt; "replica {} sends more than links hold: {more} of its frames were lost, {repeats} of them repeats", number.0);
     Warned {
         lost,
-        again: second.saturating_add(FLOOD_PAUSE_SECONDS),
+        repeated,
+        again: second.saturating_add(WARNING_PAUSE_SECONDS),
     }
 }

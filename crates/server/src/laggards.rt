@@ -1,9 +1,10 @@
 //! Replicas that have fallen behind what the others keep.
 
-ghost use Rattle.std.specs.Prelude.{◌≡◌, ◌+◌, ◌-◌, ◌&&◌, ◌==◌, nat_lt};
-ghost use Rattle.ids.specs.declared.limits.TheConstants.{BELOW_HORIZON};
+ghost use Rattle.std.specs.Prelude.{◌≡◌, ◌&&◌, ◌==◌};
+ghost use Rattle.clock.specs.Pruning as pruning;
 
 use crate::stations::Station;
+use clock::lacks_next;
 use ids::{Height, MOST_REPLICAS, ReplicaId};
 use log::{Log, info, warn};
 use std::sync::Wait;
@@ -20,11 +21,10 @@ pub(crate) struct Reach {
 /// others have this horizon.
 fn is_stuck(reach: Reach, before: Height, horizon: Height) -> bool
     ensures { result
-        ≡ (reach.goes_on && (reach.height == before) && nat_lt (reach.height + 1) (horizon - BELOW_HORIZON)) }
+        ≡ (reach.goes_on && (reach.height == before) && pruning.lacks_next horizon reach.height) }
 {
-    let kept = horizon.lowest_kept().0;
-    let lacks_next = kept > 1 && reach.height.0 < kept - 1;
-    reach.goes_on && reach.height.0 == before.0 && lacks_next
+    let stands = reach.height.0 == before.0;
+    reach.goes_on && stands && lacks_next(horizon, reach.height)
 }
 
 /// The lowest horizon of the replicas at the other stations.

@@ -3,6 +3,7 @@
 #![tactic(auto)]
 
 mod client_seat;
+mod doubts;
 mod ending;
 mod floods;
 mod guarded;
@@ -13,6 +14,7 @@ mod roll;
 mod running;
 mod stations;
 mod terms;
+mod views;
 mod watching;
 mod worker;
 

@@ -83,10 +83,16 @@ impl<'a, R: Wait + Clock + AllocGlobal + Clone + Drop> Deployment<'a, ClientSeat
 }
 
 impl<'a, S: Drop> Deployment<'a, S> {
-    /// Gives a station its beats and timeouts until it is told to stop. Where its replica stops, that is
+    /// Gives one of the stations its beats and timeouts until it is told to stop. Where its replica stops, that is
     /// told; and where no request can be answered any more, the front is closed.
-    fn keep<R: Wait + Clock + Log>(&self, rt: &R, station: &Station<'_>, stop: &AtomicBool) {
-        let Some(fault) = watch(rt, station, &self.links, stop) else {
+    fn keep<'s, R: Wait + Clock + Log>(
+        &self,
+        rt: &R,
+        stations: &[Station<'s>],
+        station: &Station<'s>,
+        stop: &AtomicBool,
+    ) {
+        let Some(fault) = watch(rt, stations, station, &self.links, stop) else {
             return;
         };
         self.roll.strike(rt, fault);
@@ -99,11 +105,12 @@ impl<'a, S: Drop> Deployment<'a, S> {
     }
 }
 
-/// Starts the threads of a station: its workers and its clock. Whether all could be had.
-fn start_station<'s, E, R: Wait + Clock + Sync + Send + AllocGlobal + Log + Clone + Drop>(
+/// Starts the threads of one of the stations: its workers and its clock. Whether all could be had.
+fn start_station<'s, 'k, E, R: Wait + Clock + Sync + Send + AllocGlobal + Log + Clone + Drop>(
     rt: &'s R,
     scope: &Scope<'s, E>,
-    station: &'s Station<'_>,
+    stations: &'s [Station<'k>],
+    station: &'s Station<'k>,
     workers: Vec<WorkerStart>,
     deployment: &'s Deployment<'_, ClientSeat<R>>,
     stop: &'s AtomicBool,
@@ -114,7 +121,7 @@ fn start_station<'s, E, R: Wait + Clock + Sync + Send + AllocGlobal + Log + Clon
         let started = scope.spawn(move || run_worker(rt, station, links, worker));
         all_started = all_started && started.is_ok();
     }
-    let timed = scope.spawn(move || deployment.keep(rt, station, stop));
+    let timed = scope.spawn(move || deployment.keep(rt, stations, station, stop));
     all_started && timed.is_ok()
 }
 
@@ -129,7 +136,7 @@ fn start_stations<'s, E, R: Wait + Clock + Sync + Send + AllocGlobal + Log + Clo
 ) -> bool {
     let mut all_started = true;
     for (station, workers) in stations.iter().zip(workers) {
-        let started = start_station(rt, scope, station, workers, deployment, stop);
+        let started = start_station(rt, scope, stations, station, workers, deployment, stop);
         all_started = all_started && started;
     }
     all_started

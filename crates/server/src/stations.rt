@@ -7,6 +7,7 @@ ghost use Rattle.std.specs.List.{range_with_len};
 ghost use Rattle.ids.specs.Sizes.{replicas};
 ghost use Rattle.marks.specs.Eyes.{first_eye};
 
+use crate::doubts::{Doubting, Doubts};
 use crate::guarded::Guarded;
 use crate::laggards::Reach;
 use crate::lying::{LiarKeys, LyingOut};
@@ -14,10 +15,10 @@ use crate::terms::Terms;
 use crate::watching::Progress;
 use crate::worker::WorkerStart;
 use authenticators::ReplicaKeyring;
-use clock::{Due, Pulse, Watched, keep_time};
+use clock::{Due, Keep, Pulse, Watched, keep_time};
 use doorkeeper::Doorkeeper;
 use fabric::{Inbox, Links, WaitingRoom, Worker};
-use ids::{Fault, Height, ReplicaId};
+use ids::{Fault, Height, MOST_REPLICAS, ReplicaId, View};
 use key_file::PairKeys;
 use liars::Liar;
 use locked_replica::Kept;
@@ -26,7 +27,8 @@ use replica::Archived;
 use signed_frames::WorkerKeyring;
 use std::alloc::{AllocError, Global};
 use std::hash::RandomState;
-use std::sync::atomic::AtomicBool;
+use std::sync::atomic::Ordering::SeqCst;
+use std::sync::atomic::{AtomicBool, AtomicU64};
 use std::sync::{Arc, Mutex, Wait};
 use std::time::Clock;
 use turns::Open;
@@ -36,8 +38,13 @@ use turns::Open;
 pub(crate) struct Station<'a> {
     number: ReplicaId,
     locked: Mutex<Guarded<'a>>,
-    /// How many heights it keeps, if it is to forget others.
-    window: Option<u64>,
+    /// How much it keeps, if it is to forget.
+    keep: Option<Keep>,
+    /// The height that it has executed, as its clock showed it last.
+    shown: AtomicU64,
+    /// One more than the last view that its clock ended, 0 where there is none.
+    ended: AtomicU64,
+    doubts: Doubts,
     inbox: Arc<Inbox>,
     room: WaitingRoom,
 }
@@ -66,6 +73,21 @@ impl<'a> Station<'a> {
         }
     }
 
+    /// The view that the replica is in.
+    pub(crate) fn view<R: Wait>(&self, rt: &R) -> View {
+        self.locked.lock(rt).replica().view()
+    }
+
+    /// Whether its clock found this view or a later one too slow.
+    pub(crate) fn left_by_clock(&self, since: View) -> bool {
+        self.ended.load(SeqCst) > since.0
+    }
+
+    /// What is wrong with frames that the replica refuses.
+    pub(crate) fn doubts(&self) -> &Doubts {
+        &self.doubts
+    }
+
     /// What the replica has executed, and what it has forgotten.
     pub(crate) fn reach<R: Wait>(&self, rt: &R) -> Reach {
         let guarded = self.locked.lock(rt);
@@ -82,6 +104,8 @@ impl<'a> Station<'a> {
 #[derive(Drop)]
 struct Timed<'s, 'a> {
     station: &'s Station<'a>,
+    /// All of them.
+    stations: &'s [Station<'a>],
     links: &'s Links,
 }
 
@@ -107,8 +131,21 @@ impl<'s, 'a> Watched for Timed<'s, 'a> {
             let _ = self.links.beat(rt, self.station.number);
         }
         if let Some(view) = due.timeout {
+            self.station.ended.store(view.0.saturating_add(1), SeqCst);
             let _ = self.links.timeout(rt, self.station.number, view);
         }
+    }
+
+    fn show(&self, height: Height) {
+        self.station.shown.store(height.0, SeqCst);
+    }
+
+    fn shown(&self) -> [Height; MOST_REPLICAS] {
+        let mut shown = [Height(u64::MAX); MOST_REPLICAS];
+        for (height, station) in shown.iter_mut().zip(self.stations) {
+            *height = Height(station.shown.load(SeqCst));
+        }
+        shown
     }
 
     fn prune<R: Wait>(&self, rt: &R, height: Height) {
@@ -132,7 +169,9 @@ pub(crate) fn run_worker<R: Wait + Clock + AllocGlobal>(
     let mut steps = &station.locked;
     let _share = match liar_keys {
         None => {
-            let worker = Worker::new(alloc, keyring, &gate, &station.inbox, links, &station.room);
+            let doubts = &station.doubts;
+            let out = Doubting { links, doubts };
+            let worker = Worker::new(alloc, keyring, &gate, &station.inbox, &out, &station.room);
             worker.run(rt, &mut steps, share)
         }
         Some(keys) => {
@@ -143,16 +182,21 @@ pub(crate) fn run_worker<R: Wait + Clock + AllocGlobal>(
     };
 }
 
-/// Gives a station its beats, timeouts and prunings until it is told to stop, or the replica has stopped:
+/// Gives one of the stations its beats, timeouts and prunings until it is told to stop, or the replica has stopped:
 /// then it answers why.
-pub(crate) fn watch<R: Wait + Clock>(
+pub(crate) fn watch<'a, R: Wait + Clock>(
     rt: &R,
-    station: &Station<'_>,
+    stations: &[Station<'a>],
+    station: &Station<'a>,
     links: &Links,
     stop: &AtomicBool,
 ) -> Option<Fault> {
-    let timed = Timed { station, links };
-    keep_time(rt, &timed, links.config().n(), station.window, stop)
+    let timed = Timed {
+        station,
+        stations,
+        links,
+    };
+    keep_time(rt, &timed, links.config().n(), station.keep, stop)
 }
 
 /// What a replica lies with.
@@ -256,7 +300,10 @@ fn build_station<'a>(
             most_blocks: terms.most_blocks(),
             is_out: false,
         }),
-        window: terms.window,
+        keep: terms.keep(keys.config()),
+        shown: AtomicU64::new(0),
+        ended: AtomicU64::new(0),
+        doubts: Doubts::none(),
         inbox,
         room: WaitingRoom::new(alloc, terms.workers.count()),
     };

@@ -1,10 +1,13 @@
 //! How a deployment is to run.
 
 ghost use Rattle.std.specs.Prelude.{◌≡◌, ◌==◌, ◌^◌, ◌-◌, None, if◌then◌else◌, unwrap_or};
+ghost use Rattle.server.specs.Keeping as keeping;
 
-use ids::ReplicaId;
+use clock::Keep;
+use ids::{Config, MOST_BLOCKS, ReplicaId};
 use liars::Liar;
 use std::hash::RandomState;
+use tuning::MOST_KEPT;
 
 /// How many workers drive a replica. Two check frames side by side, and step their replica in turn.
 #[derive(Clone, Copy, Debug, PartialEq, Eq)]
@@ -37,9 +40,11 @@ pub struct Terms {
     /// How many blocks a replica may hold, genesis included: one that holds so many stops with `Full`. None
     /// for as many as a tree takes.
     pub blocks: Option<usize>,
-    /// How many heights below its last executed block a replica keeps; it forgets what is lower. None to keep
-    /// all, with an archive.
+    /// How many heights below its last executed block a replica keeps in any case. None to keep all, with an archive.
     pub window: Option<u64>,
+    /// How many it keeps at most for replicas that are behind. None for the part of `MOST_KEPT` that is one's among the
+    /// replicas.
+    pub window_most: Option<u64>,
     /// How many workers each replica has.
     pub workers: Workers,
     /// Each how many seconds a line is logged that tells how it goes. None for no lines.
@@ -54,6 +59,26 @@ impl Terms {
         ensures { result ≡ (if number == 0 then self.now.liar else None) }
     {
         if number.0 == 0 { self.liar } else { None }
+    }
+
+    /// How many heights a replica keeps at most for others, whatever it is asked to: half as many as it may hold blocks.
+    fn most_kept(&self, config: Config) -> u64
+        ensures { result ≡ keeping.most_kept self.now config }
+    {
+        let part = MOST_KEPT / u64::from(config.n());
+        let blocks = self.blocks.unwrap_or(MOST_BLOCKS).min(MOST_BLOCKS);
+        self.window_most.unwrap_or(part).min(blocks as u64 / 2)
+    }
+
+    /// How much a replica keeps, if it is to forget.
+    pub(crate) fn keep(&self, config: Config) -> Option<Keep>
+        ensures { result ≡ keeping.keep self.now config }
+    {
+        let most = self.most_kept(config);
+        match self.window {
+            Some(window) => Some(Keep { window, most }),
+            None => None,
+        }
     }
 
     /// At how many blocks a replica stops, where its tree isn't full before.

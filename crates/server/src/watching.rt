@@ -2,10 +2,12 @@
 
 ghost use Rattle.std.specs.Prelude.{◌≡◌, max};
 
+use crate::doubts::Doubted;
 use crate::floods::Floods;
 use crate::laggards::Laggards;
 use crate::roll::Roll;
 use crate::stations::Station;
+use crate::views::Views;
 use fabric::Links;
 use ids::{Height, View};
 use log::{Log, info};
@@ -96,8 +98,8 @@ impl<'a, 's, 'm, S: Drop> Board<'a, 's, 'm, S> {
         now.executed
     }
 
-    /// Warns of replicas that fall behind or send too much, and tells a line each so many seconds, if any, until
-    /// it is told to stop.
+    /// Warns of replicas that fall behind, send too much or refuse what others sent, tells of views that passed, and a line
+    /// each so many seconds, if any, until it is told to stop.
     pub(crate) fn keep<R: Wait + Clock + Log>(
         mut self,
         rt: &R,
@@ -108,6 +110,7 @@ impl<'a, 's, 'm, S: Drop> Board<'a, 's, 'm, S> {
         let (mut passed, mut executed) = (0u64, 0);
         let mut laggards = Laggards::none();
         let mut floods = Floods::none();
+        let (mut doubted, mut views) = (Doubted::none(), Views::none());
         for _ in rt.forever() {
             if !sleep_a_second(rt, stop) {
                 break;
@@ -115,6 +118,8 @@ impl<'a, 's, 'm, S: Drop> Board<'a, 's, 'm, S> {
             passed = passed.saturating_add(1);
             laggards.look(rt, self.stations);
             floods.look(rt, self.links, passed);
+            doubted.look(rt, self.stations, passed);
+            views.look(rt, self.stations, passed);
             if passed % each == 0 {
                 executed = self.tell(rt, executed, each);
             }

@@ -86,6 +86,7 @@ where
         most: u64::MAX,
         blocks: Some(BLOCKS),
         window: None,
+        window_most: None,
         workers: Workers::Two,
         watch: None,
         hasher: RandomState::new(rt)?,

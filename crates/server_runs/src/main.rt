@@ -158,6 +158,7 @@ impl Trial {
             most: CONNECTIONS,
             blocks: None,
             window: None,
+            window_most: None,
             workers: Workers::Two,
             watch: None,
             hasher,

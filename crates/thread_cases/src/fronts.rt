@@ -14,6 +14,7 @@ use std::io::{Read, Write};
 use std::net::{Net, SocketAddr, TcpListener, TcpStream};
 use std::sync::Wait;
 use std::thread::{Threads, join};
+use std::time::Clock;
 use tcp_front::{Seat, Seats, front};
 
 /// How many connections are made.
@@ -43,6 +44,10 @@ impl Seat for Lengths {
 
     fn is_lost(&self) -> bool {
         false
+    }
+
+    fn try_again(&mut self) -> bool {
+        true
     }
 }
 
@@ -129,7 +134,7 @@ pub(crate) fn tell_end<R: Print>(
 /// Serves three clients, of whom one comes while another has the seat.
 fn usual_scene<R>(rt: &R) -> Result<()>
 where
-    R: Threads + Wait + Sync + AllocGlobal + Print + Log,
+    R: Threads + Wait + Clock + Sync + AllocGlobal + Print + Log,
     R: Net<Listener = TcpListener, Stream = TcpStream>,
 {
     let listener = TcpListener::bind(rt, "127.0.0.1:0")?;
@@ -147,7 +152,7 @@ where
 /// Plays all scenes.
 pub(crate) fn play_all<R>(rt: &R) -> Result<()>
 where
-    R: Threads + Wait + Sync + Clone + Drop + AllocGlobal + Print + Log,
+    R: Threads + Wait + Clock + Sync + Clone + Drop + AllocGlobal + Print + Log,
     R: Net<Listener = TcpListener, Stream = TcpStream>,
 {
     usual_scene(rt)?;

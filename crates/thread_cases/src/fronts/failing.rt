@@ -11,6 +11,7 @@ use std::sync::Wait;
 use std::sync::atomic::AtomicBool;
 use std::sync::atomic::Ordering::SeqCst;
 use std::thread::{Threads, join};
+use std::time::Clock;
 use tcp_front::{Seat, Seats, front};
 
 /// How many connections are made.
@@ -62,6 +63,10 @@ impl Seat for Patient<'_> {
 
     fn is_lost(&self) -> bool {
         false
+    }
+
+    fn try_again(&mut self) -> bool {
+        true
     }
 }
 
@@ -126,7 +131,7 @@ fn clients<R: Net<Stream = TcpStream> + AllocGlobal, S: Drop>(
 /// write.
 pub(crate) fn failing_scene<R>(rt: &R) -> Result<()>
 where
-    R: Threads + Wait + Sync + AllocGlobal + Print + Log,
+    R: Threads + Wait + Clock + Sync + AllocGlobal + Print + Log,
     R: Net<Listener = TcpListener, Stream = TcpStream>,
 {
     let listener = TcpListener::bind(rt, "127.0.0.1:0")?;
