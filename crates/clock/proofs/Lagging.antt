@@ -1,7 +1,7 @@
 -- The laws of the rule.
 use Rattle.std.proofs.Common.{ℕ, ◌+◌, ◌*◌, ◌-◌, ◌^◌, ◌≤◌, ◌==◌, Bool, true, false, not, cond, min}
-use Rattle.std.proofs.Common.{[], ◌∷◌, arith, le_trans, nat_le, ◌≡◌, refl, sym, subst, ◌∙◌}
-use Rattle.std.proofs.lemmas.Bool.{and_parts, and_from, cond_both, cond-true, cond-false, leb-true, leb-false}
+use Rattle.std.proofs.Common.{[], ◌∷◌, arith, inl, inr, le_trans, nat_le, ◌≡◌, refl, sym, subst, ◌∙◌}
+use Rattle.std.proofs.lemmas.Bool.{and_parts, and_from, or_cases, or_left, cond_both, cond-true, cond-false, leb-true, leb-false}
 use Rattle.std.proofs.lemmas.Bool.{le-leb, eq-eqb, not_from_true}
 use Rattle.std.proofs.Math.Nat.{min-le_left, min-le_right, min-eq_left, min-eq_right, le-min}
 use Rattle.clock.specs.declared.watch.Pulse.{Pulse}
@@ -45,9 +45,13 @@ pub is-earned : IsEarned
 is-earned replicas earlier now p due =
     let w = watched replicas earlier in
     let k = slow-most w now p (lagged replicas earlier) (slow-lagged replicas earlier) in
-    let parts = and_parts (lags w now p) (nat_le (limit_of p.view) (slow_after w now p)) due in
-    let l = leb-true (limit_of p.view) (slow_after w now p) parts.1 in
-    le_trans l k
+    elim (or_cases _ _ due) [
+      | inr c ↦ inr c
+      | inl over ↦ (
+          let parts = and_parts (lags w now p) (nat_le (limit_of p.view) (slow_after w now p)) over in
+          let l = leb-true (limit_of p.view) (slow_after w now p) parts.1 in
+          inl (le_trans l k))
+    ]
 
 -- what a sum comes to, where it stops at the greatest number, is at least the sum so far and what is added
 most-added : (a b s most : ℕ) → min a most ≤ s → min (a + b) most ≤ min (s + min b most) most
@@ -107,9 +111,9 @@ is-given replicas earlier now p same l h =
     let least = le-min {b = most} h (min-le_right (min (p.view + 1) most * 1000) most) in
     let sum : 3 * (lagged_on replicas earlier + passed) ≡ 3 * lagged_on replicas earlier + passed * 3 =
     omega arith in
-    and_from _ _ l (le-leb _ _
+    or_left _ _ (and_from _ _ l (le-leb _ _
     (subst (λ (n : ℕ). limit_of p.view ≤ n) (sym seen)
-    (le_trans (subst (λ (n : ℕ). limit_of p.view ≤ min n most) sum least) k)))
+    (le_trans (subst (λ (n : ℕ). limit_of p.view ≤ min n most) sum least) k))))
 
 pub is-patient : IsPatient
 unfolding watched

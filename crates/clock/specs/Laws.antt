@@ -1,10 +1,10 @@
 -- What the rule is for.
-use Rattle.std.specs.Prelude.{◌≡◌, ℕ, ◌+◌, ◌*◌, ◌-◌, ◌≤◌, ◌==◌, true, not, List, [], ◌∷◌}
+use Rattle.std.specs.Prelude.{◌≡◌, ℕ, ◌+◌, ◌*◌, ◌-◌, ◌≤◌, ◌⊎◌, ◌==◌, true, not, List, [], ◌∷◌}
 use Rattle.std.specs.Prelude.{if◌then◌else◌}
 use Rattle.tuning.specs.declared.clocks.TheConstants.{LAG_WEIGHT, LEAST_BEAT_MILLIS}
 use Rattle.clock.specs.declared.watch.Pulse.{Pulse}
 use Rattle.clock.specs.declared.watch.Watch.{Watch}
-use Rattle.clock.specs.Watching.{is_due, lags, limit_of, looked, unseen}
+use Rattle.clock.specs.Watching.{climbs, is_due, lags, limit_of, looked, unseen}
 
 -- the looks at one of so many replicas: each at a moment, and what was seen then; the last one first
 abbrev pub Looks : Type 0
@@ -32,11 +32,12 @@ lagged replicas (x ∷ earlier) =
     let before = lagged replicas earlier in lagged_after (watched replicas earlier) x before before
 
 -- No timeout is due before the replica has lagged for a third (one in `LAG_WEIGHT`) of the limit of its view, this
--- look included.
+-- look included, or its view has brought more heights than it may without a decision.
 abbrev pub IsEarned : Type 0
 IsEarned = (replicas : ℕ) (earlier : Looks) (now : ℕ) (p : Pulse)
     → is_due (watched replicas earlier) now p ≡ true
-    → limit_of p.view ≤ LAG_WEIGHT * (lagged replicas earlier + (now - (watched replicas earlier).looked))
+    → (limit_of p.view ≤ LAG_WEIGHT * (lagged replicas earlier + (now - (watched replicas earlier).looked)))
+    ⊎ (climbs (watched replicas earlier) p ≡ true)
 
 -- the same, as far back as it lagged at each look
 unfoldable pub lagged_on : ℕ → Looks → ℕ

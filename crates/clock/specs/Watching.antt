@@ -2,7 +2,7 @@
 use Rattle.std.specs.Prelude.{ℕ, ◌+◌, ◌*◌, ◌/◌, ◌-◌, ◌^◌, ◌==◌, ◌&&◌, ◌||◌, not, min, max, nat_le, Bool}
 use Rattle.std.specs.Prelude.{if◌then◌else◌, nat_lt, Some, None}
 use Rattle.tuning.specs.declared.clocks.TheConstants.{COMMAND_SHARE, LAG_WEIGHT, LEAST_BEAT_MILLIS, LEAST_COMMAND_MILLIS}
-use Rattle.tuning.specs.declared.clocks.TheConstants.{MOST_COUNTED, VIEW_LIMIT}
+use Rattle.tuning.specs.declared.clocks.TheConstants.{MOST_COUNTED, MOST_UNDECIDED, VIEW_LIMIT}
 use Rattle.clock.specs.declared.watch.Pulse.{Pulse}
 use Rattle.clock.specs.declared.watch.Due.{Due}
 use Rattle.clock.specs.declared.watch.Watch.{Watch}
@@ -21,6 +21,8 @@ unseen replicas = record {
   slow = 0;
   asked = 0;
   pause = LEAST_BEAT_MILLIS;
+  height = 0;
+  from = 0;
 }
 
 -- its view or its history changed since it was looked at last
@@ -49,9 +51,21 @@ limit_of view = min (min (view + 1) (2 ^ 64 - 1) * VIEW_LIMIT) (2 ^ 64 - 1)
 abbrev pub is_over : Watch → ℕ → ℕ → Pulse → Bool
 is_over w now slow p = lags w now p && nat_le (limit_of p.view) slow
 
--- so it is with what is seen at this moment
+-- its view or its last executed block changed since it was looked at last
+abbrev pub settled : Watch → Pulse → Bool
+settled w p = not ((p.view == w.view) && (p.height == w.height))
+
+-- how many heights a view may bring without a decision: so many, and as many more for each view before it
+abbrev pub most_undecided : ℕ → ℕ
+most_undecided view = min (min (view + 1) (2 ^ 64 - 1) * MOST_UNDECIDED) (2 ^ 64 - 1)
+
+-- since then its view has brought more
+abbrev pub climbs : Watch → Pulse → Bool
+climbs w p = not (settled w p) && nat_lt (most_undecided p.view) (p.voted - w.from)
+
+-- its view is over with what is seen at this moment
 abbrev pub is_due : Watch → ℕ → Pulse → Bool
-is_due w now p = is_over w now (slow_after w now p) p
+is_due w now p = is_over w now (slow_after w now p) p || climbs w p
 
 -- nothing that it proposed waits for votes, or it has just got on
 abbrev pub rests : Watch → Pulse → Bool
@@ -74,7 +88,7 @@ abbrev pub pause_after : ℕ → Bool → Bool → ℕ
 pause_after pause got_on passed =
     if got_on then max (pause / 2) LEAST_BEAT_MILLIS else if passed then min (pause * 2) (2 ^ 64 - 1) else pause
 
--- what was seen so far, with this. How slow the view was begins anew where a timeout is due
+-- what was seen so far, with this. How slow the view was, and what it brought, begins anew where a timeout is due
 abbrev pub looked : Watch → ℕ → Pulse → Watch
 looked w now p = record {
   view = p.view;
@@ -84,4 +98,6 @@ looked w now p = record {
   slow = if is_due w now p then 0 else slow_after w now p;
   asked = if rests w p || is_overdue w now p then now else w.asked;
   pause = pause_after w.pause (moved w p) (is_overdue w now p);
+  height = p.height;
+  from = if settled w p || is_due w now p then p.voted else w.from;
 }

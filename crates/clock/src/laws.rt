@@ -3,7 +3,8 @@
 ghost use Rattle.clock.specs.Laws.{IsEarned, IsGiven, IsPatient};
 ghost use Rattle.clock.specs.Pruning.{HelpsSlower, KeepsWindow, KeepsWithin};
 
-/// No timeout is due before the replica has lagged in its view for a third of the view's limit.
+/// No timeout is due before the replica has lagged in its view for a third of the view's limit, or the view has brought
+/// more heights than it may without a decision.
 pub fn timeouts_are_earned()
     ensures { IsEarned }
 {}

@@ -1,12 +1,14 @@
 //! What is due to one replica.
 
-ghost use Rattle.std.specs.Prelude.{◌≡◌, if◌then◌else◌};
-ghost use Rattle.clock.specs.Watching.{due_of, is_over, is_overdue, lags, limit_of, looked, moved};
+ghost use Rattle.std.specs.Prelude.{◌≡◌, ◌-◌, if◌then◌else◌};
+ghost use Rattle.clock.specs.Watching.{climbs, due_of, is_over, is_overdue, lags, limit_of, looked};
+ghost use Rattle.clock.specs.Watching.{most_undecided, moved, settled};
 ghost use Rattle.clock.specs.Watching.{patience_of, pause_after, rests, slow_after, unseen};
 
 use ids::{Fault, Height, View};
 use tuning::{
-    COMMAND_SHARE, LAG_WEIGHT, LEAST_BEAT_MILLIS, LEAST_COMMAND_MILLIS, MOST_COUNTED, VIEW_LIMIT,
+    COMMAND_SHARE, LAG_WEIGHT, LEAST_BEAT_MILLIS, LEAST_COMMAND_MILLIS, MOST_COUNTED,
+    MOST_UNDECIDED, VIEW_LIMIT,
 };
 
 /// What is seen of a replica at one moment.
@@ -24,6 +26,8 @@ pub struct Pulse {
     pub executed: u64,
     /// The height of its last executed block.
     pub height: Height,
+    /// The greatest height that it voted for.
+    pub voted: Height,
     /// The horizon of its tree.
     pub horizon: Height,
     /// Why it stopped. None while it goes on.
@@ -35,7 +39,7 @@ pub struct Pulse {
 pub struct Due {
     /// Leave to make a proposal.
     pub beat: bool,
-    /// A timeout of this view: it was slow for too long.
+    /// A timeout of this view: it was slow for too long, or brought too much that was never decided.
     pub timeout: Option<View>,
 }
 
@@ -53,6 +57,10 @@ pub struct Watch {
     /// Since when a proposal of it has waited for votes, and how long that may last.
     asked: u64,
     pause: u64,
+    /// The height of its last executed block.
+    height: Height,
+    /// What it had voted for when its view began, or when a block was executed last.
+    from: Height,
 }
 
 /// How slow a view may be: `VIEW_LIMIT`, and as much more for each view before.
@@ -60,6 +68,20 @@ fn limit_of(view: u64) -> u64
     ensures { result ≡ limit_of view }
 {
     view.saturating_add(1).saturating_mul(VIEW_LIMIT)
+}
+
+/// How many heights a view may bring without a decision: `MOST_UNDECIDED`, and as many more for each view before.
+fn most_undecided(view: u64) -> u64
+    ensures { result ≡ most_undecided view }
+{
+    view.saturating_add(1).saturating_mul(MOST_UNDECIDED)
+}
+
+/// How many heights lie between two.
+fn brought(from: Height, voted: Height) -> u64
+    ensures { result ≡ voted - from }
+{
+    voted.0.saturating_sub(from.0)
 }
 
 /// How many milliseconds a command may take among so many replicas: `LEAST_COMMAND_MILLIS` among few, and then as the
@@ -97,6 +119,8 @@ impl Watch {
             slow: 0,
             asked: 0,
             pause: LEAST_BEAT_MILLIS,
+            height: Height(0),
+            from: Height(0),
         }
     }
 
@@ -141,6 +165,23 @@ impl Watch {
         self.lags(now, pulse) && slow >= limit
     }
 
+    /// Whether its view or its last executed block changed since it was looked at last.
+    fn is_settled(&self, pulse: Pulse) -> bool
+        ensures { result ≡ settled self.now pulse }
+    {
+        !(pulse.view.0 == self.view.0 && pulse.height.0 == self.height.0)
+    }
+
+    /// Whether its view brought more heights without a decision than it may, whether or not anybody waits: else the
+    /// leader of an idle server could fill the trees of all.
+    fn climbs(&self, pulse: Pulse) -> bool
+        ensures { result ≡ climbs self.now pulse }
+    {
+        let limit = most_undecided(pulse.view.0);
+        let brought = brought(self.from, pulse.voted);
+        !self.is_settled(pulse) && brought > limit
+    }
+
     /// Whether nothing that it proposed waits for votes, or it has just got on.
     fn rests(&self, pulse: Pulse) -> bool
         ensures { result ≡ rests self.now pulse }
@@ -162,8 +203,9 @@ impl Watch {
         ensures watch { self.new ≡ looked self.old now pulse }
     {
         let (moved, slow) = (self.has_moved(pulse), self.slow_after(now, pulse));
-        let over = self.is_over(now, slow, pulse);
+        let over = self.is_over(now, slow, pulse) || self.climbs(pulse);
         let (rests, overdue) = (self.rests(pulse), self.is_overdue(now, pulse));
+        let counts_anew = self.is_settled(pulse) || over;
         *self = Watch {
             view: pulse.view,
             executed: pulse.executed,
@@ -172,6 +214,8 @@ impl Watch {
             slow: if over { 0 } else { slow },
             asked: if rests || overdue { now } else { self.asked },
             pause: pause_after(self.pause, moved, overdue),
+            height: pulse.height,
+            from: if counts_anew { pulse.voted } else { self.from },
         };
         Due {
             beat: pulse.wants_beat_now || overdue,

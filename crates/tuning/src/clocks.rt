@@ -1,5 +1,7 @@
 //! When a replica is looked at, and when its view is slow.
 
+use crate::links::MOST_CLIMB;
+
 /// Milliseconds between two looks of a clock at its replica. Longer: lost votes and mute leaders are noticed later.
 /// Shorter: more processor time while nothing is to do.
 pub const LOOK_MILLIS: u64 = 20;
@@ -26,6 +28,11 @@ pub const LAG_WEIGHT: u64 = 3;
 /// How much a view's lag may count, times one more than the view's number: a view that lags all along ends after a third
 /// of a second, the next one after two thirds. Less: correct leaders are replaced while they catch up.
 pub const VIEW_LIMIT: u64 = 1000;
+
+/// Heights that a view may bring without a decision, times one more than its number, before it ends: twice as many as a
+/// proposal may climb, and so more than a correct leader needs. More: a leader that nobody waits for fills the trees of
+/// all with blocks that are never decided.
+pub const MOST_UNDECIDED: u64 = 2 * MOST_CLIMB;
 
 /// Which part of its window a replica holds beyond it before it is asked to forget: one in so many. A smaller part: it
 /// is asked more often.
