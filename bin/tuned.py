@@ -10,6 +10,8 @@ NOT_TUNED = {
     "fabric::OWN",                              # a row's place in a list
     "liars::REPEATS", "liars::CLIMB",           # how much a liar sends, and how long
     "liars::SOON", "liars::LATE",
+    "liars::MOST_KEPT", "liars::LOW_EACH", "liars::LOW_LEAST", "liars::LOW_SPREAD", "liars::LOW_STEP",
+    "liars::MANNERS",                           # how many ways there are to spoil a frame
     "mcbft_main::MOST_OF_32_BITS",
 }
 CONST = re.compile(r"^ *(pub )?(?:pub\([a-z]+\) )?const ([A-Z]\w*): [ui](?:8|16|32|64|128|size) =([^;]*);", re.M)

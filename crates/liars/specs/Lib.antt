@@ -1,1 +1,6 @@
+pub mod Any
+pub mod Kept
 pub mod Lies
+pub mod Low
+pub mod Lying
+pub mod Told

@@ -1,7 +1,7 @@
 -- What a lying replica sends.
 use Rattle.std.specs.Prelude.{◌≡◌, ℕ, ◌+◌, ◌-◌, ◌*◌, ◌/◌, ◌%◌, ◌^◌, ◌==◌, min, List, [], ◌∷◌, map, replicate}
 use Rattle.std.specs.Prelude.{◌++◌, zero, suc, Option, None, Some, nat_lt, if◌then◌else◌}
-use Rattle.std.specs.List.{range_with_len}
+use Rattle.std.specs.List.{flat_map, range_with_len}
 use Rattle.ids.specs.declared.kind.Kind.TheVariants as kind
 use Rattle.ids.specs.Sizes.{Sizes, replicas}
 use Rattle.ids.specs.declared.limits.TheConstants.{MOST_OF_HEIGHT}
@@ -9,9 +9,9 @@ use Rattle.definitions.specs.Bytes.{Bytes}
 use Rattle.definitions.specs.Keyrings.{Keys, keyring_of, tag_for, vector_for}
 use Rattle.definitions.specs.Checks.{identity_of}
 use Rattle.definitions.specs.Digests.{digest}
-use Rattle.definitions.specs.Frames.{Command, Core, Vote, Certificate, Frame, proposal, vote, reply, block}
+use Rattle.definitions.specs.Frames.{Command, Core, Vote, Certificate, Frame, proposal, vote, reply, request, block}
 use Rattle.definitions.specs.Frames.{proposal_content, block_content, spelling}
-use Rattle.definitions.specs.Tags.{tag_len}
+use Rattle.definitions.specs.Tags.{tag_len, tag_of}
 use Rattle.definitions.specs.FrameLimits.{IsReadAs}
 use Rattle.definitions.specs.Replies.{reply_text, exists}
 use Rattle.definitions.specs.Histories.{Answer}
@@ -19,10 +19,10 @@ use Rattle.definitions.specs.Sendings.{To, to_all, to_party, reply_to}
 use Rattle.signed_frames.specs.Outs.{SentBytes}
 use Rattle.liars.specs.declared.climb.TheConstants.{CLIMB}
 use Rattle.liars.specs.declared.half.TheConstants.{LATE, SOON}
-use Rattle.liars.specs.declared.lying.TheConstants.{REPEATS}
-use Rattle.liars.specs.declared.lying.Liar.{Liar}
-use Rattle.liars.specs.declared.lying.Liar.TheVariants.{Mute, TwoFaced, BadReply, Crowder, Flooder}
-use Rattle.liars.specs.declared.lying.Liar.TheVariants.{HalfVoter, LateHalfVoter, HalfVotes, Climber}
+use Rattle.liars.specs.declared.plain.TheConstants.{REPEATS}
+use Rattle.liars.specs.declared.plain.Lie.{Lie}
+use Rattle.liars.specs.declared.plain.Lie.TheVariants.{Mute, TwoFaced, BadReply, Crowder, Flooder}
+use Rattle.liars.specs.declared.plain.Lie.TheVariants.{HalfVoter, LateHalfVoter, HalfVotes, Climber, Spoiler}
 
 -- the proposal of a block that has no commands, with a replica's tags
 abbrev pub empty_proposal : Keys → ℕ → Core → Certificate → Frame
@@ -87,11 +87,14 @@ crowded ring sent read = sent ∷ []
 abbrev pub flooded : SentBytes → List SentBytes
 flooded sent = sent ∷ replicate REPEATS (to_all, sent.1, sent.2)
 
+-- a vector that has a tag for one replica, and zero bytes for the others
+abbrev pub lone : Sizes → ℕ → Bytes → Bytes
+lone sizes r tag =
+    replicate (tag_len * r) 0 ++ tag ++ replicate (tag_len * (replicas sizes - r - 1)) 0
+
 -- the tags of a vote of which one receiver's alone is right
 abbrev pub half_vector : Keys → Bytes → ℕ → Bytes
-half_vector ring d r =
-    replicate (tag_len * r) 0 ++ tag_for (keyring_of ring) kind.Vote r d
-    ++ replicate (tag_len * (replicas ring.sizes - r - 1)) 0
+half_vector ring d r = lone ring.sizes r (tag_for (keyring_of ring) kind.Vote r d)
 
 -- a vote, which has such tags where it is the own one
 abbrev pub halved_vote : Keys → Bytes → ℕ → Vote → Vote
@@ -172,12 +175,30 @@ climbed ring sent (Some (proposal view core q vector)) =
     else []
 climbed ring sent read = []
 
+-- a command of whose tags one replica's alone is left
+abbrev pub lone_request : Sizes → Command → ℕ → Command
+lone_request sizes c r = record c { vector = lone sizes r (tag_of c.vector r) }
+
+-- to that replica, as a request
+abbrev pub spoilt_request_to : Sizes → Command → ℕ → SentBytes
+spoilt_request_to sizes c r = (to_party r, kind.Request, spelling (request (lone_request sizes c r)))
+
+-- of each command of a block, to each replica its own
+abbrev pub spoilt_requests : Sizes → Core → List SentBytes
+spoilt_requests sizes core =
+    flat_map (λ c. map (spoilt_request_to sizes c) (range_with_len 0 (replicas sizes))) core.commands
+
+-- what a spoiler sends in place of a frame: such requests before a proposal
+abbrev pub spoilt : Keys → SentBytes → Option Frame → List SentBytes
+spoilt ring sent (Some (proposal view core q vector)) = spoilt_requests ring.sizes core ++ sent ∷ []
+spoilt ring sent read = sent ∷ []
+
 -- it is sent in place of a frame, by what the frame's bytes are read as
 abbrev pub IsTold : (SentBytes → Option Frame → List SentBytes) → Sizes → SentBytes → List SentBytes → Type 0
 IsTold told sizes sent out = (read : Option Frame) × IsReadAs sizes sent.2 read × (out ≡ told sent read)
 
--- what a liar sends in place of a frame
-abbrev pub IsLie : Keys → Liar → SentBytes → List SentBytes → Type 0
+-- what a liar that remembers nothing sends in place of a frame
+abbrev pub IsLie : Keys → Lie → SentBytes → List SentBytes → Type 0
 IsLie ring Mute sent out = out ≡ []
 IsLie ring TwoFaced sent out = IsTold (two_faced ring) ring.sizes sent out
 IsLie ring BadReply sent out = IsTold (bad_reply ring) ring.sizes sent out
@@ -187,3 +208,4 @@ IsLie ring HalfVoter sent out = IsTold (half_led SOON ring) ring.sizes sent out
 IsLie ring LateHalfVoter sent out = IsTold (half_led LATE ring) ring.sizes sent out
 IsLie ring HalfVotes sent out = IsTold (half_voted ring) ring.sizes sent out
 IsLie ring Climber sent out = IsTold (climbed ring) ring.sizes sent out
+IsLie ring Spoiler sent out = IsTold (spoilt ring) ring.sizes sent out

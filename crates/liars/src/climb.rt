@@ -20,7 +20,7 @@ use std::alloc::Global;
 const CLIMB: u64 = 8192;
 
 /// The core of an empty block.
-fn empty_core(
+pub(crate) fn empty_core(
     alloc: Global,
     parent: &Digest,
     height: Height,
@@ -41,7 +41,7 @@ fn empty_core(
 
 /// The digest of a block, of the bytes of its core.
 #[tactic(auto, unfolding(definitions::specs::Digests::digest))]
-fn digest_of(core: &[u8]) -> Digest
+pub(crate) fn digest_of(core: &[u8]) -> Digest
     ensures { (k : Core) → core.now ≡ core_bytes k → result ≡ digest k }
 {
     Digest(<Sha256 as sha2::Digest>::digest(core))

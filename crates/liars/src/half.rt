@@ -9,7 +9,8 @@ ghost use Rattle.signed_frames.specs.Outs.{sent_of, to_of};
 ghost use Rattle.liars.specs.Lies.{half_led, half_proposal, half_proposal_to, half_vector, half_voted};
 ghost use Rattle.liars.specs.Lies.{halved, halved_vote, replica_in, IsTold};
 
-use crate::lying::one;
+use crate::lone::lone;
+use crate::plain::one;
 use authenticators::ReplicaKeyring;
 use frame_writers::{write_certificate, write_certified_vote, write_vote};
 use frames_view::{CertificateView, Frame, ProposalView, VoteFrameView, VoteView, read};
@@ -34,12 +35,7 @@ fn half_vector(
     ensures made { IfOk result (λ vector. vector.items ≡ half_vector keyring.now block.now to) }
 {
     let tag = keyring.as_keyring().tag(Kind::Vote, to.into(), &block.0);
-    let (before, behind) = (to.0, keyring.config().n() - to.0 - 1);
-    let mut vector = vec![in alloc; 0u8; 32 * usize::from(before)]?;
-    let rest = vec![in alloc; 0u8; 32 * usize::from(behind)]?;
-    vector.extend_from_slice(&tag)?;
-    vector.extend_from_slice(&rest)?;
-    Ok(vector)
+    lone(alloc, keyring.config(), to, &tag)
 }
 
 /// Appends a vote of a certificate for a block. The own one is right for one receiver alone.
@@ -174,7 +170,7 @@ pub(crate) fn with_half_certificates(
 }
 
 /// The replica to which a frame goes, if it goes to one.
-fn replica_of(config: Config, to: To) -> Option<ReplicaId>
+pub(crate) fn replica_of(config: Config, to: To) -> Option<ReplicaId>
     ensures which { result ≡ replica_in config (to_of to) }
     ensures within { IfSome result (λ replica. replica < replicas config) }
 {

@@ -2,9 +2,17 @@
 //! demonstrations and tests.
 #![tactic(auto)]
 
+mod any;
 mod climb;
 mod crowd;
 mod half;
+mod lies;
+mod lone;
+mod low;
 mod lying;
+mod plain;
+mod spoil;
 
-pub use lying::{Liar, lie};
+pub use lies::Lies;
+pub use lying::{Liar, Lying};
+pub use plain::Lie;

@@ -6,8 +6,8 @@ use Rattle.signed_frames.specs.declared.out.To.TheVariants as to
 use Rattle.signed_frames.specs.declared.out.Sending.{Sending}
 use Rattle.liars.specs.Lies.{faces}
 use Rattle.liars.proofs.Sent.{one_more}
-use Rattle.liars.proofs.lying.to_each.Goals as goal
-use Rattle.liars.proofs.lying.to_each.Goals.{then-number-eq0, else-number-eq0}
+use Rattle.liars.proofs.plain.to_each.Goals as goal
+use Rattle.liars.proofs.plain.to_each.Goals.{then-number-eq0, else-number-eq0}
 
 pub loop-number-preserved : goal.loop-number-preserved
 loop-number-preserved c =

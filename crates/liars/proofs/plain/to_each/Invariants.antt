@@ -3,7 +3,7 @@ use Rattle.std.proofs.Common.{◌≡◌, map}
 use Rattle.std.specs.List.{range_with_len}
 use Rattle.signed_frames.specs.Outs.{sent_of}
 use Rattle.liars.specs.Lies.{faces}
-use Rattle.liars.proofs.lying.to_each.Given as goal
+use Rattle.liars.proofs.plain.to_each.Given as goal
 
 abbrev pub invariant-loop-number : goal.invariant-loop-number
 invariant-loop-number l =

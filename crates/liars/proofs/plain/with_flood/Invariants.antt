@@ -3,7 +3,7 @@ use Rattle.std.proofs.Common.{◌≡◌, map}
 use Rattle.std.specs.Prelude.{replicate}
 use Rattle.definitions.specs.Sendings.{to_all}
 use Rattle.signed_frames.specs.Outs.{sent_of}
-use Rattle.liars.proofs.lying.with_flood.Given as goal
+use Rattle.liars.proofs.plain.with_flood.Given as goal
 
 abbrev pub invariant-loop : goal.invariant-loop
 invariant-loop l =
