@@ -35,7 +35,7 @@ impl MainFault {
             MainFault::CannotListen =>
                 "the port is taken or not allowed, or no more files may be open (ulimit -n)",
             MainFault::Fault(Fault::BadSize) =>
-                "sizes out of their limits: --faults is 1 to 10, --clients 1 to 64",
+                "sizes out of their limits: --faults is 1 to 10, --clients 1 to 64, --liars 1 to F",
             MainFault::Fault(Fault::BadKeys) => "--keys-held is 1 to 65,536",
             MainFault::Fault(Fault::Full) =>
                 "more than F replicas hold as many blocks as they may; start again, with an empty cache",

@@ -2,8 +2,8 @@
 
 use clap::builder::ValueParser;
 use clap::{Arg, ArgAction, ArgMatches, Command, Error};
-use liars::Liar;
-use server::{Terms, Workers};
+use liars::{Liar, Lie};
+use server::{Liars, Terms, Workers};
 use std::alloc::{AllocError, Global};
 use std::hash::RandomState;
 
@@ -13,7 +13,7 @@ Example: bin/make-keys 1 8 > keys; mcbft --keys keys --port 11211
 docs/OPERATING.md tells its limits, and what to do at each message.";
 
 /// The names of the lies.
-const LIARS: [&str; 9] = [
+const LIARS: [&str; 12] = [
     "mute",
     "two-faced",
     "bad-reply",
@@ -23,6 +23,9 @@ const LIARS: [&str; 9] = [
     "late-half-voter",
     "half-votes",
     "climber",
+    "low-justifier",
+    "spoiler",
+    "any",
 ];
 
 /// The greatest number of 32 bits.
@@ -51,7 +54,7 @@ enum Word {
 }
 
 /// All options, in the order in which help has them.
-const WORDS: [Word; 13] = [
+const WORDS: [Word; 16] = [
     Word::Keys,
     Word::Number(Number {
         name: "faults",
@@ -78,6 +81,30 @@ const WORDS: [Word; 13] = [
         help: "Port on 127.0.0.1; 0: a free one",
     }),
     Word::Liar,
+    Word::Number(Number {
+        name: "liars",
+        value: "COUNT",
+        least: 0,
+        most: 255,
+        default: "1",
+        help: "Replicas that lie, if any: 1 to F",
+    }),
+    Word::Number(Number {
+        name: "liar-until",
+        value: "SECONDS",
+        least: 0,
+        most: MOST_OF_32_BITS,
+        default: "0",
+        help: "Liars fall silent then; 0: never",
+    }),
+    Word::Number(Number {
+        name: "liar-seed",
+        value: "N",
+        least: 0,
+        most: u64::MAX,
+        default: "0",
+        help: "From what any draws its lies",
+    }),
     Word::Number(Number {
         name: "serve",
         value: "N",
@@ -188,7 +215,7 @@ fn liar_arg(alloc: Global) -> Arg<'static> {
         .long("liar")
         .value_name("LIE")
         .value_parser(LIARS.as_slice())
-        .help("Replica 0 lies")
+        .help("Replicas lie, from 0 on")
 }
 
 fn archive_arg(alloc: Global) -> Arg<'static> {
@@ -206,6 +233,8 @@ pub(crate) struct Options<'a> {
     pub(crate) clients: u8,
     pub(crate) port: u16,
     pub(crate) keys_held: u32,
+    /// How many replicas lie, where a lie is named.
+    pub(crate) liars: u8,
     pub(crate) terms: Terms,
 }
 
@@ -213,18 +242,19 @@ impl<'a> Options<'a> {
     /// The options that were read. All have a value, or a default. The hasher is the caches'.
     pub(crate) fn read(matches: &ArgMatches<'a>, hasher: RandomState) -> Option<Options<'a>> {
         let most: u64 = matches.get_one("serve")?;
-        let watch: u32 = matches.get_one("watch")?;
         let blocks: u32 = matches.get_one("blocks")?;
         let window: u32 = matches.get_one("window")?;
         let window_most: u32 = matches.get_one("window-most")?;
+        let liars: u8 = matches.get_one("liars")?;
         Some(Options {
             keys: matches.get_str("keys")?,
             faults: matches.get_one("faults")?,
             clients: matches.get_one("clients")?,
             port: matches.get_one("port")?,
             keys_held: matches.get_one("keys-held")?,
+            liars,
             terms: Terms {
-                liar: matches.get_str("liar").and_then(liar_of),
+                liars: liars_of(matches, liars),
                 most: if most == 0 { u64::MAX } else { most },
                 blocks: if blocks == 0 {
                     None
@@ -242,14 +272,19 @@ impl<'a> Options<'a> {
                     Some(u64::from(window_most))
                 },
                 workers: workers_of(matches.get_one("workers")?),
-                watch: if watch == 0 {
-                    None
-                } else {
-                    Some(u64::from(watch))
-                },
+                watch: unless_zero(matches.get_one("watch")?),
                 hasher,
             },
         })
+    }
+}
+
+/// A number for which 0 stands for none.
+fn unless_zero(number: u32) -> Option<u64> {
+    if number == 0 {
+        None
+    } else {
+        Some(u64::from(number))
     }
 }
 
@@ -262,18 +297,39 @@ fn workers_of(number: u8) -> Workers {
     }
 }
 
-/// The lie of this name.
-fn liar_of(name: &str) -> Option<Liar> {
+/// The lie of this name, if it needs no memory.
+fn lie_of(name: &str) -> Option<Lie> {
     match name {
-        "mute" => Some(Liar::Mute),
-        "two-faced" => Some(Liar::TwoFaced),
-        "bad-reply" => Some(Liar::BadReply),
-        "crowder" => Some(Liar::Crowder),
-        "flooder" => Some(Liar::Flooder),
-        "half-voter" => Some(Liar::HalfVoter),
-        "late-half-voter" => Some(Liar::LateHalfVoter),
-        "half-votes" => Some(Liar::HalfVotes),
-        "climber" => Some(Liar::Climber),
+        "mute" => Some(Lie::Mute),
+        "two-faced" => Some(Lie::TwoFaced),
+        "bad-reply" => Some(Lie::BadReply),
+        "crowder" => Some(Lie::Crowder),
+        "flooder" => Some(Lie::Flooder),
+        "half-voter" => Some(Lie::HalfVoter),
+        "late-half-voter" => Some(Lie::LateHalfVoter),
+        "half-votes" => Some(Lie::HalfVotes),
+        "climber" => Some(Lie::Climber),
+        "spoiler" => Some(Lie::Spoiler),
         _ => None,
     }
+}
+
+/// The liar of this name, which draws from this seed where it draws.
+fn liar_of(name: &str, seed: u64) -> Option<Liar> {
+    match name {
+        "low-justifier" => Some(Liar::LowJustifier),
+        "any" => Some(Liar::Any(seed)),
+        _ => lie_of(name).map(Liar::Plain),
+    }
+}
+
+/// The replicas that are to lie, if some are.
+fn liars_of(matches: &ArgMatches<'_>, count: u8) -> Option<Liars> {
+    let seed: u64 = matches.get_one("liar-seed")?;
+    let until: u32 = matches.get_one("liar-until")?;
+    Some(Liars {
+        liar: liar_of(matches.get_str("liar")?, seed)?,
+        count,
+        until: unless_zero(until),
+    })
 }

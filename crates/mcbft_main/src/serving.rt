@@ -17,6 +17,9 @@ use std::time::Clock;
 /// The keys of all parties, from their file.
 fn read_keys<R: AllocGlobal + Files>(rt: &R, options: &Options<'_>) -> Result<PairKeys, MainFault> {
     let sizes = Config::new(options.faults, options.clients)?;
+    if options.liars == 0 || options.liars > options.faults {
+        return Err(MainFault::Fault(Fault::BadSize));
+    }
     let config = sizes.with_most_keys(options.keys_held as usize)?;
     let text = match fs::read(rt, options.keys) {
         Ok(text) => text,

@@ -1,6 +1,8 @@
--- The workers of a replica: how many there are, and how they lie.
-use Rattle.std.specs.Prelude.{◌≡◌, ℕ, All, List, Option, option_map}
+-- The workers of replicas: how many there are, and how they lie.
+use Rattle.std.specs.Prelude.{◌≡◌, ℕ, All, List, Option, None, Some, nat_lt, option_map}
+use Rattle.std.specs.Prelude.{if◌then◌else◌}
 use Rattle.liars.specs.declared.lying.Liar.{Liar}
+use Rattle.server.specs.declared.terms.Liars.{Liars}
 use Rattle.server.specs.declared.terms.Workers.{Workers}
 use Rattle.server.specs.declared.terms.Workers.TheVariants.{One, Two}
 use Rattle.server.specs.declared.worker.WorkerStart.{WorkerStart}
@@ -10,10 +12,24 @@ abbrev pub worker_count : Workers → ℕ
 worker_count One = 1
 worker_count Two = 2
 
+-- how a replica is to lie, if it is: those of the lowest numbers do
+abbrev pub liar_at : Option Liars → ℕ → Option Liars
+liar_at (Some liars) number = if nat_lt number liars.count then Some liars else None
+liar_at None number = None
+
+-- how many replicas are to lie
+abbrev pub liar_count : Option Liars → ℕ
+liar_count (Some liars) = liars.count
+liar_count None = 0
+
+-- how these lie, and after how many seconds they fall silent
+abbrev pub lie_by : Liars → Liar × Option ℕ
+lie_by liars = (liars.liar, liars.until)
+
 -- how a worker's replica lies by it, if it does
-abbrev pub lie_of : WorkerStart → Option Liar
-lie_of worker = option_map (λ keys. keys.liar) worker.liar_keys
+abbrev pub lie_of : WorkerStart → Option (Liar × Option ℕ)
+lie_of worker = option_map (λ start. (start.lying.liar, start.until)) worker.liar
 
 -- all workers lie so, or none lies
-abbrev pub AllLieBy : Option Liar → List WorkerStart → Type 0
-AllLieBy liar workers = All (λ (worker : WorkerStart). lie_of worker ≡ liar) workers
+abbrev pub AllLieBy : Option Liars → List WorkerStart → Type 0
+AllLieBy liars workers = All (λ (worker : WorkerStart). lie_of worker ≡ option_map lie_by liars) workers

@@ -81,8 +81,8 @@ fn judge_both(kept: &[Kept<'_>], terms: Terms) -> Result<EndAudit, Fault>
     }
 }
 
-/// What is said of the replicas of stations at which nobody works any more, without the first one where
-/// that was to lie. `TooFew` where they can't be judged.
+/// What is said of the replicas of stations at which nobody works any more, without those that were to lie.
+/// `TooFew` where they can't be judged.
 pub(crate) fn judge_by_terms<'a>(
     stations: Vec<Station<'a>>,
     terms: Terms,
@@ -93,7 +93,7 @@ pub(crate) fn judge_by_terms<'a>(
     ensures few { OnErr result (result ≡ Err TooFew) }
 {
     let mut kept = room;
-    let skipped = usize::from(terms.liar.is_some());
+    let skipped = usize::from(terms.liars());
     for station in stations.into_iter().skip(skipped) {
         if kept.len() < kept.capacity() {
             kept.push_reserved(station.into_kept());

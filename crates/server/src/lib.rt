@@ -20,4 +20,4 @@ mod worker;
 
 pub use ending::EndAudit;
 pub use running::{Ended, run};
-pub use terms::{Terms, Workers};
+pub use terms::{Liars, Terms, Workers};

@@ -34,7 +34,7 @@ pub struct Ended {
     /// How many connections were served; or why not so many as were to be: `AcceptFailed`, the refusal
     /// that stopped more than f replicas, or `Memory` where not all threads could be had.
     pub served: Result<u64, Fault>,
-    /// What is said of the replicas, without replica 0 where that one was to lie.
+    /// What is said of the replicas, without those that were to lie.
     pub audit: EndAudit,
 }
 

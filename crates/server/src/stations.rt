@@ -1,8 +1,9 @@
 //! Replicas, each under its lock, and what their workers start with.
 
-ghost use Rattle.std.specs.Prelude.{◌≡◌, ◌<◌, ◌==◌, ◌⊎◌, map, All, Err, IfOk, OnErr, None, if◌then◌else◌, vec_len};
+ghost use Rattle.std.specs.Prelude.{◌≡◌, ◌<◌, ◌⊎◌, map, option_map, All, Err, IfOk, OnErr, vec_len};
 ghost use Rattle.ids.specs.declared.fault.Fault.TheVariants.{Memory, NoSuchParty};
-ghost use Rattle.server.specs.Workers.{AllLieBy, lie_of, worker_count};
+ghost use Rattle.liars.specs.Lying.{new_lying};
+ghost use Rattle.server.specs.Workers.{AllLieBy, lie_by, lie_of, liar_at, worker_count};
 ghost use Rattle.std.specs.List.{range_with_len};
 ghost use Rattle.ids.specs.Sizes.{replicas};
 ghost use Rattle.marks.specs.Eyes.{first_eye};
@@ -10,8 +11,8 @@ ghost use Rattle.marks.specs.Eyes.{first_eye};
 use crate::doubts::{Doubting, Doubts};
 use crate::guarded::Guarded;
 use crate::laggards::Reach;
-use crate::lying::{LiarKeys, LyingOut};
-use crate::terms::Terms;
+use crate::lying::{LiarStart, LyingOut};
+use crate::terms::{Liars, Terms};
 use crate::watching::Progress;
 use crate::worker::WorkerStart;
 use authenticators::ReplicaKeyring;
@@ -20,7 +21,7 @@ use doorkeeper::Doorkeeper;
 use fabric::{Inbox, Links, WaitingRoom, Worker};
 use ids::{Fault, Height, MOST_REPLICAS, ReplicaId, View};
 use key_file::PairKeys;
-use liars::Liar;
+use liars::Lying;
 use locked_replica::Kept;
 use marks::{Eye, Marks};
 use replica::Archived;
@@ -121,6 +122,7 @@ impl<'s, 'a> Watched for Timed<'s, 'a> {
             view: replica.view(),
             executed: replica.executed() as u64,
             height: replica.height(),
+            voted: replica.voted(),
             horizon: replica.horizon(),
             stopped: guarded.stopped(),
         }
@@ -163,19 +165,19 @@ pub(crate) fn run_worker<R: Wait + Clock + AllocGlobal>(
     let WorkerStart {
         share,
         keyring,
-        liar_keys,
+        liar,
     } = worker;
     let (alloc, gate) = (rt.alloc(), Open);
     let mut steps = &station.locked;
-    let _share = match liar_keys {
+    let _share = match liar {
         None => {
             let doubts = &station.doubts;
             let out = Doubting { links, doubts };
             let worker = Worker::new(alloc, keyring, &gate, &station.inbox, &out, &station.room);
             worker.run(rt, &mut steps, share)
         }
-        Some(keys) => {
-            let out = LyingOut { keys, links };
+        Some(liar) => {
+            let out = LyingOut::new(rt, liar, links);
             let worker = Worker::new(alloc, keyring, &gate, &station.inbox, &out, &station.room);
             worker.run(rt, &mut steps, share)
         }
@@ -199,15 +201,20 @@ pub(crate) fn watch<'a, R: Wait + Clock>(
     keep_time(rt, &timed, links.config().n(), station.keep, stop)
 }
 
-/// What a replica lies with.
-fn liar_keys(alloc: Global, keyring: &ReplicaKeyring, liar: Liar) -> Result<LiarKeys, AllocError>
-    ensures { IfOk result (λ keys. keys.liar ≡ liar) }
+/// What a worker of a replica begins to lie with.
+fn liar_start(
+    alloc: Global,
+    keyring: &ReplicaKeyring,
+    liars: Liars,
+) -> Result<LiarStart, AllocError>
+    ensures { IfOk result (λ start. (start.lying ≡ new_lying liars.liar keyring.now) × (start.until ≡ liars.until)) }
 {
-    let keyring = keyring.duplicate(alloc)?;
-    Ok(LiarKeys {
+    let lying = Lying::new(alloc, keyring.duplicate(alloc)?, liars.liar);
+    let until = liars.until;
+    Ok(LiarStart {
         alloc,
-        liar,
-        keyring,
+        lying,
+        until,
     })
 }
 
@@ -216,20 +223,20 @@ fn new_worker(
     alloc: Global,
     keyring: &ReplicaKeyring,
     kept: &mut Kept<'_>,
-    liar: Option<Liar>,
+    liars: Option<Liars>,
 ) -> Result<WorkerStart, Fault>
-    ensures lies { IfOk result (λ worker. lie_of worker ≡ liar) }
+    ensures lies { IfOk result (λ worker. lie_of worker ≡ option_map lie_by liars) }
     ensures memory { OnErr result (result ≡ Err Memory) }
 {
     let share = kept.share()?;
-    let liar_keys = match liar {
+    let liar = match liars {
         None => None,
-        Some(liar) => Some(liar_keys(alloc, keyring, liar)?),
+        Some(liars) => Some(liar_start(alloc, keyring, liars)?),
     };
     Ok(WorkerStart {
         share,
         keyring: WorkerKeyring::new(keyring.duplicate(alloc)?),
-        liar_keys,
+        liar,
     })
 }
 
@@ -260,13 +267,13 @@ fn new_workers(
 ) -> Result<Vec<WorkerStart>, Fault>
     ensures count { IfOk result (λ workers. vec_len workers ≡ worker_count terms.now.workers) }
     ensures lies { IfOk result
-        (λ workers. AllLieBy (if keyring.now.party == 0 then terms.now.liar else None) workers.items) }
+        (λ workers. AllLieBy (liar_at terms.now.liars keyring.now.party) workers.items) }
     ensures memory { OnErr result (result ≡ Err Memory) }
 {
-    let (count, liar) = (terms.workers.count(), terms.liar_of(keyring.replica()));
+    let (count, liars) = (terms.workers.count(), terms.liar_of(keyring.replica()));
     let mut workers = Vec::with_capacity(alloc, count)?;
     for _ in 0..count {
-        workers.push_reserved(new_worker(alloc, keyring, kept, liar)?);
+        workers.push_reserved(new_worker(alloc, keyring, kept, liars)?);
     }
     Ok(workers)
 }
@@ -286,7 +293,7 @@ fn build_station<'a>(
     requires eye { eye ≡ first_eye marks.now number }
     ensures count { IfOk result (λ made. vec_len made.1 ≡ worker_count terms.now.workers) }
     ensures lies { IfOk result
-        (λ made. AllLieBy (if number == 0 then terms.now.liar else None) made.1.items) }
+        (λ made. AllLieBy (liar_at terms.now.liars number) made.1.items) }
     ensures memory { OnErr result (result ≡ Err Memory) }
 {
     let keyring = keys.replica_keyring(alloc, number)?.remembering(alloc)?;

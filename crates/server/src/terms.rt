@@ -1,6 +1,6 @@
 //! How a deployment is to run.
 
-ghost use Rattle.std.specs.Prelude.{◌≡◌, ◌==◌, ◌^◌, ◌-◌, None, if◌then◌else◌, unwrap_or};
+ghost use Rattle.std.specs.Prelude.{◌≡◌, ◌^◌, ◌-◌, unwrap_or};
 ghost use Rattle.server.specs.Keeping as keeping;
 
 use clock::Keep;
@@ -30,11 +30,21 @@ impl Workers {
     }
 }
 
+/// Which replicas lie, and how.
+#[derive(Clone, Copy, Debug)]
+pub struct Liars {
+    pub liar: Liar,
+    /// So many lie: those of the lowest numbers.
+    pub count: u8,
+    /// After how many seconds they fall silent. None for never.
+    pub until: Option<u64>,
+}
+
 /// How a deployment is to run.
 #[derive(Clone, Copy, Debug)]
 pub struct Terms {
-    /// How replica 0 lies, if it is to.
-    pub liar: Option<Liar>,
+    /// The replicas that lie, if some are to.
+    pub liars: Option<Liars>,
     /// How many connections are served.
     pub most: u64,
     /// How many blocks a replica may hold, genesis included: one that holds so many stops with `Full`. None
@@ -54,11 +64,26 @@ pub struct Terms {
 }
 
 impl Terms {
-    /// How this replica lies, if it is to. Replica 0 alone may.
-    pub(crate) fn liar_of(&self, number: ReplicaId) -> Option<Liar>
-        ensures { result ≡ (if number == 0 then self.now.liar else None) }
+    ghost use Rattle.server.specs.Workers.{liar_at, liar_count};
+
+    /// How this replica lies, if it is to.
+    pub(crate) fn liar_of(&self, number: ReplicaId) -> Option<Liars>
+        ensures { result ≡ liar_at self.now.liars number }
     {
-        if number.0 == 0 { self.liar } else { None }
+        match self.liars {
+            Some(liars) if number.0 < liars.count => Some(liars),
+            _ => None,
+        }
+    }
+
+    /// How many replicas are to lie.
+    pub(crate) fn liars(&self) -> u8
+        ensures { result ≡ liar_count self.now.liars }
+    {
+        match self.liars {
+            Some(liars) => liars.count,
+            None => 0,
+        }
     }
 
     /// How many heights a replica keeps at most for others, whatever it is asked to: half as many as it may hold blocks.

@@ -1,6 +1,6 @@
 //! What a replica's workers begin with.
 
-use crate::lying::LiarKeys;
+use crate::lying::LiarStart;
 use locked_replica::Share;
 use signed_frames::WorkerKeyring;
 
@@ -10,5 +10,5 @@ pub(crate) struct WorkerStart {
     pub(crate) share: Share,
     pub(crate) keyring: WorkerKeyring,
     /// Where its replica is to lie.
-    pub(crate) liar_keys: Option<LiarKeys>,
+    pub(crate) liar: Option<LiarStart>,
 }

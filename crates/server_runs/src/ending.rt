@@ -82,7 +82,7 @@ where
     };
     let told = Logged::new(rt.clone()?, Level::Warn, stops);
     let terms = Terms {
-        liar: None,
+        liars: None,
         most: u64::MAX,
         blocks: Some(BLOCKS),
         window: None,

@@ -11,8 +11,8 @@ use anyhow::Result;
 use audit::{Verdict, WindowVerdict};
 use ids::Config;
 use key_file::PairKeys;
-use liars::Liar;
-use server::{EndAudit, Terms, Workers, run};
+use liars::{Liar, Lie};
+use server::{EndAudit, Liars, Terms, Workers, run};
 use std::alloc::Global;
 use std::hash::RandomState;
 use std::io::{Read, Write};
@@ -114,23 +114,33 @@ enum Trial {
     Window(u64),
     /// Each replica has one worker.
     OneWorker,
-    /// Two of seven replicas may lie, and replica 0 does.
-    TwoFaults(Liar),
+    /// Two of seven replicas may lie, and do.
+    TwoFaults(Lie),
 }
 
 /// The deployments, in the order in which they are told.
-const TRIALS: [Trial; 10] = [
+const TRIALS: [Trial; 11] = [
     Trial::Liar(None),
-    Trial::Liar(Some(Liar::Mute)),
-    Trial::Liar(Some(Liar::TwoFaced)),
-    Trial::Liar(Some(Liar::BadReply)),
-    Trial::Liar(Some(Liar::Crowder)),
-    Trial::Liar(Some(Liar::Flooder)),
-    Trial::Liar(Some(Liar::Climber)),
+    Trial::Liar(Some(Liar::Plain(Lie::Mute))),
+    Trial::Liar(Some(Liar::Plain(Lie::TwoFaced))),
+    Trial::Liar(Some(Liar::Plain(Lie::BadReply))),
+    Trial::Liar(Some(Liar::Plain(Lie::Crowder))),
+    Trial::Liar(Some(Liar::Plain(Lie::Flooder))),
+    Trial::Liar(Some(Liar::Plain(Lie::Climber))),
+    Trial::Liar(Some(Liar::Plain(Lie::Spoiler))),
     Trial::Window(4),
     Trial::OneWorker,
-    Trial::TwoFaults(Liar::BadReply),
+    Trial::TwoFaults(Lie::BadReply),
 ];
+
+/// So many replicas that lie so to the end.
+fn to_the_end(liar: Liar, count: u8) -> Liars {
+    Liars {
+        liar,
+        count,
+        until: None,
+    }
+}
 
 impl Trial {
     /// What is told of it first.
@@ -139,7 +149,7 @@ impl Trial {
             Trial::Liar(liar) => Ok(format!(in alloc; "{liar:?}")?),
             Trial::Window(heights) => Ok(format!(in alloc; "a window of {heights} heights")?),
             Trial::OneWorker => Ok(format!(in alloc; "one worker")?),
-            Trial::TwoFaults(liar) => Ok(format!(in alloc; "seven replicas, {liar:?}")?),
+            Trial::TwoFaults(lie) => Ok(format!(in alloc; "seven replicas, {lie:?} of two")?),
         }
     }
 
@@ -154,7 +164,7 @@ impl Trial {
     /// How it runs.
     fn terms(self, hasher: RandomState) -> Terms {
         let usual = Terms {
-            liar: None,
+            liars: None,
             most: CONNECTIONS,
             blocks: None,
             window: None,
@@ -164,7 +174,10 @@ impl Trial {
             hasher,
         };
         match self {
-            Trial::Liar(liar) => Terms { liar, ..usual },
+            Trial::Liar(liar) => Terms {
+                liars: liar.map(|liar| to_the_end(liar, 1)),
+                ..usual
+            },
             Trial::Window(heights) => Terms {
                 window: Some(heights),
                 ..usual
@@ -173,8 +186,8 @@ impl Trial {
                 workers: Workers::One,
                 ..usual
             },
-            Trial::TwoFaults(liar) => Terms {
-                liar: Some(liar),
+            Trial::TwoFaults(lie) => Terms {
+                liars: Some(to_the_end(Liar::Plain(lie), 2)),
                 ..usual
             },
         }

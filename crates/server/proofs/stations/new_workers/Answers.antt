@@ -1,14 +1,14 @@
-use Rattle.std.proofs.Common.{rules, arith, ◌≡◌}
+use Rattle.std.proofs.Common.{rules, arith, ◌≡◌, option_map}
 use Rattle.std.proofs.lemmas.List.Elements.{All-push}
 use Rattle.server.specs.declared.worker.WorkerStart.{WorkerStart}
-use Rattle.server.specs.Workers.{lie_of}
+use Rattle.server.specs.Workers.{lie_by, lie_of}
 use Rattle.server.proofs.stations.new_workers.Goals as goal
 
 pub loop-preserved : goal.loop-preserved
 loop-preserved c = (
   search rules,
   rw c.push_reserved.ensures.items
-      (All-push (λ (w : WorkerStart). lie_of w ≡ c.liar_of-liar.result) _ _ c.loop.invariant.1
+      (All-push (λ (w : WorkerStart). lie_of w ≡ option_map lie_by c.liar_of-liars.result) _ _ c.loop.invariant.1
       c.in_ok-new_worker.ensures.lies),
   omega (arith, c.push_reserved.ensures.capacity, c.loop.invariant.2),
 )

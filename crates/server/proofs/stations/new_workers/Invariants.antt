@@ -5,4 +5,4 @@ use Rattle.server.proofs.stations.new_workers.Given as goal
 -- as many as were made, which lie so, and room for all
 abbrev pub invariant-loop : goal.invariant-loop
 invariant-loop l =
-    (vec_len l.workers ≡ l.counter) × AllLieBy l.liar l.workers.items × (l.count ≤ vec_capacity l.workers)
+    (vec_len l.workers ≡ l.counter) × AllLieBy l.liars l.workers.items × (l.count ≤ vec_capacity l.workers)
