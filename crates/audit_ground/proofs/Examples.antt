@@ -32,7 +32,7 @@ use Rattle.definitions.proofs.Chronicles.{tree-grows}
 use Rattle.agreement.proofs.Certified.{any-among, among-any}
 use Rattle.audit_ground.specs.Law.{KnownTo, numbers, IsStored, IsLawfullyKept, AreOfFour}
 use Rattle.audit_ground.proofs.Fronts.{is_backed_if, may_move-is, fronts-from_turns}
-use Rattle.audit_ground.proofs.Lists.{any-from}
+use Rattle.definitions.proofs.Lists.{any-from}
 use Rattle.audit_ground.proofs.Stored.{stored-blocks_are_named}
 
 -- four replicas, of which one may be faulty

@@ -12,23 +12,6 @@ use Rattle.definitions.proofs.Lists.{beginning-whole, length-added}
 
 -- ---- tests
 
--- what passes somewhere passes at an element
-pub any-found : {A : Type 0} (p : A → Bool) (xs : List A) → list_any p xs ≡ true
-    → (x : A) × Among x xs × (p x ≡ true)
-any-found p [] h = absurd (true≢false (sym h))
-any-found p (x ∷ xs) h =
-    elim (or_cases (p x) (list_any p xs) h) [
-      | inl e ↦ (x, inl refl, e)
-      | inr t ↦ let r = any-found p xs t in (r.0, inr r.1, r.2)
-    ]
-
--- where an element passes, some does
-pub any-from : {A : Type 0} (p : A → Bool) (xs : List A) (x : A) → Among x xs → p x ≡ true
-    → list_any p xs ≡ true
-any-from p [] x m h = absurd m
-any-from p (y ∷ xs) x (inl e) h = or_left (p y) (list_any p xs) (sym (ap p e) ∙ h)
-any-from p (y ∷ xs) x (inr m) h = or_right (p y) (list_any p xs) (any-from p xs x m h)
-
 -- where each element passes, all do
 pub all-from : {A : Type 0} (p : A → Bool) (xs : List A) → ((x : A) → Among x xs → p x ≡ true)
     → list_all p xs ≡ true

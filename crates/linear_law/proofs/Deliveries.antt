@@ -3,14 +3,14 @@ use Rattle.ids.specs.declared.limits.TheConstants.{MOST_BLOCKS}
 use Rattle.ids.specs.declared.fault.Fault.{Fault}
 use Rattle.ids.specs.declared.fault.Fault.TheVariants as fault
 use Rattle.std.proofs.Common.{ℕ, ◌≡◌, ◌⊎◌, ◌&&◌, not, ◌==◌, Bool, true, false, List, [], ◌∷◌, ◌++◌, map}
-use Rattle.std.proofs.Common.{filter, length, nat_lt, refl, sym, ap, subst, ◌∙◌, inl, inr, true≢false}
+use Rattle.std.proofs.Common.{suc, ◌||◌, filter, length, nat_lt, refl, sym, ap, subst, ◌∙◌, inl, inr, true≢false}
 use Rattle.std.proofs.Common.{Option, Some, None, Ok, option_map, slice_get}
 use Rattle.std.specs.Bool.{⊤}
 use Rattle.std.specs.List.{list_any, AllByRecursion}
 use Rattle.std.proofs.lemmas.Bool.{cond_both, and_parts, and_from, eqb-true, not_from_false}
 use Rattle.definitions.specs.Lists.{Among}
 use Rattle.definitions.specs.Bytes.{Bytes}
-use Rattle.definitions.specs.Branches.{Branch, branch_eq}
+use Rattle.definitions.specs.Branches.{Branch, branch_eq, just1}
 use Rattle.definitions.proofs.Branches.{branch_eq-decides}
 use Rattle.definitions.specs.Frames.{Command, Core, Vote, Certificate, Frame, sender_of, content_of}
 use Rattle.definitions.specs.Frames.{kind_of, own_tag}
@@ -29,7 +29,12 @@ use Rattle.definitions.specs.Trees.{Placing, Placing.stands, Placing.grows, Plac
 use Rattle.definitions.specs.Trees.{Placing.unfit, placing}
 use Rattle.definitions.specs.Rulings.{Input, Input.proposal_in, Input.block_in, Input.vote_in}
 use Rattle.definitions.specs.Rulings.{Input.new_view_in, Input.request_in, Input.fetch_in, Input.timeout_in}
-use Rattle.definitions.specs.Rulings.{Input.prune_in}
+use Rattle.definitions.specs.Rulings.{Input.prune_in, Input.offered_in, Input.relayed_in, Input.lead_in}
+use Rattle.definitions.specs.Rulings.{Input.ask_in, Input.view_in, take_grounded, on_offer, on_relay, lead}
+use Rattle.definitions.specs.Grounds.{are_replicas, is_justified, own_counted, is_own_certified}
+use Rattle.definitions.specs.Grounds.{grounded, may_lead_from}
+use Rattle.definitions.specs.Chronicles.{Note.seen_view, Note.led_from}
+use Rattle.definitions.specs.States.{fills}
 use Rattle.definitions.specs.Rulings.{Input.beat_in, Ruling, Ruling.due, Ruling.missing, Ruling.refusing}
 use Rattle.definitions.specs.Rulings.{admitted, on_placing, on_request, with_block, ruling, conflicts}
 use Rattle.definitions.specs.Sendings.{To, To.to_party, Sending, reply_to, vote_frame, block_frame}
@@ -101,6 +106,8 @@ IsMadeInput sent (block_in s core q f) = CommandsSent sent core.commands × Vote
 IsMadeInput sent (vote_in d b) = VoteSent sent d b
 IsMadeInput sent (new_view_in w s q) = VotesSent sent q
 IsMadeInput sent (request_in k) = CommandSent sent k
+IsMadeInput sent (offered_in w s core q f) = CommandsSent sent core.commands
+IsMadeInput sent (relayed_in ss core q f) = CommandsSent sent core.commands
 IsMadeInput sent i = ⊤
 
 -- what a step stores
@@ -151,6 +158,8 @@ module _ (sent more : List Sent) where
   step-later (noted timed_out) h = tt
   step-later (noted beat) h = tt
   step-later (noted (pruned height)) h = tt
+  step-later (noted (seen_view w s)) h = tt
+  step-later (noted (led_from b)) h = tt
 
   made-later : (c : Chronicle) → AreMade sent c → AreMade (sent ++ more) c
   made-later c h = all-implied (IsMade sent) (IsMade (sent ++ more)) step-later c h
@@ -172,6 +181,7 @@ module _ (sent : List Sent) where
         votes-made s block c h.1,
       ))
       (λ e. votes-made s block c h.1)
+  votes-made s block (noted (led_from b) ∷ c) h = tt
   votes-made s block (took_block a ∷ c) h = votes-made s block c h.1
   votes-made s block (noted n ∷ c) h = votes-made s block c h.1
 
@@ -195,17 +205,22 @@ module _ (sent : List Sent) where
   raised-made s (noted timed_out) c h = tt
   raised-made s (noted beat) c h = tt
   raised-made s (noted (pruned height)) c h = tt
+  raised-made s (noted (seen_view w r)) c h = tt
+  raised-made s (noted (led_from b)) c h = tt
 
   higher-made : (o : Option Justified) (q : Justified) → RaisedMade o → VotesSent sent q.certificate
       → VotesSent sent (higher o q).certificate
   higher-made None q r h = h
   higher-made (Some p) q r h =
-      cond_both (nat_lt (length q.block) (length p.block)) p q
+      cond_both (nat_lt (length q.block) (length p.block) || fills p q) p q
       (λ (j : Justified). VotesSent sent j.certificate) (λ e. r) (λ e. h)
 
   high-made : (s : Sizes) (c : Chronicle) → AreMade sent c → VotesSent sent (qc_high s c).certificate
   unfolding qc_high
   high-made s [] h = tt
+  high-made s (noted (led_from b) ∷ c) h =
+      cond_both (branch_eq (qc_high s c).block b) (qc_high s c) _
+      (λ (j : Justified). VotesSent sent j.certificate) (λ e. high-made s c h.1) (λ e. tt)
   high-made s (st ∷ c) h =
       higher-made (raised s st c) (qc_high s c) (raised-made s st c h) (high-made s c h.1)
 
@@ -220,6 +235,7 @@ module _ (sent : List Sent) where
   pending-made : (c : Chronicle) → AreMade sent c → CommandsSent sent (pending c)
   unfolding pending
   pending-made [] h = tt
+  pending-made (noted (led_from b) ∷ c) h = tt
   pending-made (st ∷ c) h = all-filter (CommandSent sent) (is_due (history (st ∷ c)))
       (with_request st (pending c)) (with_request-made st (pending c) h.0 (pending-made c h.1))
 
@@ -323,21 +339,76 @@ module _ (sent : List Sent) where
       && (not (list_any (is_same_request r) (pending c)) && not (nat_lt (length (pending c)) 4096))) _ _
       AllMade (λ e. tt) (λ e. h)
 
-  ruling-made : (self : Identity) (i : Input) (c : Chronicle) → IsMadeInput sent i → AllMade (ruling self i c)
+  grounded-made : (self : Identity) (w : Option ℕ) (core : Core) (q : Certificate) (f : Findings)
+      (c : Chronicle) → AreMade sent c → (b : Branch) → CommandsSent sent (core_of b).commands
+      → AllMade (take_grounded self w (grounded self (admitted b core q f true) c) c)
+  unfolding grounded is_own_certified admitted AllMade
+  grounded-made self w core q f c made b hk =
+      let P : Option Admitted → Type 0 = λ o. AllMade (take_grounded self w o c) in
+      cond_both (is_justified (just1 b) c) _ _ P (λ t. (λ n. hk, tt))
+      (λ t. cond_both (branch_eq (qc_high self.sizes c).block (just1 b)
+      && are_replicas self.sizes (quorum self.sizes) (own_counted self c)) _ _ P
+      (λ e. (λ n. hk, high-made self.sizes c made)) (λ e. tt))
+
+  offer-made : (self : Identity) (w : Option ℕ) (sender : ℕ) (core : Core) (q : Certificate) (f : Findings)
+      (c : Chronicle) → AreMade sent c → CommandsSent sent core.commands → (p : Placing)
+      → IsPlaced (horizon c) MOST_BLOCKS core q (window c) p → AllMade (on_offer self w sender core q f c p)
+  unfolding on_offer admitted AllMade
+  offer-made self w sender core q f c made hk (stands b) h = (λ n. absurd (true≢false (sym n)), tt)
+  offer-made self w sender core q f c made hk (grows b) (parent, t) =
+      let ep = sym (found-in core.parent (window c) parent t.parent_found).1 in
+      grounded-made self w core q f c made b (subst (λ (x : Core). CommandsSent sent x.commands)
+      (sym (ap core_of t.is ∙ core-known core parent ep t.height)) hk)
+  offer-made self w sender core q f c made hk lacks_parent h = tt
+  offer-made self w sender core q f c made hk (unfit n) h = tt
+
+  relay-made : (self : Identity) (senders : List ℕ) (core : Core) (q : Certificate) (f : Findings)
+      (c : Chronicle) → CommandsSent sent core.commands → (p : Placing)
+      → IsPlaced (horizon c) MOST_BLOCKS core q (window c) p → AllMade (on_relay self senders core q f c p)
+  unfolding on_relay admitted AllMade
+  relay-made self senders core q f c hk (stands b) h = (λ n. absurd (true≢false (sym n)), tt)
+  relay-made self senders core q f c hk (grows b) (parent, t) =
+      let ep = sym (found-in core.parent (window c) parent t.parent_found).1 in
+      cond_both (are_replicas self.sizes (suc self.sizes.faults) senders) _ _ AllMade
+      (λ e. (
+        λ n. subst (λ (x : Core). CommandsSent sent x.commands)
+            (sym (ap core_of t.is ∙ core-known core parent ep t.height)) hk,
+        tt,
+      ))
+      (λ e. tt)
+  relay-made self senders core q f c hk lacks_parent h = tt
+  relay-made self senders core q f c hk (unfit n) h = tt
+
+  lead-made : (self : Identity) (o : Option Branch) (c : Chronicle) → AllMade (lead self o c)
+  unfolding AllMade
+  lead-made self None c = tt
+  lead-made self (Some b) c = cond_both (may_lead_from self b c) _ _ AllMade (λ e. tt) (λ e. tt)
+
+  ruling-made : (self : Identity) (i : Input) (c : Chronicle) → AreMade sent c → IsMadeInput sent i
+      → AllMade (ruling self i c)
   unfolding ruling AllMade
-  ruling-made self (proposal_in w core q f) c h =
+  ruling-made self (proposal_in w core q f) c made h =
       placed-made self _ _ core q f c h.0 h.1 (placing (horizon c) MOST_BLOCKS core q (window c))
       (placed (horizon c) MOST_BLOCKS core q (window c))
-  ruling-made self (block_in sender core q f) c h =
+  ruling-made self (block_in sender core q f) c made h =
       placed-made self _ _ core q f c h.0 h.1 (placing (horizon c) MOST_BLOCKS core q (window c))
       (placed (horizon c) MOST_BLOCKS core q (window c))
-  ruling-made self (vote_in d b) c h = vote-made d b c h _ refl
-  ruling-made self (new_view_in w r q) c h = view-made w r q _ h
-  ruling-made self (request_in r) c h = request-made r c h
-  ruling-made self (fetch_in r d) c h = tt
-  ruling-made self timeout_in c h = tt
-  ruling-made self beat_in c h = tt
-  ruling-made self (prune_in height) c h = tt
+  ruling-made self (vote_in d b) c made h = vote-made d b c h _ refl
+  ruling-made self (new_view_in w r q) c made h = view-made w r q _ h
+  ruling-made self (request_in r) c made h = request-made r c h
+  ruling-made self (fetch_in r d) c made h = tt
+  ruling-made self timeout_in c made h = tt
+  ruling-made self beat_in c made h = tt
+  ruling-made self (prune_in height) c made h = tt
+  ruling-made self (offered_in w sender core q f) c made h =
+      offer-made self w sender core q f c made h (placing (horizon c) MOST_BLOCKS core q (window c))
+      (placed (horizon c) MOST_BLOCKS core q (window c))
+  ruling-made self (relayed_in senders core q f) c made h =
+      relay-made self senders core q f c h (placing (horizon c) MOST_BLOCKS core q (window c))
+      (placed (horizon c) MOST_BLOCKS core q (window c))
+  ruling-made self (lead_in d) c made h = lead-made self (find_block d c) c
+  ruling-made self (ask_in r d) c made h = tt
+  ruling-made self (view_in w r) c made h = tt
 
   -- ---- a step
 
@@ -396,7 +467,7 @@ module _ (sent : List Sent) where
             | cut_short held ↦ (r, fails fault.Stopped)
           ])
       by running =
-          on_ruling-made self m (ruling self i r.chronicle) r.chronicle h (ruling-made self i r.chronicle k)
+          on_ruling-made self m (ruling self i r.chronicle) r.chronicle h (ruling-made self i r.chronicle h k)
       by stopped = record { chronicle = h; out = λ o n. absurd n }
       by (cut_short held) = record { chronicle = h; out = λ o n. absurd n }
 

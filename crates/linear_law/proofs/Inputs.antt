@@ -3,7 +3,7 @@ use Rattle.ids.specs.declared.limits.TheConstants.{MOST_BLOCKS}
 use Rattle.ids.specs.declared.kind.Kind.TheVariants as kind
 use Rattle.ids.specs.declared.fault.Fault.TheVariants as fault
 use Rattle.std.proofs.Common.{ℕ, ◌≡◌, ◌&&◌, not, true, List, [], ◌∷◌, length, refl, sym, subst, subst₂, inl}
-use Rattle.std.proofs.Common.{inr, map, filter, Option, Some, None, true≢false, nat_lt, ◌∙◌, ap}
+use Rattle.std.proofs.Common.{suc, ◌⊎◌, Bool, false, inr, map, filter, Option, Some, None, true≢false, nat_lt, ◌∙◌, ap}
 use Rattle.std.specs.Bool.{⊤}
 use Rattle.std.specs.List.{list_any, AllByRecursion}
 use Rattle.std.proofs.lemmas.Bool.{and_parts, cond_both}
@@ -32,27 +32,41 @@ use Rattle.definitions.specs.Rulings.{Input.new_view_in, Input.request_in, Input
 use Rattle.definitions.specs.Rulings.{Input.beat_in, Input.prune_in, Ruling, Ruling.due, Ruling.missing}
 use Rattle.definitions.specs.Rulings.{Ruling.refusing}
 use Rattle.definitions.specs.Rulings.{admitted, on_placing, on_block, on_request, with_block, ruling}
+use Rattle.definitions.specs.Rulings.{Input.offered_in, Input.relayed_in, Input.lead_in, Input.ask_in}
+use Rattle.definitions.specs.Rulings.{Input.view_in, take_block, take_grounded, on_offer, on_relay, lead}
+use Rattle.definitions.specs.Grounds.{are_replicas, is_justified, own_counted, is_own_certified}
+use Rattle.definitions.specs.Grounds.{without_votes, grounded, may_lead_from}
+use Rattle.definitions.specs.States.{qc_high, find_block}
+use Rattle.definitions.specs.Branches.{branch_eq}
+use Rattle.ids.specs.Sizes.{quorum}
 use Rattle.definitions.specs.Admission.{check, Checked.passes, Checked.rejected}
 use Rattle.definitions.specs.Premises.{Claim, accepted_tags, vote_claims, command_claims, CoreOf}
 use Rattle.definitions.specs.Frames as frame
+
+-- no event brings such an input yet
+abbrev pub IsUnbrought : Input → Type 0
+IsUnbrought (offered_in w sender core q f) = ⊤
+IsUnbrought (relayed_in senders core q f) = ⊤
+IsUnbrought i = ⊥
 
 -- the input carries this block
 abbrev pub Carries : Input → Core → Certificate → Findings → Type 0
 Carries (proposal_in w c p g) core q f = (c ≡ core) × (p ≡ q) × (g ≡ f)
 Carries (block_in sender c p g) core q f = (c ≡ core) × (p ≡ q) × (g ≡ f)
+Carries (offered_in w sender c p g) core q f = (c ≡ core) × (p ≡ q) × (g ≡ f)
+Carries (relayed_in senders c p g) core q f = (c ≡ core) × (p ≡ q) × (g ≡ f)
 Carries i core q f = ⊥
 
-pub record TookFrom (core : Core) (q : Certificate) (f : Findings) (a : Admitted) : Type 0 where
+pub record TookFrom (i : Input) (core : Core) (q : Certificate) (f : Findings) (a : Admitted) : Type 0 where
   pub stored : a.core ≡ core
-  pub counted_is : a.counted ≡ f.counted
-  pub none_sent : a.senders ≡ []
+  pub evidence : IsUnbrought i ⊎ ((a.counted ≡ f.counted) × (a.senders ≡ []))
   pub core_is : a.new ≡ true → core_of a.branch ≡ core
   pub justified : q.digest ≡ digest_of (just1 a.branch)
   pub clear_is : a.clear ≡ f.clear
 
 abbrev pub FromInput : Input → Step → Type 0
 FromInput i (took_block a) =
-    (core : Core) × (q : Certificate) × (f : Findings) × Carries i core q f × TookFrom core q f a
+    (core : Core) × (q : Certificate) × (f : Findings) × Carries i core q f × TookFrom i core q f a
 FromInput i st = ⊤
 
 abbrev pub AllStanding : (Step → Type 0) → Ruling → Type 0
@@ -72,8 +86,7 @@ placed-from self i w sender core q f c ca (stands b) h = (
   ca,
   record {
     stored = refl;
-    counted_is = refl;
-    none_sent = refl;
+    evidence = inr (refl, refl);
     core_is = λ n. absurd (true≢false (sym n));
     justified = h.1;
     clear_is = refl;
@@ -87,8 +100,7 @@ placed-from self i w sender core q f c ca (grows b) (parent, g) =
       ca,
       record {
         stored = refl;
-        counted_is = refl;
-        none_sent = refl;
+        evidence = inr (refl, refl);
         core_is = λ n. ap core_of g.is ∙ core-known core parent ep g.height;
         justified = g.justified ∙ ap (λ (x : Branch). digest_of (just1 x)) (sym g.is);
         clear_is = refl;
@@ -103,6 +115,76 @@ block-from : (self : Identity) (i : Input) (w : Option ℕ) (sender : ℕ) (core
 block-from self i w sender core q f c ca =
     placed-from self i w sender core q f c ca (placing (horizon c) MOST_BLOCKS core q (window c))
     (placed (horizon c) MOST_BLOCKS core q (window c))
+
+-- a block whose certificate isn't good for the replica, as it is taken with other evidence
+took-unbrought : (self : Identity) (i : Input) (w : Option ℕ) (core : Core) (q r : Certificate)
+    (f : Findings) (counted senders : List ℕ) (c : Chronicle) → IsUnbrought i → Carries i core q f → (b : Branch) (n : Bool)
+    → (n ≡ true → core_of b ≡ core) → q.digest ≡ digest_of (just1 b)
+    → AllStanding (FromInput i) (take_block self w (record (admitted b core q f n) {
+      certificate = r;
+      counted = counted;
+      senders = senders;
+    }) c)
+unfolding admitted
+took-unbrought self i w core q r f counted senders c u ca b n k j = (
+  core,
+  q,
+  f,
+  ca,
+  record { stored = refl; evidence = inl u; core_is = k; justified = j; clear_is = refl },
+)
+
+grounded-from : (self : Identity) (i : Input) (w : Option ℕ) (core : Core) (q : Certificate) (f : Findings)
+    (c : Chronicle) → IsUnbrought i → Carries i core q f → (b : Branch) → core_of b ≡ core
+    → q.digest ≡ digest_of (just1 b)
+    → AllStanding (FromInput i) (take_grounded self w (grounded self (admitted b core q f true) c) c)
+unfolding grounded is_own_certified admitted
+grounded-from self i w core q f c u ca b k j =
+    let P : Option Admitted → Type 0 = λ o. AllStanding (FromInput i) (take_grounded self w o c) in
+    cond_both (is_justified (just1 b) c) _ _ P
+    (λ t. took-unbrought self i w core q (without_votes q) f [] [] c u ca b true (λ n. k) j)
+    (λ t. cond_both (branch_eq (qc_high self.sizes c).block (just1 b)
+    && are_replicas self.sizes (quorum self.sizes) (own_counted self c)) _ _ P
+    (λ e. took-unbrought self i w core q (qc_high self.sizes c).certificate f (own_counted self c) [] c u ca b true
+    (λ n. k) j)
+    (λ e. tt))
+
+offer-from : (self : Identity) (i : Input) (w : Option ℕ) (sender : ℕ) (core : Core) (q : Certificate)
+    (f : Findings) (c : Chronicle) → IsUnbrought i → Carries i core q f → (p : Placing)
+    → IsPlaced (horizon c) MOST_BLOCKS core q (window c) p
+    → AllStanding (FromInput i) (on_offer self w sender core q f c p)
+unfolding on_offer admitted
+offer-from self i w sender core q f c u ca (stands b) h =
+    took-unbrought self i w core q (without_votes q) f [] [] c u ca b false (λ n. absurd (true≢false (sym n))) h.1
+offer-from self i w sender core q f c u ca (grows b) (parent, g) =
+    let ep = sym (found-in core.parent (window c) parent g.parent_found).1 in
+    grounded-from self i w core q f c u ca b (ap core_of g.is ∙ core-known core parent ep g.height)
+    (g.justified ∙ ap (λ (x : Branch). digest_of (just1 x)) (sym g.is))
+offer-from self i w sender core q f c u ca lacks_parent h = tt
+offer-from self i w sender core q f c u ca (unfit n) h = tt
+
+relay-from : (self : Identity) (i : Input) (senders : List ℕ) (core : Core) (q : Certificate)
+    (f : Findings) (c : Chronicle) → IsUnbrought i → Carries i core q f → (p : Placing)
+    → IsPlaced (horizon c) MOST_BLOCKS core q (window c) p
+    → AllStanding (FromInput i) (on_relay self senders core q f c p)
+unfolding on_relay admitted
+relay-from self i senders core q f c u ca (stands b) h =
+    took-unbrought self i None core q (without_votes q) f [] [] c u ca b false (λ n. absurd (true≢false (sym n))) h.1
+relay-from self i senders core q f c u ca (grows b) (parent, g) =
+    let ep = sym (found-in core.parent (window c) parent g.parent_found).1 in
+    cond_both (are_replicas self.sizes (suc self.sizes.faults) senders) _ _ (AllStanding (FromInput i))
+    (λ e. took-unbrought self i None core q (without_votes q) f [] senders c u ca b true
+    (λ n. ap core_of g.is ∙ core-known core parent ep g.height)
+    (g.justified ∙ ap (λ (x : Branch). digest_of (just1 x)) (sym g.is)))
+    (λ e. tt)
+relay-from self i senders core q f c u ca lacks_parent h = tt
+relay-from self i senders core q f c u ca (unfit n) h = tt
+
+lead-from : (self : Identity) (i : Input) (o : Option Branch) (c : Chronicle)
+    → AllStanding (FromInput i) (lead self o c)
+lead-from self i None c = tt
+lead-from self i (Some b) c =
+    cond_both (may_lead_from self b c) _ _ (AllStanding (FromInput i)) (λ e. tt) (λ e. tt)
 
 vote-from : (self : Identity) (i : Input) (o : Option Branch) (b : Vote) (d : Bytes)
     → AllStanding (FromInput i) (with_block o b.voter d (λ x. due (noted (got_vote b.voter b.vector x))))
@@ -138,6 +220,15 @@ ruling-from self (fetch_in sender d) c = tt
 ruling-from self timeout_in c = tt
 ruling-from self beat_in c = tt
 ruling-from self (prune_in height) c = tt
+ruling-from self (offered_in w sender core q f) c =
+    offer-from self (offered_in w sender core q f) w sender core q f c tt (refl, refl, refl)
+    (placing (horizon c) MOST_BLOCKS core q (window c)) (placed (horizon c) MOST_BLOCKS core q (window c))
+ruling-from self (relayed_in senders core q f) c =
+    relay-from self (relayed_in senders core q f) senders core q f c tt (refl, refl, refl)
+    (placing (horizon c) MOST_BLOCKS core q (window c)) (placed (horizon c) MOST_BLOCKS core q (window c))
+ruling-from self (lead_in d) c = lead-from self (lead_in d) (find_block d c) c
+ruling-from self (ask_in replica d) c = tt
+ruling-from self (view_in w sender) c = tt
 
 -- what holds of each holds of one
 pub all-among : {A : Type 0} (P : A → Type 0) (xs : List A) (x : A) → AllByRecursion P xs → Among x xs → P x
@@ -300,3 +391,23 @@ carried-checked self f (fetch_in s d) h = tt
 carried-checked self f timeout_in h = tt
 carried-checked self f beat_in h = tt
 carried-checked self f (prune_in height) h = tt
+carried-checked self f (offered_in w s c q g) h = (h c q g (refl, refl, refl)).checked.below
+carried-checked self f (relayed_in ss c q g) h = (h c q g (refl, refl, refl)).checked.below
+carried-checked self f (lead_in d) h = tt
+carried-checked self f (ask_in r d) h = tt
+carried-checked self f (view_in w s) h = tt
+
+-- a check of one frame gives no such input
+pub check-brought : (self : Identity) (f : Frame) (i : Input) → check self f ≡ passes i → IsUnbrought i → ⊥
+unfolding check
+check-brought self (frame.proposal view core q v) i e u =
+    subst IsUnbrought (sym (when-good _ _ _ e).1) u
+check-brought self (frame.block sender core q t) i e u = subst IsUnbrought (sym (when-good _ _ _ e).1) u
+check-brought self (frame.request c) i e u = subst IsUnbrought (sym (when-good _ _ _ e).1) u
+check-brought self (frame.vote d b) i e u = subst IsUnbrought (sym (when-good _ _ _ e).1) u
+check-brought self (frame.new_view w s q v) i e u = subst IsUnbrought (sym (when-good _ _ _ e).1) u
+check-brought self (frame.fetch s d t) i e u = subst IsUnbrought (sym (when-good _ _ _ e).1) u
+check-brought self (frame.reply r c s p t g) i e u = absurd (apart e)
+  where
+    apart : rejected fault.NotMine ≡ passes i → ⊥
+    apart h = cc

@@ -13,7 +13,7 @@ use Rattle.definitions.proofs.Branches.{extends-from}
 use Rattle.definitions.proofs.Sound.{Outcome, Outcome.unchanged, Outcome.refused, Outcome.lacks}
 use Rattle.definitions.proofs.Sound.{Outcome.conflict, Outcome.stood, Outcome.cut, step-outcome, Keeps}
 use Rattle.definitions.proofs.Sound.{ruling-sound, IsCheckedInput}
-use Rattle.linear_law.proofs.Inputs.{Carries, FromInput, AllStanding, ruling-from, IsCarried, check-carried}
+use Rattle.linear_law.proofs.Inputs.{Carries, FromInput, AllStanding, ruling-from, IsUnbrought, check-brought, IsCarried, check-carried}
 use Rattle.linear_law.proofs.Inputs.{carried-checked}
 use Rattle.linear_law.proofs.Sends.{Sends, Sends.its_vote, Sends.new_reply, Sends.old_reply, Sends.its_view}
 use Rattle.linear_law.proofs.Sends.{Sends.its_block, Sends.its_proposal, sends}
@@ -103,6 +103,13 @@ arises-carried w e i core q g (inr (inr (inl t))) ca =
 arises-carried w e i core q g (inr (inr (inr t))) ca =
     absurd (subst (λ (j : Input). Carries j core q g) t.1 ca)
 
+-- an input that comes of an event is brought by one
+arises-brought : (w : World) (e : Event) (i : Input) → Arises w e i → IsUnbrought i → ⊥
+arises-brought w e i (inl b) u = check-brought (self_of w (party_of e)) b.frame i b.good u
+arises-brought w e i (inr (inl t)) u = subst IsUnbrought t u
+arises-brought w e i (inr (inr (inl t))) u = subst IsUnbrought t u
+arises-brought w e i (inr (inr (inr t))) u = subst IsUnbrought t.1 u
+
 module _ (Known : Core → Type 0) where
   -- a vote that was counted in a member's name was given by it
   counted-vote : (w : World) (e : Event) (i : Input) (core : Core) (q : Certificate) (g : Findings)
@@ -126,13 +133,15 @@ module _ (Known : Core → Type 0) where
       → StepMayFollow Known (is_member w) (chronicles w) st
   may-follow w e i run honest me ar (took_block a) f =
       let b = arises-carried w e i f.0 f.1 f.2 ar f.3 in
+      let evidence : (a.counted ≡ f.2.counted) × (a.senders ≡ []) =
+      elim f.4.evidence [ inl u ↦ absurd (arises-brought w e i ar u) | inr k ↦ k ] in
       record {
         known = λ n. subst Known (sym (f.4.core_is n)) (honest.cores b.0.frame b.0.brings f.0 b.1.from);
         votes = λ v m mv.
             let r = counted-vote w e i f.0 f.1 f.2 run honest me b.0 b.1 v
-            (subst (λ (l : List ℕ). Among v l) f.4.counted_is m) mv in
+            (subst (λ (l : List ℕ). Among v l) evidence.0 m) mv in
             (r.0, r.1, r.2 ∙ f.4.justified);
-        sent = λ v m mv. absurd (subst (Among v) f.4.none_sent m);
+        sent = λ v m mv. absurd (subst (Among v) evidence.1 m);
       }
   may-follow w e i run honest me ar (noted n) f = tt
 

@@ -9,6 +9,7 @@ use Rattle.definitions.specs.Lists.{Among, IsBeginning}
 use Rattle.definitions.specs.FrameLimits.{IsReadAs, IsWritten, IsCertificate}
 use Rattle.definitions.specs.Digests.{digest_of}
 use Rattle.definitions.specs.Checks.{Identity, is_good}
+use Rattle.definitions.specs.Grounds.{IsKept}
 use Rattle.definitions.specs.States.{Justified, raised, qc_high}
 use Rattle.definitions.specs.Chronicles.{Step, Chronicle, IsLawful}
 use Rattle.definitions.specs.Agreement.{Family, IsLawfulFamily}
@@ -90,19 +91,20 @@ AreReadAsSent w =
 abbrev pub SentFramesAreRead : Type 0
 SentFramesAreRead = AfterEachRun (λ w. AreSizes w.sizes → AreReadAsSent w)
 
--- a certificate at the replica's sizes, for its block; where that isn't genesis, it is good for the replica
+-- a certificate at the replica's sizes, for its block; where that isn't genesis, it is good for the replica,
+-- or has no votes
 pub record IsCertified (self : Identity) (j : Justified) : Type 0 where
   pub certificate : IsCertificate self.sizes j.certificate
   pub digest : j.certificate.digest ≡ digest_of j.block
-  pub good : 0 < length j.block → is_good self j.certificate ≡ true
+  pub kept : 0 < length j.block → IsKept self j.certificate
 
 -- each certificate that a step brought, or completed by the last vote of a quorum, is one; so is the
--- highest, and it is good
+-- highest, and it is good or has no votes
 pub record HasCertificates (self : Identity) (c : Chronicle) : Type 0 where
   pub each : (s : Step) (earlier : Chronicle) (j : Justified) → IsBeginning (s ∷ earlier) c
       → raised self.sizes s earlier ≡ Some j → IsCertified self j
   pub highest : IsCertified self (qc_high self.sizes c)
-  pub good : is_good self (qc_high self.sizes c).certificate ≡ true
+  pub kept : IsKept self (qc_high self.sizes c).certificate
 
 -- each correct replica has such certificates at the end of each such run
 abbrev pub MadeCertificatesAreCertificates : Type 0
