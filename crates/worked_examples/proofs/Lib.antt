@@ -8,6 +8,7 @@ mod OneReplica
 mod OnePruned
 mod Rounds
 mod PrunedTree
+mod OnGrounds
 mod Forgery
 mod Computed
 mod Snapshots
