@@ -9,6 +9,7 @@ mod OnePruned
 mod Rounds
 mod PrunedTree
 mod OnGrounds
+mod AsBefore
 mod Forgery
 mod Computed
 mod Snapshots
