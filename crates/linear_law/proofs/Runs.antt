@@ -1,5 +1,5 @@
 -- What each event of a run keeps, and that no event is answered with a conflict.
-use Rattle.definitions.proofs.Chronicles.{executed-decided, voted-grows}
+use Rattle.definitions.proofs.Chronicles.{executed-decided, voted-grows, taken-grows}
 use Rattle.ids.specs.declared.kind.Kind.TheVariants as kind
 use Rattle.ids.specs.declared.fault.Fault.{Fault}
 use Rattle.ids.specs.declared.fault.Fault.TheVariants as fault
@@ -22,6 +22,9 @@ use Rattle.linear_law.proofs.Effects.{is_member, ComesFramed, Arises, Brings, Ef
 use Rattle.linear_law.proofs.Effects.{Effects.step_by, Effects.hearing, Effects.submitting, admits-good}
 use Rattle.linear_law.proofs.Effects.{effects, not_conflict}
 use Rattle.definitions.specs.Lists.{Among, count_below}
+use Rattle.definitions.specs.Chronicles.{HasTaken}
+use Rattle.definitions.specs.Digests.{core_of}
+use Rattle.definitions.specs.States.{me}
 use Rattle.definitions.specs.Frames.{Core, Vote, Certificate, Frame, genesis_core, reply_content}
 use Rattle.definitions.specs.Branches.{Branch, just3, Conflict}
 use Rattle.definitions.specs.Bytes.{Bytes}
@@ -52,12 +55,18 @@ use Rattle.definitions.specs.Frames as frame
 abbrev pub chronicles : World → ℕ → Chronicle
 chronicles w i = (w.replica i).chronicle
 
+-- what a replica's own frame says of its chronicle: it gave the vote, and took the block
+pub record Stands (c : Chronicle) (f : Frame) : Type 0 where
+  pub votes : (d : Bytes) (b : Vote) → f ≡ frame.vote d b
+      → (x : Branch) × Among x (voted_blocks c) × (digest_of x ≡ d)
+  pub blocks : (r : ℕ) (core : Core) (q : Certificate) (t : Bytes) → f ≡ frame.block r core q t
+      → (x : Branch) × HasTaken x c × (core_of x ≡ core)
+
 -- what is kept by each event
 pub record IsRun (Known : Core → Type 0) (w : World) : Type 0 where
   pub row : IsRow Known w.sizes (is_member w) (chronicles w)
-  pub votes : (s : Sent) → Among s w.sent → (d : Bytes) (b : Vote) → s.frame ≡ frame.vote d b
-      → is_member w s.sender ≡ true
-      → (x : Branch) × Among x (voted_blocks (chronicles w s.sender)) × (digest_of x ≡ d)
+  pub stands : (s : Sent) → Among s w.sent → is_member w s.sender ≡ true
+      → Stands (chronicles w s.sender) s.frame
 
 -- what is assumed of a world's makeup and of an event
 pub record IsMadeWell (w : World) : Type 0 where
@@ -125,7 +134,7 @@ module _ (Known : Core → Type 0) where
       (ap w.is_faulty c.3 ∙ member-faulty w v mv) in
       let is : sent.0.sender ≡ v = sent.2 ∙ c.3 in
       let vote = vote-tag c.0 sent.0 sent.0.frame c.2 sent.3 in
-      let r = run.votes sent.0 sent.1 c.0.content vote.0 vote.1 (ap (is_member w) is ∙ mv) in
+      let r = (run.stands sent.0 sent.1 (ap (is_member w) is ∙ mv)).votes c.0.content vote.0 vote.1 in
       (r.0, subst (λ (p : ℕ). Among r.0 (voted_blocks (chronicles w p))) is r.1, r.2 ∙ c.5)
 
   may-follow : (w : World) (e : Event) (i : Input) → IsRun Known w → IsHonest Known w e
@@ -145,43 +154,70 @@ module _ (Known : Core → Type 0) where
       }
   may-follow w e i run honest me ar (noted n) f = tt
 
--- ---- votes that go out stand in the chronicle
+-- ---- votes and blocks that go out stand in the chronicle
 
-abbrev VoteStands : Chronicle → Sending → Type 0
-VoteStands c o =
-    (d : Bytes) (b : Vote) → o.1 ≡ frame.vote d b
-    → (x : Branch) × Among x (voted_blocks c) × (digest_of x ≡ d)
+abbrev FrameStands : Chronicle → Sending → Type 0
+FrameStands c o = Stands c o.1
 
-one-stands : (c : Chronicle) (to : To) (f : Frame) → ((d : Bytes) (b : Vote) → f ≡ frame.vote d b → ⊥)
-    → (o : Sending) → Among o ((to, f) ∷ []) → VoteStands c o
-one-stands c to f apart o (inl i) d b h = absurd (apart d b (sym (ap (λ (x : Sending). x.1) i) ∙ h))
-one-stands c to f apart o (inr m) d b h = absurd m
+-- a frame that is no vote and no block says nothing
+other-stands : (c : Chronicle) (f : Frame) → ((d : Bytes) (b : Vote) → f ≡ frame.vote d b → ⊥)
+    → ((r : ℕ) (core : Core) (q : Certificate) (t : Bytes) → f ≡ frame.block r core q t → ⊥) → Stands c f
+other-stands c f no_vote no_block =
+    record { votes = λ d b h. absurd (no_vote d b h); blocks = λ r core q t h. absurd (no_block r core q t h) }
 
-nothing-stands : (c : Chronicle) (o : Sending) → Among o [] → VoteStands c o
+one-stands : (c : Chronicle) (to : To) (f : Frame) → Stands c f → (o : Sending) → Among o ((to, f) ∷ [])
+    → FrameStands c o
+one-stands c to f st o (inl i) = subst (FrameStands c) (sym i) st
+one-stands c to f st o (inr m) = absurd m
+
+nothing-stands : (c : Chronicle) (o : Sending) → Among o [] → FrameStands c o
 nothing-stands c o m = absurd m
 
+-- what stands still does after a step more
+stands-grows : (st : Step) (c : Chronicle) (f : Frame) → Stands c f → Stands (st ∷ c) f
+stands-grows st c f h = record {
+  votes = λ d b e. (let r = h.votes d b e in (r.0, voted-grows st c r.0 r.1, r.2));
+  blocks = λ r core q t e. (let x = h.blocks r core q t e in
+      (x.0, (x.1.0, taken-grows st c x.1.0 x.1.1, x.1.2), x.2));
+}
+
 sends-stand : (self : Identity) (st : Step) (c : Chronicle) (o : Sending) → Sends self st c o
-    → VoteStands (st ∷ c) o
+    → FrameStands (st ∷ c) o
 unfolding vote_frame reply_to new_view_frame block_frame proposal_frame voted_blocks
-sends-stand self st c o (its_vote a e v to) d b h =
-    let same : frame.vote (digest_of a.branch) _ ≡ frame.vote d b = h in
-    let own : Among a.branch (voted_blocks (took_block a ∷ c)) =
-    subst (Among a.branch) (sym (cond-true a.voted (a.branch ∷ voted_blocks c) (voted_blocks c) v))
-    (inl refl) in (
-      a.branch,
-      subst (λ (x : Step). Among a.branch (voted_blocks (x ∷ c))) (sym e) own,
-      (let k : digest_of a.branch ≡ d = cc in k),
-    )
-sends-stand self st c o (new_reply a m) d b h =
-    absurd (let k : (reply_to self a).1 ≡ frame.vote d b = h in cc)
-sends-stand self st c o (old_reply a m) d b h =
-    absurd (let k : (reply_to self a).1 ≡ frame.vote d b = h in cc)
-sends-stand self st c o its_view d b h =
-    absurd (let k : new_view_frame self (st ∷ c) ≡ frame.vote d b = h in cc)
-sends-stand self st c o (its_block to a m) d b h =
-    absurd (let k : block_frame self to a ≡ frame.vote d b = h in cc)
-sends-stand self st c o (its_proposal j l e) d b h =
-    absurd (let k : proposal_frame self (view self.sizes c) j ≡ frame.vote d b = h in cc)
+sends-stand self st c o (its_vote a e v to) = record {
+  votes = λ d b h.
+      let same : frame.vote (digest_of a.branch) _ ≡ frame.vote d b = h in
+      let own : Among a.branch (voted_blocks (took_block a ∷ c)) =
+      subst (Among a.branch) (sym (cond-true a.voted (a.branch ∷ voted_blocks c) (voted_blocks c) v))
+      (inl refl) in (
+        a.branch,
+        subst (λ (x : Step). Among a.branch (voted_blocks (x ∷ c))) (sym e) own,
+        (let k : digest_of a.branch ≡ d = cc in k),
+      );
+  blocks = λ r core q t h. absurd (let k : vote_frame self a.branch ≡ frame.block r core q t = h in cc);
+}
+sends-stand self st c o (new_reply a m) =
+    other-stands (st ∷ c) (reply_to self a).1
+    (λ d b h. let k : (reply_to self a).1 ≡ frame.vote d b = h in cc)
+    (λ r core q t h. let k : (reply_to self a).1 ≡ frame.block r core q t = h in cc)
+sends-stand self st c o (old_reply a m) =
+    other-stands (st ∷ c) (reply_to self a).1
+    (λ d b h. let k : (reply_to self a).1 ≡ frame.vote d b = h in cc)
+    (λ r core q t h. let k : (reply_to self a).1 ≡ frame.block r core q t = h in cc)
+sends-stand self st c o its_view =
+    other-stands (st ∷ c) (new_view_frame self (st ∷ c))
+    (λ d b h. let k : new_view_frame self (st ∷ c) ≡ frame.vote d b = h in cc)
+    (λ r core q t h. let k : new_view_frame self (st ∷ c) ≡ frame.block r core q t = h in cc)
+sends-stand self st c o (its_block to a m) = record {
+  votes = λ d b h. absurd (let k : block_frame self to a ≡ frame.vote d b = h in cc);
+  blocks = λ r core q t h.
+      let same : frame.block (me self) (core_of a.branch) _ _ ≡ frame.block r core q t = h in
+      (a.branch, (a, taken-grows st c a m, refl), (let k : core_of a.branch ≡ core = cc in k));
+}
+sends-stand self st c o (its_proposal j l e) =
+    other-stands (st ∷ c) (proposal_frame self (view self.sizes c) j)
+    (λ d b h. let k : proposal_frame self (view self.sizes c) j ≡ frame.vote d b = h in cc)
+    (λ r core q t h. let k : proposal_frame self (view self.sizes c) j ≡ frame.block r core q t = h in cc)
 
 -- ---- two decisions of one chronicle do not conflict, so none is refused
 
@@ -264,8 +300,8 @@ put_row-same p c row e i = put_row-both (λ (x : Chronicle). row i ≡ x) p c ro
 pub record IsAfter (Known : Core → Type 0) (w : World) (p : ℕ) (m : MemorySupply) (r : Replica × Reaction) :
     Type 0 where
   pub row : IsRow Known w.sizes (is_member w) (λ i. (put p r.0 w.replica i).chronicle)
-  pub grows : (x : Branch) → Among x (voted_blocks (chronicles w p)) → Among x (voted_blocks r.0.chronicle)
-  pub out : (o : Sending) → Among o (out_of (self_of w p) m r.1) → VoteStands r.0.chronicle o
+  pub grows : (f : Frame) → Stands (chronicles w p) f → Stands r.0.chronicle f
+  pub out : (o : Sending) → Among o (out_of (self_of w p) m r.1) → FrameStands r.0.chronicle o
   pub mild : answer_of r.1 ≡ Some fault.Conflict → ⊥
 
 -- the row where the chronicle is as before, or has one step more
@@ -283,17 +319,18 @@ row-more Known w p r row = same-row Known w.sizes (is_member w) (put_row p r.chr
     (λ i. put-chronicle p r w.replica i) row
 
 fetch-stands : (self : Identity) (sender : ℕ) (d : Bytes) (c : Chronicle) (o : Sending)
-    → Among o ((to_party sender, fetch_frame self sender d) ∷ []) → VoteStands c o
+    → Among o ((to_party sender, fetch_frame self sender d) ∷ []) → FrameStands c o
 unfolding fetch_frame
 fetch-stands self sender d c o m =
-    one-stands c (to_party sender) (fetch_frame self sender d) (λ e b h. cc) o m
+    one-stands c (to_party sender) (fetch_frame self sender d)
+    (other-stands c (fetch_frame self sender d) (λ e b h. cc) (λ r core q t h. cc)) o m
 
 lacks-stand : (self : Identity) (m : MemorySupply) (sender : ℕ) (d : Bytes) (c : Chronicle) (o : Sending)
-    → Among o (out_of self m (asks_for sender d)) → VoteStands c o
+    → Among o (out_of self m (asks_for sender d)) → FrameStands c o
 lacks-stand self m sender d c o =
     cond_both (is_ample m && not (sender == self.ring.party))
     ((to_party sender, fetch_frame self sender d) ∷ []) []
-    (λ (l : List Sending). Among o l → VoteStands c o) (λ e k. fetch-stands self sender d c o k)
+    (λ (l : List Sending). Among o l → FrameStands c o) (λ e k. fetch-stands self sender d c o k)
     (λ e k. nothing-stands c o k)
 
 code : Fault → Option Fault
@@ -315,21 +352,21 @@ module _ (Known : Core → Type 0) (apart : NoCollision Known) (genesis : Known 
   after-step w p m v r made row me more (unchanged n l) =
       record {
         row = row-kept Known w p (w.replica p) row refl;
-        grows = λ x k. k;
+        grows = λ f k. k;
         out = λ o k. nothing-stands _ o k;
         mild = not_conflict n l;
       }
   after-step w p m v r made row me more (refused s n u l) =
       record {
         row = row-kept Known w p _ row refl;
-        grows = λ x k. k;
+        grows = λ f k. k;
         out = λ o k. nothing-stands _ o k;
         mild = not_conflict n l;
       }
   after-step w p m v r made row me more (lacks sender d u) =
       record {
         row = row-kept Known w p _ row refl;
-        grows = λ x k. k;
+        grows = λ f k. k;
         out = λ o k. lacks-stand (self_of w p) m sender d _ o k;
         mild = not_conflict fault.UnknownParent (λ k. cc);
       }
@@ -338,14 +375,14 @@ module _ (Known : Core → Type 0) (apart : NoCollision Known) (genesis : Known 
   after-step w p m v r made row me more (stood st u e h) =
       record {
         row = row-more Known w p _ (more st e);
-        grows = λ x k. voted-grows st _ x k;
+        grows = λ f k. stands-grows st _ f k;
         out = λ o k. sends-stand (self_of w p) st _ o (sends (self_of w p) st _ o k);
         mild = done-mild (sendings (self_of w p) st (chronicles w p));
       }
   after-step w p m v r made row me more (cut st n u e h) =
       record {
         row = row-more Known w p _ (more st e);
-        grows = λ x k. voted-grows st _ x k;
+        grows = λ f k. stands-grows st _ f k;
         out = λ o k. nothing-stands _ o k;
         mild = not_conflict fault.Memory (λ k. cc);
       }
@@ -370,10 +407,9 @@ module _ (Known : Core → Type 0) (apart : NoCollision Known) (genesis : Known 
 -- what an effect keeps
 pub record IsKept (Known : Core → Type 0) (w : World) (e : Event) (f : Effect) : Type 0 where
   pub row : IsRow Known w.sizes (is_member w) (λ i. (f.replica i).chronicle)
-  pub grows : (i : ℕ) (x : Branch) → Among x (voted_blocks (chronicles w i))
-      → Among x (voted_blocks (f.replica i).chronicle)
+  pub grows : (i : ℕ) (g : Frame) → Stands (chronicles w i) g → Stands (f.replica i).chronicle g
   pub out : (o : Sending) → Among o f.out → is_member w (party_of e) ≡ true
-      → VoteStands (f.replica (party_of e)).chronicle o
+      → FrameStands (f.replica (party_of e)).chronicle o
   pub mild : f.answer ≡ Some fault.Conflict → ⊥
 
 step-kept : (Known : Core → Type 0) (w : World) (e : Event) (m : MemorySupply) (r : Replica × Reaction)
@@ -381,11 +417,10 @@ step-kept : (Known : Core → Type 0) (w : World) (e : Event) (m : MemorySupply)
 unfolding stepped
 step-kept Known w e m r a = record {
   row = a.row;
-  grows = λ i x k. subst (λ (c : Chronicle). Among x (voted_blocks c))
-      (put-chronicle (party_of e) r.0 w.replica i)
-      (put_row-both (λ (c : Chronicle). Among x (voted_blocks c)) (party_of e) r.0.chronicle (chronicles w) i
-      (λ j. a.grows x (subst (λ (n : ℕ). Among x (voted_blocks (chronicles w n))) j k)) k);
-  out = λ o k me. subst (λ (c : Chronicle). VoteStands c o)
+  grows = λ i g k. subst (λ (c : Chronicle). Stands c g) (put-chronicle (party_of e) r.0 w.replica i)
+      (put_row-both (λ (c : Chronicle). Stands c g) (party_of e) r.0.chronicle (chronicles w) i
+      (λ j. a.grows g (subst (λ (n : ℕ). Stands (chronicles w n) g) j k)) k);
+  out = λ o k me. subst (λ (c : Chronicle). FrameStands c o)
       (sym (put_row-own (party_of e) r.0.chronicle (chronicles w))
       ∙ put-chronicle (party_of e) r.0 w.replica (party_of e)) (a.out o k);
   mild = a.mild;
@@ -442,7 +477,7 @@ idle-kept Known w e a run h = record { row = run.row; grows = λ i y k. k; out =
 
 -- a submission sends a request alone
 record IsSubmission (x : Session × Submitted) : Type 0 where
-  out : (c : Chronicle) (o : Sending) → Among o (submitted_out x.1) → VoteStands c o
+  out : (c : Chronicle) (o : Sending) → Among o (submitted_out x.1) → FrameStands c o
   mild : submitted_answer x.1 ≡ code fault.Conflict → ⊥
 
 not_sent-is : (n : Fault) → (n ≡ fault.Conflict → ⊥) → (s : Session) → IsSubmission (s, not_sent n)
@@ -457,7 +492,8 @@ submission-is me m payload s =
     cond_both (s.used == (2 ^ 64 - 1)) _ _ IsSubmission (λ e. not_sent-is fault.Spent (λ k. cc) s) (λ e.
     cond_both (not (is_ample m)) _ _ IsSubmission (λ e. not_sent-is fault.Memory (λ k. cc) s) (λ e.
     record {
-      out = λ c o k. one-stands c to_all (request_frame me (suc s.used) payload) (λ d b h. cc) o k;
+      out = λ c o k. one-stands c to_all (request_frame me (suc s.used) payload)
+          (other-stands c (request_frame me (suc s.used) payload) (λ d b h. cc) (λ r core q t h. cc)) o k;
       mild = none-mild None refl;
     })))
 
@@ -487,7 +523,7 @@ module _ (Known : Core → Type 0) (apart : NoCollision Known) (genesis : Known 
       × ((effect w (e, m)).answer ≡ Some fault.Conflict → ⊥)
   unfolding happens
   happens-keeps w e m run made honest ok =
-      (record { row = k.row; votes = votes }, record { rings = made.rings; enough = made.enough }, k.mild)
+      (record { row = k.row; stands = stands }, record { rings = made.rings; enough = made.enough }, k.mild)
     where
       k : IsKept Known w e (effect w (e, m))
       k = effect-kept w e m (effect w (e, m)) run made honest (effects w e m honest.framed ok)
@@ -495,26 +531,18 @@ module _ (Known : Core → Type 0) (apart : NoCollision Known) (genesis : Known 
       sent : Sending → Sent
       sent o = record { event = w.now; sender = party_of e; to = o.0; frame = o.1 }
 
-      new : (s : Sent) → Among s (map sent (effect w (e, m)).out) → (d : Bytes) (b : Vote)
-          → s.frame ≡ frame.vote d b → is_member w s.sender ≡ true
-          → (x : Branch) × Among x (voted_blocks ((effect w (e, m)).replica s.sender).chronicle)
-          × (digest_of x ≡ d)
-      new s n d b h me =
+      new : (s : Sent) → Among s (map sent (effect w (e, m)).out) → is_member w s.sender ≡ true
+          → Stands ((effect w (e, m)).replica s.sender).chronicle s.frame
+      new s n me =
           let r = Among-map sent (effect w (e, m)).out s n in
           let by : s.sender ≡ party_of e = ap (λ (y : Sent). y.sender) r.2 in
-          subst (λ (p : ℕ). (x : Branch) × Among x (voted_blocks ((effect w (e, m)).replica p).chronicle)
-          × (digest_of x ≡ d)) (sym by)
-          (k.out r.0 r.1 (sym (ap (is_member w) by) ∙ me) d b (sym (ap (λ (y : Sent). y.frame) r.2) ∙ h))
+          subst (λ (p : ℕ). Stands ((effect w (e, m)).replica p).chronicle s.frame) (sym by)
+          (subst (Stands ((effect w (e, m)).replica (party_of e)).chronicle)
+          (sym (ap (λ (y : Sent). y.frame) r.2))
+          (k.out r.0 r.1 (sym (ap (is_member w) by) ∙ me)))
 
-      old : (s : Sent) → Among s w.sent → (d : Bytes) (b : Vote) → s.frame ≡ frame.vote d b
-          → is_member w s.sender ≡ true
-          → (x : Branch) × Among x (voted_blocks ((effect w (e, m)).replica s.sender).chronicle)
-          × (digest_of x ≡ d)
-      old s n d b h me = let r = run.votes s n d b h me in (r.0, k.grows s.sender r.0 r.1, r.2)
-
-      votes : (s : Sent) → Among s (w.sent ++ map sent (effect w (e, m)).out) → (d : Bytes) (b : Vote)
-          → s.frame ≡ frame.vote d b → is_member w s.sender ≡ true
-          → (x : Branch) × Among x (voted_blocks ((effect w (e, m)).replica s.sender).chronicle)
-          × (digest_of x ≡ d)
-      votes s n d b h me =
-          elim (Among-either s w.sent _ n) [ inl a ↦ old s a d b h me | inr a ↦ new s a d b h me ]
+      stands : (s : Sent) → Among s (w.sent ++ map sent (effect w (e, m)).out) → is_member w s.sender ≡ true
+          → Stands ((effect w (e, m)).replica s.sender).chronicle s.frame
+      stands s n me =
+          elim (Among-either s w.sent _ n)
+          [ inl a ↦ k.grows s.sender s.frame (run.stands s a me) | inr a ↦ new s a me ]
