@@ -19,7 +19,7 @@ pub record Admitted : Type 0 where
   pub core : Core  -- as it came
   pub certificate : Certificate
   pub counted : List ℕ  -- the voters whose tags for this replica verified
-  pub senders : List ℕ  -- the replicas that sent this very block, where so many of them were asked for
+  pub senders : List ℕ  -- the replicas that sent this very block, where it was taken for their number
   pub clear : Bool  -- so did the tag of each command
   pub new : Bool  -- it was not in the tree before
   pub voted : Bool
