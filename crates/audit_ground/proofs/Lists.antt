@@ -3,7 +3,7 @@ use Rattle.std.proofs.Common.{ℕ, suc, ◌≡◌, ◌<◌, ◌≤◌, ◌⊎◌
 use Rattle.std.proofs.Common.{refl, sym, ap, subst, ◌∙◌, arith, inl, inr, Option, Some, None, true≢false}
 use Rattle.std.specs.List.{list_any, list_all}
 use Rattle.std.proofs.lemmas.Bool.{cond_both, cond-true, cond-false, cases_lt, cases_eq, eq-eqb, ne_eqb}
-use Rattle.std.proofs.lemmas.Bool.{le-ltb, lt-ltb, and_parts, and_from, and_cases, or_cases, or_left}
+use Rattle.std.proofs.lemmas.Bool.{le-ltb, lt-ltb, and_parts, and_from, and_cases}
 use Rattle.std.proofs.lemmas.Bool.{or_right}
 use lib.Dec.{eqb, ltb}
 use Rattle.definitions.specs.Lists.{beginning, IsBeginning, Among}

@@ -373,7 +373,7 @@ below-from : (n : ℕ) (vs : List ℕ) → list_all (λ v. nat_lt v n) vs ≡ tr
 below-from n [] h = tt
 below-from n (x ∷ xs) h = let p = and_parts _ _ h in (ltb-true x n p.0, below-from n xs p.1)
 
-replicas-from : (s : Sizes) (least : ℕ) (vs : List ℕ) → are_replicas s least vs ≡ true
+pub replicas-from : (s : Sizes) (least : ℕ) (vs : List ℕ) → are_replicas s least vs ≡ true
     → AreReplicas s least vs
 unfolding are_replicas
 replicas-from s least vs h =

@@ -3,9 +3,8 @@ use Rattle.std.proofs.Common.{ℕ, ◌≡◌, ◌<◌, ◌&&◌, ◌||◌, not, 
 use Rattle.std.proofs.Common.{ap, subst, ◌∙◌, arith, inl, inr, Option, Some, None, true≢false, ◌==◌, nat_lt}
 use Rattle.std.specs.List.{list_any, AllByRecursion}
 use Rattle.std.specs.Bool.{⊤}
-use Rattle.std.proofs.lemmas.Bool.{and_parts, eqb-true, eq-eqb, cond_both, cond-true, cases_Bool, ltb-true}
+use Rattle.std.proofs.lemmas.Bool.{and_parts, eqb-true, eq-eqb, cond_both, cases_Bool, ltb-true}
 use Rattle.std.proofs.lemmas.Bool.{not-true, or_parts, or_cases}
-use lib.Pointwise.{bytes_decides}
 use Rattle.ids.specs.Sizes.{Sizes, quorum}
 use Rattle.definitions.specs.Bytes.{Bytes}
 use Rattle.definitions.specs.Frames.{Vote, genesis_core}
@@ -14,7 +13,7 @@ use Rattle.definitions.specs.Branches.{Branch, branch_eq}
 use Rattle.definitions.specs.Digests.{digest, digest_of}
 use Rattle.definitions.specs.Chronicles.{Step, Step.took_block, Step.noted, Note.got_vote}
 use Rattle.definitions.specs.Chronicles.{Note.got_new_view, Chronicle, taken_blocks}
-use Rattle.definitions.specs.Checks.{Identity, is_good, is_genesis, vote_verifies}
+use Rattle.definitions.specs.Checks.{Identity, is_genesis, vote_verifies}
 use Rattle.definitions.specs.States.{votes, by_voter, Justified, raised, fills, higher, led, qc_high}
 use Rattle.definitions.specs.Grounds.{IsKept}
 use Rattle.definitions.proofs.Horizons.{qc_high-cases}

@@ -1,6 +1,6 @@
 -- Each frame that a step sends is a frame at these sizes, and a certificate in it is cut.
 use Rattle.ids.specs.declared.limits.TheConstants.{MOST_TEXT}
-use Rattle.std.proofs.Common.{ℕ, ◌≡◌, ◌<◌, ◌≤◌, ◌^◌, [], ◌∷◌, true, length, sym, subst, inl, inr, Some}
+use Rattle.std.proofs.Common.{ℕ, ◌≡◌, ◌<◌, ◌≤◌, ◌^◌, [], ◌∷◌, length, sym, subst, inl, inr, Some}
 use Rattle.ids.specs.declared.kind.Kind.TheVariants as kind
 use Rattle.ids.specs.Sizes.{Sizes, replicas, client_party}
 use Rattle.definitions.specs.Lists.{Among}
@@ -12,7 +12,7 @@ use Rattle.definitions.specs.Branches.{Branch}
 use Rattle.definitions.specs.Digests.{digest_of, core_of}
 use Rattle.definitions.specs.Histories.{Answer, answers}
 use Rattle.definitions.specs.Chronicles.{Admitted, Step, Chronicle, taken_blocks, history}
-use Rattle.definitions.specs.Checks.{Identity, is_good, cut}
+use Rattle.definitions.specs.Checks.{Identity, cut}
 use Rattle.definitions.specs.States.{Justified, view, qc_high, me, proposed}
 use Rattle.definitions.specs.Sendings.{Sending, vote_frame, proposal_frame, new_view_frame, reply_to}
 use Rattle.definitions.specs.Sendings.{block_frame, fetch_frame}

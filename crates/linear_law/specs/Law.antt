@@ -8,7 +8,7 @@ use Rattle.definitions.specs.Keyrings.{Keyring}
 use Rattle.definitions.specs.Lists.{Among, IsBeginning}
 use Rattle.definitions.specs.FrameLimits.{IsReadAs, IsWritten, IsCertificate}
 use Rattle.definitions.specs.Digests.{digest_of}
-use Rattle.definitions.specs.Checks.{Identity, is_good}
+use Rattle.definitions.specs.Checks.{Identity}
 use Rattle.definitions.specs.Grounds.{IsKept}
 use Rattle.definitions.specs.States.{Justified, raised, qc_high}
 use Rattle.definitions.specs.Chronicles.{Step, Chronicle, IsLawful}
