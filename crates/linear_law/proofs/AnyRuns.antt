@@ -228,7 +228,7 @@ effect-plain w e m f few a ok (idle x h) =
 effect-plain w e m f few a ok (step_by i mp ar) =
     stepped-plain w (party_of e) m (step (self_of w (party_of e)) m i (w.replica (party_of e))) a
     (step-plain w e m i few a mp ar)
-effect-plain w e m f few a ok (hearing g b r y pa) = record {
+effect-plain w e m f few a ok (hearing g b ad r y pa) = record {
   each = λ q mq. later (self_of w q) w.now (w.replica q).chronicle (a.each q mq);
   room = λ j. put-session _ _ w.session (λ (s : Session). s.used < 2 ^ 64) j
       (λ k. subst (λ (n : ℕ). n < 2 ^ 64) (sym (on_reply-used (client_of w _) m g (w.session _)))

@@ -311,7 +311,7 @@ module _ (Known : Core → Type 0) (apart : NoCollision Known) (genesis : Known 
       record { stored = a.stored; leaves = a.leaves; out = λ o k. absurd k }
   effect-framed w e m f g n honest a ok sent (step_by i me ar) =
       stepped-framed w (party_of e) m _ a (step-framed w e m i g honest a me ar _ refl sent)
-  effect-framed w e m f g n honest a ok sent (hearing x b r y pa) =
+  effect-framed w e m f g n honest a ok sent (hearing x b ad r y pa) =
       record { stored = a.stored; leaves = a.leaves; out = λ o k. absurd k }
   effect-framed w e m f g n honest a ok sent (submitting c payload i y) = record {
     stored = a.stored;

@@ -1,4 +1,5 @@
 pub mod Inputs
+pub mod HeldVotes
 pub mod Sends
 pub mod Rows
 pub mod Effects

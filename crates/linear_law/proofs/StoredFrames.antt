@@ -1,6 +1,5 @@
 -- What a replica stores comes from frames that were read and admitted.
 use Rattle.ids.specs.declared.limits.TheConstants.{MOST_BLOCKS}
-use Rattle.ids.specs.declared.fault.Fault.TheVariants as fault
 use Rattle.std.proofs.Common.{ℕ, ◌≡◌, ◌<◌, ◌^◌, ◌&&◌, not, true, [], ◌∷◌, length, refl, sym, subst, inl}
 use Rattle.std.proofs.Common.{inr, Option, Some, None, true≢false, nat_lt, ◌∙◌, ap, List, suc, false}
 use Rattle.std.specs.Bool.{⊤}
@@ -32,15 +31,18 @@ use Rattle.definitions.specs.Rulings.{Input.new_view_in, Input.request_in, Input
 use Rattle.definitions.specs.Rulings.{Input.beat_in, Input.prune_in, Ruling, Ruling.due, Ruling.missing}
 use Rattle.definitions.specs.Rulings.{Ruling.refusing}
 use Rattle.definitions.specs.Rulings.{admitted, on_placing, on_block, on_request, with_block, ruling}
-use Rattle.definitions.specs.Admission.{check, Checked.passes, Checked.rejected}
+use Rattle.definitions.specs.Admission.{check, check_offer, check_copies, check_gathered, Checked.passes}
 use Rattle.definitions.specs.Worlds.{World, Event, self_of}
-use Rattle.definitions.specs.Events.{party_of}
+use Rattle.definitions.specs.Events.{party_of, brought}
 use Rattle.definitions.proofs.Sound.{found, found-standing}
 use Rattle.definitions.specs.Trees.{Placing, Placing.stands, Placing.grows, Placing.lacks_parent}
 use Rattle.definitions.specs.Trees.{Placing.unfit, placing, IsTree}
 use Rattle.definitions.proofs.Trees.{same_bytes, found-in, core-known, IsPlaced, placed}
 use Rattle.definitions.proofs.Checks.{when-good}
-use Rattle.linear_law.proofs.Effects.{Arises}
+use Rattle.linear_law.proofs.Inputs.{not_mine, not_frame}
+use Rattle.linear_law.proofs.Effects.{Arises, Arises.of_checked, Arises.of_offer, Arises.of_gathered}
+use Rattle.linear_law.proofs.Effects.{Arises.of_timeout, Arises.of_beat, Arises.of_prune, Arises.of_lead}
+use Rattle.linear_law.proofs.Effects.{Arises.of_ask}
 
 -- ---- what is known of each step that is stored
 
@@ -123,17 +125,53 @@ check-read self (frame.vote d b) i fr e =
 check-read self (frame.new_view w s q v) i fr e =
     let g = when-good _ _ _ e in subst (IsReadInput self) g.1 (fr.0, fr.2, (and_parts _ _ g.0).1)
 check-read self (frame.fetch s d t) i fr e = subst (IsReadInput self) (when-good _ _ _ e).1 tt
-check-read self (frame.reply r c s p t g) i fr e = absurd (apart e)
-  where
-    apart : rejected fault.NotMine ≡ passes i → ⊥
-    apart h = cc
+check-read self (frame.reply r c s p t g) i fr e = absurd (not_mine i e)
+
+-- so is one that was offered
+offer-read : (self : Identity) (f : Frame) (i : Input) → IsFrame self.sizes f → check_offer self f ≡ passes i
+    → IsReadInput self i
+unfolding check_offer
+offer-read self (frame.proposal view core q v) i fr e =
+    subst (IsReadInput self) (when-good _ _ _ e).1 (fr.1, fr.2)
+offer-read self (frame.block sender core q t) i fr e =
+    subst (IsReadInput self) (when-good _ _ _ e).1 (fr.1, fr.2)
+offer-read self (frame.new_view w s q v) i fr e = subst (IsReadInput self) (when-good _ _ _ e).1 fr.0
+offer-read self (frame.request c) i fr e = absurd (not_mine i e)
+offer-read self (frame.vote d b) i fr e = absurd (not_mine i e)
+offer-read self (frame.fetch s d t) i fr e = absurd (not_mine i e)
+offer-read self (frame.reply r c s p t g) i fr e = absurd (not_mine i e)
+
+-- and copies of a block
+copies-read : (self : Identity) (f : Frame) (fs : List Frame) (i : Input) → IsFrame self.sizes f
+    → check_copies self f fs ≡ passes i → IsReadInput self i
+unfolding check_copies
+copies-read self (frame.block sender core q t) fs i fr e =
+    subst (IsReadInput self) (when-good _ _ _ e).1 (fr.1, fr.2)
+copies-read self (frame.proposal w c q v) fs i fr e = absurd (not_mine i e)
+copies-read self (frame.new_view w s q v) fs i fr e = absurd (not_mine i e)
+copies-read self (frame.request c) fs i fr e = absurd (not_mine i e)
+copies-read self (frame.vote d b) fs i fr e = absurd (not_mine i e)
+copies-read self (frame.fetch s d t) fs i fr e = absurd (not_mine i e)
+copies-read self (frame.reply r c s p t g) fs i fr e = absurd (not_mine i e)
+
+gathered-read : (self : Identity) (fs : List Frame) (i : Input)
+    → ((f : Frame) → Among f fs → IsFrame self.sizes f) → check_gathered self fs ≡ passes i
+    → IsReadInput self i
+unfolding check_gathered
+gathered-read self [] i fr e = absurd (not_frame i e)
+gathered-read self (f ∷ fs) i fr e = copies-read self f (f ∷ fs) i (fr f (inl refl)) e
 
 -- so is each input of an event
 pub arises-read : (w : World) (e : Event) (i : Input) → Arises w e i → IsReadInput (self_of w (party_of e)) i
-arises-read w e i (inl b) = check-read (self_of w (party_of e)) b.frame i b.is_frame b.good
-arises-read w e i (inr (inl t)) = subst (IsReadInput (self_of w (party_of e))) (sym t) tt
-arises-read w e i (inr (inr (inl t))) = subst (IsReadInput (self_of w (party_of e))) (sym t) tt
-arises-read w e i (inr (inr (inr t))) = subst (IsReadInput (self_of w (party_of e))) (sym t.1) tt
+arises-read w e i (of_checked f j b g) = check-read (self_of w (party_of e)) f j b.is_frame g
+arises-read w e i (of_offer f j b g) = offer-read (self_of w (party_of e)) f j b.is_frame g
+arises-read w e i (of_gathered j b g) =
+    gathered-read (self_of w (party_of e)) (brought w e) j (λ f m. (b f m).is_frame) g
+arises-read w e i of_timeout = tt
+arises-read w e i of_beat = tt
+arises-read w e i (of_prune height) = tt
+arises-read w e i (of_lead d) = tt
+arises-read w e i (of_ask r d h) = h
 
 -- ---- rulings
 

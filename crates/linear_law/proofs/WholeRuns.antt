@@ -1,8 +1,9 @@
 -- Whole runs: what holds of their beginning and is kept by each event holds at their end. From this each
 -- law follows.
-use Rattle.std.proofs.Common.{ℕ, zero, suc, slice_get, option_map, ◌≡◌, Bool, List, [], ◌∷◌, refl, sym}
+use Rattle.std.proofs.Common.{ℕ, zero, suc, slice_get, option_map, ◌≡◌, Bool, true, List, [], ◌∷◌, refl, sym}
 use Rattle.std.proofs.Common.{subst, inl, inr, Option, Some, None, Ok}
 use Rattle.std.specs.Bool.{⊤}
+use Rattle.std.specs.List.{AllByRecursion}
 use Rattle.ids.specs.Sizes.{Sizes}
 use Rattle.definitions.specs.Lists.{Among}
 use Rattle.definitions.specs.Frames.{Core, Frame, spelling, genesis_core}
@@ -11,15 +12,18 @@ use Rattle.definitions.specs.Digests.{NoCollision}
 use Rattle.definitions.specs.Keyrings.{Keyring}
 use Rattle.definitions.specs.States.{Justified, leaf, proposed}
 use Rattle.definitions.specs.Worlds.{World, Sent, Event, Event.submit, Event.relay, Event.inject}
-use Rattle.definitions.specs.Worlds.{Event.timeout, Event.beat, Event.prune, Happening, self_of, new_world}
-use Rattle.definitions.specs.Events.{brought, happens}
+use Rattle.definitions.specs.Worlds.{Event.timeout, Event.beat, Event.prune, Event.offer, Event.gather}
+use Rattle.definitions.specs.Worlds.{Event.lead, Event.ask, Source, Source.of_record, Source.of_bytes}
+use Rattle.definitions.specs.Worlds.{Happening, self_of, new_world}
+use Rattle.definitions.specs.Events.{brought, listed, recorded, frame_of, frames_of, happens}
 use Rattle.definitions.specs.Runs.{refusal, run, after}
-use Rattle.definitions.specs.Premises.{CoreOf, CoreBrought, CoreOfRun, IsReadIn, AllRead, NoForgeryIn}
+use Rattle.definitions.specs.Premises.{CoreOf, CoreBrought, CoreOfRun, IsReadFrom, IsReadIn, AllRead, NoForgeryIn}
 use Rattle.definitions.specs.Premises.{NoForgery, ArePremises}
-use Rattle.definitions.proofs.Lists.{Among-before}
+use Rattle.definitions.proofs.Lists.{Among-before, Among-either}
 use Rattle.definitions.proofs.Spellings.{IsReadAs-unique}
 use Rattle.linear_law.proofs.Runs.{chronicles, IsHonest}
-use Rattle.linear_law.proofs.Effects.{ComesFramed}
+use Rattle.linear_law.proofs.Effects.{ComesFramed, is_member}
+use Rattle.linear_law.proofs.StoredFrames.{AreStored}
 use Rattle.linear_law.proofs.Fits.{IsCoreOrGenesis, core-frame}
 use Rattle.linear_law.proofs.Linear.{IsGood, ground, good-happens, run-step, new-good}
 use Rattle.linear_law.proofs.Final.{IsAccount, account-happens, correct-quorum, new-account, linear}
@@ -54,15 +58,44 @@ recorded-framed sizes xs k f sent e = by (slice_get xs k) refl e
     by (Some s) i j =
         let here : s.frame ≡ f = cc in subst (IsFrame sizes) here (sent s (slice_get-among xs k s i)).0
 
+-- a frame that is listed alone
+listed-framed : (sizes : Sizes) (o : Option Frame) → ((f : Frame) → o ≡ Some f → IsFrame sizes f) → (f : Frame)
+    → Among f (listed o) → IsFrame sizes f
+listed-framed sizes None h f m = absurd m
+listed-framed sizes (Some g) h f (inl e) = subst (IsFrame sizes) (sym e) (h g refl)
+listed-framed sizes (Some g) h f (inr n) = absurd n
+
+-- that of a source
+source-framed : (w : World) (s : Source) → IsReadFrom w.sizes s → SentAreFrames w → (f : Frame)
+    → frame_of w s ≡ Some f → IsFrame w.sizes f
+source-framed w (of_record k) rd sent f e = recorded-framed w.sizes w.sent k f sent e
+source-framed w (of_bytes bytes read) rd sent f e = (subst (IsReadAs w.sizes bytes) e rd).0
+
+-- those of several
+sources-framed : (w : World) (ss : List Source) → AllByRecursion (IsReadFrom w.sizes) ss → SentAreFrames w
+    → (f : Frame) → Among f (frames_of w ss) → IsFrame w.sizes f
+sources-framed w [] rd sent f m = absurd m
+sources-framed w (s ∷ ss) rd sent f m = elim (Among-either f (listed (frame_of w s)) (frames_of w ss) m) [
+  | inl k ↦ listed-framed w.sizes (frame_of w s) (source-framed w s rd.0 sent) f k
+  | inr k ↦ sources-framed w ss rd.1 sent f k
+]
+
 -- what comes is a frame, where each frame that was sent is one that is written
 pub comes-framed : (w : World) (e : Event) → IsReadIn w.sizes e → SentAreFrames w → ComesFramed w e
 unfolding brought
-comes-framed w (submit c payload) rd sent f b = absurd (let k : None ≡ Some f = b in cc)
-comes-framed w (relay k to) rd sent f b = recorded-framed w.sizes w.sent k f sent b
-comes-framed w (inject to bytes read) rd sent f b = (subst (IsReadAs w.sizes bytes) b rd).0
-comes-framed w (timeout r) rd sent f b = absurd (let k : None ≡ Some f = b in cc)
-comes-framed w (beat r) rd sent f b = absurd (let k : None ≡ Some f = b in cc)
-comes-framed w (prune r height) rd sent f b = absurd (let k : None ≡ Some f = b in cc)
+comes-framed w (submit c payload) rd sent f b = absurd b
+comes-framed w (relay k to) rd sent f b =
+    listed-framed w.sizes (recorded w k) (λ g e. recorded-framed w.sizes w.sent k g sent e) f b
+comes-framed w (inject to bytes read) rd sent f b =
+    listed-framed w.sizes read (λ g e. (subst (IsReadAs w.sizes bytes) e rd).0) f b
+comes-framed w (timeout r) rd sent f b = absurd b
+comes-framed w (beat r) rd sent f b = absurd b
+comes-framed w (prune r height) rd sent f b = absurd b
+comes-framed w (offer to s) rd sent f b =
+    listed-framed w.sizes (frame_of w s) (source-framed w s rd sent) f b
+comes-framed w (gather to ss) rd sent f b = sources-framed w ss rd sent f b
+comes-framed w (lead r d) rd sent f b = absurd b
+comes-framed w (ask r to d) rd sent f b = absurd b
 
 -- ---- what is assumed along a schedule
 
@@ -75,7 +108,7 @@ SentKnown Known w = (s : Sent) → Among s w.sent → (x : Core) → CoreOf x s.
 record IsAssumed (Known : Core → Type 0) (w : World) (h : Happening) : Type 0 where
   read : IsReadIn w.sizes h.0
   forgery : NoForgeryIn w h.0
-  come : (f : Frame) → brought w h.0 ≡ Some f → (c : Core) → CoreOf c f → IsCore w.sizes c → Known c
+  come : (f : Frame) → Among f (brought w h.0) → (c : Core) → CoreOf c f → IsCore w.sizes c → Known c
   sent : SentKnown Known (happens w h)
 
 -- of each event
@@ -109,13 +142,15 @@ assumed-along Known sizes w (h ∷ hs) e rd n come sent = (
 
 -- an event is honest where each frame that was sent is one
 honest-now : (Known : Core → Type 0) (w : World) (h : Happening) → IsAssumed Known w h → SentAreFrames w
-    → IsHonest Known w h.0
-honest-now Known w h a sent =
+    → ((p : ℕ) → is_member w p ≡ true → AreStored (self_of w p) (chronicles w p)) → IsHonest Known w h.0
+honest-now Known w h a sent stored =
     let framed : ComesFramed w h.0 = comes-framed w h.0 a.read sent in
     record {
       framed = framed;
       forgery = a.forgery;
       cores = λ f b c o. a.come f b c o (core-frame w.sizes f c (framed f b) o);
+      written = sent;
+      stored = stored;
     }
 
 -- ---- from the beginning to the end
@@ -145,7 +180,7 @@ module _ (Known : Core → Type 0) (apart : NoCollision Known) (genesis : Known 
       → IsWell Known (happens w h)
   unfolding happens
   well-happens w h g a ok =
-      let honest : IsHonest Known w h.0 = honest-now Known w h a g.framed.sent in
+      let honest : IsHonest Known w h.0 = honest-now Known w h a g.framed.sent g.framed.stored in
       record {
         good = good-happens Known apart genesis ground w h g.good honest ok;
         account = account-happens Known w h.0 h.1 g.good honest ok g.account;

@@ -13,7 +13,8 @@ use Rattle.definitions.specs.Grounds.{IsKept}
 use Rattle.definitions.specs.States.{Justified, raised, qc_high}
 use Rattle.definitions.specs.Chronicles.{Step, Chronicle, IsLawful}
 use Rattle.definitions.specs.Agreement.{Family, IsLawfulFamily}
-use Rattle.definitions.specs.Worlds.{World, Sent, AcceptedBy, Event, relay, inject, Happening, new_world}
+use Rattle.definitions.specs.Worlds.{World, Sent, AcceptedBy, Event, relay, inject, offer, gather, Happening}
+use Rattle.definitions.specs.Worlds.{Source, of_record, of_bytes, new_world}
 use Rattle.definitions.specs.Worlds.{is_correct, self_of}
 use Rattle.definitions.specs.Frames.{Command, Frame, spelling}
 use Rattle.definitions.specs.Frames as frame
@@ -145,10 +146,17 @@ pub record NamesOneCommand (w : World) (r : AcceptedBy) : Type 0 where
 abbrev pub ReceiptsNameCommands : Type 0
 ReceiptsNameCommands = AfterAnyRun (λ w. (r : AcceptedBy) → Among r w.receipts → NamesOneCommand w r)
 
+-- a source is a recorded frame that was sent to this party
+abbrev pub IsDeliveredFrom : World → ℕ → Source → Type 0
+IsDeliveredFrom w to (of_record k) = (s : Sent) → slice_get w.sent k ≡ Some s → IsFor to s.to s.frame
+IsDeliveredFrom w to (of_bytes bytes read) = ⊥
+
 -- a recorded frame comes to a party that it was sent to, and no bytes are invented
 abbrev pub IsDelivered : World → Event → Type 0
-IsDelivered w (relay k to) = (s : Sent) → slice_get w.sent k ≡ Some s → IsFor to s.to s.frame
+IsDelivered w (relay k to) = IsDeliveredFrom w to (of_record k)
 IsDelivered w (inject to bytes read) = ⊥
+IsDelivered w (offer to source) = IsDeliveredFrom w to source
+IsDelivered w (gather to sources) = AllByRecursion (IsDeliveredFrom w to) sources
 IsDelivered w e = ⊤
 
 -- so do all of a schedule
