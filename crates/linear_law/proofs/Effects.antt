@@ -24,6 +24,7 @@ use Rattle.definitions.specs.Events.{brought, listed, frame_of, frames_of, offer
 use Rattle.definitions.specs.Admission.{is_passed, Checked, Checked.passes, Checked.rejected, check, when}
 use Rattle.definitions.specs.Admission.{check_offer, check_copies, check_gathered}
 use Rattle.definitions.specs.Premises.{admits, admits_in}
+use Rattle.linear_law.specs.AsBefore.{IsUsual}
 use Rattle.definitions.specs.Frames as frame
 
 abbrev pub is_member : World → ℕ → Bool
@@ -40,13 +41,13 @@ pub data Arises (w : World) (e : Event) : Input → Type 0 where
   of_checked : (f : Frame) (i : Input) → Brings w e f → check (self_of w (party_of e)) f ≡ passes i
       → Arises w e i
   of_offer : (f : Frame) (i : Input) → Brings w e f → check_offer (self_of w (party_of e)) f ≡ passes i
-      → Arises w e i
+      → (IsUsual e → ⊥) → Arises w e i
   of_gathered : (i : Input) → ((f : Frame) → Among f (brought w e) → Brings w e f)
-      → check_gathered (self_of w (party_of e)) (brought w e) ≡ passes i → Arises w e i
+      → check_gathered (self_of w (party_of e)) (brought w e) ≡ passes i → (IsUsual e → ⊥) → Arises w e i
   of_timeout : Arises w e timeout_in
   of_beat : Arises w e beat_in
   of_prune : (height : ℕ) → Arises w e (prune_in height)
-  of_lead : (d : Bytes) → Arises w e (lead_in d)
+  of_lead : (d : Bytes) → (IsUsual e → ⊥) → Arises w e (lead_in d)
   of_ask : (replica : ℕ) (d : Bytes) → IsDigest d → Arises w e (ask_in replica d)
 
 pub data Effects (w : World) (e : Event) (m : MemorySupply) : Effect → Type 0 where
@@ -234,7 +235,7 @@ offers-effects w to s m r ok rd (Some f) b = by (check_offer (self_of w to) f) r
       brings = there;
       is_frame = rd f there;
       admitted = and_from _ _ r (ap is_passed g);
-    }) g)
+    }) g (λ u. u))
     by (rejected n) g = idle (Some n) (offer-bad (self_of w to) f n g)
 
 -- frames come together
@@ -248,7 +249,7 @@ gather-effects w to ss m r ok rd (passes i) g = step_by i (and_from _ _ r (not_f
       brings = n;
       is_frame = rd f n;
       admitted = and_from _ _ r (ap is_passed g);
-    }) g)
+    }) g (λ u. u))
 gather-effects w to ss m r ok rd (rejected n) g =
     idle (Some n) (gathered-bad (self_of w to) (frames_of w ss) n g)
 
@@ -275,7 +276,7 @@ acts-effects w (gather to ss) m rd n ok =
     gather-effects w to ss m (named w (gather to ss) n) ok rd
     (check_gathered (self_of w to) (frames_of w ss)) refl
 acts-effects w (lead r d) m rd n ok =
-    step_by (lead_in d) (and_from _ _ (named w (lead r d) n) (not_from_false _ ok)) (of_lead d)
+    step_by (lead_in d) (and_from _ _ (named w (lead r d) n) (not_from_false _ ok)) (of_lead d (λ u. u))
 acts-effects w (ask r to d) m rd n ok =
     step_by (ask_in to d)
     (and_from _ _ (and_parts _ _ (named w (ask r to d) n)).0 (not_from_false _ ok))

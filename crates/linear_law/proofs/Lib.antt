@@ -24,3 +24,5 @@ pub mod WholeRuns
 pub mod AnyRuns
 pub mod Submissions
 pub mod Deliveries
+pub mod AsBefore
+pub mod UsualRuns

@@ -144,13 +144,13 @@ member-faulty w p m = not-true _ (and_parts _ _ m).1
 
 pub arises-checked : (w : World) (e : Event) (i : Input) → Arises w e i → IsCheckedInput w.sizes i
 arises-checked w e i (of_checked f j b g) = check-checked (self_of w (party_of e)) f j b.is_frame g
-arises-checked w e i (of_offer f j b g) = offer-checked (self_of w (party_of e)) f j b.is_frame g
-arises-checked w e i (of_gathered j b g) =
+arises-checked w e i (of_offer f j b g u) = offer-checked (self_of w (party_of e)) f j b.is_frame g
+arises-checked w e i (of_gathered j b g u) =
     gathered-checked (self_of w (party_of e)) (brought w e) j (λ f m. (b f m).is_frame) g
 arises-checked w e i of_timeout = tt
 arises-checked w e i of_beat = tt
 arises-checked w e i (of_prune height) = tt
-arises-checked w e i (of_lead d) = tt
+arises-checked w e i (of_lead d u) = tt
 arises-checked w e i (of_ask r d h) = tt
 
 -- the frame of an input that carries a block
@@ -166,18 +166,18 @@ arises-carried w e i core q g (of_checked f j b h) ca = record {
   brings = b;
   carried = check-carried (self_of w (party_of e)) f j b.is_frame h core q g ca;
 }
-arises-carried w e i core q g (of_offer f j b h) ca = record {
+arises-carried w e i core q g (of_offer f j b h u) ca = record {
   frame = f;
   brings = b;
   carried = offer-carried (self_of w (party_of e)) f j b.is_frame h core q g ca;
 }
-arises-carried w e i core q g (of_gathered j b h) ca =
+arises-carried w e i core q g (of_gathered j b h u) ca =
     let r = gathered-carried (self_of w (party_of e)) (brought w e) j (λ f m. (b f m).is_frame) h in
     record { frame = r.0; brings = b r.0 r.1; carried = r.2 core q g ca }
 arises-carried w e i core q g of_timeout ca = absurd ca
 arises-carried w e i core q g of_beat ca = absurd ca
 arises-carried w e i core q g (of_prune height) ca = absurd ca
-arises-carried w e i core q g (of_lead d) ca = absurd ca
+arises-carried w e i core q g (of_lead d u) ca = absurd ca
 arises-carried w e i core q g (of_ask r d h) ca = absurd ca
 
 -- who sent the block that an input carries sent a frame that the event brings
@@ -186,15 +186,15 @@ arises-copy : (w : World) (e : Event) (i : Input) (core : Core) (q : Certificate
     → (f : Frame) × Brings w e f × IsCopyBy core v f
 arises-copy w e i core q g vs (of_checked f j b h) ca by v m =
     absurd (check-alone (self_of w (party_of e)) f j vs h by)
-arises-copy w e i core q g vs (of_offer f j b h) ca by v m =
+arises-copy w e i core q g vs (of_offer f j b h u) ca by v m =
     absurd (offer-alone (self_of w (party_of e)) f j vs h by)
-arises-copy w e i core q g vs (of_gathered j b h) ca by v m =
+arises-copy w e i core q g vs (of_gathered j b h u) ca by v m =
     let r = gathered-sent (self_of w (party_of e)) (brought w e) j h core q g vs ca by v m in
     (r.0, b r.0 r.1, r.2)
 arises-copy w e i core q g vs of_timeout ca by v m = absurd ca
 arises-copy w e i core q g vs of_beat ca by v m = absurd ca
 arises-copy w e i core q g vs (of_prune height) ca by v m = absurd ca
-arises-copy w e i core q g vs (of_lead d) ca by v m = absurd ca
+arises-copy w e i core q g vs (of_lead d u) ca by v m = absurd ca
 arises-copy w e i core q g vs (of_ask r d h) ca by v m = absurd ca
 
 -- a replica gave the votes that stand in its chronicle
@@ -248,13 +248,13 @@ module _ (Known : Core → Type 0) where
   input-given w e i run honest me (of_checked f j b g) =
       bringing-implied (IsClaimed (self_of w (party_of e)) f) _ (claimed-given w e f run honest me b) j
       (check-claimed (self_of w (party_of e)) f j g)
-  input-given w e i run honest me (of_offer f j b g) = offer-bringing _ (self_of w (party_of e)) f j g
-  input-given w e i run honest me (of_gathered j b g) =
+  input-given w e i run honest me (of_offer f j b g u) = offer-bringing _ (self_of w (party_of e)) f j g
+  input-given w e i run honest me (of_gathered j b g u) =
       gathered-bringing _ (self_of w (party_of e)) (brought w e) j g
   input-given w e i run honest me of_timeout = tt
   input-given w e i run honest me of_beat = tt
   input-given w e i run honest me (of_prune height) = tt
-  input-given w e i run honest me (of_lead d) = tt
+  input-given w e i run honest me (of_lead d u) = tt
   input-given w e i run honest me (of_ask r d h) = tt
 
   -- a member that sent a copy of the block took one of its digest

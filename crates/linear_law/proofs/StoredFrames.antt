@@ -164,13 +164,13 @@ gathered-read self (f ∷ fs) i fr e = copies-read self f (f ∷ fs) i (fr f (in
 -- so is each input of an event
 pub arises-read : (w : World) (e : Event) (i : Input) → Arises w e i → IsReadInput (self_of w (party_of e)) i
 arises-read w e i (of_checked f j b g) = check-read (self_of w (party_of e)) f j b.is_frame g
-arises-read w e i (of_offer f j b g) = offer-read (self_of w (party_of e)) f j b.is_frame g
-arises-read w e i (of_gathered j b g) =
+arises-read w e i (of_offer f j b g u) = offer-read (self_of w (party_of e)) f j b.is_frame g
+arises-read w e i (of_gathered j b g u) =
     gathered-read (self_of w (party_of e)) (brought w e) j (λ f m. (b f m).is_frame) g
 arises-read w e i of_timeout = tt
 arises-read w e i of_beat = tt
 arises-read w e i (of_prune height) = tt
-arises-read w e i (of_lead d) = tt
+arises-read w e i (of_lead d u) = tt
 arises-read w e i (of_ask r d h) = h
 
 -- ---- rulings

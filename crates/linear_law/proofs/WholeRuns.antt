@@ -105,14 +105,14 @@ SentKnown Known w = (s : Sent) → Among s w.sent → (x : Core) → CoreOf x s.
 
 -- of an event: what is injected is read rightly, no tag is forged, and the cores that come in it or are
 -- sent are known
-record IsAssumed (Known : Core → Type 0) (w : World) (h : Happening) : Type 0 where
-  read : IsReadIn w.sizes h.0
+pub record IsAssumed (Known : Core → Type 0) (w : World) (h : Happening) : Type 0 where
+  pub read : IsReadIn w.sizes h.0
   forgery : NoForgeryIn w h.0
   come : (f : Frame) → Among f (brought w h.0) → (c : Core) → CoreOf c f → IsCore w.sizes c → Known c
   sent : SentKnown Known (happens w h)
 
 -- of each event
-abbrev AssumedAlong : (Core → Type 0) → World → List Happening → Type 0
+abbrev pub AssumedAlong : (Core → Type 0) → World → List Happening → Type 0
 AssumedAlong Known w [] = ⊤
 AssumedAlong Known w (h ∷ hs) = IsAssumed Known w h × AssumedAlong Known (happens w h) hs
 
@@ -123,7 +123,7 @@ sent-stays w [] s m = m
 sent-stays w (h ∷ hs) s m = sent-stays (happens w h) hs s (Among-before s w.sent _ m)
 
 -- the premises, event by event
-assumed-along : (Known : Core → Type 0) (sizes : Sizes) (w : World) (hs : List Happening) → w.sizes ≡ sizes
+pub assumed-along : (Known : Core → Type 0) (sizes : Sizes) (w : World) (hs : List Happening) → w.sizes ≡ sizes
     → AllRead sizes hs → NoForgery w hs
     → ((c : Core) → CoreBrought c w hs → IsCore sizes c → Known c)
     → ((s : Sent) → Among s (after w hs).sent → (x : Core) → CoreOf x s.frame → IsCore sizes x
@@ -169,14 +169,14 @@ new-framed Known sizes is_faulty ring = record {
     none j e = cc
 
 -- what is kept by each event
-record IsWell (Known : Core → Type 0) (w : World) : Type 0 where
-  good : IsGood Known w
-  account : IsAccount w
-  framed : IsFramed Known w
+pub record IsWell (Known : Core → Type 0) (w : World) : Type 0 where
+  pub good : IsGood Known w
+  pub account : IsAccount w
+  pub framed : IsFramed Known w
 
 module _ (Known : Core → Type 0) (apart : NoCollision Known) (genesis : Known genesis_core) where
   -- one event
-  well-happens : (w : World) (h : Happening) → IsWell Known w → IsAssumed Known w h → refusal w h.0 ≡ None
+  pub well-happens : (w : World) (h : Happening) → IsWell Known w → IsAssumed Known w h → refusal w h.0 ≡ None
       → IsWell Known (happens w h)
   unfolding happens
   well-happens w h g a ok =
@@ -197,25 +197,53 @@ module _ (Known : Core → Type 0) (apart : NoCollision Known) (genesis : Known 
       well-run hs (happens w h) last (well-happens w h g a.0 r.0) a.1 r.1
 
 -- the cores of a run that a frame may have, and genesis's
-unfoldable KnownIn : (sizes : Sizes) (w : World) (hs : List Happening) → Core → Type 0
+unfoldable pub KnownIn : (sizes : Sizes) (w : World) (hs : List Happening) → Core → Type 0
 KnownIn sizes w hs c = CoreOfRun w hs c × IsCoreOrGenesis sizes c
+
+-- its sizes
+pub new-sizes : (sizes : Sizes) (is_faulty : ℕ → Bool) (ring : ℕ → Keyring)
+    → (new_world sizes is_faulty ring).sizes ≡ sizes
+unfolding new_world
+new-sizes sizes is_faulty ring = refl
+
+-- what is known of the world at its start
+pub new-well : (sizes : Sizes) (is_faulty : ℕ → Bool) (ring : ℕ → Keyring) (hs : List Happening)
+    → ArePremises (new_world sizes is_faulty ring) hs
+    → IsWell (KnownIn sizes (new_world sizes is_faulty ring) hs) (new_world sizes is_faulty ring)
+unfolding KnownIn new_world
+new-well sizes is_faulty ring hs met = record {
+  good = new-good _ sizes is_faulty ring (met.keys, correct-quorum sizes is_faulty met.few) (λ c k. k.1);
+  account = new-account sizes is_faulty ring;
+  framed = new-framed _ sizes is_faulty ring;
+}
+
+-- no two known cores have one digest, and genesis's is known
+pub known-apart : (sizes : Sizes) (w : World) (hs : List Happening) → ArePremises w hs
+    → NoCollision (KnownIn sizes w hs)
+unfolding KnownIn
+known-apart sizes w hs met = λ a b ka kb. met.no_collision a b ka.0 kb.0
+
+pub known-genesis : (sizes : Sizes) (w : World) (hs : List Happening) → KnownIn sizes w hs genesis_core
+unfolding KnownIn
+known-genesis sizes w hs = (inl refl, inl refl)
+
+-- what is assumed along such a run
+pub known-along : (sizes : Sizes) (w : World) (hs : List Happening) → w.sizes ≡ sizes → ArePremises w hs
+    → AssumedAlong (KnownIn sizes w hs) w hs
+unfolding KnownIn
+known-along sizes w hs e met =
+    assumed-along _ sizes w hs e (subst (λ (z : Sizes). AllRead z hs) e met.read) met.no_forgery
+    (λ c b k. (inr (inr b), inr k)) (λ s m x o k. (inr (inl (s, m, o)), inr k))
 
 -- what a run whose premises hold comes to
 run-is-well :
     (sizes : Sizes) (is_faulty : ℕ → Bool) (ring : ℕ → Keyring) (hs : List Happening) (last : World)
     → ArePremises (new_world sizes is_faulty ring) hs → run (new_world sizes is_faulty ring) hs ≡ Ok last
     → IsWell (KnownIn sizes (new_world sizes is_faulty ring) hs) last
-unfolding KnownIn new_world
 run-is-well sizes is_faulty ring hs last met e =
     let w : World = new_world sizes is_faulty ring in
-    well-run (KnownIn sizes w hs) (λ a b ka kb. met.no_collision a b ka.0 kb.0) (inl refl, inl refl) hs w last
-    (record {
-      good = new-good _ sizes is_faulty ring (met.keys, correct-quorum sizes is_faulty met.few) (λ c k. k.1);
-      account = new-account sizes is_faulty ring;
-      framed = new-framed _ sizes is_faulty ring;
-    })
-    (assumed-along _ sizes w hs refl met.read met.no_forgery (λ c b k. (inr (inr b), inr k))
-    (λ s m x o k. (inr (inl (s, m, o)), inr k))) e
+    well-run (KnownIn sizes w hs) (known-apart sizes w hs met) (known-genesis sizes w hs) hs w last
+    (new-well sizes is_faulty ring hs met) (known-along sizes w hs (new-sizes sizes is_faulty ring) met) e
 
 -- ---- the laws
 
