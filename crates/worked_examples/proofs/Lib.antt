@@ -9,10 +9,10 @@ mod OnePruned
 mod Rounds
 mod PrunedTree
 mod OnGrounds
-mod AsBefore
 mod Forgery
 mod Computed
 mod Snapshots
 mod LiarTags
 mod LiarWorlds
 mod LiarRun
+mod Healing

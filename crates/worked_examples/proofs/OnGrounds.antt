@@ -1,35 +1,32 @@
 -- Blocks and leads on grounds, computed.
 use Rattle.std.proofs.Common.{refl}
-use Rattle.definitions.specs.Grounds.{are_distinct, are_replicas, is_justified, own_counted}
-use Rattle.definitions.specs.Grounds.{is_own_certified, grounded, may_lead_from}
-use Rattle.definitions.specs.Rulings.{on_offer, on_relay}
 use Rattle.worked_examples.specs.Grounds.{AnEarlierTake, NoGrounds, TwoSenders, OneSender}
 use Rattle.worked_examples.specs.Grounds.{LeadsFromTheLock, LeadsFromNoOther, ALeadMovesThere, ALeadKeepsIt}
 use Rattle.worked_examples.specs.Grounds.{AsksAnyone, ItsViewCounts}
 use Rattle.worked_examples.proofs.Computed.{of_steps}
 
 pub an_earlier_take : AnEarlierTake
-unfolding of_steps on_offer grounded is_justified is_own_certified own_counted are_replicas are_distinct
+unfolding of_steps
 an_earlier_take ring = refl
 
 pub no_grounds : NoGrounds
-unfolding of_steps on_offer grounded is_justified is_own_certified own_counted are_replicas are_distinct
+unfolding of_steps
 no_grounds ring = refl
 
 pub two_senders : TwoSenders
-unfolding of_steps on_relay are_replicas are_distinct
+unfolding of_steps
 two_senders ring = refl
 
 pub one_sender : OneSender
-unfolding of_steps on_relay are_replicas are_distinct
+unfolding of_steps
 one_sender ring = (refl, refl, refl)
 
 pub leads_from_the_lock : LeadsFromTheLock
-unfolding of_steps may_lead_from is_justified is_own_certified own_counted are_replicas are_distinct
+unfolding of_steps
 leads_from_the_lock ring = (refl, refl)
 
 pub leads_from_no_other : LeadsFromNoOther
-unfolding of_steps may_lead_from is_justified is_own_certified own_counted are_replicas are_distinct
+unfolding of_steps
 leads_from_no_other ring = (refl, refl, refl)
 
 pub a_lead_moves_there : ALeadMovesThere

@@ -1,18 +1,16 @@
 -- A replica of four that took blocks of a chain without votes, each of which justifies the one below it, and
 -- what it makes of blocks and leads for which it has no certificate.
 use Rattle.ids.specs.declared.fault.Fault.TheVariants as fault
-use Rattle.std.specs.Prelude.{ℕ, zero, suc, ◌≡◌, ◌<◌, true, false, Option, Some, None, List, [], ◌∷◌}
-use Rattle.std.specs.Prelude.{length, nat_lt, if◌then◌else◌, IfSome, ⊤}
-use Rattle.ids.specs.Sizes.{Sizes}
+use Rattle.std.specs.Prelude.{ℕ, zero, suc, ◌≡◌, true, false, None, List, [], ◌∷◌}
 use Rattle.definitions.specs.Bytes.{Bytes}
 use Rattle.definitions.specs.Branches.{Branch, just1}
-use Rattle.definitions.specs.Digests.{digest, digest_of, core_of}
-use Rattle.definitions.specs.Frames.{Certificate, genesis_core}
+use Rattle.definitions.specs.Digests.{digest_of, core_of}
+use Rattle.definitions.specs.Frames.{Certificate}
 use Rattle.definitions.specs.Keyrings.{Keyring}
 use Rattle.definitions.specs.Checks.{Identity, Findings}
-use Rattle.definitions.specs.Chronicles.{Step, Step.took_block, Step.noted, Note.led_from, Note.seen_view}
-use Rattle.definitions.specs.Chronicles.{Note.got_request, Chronicle}
-use Rattle.definitions.specs.States.{Justified, raised, view, qc_high, leaf, pending}
+use Rattle.definitions.specs.Chronicles.{Step.took_block, Step.noted, Note.led_from, Note.seen_view}
+use Rattle.definitions.specs.Chronicles.{Chronicle}
+use Rattle.definitions.specs.States.{view, qc_high, leaf, pending}
 use Rattle.definitions.specs.Rulings.{Ruling, Ruling.due, Ruling.missing, Ruling.refusing, ruling}
 use Rattle.definitions.specs.Rulings.{Input.offered_in, Input.relayed_in, Input.lead_in, Input.ask_in}
 use Rattle.worked_examples.specs.Chains.{on, took}
@@ -113,29 +111,3 @@ AsksAnyone = (ring : Keyring) (d : Bytes) → ruling (self_with ring) (ask_in 2 
 abbrev pub ItsViewCounts : Type 0
 ItsViewCounts =
     (view four (noted (seen_view 3 1) ∷ announces 2 3 ∷ []) ≡ 3) × (view four (noted (seen_view 3 1) ∷ []) ≡ 0)
-
--- ---- chronicles of which no step leads, and each certificate has votes
-
--- the one of the greater height, the older one where they are equal
-abbrev pub first_of : Option Justified → Justified → Justified
-first_of None q = q
-first_of (Some p) q = if nat_lt (length q.block) (length p.block) then p else q
-
--- the first certificate of the greatest height
-unfoldable pub first_highest : Sizes → Chronicle → Justified
-first_highest s [] = record { block = []; certificate = record { digest = digest genesis_core; votes = [] } }
-first_highest s (x ∷ earlier) = first_of (raised s x earlier) (first_highest s earlier)
-
--- a certificate of a block above genesis has votes
-abbrev pub HasVotes : Justified → Type 0
-HasVotes j = 0 < length j.block → 0 < length j.certificate.votes
-
--- no step leads, and what each brings has votes, as good certificates do
-abbrev pub NoneLeads : Sizes → Chronicle → Type 0
-NoneLeads s [] = ⊤
-NoneLeads s (x ∷ earlier) =
-    ((b : Branch) → x ≡ noted (led_from b) → ⊥) × IfSome (raised s x earlier) HasVotes × NoneLeads s earlier
-
--- then the highest certificate is the first of the greatest height
-abbrev pub JudgedAsBefore : Type 0
-JudgedAsBefore = (s : Sizes) (c : Chronicle) → NoneLeads s c → qc_high s c ≡ first_highest s c

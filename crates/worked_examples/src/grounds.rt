@@ -2,7 +2,9 @@
 
 ghost use Rattle.worked_examples.specs.Grounds.{AnEarlierTake, NoGrounds, TwoSenders, OneSender};
 ghost use Rattle.worked_examples.specs.Grounds.{LeadsFromTheLock, LeadsFromNoOther, ALeadMovesThere};
-ghost use Rattle.worked_examples.specs.Grounds.{ALeadKeepsIt, AsksAnyone, ItsViewCounts, JudgedAsBefore};
+ghost use Rattle.worked_examples.specs.Healing.{IsWedged, IsOffered};
+ghost use Rattle.worked_examples.specs.Healing.{CopiesPass, OffersPass};
+ghost use Rattle.worked_examples.specs.Grounds.{ALeadKeepsIt, AsksAnyone, ItsViewCounts};
 
 /// A block is taken where an earlier one justifies the same block, or f + 1 replicas sent it; else not.
 pub fn a_block_is_taken_on_grounds()
@@ -26,8 +28,15 @@ pub fn questions_and_views_need_no_certificate()
     ensures views { ItsViewCounts }
 {}
 
-/// Where no step leads, and each certificate of a block above genesis has votes, the highest certificate is
-/// the first of the greatest height: grounds and leads change nothing of a replica that makes no use of them.
-pub fn without_leads_the_highest_is_the_first()
-    ensures { JudgedAsBefore }
+/// A vote that is right for the leader alone makes a certificate that the others refuse. A replica that got
+/// the correct replicas' votes itself takes the block all the same, where it is offered, and votes.
+pub fn a_half_vote_wedges_and_an_offer_helps()
+    ensures wedged { IsWedged }
+    ensures offered { IsOffered }
+{}
+
+/// A frame is offered, and copies come together, with their own tags alone.
+pub fn offers_and_copies_need_their_own_tags()
+    ensures copies { CopiesPass }
+    ensures offers { OffersPass }
 {}
