@@ -1,6 +1,6 @@
 -- The run that is wedged and healed, computed.
 use Rattle.std.proofs.Common.{refl}
-use Rattle.worked_examples.specs.Healing.{IsWedged, IsOffered, CopiesPass}
+use Rattle.worked_examples.specs.Healing.{IsWedged, IsOffered, IsGathered, CopiesPass}
 use Rattle.worked_examples.specs.Healing.{OffersPass}
 use Rattle.worked_examples.proofs.Computed.{of_runs}
 
@@ -11,6 +11,10 @@ is_wedged = refl
 pub is_offered : IsOffered
 unfolding of_runs
 is_offered = (refl, refl, refl)
+
+pub is_gathered : IsGathered
+unfolding of_runs
+is_gathered = (refl, refl)
 
 pub copies_pass : CopiesPass
 unfolding of_runs

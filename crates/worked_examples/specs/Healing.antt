@@ -1,4 +1,4 @@
--- A run that a half vote wedges, and an offer. Replica 3 is faulty: its vote for
+-- A run that a half vote wedges, and that offers and copies of a block heal. Replica 3 is faulty: its vote for
 -- the first block is right for replica 0 alone, so the certificate that replica 0 makes is good for no other.
 use Rattle.ids.specs.declared.kind.Kind.TheVariants as kind
 use Rattle.ids.specs.declared.fault.Fault.TheVariants as fault
@@ -14,7 +14,7 @@ use Rattle.definitions.specs.Chronicles.{taken_blocks}
 use Rattle.definitions.specs.Tags.{tag_len}
 use Rattle.definitions.specs.Admission.{rejected, is_passed, check_offer, check_gathered}
 use Rattle.definitions.specs.Sendings.{block_frame}
-use Rattle.definitions.specs.Worlds.{Event, relay, beat, offer, of_record, self_of}
+use Rattle.definitions.specs.Worlds.{Event, relay, beat, offer, gather, ask, of_record, self_of}
 use Rattle.worked_examples.specs.Liar.{start, liar, comes_to}
 use Rattle.worked_examples.specs.Rounds.{play}
 use Rattle.worked_examples.specs.Runs.{sizes, block1}
@@ -58,6 +58,22 @@ IsOffered =
     × (map (λ a. a.branch) (taken_blocks ((play start offered).replica 1).chronicle) ≡ block2 ∷ block1 ∷ [])
     × (map {B = ℕ × ℕ} (λ s. (s.event, s.sender)) (play start offered).sent
     ≡ (1, 0) ∷ (2, 0) ∷ (3, 1) ∷ (4, 2) ∷ (8, 0) ∷ (9, 0) ∷ (15, 1) ∷ [])
+
+-- replica 2 asks both for the block, and gets two copies of it, and the proposal again
+abbrev pub gathered : List Event
+gathered =
+    offered
+    ++ ask 2 0 (digest_of block2) ∷ ask 2 1 (digest_of block2) ∷ relay 7 0 ∷ relay 8 1
+    ∷ gather 2 (of_record 9 ∷ of_record 10 ∷ []) ∷ offer 2 (of_record 4) ∷ []
+
+-- it takes the block, for the copies, and then votes for it
+abbrev pub IsGathered : Type 0
+IsGathered =
+    (map {B = Branch × List ℕ} (λ a. (a.branch, a.senders)) (taken_blocks ((play start gathered).replica 2).chronicle)
+    ≡ (block2, 0 ∷ 1 ∷ []) ∷ (block1, []) ∷ [])
+    × (map {B = ℕ × ℕ} (λ s. (s.event, s.sender)) (play start gathered).sent
+    ≡ (1, 0) ∷ (2, 0) ∷ (3, 1) ∷ (4, 2) ∷ (8, 0) ∷ (9, 0) ∷ (15, 1) ∷ (16, 2) ∷ (17, 2) ∷ (18, 0) ∷ (19, 1)
+    ∷ (21, 2) ∷ [])
 
 -- ---- what passes as an offer, or as copies
 

@@ -2,7 +2,7 @@
 
 ghost use Rattle.worked_examples.specs.Grounds.{AnEarlierTake, NoGrounds, TwoSenders, OneSender};
 ghost use Rattle.worked_examples.specs.Grounds.{LeadsFromTheLock, LeadsFromNoOther, ALeadMovesThere};
-ghost use Rattle.worked_examples.specs.Healing.{IsWedged, IsOffered};
+ghost use Rattle.worked_examples.specs.Healing.{IsWedged, IsOffered, IsGathered};
 ghost use Rattle.worked_examples.specs.Healing.{CopiesPass, OffersPass};
 ghost use Rattle.worked_examples.specs.Grounds.{ALeadKeepsIt, AsksAnyone, ItsViewCounts};
 
@@ -28,11 +28,12 @@ pub fn questions_and_views_need_no_certificate()
     ensures views { ItsViewCounts }
 {}
 
-/// A vote that is right for the leader alone makes a certificate that the others refuse. A replica that got
-/// the correct replicas' votes itself takes the block all the same, where it is offered, and votes.
-pub fn a_half_vote_wedges_and_an_offer_helps()
+/// A vote that is right for the leader alone makes a certificate that the others refuse. They take its block
+/// all the same, one by its own certificate, the other by two copies, and both vote for it.
+pub fn a_half_vote_wedges_and_grounds_heal()
     ensures wedged { IsWedged }
     ensures offered { IsOffered }
+    ensures gathered { IsGathered }
 {}
 
 /// A frame is offered, and copies come together, with their own tags alone.
