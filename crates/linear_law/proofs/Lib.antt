@@ -1,5 +1,4 @@
 pub mod Inputs
-pub mod HeldVotes
 pub mod Sends
 pub mod Rows
 pub mod Effects
@@ -24,5 +23,3 @@ pub mod WholeRuns
 pub mod AnyRuns
 pub mod Submissions
 pub mod Deliveries
-pub mod AsBefore
-pub mod UsualRuns

@@ -8,11 +8,9 @@ mod OneReplica
 mod OnePruned
 mod Rounds
 mod PrunedTree
-mod OnGrounds
 mod Forgery
 mod Computed
 mod Snapshots
 mod LiarTags
 mod LiarWorlds
 mod LiarRun
-mod Healing

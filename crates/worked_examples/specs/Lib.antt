@@ -1,8 +1,6 @@
 pub mod Cache
 pub mod Chains
 pub mod Frames
-pub mod Grounds
-pub mod Healing
 pub mod Histories
 pub mod Liar
 pub mod Lines
