@@ -244,7 +244,6 @@ impl<'a> Options<'a> {
         let most: u64 = matches.get_one("serve")?;
         let blocks: u32 = matches.get_one("blocks")?;
         let window: u32 = matches.get_one("window")?;
-        let window_most: u32 = matches.get_one("window-most")?;
         let liars: u8 = matches.get_one("liars")?;
         Some(Options {
             keys: matches.get_str("keys")?,
@@ -266,11 +265,7 @@ impl<'a> Options<'a> {
                 } else {
                     Some(u64::from(window))
                 },
-                window_most: if window_most == 0 {
-                    None
-                } else {
-                    Some(u64::from(window_most))
-                },
+                window_most: unless_zero(matches.get_one("window-most")?),
                 workers: workers_of(matches.get_one("workers")?),
                 watch: unless_zero(matches.get_one("watch")?),
                 hasher,
