@@ -14,7 +14,8 @@ use Rattle.definitions.specs.Audit.{sent_block, step_after, has_taken, each_judg
 use Rattle.definitions.specs.Audit.{AreFronts}
 use Rattle.audit_ground.specs.Law.{NoneUnbacked}
 use Rattle.definitions.proofs.Lists.{all-passes}
-use Rattle.audit_ground.proofs.Lists.{any-found, any-from, step_after-some}
+use Rattle.definitions.proofs.Lists.{any-found, any-from}
+use Rattle.audit_ground.proofs.Lists.{step_after-some}
 use Rattle.audit_ground.proofs.Fronts.{behind-not_backed, whole-none_unbacked, fronts-short, is_backed_if}
 use Rattle.audit_ground.proofs.Fronts.{may_move-is}
 use Rattle.replica.specs.Steps.{Held}

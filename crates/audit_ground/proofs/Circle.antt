@@ -11,6 +11,7 @@ use Rattle.definitions.specs.Digests.{digest, digest_of, core_of, core_over}
 use Rattle.definitions.specs.Chronicles.{Step.took_block, voted_blocks, taken_blocks, tree, vheight, lock}
 use Rattle.definitions.specs.Chronicles.{stored_blocks}
 use Rattle.definitions.specs.Trees.{is_clear, clear_above}
+use Rattle.definitions.specs.Grounds.{are_distinct, are_replicas}
 use Rattle.definitions.specs.Audit.{Turns, steps_in, Judged, is_judged, chronicle_of, gives_vote, counted_by}
 use Rattle.definitions.specs.Audit.{takes, sent_by, sent_block, has_taken}
 use Rattle.definitions.specs.Audit.{counted_for, step_after, has_vote, is_backed, may_move, AreFronts}
@@ -75,11 +76,13 @@ judged = judged_of replicas
 -- each lived lawfully
 well : all_live_well replicas ≡ true
 unfolding lives_well may_take votes_well vheight voted_blocks greatest lock highest just1 just2 justify_height
-    beginning tree taken_blocks extends branch_eq block_eq command_eq clear_above stored_blocks is_clear
+    beginning tree taken_blocks extends branch_eq block_eq command_eq clear_above stored_blocks is_clear are_replicas
+    are_distinct
 well = refl
 
 -- three of four
 of_four : AreOfFour sizes judged
+unfolding are_replicas are_distinct
 of_four = four-from replicas refl well
 
 -- the steps in an order in which each counted vote comes first

@@ -1,9 +1,9 @@
 -- What the examples share: lives of replicas, and tests that they are kept.
-use Rattle.std.proofs.Common.{ℕ, zero, suc, ◌≡◌, ◌<◌, ◌≤◌, ◌&&◌, ◌||◌, ◌==◌, not, Bool, true, false}
+use Rattle.std.proofs.Common.{ℕ, zero, suc, ◌≡◌, ◌<◌, ◌≤◌, ◌&&◌, ◌||◌, not, Bool, true, false}
 use Rattle.std.proofs.Common.{List, [], ◌∷◌, map, length, nat_lt, refl, sym, ap, subst, ◌∙◌, arith, inl}
 use Rattle.std.proofs.Common.{inr, true≢false}
 use Rattle.std.specs.List.{list_any, AllByRecursion}
-use Rattle.std.proofs.lemmas.Bool.{cond-false, ne_eqb, eq-eqb, and_parts, ltb-true, ltb-false, not-true}
+use Rattle.std.proofs.lemmas.Bool.{cond-false, ne_eqb, and_parts, ltb-true, not-true}
 use Rattle.std.proofs.lemmas.Bool.{not_from_true, or_cases}
 use Rattle.std.proofs.lemmas.List.{length-map}
 use lib.Pointwise.{bytes_decides}
@@ -12,18 +12,19 @@ use Rattle.definitions.specs.Bytes.{Bytes}
 use Rattle.definitions.specs.Frames.{Command, Core, genesis_core}
 use Rattle.definitions.specs.Histories.{Entry, history_of}
 use Rattle.definitions.proofs.Lists.{Among-mapped}
-use Rattle.ids.specs.Sizes.{Sizes, replicas, quorum}
-use Rattle.definitions.specs.Lists.{beginning, Among, AreDistinct}
+use Rattle.ids.specs.Sizes.{Sizes, quorum}
+use Rattle.definitions.specs.Lists.{beginning, Among}
 use Rattle.definitions.specs.Branches.{Branch, justify_height, just1, just2, just3, highest, extends}
 use Rattle.definitions.specs.Branches.{branch_eq}
 use Rattle.definitions.specs.Digests.{digest, digest_of, core_of, NoCollision}
 use Rattle.definitions.specs.Chronicles.{Admitted, Step.took_block, Chronicle, taken_blocks, tree, vheight}
 use Rattle.definitions.specs.Chronicles.{lock}
 use Rattle.definitions.specs.Chronicles.{decides, decided_by, decided, executed, history, stored_blocks}
-use Rattle.definitions.specs.Chronicles.{AreReplicas, HasGrounds, HasGrounds.by_genesis}
+use Rattle.definitions.specs.Chronicles.{HasGrounds, HasGrounds.by_genesis}
 use Rattle.definitions.specs.Chronicles.{HasGrounds.by_votes, IsLawfulVote, IsLawfulTake, IsLawful}
 use Rattle.definitions.specs.Trees.{clear_above}
-use Rattle.definitions.proofs.Sound.{clear_above-each}
+use Rattle.definitions.specs.Grounds.{are_replicas}
+use Rattle.definitions.proofs.Sound.{clear_above-each, replicas-from}
 use Rattle.definitions.specs.Replicas.{Standing.running, held_history}
 use Rattle.definitions.specs.Audit.{Cut, Member, Judged, Turns, steps_in, chronicle_of, step_after, may_move}
 use Rattle.definitions.specs.Audit.{AreAllowed, AreFronts}
@@ -32,7 +33,7 @@ use Rattle.definitions.proofs.Chronicles.{tree-grows}
 use Rattle.agreement.proofs.Certified.{any-among, among-any}
 use Rattle.audit_ground.specs.Law.{KnownTo, numbers, IsStored, IsLawfullyKept, AreOfFour}
 use Rattle.audit_ground.proofs.Fronts.{is_backed_if, may_move-is, fronts-from_turns}
-use Rattle.audit_ground.proofs.Lists.{any-from}
+use Rattle.definitions.proofs.Lists.{any-from}
 use Rattle.audit_ground.proofs.Stored.{stored-blocks_are_named}
 
 -- four replicas, of which one may be faulty
@@ -86,46 +87,9 @@ may_move-no_steps ks k u e =
 
 -- ---- a life that is kept
 
--- no number stands twice
-abbrev are_distinct : List ℕ → Bool
-are_distinct [] = true
-are_distinct (x ∷ xs) = not (list_any (λ y. x == y) xs) && are_distinct xs
-
--- each is the number of a replica
-abbrev are_below : List ℕ → Bool
-are_below [] = true
-are_below (x ∷ xs) = nat_lt x (replicas sizes) && are_below xs
-
 -- a quorum of distinct replicas
 abbrev pub are_quorum : List ℕ → Bool
-are_quorum counted =
-    are_distinct counted && (are_below counted && not (nat_lt (length counted) (quorum sizes)))
-
--- the same, as the law says it
-abbrev IsQuorum : List ℕ → Type 0
-IsQuorum counted = AreReplicas sizes (quorum sizes) counted
-
--- numbers that pass are distinct
-AreDistinct-from : (xs : List ℕ) → are_distinct xs ≡ true → AreDistinct xs
-AreDistinct-from [] h = tt
-AreDistinct-from (x ∷ xs) h =
-    let p = and_parts (not (list_any (λ y. x == y) xs)) (are_distinct xs) h in (
-      (λ m. true≢false (sym (any-from (λ y. x == y) xs x m (eq-eqb x x refl)) ∙ not-true _ p.0)),
-      AreDistinct-from xs p.1,
-    )
-
--- and those of replicas
-below-from : (xs : List ℕ) → are_below xs ≡ true → AllByRecursion (λ v. v < replicas sizes) xs
-below-from [] h = tt
-below-from (x ∷ xs) h =
-    let p = and_parts _ _ h in (ltb-true x (replicas sizes) p.0, below-from xs p.1)
-
--- a quorum that passes is one
-IsQuorum-from : (xs : List ℕ) → are_quorum xs ≡ true → IsQuorum xs
-IsQuorum-from xs h =
-    let p = and_parts _ _ h in
-    let r = and_parts _ _ p.1 in
-    (AreDistinct-from xs p.0, below-from xs r.0, ltb-false _ _ (not-true _ r.1))
+are_quorum counted = are_replicas sizes (quorum sizes) counted
 
 -- the block justifies a certified one or genesis
 abbrev is_certified : Branch → List ℕ → Bool
@@ -136,7 +100,7 @@ certified-from : (b : Branch) (counted : List ℕ) (c : Chronicle) → is_certif
     → HasGrounds sizes (just1 b) counted [] c
 certified-from b counted c h =
     elim (or_cases (are_quorum counted) (branch_eq (just1 b) []) h) [
-      | inl q ↦ by_votes (IsQuorum-from counted q)
+      | inl q ↦ by_votes (replicas-from sizes (quorum sizes) counted q)
       | inr e ↦ by_genesis ((branch_eq-decides (just1 b) []).0 e)
     ]
 
@@ -278,7 +242,7 @@ pub four-from : (ps : List (ℕ × List Taking)) → are_quorum (numbers (judged
     → all_live_well ps ≡ true → AreOfFour sizes (judged_of ps)
 four-from ps q well =
     let ks = judged_of ps in
-    let is = IsQuorum-from (numbers ks) q in
+    let is = replicas-from sizes (quorum sizes) (numbers ks) q in
     let enough = is.2 in
     let count = length-map ks (λ m. m.number) in
     record {

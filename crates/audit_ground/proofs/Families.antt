@@ -25,7 +25,8 @@ use Rattle.definitions.proofs.Counts.{count-listed}
 use Rattle.definitions.proofs.Chronicles.{voted-grows, taken-grows}
 use Rattle.audit_ground.specs.Law.{KnownTo, IsNamed, AreJudged, NoneUnbacked, judged_family, numbers}
 use Rattle.audit_ground.specs.Law.{BackedChroniclesAreOrderly}
-use Rattle.audit_ground.proofs.Lists.{any-found, Among-beginning, beginning-none, beginning-next, extend}
+use Rattle.definitions.proofs.Lists.{any-found}
+use Rattle.audit_ground.proofs.Lists.{Among-beginning, beginning-none, beginning-next, extend}
 use Rattle.audit_ground.proofs.Lists.{step_after-among}
 use Rattle.audit_ground.proofs.Members.{number-judged, each_judged-passes}
 use Rattle.audit_ground.proofs.Fronts.{is_backed_if, may_move-is, fronts-exist, whole-or-unbacked}

@@ -9,6 +9,7 @@ use Rattle.definitions.specs.Digests.{digest, digest_of, core_of, core_over}
 use Rattle.definitions.specs.Chronicles.{Step.took_block, voted_blocks, taken_blocks, tree, vheight, lock}
 use Rattle.definitions.specs.Chronicles.{stored_blocks}
 use Rattle.definitions.specs.Trees.{is_clear, clear_above}
+use Rattle.definitions.specs.Grounds.{are_distinct, are_replicas}
 use Rattle.definitions.specs.Histories.{Entry, History}
 use Rattle.definitions.specs.Replicas.{Replica, Standing.running}
 use Rattle.definitions.specs.Audit.{Turns, steps_in, Judged, is_judged, chronicle_of, gives_vote, counted_by}
@@ -48,11 +49,13 @@ judged = judged_of replicas
 -- each lived lawfully
 well : all_live_well replicas ≡ true
 unfolding lives_well may_take votes_well vheight voted_blocks greatest lock highest just1 just2 justify_height
-    beginning tree taken_blocks extends branch_eq block_eq command_eq clear_above stored_blocks is_clear
+    beginning tree taken_blocks extends branch_eq block_eq command_eq clear_above stored_blocks is_clear are_replicas
+    are_distinct
 well = refl
 
 -- three of four
 of_four : AreOfFour sizes judged
+unfolding are_replicas are_distinct
 of_four = four-from replicas refl well
 
 -- ---- its fronts

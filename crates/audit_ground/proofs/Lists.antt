@@ -3,7 +3,7 @@ use Rattle.std.proofs.Common.{ℕ, suc, ◌≡◌, ◌<◌, ◌≤◌, ◌⊎◌
 use Rattle.std.proofs.Common.{refl, sym, ap, subst, ◌∙◌, arith, inl, inr, Option, Some, None, true≢false}
 use Rattle.std.specs.List.{list_any, list_all}
 use Rattle.std.proofs.lemmas.Bool.{cond_both, cond-true, cond-false, cases_lt, cases_eq, eq-eqb, ne_eqb}
-use Rattle.std.proofs.lemmas.Bool.{le-ltb, lt-ltb, and_parts, and_from, and_cases, or_cases, or_left}
+use Rattle.std.proofs.lemmas.Bool.{le-ltb, lt-ltb, and_parts, and_from, and_cases}
 use Rattle.std.proofs.lemmas.Bool.{or_right}
 use lib.Dec.{eqb, ltb}
 use Rattle.definitions.specs.Lists.{beginning, IsBeginning, Among}
@@ -11,23 +11,6 @@ use Rattle.definitions.specs.Audit.{step_after}
 use Rattle.definitions.proofs.Lists.{beginning-whole, length-added}
 
 -- ---- tests
-
--- what passes somewhere passes at an element
-pub any-found : {A : Type 0} (p : A → Bool) (xs : List A) → list_any p xs ≡ true
-    → (x : A) × Among x xs × (p x ≡ true)
-any-found p [] h = absurd (true≢false (sym h))
-any-found p (x ∷ xs) h =
-    elim (or_cases (p x) (list_any p xs) h) [
-      | inl e ↦ (x, inl refl, e)
-      | inr t ↦ let r = any-found p xs t in (r.0, inr r.1, r.2)
-    ]
-
--- where an element passes, some does
-pub any-from : {A : Type 0} (p : A → Bool) (xs : List A) (x : A) → Among x xs → p x ≡ true
-    → list_any p xs ≡ true
-any-from p [] x m h = absurd m
-any-from p (y ∷ xs) x (inl e) h = or_left (p y) (list_any p xs) (sym (ap p e) ∙ h)
-any-from p (y ∷ xs) x (inr m) h = or_right (p y) (list_any p xs) (any-from p xs x m h)
 
 -- where each element passes, all do
 pub all-from : {A : Type 0} (p : A → Bool) (xs : List A) → ((x : A) → Among x xs → p x ≡ true)

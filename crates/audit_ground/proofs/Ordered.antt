@@ -21,7 +21,8 @@ use Rattle.definitions.specs.Audit.{AreAllowed, AreFronts}
 use Rattle.definitions.proofs.Lists.{IsBeginning-beginning}
 use Rattle.definitions.proofs.Digests.{stands_for-digest}
 use Rattle.audit_ground.specs.Law.{KnownTo, IsNamed, OrderlyChroniclesAreBacked}
-use Rattle.audit_ground.proofs.Lists.{any-from, Among-beginning, step_after-beginning}
+use Rattle.definitions.proofs.Lists.{any-from}
+use Rattle.audit_ground.proofs.Lists.{Among-beginning, step_after-beginning}
 use Rattle.audit_ground.proofs.Lists.{step_after-among}
 use Rattle.definitions.proofs.Lists.{IsBeginning-trans}
 use Rattle.audit_ground.proofs.Members.{unjudged-none, each_judged-from}

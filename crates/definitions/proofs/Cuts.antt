@@ -8,6 +8,7 @@ use Rattle.ids.specs.Sizes.{replicas, quorum}
 use Rattle.definitions.specs.Frames.{Vote, Certificate}
 use Rattle.definitions.specs.FrameLimits.{IsVote, IsCertificate, IsCut, Rise}
 use Rattle.definitions.specs.Checks.{Identity, vote_verifies, counted_voters, cut, is_genesis, is_good}
+use Rattle.definitions.specs.Grounds.{IsKept}
 use Rattle.definitions.proofs.Certificates.{all-filter, rise-below, rise-rest, rise-first}
 
 -- ---- lists
@@ -71,14 +72,25 @@ IsCut-cut self q g =
     kept : List Vote
     kept = filter p q.votes
 
--- it is a certificate at these sizes, as what it was cut from is
-pub IsCertificate-cut : (self : Identity) (q : Certificate) → IsCertificate self.sizes q
-    → is_good self q ≡ true → IsCertificate self.sizes (cut self q)
+-- so of one that is kept
+pub IsCut-kept : (self : Identity) (q : Certificate) → IsKept self q → IsCut self.sizes (cut self q)
 unfolding cut
-IsCertificate-cut self q c g =
+IsCut-kept self q (inl g) = IsCut-cut self q g
+IsCut-kept self q (inr e) = inl (none q.votes e)
+  where
+    none : (vs : List Vote) → vs ≡ []
+        → length (take (quorum self.sizes) (filter (vote_verifies self q.digest) vs)) ≡ 0
+    none vs h = ap (λ (xs : List Vote). length (take (quorum self.sizes)
+        (filter (vote_verifies self q.digest) xs))) h ∙ ap (λ (xs : List Vote). length xs) (take-nil (quorum self.sizes))
+
+-- what is cut is a certificate at these sizes, as what it was cut from is
+certificate-from : (self : Identity) (q : Certificate) → IsCertificate self.sizes q
+    → IsCut self.sizes (cut self q) → IsCertificate self.sizes (cut self q)
+unfolding cut
+certificate-from self q c h =
     record {
       digest = c.digest;
-      count = few (IsCut-cut self q g);
+      count = few h;
       votes = all-cut (IsVote self.sizes) self q c.votes;
       rising = rise-take (quorum self.sizes) kept (rise-filter (vote_verifies self q.digest) q.votes c.rising);
     }
@@ -93,3 +105,13 @@ IsCertificate-cut self q c g =
         → (n ≡ 0) ⊎ ((quorum self.sizes ≤ n) × (n ≤ replicas self.sizes))
     few (inl e) = inl e
     few (inr e) = inr (omega (arith, e), omega (arith, e))
+
+-- what was kept
+pub IsCertificate-kept : (self : Identity) (q : Certificate) → IsCertificate self.sizes q
+    → IsKept self q → IsCertificate self.sizes (cut self q)
+IsCertificate-kept self q c k = certificate-from self q c (IsCut-kept self q k)
+
+-- what is good
+pub IsCertificate-cut : (self : Identity) (q : Certificate) → IsCertificate self.sizes q
+    → is_good self q ≡ true → IsCertificate self.sizes (cut self q)
+IsCertificate-cut self q c g = certificate-from self q c (IsCut-cut self q g)

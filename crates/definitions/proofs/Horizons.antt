@@ -1,13 +1,13 @@
 -- The window of a chronicle: what the rules look at stands in it, though blocks below the horizon are pruned.
 use Rattle.std.proofs.Common.{ℕ, suc, ◌≡◌, ◌≤◌, ◌+◌, ◌⊎◌, Bool, true, false, List, [], ◌∷◌, length}
 use Rattle.std.proofs.Common.{cond, true≢false, refl, sym, ap, subst, ◌∙◌, arith, inl, inr, map}
-use Rattle.std.proofs.Common.{nat_lt, Option, Some, None}
+use Rattle.std.proofs.Common.{nat_lt, Option, Some, None, ◌||◌}
 use Rattle.std.proofs.lemmas.Bool.{cond_both, cond-true, eqb-true, ltb-true, ltb-false}
-use Rattle.std.proofs.lemmas.Bool.{and_parts}
+use Rattle.std.proofs.lemmas.Bool.{and_parts, or_cases, or_parts}
 use Rattle.ids.specs.Sizes.{Sizes}
 use Rattle.definitions.proofs.Lists.{Among-after, Among-before}
 use Rattle.definitions.proofs.Branches.{highest-above, just1-extends, just2-is}
-use Rattle.definitions.proofs.Branches.{length-extends}
+use Rattle.definitions.proofs.Branches.{length-extends, branch_eq-decides}
 use Rattle.definitions.proofs.Chronicles.{executed-decided}
 use Rattle.definitions.proofs.Chronicles.{decided-cases, taken-grows, taken-now, lock-above, lock-cases}
 use Rattle.definitions.proofs.Held.{executed-tree, lock-tree}
@@ -16,16 +16,16 @@ use Rattle.definitions.proofs.Windows.{standing-grown, standing-again, standing-
 use Rattle.definitions.proofs.Windows.{standing-whole}
 use Rattle.definitions.specs.Lists.{Among}
 use Rattle.definitions.specs.Branches.{Branch, just1, just2, just3, Extends}
-use Rattle.definitions.specs.Branches.{highest}
+use Rattle.definitions.specs.Branches.{highest, branch_eq}
 use Rattle.definitions.specs.Trees.{Stored, blocks, standing, IsTree}
 use Rattle.definitions.specs.Chronicles.{Admitted, Note, Step, Step.took_block, Step.noted, Note.got_vote}
 use Rattle.definitions.specs.Chronicles.{Note.got_new_view, Note.got_request, Note.got_fetch, Note.timed_out}
-use Rattle.definitions.specs.Chronicles.{Note.beat, Note.pruned}
+use Rattle.definitions.specs.Chronicles.{Note.beat, Note.pruned, Note.seen_view, Note.led_from}
 use Rattle.definitions.specs.Chronicles.{Chronicle, taken_blocks, stored_block, stored_blocks, tree}
 use Rattle.definitions.specs.Chronicles.{decided_by, decided, decides, executed, horizon, standing_blocks}
 use Rattle.definitions.specs.Chronicles.{window, lock, IsLawfulStep, IsLawful}
 use Rattle.definitions.specs.Branches.{Block}
-use Rattle.definitions.specs.States.{Justified, raised, higher, qc_high}
+use Rattle.definitions.specs.States.{Justified, raised, fills, higher, led, qc_high}
 
 -- ---- what stands in it
 
@@ -82,6 +82,8 @@ horizon-noted (got_request r) c e = refl
 horizon-noted (got_fetch sender b) c e = refl
 horizon-noted timed_out c e = refl
 horizon-noted beat c e = refl
+horizon-noted (seen_view view sender) c e = refl
+horizon-noted (led_from b) c e = refl
 
 pub standing-noted : (n : Note) (c : Chronicle) → is_pruning n ≡ false
     → standing_blocks (noted n ∷ c) ≡ standing_blocks c
@@ -200,73 +202,130 @@ executed-locked c =
           omega (arith, k, d, l))
     ]
 
+-- the higher of two certificates is one of them, and no lower than either
+pub higher-of : (p q : Justified)
+    → (length q.block ≤ length (higher (Some p) q).block) × (length p.block ≤ length (higher (Some p) q).block)
+higher-of p q =
+    cond_both (nat_lt (length q.block) (length p.block) || fills p q) p q
+    (λ (x : Justified). (length q.block ≤ length x.block) × (length p.block ≤ length x.block))
+    (λ e. (
+      elim (or_cases _ _ e) [
+        | inl t ↦ let w = ltb-true (length q.block) (length p.block) t in omega (arith, w)
+        | inr f ↦ let same = ap (λ (b : Branch). length b)
+            ((branch_eq-decides p.block q.block).0 (and_parts _ _ (and_parts _ _ f).0).1) in omega (arith, same)
+      ],
+      omega arith,
+    ))
+    (λ e. (
+      omega arith,
+      let w = ltb-false (length q.block) (length p.block) (or_parts _ _ e).0 in omega (arith, w),
+    ))
+
 -- a certificate that comes never lowers the highest one
 pub higher-rises : (o : Option Justified) (q : Justified) → length q.block ≤ length (higher o q).block
 higher-rises None q = omega arith
-higher-rises (Some p) q = cond_both (nat_lt (length q.block) (length p.block)) p q
-    (λ (x : Justified). length q.block ≤ length x.block)
-    (λ e. let w = ltb-true (length q.block) (length p.block) e in omega (arith, w)) (λ e. omega arith)
+higher-rises (Some p) q = (higher-of p q).0
 
 higher-above : (o : Option Justified) (q : Justified) (x : Branch)
     → ((p : Justified) × (o ≡ Some p) × (p.block ≡ x)) → length x ≤ length (higher o q).block
 higher-above o q x (p, e, i) =
     subst (λ (y : Option Justified). length x ≤ length (higher y q).block) (sym e)
-    (let k = ap (λ (y : Branch). length y) i in
-    cond_both (nat_lt (length q.block) (length p.block)) p q
-    (λ (y : Justified). length x ≤ length y.block)
-    (λ t. omega (arith, k))
-    (λ t. let w = ltb-false (length q.block) (length p.block) t in omega (arith, k, w)))
+    (let k = ap (λ (y : Branch). length y) i in let h = (higher-of p q).1 in omega (arith, k, h))
+
+-- a step is a lead, or brings a certificate or none
+pub qc_high-cases : (s : Sizes) (st : Step) (c : Chronicle)
+    → ((b : Branch) × (st ≡ noted (led_from b))) ⊎ (qc_high s (st ∷ c) ≡ higher (raised s st c) (qc_high s c))
+unfolding qc_high
+qc_high-cases s (took_block a) c = inr refl
+qc_high-cases s (noted (got_vote voter v b)) c = inr refl
+qc_high-cases s (noted (got_new_view view sender q b)) c = inr refl
+qc_high-cases s (noted (got_request r)) c = inr refl
+qc_high-cases s (noted (got_fetch sender b)) c = inr refl
+qc_high-cases s (noted timed_out) c = inr refl
+qc_high-cases s (noted beat) c = inr refl
+qc_high-cases s (noted (pruned height)) c = inr refl
+qc_high-cases s (noted (seen_view view sender)) c = inr refl
+qc_high-cases s (noted (led_from b)) c = inl (b, refl)
+
+-- a lead puts the highest certificate on its block
+pub led-block : (b : Branch) (q : Justified) → (led b q).block ≡ b
+led-block b q =
+    cond_both (branch_eq q.block b) q _ (λ (x : Justified). x.block ≡ b)
+    (λ e. (branch_eq-decides q.block b).0 e) (λ e. refl)
 
 raised-taken : (s : Sizes) (a : Admitted) (c : Chronicle) → a.new ≡ true
     → raised s (took_block a) c ≡ Some (record { block = just1 a.branch; certificate = a.certificate })
 unfolding raised
 raised-taken s a c n = cond-true a.new _ _ n
 
--- what a taken block justifies is no higher than the highest certified block
-taken-certified : (s : Sizes) (c : Chronicle) (a : Admitted) → Among a (taken_blocks c)
-    → length (just1 a.branch) ≤ length (qc_high s c).block
-unfolding qc_high taken_blocks
-taken-certified s [] a m = absurd m
-taken-certified s (st ∷ c) a m =
-    elim (taken-now st c a m) [
-      | inl now ↦ higher-above (raised s st c) (qc_high s c) (just1 a.branch) (brings now.0 now.1)
-      | inr k ↦ (let h = taken-certified s c a k in let r = higher-rises (raised s st c) (qc_high s c) in
-          omega (arith, h, r))
-    ]
-  where
-    brings : st ≡ took_block a → a.new ≡ true
-        → (q : Justified) × (raised s st c ≡ Some q) × (q.block ≡ just1 a.branch)
-    brings e n = (
-      record { block = just1 a.branch; certificate = a.certificate },
-      ap (λ (x : Step). raised s x c) e ∙ raised-taken s a c n,
-      refl,
-    )
+-- what a new block justifies is no higher than the highest certified block
+taking-certified : (s : Sizes) (a : Admitted) (c : Chronicle) → a.new ≡ true
+    → length (just1 a.branch) ≤ length (qc_high s (took_block a ∷ c)).block
+unfolding qc_high
+taking-certified s a c n =
+    higher-above (raised s (took_block a) c) (qc_high s c) (just1 a.branch)
+    (record { block = just1 a.branch; certificate = a.certificate }, raised-taken s a c n, refl)
 
--- nor is the lock
-pub lock-certified : (s : Sizes) (c : Chronicle) → length (lock c) ≤ length (qc_high s c).block
-lock-certified s c =
-    elim (lock-cases c) [
+-- a lead puts the highest certificate on its block
+pub led-high : (s : Sizes) (b : Branch) (c : Chronicle) → (qc_high s (noted (led_from b) ∷ c)).block ≡ b
+unfolding qc_high
+led-high s b c = led-block b (qc_high s c)
+
+-- a lawful step leaves the highest certified block above what was no higher than it and the lock
+high-stays : (s : Sizes) (st : Step) (c : Chronicle) → IsLawfulStep s st c → (n : ℕ) → n ≤ length (lock c)
+    → n ≤ length (qc_high s c).block → n ≤ length (qc_high s (st ∷ c)).block
+high-stays s st c law n low high =
+    elim (qc_high-cases s st c) [
+      | inl led ↦
+          let own : length (lock c) ≤ length led.0 = subst (λ (x : Step). IsLawfulStep s x c) led.1 law in
+          subst (λ (x : Step). n ≤ length (qc_high s (x ∷ c)).block) (sym led.1)
+          (let e = ap (λ (b : Branch). length b) (led-high s led.0 c) in omega (arith, e, own, low))
+      | inr e ↦
+          let r = higher-rises (raised s st c) (qc_high s c) in
+          let k = ap (λ (q : Justified). length q.block) e in
+          omega (arith, r, k, high)
+    ]
+
+-- the lock is no higher than the highest certified block
+pub lock-certified : (s : Sizes) (c : Chronicle) → IsLawful s c
+    → length (lock c) ≤ length (qc_high s c).block
+unfolding taken_blocks lock highest
+lock-certified s [] l = omega arith
+lock-certified s (st ∷ c) l =
+    elim (lock-cases (st ∷ c)) [
       | inl e ↦ (let k = ap (λ (x : Branch). length x) e in omega (arith, k))
       | inr r ↦ (
           let k = ap (λ (x : Branch). length x) r.2 in
-          let below = length-extends (just1 r.0.branch) (just2 r.0.branch)
-          (subst (λ (x : Branch). Extends (just1 r.0.branch) x) (just2-is r.0.branch)
-          (just1-extends (just1 r.0.branch))) in
-          let h = taken-certified s c r.0 r.1 in
-          omega (arith, k, below, h))
+          elim (taken-now st c r.0 r.1) [
+            | inl now ↦ (
+                let below = length-extends (just1 r.0.branch) (just2 r.0.branch)
+                (subst (λ (x : Branch). Extends (just1 r.0.branch) x) (just2-is r.0.branch)
+                (just1-extends (just1 r.0.branch))) in
+                let h = subst (λ (x : Step). length (just1 r.0.branch) ≤ length (qc_high s (x ∷ c)).block)
+                (sym now.0) (taking-certified s r.0 c now.1) in
+                omega (arith, k, below, h))
+            | inr m ↦ (
+                let old = lock-above c r.0 m in
+                let rest = lock-certified s c l.1 in
+                let h = high-stays s st c l.0 (length (just2 r.0.branch)) old (omega (arith, old, rest)) in
+                omega (arith, k, h))
+          ])
     ]
 
 -- so the horizon is no higher than the highest certified block
-pub horizon-certified : (s : Sizes) (c : Chronicle) → horizon c ≤ length (qc_high s c).block
-horizon-certified s c =
-    let h = horizon-low c in let e = executed-locked c in let l = lock-certified s c in omega (arith, h, e, l)
+pub horizon-certified : (s : Sizes) (c : Chronicle) → IsLawful s c → horizon c ≤ length (qc_high s c).block
+horizon-certified s c law =
+    let h = horizon-low c in
+    let e = executed-locked c in
+    let l = lock-certified s c law in
+    omega (arith, h, e, l)
 
 -- ---- what the rules look at stands in the window
 
 -- a block that is no lower than the highest certified one
-pub high-window : (s : Sizes) (c : Chronicle) (x : Branch) → Among x (tree c)
+pub high-window : (s : Sizes) (c : Chronicle) → IsLawful s c → (x : Branch) → Among x (tree c)
     → length (qc_high s c).block ≤ length x → Among x (window c)
-high-window s c x m l = tree-window c x m (let h = horizon-certified s c in omega (arith, h, l))
+high-window s c law x m l = tree-window c x m (let h = horizon-certified s c law in omega (arith, h, l))
 
 -- the last executed block
 pub executed-window : (s : Sizes) (c : Chronicle) → IsLawful s c → Among (executed c) (window c)

@@ -2,8 +2,8 @@ use Rattle.std.proofs.Common.{ℕ, suc, ◌≡◌, ◌≤◌, ◌⊎◌, Bool, t
 use Rattle.std.proofs.Common.{refl, sym, ap, subst, ◌∙◌, arith, inl, inr, find, Some, None, true≢false, map}
 use Rattle.std.proofs.Common.{filter, reverse, zero, take, ltb, append_assoc}
 use Rattle.std.proofs.lemmas.Bool.{cond_both, ltb-true, ltb-false, cond-true, cond-false, lt-ltb, le-ltb}
-use Rattle.std.proofs.lemmas.Bool.{and_parts}
-use Rattle.std.specs.List.{list_all, AllByRecursion}
+use Rattle.std.proofs.lemmas.Bool.{and_parts, or_cases, or_left, or_right}
+use Rattle.std.specs.List.{list_all, list_any, AllByRecursion}
 use lib.Dec.{ltb}
 use Rattle.definitions.specs.Lists.{beginning, IsBeginning, Among, greatest}
 use mathlib.Core.List.{reverse_aux}
@@ -176,3 +176,20 @@ Among-take (suc n) (y ∷ xs) x (inr m) = inr (Among-take n xs x m)
 pub IsBeginning-trans : {A : Type 0} (a b c : List A) → IsBeginning a b → IsBeginning b c → IsBeginning a c
 IsBeginning-trans {A} a b c h k =
     (k.0 ++ h.0, append_assoc k.0 h.0 a ∙ (ap (λ (l : List A). k.0 ++ l) h.1 ∙ k.1))
+
+-- what passes somewhere passes at an element
+pub any-found : {A : Type 0} (p : A → Bool) (xs : List A) → list_any p xs ≡ true
+    → (x : A) × Among x xs × (p x ≡ true)
+any-found p [] h = absurd (true≢false (sym h))
+any-found p (x ∷ xs) h =
+    elim (or_cases (p x) (list_any p xs) h) [
+      | inl e ↦ (x, inl refl, e)
+      | inr t ↦ let r = any-found p xs t in (r.0, inr r.1, r.2)
+    ]
+
+-- where an element passes, some does
+pub any-from : {A : Type 0} (p : A → Bool) (xs : List A) (x : A) → Among x xs → p x ≡ true
+    → list_any p xs ≡ true
+any-from p [] x m h = absurd m
+any-from p (y ∷ xs) x (inl e) h = or_left (p y) (list_any p xs) (sym (ap p e) ∙ h)
+any-from p (y ∷ xs) x (inr m) h = or_right (p y) (list_any p xs) (any-from p xs x m h)

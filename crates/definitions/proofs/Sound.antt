@@ -6,11 +6,12 @@ use Rattle.ids.specs.declared.fault.Fault.{Fault}
 use Rattle.ids.specs.declared.fault.Fault.TheVariants as fault
 use Rattle.std.proofs.Common.{ℕ, suc, ◌≡◌, ◌<◌, ◌≤◌, ◌⊎◌, ◌&&◌, not, Bool, true, false, List, [], ◌∷◌}
 use Rattle.std.proofs.Common.{length, cond, refl, sym, ap, subst, ◌∙◌, arith, inl, inr, map, Option, Some}
-use Rattle.std.proofs.Common.{None, true≢false, nat_lt, ◌+◌, min, filter, if◌then◌else◌}
+use Rattle.std.proofs.Common.{None, true≢false, ◌==◌, nat_lt, ◌+◌, min, filter, if◌then◌else◌}
 use Rattle.std.specs.Bool.{⊤}
-use Rattle.std.specs.List.{list_any, AllByRecursion}
+use Rattle.std.specs.List.{list_any, list_all, AllByRecursion}
 use Rattle.std.proofs.lemmas.Bool.{and_parts, and_from, or_cases, or_left, or_right, cond_both, ltb-true}
-use Rattle.std.proofs.lemmas.Bool.{ltb-false, cases_Bool, cond-true, cond-false}
+use Rattle.std.proofs.lemmas.Bool.{ltb-false, leb-true, cases_Bool, cond-true, cond-false, not-true, eq-eqb}
+use Rattle.definitions.proofs.Lists.{any-found, any-from, Among-map, Among-filter}
 use lib.Dec.{ltb}
 use Rattle.definitions.specs.Lists.{Among, AreDistinct}
 use Rattle.definitions.specs.Frames.{Command, Core, Vote, Certificate}
@@ -21,7 +22,8 @@ use Rattle.definitions.specs.Digests.{digest, digest_of}
 use Rattle.definitions.specs.Trees.{Stored, blocks, is_in_reach, block_of, is_clear, clear_above, Placing}
 use Rattle.definitions.specs.Trees.{Placing.stands}
 use Rattle.definitions.specs.Trees.{Placing.grows, Placing.lacks_parent, Placing.unfit, placing, IsTree}
-use Rattle.definitions.proofs.Trees.{same_bytes, found-in, unfit-calm, IsPlaced, placed, tree-below}
+use Rattle.definitions.proofs.Trees.{same_bytes, found-in, unfit-calm, IsPlaced, IsGrowth, placed}
+use Rattle.definitions.proofs.Trees.{tree-below}
 use Rattle.definitions.proofs.Trees.{growth-tree, growth-new}
 use Rattle.definitions.proofs.Horizons.{window-tree, tree-window, window-grown, pruned-tree, pruned-fewer}
 use Rattle.definitions.specs.Chronicles.{Admitted, Step, Step.took_block, Step.noted, Note.got_vote}
@@ -30,11 +32,17 @@ use Rattle.definitions.specs.Chronicles.{Note.pruned, Chronicle, taken_blocks, s
 use Rattle.definitions.specs.Chronicles.{tree, lock, history, horizon, standing_blocks, window, is_safe}
 use Rattle.definitions.specs.Chronicles.{HasGrounds, HasGrounds.by_genesis, HasGrounds.by_votes}
 use Rattle.definitions.specs.Chronicles.{IsLawfulVote, IsLawfulStep, AreKnown, IsSound}
+use Rattle.definitions.specs.Chronicles.{Note.seen_view, Note.led_from, AreReplicas}
+use Rattle.definitions.specs.Chronicles.{HasGrounds.by_take, HasGrounds.by_senders}
+use Rattle.definitions.specs.Grounds.{are_distinct, are_replicas, is_justified, own_counted}
+use Rattle.definitions.specs.Grounds.{is_own_certified, without_votes, grounded, may_lead_from}
 use Rattle.definitions.specs.Checks.{Identity, Findings, is_genesis}
-use Rattle.definitions.specs.States.{find_block, is_due, pending, is_same_request}
+use Rattle.definitions.specs.States.{qc_high, find_block, is_due, pending, is_same_request}
 use Rattle.definitions.specs.Rulings.{Input, Input.proposal_in, Input.block_in, Input.vote_in}
 use Rattle.definitions.specs.Rulings.{Input.new_view_in, Input.request_in, Input.fetch_in, Input.timeout_in}
-use Rattle.definitions.specs.Rulings.{Input.beat_in, Input.prune_in, Ruling, Ruling.due, Ruling.missing}
+use Rattle.definitions.specs.Rulings.{Input.beat_in, Input.prune_in, Input.offered_in, Input.relayed_in}
+use Rattle.definitions.specs.Rulings.{Input.lead_in, Input.ask_in, Input.view_in, take_grounded, on_offer}
+use Rattle.definitions.specs.Rulings.{on_relay, lead, Ruling, Ruling.due, Ruling.missing}
 use Rattle.definitions.specs.Rulings.{Ruling.refusing}
 use Rattle.definitions.specs.Rulings.{admitted, votes_for, take_block, on_placing, on_block, on_request}
 use Rattle.definitions.specs.Rulings.{conflicts, with_block, ruling}
@@ -83,6 +91,8 @@ pub record IsChecked (sizes : Sizes) (core : Core) (q : Certificate) (f : Findin
 abbrev pub IsCheckedInput : Sizes → Input → Type 0
 IsCheckedInput sizes (proposal_in w core q f) = IsChecked sizes core q f
 IsCheckedInput sizes (block_in sender core q f) = IsChecked sizes core q f
+IsCheckedInput sizes (offered_in w sender core q f) = core.justify_height < core.height
+IsCheckedInput sizes (relayed_in senders core q f) = core.justify_height < core.height
 IsCheckedInput sizes i = ⊤
 
 -- a clear block was taken as one
@@ -212,47 +222,59 @@ certified sizes core q f j c h t tr m ch e =
       | inr k ↦ by_votes (ch.distinct, ch.voters, k)
     ]
 
--- a new block that passes the tests
-new-step : (self : Identity) (w : Option ℕ) (parent : Branch) (core : Core) (q : Certificate) (f : Findings)
-    (c : Chronicle) → IsSound self.sizes c → IsTree (horizon c) ((block_of core ∷ parent) ∷ window c)
-    → (Among (block_of core ∷ parent) (tree c) → ⊥) → Among parent (tree c) → IsChecked self.sizes core q f
-    → q.digest ≡ digest_of (just1 (block_of core ∷ parent)) → length (window c) < MOST_BLOCKS
-    → length (block_of core ∷ parent) < HEIGHT_LIMIT → horizon c ≤ core.justify_height →
+-- a block as it is admitted, with this certificate, these counted voters and these senders
+abbrev with_evidence : Admitted → Certificate → List ℕ → List ℕ → Admitted
+with_evidence a q counted senders = record a { certificate = q; counted = counted; senders = senders }
+
+-- a new block whose place was tested
+record IsNewBlock (core : Core) (parent : Branch) (c : Chronicle) : Type 0 where
+  is_tree : IsTree (horizon c) ((block_of core ∷ parent) ∷ window c)
+  fresh : Among (block_of core ∷ parent) (tree c) → ⊥
+  stands : Among parent (tree c)
+  room : length (window c) < MOST_BLOCKS
+  low : length (block_of core ∷ parent) < HEIGHT_LIMIT
+  above : horizon c ≤ core.justify_height
+
+-- a new block that passes the tests, and justifies what has grounds
+new-step : (self : Identity) (w : Option ℕ) (parent : Branch) (core : Core) (q r : Certificate) (f : Findings)
+    (counted senders : List ℕ) (c : Chronicle) → IsSound self.sizes c → IsNewBlock core parent c
+    → HasGrounds self.sizes (just1 (block_of core ∷ parent)) counted senders c →
     OnStands (λ st. IsSound self.sizes (st ∷ c))
-    (take_block self w (admitted (block_of core ∷ parent) core q f true) c)
+    (take_block self w
+    (with_evidence (admitted (block_of core ∷ parent) core q f true) r counted senders) c)
 unfolding admitted tree window stored_blocks taken_blocks horizon
-new-step self w parent core q f c so tr fresh m ch e room low above = record {
-  is_tree = subst (IsTree (horizon c)) (sym grown) tr;
+new-step self w parent core q r f counted senders c so is grounds = record {
+  is_tree = subst (IsTree (horizon c)) (sym grown) is.is_tree;
   lawful = (
     (
-      λ v. vote-lawful self.sizes w (admitted (block_of core ∷ parent) core q f true) c
-          (tr.branches _ (inl refl)) (inl refl) v,
+      λ v. vote-lawful self.sizes w a c branch (inl refl) v,
       λ n. record {
-        new = fresh;
-        parent = (block_of core, parent, refl, (tr.branches _ (inl refl)).0, m);
-        certified = certified self.sizes core q f (just1 (block_of core ∷ parent)) c (horizon c) _ tr
-            (tree-below (horizon c) _ tr (block_of core ∷ parent) _ (inl refl) (just1-extends _)
-            (let k = length-just1 (block_of core) parent branch in omega (arith, k, above))) ch e;
+        new = is.fresh;
+        parent = (block_of core, parent, refl, branch.0, is.stands);
+        certified = grounds;
       },
     ),
     so.lawful,
   );
   known = so.known;
-  bounded = subst (λ (t : List Branch). length t ≤ MOST_BLOCKS) (sym grown) (omega (arith, room));
+  bounded = subst (λ (t : List Branch). length t ≤ MOST_BLOCKS) (sym grown)
+      (let room = is.room in omega (arith, room));
   heights = heights;
 }
   where
-    branch : IsBranch (block_of core ∷ parent)
-    branch = tr.branches (block_of core ∷ parent) (inl refl)
+    a : Admitted
+    a = with_evidence (admitted (block_of core ∷ parent) core q f true) r counted senders
 
-    grown : window (took_block (record (admitted (block_of core ∷ parent) core q f true)
-        { voted = votes_for self.sizes w (admitted (block_of core ∷ parent) core q f true) c }) ∷ c)
+    branch : IsBranch (block_of core ∷ parent)
+    branch = is.is_tree.branches (block_of core ∷ parent) (inl refl)
+
+    grown : window (took_block (record a { voted = votes_for self.sizes w a c }) ∷ c)
         ≡ (block_of core ∷ parent) ∷ window c
     grown = ap (λ (xs : List Stored). blocks xs)
-        (window-grown _ c refl (let k = branch.0 in omega (arith, k, above)))
+        (window-grown _ c refl (let k = branch.0 in let above = is.above in omega (arith, k, above)))
 
     heights : (x : Branch) → Among x ((block_of core ∷ parent) ∷ tree c) → length x < HEIGHT_LIMIT
-    heights x (inl i) = subst (λ (y : Branch). length y < HEIGHT_LIMIT) (sym i) low
+    heights x (inl i) = subst (λ (y : Branch). length y < HEIGHT_LIMIT) (sym i) is.low
     heights x (inr k) = so.heights x k
 
 abbrev pub Keeps : Identity → Chronicle → Ruling → Type 0
@@ -267,39 +289,64 @@ pub found : (d : Bytes) (c : Chronicle) (b : Branch) → find_block d c ≡ Some
     → Among b (tree c) × (digest_of b ≡ d)
 found d c b e = let r = found-standing d c b e in (window-tree c b r.0, r.1)
 
+-- a block that stands in the tree, with or without a vote
+stands-sound : (self : Identity) (w : Option ℕ) (core : Core) (q r : Certificate) (f : Findings)
+    (counted : List ℕ) (c : Chronicle) → IsSound self.sizes c → (b : Branch) → Among b (window c)
+    → Keeps self c (take_block self w (with_evidence (admitted b core q f false) r counted []) c)
+unfolding admitted tree window standing_blocks stored_blocks taken_blocks horizon
+stands-sound self w core q r f counted c so b m = record {
+  is_tree = so.is_tree;
+  lawful = (
+    (
+      λ v. vote-lawful self.sizes w (with_evidence (admitted b core q f false) r counted []) c
+          (so.is_tree.branches b m) (window-tree c b m) v,
+      λ n. absurd (true≢false (sym n)),
+    ),
+    so.lawful,
+  );
+  known = so.known;
+  bounded = so.bounded;
+  heights = so.heights;
+}
+
+-- what the tests of a new block's place say
+new-placed : (sizes : Sizes) (core : Core) (q : Certificate) (c : Chronicle) → IsSound sizes c
+    → core.justify_height < core.height → (b parent : Branch)
+    → IsGrowth (horizon c) MOST_BLOCKS core q (window c) b parent → IsNewBlock core parent c
+new-placed sizes core q c so below b parent g = record {
+  is_tree = subst (λ (x : Branch). IsTree (horizon c) (x ∷ window c)) g.is
+      (growth-tree (horizon c) MOST_BLOCKS core q (window c) b parent so.is_tree below g);
+  fresh = λ k. growth-new (horizon c) MOST_BLOCKS core q (window c) b parent g
+      (subst (λ (x : Branch). Among x (window c)) (sym g.is) (tree-window c (block_of core ∷ parent) k
+      (let above = g.above in let height = g.height in omega (arith, above, below, height))));
+  stands = window-tree c parent (found-in core.parent (window c) parent g.parent_found).0;
+  room = g.room;
+  low = g.low;
+  above = g.above;
+}
+
+-- what it justifies stands in the tree with it
+justified-stands : (core : Core) (parent : Branch) (c : Chronicle) → IsNewBlock core parent c
+    → Among (just1 (block_of core ∷ parent)) ((block_of core ∷ parent) ∷ window c)
+justified-stands core parent c is =
+    tree-below (horizon c) _ is.is_tree (block_of core ∷ parent) _ (inl refl) (just1-extends _)
+    (let k = length-just1 (block_of core) parent (is.is_tree.branches _ (inl refl)) in
+    let above = is.above in omega (arith, k, above))
+
 placed-sound : (self : Identity) (w : Option ℕ) (sender : ℕ) (core : Core) (q : Certificate) (f : Findings)
     (c : Chronicle) → IsChecked self.sizes core q f → IsSound self.sizes c → (p : Placing)
     → IsPlaced (horizon c) MOST_BLOCKS core q (window c) p
     → Keeps self c (on_placing self w sender core q f c p)
-unfolding on_placing admitted tree window standing_blocks stored_blocks taken_blocks horizon
+unfolding on_placing admitted
 placed-sound self w sender core q f c ch so (stands b) h =
-    let m = (found-in (digest core) (window c) b h.0).0 in
-    record {
-      is_tree = so.is_tree;
-      lawful = (
-        (
-          λ v. vote-lawful self.sizes w (admitted b core q f false) c (so.is_tree.branches b m)
-              (window-tree c b m) v,
-          λ n. absurd (true≢false (sym n)),
-        ),
-        so.lawful,
-      );
-      known = so.known;
-      bounded = so.bounded;
-      heights = so.heights;
-    }
+    stands-sound self w core q q f f.counted c so b (found-in (digest core) (window c) b h.0).0
 placed-sound self w sender core q f c ch so (grows b) (parent, g) =
+    let is = new-placed self.sizes core q c so ch.below b parent g in
     subst (λ (x : Branch). OnStands (λ st. IsSound self.sizes (st ∷ c))
     (take_block self w (admitted x core q f true) c)) (sym g.is)
-    (new-step self w parent core q f c so
-    (subst (λ (x : Branch). IsTree (horizon c) (x ∷ window c)) g.is
-    (growth-tree (horizon c) MOST_BLOCKS core q (window c) b parent so.is_tree ch.below g))
-    (λ k. growth-new (horizon c) MOST_BLOCKS core q (window c) b parent g
-    (subst (λ (x : Branch). Among x (window c)) (sym g.is) (tree-window c (block_of core ∷ parent) k
-    (let above = g.above in let below = ch.below in let height = g.height in
-    omega (arith, above, below, height)))))
-    (window-tree c parent (found-in core.parent (window c) parent g.parent_found).0) ch g.justified g.room
-    g.low g.above)
+    (new-step self w parent core q q f f.counted [] c so is
+    (certified self.sizes core q f (just1 (block_of core ∷ parent)) c (horizon c) _ is.is_tree
+    (justified-stands core parent c is) ch g.justified))
 placed-sound self w sender core q f c ch so lacks_parent h = tt
 placed-sound self w sender core q f c ch so (unfit n) h = unfit-calm n h
 
@@ -309,6 +356,91 @@ block-sound : (self : Identity) (w : Option ℕ) (sender : ℕ) (core : Core) (q
 block-sound self w sender core q f c ch so =
     placed-sound self w sender core q f c ch so (placing (horizon c) MOST_BLOCKS core q (window c))
     (placed (horizon c) MOST_BLOCKS core q (window c))
+
+-- ---- on grounds
+
+-- numbers that pass the test are distinct replicas
+distinct-from : (vs : List ℕ) → are_distinct vs ≡ true → AreDistinct vs
+unfolding are_distinct
+distinct-from [] h = tt
+distinct-from (x ∷ xs) h =
+    let p = and_parts _ _ h in (
+      λ m. true≢false (sym (any-from (λ (y : ℕ). y == x) xs x m (eq-eqb x x refl)) ∙ not-true _ p.0),
+      distinct-from xs p.1,
+    )
+
+below-from : (n : ℕ) (vs : List ℕ) → list_all (λ v. nat_lt v n) vs ≡ true → AllByRecursion (λ v. v < n) vs
+below-from n [] h = tt
+below-from n (x ∷ xs) h = let p = and_parts _ _ h in (ltb-true x n p.0, below-from n xs p.1)
+
+pub replicas-from : (s : Sizes) (least : ℕ) (vs : List ℕ) → are_replicas s least vs ≡ true
+    → AreReplicas s least vs
+unfolding are_replicas
+replicas-from s least vs h =
+    let p = and_parts _ _ h in
+    let r = and_parts _ _ p.1 in
+    (distinct-from vs p.0, below-from (replicas s) vs r.0, leb-true least (length vs) r.1)
+
+-- a block of the tree that justifies b was taken
+justified-taken : (b : Branch) (c : Chronicle) → is_justified b c ≡ true
+    → (a : Admitted) × Among a (taken_blocks c) × (just1 a.branch ≡ b)
+unfolding is_justified standing_blocks stored_blocks
+justified-taken b c h =
+    let s = any-found (λ (x : Stored). branch_eq (just1 x.branch) b) (standing_blocks c) h in
+    let m = Among-map stored_block (taken_blocks c) s.0
+    (Among-filter (λ (x : Stored). is_in_reach (horizon c) x.branch) (stored_blocks c) s.0 s.1).0 in
+    (m.0, m.1, ap (λ (x : Stored). just1 x.branch) (sym m.2) ∙ (branch_eq-decides (just1 s.0.branch) b).0 s.2)
+
+-- a block that is taken on grounds
+grounded-sound : (self : Identity) (w : Option ℕ) (parent : Branch) (core : Core) (q : Certificate)
+    (f : Findings) (c : Chronicle) → IsSound self.sizes c → IsNewBlock core parent c → Keeps self c
+    (take_grounded self w (grounded self (admitted (block_of core ∷ parent) core q f true) c) c)
+unfolding grounded is_own_certified admitted
+grounded-sound self w parent core q f c so is =
+    let b : Branch = block_of core ∷ parent in
+    let P : Option Admitted → Type 0 = λ o. Keeps self c (take_grounded self w o c) in
+    cond_both (is_justified (just1 b) c) _ _ P
+    (λ t.
+    let x = justified-taken (just1 b) c t in
+    new-step self w parent core q (without_votes q) f [] [] c so is (by_take x.0 x.1 x.2))
+    (λ n. cond_both (branch_eq (qc_high self.sizes c).block (just1 b)
+    && are_replicas self.sizes (quorum self.sizes) (own_counted self c)) _ _ P
+    (λ t. new-step self w parent core q (qc_high self.sizes c).certificate f (own_counted self c) [] c so is
+    (by_votes (replicas-from self.sizes (quorum self.sizes) (own_counted self c) (and_parts _ _ t).1)))
+    (λ e k. cc))
+
+offer-sound : (self : Identity) (w : Option ℕ) (sender : ℕ) (core : Core) (q : Certificate) (f : Findings)
+    (c : Chronicle) → core.justify_height < core.height → IsSound self.sizes c → (p : Placing)
+    → IsPlaced (horizon c) MOST_BLOCKS core q (window c) p
+    → Keeps self c (on_offer self w sender core q f c p)
+unfolding on_offer admitted
+offer-sound self w sender core q f c below so (stands b) h =
+    stands-sound self w core q (without_votes q) f [] c so b (found-in (digest core) (window c) b h.0).0
+offer-sound self w sender core q f c below so (grows b) (parent, g) =
+    subst (λ (x : Branch). Keeps self c
+    (take_grounded self w (grounded self (admitted x core q f true) c) c)) (sym g.is)
+    (grounded-sound self w parent core q f c so (new-placed self.sizes core q c so below b parent g))
+offer-sound self w sender core q f c below so lacks_parent h = tt
+offer-sound self w sender core q f c below so (unfit n) h = unfit-calm n h
+
+-- a block that several replicas sent
+relay-sound : (self : Identity) (senders : List ℕ) (core : Core) (q : Certificate) (f : Findings)
+    (c : Chronicle) → core.justify_height < core.height → IsSound self.sizes c → (p : Placing)
+    → IsPlaced (horizon c) MOST_BLOCKS core q (window c) p
+    → Keeps self c (on_relay self senders core q f c p)
+unfolding on_relay admitted
+relay-sound self senders core q f c below so (stands b) h =
+    stands-sound self None core q (without_votes q) f [] c so b (found-in (digest core) (window c) b h.0).0
+relay-sound self senders core q f c below so (grows b) (parent, g) =
+    cond_both (are_replicas self.sizes (suc self.sizes.faults) senders) _ _ (Keeps self c)
+    (λ t. subst (λ (x : Branch). Keeps self c (take_block self None
+    (with_evidence (admitted x core q f true) (without_votes q) [] senders) c)) (sym g.is)
+    (new-step self None parent core q (without_votes q) f [] senders c so
+    (new-placed self.sizes core q c so below b parent g)
+    (by_senders (replicas-from self.sizes (suc self.sizes.faults) senders t))))
+    (λ e k. cc)
+relay-sound self senders core q f c below so lacks_parent h = λ k. cc
+relay-sound self senders core q f c below so (unfit n) h = unfit-calm n h
 
 -- a step that takes no block
 other-sound : (need : Sizes) (c : Chronicle) (st : Step) → tree (st ∷ c) ≡ tree c
@@ -351,6 +483,17 @@ new_view-sound self w sender q c so None e = tt
 new_view-sound self w sender q c so (Some x) e =
     other-sound _ c _ refl refl refl tt ((found q.digest c x e).0, so.known) so
 
+-- a lead
+lead-sound : (self : Identity) (d : Bytes) (c : Chronicle) → IsSound self.sizes c → (o : Option Branch)
+    → find_block d c ≡ o → Keeps self c (lead self o c)
+unfolding tree window standing_blocks stored_blocks taken_blocks horizon may_lead_from
+lead-sound self d c so None e = λ k. cc
+lead-sound self d c so (Some b) e =
+    cond_both (may_lead_from self b c) _ _ (Keeps self c)
+    (λ t. other-sound _ c (noted (led_from b)) refl refl refl
+    (leb-true (length (lock c)) (length b) (and_parts _ _ t).0) ((found d c b e).0, so.known) so)
+    (λ f k. cc)
+
 request-sound : (self : Identity) (r : Command) (c : Chronicle) → IsSound self.sizes c
     → Keeps self c (on_request r c)
 unfolding tree window standing_blocks stored_blocks taken_blocks horizon on_request
@@ -374,6 +517,16 @@ ruling-sound self (fetch_in sender d) c ch so = other-sound _ c _ refl refl refl
 ruling-sound self timeout_in c ch so = other-sound _ c (noted timed_out) refl refl refl tt so.known so
 ruling-sound self beat_in c ch so = other-sound _ c (noted beat) refl refl refl tt so.known so
 ruling-sound self (prune_in height) c ch so = pruned-sound self.sizes c height so
+ruling-sound self (offered_in w sender core q f) c ch so =
+    offer-sound self w sender core q f c ch so (placing (horizon c) MOST_BLOCKS core q (window c))
+    (placed (horizon c) MOST_BLOCKS core q (window c))
+ruling-sound self (relayed_in senders core q f) c ch so =
+    relay-sound self senders core q f c ch so (placing (horizon c) MOST_BLOCKS core q (window c))
+    (placed (horizon c) MOST_BLOCKS core q (window c))
+ruling-sound self (lead_in d) c ch so = lead-sound self d c so _ refl
+ruling-sound self (ask_in replica d) c ch so = tt
+ruling-sound self (view_in w sender) c ch so =
+    other-sound _ c (noted (seen_view w sender)) refl refl refl tt so.known so
 
 -- ---- the whole step
 

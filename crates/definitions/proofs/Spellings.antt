@@ -11,9 +11,11 @@ use Rattle.ids.specs.declared.kind.Kind.{Kind}
 use Rattle.ids.specs.declared.kind.Kind.TheVariants as kind
 use Rattle.ids.specs.Numbers.{kind_number}
 use Rattle.definitions.specs.Bytes.{Bytes}
-use Rattle.definitions.specs.Frames.{Core, Certificate, Frame, request, proposal, vote, new_view, reply}
+use Rattle.definitions.specs.Digests.{digest}
+use Rattle.sha2.specs.Sha256.{sha256}
+use Rattle.definitions.specs.Frames.{Command, Core, Certificate, Frame, request, proposal, vote, new_view, reply}
 use Rattle.definitions.specs.Frames.{fetch, block, command_content, command_bytes, core_bytes, vote_bytes}
-use Rattle.definitions.specs.Frames.{certificate_bytes, reply_content, kind_of, old_spelling, spelling}
+use Rattle.definitions.specs.Frames.{block_content, certificate_bytes, reply_content, kind_of, old_spelling, spelling}
 use Rattle.definitions.specs.FrameLimits.{IsCommand, IsCore, IsVote, IsCertificate, IsFrame, Spells}
 use Rattle.definitions.specs.FrameLimits.{IsReadAs}
 use Rattle.ids.specs.declared.limits.TheConstants.{VERSION_TWO}
@@ -128,6 +130,63 @@ core_end k =
 -- the bytes of a core are its parent and then these
 core_bytes-append : (k : Core) (s : Bytes) → core_bytes k ++ s ≡ k.parent ++ (core_end k ++ s)
 core_bytes-append k s = simp append_assoc
+
+-- the bytes of a number of this width, with others behind them, determine themselves, and the others
+bytes_parts : (w : Width) (m n : ℕ) (s t : Bytes) → to_be_bytes w m ++ s ≡ to_be_bytes w n ++ t
+    → (to_be_bytes w m ≡ to_be_bytes w n) × (s ≡ t)
+bytes_parts w m n s t e =
+    append_parts (to_be_bytes w m) (to_be_bytes w n) s t
+    (length-bytes_high_first (byte_len w) m ∙ sym (length-bytes_high_first (byte_len w) n)) e
+
+-- so do the bytes of a command, at any sizes
+command_parts : (sizes : Sizes) (c d : Command) (s t : Bytes) → IsCommand sizes c → IsCommand sizes d
+    → command_bytes c ++ s ≡ command_bytes d ++ t → (command_bytes c ≡ command_bytes d) × (s ≡ t)
+command_parts sizes c d s t hc hd e =
+    let client = bytes_parts w16 c.client d.client _ _ e in
+    let seq = bytes_parts w64 c.seq d.seq _ _ client.1 in
+    let size = to_be_bytes_parts w16 (length c.payload) (length d.payload) ((c.payload ++ c.vector) ++ s)
+    ((d.payload ++ d.vector) ++ t) (from_be_bytes-to_be_bytes_2 (length c.payload) (omega (arith, hc.payload)))
+    (from_be_bytes-to_be_bytes_2 (length d.payload) (omega (arith, hd.payload))) seq.1 in
+    let payload = append_parts c.payload d.payload (c.vector ++ s) (d.vector ++ t) size.0
+    (sym (append_assoc c.payload c.vector s) ∙ (size.1 ∙ append_assoc d.payload d.vector t)) in
+    let vector = append_parts c.vector d.vector s t (hc.vector ∙ sym hd.vector) payload.1 in (
+      (λ i. (client.0 i ++ (seq.0 i ++ (to_be_bytes w16 (length (payload.0 i)) ++ payload.0 i))) ++ vector.0 i),
+      vector.1,
+    )
+
+-- and those of as many commands
+commands_parts : (sizes : Sizes) (xs ys : List Command) (s t : Bytes) → AllByRecursion (IsCommand sizes) xs
+    → AllByRecursion (IsCommand sizes) ys → length xs ≡ length ys
+    → flat_map command_bytes xs ++ s ≡ flat_map command_bytes ys ++ t
+    → (flat_map command_bytes xs ≡ flat_map command_bytes ys) × (s ≡ t)
+commands_parts sizes [] [] s t hx hy same e = (refl, e)
+commands_parts sizes [] (y ∷ ys) s t hx hy same e = absurd cc
+commands_parts sizes (x ∷ xs) [] s t hx hy same e = absurd cc
+commands_parts sizes (x ∷ xs) (y ∷ ys) s t hx hy same e =
+    let here = command_parts sizes x y (flat_map command_bytes xs ++ s) (flat_map command_bytes ys ++ t) hx.0
+    hy.0
+    (sym (append_assoc (command_bytes x) (flat_map command_bytes xs) s)
+    ∙ (e ∙ append_assoc (command_bytes y) (flat_map command_bytes ys) t)) in
+    let rest = commands_parts sizes xs ys s t hx.1 hy.1 (cc) here.1 in
+    ((λ i. here.0 i ++ rest.0 i), rest.1)
+
+-- what a block's tag speaks of determines the block's digest, at any sizes
+pub block_content-digest : (sizes : Sizes) (a b : ℕ) (k l : Core) (q r : Certificate) → IsCore sizes k
+    → IsCore sizes l → block_content a k q ≡ block_content b l r → digest k ≡ digest l
+unfolding digest
+block_content-digest sizes a b k l q r hk hl e =
+    let number = bytes_parts w16 a b (core_bytes k ++ certificate_bytes q) (core_bytes l ++ certificate_bytes r)
+    e in
+    let parent = append_parts k.parent l.parent (core_end k ++ certificate_bytes q)
+    (core_end l ++ certificate_bytes r) (hk.parent ∙ sym hl.parent)
+    (sym (core_bytes-append k (certificate_bytes q)) ∙ (number.1 ∙ core_bytes-append l (certificate_bytes r))) in
+    let height = bytes_parts w64 k.height l.height _ _ parent.1 in
+    let justify = bytes_parts w64 k.justify_height l.justify_height _ _ height.1 in
+    let count : length k.commands ≡ length l.commands = ap (λ (x : Bytes). get_or x 0 0) justify.1 in
+    let commands = commands_parts sizes k.commands l.commands (certificate_bytes q) (certificate_bytes r)
+    hk.commands hl.commands count (ap (drop 1) justify.1) in
+    let bytes : core_bytes k ≡ core_bytes l =
+    (λ i. parent.0 i ++ height.0 i ++ justify.0 i ++ count i ∷ commands.0 i) in ap sha256 bytes
 
 -- the bytes of a certificate behind its digest
 abbrev certificate_end : Certificate → Bytes

@@ -1,8 +1,8 @@
 -- Careful votes: this project's own rule of the running server, beside HotStuff's. It takes votes away and gives none.
 -- With it nobody has to know a block below a decided one to judge what comes later, so what was decided can be pruned.
-use Rattle.std.specs.Prelude.{ℕ, suc, ◌≡◌, ◌&&◌, Bool, true, List, [], ◌∷◌, length, if◌then◌else◌, nat_lt, nat_le, ⊤}
+use Rattle.std.specs.Prelude.{ℕ, suc, ◌≡◌, ◌&&◌, Bool, true, [], ◌∷◌, length, if◌then◌else◌, nat_lt, nat_le, ⊤}
 use Rattle.definitions.specs.Branches.{Branch, justify_height}
-use Rattle.definitions.specs.Chronicles.{Step, Step.took_block, Chronicle, lock}
+use Rattle.definitions.specs.Chronicles.{Step.took_block, Chronicle, lock}
 
 -- each block above this height of a branch justifies one that is no lower than that
 unfoldable pub justifies_from : (least height : ℕ) → Branch → Bool

@@ -19,7 +19,7 @@ pub record Admitted : Type 0 where
   pub core : Core  -- as it came
   pub certificate : Certificate
   pub counted : List ℕ  -- the voters whose tags for this replica verified
-  pub senders : List ℕ  -- the replicas that sent this very block, where so many of them were asked for
+  pub senders : List ℕ  -- the replicas that sent this very block, where it was taken for their number
   pub clear : Bool  -- so did the tag of each command
   pub new : Bool  -- it was not in the tree before
   pub voted : Bool
@@ -34,6 +34,10 @@ pub data Note : Type 0 where
   timed_out : Note
   beat : Note
   pruned : (height : ℕ) → Note
+  -- of an announcement whose certificate isn't good for this replica
+  seen_view : (view sender : ℕ) → Note
+  -- what it leads from in place of its highest certificate's block
+  led_from : (block : Branch) → Note
 
 -- what a replica took in and stored
 pub data Step : Type 0 where
@@ -173,6 +177,7 @@ abbrev pub IsLawfulStep : Sizes → Step → Chronicle → Type 0
 IsLawfulStep sizes (took_block a) earlier =
     (a.voted ≡ true → IsLawfulVote a.branch (took_block a ∷ earlier) earlier)
     × (a.new ≡ true → IsLawfulTake sizes a earlier)
+IsLawfulStep sizes (noted (led_from b)) earlier = length (lock earlier) ≤ length b
 IsLawfulStep sizes s earlier = ⊤
 
 -- each step of a chronicle is lawful
@@ -180,11 +185,12 @@ abbrev pub IsLawful : Sizes → Chronicle → Type 0
 IsLawful sizes [] = ⊤
 IsLawful sizes (s ∷ earlier) = IsLawfulStep sizes s earlier × IsLawful sizes earlier
 
--- the block of each vote and of each announced certificate was known when it came
+-- the block of each vote, of each announced certificate and of each lead was known when it came
 abbrev pub AreKnown : Chronicle → Type 0
 AreKnown [] = ⊤
 AreKnown (noted (got_vote voter vector b) ∷ earlier) = Among b (tree earlier) × AreKnown earlier
 AreKnown (noted (got_new_view view sender q b) ∷ earlier) = Among b (tree earlier) × AreKnown earlier
+AreKnown (noted (led_from b) ∷ earlier) = Among b (tree earlier) × AreKnown earlier
 AreKnown (s ∷ earlier) = AreKnown earlier
 
 -- What is kept of a replica's chronicle at these sizes: each step is lawful, what is said of blocks is said

@@ -9,6 +9,7 @@ use Rattle.ids.specs.Sizes.{client_party}
 use Rattle.definitions.specs.Keyrings.{client_at}
 use Rattle.definitions.specs.Checks.{Identity}
 use Rattle.definitions.specs.Rulings.{Input, Input.timeout_in, Input.beat_in, Input.prune_in}
+use Rattle.definitions.specs.Rulings.{Input.lead_in, Input.ask_in}
 use Rattle.definitions.specs.Sendings.{To.to_all, To.to_party, Sending, fetch_frame}
 use Rattle.definitions.specs.Replicas.{MemorySupply, Replica, Reaction, Reaction.sends_out, Reaction.fails}
 use Rattle.definitions.specs.Replicas.{Reaction.asks_for, step}
@@ -16,8 +17,9 @@ use Rattle.definitions.specs.Sessions.{Session, Receipt, Submitted, Submitted.se
 use Rattle.definitions.specs.Sessions.{Submitted.not_sent, Heard, Heard.gives_receipt, Heard.only_counts}
 use Rattle.definitions.specs.Sessions.{Heard.not_counted, is_ample, submission, on_reply}
 use Rattle.definitions.specs.Worlds.{World, Event, Happening, is_replica, self_of, client_of, put, submit}
-use Rattle.definitions.specs.Worlds.{relay, inject, timeout, beat, prune}
-use Rattle.definitions.specs.Admission.{Checked, passes, rejected, check}
+use Rattle.definitions.specs.Worlds.{relay, inject, timeout, beat, prune, offer, gather, lead, ask}
+use Rattle.definitions.specs.Worlds.{Source, of_record, of_bytes}
+use Rattle.definitions.specs.Admission.{Checked, passes, rejected, check, check_offer, check_gathered}
 
 -- ---- one event
 
@@ -124,6 +126,11 @@ comes p m None w = nothing w (Some fault.NotAFrame)
 comes p m (Some f) w =
     if is_replica w p then on_checked p m (check (self_of w p) f) w else hears (client_at p) m f w
 
+-- a frame is offered to a correct replica
+unfoldable pub offers : ℕ → MemorySupply → Option Frame → World → Effect
+offers p m None w = nothing w (Some fault.NotAFrame)
+offers p m (Some f) w = on_checked p m (check_offer (self_of w p) f) w
+
 -- the party that an event names
 unfoldable pub party_of : Event → ℕ
 party_of (submit c payload) = client_party c
@@ -132,16 +139,37 @@ party_of (inject to bytes read) = to
 party_of (timeout r) = r
 party_of (beat r) = r
 party_of (prune r height) = r
+party_of (offer to source) = to
+party_of (gather to sources) = to
+party_of (lead r d) = r
+party_of (ask r to d) = r
 
 -- the frame of this number in the record
 abbrev pub recorded : World → ℕ → Option Frame
 recorded w k = option_map (λ s. s.frame) (slice_get w.sent k)
 
--- the frame that an event brings: that of the record, or what injected bytes are read as
-unfoldable pub brought : World → Event → Option Frame
-brought w (relay k to) = recorded w k
-brought w (inject to bytes read) = read
-brought w e = None
+-- the frame of a source: that of the record, or what the bytes are read as
+abbrev pub frame_of : World → Source → Option Frame
+frame_of w (of_record k) = recorded w k
+frame_of w (of_bytes bytes read) = read
+
+-- a frame, or none, as a list
+abbrev pub listed : Option Frame → List Frame
+listed None = []
+listed (Some f) = f ∷ []
+
+-- the frames of these sources; bytes that are no frame are left out
+abbrev pub frames_of : World → List Source → List Frame
+frames_of w [] = []
+frames_of w (s ∷ ss) = listed (frame_of w s) ++ frames_of w ss
+
+-- the frames that an event brings
+unfoldable pub brought : World → Event → List Frame
+brought w (relay k to) = listed (recorded w k)
+brought w (inject to bytes read) = listed read
+brought w (offer to source) = listed (frame_of w source)
+brought w (gather to sources) = frames_of w sources
+brought w e = []
 
 -- what an event does to the correct party that it names
 unfoldable pub acts : World → Event → MemorySupply → Effect
@@ -151,6 +179,10 @@ acts w (inject to bytes read) m = comes to m read w
 acts w (timeout r) m = steps r m timeout_in w
 acts w (beat r) m = steps r m beat_in w
 acts w (prune r height) m = steps r m (prune_in height) w
+acts w (offer to source) m = offers to m (frame_of w source) w
+acts w (gather to sources) m = on_checked to m (check_gathered (self_of w to) (frames_of w sources)) w
+acts w (lead r d) m = steps r m (lead_in d) w
+acts w (ask r to d) m = steps r m (ask_in to d) w
 
 -- an event that names a faulty party changes nothing
 unfoldable pub effect : World → Happening → Effect

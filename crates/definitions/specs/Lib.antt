@@ -23,6 +23,7 @@ pub mod Chronicles
 pub mod Careful
 pub mod Checks
 pub mod States
+pub mod Grounds
 pub mod Rulings
 pub mod Sendings
 pub mod Replicas

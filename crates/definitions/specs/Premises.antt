@@ -3,7 +3,7 @@
 use Rattle.ids.specs.declared.kind.Kind.{Kind}
 use Rattle.ids.specs.declared.kind.Kind.TheVariants as kind
 use Rattle.std.specs.Prelude.{ℕ, ◌≡◌, ◌==◌, ◌⊎◌, ◌&&◌, not, Bool, true, false, List, [], ◌∷◌, ◌++◌, map}
-use Rattle.std.specs.Prelude.{filter, Some, ⊤, ◌≤◌}
+use Rattle.std.specs.Prelude.{filter, ⊤, ◌≤◌}
 use Rattle.std.specs.List.{AllByRecursion}
 use Rattle.definitions.specs.Lists.{Among, count_below}
 use Rattle.definitions.specs.Frames.{Command, Vote, Core, Certificate, Frame, kind_of, sender_of}
@@ -17,10 +17,11 @@ use Rattle.definitions.specs.Keyrings.{client_at, verify}
 use Rattle.definitions.specs.Checks.{Identity, vote_verifies, command_verifies}
 use Rattle.definitions.specs.Sendings.{To, To.to_party}
 use Rattle.definitions.specs.Frames as frame
-use Rattle.definitions.specs.Worlds.{Sent, World, Event, inject, Happening, is_replica, is_correct, self_of}
+use Rattle.definitions.specs.Worlds.{Sent, World, Event, inject, offer, gather, Source, of_record, of_bytes}
+use Rattle.definitions.specs.Worlds.{Happening, is_replica, is_correct, self_of}
 use Rattle.definitions.specs.Runs.{after}
 use Rattle.definitions.specs.Events.{party_of, brought, happens}
-use Rattle.definitions.specs.Admission.{check, is_passed}
+use Rattle.definitions.specs.Admission.{check, check_offer, check_gathered, is_passed}
 
 -- A tag in a sender's name, for a receiver.
 pub record Claim : Type 0 where
@@ -107,9 +108,24 @@ admits w p (frame.reply replica client seq place text t) =
     (reply_content replica client seq place text) t)
 admits w p f = is_replica w p && is_passed (check (self_of w p) f)
 
--- injected bytes are read as the frame that they spell, and as none where they spell none
+-- whether the party that an event names admits a frame that it brings: by the checks of a frame that comes, of
+-- one that is offered, or of all that come together
+abbrev pub admits_in : World → Event → Frame → Bool
+admits_in w (offer to source) f = is_replica w to && is_passed (check_offer (self_of w to) f)
+admits_in w (gather to sources) f =
+    is_replica w to && is_passed (check_gathered (self_of w to) (brought w (gather to sources)))
+admits_in w e f = admits w (party_of e) f
+
+-- the bytes of a source are read as the frame that they spell, and as none where they spell none
+abbrev pub IsReadFrom : Sizes → Source → Type 0
+IsReadFrom sizes (of_record k) = ⊤
+IsReadFrom sizes (of_bytes bytes read) = IsReadAs sizes bytes read
+
+-- so are injected bytes, and those of what is offered or comes together
 abbrev pub IsReadIn : Sizes → Event → Type 0
 IsReadIn sizes (inject to bytes read) = IsReadAs sizes bytes read
+IsReadIn sizes (offer to source) = IsReadFrom sizes source
+IsReadIn sizes (gather to sources) = AllByRecursion (IsReadFrom sizes) sources
 IsReadIn sizes e = ⊤
 
 -- so are those of a whole schedule
@@ -119,7 +135,7 @@ AllRead sizes hs = AllByRecursion (λ h. IsReadIn sizes h.0) hs
 -- each right tag in a correct party's name was sent by it before
 abbrev pub NoForgeryIn : World → Event → Type 0
 NoForgeryIn w e =
-    (f : Frame) → brought w e ≡ Some f → w.is_faulty (party_of e) ≡ false → admits w (party_of e) f ≡ true →
+    (f : Frame) → Among f (brought w e) → w.is_faulty (party_of e) ≡ false → admits_in w e f ≡ true →
     (x : Claim) → Among x (accepted_tags (self_of w (party_of e)) f) → w.is_faulty x.sender ≡ false
     → WasSent w.sent x
 
@@ -138,7 +154,7 @@ CoreOf c f = ⊥
 abbrev pub CoreBrought : Core → World → List Happening → Type 0
 CoreBrought c w [] = ⊥
 CoreBrought c w (h ∷ hs) =
-    ((f : Frame) × (brought w h.0 ≡ Some f) × CoreOf c f) ⊎ CoreBrought c (happens w h) hs
+    ((f : Frame) × Among f (brought w h.0) × CoreOf c f) ⊎ CoreBrought c (happens w h) hs
 
 -- the core is one of the run
 abbrev pub CoreOfRun : World → List Happening → Core → Type 0

@@ -2,7 +2,7 @@
 use Rattle.ids.specs.declared.fault.Fault.{Fault}
 use Rattle.ids.specs.declared.fault.Fault.TheVariants as fault
 use Rattle.ids.specs.declared.limits.TheConstants.{MOST_BLOCKS, MOST_PENDING}
-use Rattle.std.specs.Prelude.{ℕ, ◌==◌, ◌&&◌, not, Bool, true, false, [], ◌∷◌, length, if◌then◌else◌, nat_lt}
+use Rattle.std.specs.Prelude.{ℕ, suc, List, ◌==◌, ◌&&◌, not, Bool, true, false, [], ◌∷◌, length, if◌then◌else◌, nat_lt}
 use Rattle.std.specs.Prelude.{Option, Some, None}
 use Rattle.std.specs.List.{list_any}
 use Rattle.definitions.specs.Frames.{Command, Core, Vote, Certificate}
@@ -15,7 +15,9 @@ use Rattle.definitions.specs.Chronicles.{Admitted, Step, Step.took_block, Step.n
 use Rattle.definitions.specs.Chronicles.{Note.got_new_view, Note.got_request, Note.got_fetch}
 use Rattle.definitions.specs.Chronicles.{Note.timed_out, Note.beat, Note.pruned, Chronicle, decides_against}
 use Rattle.definitions.specs.Chronicles.{executed, history, horizon, standing_blocks, window, is_safe}
+use Rattle.definitions.specs.Chronicles.{Note.seen_view, Note.led_from}
 use Rattle.definitions.specs.Checks.{Identity, Findings}
+use Rattle.definitions.specs.Grounds.{are_replicas, without_votes, grounded, may_lead_from}
 use Rattle.definitions.specs.States.{view, find_block, is_same_request, is_due, pending}
 
 -- what is taken in, after its tags were found right
@@ -29,6 +31,17 @@ pub data Input : Type 0 where
   timeout_in : Input
   beat_in : Input
   prune_in : (height : ℕ) → Input
+  -- a block whose certificate isn't good for this replica, with its view where it is proposed
+  offered_in : (view : Option ℕ) → (sender : ℕ) → (core : Core) → (certificate : Certificate)
+      → (found : Findings) → Input
+  -- a block that several replicas sent
+  relayed_in : (senders : List ℕ) → (core : Core) → (certificate : Certificate) → (found : Findings) → Input
+  -- to lead from the block of a digest
+  lead_in : (block : Bytes) → Input
+  -- to ask a replica for the block of a digest
+  ask_in : (replica : ℕ) → (block : Bytes) → Input
+  -- the view of an announcement whose certificate isn't good for this replica
+  view_in : (view sender : ℕ) → Input
 
 -- The step that is to stand, or a refusal. `missing` names a digest that isn't in the tree, and who sent it.
 pub data Ruling : Type 0 where
@@ -74,6 +87,46 @@ abbrev pub on_block : Identity → Option ℕ → ℕ → Core → Certificate �
 on_block self w sender core q found c =
     on_placing self w sender core q found c (placing (horizon c) MOST_BLOCKS core q (window c))
 
+-- a block that is taken on grounds, where it has any
+abbrev pub take_grounded : Identity → Option ℕ → Option Admitted → Chronicle → Ruling
+take_grounded self w None c = refusing fault.BadTag
+take_grounded self w (Some a) c = take_block self w a c
+
+-- what follows from the place of a block whose certificate isn't good for this replica; one that stands in
+-- the tree had grounds
+unfoldable pub on_offer : Identity → Option ℕ → ℕ → Core → Certificate → Findings → Chronicle → Placing
+    → Ruling
+on_offer self w sender core q found c (stands b) =
+    take_block self w
+    (record (admitted b core q found false) { certificate = without_votes q; counted = [] }) c
+on_offer self w sender core q found c (grows b) =
+    take_grounded self w (grounded self (admitted b core q found true) c) c
+on_offer self w sender core q found c lacks_parent = missing sender core.parent
+on_offer self w sender core q found c (unfit n) = refusing n
+
+-- what follows from the place of a block that these sent: they have to be more than f replicas
+unfoldable pub on_relay : Identity → List ℕ → Core → Certificate → Findings → Chronicle → Placing → Ruling
+on_relay self senders core q found c (stands b) =
+    take_block self None
+    (record (admitted b core q found false) { certificate = without_votes q; counted = [] }) c
+on_relay self senders core q found c (grows b) =
+    if are_replicas self.sizes (suc self.sizes.faults) senders
+    then take_block self None
+    (record (admitted b core q found true) {
+      certificate = without_votes q;
+      counted = [];
+      senders = senders;
+    }) c
+    else refusing fault.BadTag
+on_relay self senders core q found c lacks_parent = refusing fault.UnknownParent
+on_relay self senders core q found c (unfit n) = refusing n
+
+-- a lead from the block of a digest, where it stands in the tree and may be led from
+abbrev pub lead : Identity → Option Branch → Chronicle → Ruling
+lead self None c = refusing fault.UnknownParent
+lead self (Some b) c =
+    if may_lead_from self b c then due (noted (led_from b)) else refusing fault.UnknownParent
+
 -- a request, where there is room for it
 unfoldable pub on_request : Command → Chronicle → Ruling
 on_request r c =
@@ -100,6 +153,13 @@ ruling self (fetch_in sender d) c = due (noted (got_fetch sender (find_block d c
 ruling self timeout_in c = due (noted timed_out)
 ruling self beat_in c = due (noted beat)
 ruling self (prune_in height) c = due (noted (pruned height))
+ruling self (offered_in w sender core q found) c =
+    on_offer self w sender core q found c (placing (horizon c) MOST_BLOCKS core q (window c))
+ruling self (relayed_in senders core q found) c =
+    on_relay self senders core q found c (placing (horizon c) MOST_BLOCKS core q (window c))
+ruling self (lead_in d) c = lead self (find_block d c) c
+ruling self (ask_in replica d) c = missing replica d
+ruling self (view_in w sender) c = due (noted (seen_view w sender))
 
 -- a step takes a block that decides against what was executed
 unfoldable pub conflicts : Step → Chronicle → Bool

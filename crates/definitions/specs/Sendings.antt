@@ -13,7 +13,8 @@ use Rattle.definitions.specs.Keyrings.{tag_for, vector_for}
 use Rattle.definitions.specs.Histories.{Answer, last_seq, answers, answer_to}
 use Rattle.definitions.specs.Chronicles.{Admitted, Step, Step.took_block, Step.noted, Note.got_vote}
 use Rattle.definitions.specs.Chronicles.{Note.got_new_view, Note.got_request, Note.got_fetch}
-use Rattle.definitions.specs.Chronicles.{Note.timed_out, Note.beat, Note.pruned, Chronicle, taken_blocks}
+use Rattle.definitions.specs.Chronicles.{Note.timed_out, Note.beat, Note.pruned, Note.seen_view}
+use Rattle.definitions.specs.Chronicles.{Note.led_from, Chronicle, taken_blocks}
 use Rattle.definitions.specs.Chronicles.{history}
 use Rattle.definitions.specs.Frames as frame
 use Rattle.definitions.specs.Checks.{Identity, cut}
@@ -115,3 +116,8 @@ sendings self (noted timed_out) c = (to_all, new_view_frame self (noted timed_ou
 sendings self (noted beat) c =
     if leads self c then proposes self (view self.sizes c) (proposed self (noted beat ∷ c)) else []
 sendings self (noted (pruned height)) c = []
+sendings self (noted (seen_view w sender)) c =
+    if nat_lt (view self.sizes c) (view self.sizes (noted (seen_view w sender) ∷ c))
+    then (to_all, new_view_frame self (noted (seen_view w sender) ∷ c)) ∷ []
+    else []
+sendings self (noted (led_from b)) c = []

@@ -2,7 +2,7 @@
 -- requests, and what to propose (HotStuff, PODC 2019, the event-driven form; the pacemaker is this
 -- project's own).
 use Rattle.ids.specs.declared.limits.TheConstants.{MOST_COMMANDS}
-use Rattle.std.specs.Prelude.{ℕ, suc, ◌-◌, ◌^◌, ◌==◌, ◌&&◌, not, Bool, List, [], ◌∷◌, ◌++◌, map, filter}
+use Rattle.std.specs.Prelude.{ℕ, suc, ◌-◌, ◌^◌, ◌==◌, ◌&&◌, ◌||◌, not, Bool, List, [], ◌∷◌, ◌++◌, map, filter}
 use Rattle.std.specs.Prelude.{take, length, min, max, if◌then◌else◌, nat_lt, nat_le, Option, Some, None}
 use Rattle.std.specs.Prelude.{is_some}
 use Rattle.std.specs.List.{list_any}
@@ -16,6 +16,7 @@ use Rattle.definitions.specs.Trees.{find_in}
 use Rattle.definitions.specs.Histories.{History, last_seq, history_of}
 use Rattle.definitions.specs.Chronicles.{Step, Step.took_block, Step.noted, Note.got_vote}
 use Rattle.definitions.specs.Chronicles.{Note.got_new_view, Note.got_request, Note.timed_out, Note.beat}
+use Rattle.definitions.specs.Chronicles.{Note.seen_view, Note.led_from}
 use Rattle.definitions.specs.Chronicles.{Chronicle, history, horizon, window}
 use Rattle.definitions.specs.Checks.{Identity}
 
@@ -23,6 +24,7 @@ use Rattle.definitions.specs.Checks.{Identity}
 unfoldable pub announcements : Chronicle → List (ℕ × ℕ)
 announcements [] = []
 announcements (noted (got_new_view view sender q b) ∷ earlier) = (sender, view) ∷ announcements earlier
+announcements (noted (seen_view view sender) ∷ earlier) = (sender, view) ∷ announcements earlier
 announcements (s ∷ earlier) = announcements earlier
 
 -- the greatest view that a replica announced
@@ -41,9 +43,11 @@ view s [] = 0
 view s (noted timed_out ∷ earlier) = min (suc (view s earlier)) (2 ^ 64 - 1)
 view s (noted (got_new_view w sender q b) ∷ earlier) =
     max (view s earlier) (reached_view s (noted (got_new_view w sender q b) ∷ earlier))
+view s (noted (seen_view w sender) ∷ earlier) =
+    max (view s earlier) (reached_view s (noted (seen_view w sender) ∷ earlier))
 view s (x ∷ earlier) = view s earlier
 
--- the kept votes for a block, one a voter and at most a quorum, newest first
+-- the kept votes for a block, one a voter and at most a quorum, newest first; a lead forgets them
 unfoldable pub votes : Sizes → Branch → Chronicle → List Vote
 votes s block [] = []
 votes s block (noted (got_vote voter v b) ∷ earlier) =
@@ -52,6 +56,7 @@ votes s block (noted (got_vote voter v b) ∷ earlier) =
     && nat_lt (length (votes s block earlier)) (quorum s))
     then record { voter = voter; vector = v } ∷ votes s block earlier
     else votes s block earlier
+votes s block (noted (led_from b) ∷ earlier) = []
 votes s block (x ∷ earlier) = votes s block earlier
 
 -- put before the first of a greater voter
@@ -88,14 +93,27 @@ raised s (noted (got_vote voter v b)) earlier =
     else None
 raised s x earlier = None
 
--- the one of the greater height, the older one where they are equal
+-- p has votes, and q, which is for the same block above genesis, has none
+abbrev pub fills : Justified → Justified → Bool
+fills p q =
+    (nat_lt 0 (length q.block) && branch_eq p.block q.block)
+    && (length q.certificate.votes == 0 && nat_lt 0 (length p.certificate.votes))
+
+-- the one of the greater height, the older one where they are equal, but for one that has no votes
 abbrev pub higher : Option Justified → Justified → Justified
 higher None q = q
-higher (Some p) q = if nat_lt (length q.block) (length p.block) then p else q
+higher (Some p) q = if nat_lt (length q.block) (length p.block) || fills p q then p else q
 
--- the first certificate of the greatest height
+-- what a lead from b leaves of the highest certificate: itself where it is for b, else one without votes
+abbrev pub led : Branch → Justified → Justified
+led b q =
+    if branch_eq q.block b then q
+    else record { block = b; certificate = record { digest = digest_of b; votes = [] } }
+
+-- the first certificate of the greatest height, since the last lead
 unfoldable pub qc_high : Sizes → Chronicle → Justified
 qc_high s [] = record { block = []; certificate = record { digest = digest genesis_core; votes = [] } }
+qc_high s (noted (led_from b) ∷ earlier) = led b (qc_high s earlier)
 qc_high s (x ∷ earlier) = higher (raised s x earlier) (qc_high s earlier)
 
 -- requests in order of arrival that aren't overtaken by the history
@@ -111,9 +129,10 @@ abbrev pub with_request : Step → List Command → List Command
 with_request (noted (got_request r)) ps = if list_any (is_same_request r) ps then ps else ps ++ r ∷ []
 with_request s ps = ps
 
--- the requests that wait
+-- the requests that wait; a lead forgets them, and clients send theirs again
 unfoldable pub pending : Chronicle → List Command
 pending [] = []
+pending (noted (led_from b) ∷ earlier) = []
 pending (s ∷ earlier) = filter (is_due (history (s ∷ earlier))) (with_request s (pending earlier))
 
 -- the replica's own number
@@ -161,6 +180,7 @@ child self c leaf =
 unfoldable pub leaf : Identity → Chronicle → Branch
 leaf self [] = []
 leaf self (noted beat ∷ earlier) = or_else (child self earlier (leaf self earlier)) (leaf self earlier)
+leaf self (noted (led_from b) ∷ earlier) = b
 leaf self (s ∷ earlier) =
     if nat_lt (length (qc_high self.sizes earlier).block) (length (qc_high self.sizes (s ∷ earlier)).block)
     then (qc_high self.sizes (s ∷ earlier)).block

@@ -35,6 +35,11 @@ pub record World : Type 0 where
   pub answers : List (Option Fault)  -- none where the event stood, else its refusal
   pub now : ℕ  -- the number of the next event, from 1
 
+-- Where a frame comes from: the record, or any bytes, which are read as this frame or as none.
+pub data Source : Type 0 where
+  of_record : (frame : ℕ) → Source
+  of_bytes : (bytes : Bytes) → (read : Option Frame) → Source
+
 -- A client submits a payload; a frame of the record comes to a party; any bytes come to a party, which
 -- reads them as this frame or as none; a replica's time is out, its beat comes, or it prunes its tree.
 pub data Event : Type 0 where
@@ -44,6 +49,13 @@ pub data Event : Type 0 where
   timeout : (replica : ℕ) → Event
   beat : (replica : ℕ) → Event
   prune : (replica height : ℕ) → Event
+  -- a frame is offered to a replica, whatever its certificate
+  offer : (to : ℕ) → Source → Event
+  -- copies of a block come to a replica together
+  gather : (to : ℕ) → List Source → Event
+  -- a replica is told to lead from a block, or to ask another replica for one
+  lead : (replica : ℕ) → (block : Bytes) → Event
+  ask : (replica to : ℕ) → (block : Bytes) → Event
 
 -- an event, with how its party meets the allocator in it
 abbrev pub Happening : Type 0

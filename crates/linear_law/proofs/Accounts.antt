@@ -215,11 +215,11 @@ module _ (Known : Core → Type 0) where
         (step-outcome (self_of w (party_of e)) m i (w.replica (party_of e)) (arises-checked w e i ar)
         (run.row.sound (party_of e) me)) o k c h);
   }
-  effect-sessions w e m f run honest made rs fit ss (hearing g b r ok pa) =
+  effect-sessions w e m f run honest made rs fit ss (hearing g b ad r ok pa) =
       let cl : ℕ = client_at (party_of e) in
       let x : Session × Heard = on_reply (client_of w cl) m g (w.session cl) in
       let h : HeardWell w cl x =
-      reply-well w e m g (w.session cl) rs fit honest.forgery made b.1 b.0 r ok pa (ss cl) in
+      reply-well w e m g (w.session cl) rs fit honest.forgery made b.1 b.0 ad r ok pa (ss cl) in
       record {
         sessions = λ i. put-session cl x.0 w.session (λ (y : Session). SessionStands w i y) i
             (λ k. subst (λ (j : ℕ). SessionStands w j x.0) (sym k) h.session) (ss i);

@@ -85,7 +85,7 @@ proposal-now self now (noted beat) c few p j e = by (child self c (leaf self c))
           core_is =
               child-core self c b p.stored_are (omega (arith, l, s, few)) (child-is self c (leaf self c) b i);
           certificate_is = (qc_high-is self c p.stored_are).certificate_is;
-          good = (qc_high-is self c p.stored_are).good;
+          kept = (qc_high-is self c p.stored_are).kept;
         })
 proposal-now self now (took_block a) c few p j e = p.proposal j e
 proposal-now self now (noted n) c few p j e = p.proposal j e
@@ -183,7 +183,7 @@ step-plain w e m i few p mp ar =
     let k : IsPlain self w.now r.chronicle = p.each (party_of e) mp in
     let ch : IsCheckedInput w.sizes i = arises-checked w e i ar in
     let h : IsStoredRuling self r.chronicle (ruling self i r.chronicle) =
-    ruling-stored self i r.chronicle (arises-read w e i ar) k.sound in
+    ruling-stored self i r.chronicle (arises-read w e i ar) (qc_high-is self r.chronicle k.stored_are) k.sound in
     let number : me self < replicas w.sizes =
     (let l =
     ltb-true (party_of e) (replicas w.sizes) (and_parts _ _ mp).0 in let n =
@@ -228,7 +228,7 @@ effect-plain w e m f few a ok (idle x h) =
 effect-plain w e m f few a ok (step_by i mp ar) =
     stepped-plain w (party_of e) m (step (self_of w (party_of e)) m i (w.replica (party_of e))) a
     (step-plain w e m i few a mp ar)
-effect-plain w e m f few a ok (hearing g b r y pa) = record {
+effect-plain w e m f few a ok (hearing g b ad r y pa) = record {
   each = λ q mq. later (self_of w q) w.now (w.replica q).chronicle (a.each q mq);
   room = λ j. put-session _ _ w.session (λ (s : Session). s.used < 2 ^ 64) j
       (λ k. subst (λ (n : ℕ). n < 2 ^ 64) (sym (on_reply-used (client_of w _) m g (w.session _)))

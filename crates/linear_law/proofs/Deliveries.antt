@@ -2,16 +2,15 @@
 use Rattle.ids.specs.declared.limits.TheConstants.{MOST_BLOCKS}
 use Rattle.ids.specs.declared.fault.Fault.{Fault}
 use Rattle.ids.specs.declared.fault.Fault.TheVariants as fault
-use Rattle.std.proofs.Common.{ℕ, ◌≡◌, ◌⊎◌, ◌&&◌, not, ◌==◌, Bool, true, false, List, [], ◌∷◌, ◌++◌, map}
-use Rattle.std.proofs.Common.{filter, length, nat_lt, refl, sym, ap, subst, ◌∙◌, inl, inr, true≢false}
+use Rattle.std.proofs.Common.{ℕ, ◌≡◌, ◌&&◌, not, ◌==◌, Bool, true, false, List, [], ◌∷◌, ◌++◌, map}
+use Rattle.std.proofs.Common.{suc, filter, length, nat_lt, refl, sym, ap, subst, ◌∙◌, inl, inr, true≢false}
 use Rattle.std.proofs.Common.{Option, Some, None, Ok, option_map, slice_get}
 use Rattle.std.specs.Bool.{⊤}
 use Rattle.std.specs.List.{list_any, AllByRecursion}
 use Rattle.std.proofs.lemmas.Bool.{cond_both, and_parts, and_from, eqb-true, not_from_false}
 use Rattle.definitions.specs.Lists.{Among}
 use Rattle.definitions.specs.Bytes.{Bytes}
-use Rattle.definitions.specs.Branches.{Branch, branch_eq}
-use Rattle.definitions.proofs.Branches.{branch_eq-decides}
+use Rattle.definitions.specs.Branches.{Branch, branch_eq, just1}
 use Rattle.definitions.specs.Frames.{Command, Core, Vote, Certificate, Frame, sender_of, content_of}
 use Rattle.definitions.specs.Frames.{kind_of, own_tag}
 use Rattle.ids.specs.Sizes.{Sizes, quorum, client_party}
@@ -23,13 +22,17 @@ use Rattle.definitions.specs.Chronicles.{Note.timed_out, Note.beat, Note.pruned,
 use Rattle.definitions.specs.Chronicles.{history, horizon, window}
 use Rattle.definitions.specs.Checks.{Identity, Findings, vote_verifies, command_verifies, cut}
 use Rattle.definitions.specs.States.{view, Justified, me, leads, leaf, child, known_as, proposed, made_with}
-use Rattle.definitions.specs.States.{raised, higher, qc_high, votes, pending, with_request, is_due}
+use Rattle.definitions.specs.States.{qc_high, pending, with_request, is_due}
 use Rattle.definitions.specs.States.{is_same_request, picks, find_block}
 use Rattle.definitions.specs.Trees.{Placing, Placing.stands, Placing.grows, Placing.lacks_parent}
 use Rattle.definitions.specs.Trees.{Placing.unfit, placing}
 use Rattle.definitions.specs.Rulings.{Input, Input.proposal_in, Input.block_in, Input.vote_in}
 use Rattle.definitions.specs.Rulings.{Input.new_view_in, Input.request_in, Input.fetch_in, Input.timeout_in}
-use Rattle.definitions.specs.Rulings.{Input.prune_in}
+use Rattle.definitions.specs.Rulings.{Input.prune_in, Input.offered_in, Input.relayed_in, Input.lead_in}
+use Rattle.definitions.specs.Rulings.{Input.ask_in, Input.view_in, take_grounded, on_offer, on_relay, lead}
+use Rattle.definitions.specs.Grounds.{are_replicas, is_justified, own_counted, is_own_certified}
+use Rattle.definitions.specs.Grounds.{grounded, may_lead_from}
+use Rattle.definitions.specs.Chronicles.{Note.seen_view, Note.led_from}
 use Rattle.definitions.specs.Rulings.{Input.beat_in, Ruling, Ruling.due, Ruling.missing, Ruling.refusing}
 use Rattle.definitions.specs.Rulings.{admitted, on_placing, on_request, with_block, ruling, conflicts}
 use Rattle.definitions.specs.Sendings.{To, To.to_party, Sending, reply_to, vote_frame, block_frame}
@@ -40,25 +43,32 @@ use Rattle.definitions.specs.Replicas.{Replica, Reaction, Reaction.fails, Standi
 use Rattle.definitions.specs.Replicas.{Standing.stopped, Standing.cut_short, executes, on_step, on_ruling}
 use Rattle.definitions.specs.Replicas.{step}
 use Rattle.definitions.specs.Sessions.{Session, Submitted, is_ample}
-use Rattle.definitions.specs.Admission.{Checked, Checked.passes, Checked.rejected, check}
+use Rattle.definitions.specs.Admission.{Checked, Checked.passes, Checked.rejected, check, check_offer}
+use Rattle.definitions.specs.Admission.{check_copies, check_gathered}
 use Rattle.definitions.specs.Worlds.{World, Sent, Event, Event.submit, Event.relay, Event.inject}
-use Rattle.definitions.specs.Worlds.{Event.timeout, Event.beat, Event.prune, Happening, is_replica, self_of}
+use Rattle.definitions.specs.Worlds.{Event.timeout, Event.beat, Event.prune, Event.offer, Event.gather}
+use Rattle.definitions.specs.Worlds.{Event.lead as leads_from, Event.ask, Source, Source.of_record}
+use Rattle.definitions.specs.Worlds.{Source.of_bytes}
+use Rattle.definitions.specs.Worlds.{Happening, is_replica, self_of}
 use Rattle.definitions.specs.Worlds.{client_of}
 use Rattle.definitions.specs.Worlds.{new_world}
 use Rattle.definitions.specs.Events.{Effect, nothing, stepped, told, submitted, out_of, on_checked, hears}
-use Rattle.definitions.specs.Events.{submits, comes, recorded, brought, party_of, acts, effect, happens}
+use Rattle.definitions.specs.Events.{submits, comes, offers, recorded, listed, frame_of, frames_of, brought}
+use Rattle.definitions.specs.Events.{party_of, acts, effect, happens}
 use Rattle.definitions.specs.Runs.{refusal, run}
 use Rattle.definitions.specs.Premises.{Claim, IsFor, IsTagOf, WasSent, own_claim, vote_claim, vote_claims}
-use Rattle.definitions.specs.Premises.{command_claim, command_claims, accepted_tags, admits, IsReadIn}
+use Rattle.definitions.specs.Premises.{command_claim, command_claims, accepted_tags, admits, admits_in}
+use Rattle.definitions.specs.Premises.{IsReadFrom, IsReadIn}
 use Rattle.definitions.specs.Premises.{AllRead, NoForgeryIn, NoForgery}
 use Rattle.definitions.proofs.Lists.{Among-either, Among-map, Among-before}
-use Rattle.definitions.proofs.Certificates.{all-filter, all-implied, all-by_voter}
+use Rattle.definitions.proofs.Certificates.{all-filter, all-implied}
 use Rattle.definitions.proofs.Cuts.{all-take, all-cut}
 use Rattle.definitions.proofs.Checks.{when-good}
 use Rattle.definitions.proofs.Chronicles.{taken-now}
 use Rattle.definitions.proofs.Sound.{found}
 use Rattle.definitions.proofs.Trees.{found-in, core-known, IsPlaced, placed}
-use Rattle.linear_law.proofs.Inputs.{all-among}
+use Rattle.linear_law.proofs.Inputs.{all-among, not_mine, not_frame}
+use Rattle.linear_law.proofs.HeldVotes.{AllVotes, IsHolding, high-held}
 use Rattle.linear_law.proofs.Effects.{is_member, named}
 use Rattle.linear_law.proofs.Sends.{Sends, Sends.its_vote, Sends.new_reply, Sends.old_reply, Sends.its_view}
 use Rattle.linear_law.proofs.Sends.{Sends.its_block, Sends.its_proposal, sends}
@@ -67,7 +77,7 @@ use Rattle.linear_law.proofs.Linear.{run-step}
 use Rattle.linear_law.proofs.Leaves.{all-after, none-some, child-is}
 use Rattle.linear_law.proofs.WholeRuns.{slice_get-among}
 use Rattle.linear_law.proofs.FramedRuns.{put-both}
-use Rattle.linear_law.specs.Law.{HaveOwnKeys, IsDelivered, AllDelivered, DeliveriesForgeNothing}
+use Rattle.linear_law.specs.Law.{HaveOwnKeys, IsDeliveredFrom, IsDelivered, AllDelivered, DeliveriesForgeNothing}
 use Rattle.definitions.specs.Frames as frame
 
 -- ---- what was sent by its maker
@@ -82,7 +92,7 @@ CommandSent sent k =
     (s : Sent) × Among s sent × (s.sender ≡ client_party k.client) × (s.frame ≡ frame.request k)
 
 abbrev VotesSent : List Sent → Certificate → Type 0
-VotesSent sent q = AllByRecursion (VoteSent sent q.digest) q.votes
+VotesSent sent q = AllVotes (VoteSent sent) q
 
 abbrev CommandsSent : List Sent → List Command → Type 0
 CommandsSent sent ks = AllByRecursion (CommandSent sent) ks
@@ -101,6 +111,8 @@ IsMadeInput sent (block_in s core q f) = CommandsSent sent core.commands × Vote
 IsMadeInput sent (vote_in d b) = VoteSent sent d b
 IsMadeInput sent (new_view_in w s q) = VotesSent sent q
 IsMadeInput sent (request_in k) = CommandSent sent k
+IsMadeInput sent (offered_in w s core q f) = CommandsSent sent core.commands
+IsMadeInput sent (relayed_in ss core q f) = CommandsSent sent core.commands
 IsMadeInput sent i = ⊤
 
 -- what a step stores
@@ -151,6 +163,8 @@ module _ (sent more : List Sent) where
   step-later (noted timed_out) h = tt
   step-later (noted beat) h = tt
   step-later (noted (pruned height)) h = tt
+  step-later (noted (seen_view w s)) h = tt
+  step-later (noted (led_from b)) h = tt
 
   made-later : (c : Chronicle) → AreMade sent c → AreMade (sent ++ more) c
   made-later c h = all-implied (IsMade sent) (IsMade (sent ++ more)) step-later c h
@@ -158,56 +172,22 @@ module _ (sent more : List Sent) where
 -- ---- what a chronicle keeps
 
 module _ (sent : List Sent) where
-  votes-made : (s : Sizes) (block : Branch) (c : Chronicle) → AreMade sent c
-      → AllByRecursion (VoteSent sent (digest_of block)) (votes s block c)
-  unfolding votes
-  votes-made s block [] h = tt
-  votes-made s block (noted (got_vote voter v b) ∷ c) h =
-      cond_both (branch_eq b block
-      && (not (list_any (λ x. x.voter == voter) (votes s block c)) && nat_lt (length (votes s block c))
-      (quorum s))) _ _ (AllByRecursion (VoteSent sent (digest_of block)))
-      (λ e. (
-        subst (λ (y : Bytes). VoteSent sent y (record { voter = voter; vector = v }))
-            (ap digest_of ((branch_eq-decides b block).0 (and_parts _ _ e).0)) h.0,
-        votes-made s block c h.1,
-      ))
-      (λ e. votes-made s block c h.1)
-  votes-made s block (took_block a ∷ c) h = votes-made s block c h.1
-  votes-made s block (noted n ∷ c) h = votes-made s block c h.1
-
-  abbrev RaisedMade : Option Justified → Type 0
-  RaisedMade None = ⊤
-  RaisedMade (Some j) = VotesSent sent j.certificate
-
-  raised-made : (s : Sizes) (st : Step) (c : Chronicle) → AreMade sent (st ∷ c) → RaisedMade (raised s st c)
-  unfolding raised
-  raised-made s (took_block a) c h = cond_both a.new _ _ RaisedMade (λ e. h.0.1) (λ e. tt)
-  raised-made s (noted (got_vote voter v b)) c h =
-      cond_both (nat_lt (length (votes s b c)) (quorum s)
-      && (length (votes s b (noted (got_vote voter v b) ∷ c)) == quorum s)) _ _ RaisedMade
-      (λ e. all-by_voter (VoteSent sent (digest_of b))
-      (votes s b (noted (got_vote voter v b) ∷ c))
-      (votes-made s b (noted (got_vote voter v b) ∷ c) h))
-      (λ e. tt)
-  raised-made s (noted (got_new_view w r q b)) c h = h.0
-  raised-made s (noted (got_request k)) c h = tt
-  raised-made s (noted (got_fetch to b)) c h = tt
-  raised-made s (noted timed_out) c h = tt
-  raised-made s (noted beat) c h = tt
-  raised-made s (noted (pruned height)) c h = tt
-
-  higher-made : (o : Option Justified) (q : Justified) → RaisedMade o → VotesSent sent q.certificate
-      → VotesSent sent (higher o q).certificate
-  higher-made None q r h = h
-  higher-made (Some p) q r h =
-      cond_both (nat_lt (length q.block) (length p.block)) p q
-      (λ (j : Justified). VotesSent sent j.certificate) (λ e. r) (λ e. h)
+  -- its votes are held
+  made-holding : (st : Step) → IsMade sent st → IsHolding (VoteSent sent) st
+  made-holding (took_block a) h = h.1
+  made-holding (noted (got_vote voter v b)) h = h
+  made-holding (noted (got_new_view w s q b)) h = h
+  made-holding (noted (got_request k)) h = tt
+  made-holding (noted (got_fetch to b)) h = tt
+  made-holding (noted timed_out) h = tt
+  made-holding (noted beat) h = tt
+  made-holding (noted (pruned height)) h = tt
+  made-holding (noted (seen_view w s)) h = tt
+  made-holding (noted (led_from b)) h = tt
 
   high-made : (s : Sizes) (c : Chronicle) → AreMade sent c → VotesSent sent (qc_high s c).certificate
-  unfolding qc_high
-  high-made s [] h = tt
-  high-made s (st ∷ c) h =
-      higher-made (raised s st c) (qc_high s c) (raised-made s st c h) (high-made s c h.1)
+  high-made s c h = high-held (VoteSent sent) s c
+      (all-implied (IsMade sent) (IsHolding (VoteSent sent)) made-holding c h)
 
   with_request-made : (st : Step) (ps : List Command) → IsMade sent st → CommandsSent sent ps
       → CommandsSent sent (with_request st ps)
@@ -220,6 +200,7 @@ module _ (sent : List Sent) where
   pending-made : (c : Chronicle) → AreMade sent c → CommandsSent sent (pending c)
   unfolding pending
   pending-made [] h = tt
+  pending-made (noted (led_from b) ∷ c) h = tt
   pending-made (st ∷ c) h = all-filter (CommandSent sent) (is_due (history (st ∷ c)))
       (with_request st (pending c)) (with_request-made st (pending c) h.0 (pending-made c h.1))
 
@@ -323,21 +304,76 @@ module _ (sent : List Sent) where
       && (not (list_any (is_same_request r) (pending c)) && not (nat_lt (length (pending c)) 4096))) _ _
       AllMade (λ e. tt) (λ e. h)
 
-  ruling-made : (self : Identity) (i : Input) (c : Chronicle) → IsMadeInput sent i → AllMade (ruling self i c)
+  grounded-made : (self : Identity) (w : Option ℕ) (core : Core) (q : Certificate) (f : Findings)
+      (c : Chronicle) → AreMade sent c → (b : Branch) → CommandsSent sent (core_of b).commands
+      → AllMade (take_grounded self w (grounded self (admitted b core q f true) c) c)
+  unfolding grounded is_own_certified admitted AllMade
+  grounded-made self w core q f c made b hk =
+      let P : Option Admitted → Type 0 = λ o. AllMade (take_grounded self w o c) in
+      cond_both (is_justified (just1 b) c) _ _ P (λ t. (λ n. hk, tt))
+      (λ t. cond_both (branch_eq (qc_high self.sizes c).block (just1 b)
+      && are_replicas self.sizes (quorum self.sizes) (own_counted self c)) _ _ P
+      (λ e. (λ n. hk, high-made self.sizes c made)) (λ e. tt))
+
+  offer-made : (self : Identity) (w : Option ℕ) (sender : ℕ) (core : Core) (q : Certificate) (f : Findings)
+      (c : Chronicle) → AreMade sent c → CommandsSent sent core.commands → (p : Placing)
+      → IsPlaced (horizon c) MOST_BLOCKS core q (window c) p → AllMade (on_offer self w sender core q f c p)
+  unfolding on_offer admitted AllMade
+  offer-made self w sender core q f c made hk (stands b) h = (λ n. absurd (true≢false (sym n)), tt)
+  offer-made self w sender core q f c made hk (grows b) (parent, t) =
+      let ep = sym (found-in core.parent (window c) parent t.parent_found).1 in
+      grounded-made self w core q f c made b (subst (λ (x : Core). CommandsSent sent x.commands)
+      (sym (ap core_of t.is ∙ core-known core parent ep t.height)) hk)
+  offer-made self w sender core q f c made hk lacks_parent h = tt
+  offer-made self w sender core q f c made hk (unfit n) h = tt
+
+  relay-made : (self : Identity) (senders : List ℕ) (core : Core) (q : Certificate) (f : Findings)
+      (c : Chronicle) → CommandsSent sent core.commands → (p : Placing)
+      → IsPlaced (horizon c) MOST_BLOCKS core q (window c) p → AllMade (on_relay self senders core q f c p)
+  unfolding on_relay admitted AllMade
+  relay-made self senders core q f c hk (stands b) h = (λ n. absurd (true≢false (sym n)), tt)
+  relay-made self senders core q f c hk (grows b) (parent, t) =
+      let ep = sym (found-in core.parent (window c) parent t.parent_found).1 in
+      cond_both (are_replicas self.sizes (suc self.sizes.faults) senders) _ _ AllMade
+      (λ e. (
+        λ n. subst (λ (x : Core). CommandsSent sent x.commands)
+            (sym (ap core_of t.is ∙ core-known core parent ep t.height)) hk,
+        tt,
+      ))
+      (λ e. tt)
+  relay-made self senders core q f c hk lacks_parent h = tt
+  relay-made self senders core q f c hk (unfit n) h = tt
+
+  lead-made : (self : Identity) (o : Option Branch) (c : Chronicle) → AllMade (lead self o c)
+  unfolding AllMade
+  lead-made self None c = tt
+  lead-made self (Some b) c = cond_both (may_lead_from self b c) _ _ AllMade (λ e. tt) (λ e. tt)
+
+  ruling-made : (self : Identity) (i : Input) (c : Chronicle) → AreMade sent c → IsMadeInput sent i
+      → AllMade (ruling self i c)
   unfolding ruling AllMade
-  ruling-made self (proposal_in w core q f) c h =
+  ruling-made self (proposal_in w core q f) c made h =
       placed-made self _ _ core q f c h.0 h.1 (placing (horizon c) MOST_BLOCKS core q (window c))
       (placed (horizon c) MOST_BLOCKS core q (window c))
-  ruling-made self (block_in sender core q f) c h =
+  ruling-made self (block_in sender core q f) c made h =
       placed-made self _ _ core q f c h.0 h.1 (placing (horizon c) MOST_BLOCKS core q (window c))
       (placed (horizon c) MOST_BLOCKS core q (window c))
-  ruling-made self (vote_in d b) c h = vote-made d b c h _ refl
-  ruling-made self (new_view_in w r q) c h = view-made w r q _ h
-  ruling-made self (request_in r) c h = request-made r c h
-  ruling-made self (fetch_in r d) c h = tt
-  ruling-made self timeout_in c h = tt
-  ruling-made self beat_in c h = tt
-  ruling-made self (prune_in height) c h = tt
+  ruling-made self (vote_in d b) c made h = vote-made d b c h _ refl
+  ruling-made self (new_view_in w r q) c made h = view-made w r q _ h
+  ruling-made self (request_in r) c made h = request-made r c h
+  ruling-made self (fetch_in r d) c made h = tt
+  ruling-made self timeout_in c made h = tt
+  ruling-made self beat_in c made h = tt
+  ruling-made self (prune_in height) c made h = tt
+  ruling-made self (offered_in w sender core q f) c made h =
+      offer-made self w sender core q f c made h (placing (horizon c) MOST_BLOCKS core q (window c))
+      (placed (horizon c) MOST_BLOCKS core q (window c))
+  ruling-made self (relayed_in senders core q f) c made h =
+      relay-made self senders core q f c h (placing (horizon c) MOST_BLOCKS core q (window c))
+      (placed (horizon c) MOST_BLOCKS core q (window c))
+  ruling-made self (lead_in d) c made h = lead-made self (find_block d c) c
+  ruling-made self (ask_in r d) c made h = tt
+  ruling-made self (view_in w r) c made h = tt
 
   -- ---- a step
 
@@ -396,7 +432,7 @@ module _ (sent : List Sent) where
             | cut_short held ↦ (r, fails fault.Stopped)
           ])
       by running =
-          on_ruling-made self m (ruling self i r.chronicle) r.chronicle h (ruling-made self i r.chronicle k)
+          on_ruling-made self m (ruling self i r.chronicle) r.chronicle h (ruling-made self i r.chronicle h k)
       by stopped = record { chronicle = h; out = λ o n. absurd n }
       by (cut_short held) = record { chronicle = h; out = λ o n. absurd n }
 
@@ -418,19 +454,52 @@ module _ (sent : List Sent) where
   check-made self s (frame.vote d b) i m j h e = subst (IsMadeInput sent) (when-good _ _ _ e).1 (s, m, h.0, j)
   check-made self s (frame.new_view w r q v) i m j h e = subst (IsMadeInput sent) (when-good _ _ _ e).1 h.1
   check-made self s (frame.fetch r d t) i m j h e = subst (IsMadeInput sent) (when-good _ _ _ e).1 tt
-  check-made self s (frame.reply r c q p t g) i m j h e = absurd (apart e)
-    where
-      apart : rejected fault.NotMine ≡ passes i → ⊥
-      apart k = cc
+  check-made self s (frame.reply r c q p t g) i m j h e = absurd (not_mine i e)
+
+  -- one that is offered
+  offer-sent : (self : Identity) (f : Frame) (i : Input) → Passed sent f → check_offer self f ≡ passes i
+      → IsMadeInput sent i
+  unfolding check_offer
+  offer-sent self (frame.proposal view core q v) i h e = subst (IsMadeInput sent) (when-good _ _ _ e).1 h.0
+  offer-sent self (frame.block sender core q t) i h e = subst (IsMadeInput sent) (when-good _ _ _ e).1 h.0
+  offer-sent self (frame.new_view w r q v) i h e = subst (IsMadeInput sent) (when-good _ _ _ e).1 tt
+  offer-sent self (frame.request c) i h e = absurd (not_mine i e)
+  offer-sent self (frame.vote d b) i h e = absurd (not_mine i e)
+  offer-sent self (frame.fetch r d t) i h e = absurd (not_mine i e)
+  offer-sent self (frame.reply r c q p t g) i h e = absurd (not_mine i e)
+
+  -- copies of a block
+  copies-made : (self : Identity) (f : Frame) (fs : List Frame) (i : Input) → Passed sent f
+      → check_copies self f fs ≡ passes i → IsMadeInput sent i
+  unfolding check_copies
+  copies-made self (frame.block sender core q t) fs i h e = subst (IsMadeInput sent) (when-good _ _ _ e).1 h.0
+  copies-made self (frame.proposal view core q v) fs i h e = absurd (not_mine i e)
+  copies-made self (frame.new_view w r q v) fs i h e = absurd (not_mine i e)
+  copies-made self (frame.request c) fs i h e = absurd (not_mine i e)
+  copies-made self (frame.vote d b) fs i h e = absurd (not_mine i e)
+  copies-made self (frame.fetch r d t) fs i h e = absurd (not_mine i e)
+  copies-made self (frame.reply r c q p t g) fs i h e = absurd (not_mine i e)
+
+  gathered-made : (self : Identity) (fs : List Frame) (i : Input) → ((f : Frame) → Among f fs → Passed sent f)
+      → check_gathered self fs ≡ passes i → IsMadeInput sent i
+  unfolding check_gathered
+  gathered-made self [] i h e = absurd (not_frame i e)
+  gathered-made self (f ∷ fs) i h e = copies-made self f (f ∷ fs) i (h f (inl refl)) e
 
 -- ---- what an event does
 
--- nothing to replicas, or a correct replica takes a recorded frame, a timeout or a beat, or a client submits
+-- an input is of a recorded frame that comes or is offered, of several that come together, or of none
+data IsTaken (w : World) (e : Event) (i : Input) : Type 0 where
+  by_check : (f : Frame) → Among f (brought w e) → check (self_of w (party_of e)) f ≡ passes i → IsTaken w e i
+  by_offer : (f : Frame) → Among f (brought w e) → check_offer (self_of w (party_of e)) f ≡ passes i
+      → IsTaken w e i
+  by_copies : check_gathered (self_of w (party_of e)) (brought w e) ≡ passes i → IsTaken w e i
+  by_none : ((sent : List Sent) → IsMadeInput sent i) → IsTaken w e i
+
+-- nothing to replicas, or a correct replica takes an input, or a client submits
 data Moves (w : World) (e : Event) (m : MemorySupply) : Effect → Type 0 where
   still : (f : Effect) → f.replica ≡ w.replica → f.out ≡ [] → Moves w e m f
-  taking : (i : Input) → is_member w (party_of e) ≡ true
-      → ((f : Frame) × (brought w e ≡ Some f) × (check (self_of w (party_of e)) f ≡ passes i))
-      ⊎ ((i ≡ timeout_in) ⊎ ((i ≡ beat_in) ⊎ ((height : ℕ) × (i ≡ prune_in height))))
+  taking : (i : Input) → is_member w (party_of e) ≡ true → IsTaken w e i
       → Moves w e m (stepped w (party_of e) m (step (self_of w (party_of e)) m i (w.replica (party_of e))))
   asking : (c : ℕ) (payload : Bytes) → e ≡ submit c payload → Moves w e m (submits c m payload w)
 
@@ -442,20 +511,34 @@ hears-moves : (w : World) (e : Event) (m : MemorySupply) (c : ℕ) (f : Frame) �
 unfolding told
 hears-moves w e m c f = still _ refl refl
 
+checked-moves : (w : World) (e : Event) (m : MemorySupply) (x : Checked) → is_member w (party_of e) ≡ true
+    → ((i : Input) → x ≡ passes i → IsTaken w e i) → Moves w e m (on_checked (party_of e) m x w)
+checked-moves w e m (passes i) me h = taking i me (h i refl)
+checked-moves w e m (rejected n) me h = nothing-moves w e m (Some n)
+
+-- one alone
+listed-there : (w : World) (e : Event) (o : Option Frame) (f : Frame) → brought w e ≡ listed o → o ≡ Some f
+    → Among f (brought w e)
+listed-there w e o f b k =
+    subst (Among f) (sym (b ∙ ap (λ (x : Option Frame). listed x) k)) (inl refl)
+
 comes-moves : (w : World) (e : Event) (m : MemorySupply) → w.is_faulty (party_of e) ≡ false
-    → (o : Option Frame)
-    → brought w e ≡ o → Moves w e m (comes (party_of e) m o w)
+    → (o : Option Frame) → brought w e ≡ listed o → Moves w e m (comes (party_of e) m o w)
 unfolding comes
 comes-moves w e m ok None b = nothing-moves w e m (Some fault.NotAFrame)
 comes-moves w e m ok (Some f) b =
     cond_both (is_replica w (party_of e)) (on_checked (party_of e) m (check (self_of w (party_of e)) f) w)
     (hears _ m f w) (Moves w e m)
-    (λ r. checked (check (self_of w (party_of e)) f) refl r) (λ r. hears-moves w e m _ f)
-  where
-    checked : (x : Checked) → check (self_of w (party_of e)) f ≡ x → is_replica w (party_of e) ≡ true
-        → Moves w e m (on_checked (party_of e) m x w)
-    checked (passes i) g r = taking i (and_from _ _ r (not_from_false _ ok)) (inl (f, b, g))
-    checked (rejected n) g r = nothing-moves w e m (Some n)
+    (λ r. checked-moves w e m (check (self_of w (party_of e)) f) (and_from _ _ r (not_from_false _ ok))
+    (λ i g. by_check f (listed-there w e (Some f) f b refl) g))
+    (λ r. hears-moves w e m _ f)
+
+offers-moves : (w : World) (e : Event) (m : MemorySupply) → is_member w (party_of e) ≡ true
+    → (o : Option Frame) → brought w e ≡ listed o → Moves w e m (offers (party_of e) m o w)
+unfolding offers
+offers-moves w e m me None b = nothing-moves w e m (Some fault.NotAFrame)
+offers-moves w e m me (Some f) b = checked-moves w e m (check_offer (self_of w (party_of e)) f) me
+    (λ i g. by_offer f (listed-there w e (Some f) f b refl) g)
 
 acts-moves : (w : World) (e : Event) (m : MemorySupply) → refusal w e ≡ None
     → w.is_faulty (party_of e) ≡ false
@@ -465,12 +548,23 @@ acts-moves w (submit c payload) m n ok = asking c payload refl
 acts-moves w (relay k to) m n ok = comes-moves w (relay k to) m ok (recorded w k) refl
 acts-moves w (inject to bytes f) m n ok = comes-moves w (inject to bytes f) m ok f refl
 acts-moves w (timeout r) m n ok =
-    taking timeout_in (and_from _ _ (named w (timeout r) n) (not_from_false _ ok)) (inr (inl refl))
+    taking timeout_in (and_from _ _ (named w (timeout r) n) (not_from_false _ ok)) (by_none (λ s. tt))
 acts-moves w (beat r) m n ok =
-    taking beat_in (and_from _ _ (named w (beat r) n) (not_from_false _ ok)) (inr (inr (inl refl)))
+    taking beat_in (and_from _ _ (named w (beat r) n) (not_from_false _ ok)) (by_none (λ s. tt))
 acts-moves w (prune r height) m n ok =
     taking (prune_in height) (and_from _ _ (named w (prune r height) n) (not_from_false _ ok))
-    (inr (inr (inr (height, refl))))
+    (by_none (λ s. tt))
+acts-moves w (offer to source) m n ok =
+    offers-moves w (offer to source) m (and_from _ _ (named w (offer to source) n) (not_from_false _ ok))
+    (frame_of w source) refl
+acts-moves w (gather to ss) m n ok =
+    checked-moves w (gather to ss) m (check_gathered (self_of w to) (frames_of w ss))
+    (and_from _ _ (named w (gather to ss) n) (not_from_false _ ok)) (λ i g. by_copies g)
+acts-moves w (leads_from r d) m n ok =
+    taking (lead_in d) (and_from _ _ (named w (leads_from r d) n) (not_from_false _ ok)) (by_none (λ s. tt))
+acts-moves w (ask r to d) m n ok =
+    taking (ask_in to d) (and_from _ _ (and_parts _ _ (named w (ask r to d) n)).0 (not_from_false _ ok))
+    (by_none (λ s. tt))
 
 effect-moves : (w : World) (e : Event) (m : MemorySupply) → refusal w e ≡ None → Moves w e m (effect w (e, m))
 unfolding effect
@@ -486,23 +580,44 @@ record IsPassedOn (w : World) : Type 0 where
   made : (p : ℕ) → is_member w p ≡ true → AreMade w.sent (w.replica p).chronicle
   sent : (s : Sent) → Among s w.sent → (s.sender ≡ sender_of w.sizes s.frame) × Passed w.sent s.frame
 
--- what is brought is a recorded frame, for this party
-brings-sent : (w : World) (e : Event) (f : Frame) → IsDelivered w e → brought w e ≡ Some f
-    → (s : Sent) × Among s w.sent × (s.frame ≡ f) × IsFor (party_of e) s.to f
-unfolding brought party_of
-brings-sent w (relay k to) f d b = by (slice_get w.sent k) refl b
+-- a frame is recorded, and for this party
+abbrev IsRecorded : World → ℕ → Frame → Type 0
+IsRecorded w p f = (s : Sent) × Among s w.sent × (s.frame ≡ f) × IsFor p s.to f
+
+-- that of a source
+source-sent : (w : World) (to : ℕ) (source : Source) (f : Frame) → IsDeliveredFrom w to source
+    → Among f (listed (frame_of w source)) → IsRecorded w to f
+source-sent w to (of_bytes bytes read) f d m = absurd d
+source-sent w to (of_record k) f d m = by (slice_get w.sent k) refl m
   where
-    by : (o : Option Sent) → slice_get w.sent k ≡ o → option_map (λ s. s.frame) o ≡ Some f
-        → (s : Sent) × Among s w.sent × (s.frame ≡ f) × IsFor to s.to f
-    by None i j = absurd (none-some f j)
-    by (Some s) i j =
-        let here : s.frame ≡ f =
-        cc in (s, slice_get-among w.sent k s i, here, subst (λ (g : Frame). IsFor to s.to g) here (d s i))
-brings-sent w (submit c payload) f d b = absurd (none-some f b)
+    by : (o : Option Sent) → slice_get w.sent k ≡ o → Among f (listed (option_map (λ s. s.frame) o))
+        → IsRecorded w to f
+    by None i n = absurd n
+    by (Some s) i (inl j) =
+        (s, slice_get-among w.sent k s i, sym j, subst (λ (g : Frame). IsFor to s.to g) (sym j) (d s i))
+    by (Some s) i (inr n) = absurd n
+
+-- those of several
+sources-sent : (w : World) (to : ℕ) (ss : List Source) (f : Frame) → AllByRecursion (IsDeliveredFrom w to) ss
+    → Among f (frames_of w ss) → IsRecorded w to f
+sources-sent w to [] f d m = absurd m
+sources-sent w to (s ∷ ss) f d m = elim (Among-either f (listed (frame_of w s)) (frames_of w ss) m)
+    [ inl k ↦ source-sent w to s f d.0 k | inr k ↦ sources-sent w to ss f d.1 k ]
+
+-- what is brought is a recorded frame, for this party
+brings-sent : (w : World) (e : Event) (f : Frame) → IsDelivered w e → Among f (brought w e)
+    → IsRecorded w (party_of e) f
+unfolding brought party_of
+brings-sent w (relay k to) f d b = source-sent w to (of_record k) f d b
+brings-sent w (submit c payload) f d b = absurd b
 brings-sent w (inject to bytes read) f d b = absurd d
-brings-sent w (timeout r) f d b = absurd (none-some f b)
-brings-sent w (beat r) f d b = absurd (none-some f b)
-brings-sent w (prune r height) f d b = absurd (none-some f b)
+brings-sent w (timeout r) f d b = absurd b
+brings-sent w (beat r) f d b = absurd b
+brings-sent w (prune r height) f d b = absurd b
+brings-sent w (offer to source) f d b = source-sent w to source f d b
+brings-sent w (gather to ss) f d b = sources-sent w to ss f d b
+brings-sent w (leads_from r x) f d b = absurd b
+brings-sent w (ask r to x) f d b = absurd b
 
 -- what an effect keeps
 record KeepsMade (w : World) (e : Event) (f : Effect) : Type 0 where
@@ -533,16 +648,24 @@ asked-made w e c payload x a i given = record {
   ];
 }
 
-input-made : (w : World) (e : Event) (i : Input) → IsPassedOn w → IsDelivered w e
-    → ((f : Frame) × (brought w e ≡ Some f) × (check (self_of w (party_of e)) f ≡ passes i))
-    ⊎ ((i ≡ timeout_in) ⊎ ((i ≡ beat_in) ⊎ ((height : ℕ) × (i ≡ prune_in height)))) → IsMadeInput w.sent i
-input-made w e i a d (inl b) =
-    let s = brings-sent w e b.0 d b.1 in
-    check-made w.sent (self_of w (party_of e)) s.0 b.0 i s.1 s.2
-    (subst (λ (f : Frame). (s.0.sender ≡ sender_of w.sizes f) × Passed w.sent f) s.2 (a.sent s.0 s.1)) b.2
-input-made w e i a d (inr (inl t)) = subst (IsMadeInput w.sent) (sym t) tt
-input-made w e i a d (inr (inr (inl t))) = subst (IsMadeInput w.sent) (sym t) tt
-input-made w e i a d (inr (inr (inr t))) = subst (IsMadeInput w.sent) (sym t.1) tt
+-- what is brought is its sender's own, and passes on what was sent
+brings-passed : (w : World) (e : Event) (f : Frame) → IsPassedOn w → IsDelivered w e → Among f (brought w e)
+    → (s : Sent) × Among s w.sent × (s.frame ≡ f) × (s.sender ≡ sender_of w.sizes f) × Passed w.sent f
+brings-passed w e f a d b =
+    let s = brings-sent w e f d b in
+    let h = subst (λ (g : Frame). (s.0.sender ≡ sender_of w.sizes g) × Passed w.sent g) s.2 (a.sent s.0 s.1) in
+    (s.0, s.1, s.2, h.0, h.1)
+
+input-made : (w : World) (e : Event) (i : Input) → IsPassedOn w → IsDelivered w e → IsTaken w e i
+    → IsMadeInput w.sent i
+input-made w e i a d (by_check f b g) =
+    let s = brings-passed w e f a d b in
+    check-made w.sent (self_of w (party_of e)) s.0 f i s.1 s.2 (s.3, s.4) g
+input-made w e i a d (by_offer f b g) =
+    offer-sent w.sent (self_of w (party_of e)) f i (brings-passed w e f a d b).4 g
+input-made w e i a d (by_copies g) =
+    gathered-made w.sent (self_of w (party_of e)) (brought w e) i (λ f b. (brings-passed w e f a d b).4) g
+input-made w e i a d (by_none h) = h w.sent
 
 moves-made : (w : World) (e : Event) (m : MemorySupply) (f : Effect) → IsPassedOn w → IsDelivered w e
     → Moves w e m f → KeepsMade w e f
@@ -593,20 +716,36 @@ IsOwnFor party to (frame.fetch sender d t) = to ≡ to_party party
 IsOwnFor party to (frame.block sender core q t) = to ≡ to_party party
 IsOwnFor party to f = ⊤
 
+-- who admits a frame that a replica alone admits is one
+admits-replica : (w : World) (e : Event) (f : Frame)
+    → ((p : ℕ) → admits w p f ≡ true → is_replica w p ≡ true) → admits_in w e f ≡ true
+    → is_replica w (party_of e) ≡ true
+unfolding party_of
+admits-replica w (submit c payload) f k ad = k (client_party c) ad
+admits-replica w (relay n to) f k ad = k to ad
+admits-replica w (inject to bytes read) f k ad = k to ad
+admits-replica w (timeout r) f k ad = k r ad
+admits-replica w (beat r) f k ad = k r ad
+admits-replica w (prune r height) f k ad = k r ad
+admits-replica w (offer to source) f k ad = (and_parts _ _ ad).0
+admits-replica w (gather to ss) f k ad = (and_parts _ _ ad).0
+admits-replica w (leads_from r d) f k ad = k r ad
+admits-replica w (ask r to d) f k ad = k r ad
+
 -- so is one that a correct replica with its own keys admits
-own-for : (w : World) (p : ℕ) (to : To) (f : Frame) → HaveOwnKeys w → w.is_faulty p ≡ false
-    → admits w p f ≡ true → IsFor p to f → IsOwnFor (w.ring p).party to f
-own-for w p to (frame.fetch r d t) keys ok ad h =
-    subst (λ (n : ℕ). to ≡ to_party n)
-    (sym (keys p (and_from _ _ (and_parts _ _ ad).0 (not_from_false _ ok)))) h
-own-for w p to (frame.block r core q t) keys ok ad h =
-    subst (λ (n : ℕ). to ≡ to_party n)
-    (sym (keys p (and_from _ _ (and_parts _ _ ad).0 (not_from_false _ ok)))) h
-own-for w p to (frame.request c) keys ok ad h = tt
-own-for w p to (frame.proposal v core q t) keys ok ad h = tt
-own-for w p to (frame.vote d b) keys ok ad h = tt
-own-for w p to (frame.new_view v r q t) keys ok ad h = tt
-own-for w p to (frame.reply r c q x t g) keys ok ad h = tt
+own-for : (w : World) (e : Event) (to : To) (f : Frame) → HaveOwnKeys w → w.is_faulty (party_of e) ≡ false
+    → admits_in w e f ≡ true → IsFor (party_of e) to f → IsOwnFor (w.ring (party_of e)).party to f
+own-for w e to (frame.fetch r d t) keys ok ad h =
+    let here = admits-replica w e (frame.fetch r d t) (λ p a. (and_parts _ _ a).0) ad in
+    subst (λ (n : ℕ). to ≡ to_party n) (sym (keys (party_of e) (and_from _ _ here (not_from_false _ ok)))) h
+own-for w e to (frame.block r core q t) keys ok ad h =
+    let here = admits-replica w e (frame.block r core q t) (λ p a. (and_parts _ _ a).0) ad in
+    subst (λ (n : ℕ). to ≡ to_party n) (sym (keys (party_of e) (and_from _ _ here (not_from_false _ ok)))) h
+own-for w e to (frame.request c) keys ok ad h = tt
+own-for w e to (frame.proposal v core q t) keys ok ad h = tt
+own-for w e to (frame.vote d b) keys ok ad h = tt
+own-for w e to (frame.new_view v r q t) keys ok ad h = tt
+own-for w e to (frame.reply r c q x t g) keys ok ad h = tt
 
 module _ (sent : List Sent) (self : Identity) where
   -- the frame's own
@@ -685,10 +824,10 @@ module _ (sent : List Sent) (self : Identity) where
 no-forgery : (w : World) (e : Event) → IsPassedOn w → IsDelivered w e → NoForgeryIn w e
 no-forgery w e a d f b ok ad x n correct =
     let s = brings-sent w e f d b in
-    let h =
-    subst (λ (g : Frame). (s.0.sender ≡ sender_of w.sizes g) × Passed w.sent g) s.2 (a.sent s.0 s.1) in
-    tags-sent w.sent (self_of w (party_of e)) f x s.0 s.1 s.2 h.0
-    (own-for w (party_of e) s.0.to f a.keys ok ad s.3) h.1 n
+    let h = brings-passed w e f a d b in
+    tags-sent w.sent (self_of w (party_of e)) f x s.0 s.1 s.2
+    ((a.sent s.0 s.1).0 ∙ ap (sender_of w.sizes) s.2)
+    (own-for w e s.0.to f a.keys ok ad s.3) h.4 n
 
 -- a whole run
 run-forges : (hs : List Happening) (w last : World) → IsPassedOn w → AllDelivered w hs → run w hs ≡ Ok last
@@ -700,6 +839,11 @@ run-forges (h ∷ hs) w last a d e =
     (no-forgery w h.0 a d.0, run-forges hs (happens w h) last (happens-passed w h.0 h.1 a d.0 r.0) d.1 r.1)
 
 -- recorded frames are not read
+source-read : (sizes : Sizes) (w : World) (to : ℕ) (source : Source) → IsDeliveredFrom w to source
+    → IsReadFrom sizes source
+source-read sizes w to (of_record k) d = tt
+source-read sizes w to (of_bytes bytes read) d = absurd d
+
 delivered-read : (sizes : Sizes) (w : World) (e : Event) → IsDelivered w e → IsReadIn sizes e
 delivered-read sizes w (submit c payload) d = tt
 delivered-read sizes w (relay k to) d = tt
@@ -707,6 +851,11 @@ delivered-read sizes w (inject to bytes read) d = absurd d
 delivered-read sizes w (timeout r) d = tt
 delivered-read sizes w (beat r) d = tt
 delivered-read sizes w (prune r height) d = tt
+delivered-read sizes w (offer to source) d = source-read sizes w to source d
+delivered-read sizes w (gather to ss) d =
+    all-implied (IsDeliveredFrom w to) (IsReadFrom sizes) (source-read sizes w to) ss d
+delivered-read sizes w (leads_from r x) d = tt
+delivered-read sizes w (ask r to x) d = tt
 
 all-read : (sizes : Sizes) (hs : List Happening) (w : World) → AllDelivered w hs → AllRead sizes hs
 all-read sizes [] w d = tt

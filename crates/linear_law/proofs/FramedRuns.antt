@@ -46,6 +46,7 @@ use Rattle.linear_law.proofs.Runs.{chronicles, IsMadeWell, IsHonest, IsAfter, st
 use Rattle.linear_law.proofs.Fits.{IsCoreOrGenesis}
 use Rattle.linear_law.proofs.Linear.{IsGood, ground}
 use Rattle.linear_law.proofs.Final.{IsAccount}
+use Rattle.linear_law.proofs.MadeCertificates.{qc_high-is}
 use Rattle.linear_law.proofs.StoredFrames.{arises-read, AreStored, IsStoredRuling, ruling-stored}
 use Rattle.linear_law.proofs.SentFrames.{fetch-fits, sends-fit}
 use Rattle.linear_law.proofs.Sends.{sends}
@@ -273,7 +274,7 @@ module _ (Known : Core → Type 0) (apart : NoCollision Known) (genesis : Known 
       (step-keeps Known apart genesis ground w e m i g.run g.made honest mp ar) in
       let own : (put p r.0 w.replica p).chronicle ≡ r.0.chronicle =
       ap (λ (x : Replica). x.chronicle) (put-own p r.0 w.replica) in
-      let h : IsStoredRuling self c (ruling self i c) = ruling-stored self i c (arises-read w e i ar) so in
+      let h : IsStoredRuling self c (ruling self i c) = ruling-stored self i c (arises-read w e i ar) (qc_high-is self c (a.stored p mp)) so in
       after-framed Known apart genesis self m (ruling self i c) (w.replica p) r g.cores
       (member-number w p g.made mp)
       (record { sound = so; known = g.run.row.known p mp; stored = a.stored p mp })
@@ -310,7 +311,7 @@ module _ (Known : Core → Type 0) (apart : NoCollision Known) (genesis : Known 
       record { stored = a.stored; leaves = a.leaves; out = λ o k. absurd k }
   effect-framed w e m f g n honest a ok sent (step_by i me ar) =
       stepped-framed w (party_of e) m _ a (step-framed w e m i g honest a me ar _ refl sent)
-  effect-framed w e m f g n honest a ok sent (hearing x b r y pa) =
+  effect-framed w e m f g n honest a ok sent (hearing x b ad r y pa) =
       record { stored = a.stored; leaves = a.leaves; out = λ o k. absurd k }
   effect-framed w e m f g n honest a ok sent (submitting c payload i y) = record {
     stored = a.stored;

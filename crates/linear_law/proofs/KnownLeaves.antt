@@ -19,7 +19,7 @@ use Rattle.linear_law.proofs.Linear.{ground}
 use Rattle.linear_law.proofs.StoredFrames.{AreStored}
 use Rattle.linear_law.proofs.MadeCertificates.{qc_high-is}
 use Rattle.linear_law.proofs.Leaves.{IsChild, child-is, LeafStep, LeafStep.raises, LeafStep.keeps}
-use Rattle.linear_law.proofs.Leaves.{LeafStep.makes, leaf-step, known-block, child-core, high-known}
+use Rattle.linear_law.proofs.Leaves.{LeafStep.makes, LeafStep.moves, leaf-step, known-block, child-core, high-known}
 use Rattle.linear_law.proofs.SentFrames.{IsFitProposal}
 
 -- what is kept of a running replica's leaf and of its last proposal
@@ -96,7 +96,7 @@ module _ (Known : Core → Type 0) (apart : NoCollision Known) (genesis : Known 
           subst (IsFitProposal self) is (record {
             core_is = made-core self c b g k i;
             certificate_is = high.certificate_is;
-            good = high.good;
+            kept = high.kept;
           })
   proposal-now self (took_block a) c g k j e = k.proposal j e
   proposal-now self (noted n) c g k j e = k.proposal j e
@@ -109,6 +109,8 @@ module _ (Known : Core → Type 0) (apart : NoCollision Known) (genesis : Known 
   leaf-now self st c b g now k sent (raises l) =
       now.known _ (high-known self.sizes (st ∷ c) now.sound.lawful now.sound.known)
   leaf-now self st c b g now k sent (keeps l) = k.known
+  leaf-now self st c b g now k sent (moves x e i) =
+      subst (AllKnown Known) i (now.known _ (high-known self.sizes (st ∷ c) now.sound.lawful now.sound.known))
   leaf-now self st c b g now k sent (makes x beats l e) =
       let ch = child-is self c (leaf self c) x e in
       let j : Justified = record { block = x; certificate = (qc_high self.sizes c).certificate } in

@@ -2,8 +2,8 @@
 -- in frames.
 use Rattle.ids.specs.declared.limits.TheConstants.{MOST_COMMANDS}
 use Rattle.std.proofs.Common.{ℕ, suc, if◌then◌else◌, ◌≡◌, ◌<◌, ◌≤◌, ◌+◌, ◌^◌, ◌&&◌, not, true, List, []}
-use Rattle.std.proofs.Common.{◌∷◌, ◌++◌, length, refl, sym, ap, subst, arith, inl, Option, Some, None}
-use Rattle.std.proofs.Common.{true≢false, ◌-◌, ◌==◌, nat_lt, nat_le, map, filter, take, is_some}
+use Rattle.std.proofs.Common.{◌∷◌, ◌++◌, length, refl, sym, ap, subst, arith, inl, inr, Option, Some, None}
+use Rattle.std.proofs.Common.{◌||◌, true≢false, ◌-◌, ◌==◌, nat_lt, nat_le, map, filter, take, is_some}
 use Rattle.std.specs.List.{list_any, AllByRecursion}
 use Rattle.std.proofs.lemmas.Bool.{and_parts, cond_both, ltb-true, ltb-false}
 use Rattle.std.proofs.lemmas.List.{length-take}
@@ -21,7 +21,9 @@ use Rattle.definitions.specs.Chronicles.{Chronicle}
 use Rattle.definitions.specs.Chronicles.{taken_blocks, tree, history, horizon, IsLawful, AreKnown, IsSound}
 use Rattle.definitions.specs.Checks.{Identity}
 use Rattle.definitions.specs.States.{known_as, announcements, announced, reached_view, view, raised, qc_high}
-use Rattle.definitions.specs.States.{Justified, higher, votes}
+use Rattle.definitions.specs.States.{Justified, fills, higher, votes}
+use Rattle.definitions.specs.Chronicles.{Note.seen_view, Note.led_from}
+use Rattle.definitions.proofs.Horizons.{higher-rises, qc_high-cases, led-high}
 use Rattle.definitions.specs.States.{is_same_request, is_due, with_request, pending, leads, find_block}
 use Rattle.definitions.specs.States.{is_known, picks, child, leaf, or_else}
 use Rattle.std.proofs.lemmas.Option.{same_Some}
@@ -41,6 +43,7 @@ announced-fit : (self : Identity) (c : Chronicle) → AreStored self c
 unfolding announcements
 announced-fit self [] h = tt
 announced-fit self (noted (got_new_view w r q b) ∷ c) h = (h.0.view_is, announced-fit self c h.1)
+announced-fit self (noted (seen_view w r) ∷ c) h = (h.0, announced-fit self c h.1)
 announced-fit self (took_block a ∷ c) h = announced-fit self c h.1
 announced-fit self (noted n ∷ c) h = announced-fit self c h.1
 
@@ -70,6 +73,10 @@ view-fits self (noted (got_new_view w r q b) ∷ c) h =
     let k =
     view-fits self c h.1 in let l =
     reached-fits self (noted (got_new_view w r q b) ∷ c) h in omega (arith, k, l)
+view-fits self (noted (seen_view w r) ∷ c) h =
+    let k = view-fits self c h.1 in
+    let l = reached-fits self (noted (seen_view w r) ∷ c) h in
+    omega (arith, k, l)
 view-fits self (took_block a ∷ c) h = view-fits self c h.1
 view-fits self (noted n ∷ c) h = view-fits self c h.1
 
@@ -96,6 +103,7 @@ pub pending-fit : (self : Identity) (c : Chronicle) → AreStored self c
     → AllByRecursion (IsCommand self.sizes) (pending c)
 unfolding pending
 pending-fit self [] h = tt
+pending-fit self (noted (led_from b) ∷ c) h = tt
 pending-fit self (st ∷ c) h =
     all-filter (IsCommand self.sizes) (is_due (history (st ∷ c))) (with_request st (pending c))
     (all-with_request self st c (pending c) h (pending-fit self c h.1))
@@ -145,53 +153,47 @@ child-is self c on b =
 pub data LeafStep (self : Identity) (st : Step) (c : Chronicle) : Branch → Type 0 where
   raises : length (qc_high self.sizes c).block < length (qc_high self.sizes (st ∷ c)).block
       → LeafStep self st c (qc_high self.sizes (st ∷ c)).block
-  keeps : length (qc_high self.sizes (st ∷ c)).block ≤ length (qc_high self.sizes c).block
+  keeps : length (qc_high self.sizes (st ∷ c)).block ≡ length (qc_high self.sizes c).block
       → LeafStep self st c (leaf self c)
+  moves : (b : Branch) → st ≡ (noted (led_from b)) → (qc_high self.sizes (st ∷ c)).block ≡ b
+      → LeafStep self st c b
   makes : (b : Branch) → st ≡ (noted beat)
-      → length (qc_high self.sizes (st ∷ c)).block ≤ length (qc_high self.sizes c).block
+      → length (qc_high self.sizes (st ∷ c)).block ≡ length (qc_high self.sizes c).block
       → child self c (leaf self c) ≡ Some b → LeafStep self st c b
 
--- a step that is no beat
+-- a step that is no beat and no lead
 leaf-either : (self : Identity) (st : Step) (c : Chronicle)
+    → length (qc_high self.sizes c).block ≤ length (qc_high self.sizes (st ∷ c)).block
     → LeafStep self st c (if nat_lt (length (qc_high self.sizes c).block)
     (length (qc_high self.sizes (st ∷ c)).block) then (qc_high self.sizes (st ∷ c)).block else leaf self
     c)
-leaf-either self st c =
+leaf-either self st c rises =
     cond_both (nat_lt (length (qc_high self.sizes c).block) (length (qc_high self.sizes (st ∷ c)).block)) _
     _ (LeafStep self st c)
     (λ e. raises (ltb-true _ _ e))
-    (λ e. keeps (ltb-false _ _ e))
+    (λ e. keeps (let l = ltb-false _ _ e in omega (arith, l, rises)))
 
 -- a beat raises no certificate
 beat-same : (self : Identity) (c : Chronicle)
-    → length (qc_high self.sizes (noted beat ∷ c)).block ≤ length (qc_high self.sizes c).block
+    → length (qc_high self.sizes (noted beat ∷ c)).block ≡ length (qc_high self.sizes c).block
 unfolding qc_high raised
-beat-same self c = omega arith
+beat-same self c = refl
 
 -- each step leaves it in one of these ways
 pub leaf-step : (self : Identity) (st : Step) (c : Chronicle) → LeafStep self st c (leaf self (st ∷ c))
-unfolding leaf
+unfolding leaf qc_high
+leaf-step self (noted (led_from b)) c = moves b refl (led-high self.sizes b c)
 leaf-step self (noted beat) c = by (child self c (leaf self c)) refl
   where
     by : (o : Option Branch) → child self c (leaf self c) ≡ o
         → LeafStep self (noted beat) c (or_else o (leaf self c))
     by None e = keeps (beat-same self c)
     by (Some b) e = makes b refl (beat-same self c) e
-leaf-step self (took_block a) c = leaf-either self (took_block a) c
-leaf-step self (noted n) c = leaf-either self (noted n) c
-
--- the highest certificate never falls
-high-rises : (s : Sizes) (st : Step) (c : Chronicle)
-    → length (qc_high s c).block ≤ length (qc_high s (st ∷ c)).block
-unfolding qc_high
-high-rises s st c = by (raised s st c)
-  where
-    by : (o : Option Justified) → length (qc_high s c).block ≤ length (higher o (qc_high s c)).block
-    by None = omega arith
-    by (Some q) =
-        cond_both (nat_lt (length (qc_high s c).block) (length q.block)) q (qc_high s c)
-        (λ (j : Justified). length (qc_high s c).block ≤ length j.block)
-        (λ t. let l = ltb-true _ _ t in omega (arith, l)) (λ t. omega arith)
+leaf-step self (took_block a) c =
+    leaf-either self (took_block a) c
+    (higher-rises (raised self.sizes (took_block a) c) (qc_high self.sizes c))
+leaf-step self (noted n) c =
+    leaf-either self (noted n) c (higher-rises (raised self.sizes (noted n) c) (qc_high self.sizes c))
 
 -- what a step brings is for a known block
 brought-known : (s : Sizes) (st : Step) (c : Chronicle) → IsLawful s (st ∷ c) → AreKnown (st ∷ c)
@@ -215,22 +217,31 @@ known-before : (st : Step) (c : Chronicle) → AreKnown (st ∷ c) → AreKnown 
 known-before (took_block a) c k = k
 known-before (noted (got_vote voter v b)) c k = k.1
 known-before (noted (got_new_view w r q b)) c k = k.1
+known-before (noted (led_from b)) c k = k.1
 known-before (noted n) c k = k
 
 -- so is the highest one
 pub high-known : (s : Sizes) (c : Chronicle) → IsLawful s c → AreKnown c → Among (qc_high s c).block (tree c)
 unfolding qc_high
 high-known s [] l k = tree-genesis []
-high-known s (st ∷ c) l k = by (raised s st c) (brought-known s st c l k)
-    (tree-grows st c (qc_high s c).block (high-known s c l.1 (known-before st c k)))
+high-known s (st ∷ c) l k =
+    elim (qc_high-cases s st c) [
+      | inl led ↦ subst (λ (x : Step). Among (qc_high s (x ∷ c)).block (tree (x ∷ c))) (sym led.1)
+          (subst (λ (b : Branch). Among b (tree (noted (led_from led.0) ∷ c))) (sym (led-high s led.0 c))
+          (tree-grows (noted (led_from led.0)) c led.0
+          (subst (λ (x : Step). AreKnown (x ∷ c)) led.1 k).0))
+      | inr e ↦ subst P (sym e) (by (raised s st c) (brought-known s st c l k)
+          (tree-grows st c (qc_high s c).block (high-known s c l.1 (known-before st c k))))
+    ]
   where
     P : Justified → Type 0
     P q = Among q.block (tree (st ∷ c))
 
     by : (o : Option Justified) → IfSome o P → P (qc_high s c) → P (higher o (qc_high s c))
     by None m old = old
-    by (Some q) m old = cond_both (nat_lt (length (qc_high s c).block) (length q.block)) q (qc_high s c) P
-        (λ t. m) (λ t. old)
+    by (Some q) m old =
+        cond_both (nat_lt (length (qc_high s c).block) (length q.block) || fills q (qc_high s c)) q
+        (qc_high s c) P (λ t. m) (λ t. old)
 
 -- each step leaves it as high as the highest certified block
 above-step : (self : Identity) (st : Step) (c : Chronicle) (b : Branch)
@@ -238,6 +249,7 @@ above-step : (self : Identity) (st : Step) (c : Chronicle) (b : Branch)
     → length (qc_high self.sizes (st ∷ c)).block ≤ length b
 above-step self st c b h (raises l) = omega arith
 above-step self st c b h (keeps l) = omega (arith, h, l)
+above-step self st c b h (moves x e k) = let i = ap (λ (y : Branch). length y) k in omega (arith, i)
 above-step self st c b h (makes x e l k) =
     let i = ap (λ (y : Branch). length y) (child-is self c (leaf self c) x k).is in
     omega (arith, h, l, i)
@@ -258,17 +270,16 @@ raised-low : (self : Identity) (c : Chronicle)
     → length (leaf self c) ≤ length c + length (qc_high self.sizes c).block
 unfolding leaf
 raised-low self [] = omega arith
-raised-low self (st ∷ c) =
-    by (raised-low self c) (high-rises self.sizes st c) (leaf self (st ∷ c)) (leaf-step self st c)
+raised-low self (st ∷ c) = by (raised-low self c) (leaf self (st ∷ c)) (leaf-step self st c)
   where
-    by : length (leaf self c) ≤ length c + length (qc_high self.sizes c).block
-        → length (qc_high self.sizes c).block ≤ length (qc_high self.sizes (st ∷ c)).block → (b : Branch)
+    by : length (leaf self c) ≤ length c + length (qc_high self.sizes c).block → (b : Branch)
         → LeafStep self st c b → length b ≤ length (st ∷ c) + length (qc_high self.sizes (st ∷ c)).block
-    by low rises b (raises l) = omega arith
-    by low rises b (keeps l) = omega (arith, low, rises)
-    by low rises b (makes x beats l e) =
+    by low b (raises l) = omega arith
+    by low b (keeps l) = omega (arith, low, l)
+    by low b (moves x e k) = let i = ap (λ (y : Branch). length y) k in omega (arith, i)
+    by low b (makes x beats l e) =
         let i = ap (λ (y : Branch). length y) (child-is self c (leaf self c) x e).is in
-        omega (arith, low, rises, i)
+        omega (arith, low, l, i)
 
 -- so its height is bounded by the number of steps
 pub leaf-low : (self : Identity) (c : Chronicle) → IsSound self.sizes c

@@ -1,4 +1,5 @@
 pub mod Inputs
+pub mod HeldVotes
 pub mod Sends
 pub mod Rows
 pub mod Effects
@@ -23,3 +24,5 @@ pub mod WholeRuns
 pub mod AnyRuns
 pub mod Submissions
 pub mod Deliveries
+pub mod AsBefore
+pub mod UsualRuns

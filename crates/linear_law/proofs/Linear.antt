@@ -101,7 +101,7 @@ pub new-good : (Known : Core → Type 0) (sizes : Sizes) (is_faulty : ℕ → Bo
     → IsGood Known (new_world sizes is_faulty ring)
 unfolding new_world taken_blocks
 new-good Known sizes is_faulty ring m cores = record {
-  run = record { row = new-row Known sizes _; votes = λ s k. absurd k };
+  run = record { row = new-row Known sizes _; stands = λ s k. absurd k; given = λ p k. tt };
   made = record { rings = m.0; enough = m.1 };
   answers = tt;
   cores = cores;

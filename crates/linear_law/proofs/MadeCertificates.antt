@@ -1,11 +1,10 @@
 -- The certificates of a chronicle: those that came in frames, and those that a quorum of votes completes.
-use Rattle.std.proofs.Common.{ℕ, ◌≡◌, ◌<◌, ◌&&◌, not, true, false, List, [], ◌∷◌, ◌++◌, length, refl, sym}
+use Rattle.std.proofs.Common.{ℕ, ◌≡◌, ◌<◌, ◌&&◌, ◌||◌, not, true, false, List, [], ◌∷◌, ◌++◌, length, refl, sym}
 use Rattle.std.proofs.Common.{ap, subst, ◌∙◌, arith, inl, inr, Option, Some, None, true≢false, ◌==◌, nat_lt}
 use Rattle.std.specs.List.{list_any, AllByRecursion}
 use Rattle.std.specs.Bool.{⊤}
-use Rattle.std.proofs.lemmas.Bool.{and_parts, eqb-true, eq-eqb, cond_both, cond-true, cases_Bool, ltb-true}
-use Rattle.std.proofs.lemmas.Bool.{not-true, or_parts}
-use lib.Pointwise.{bytes_decides}
+use Rattle.std.proofs.lemmas.Bool.{and_parts, eqb-true, eq-eqb, cond_both, cases_Bool, ltb-true}
+use Rattle.std.proofs.lemmas.Bool.{not-true, or_parts, or_cases}
 use Rattle.ids.specs.Sizes.{Sizes, quorum}
 use Rattle.definitions.specs.Bytes.{Bytes}
 use Rattle.definitions.specs.Frames.{Vote, genesis_core}
@@ -14,13 +13,16 @@ use Rattle.definitions.specs.Branches.{Branch, branch_eq}
 use Rattle.definitions.specs.Digests.{digest, digest_of}
 use Rattle.definitions.specs.Chronicles.{Step, Step.took_block, Step.noted, Note.got_vote}
 use Rattle.definitions.specs.Chronicles.{Note.got_new_view, Chronicle, taken_blocks}
-use Rattle.definitions.specs.Checks.{Identity, is_good, is_genesis, vote_verifies}
-use Rattle.definitions.specs.States.{votes, by_voter, Justified, raised, higher, qc_high}
+use Rattle.definitions.specs.Checks.{Identity, is_genesis, vote_verifies}
+use Rattle.definitions.specs.States.{votes, by_voter, Justified, raised, fills, higher, led, qc_high}
+use Rattle.definitions.specs.Grounds.{IsKept}
+use Rattle.definitions.proofs.Horizons.{qc_high-cases}
+use Rattle.definitions.specs.Chronicles.{Note.led_from}
 use Rattle.definitions.proofs.Certificates.{AreOfEach, IsDigest-digest, IsDigest-digest_of}
 use Rattle.definitions.proofs.Certificates.{IsCertificate-by_voter, is_good-by_voter, all-implied}
 use Rattle.linear_law.specs.Law.{HasCertificates}
 use Rattle.definitions.proofs.Branches.{branch_eq-decides}
-use Rattle.linear_law.proofs.StoredFrames.{AreStored}
+use Rattle.linear_law.proofs.StoredFrames.{AreStored, IsHigh}
 
 -- ---- the votes that are kept
 
@@ -46,6 +48,7 @@ votes-each s block (noted (got_vote voter v b) ∷ c) =
       votes-each s block c,
     ))
     (λ e. votes-each s block c)
+votes-each s block (noted (led_from b) ∷ c) = tt
 votes-each s block (took_block a ∷ c) = votes-each s block c
 votes-each s block (noted n ∷ c) = votes-each s block c
 
@@ -72,6 +75,7 @@ votes-count self block (noted (got_vote voter v b) ∷ c) h =
       votes-count self block c h.1,
     ))
     (λ e. votes-count self block c h.1)
+votes-count self block (noted (led_from b) ∷ c) h = tt
 votes-count self block (took_block a ∷ c) h = votes-count self block c h.1
 votes-count self block (noted n ∷ c) h = votes-count self block c h.1
 
@@ -80,7 +84,7 @@ votes-count self block (noted n ∷ c) h = votes-count self block c h.1
 -- a certificate of its block; but for a certificate of genesis it is good for the replica
 pub record IsRaised (self : Identity) (j : Justified) : Type 0 where
   pub certificate_is : IsCertificate self.sizes j.certificate
-  pub good : 0 < length j.block → is_good self j.certificate ≡ true
+  pub kept : 0 < length j.block → IsKept self j.certificate
   pub justified : j.certificate.digest ≡ digest_of j.block
 
 -- a lower block than genesis is none
@@ -108,11 +112,11 @@ completed self voter v b c h enough =
       certificate_is = IsCertificate-by_voter self.sizes (digest_of b) bs (IsDigest-digest_of b)
           (all-implied (Counts self (digest_of b)) (IsVote self.sizes) (λ x k. k.0) bs each)
           (votes-each self.sizes b (noted (got_vote voter v b) ∷ c)) enough;
-      good = λ l. is_good-by_voter self (digest_of b) bs
+      kept = λ l. inl (is_good-by_voter self (digest_of b) bs
           (all-implied (Counts self (digest_of b)) (λ x. vote_verifies self (digest_of b) x ≡ true)
           (λ x k. k.1) bs each) enough
           (elim (cases_Bool (is_genesis (digest_of b)))
-          [ inl t ↦ absurd (above-genesis b (h.0.genesis t) l) | inr f ↦ f ]);
+          [ inl t ↦ absurd (above-genesis b (h.0.genesis t) l) | inr f ↦ f ]));
       justified = refl;
     }
 
@@ -129,7 +133,7 @@ raised-all self (took_block a) c h =
     cond_both a.new _ _ (AllRaised self)
     (λ e. record {
       certificate_is = h.0.certificate_is;
-      good = λ k. h.0.good;
+      kept = λ k. h.0.kept;
       justified = h.0.justified;
     })
     (λ e. tt)
@@ -142,7 +146,7 @@ raised-all self (noted (got_vote voter v b)) c h =
 raised-all self (noted (got_new_view w r q b)) c h =
     record {
       certificate_is = h.0.certificate_is;
-      good = λ k. h.0.good;
+      kept = λ k. inl h.0.good;
       justified = h.0.justified;
     }
 raised-all self (noted n) c h = tt
@@ -154,43 +158,63 @@ raised-is self st c j h e = subst (AllRaised self) e (raised-all self st c h)
 
 -- ---- the highest certificate
 
--- the highest certificate is good, and of its block
-pub record IsHigh (self : Identity) (j : Justified) : Type 0 where
-  pub certificate_is : IsCertificate self.sizes j.certificate
-  pub good : is_good self j.certificate ≡ true
-  pub justified : j.certificate.digest ≡ digest_of j.block
-
 -- the higher one of two
 higher-high : (self : Identity) (o : Option Justified) (q : Justified) → AllRaised self o
     → IsHigh self q → IsHigh self (higher o q)
 higher-high self None q r h = h
 higher-high self (Some p) q r h =
-    cond_both (nat_lt (length q.block) (length p.block)) p q (IsHigh self)
+    cond_both (nat_lt (length q.block) (length p.block) || fills p q) p q (IsHigh self)
     (λ e. record {
       certificate_is = r.certificate_is;
-      good = r.good (let l = ltb-true (length q.block) (length p.block) e in omega (arith, l));
+      kept = r.kept (elim (or_cases _ _ e) [
+        | inl t ↦ (let l = ltb-true (length q.block) (length p.block) t in omega (arith, l))
+        | inr f ↦ (let g = and_parts _ _ (and_parts _ _ f).0 in let l = ltb-true 0 (length q.block) g.0 in
+            let k = ap (λ (x : Branch). length x) ((branch_eq-decides p.block q.block).0 g.1) in
+            omega (arith, l, k))
+      ]);
       justified = r.justified;
     })
     (λ e. h)
+
+-- what a lead leaves
+led-kept : (self : Identity) (b : Branch) (q : Justified) → IsHigh self q → IsHigh self (led b q)
+led-kept self b q h =
+    cond_both (branch_eq q.block b) q _ (IsHigh self) (λ e. h)
+    (λ e. record {
+      certificate_is = record { digest = IsDigest-digest_of b; count = inl refl; votes = tt; rising = tt };
+      kept = inr refl;
+      justified = refl;
+    })
 
 -- genesis's certificate has no votes
 genesis-high : (self : Identity)
     → IsHigh self
     (record { block = []; certificate = record { digest = digest genesis_core; votes = [] } })
-unfolding is_good digest_of
+unfolding digest_of
 genesis-high self = record {
   certificate_is =
       record { digest = IsDigest-digest genesis_core; count = inl refl; votes = tt; rising = tt };
-  good = cond-true _ _ _ ((bytes_decides (digest genesis_core) (digest genesis_core)).1 refl);
+  kept = inr refl;
   justified = refl;
 }
+
+-- after a lead
+led-is : (self : Identity) (b : Branch) (c : Chronicle) → IsHigh self (qc_high self.sizes c)
+    → IsHigh self (qc_high self.sizes (noted (led_from b) ∷ c))
+unfolding qc_high
+led-is self b c h = led-kept self b (qc_high self.sizes c) h
 
 -- of a chronicle whose steps came in frames
 pub qc_high-is : (self : Identity) (c : Chronicle) → AreStored self c → IsHigh self (qc_high self.sizes c)
 unfolding qc_high
 qc_high-is self [] h = genesis-high self
-qc_high-is self (st ∷ c) h = higher-high self (raised self.sizes st c) (qc_high self.sizes c)
-    (raised-all self st c h) (qc_high-is self c h.1)
+qc_high-is self (st ∷ c) h =
+    elim (qc_high-cases self.sizes st c) [
+      | inl l ↦ subst (λ (x : Step). IsHigh self (qc_high self.sizes (x ∷ c))) (sym l.1)
+          (led-is self l.0 c (qc_high-is self c h.1))
+      | inr e ↦ subst (IsHigh self) (sym e) (higher-high self (raised self.sizes st c) (qc_high self.sizes c)
+          (raised-all self st c h) (qc_high-is self c h.1))
+    ]
 
 -- ---- all of a chronicle
 
@@ -208,7 +232,7 @@ has-certificates self c h =
           let k : AreStored self (st ∷ earlier) =
           stored-beginning self b.0 (st ∷ earlier) (subst (AreStored self) (sym b.1) h) in
           let r = raised-is self st earlier j k e in
-          record { certificate = r.certificate_is; digest = r.justified; good = r.good };
-      highest = record { certificate = high.certificate_is; digest = high.justified; good = λ n. high.good };
-      good = high.good;
+          record { certificate = r.certificate_is; digest = r.justified; kept = r.kept };
+      highest = record { certificate = high.certificate_is; digest = high.justified; kept = λ n. high.kept };
+      kept = high.kept;
     }

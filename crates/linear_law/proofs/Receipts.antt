@@ -4,7 +4,7 @@ use Rattle.ids.specs.declared.fault.Fault.{Fault}
 use Rattle.ids.specs.declared.fault.Fault.TheVariants as fault
 use Rattle.std.proofs.Common.{ℕ, suc, ◌≡◌, ◌-◌, ◌^◌, ◌<◌, ◌≤◌, ◌&&◌, not, ◌==◌, Bool, true, false, List, []}
 use Rattle.std.proofs.Common.{◌∷◌, length, cond, refl, sym, ap, subst, ◌∙◌, arith, inl, inr, map, filter}
-use Rattle.std.proofs.Common.{true≢false, nat_lt, Some, None}
+use Rattle.std.proofs.Common.{true≢false, nat_lt, None}
 use Rattle.std.specs.List.{list_any, AllByRecursion}
 use Rattle.std.specs.Str.{bytes_eq}
 use Rattle.std.proofs.lemmas.Bool.{cond_both, and_parts, and_from, not-false, not_from_false, ltb-true}
@@ -41,7 +41,7 @@ use Rattle.definitions.specs.Worlds.{World, Sent, Event, put, self_of, client_of
 use Rattle.definitions.specs.Runs.{refusal}
 use Rattle.definitions.specs.Events.{Effect, nothing, stepped, told, submitted, out_of, accepted_of}
 use Rattle.definitions.specs.Events.{submitted_out, brought, party_of, effect, happens}
-use Rattle.definitions.specs.Premises.{Claim, IsTagOf, WasSent, NoForgeryIn, accepted_tags}
+use Rattle.definitions.specs.Premises.{Claim, IsTagOf, WasSent, NoForgeryIn, accepted_tags, admits, admits_in}
 use Rattle.definitions.specs.Frames as frame
 
 abbrev pub held : World → ℕ → History
@@ -141,7 +141,7 @@ module _ (Known : Core → Type 0) where
   effect-held w e m f run (step_by i me ar) =
       step-held w e m _ _ (step-outcome (self_of w (party_of e)) m i (w.replica (party_of e))
       (arises-checked w e i ar) (run.row.sound (party_of e) me))
-  effect-held w e m f run (hearing g b r ok pa) = record { grows = λ i. ([], refl); out = λ me o k. absurd k }
+  effect-held w e m f run (hearing g b ad r ok pa) = record { grows = λ i. ([], refl); out = λ me o k. absurd k }
   effect-held w e m f run (submitting c payload i ok) =
       record { grows = λ j. ([], refl); out = λ me o k. submit-replies w.sizes.most_keys _ m payload _ _ o k }
 
@@ -193,13 +193,15 @@ same-party a b e = omega arith
 
 counted-true : (w : World) (e : Event) (r cl q pl : ℕ) (tx g : Bytes) → RepliesStand w → AnswersFit w
     → IsFrame w.sizes (frame.reply r cl q pl tx g) → NoForgeryIn w e
-    → brought w e ≡ Some (frame.reply r cl q pl tx g) → is_replica w (party_of e) ≡ false
+    → Among (frame.reply r cl q pl tx g) (brought w e)
+    → (admits w (party_of e) (frame.reply r cl q pl tx g) ≡ true → admits_in w e (frame.reply r cl q pl tx g) ≡ true)
+    → is_replica w (party_of e) ≡ false
     → w.is_faulty (party_of e) ≡ false → 256 ≤ party_of e →
     (cl == (client_at (party_of e))) ≡ true
     → verify (w.ring (client_party (client_at (party_of e)))) kind.Reply r (reply_content r cl q pl tx)
     g ≡ true → Truth w cl q (record { replica = r; place = pl; text = tx })
 unfolding accepted_tags
-counted-true w e r cl q pl tx g rs fit fr nf b rep ok pa mine good mem =
+counted-true w e r cl q pl tx g rs fit fr nf b ad rep ok pa mine good mem =
     let good' : verify (w.ring (party_of e)) kind.Reply r (reply_content r cl q pl tx) g ≡ true =
     subst (λ (p : ℕ). verify (w.ring p) kind.Reply r (reply_content r cl q pl tx) g ≡ true)
     (party-number (party_of e) pa) good in
@@ -211,7 +213,7 @@ counted-true w e r cl q pl tx g rs fit fr nf b rep ok pa mine good mem =
       tag = g;
     } in
     let sent : WasSent w.sent x =
-    nf (frame.reply r cl q pl tx g) b ok (and_from _ _ (not_from_false _ rep) (and_from _ _ mine good')) x
+    nf (frame.reply r cl q pl tx g) b ok (ad (and_from _ _ (not_from_false _ rep) (and_from _ _ mine good'))) x
     (inl refl) (member-faulty w r mem) in
     let i = reply-tag x sent.0 sent.0.frame refl sent.3 in
     let a : Among (answer_at i.1 i.2 i.3 i.4) (answers w.sizes.most_keys (held w r)) =
@@ -362,12 +364,13 @@ unheard : (w : World) (cl : ℕ) (s : Session) (n : Fault) → SessionStands w c
 unheard w cl s n h = record { session = h; receipt = λ r m. absurd m }
 
 pub reply-well : (w : World) (e : Event) (m : MemorySupply) (f : Frame) (s : Session) → RepliesStand w
-    → AnswersFit w → NoForgeryIn w e → IsMadeWell w → IsFrame w.sizes f → brought w e ≡ Some f
+    → AnswersFit w → NoForgeryIn w e → IsMadeWell w → IsFrame w.sizes f → Among f (brought w e)
+    → (admits w (party_of e) f ≡ true → admits_in w e f ≡ true)
     → is_replica w (party_of e) ≡ false → w.is_faulty (party_of e) ≡ false → 256 ≤ party_of e
     → SessionStands w (client_at (party_of e)) s
     → HeardWell w (client_at (party_of e)) (on_reply (client_of w (client_at (party_of e))) m f s)
 unfolding on_reply
-reply-well w e m (frame.reply r cl q pl tx g) s rs fit nf made fr b rep ok pa h =
+reply-well w e m (frame.reply r cl q pl tx g) s rs fit nf made fr b ad rep ok pa h =
     let me : Client = client_of w (client_at (party_of e)) in
     cond_both (not (cl == me.number)) _ _ P (λ k. unheard w me.number s fault.NotMine h) (λ mine.
     cond_both (not (verify me.ring kind.Reply r (reply_content r cl q pl tx) g)) _ _ P
@@ -396,11 +399,11 @@ reply-well w e m (frame.reply r cl q pl tx g) s rs fit nf made fr b rep ok pa h 
         (subst (λ (c : ℕ). Truth w c s.used (record { replica = r; place = pl; text = tx }))
         (eqb-true cl (client_at (party_of e)) mine)
         (subst (λ (n : ℕ). Truth w cl n (record { replica = r; place = pl; text = tx })) eq
-        (counted-true w e r cl q pl tx g rs fit fr nf b rep ok pa mine good)))
+        (counted-true w e r cl q pl tx g rs fit fr nf b ad rep ok pa mine good)))
     truths mine good eq t (inr n) = h.true_ones t n
-reply-well w e m (frame.request c) s rs fit nf made fr b rep ok pa h = unheard w _ s fault.NotMine h
-reply-well w e m (frame.proposal v c q t) s rs fit nf made fr b rep ok pa h = unheard w _ s fault.NotMine h
-reply-well w e m (frame.vote d x) s rs fit nf made fr b rep ok pa h = unheard w _ s fault.NotMine h
-reply-well w e m (frame.new_view v r q t) s rs fit nf made fr b rep ok pa h = unheard w _ s fault.NotMine h
-reply-well w e m (frame.fetch r d t) s rs fit nf made fr b rep ok pa h = unheard w _ s fault.NotMine h
-reply-well w e m (frame.block r c q t) s rs fit nf made fr b rep ok pa h = unheard w _ s fault.NotMine h
+reply-well w e m (frame.request c) s rs fit nf made fr b ad rep ok pa h = unheard w _ s fault.NotMine h
+reply-well w e m (frame.proposal v c q t) s rs fit nf made fr b ad rep ok pa h = unheard w _ s fault.NotMine h
+reply-well w e m (frame.vote d x) s rs fit nf made fr b ad rep ok pa h = unheard w _ s fault.NotMine h
+reply-well w e m (frame.new_view v r q t) s rs fit nf made fr b ad rep ok pa h = unheard w _ s fault.NotMine h
+reply-well w e m (frame.fetch r d t) s rs fit nf made fr b ad rep ok pa h = unheard w _ s fault.NotMine h
+reply-well w e m (frame.block r c q t) s rs fit nf made fr b ad rep ok pa h = unheard w _ s fault.NotMine h

@@ -2,14 +2,13 @@
 use Rattle.ids.specs.declared.kind.Kind.TheVariants as kind
 use Rattle.std.proofs.Common.{ℕ, ◌≡◌, ◌^◌, ◌<◌, true, false, List, ◌∷◌, refl, sym, ap, subst, ◌∙◌, inl, inr}
 use Rattle.std.proofs.Common.{None}
-use Rattle.std.proofs.lemmas.Bool.{and_parts}
 use Rattle.definitions.proofs.Lists.{Among-before}
 use Rattle.definitions.proofs.Sound.{Outcome, Outcome.unchanged, Outcome.refused, Outcome.lacks}
 use Rattle.definitions.proofs.Sound.{Outcome.conflict, Outcome.stood, Outcome.cut, step-outcome}
 use Rattle.linear_law.proofs.Inputs.{all-among, FromInput, AllStanding, ruling-from}
 use Rattle.linear_law.proofs.Rows.{put_row-both}
 use Rattle.linear_law.proofs.Effects.{ComesFramed, is_member, Arises, Effects, Effects.idle}
-use Rattle.linear_law.proofs.Effects.{Effects.step_by, Effects.hearing, Effects.submitting, admits-good}
+use Rattle.linear_law.proofs.Effects.{Effects.step_by, Effects.hearing, Effects.submitting}
 use Rattle.linear_law.proofs.Effects.{effects}
 use Rattle.linear_law.proofs.Runs.{chronicles, IsRun, IsHonest, member-faulty, arises-checked}
 use Rattle.linear_law.proofs.Runs.{arises-carried, put-chronicle}
@@ -63,32 +62,33 @@ module _ (Known : Core → Type 0) where
   -- what a step has just taken
   took-requested : (w : World) (e : Event) (i : Input) → IsHonest Known w e
       → is_member w (party_of e) ≡ true → Arises w e i → (a : Admitted) → a.new ≡ true
-      → FromInput i (took_block a) → a.clear ≡ true → (k : Command) → Among k (core_of a.branch).commands
+      → FromInput (self_of w (party_of e)) (chronicles w (party_of e)) i (took_block a) → a.clear ≡ true → (k : Command) → Among k (core_of a.branch).commands
       → w.is_faulty (client_party k.client) ≡ false → WasRequested w.sent k
   took-requested w e i honest me ar a n f cl k m ok =
       let b = arises-carried w e i f.0 f.1 f.2 ar f.3 in
       let mk : Among k f.0.commands = subst (λ (x : Core). Among k x.commands) (f.4.core_is n) m in
-      let c = b.1.commands k (sym f.4.clear_is ∙ cl) mk in
+      let c = b.carried.commands k (sym f.4.clear_is ∙ cl) mk in
       let small : IsCommand w.sizes k =
-      all-among (IsCommand w.sizes) f.0.commands k b.1.core_is.commands mk in
+      all-among (IsCommand w.sizes) f.0.commands k b.carried.core_is.commands mk in
       let sent : WasSent w.sent c.0 =
-      honest.forgery b.0.frame b.0.brings (member-faulty w (party_of e) me)
-      (admits-good w (party_of e) b.0.frame i (and_parts _ _ me).0 b.0.good) c.0 c.1
+      honest.forgery b.frame b.brings.brings (member-faulty w (party_of e) me) b.brings.admitted c.0 c.1
       (ap w.is_faulty c.3 ∙ ok) in
       let r = request-tag c.0 sent.0 sent.0.frame c.2 sent.3 in
       (sent.0, r.0, sent.1, sent.2 ∙ c.3, r.1, sym c.4 ∙ r.2, small.seq.1)
 
   took-step : (w : World) (e : Event) (i : Input) → IsHonest Known w e → is_member w (party_of e) ≡ true
-      → Arises w e i → (st : Step) → FromInput i st → AllRequested w w.sent (chronicles w (party_of e))
+      → Arises w e i → (st : Step) → FromInput (self_of w (party_of e)) (chronicles w (party_of e)) i st
+      → AllRequested w w.sent (chronicles w (party_of e))
       → AllRequested w w.sent (st ∷ chronicles w (party_of e))
   took-step w e i honest me ar st f old a m cl k mk ok =
       elim (taken-now st (chronicles w (party_of e)) a m) [
-        | inl x ↦ took-requested w e i honest me ar a x.1 (subst (FromInput i) x.0 f) cl k mk ok
+        | inl x ↦ took-requested w e i honest me ar a x.1 (subst (FromInput (self_of w (party_of e)) (chronicles w (party_of e)) i) x.0 f) cl k mk ok
         | inr y ↦ old a y cl k mk ok
       ]
 
   outcome-requested : (w : World) (e : Event) (i : Input) (v : Ruling) (r : Replica × Reaction)
-      → IsHonest Known w e → is_member w (party_of e) ≡ true → Arises w e i → AllStanding (FromInput i) v
+      → IsHonest Known w e → is_member w (party_of e) ≡ true → Arises w e i
+      → AllStanding (FromInput (self_of w (party_of e)) (chronicles w (party_of e)) i) v
       → AllRequested w w.sent (chronicles w (party_of e))
       → Outcome (self_of w (party_of e)) (chronicles w (party_of e)) v (w.replica (party_of e)) r
       → AllRequested w w.sent r.0.chronicle
@@ -97,9 +97,9 @@ module _ (Known : Core → Type 0) where
   outcome-requested w e i v r honest me ar f old (lacks sender d u) = old
   outcome-requested w e i v r honest me ar f old (conflict st u x h) = old
   outcome-requested w e i v r honest me ar f old (stood st u x h) =
-      took-step w e i honest me ar st (subst (AllStanding (FromInput i)) x f) old
+      took-step w e i honest me ar st (subst (AllStanding (FromInput (self_of w (party_of e)) (chronicles w (party_of e)) i)) x f) old
   outcome-requested w e i v r honest me ar f old (cut st n u x h) =
-      took-step w e i honest me ar st (subst (AllStanding (FromInput i)) x f) old
+      took-step w e i honest me ar st (subst (AllStanding (FromInput (self_of w (party_of e)) (chronicles w (party_of e)) i)) x f) old
 
   effect-requested : (w : World) (e : Event) (m : MemorySupply) (f : Effect) → IsRun Known w
       → IsHonest Known w e
@@ -117,7 +117,7 @@ module _ (Known : Core → Type 0) where
       (step-outcome self m i (w.replica (party_of e)) (arises-checked w e i ar)
       (run.row.sound (party_of e) me)))
       (old p mp))
-  effect-requested w e m f run honest (hearing g b r ok pa) old = old
+  effect-requested w e m f run honest (hearing g b ad r ok pa) old = old
   effect-requested w e m f run honest (submitting c payload i ok) old = old
 
   -- each event keeps it
@@ -137,24 +137,24 @@ module _ (Known : Core → Type 0) where
 abbrev pub StoresCores : Chronicle → Type 0
 StoresCores c = (a : Admitted) → Among a (taken_blocks c) → core_of a.branch ≡ a.core
 
-took-stored : (i : Input) (st : Step) (c : Chronicle) → FromInput i st → StoresCores c → StoresCores (st ∷ c)
-took-stored i st c f old a m =
+took-stored : (self : Identity) (i : Input) (st : Step) (c : Chronicle) → FromInput self c i st → StoresCores c → StoresCores (st ∷ c)
+took-stored self i st c f old a m =
     elim (taken-now st c a m) [
-      | inl x ↦ (let g = subst (FromInput i) x.0 f in g.4.core_is x.1 ∙ sym g.4.stored)
+      | inl x ↦ (let g = subst (FromInput self c i) x.0 f in g.4.core_is x.1 ∙ sym g.4.stored)
       | inr y ↦ old a y
     ]
 
 outcome-stored : (self : Identity) (i : Input) (v : Ruling) (before : Replica) (r : Replica × Reaction)
-    → AllStanding (FromInput i) v → StoresCores before.chronicle → Outcome self before.chronicle v before r
+    → AllStanding (FromInput self before.chronicle i) v → StoresCores before.chronicle → Outcome self before.chronicle v before r
     → StoresCores r.0.chronicle
 outcome-stored self i v before r f old (unchanged n l) = old
 outcome-stored self i v before r f old (refused s n u l) = old
 outcome-stored self i v before r f old (lacks sender d u) = old
 outcome-stored self i v before r f old (conflict st u x h) = old
 outcome-stored self i v before r f old (stood st u x h) =
-    took-stored i st before.chronicle (subst (AllStanding (FromInput i)) x f) old
+    took-stored self i st before.chronicle (subst (AllStanding (FromInput self before.chronicle i)) x f) old
 outcome-stored self i v before r f old (cut st n u x h) =
-    took-stored i st before.chronicle (subst (AllStanding (FromInput i)) x f) old
+    took-stored self i st before.chronicle (subst (AllStanding (FromInput self before.chronicle i)) x f) old
 
 module _ (Known : Core → Type 0) where
   effect-stored : (w : World) (e : Event) (m : MemorySupply) (f : Effect) → IsRun Known w → Effects w e m f
@@ -172,7 +172,7 @@ module _ (Known : Core → Type 0) where
       (step-outcome self m i (w.replica (party_of e)) (arises-checked w e i ar)
       (run.row.sound (party_of e) me)))
       (old p mp))
-  effect-stored w e m f run (hearing g b r ok pa) old = old
+  effect-stored w e m f run (hearing g b ad r ok pa) old = old
   effect-stored w e m f run (submitting c payload i ok) old = old
 
   -- each event keeps it

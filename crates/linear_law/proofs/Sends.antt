@@ -10,7 +10,8 @@ use Rattle.definitions.specs.Branches.{Branch, branch_eq}
 use Rattle.definitions.specs.Histories.{Answer, answers, History, last_seq, last_answer, answer_to}
 use Rattle.definitions.specs.Chronicles.{Admitted, Step, Step.took_block, Step.noted, Note.got_vote}
 use Rattle.definitions.specs.Chronicles.{Note.got_new_view, Note.got_request, Note.got_fetch}
-use Rattle.definitions.specs.Chronicles.{Note.timed_out, Note.beat, Note.pruned, Chronicle, taken_blocks}
+use Rattle.definitions.specs.Chronicles.{Note.timed_out, Note.beat, Note.pruned, Note.seen_view}
+use Rattle.definitions.specs.Chronicles.{Note.led_from, Chronicle, taken_blocks}
 use Rattle.definitions.specs.Chronicles.{history}
 use Rattle.definitions.specs.Checks.{Identity}
 use Rattle.definitions.specs.States.{Justified, view, leads, proposed}
@@ -116,6 +117,11 @@ sends self (noted (got_fetch to b)) c o m =
     block-sent self (noted (got_fetch to b)) c to (as_taken b c) o (λ a e. as_taken-among b c a e) m
 sends self (noted timed_out) c o m = only self (noted timed_out) c _ o its_view m
 sends self (noted (pruned height)) c o m = absurd m
+sends self (noted (seen_view w s)) c o m =
+    sent-if self (noted (seen_view w s)) c
+    (nat_lt (view self.sizes c) (view self.sizes (noted (seen_view w s) ∷ c))) _ o
+    (λ e n. only self (noted (seen_view w s)) c _ o its_view n) m
+sends self (noted (led_from b)) c o m = absurd m
 sends self (noted beat) c o m =
     sent-if self (noted beat) c (leads self c) _ o
     (λ e n. proposal-sent self (noted beat) c (proposed self (noted beat ∷ c)) o e refl n) m

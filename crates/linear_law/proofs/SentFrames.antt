@@ -1,6 +1,6 @@
 -- Each frame that a step sends is a frame at these sizes, and a certificate in it is cut.
 use Rattle.ids.specs.declared.limits.TheConstants.{MOST_TEXT}
-use Rattle.std.proofs.Common.{ℕ, ◌≡◌, ◌<◌, ◌≤◌, ◌^◌, [], ◌∷◌, true, length, sym, subst, inl, inr, Some}
+use Rattle.std.proofs.Common.{ℕ, ◌≡◌, ◌<◌, ◌≤◌, ◌^◌, [], ◌∷◌, length, sym, subst, inl, inr, Some}
 use Rattle.ids.specs.declared.kind.Kind.TheVariants as kind
 use Rattle.ids.specs.Sizes.{Sizes, replicas, client_party}
 use Rattle.definitions.specs.Lists.{Among}
@@ -12,13 +12,14 @@ use Rattle.definitions.specs.Branches.{Branch}
 use Rattle.definitions.specs.Digests.{digest_of, core_of}
 use Rattle.definitions.specs.Histories.{Answer, answers}
 use Rattle.definitions.specs.Chronicles.{Admitted, Step, Chronicle, taken_blocks, history}
-use Rattle.definitions.specs.Checks.{Identity, is_good, cut}
+use Rattle.definitions.specs.Checks.{Identity, cut}
 use Rattle.definitions.specs.States.{Justified, view, qc_high, me, proposed}
 use Rattle.definitions.specs.Sendings.{Sending, vote_frame, proposal_frame, new_view_frame, reply_to}
 use Rattle.definitions.specs.Sendings.{block_frame, fetch_frame}
 use Rattle.definitions.proofs.Vectors.{IsVector-vector_for, length-tag_for}
 use Rattle.definitions.proofs.Certificates.{IsDigest-digest_of}
-use Rattle.definitions.proofs.Cuts.{IsCut-cut, IsCertificate-cut}
+use Rattle.definitions.proofs.Cuts.{IsCut-kept, IsCertificate-kept}
+use Rattle.definitions.specs.Grounds.{IsKept}
 use Rattle.definitions.proofs.Chronicles.{taken-now}
 use Rattle.linear_law.proofs.Sends.{Sends, Sends.its_vote, Sends.new_reply, Sends.old_reply, Sends.its_view}
 use Rattle.linear_law.proofs.Sends.{Sends.its_block, Sends.its_proposal}
@@ -33,11 +34,11 @@ pub record IsFitAnswer (s : Sizes) (a : Answer) : Type 0 where
   pub place : (1 ≤ a.place) × (a.place < 2 ^ 64)
   pub text : length a.text ≤ MOST_TEXT
 
--- a block and a certificate, good for the replica, of which a proposal can be made
+-- a block and a certificate, kept by the replica, of which a proposal can be made
 pub record IsFitProposal (self : Identity) (j : Justified) : Type 0 where
   pub core_is : IsCore self.sizes (core_of j.block)
   pub certificate_is : IsCertificate self.sizes j.certificate
-  pub good : is_good self j.certificate ≡ true
+  pub kept : IsKept self j.certificate
 
 -- what is known of a replica that stores a step
 pub record IsReady (self : Identity) (st : Step) (c : Chronicle) : Type 0 where
@@ -76,27 +77,27 @@ module _ (self : Identity) (number : me self < replicas self.sizes) where
         (
           view-fits self c h,
           number,
-          IsCertificate-cut self q high.certificate_is high.good,
+          IsCertificate-kept self q high.certificate_is high.kept,
           IsVector-vector_for self.sizes self.ring kind.NewView
               (new_view_content (view self.sizes c) (me self) (cut self q)),
         ),
-        IsCut-cut self q high.good,
+        IsCut-kept self q high.kept,
       )
 
   -- a block that was asked for
   block-fits : (to : ℕ) (a : Admitted) → IsCore self.sizes (core_of a.branch)
-      → IsCertificate self.sizes a.certificate → is_good self a.certificate ≡ true
+      → IsCertificate self.sizes a.certificate → IsKept self a.certificate
       → IsWritten self.sizes (block_frame self to a)
   unfolding block_frame
   block-fits to a hk hq g = (
     (
       number,
       hk,
-      IsCertificate-cut self a.certificate hq g,
+      IsCertificate-kept self a.certificate hq g,
       length-tag_for self.ring kind.Block
           (block_content (me self) (core_of a.branch) (cut self a.certificate)) to,
     ),
-    IsCut-cut self a.certificate g,
+    IsCut-kept self a.certificate g,
   )
 
   -- a proposal
@@ -107,11 +108,11 @@ module _ (self : Identity) (number : me self < replicas self.sizes) where
     (
       l,
       h.core_is,
-      IsCertificate-cut self j.certificate h.certificate_is h.good,
+      IsCertificate-kept self j.certificate h.certificate_is h.kept,
       IsVector-vector_for self.sizes self.ring kind.Proposal
           (proposal_content w (core_of j.block) (cut self j.certificate)),
     ),
-    IsCut-cut self j.certificate h.good,
+    IsCut-kept self j.certificate h.kept,
   )
 
   -- a reply
@@ -132,10 +133,10 @@ module _ (self : Identity) (number : me self < replicas self.sizes) where
 
 -- ---- what is looked up
 
--- a block that was taken has the core and the certificate of a frame, and the certificate is good
+-- a block that was taken has the core and the certificate of a frame, and the certificate is kept
 taken-fit : (self : Identity) (c : Chronicle) (a : Admitted) → AreStored self c → Among a (taken_blocks c)
     → IsCore self.sizes (core_of a.branch) × IsCertificate self.sizes a.certificate
-    × (is_good self a.certificate ≡ true)
+    × IsKept self a.certificate
 unfolding taken_blocks
 taken-fit self [] a h m = absurd m
 taken-fit self (st ∷ c) a h m =
@@ -143,7 +144,7 @@ taken-fit self (st ∷ c) a h m =
       | inl now ↦
           (let s =
           subst (IsStored self) now.0 h.0 in
-          (subst (IsCore self.sizes) (sym (s.stored now.1)) s.core_is, s.certificate_is, s.good))
+          (subst (IsCore self.sizes) (sym (s.stored now.1)) s.core_is, s.certificate_is, s.kept))
       | inr k ↦ taken-fit self c a h.1 k
     ]
 

@@ -23,7 +23,7 @@ use Rattle.definitions.specs.Histories.{Entry}
 use Rattle.definitions.specs.Chronicles.{Step, Chronicle}
 use Rattle.definitions.specs.Checks.{Identity}
 use Rattle.definitions.specs.Rulings.{Input, Input.timeout_in, Input.beat_in, Input.prune_in, Ruling}
-use Rattle.definitions.specs.Rulings.{Ruling.due}
+use Rattle.definitions.specs.Rulings.{Input.lead_in, Input.ask_in, Ruling.due}
 use Rattle.definitions.specs.Rulings.{Ruling.missing, Ruling.refusing, ruling, conflicts}
 use Rattle.definitions.specs.Sendings.{To.to_all, To.to_party, Sending, fetch_frame}
 use Rattle.definitions.specs.Replicas.{MemorySupply, MemorySupply.ample, MemorySupply.refused_at_once}
@@ -36,12 +36,13 @@ use Rattle.definitions.specs.Sessions.{is_ample, submission, request_frame, on_r
 use Rattle.definitions.specs.Tally.{agrees}
 use Rattle.definitions.specs.Worlds.{World, Sent, AcceptedBy, Event, Event.submit, Event.relay}
 use Rattle.definitions.specs.Worlds.{Event.inject, Event.timeout, Event.beat, Event.prune, Happening, put}
-use Rattle.definitions.specs.Worlds.{is_replica}
+use Rattle.definitions.specs.Worlds.{Event.offer, Event.gather, Event.lead, Event.ask, is_replica}
 use Rattle.definitions.specs.Worlds.{self_of, client_of, new_world}
-use Rattle.definitions.specs.Admission.{Checked, Checked.passes, Checked.rejected, check}
+use Rattle.definitions.specs.Admission.{Checked, Checked.passes, Checked.rejected, check, check_offer}
+use Rattle.definitions.specs.Admission.{check_gathered}
 use Rattle.definitions.specs.Events.{Effect, nothing, stepped, told, submitted, out_of, accepted_of}
 use Rattle.definitions.specs.Events.{on_checked, steps, hears, submits, comes, recorded, party_of}
-use Rattle.definitions.specs.Events.{client_number, acts, effect, happens}
+use Rattle.definitions.specs.Events.{offers, frame_of, frames_of, client_number, acts, effect, happens}
 use Rattle.definitions.specs.Runs.{refusal, run}
 use Rattle.definitions.specs.Linearity.{WasSubmitted}
 use Rattle.definitions.specs.Frames as frame
@@ -121,6 +122,12 @@ comes-tells w e m (Some f) =
     (hears (client_at (party_of e)) m f w) (Tells w e m)
     (λ r. checked-tells w e (party_of e) m (check (self_of w (party_of e)) f)) (λ r. hearing f)
 
+offers-tells : (w : World) (e : Event) (p : ℕ) (m : MemorySupply) (o : Option Frame)
+    → Tells w e m (offers p m o w)
+unfolding offers
+offers-tells w e p m None = nothing-tells w e m (Some fault.NotAFrame)
+offers-tells w e p m (Some f) = checked-tells w e p m (check_offer (self_of w p) f)
+
 acts-tells : (w : World) (e : Event) (m : MemorySupply) → Tells w e m (acts w e m)
 unfolding acts party_of
 acts-tells w (submit c payload) m = submitting c payload refl
@@ -129,6 +136,11 @@ acts-tells w (inject to bytes f) m = comes-tells w (inject to bytes f) m f
 acts-tells w (timeout r) m = steps-tells w (timeout r) r m timeout_in
 acts-tells w (beat r) m = steps-tells w (beat r) r m beat_in
 acts-tells w (prune r height) m = steps-tells w (prune r height) r m (prune_in height)
+acts-tells w (offer to s) m = offers-tells w (offer to s) to m (frame_of w s)
+acts-tells w (gather to ss) m =
+    checked-tells w (gather to ss) to m (check_gathered (self_of w to) (frames_of w ss))
+acts-tells w (lead r d) m = steps-tells w (lead r d) r m (lead_in d)
+acts-tells w (ask r to d) m = steps-tells w (ask r to d) r m (ask_in to d)
 
 effect-tells : (w : World) (e : Event) (m : MemorySupply) → Tells w e m (effect w (e, m))
 unfolding effect

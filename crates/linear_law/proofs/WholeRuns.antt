@@ -1,8 +1,9 @@
 -- Whole runs: what holds of their beginning and is kept by each event holds at their end. From this each
 -- law follows.
-use Rattle.std.proofs.Common.{ℕ, zero, suc, slice_get, option_map, ◌≡◌, Bool, List, [], ◌∷◌, refl, sym}
+use Rattle.std.proofs.Common.{ℕ, zero, suc, slice_get, option_map, ◌≡◌, Bool, true, List, [], ◌∷◌, refl, sym}
 use Rattle.std.proofs.Common.{subst, inl, inr, Option, Some, None, Ok}
 use Rattle.std.specs.Bool.{⊤}
+use Rattle.std.specs.List.{AllByRecursion}
 use Rattle.ids.specs.Sizes.{Sizes}
 use Rattle.definitions.specs.Lists.{Among}
 use Rattle.definitions.specs.Frames.{Core, Frame, spelling, genesis_core}
@@ -11,15 +12,18 @@ use Rattle.definitions.specs.Digests.{NoCollision}
 use Rattle.definitions.specs.Keyrings.{Keyring}
 use Rattle.definitions.specs.States.{Justified, leaf, proposed}
 use Rattle.definitions.specs.Worlds.{World, Sent, Event, Event.submit, Event.relay, Event.inject}
-use Rattle.definitions.specs.Worlds.{Event.timeout, Event.beat, Event.prune, Happening, self_of, new_world}
-use Rattle.definitions.specs.Events.{brought, happens}
+use Rattle.definitions.specs.Worlds.{Event.timeout, Event.beat, Event.prune, Event.offer, Event.gather}
+use Rattle.definitions.specs.Worlds.{Event.lead, Event.ask, Source, Source.of_record, Source.of_bytes}
+use Rattle.definitions.specs.Worlds.{Happening, self_of, new_world}
+use Rattle.definitions.specs.Events.{brought, listed, recorded, frame_of, frames_of, happens}
 use Rattle.definitions.specs.Runs.{refusal, run, after}
-use Rattle.definitions.specs.Premises.{CoreOf, CoreBrought, CoreOfRun, IsReadIn, AllRead, NoForgeryIn}
+use Rattle.definitions.specs.Premises.{CoreOf, CoreBrought, CoreOfRun, IsReadFrom, IsReadIn, AllRead, NoForgeryIn}
 use Rattle.definitions.specs.Premises.{NoForgery, ArePremises}
-use Rattle.definitions.proofs.Lists.{Among-before}
+use Rattle.definitions.proofs.Lists.{Among-before, Among-either}
 use Rattle.definitions.proofs.Spellings.{IsReadAs-unique}
 use Rattle.linear_law.proofs.Runs.{chronicles, IsHonest}
-use Rattle.linear_law.proofs.Effects.{ComesFramed}
+use Rattle.linear_law.proofs.Effects.{ComesFramed, is_member}
+use Rattle.linear_law.proofs.StoredFrames.{AreStored}
 use Rattle.linear_law.proofs.Fits.{IsCoreOrGenesis, core-frame}
 use Rattle.linear_law.proofs.Linear.{IsGood, ground, good-happens, run-step, new-good}
 use Rattle.linear_law.proofs.Final.{IsAccount, account-happens, correct-quorum, new-account, linear}
@@ -54,15 +58,44 @@ recorded-framed sizes xs k f sent e = by (slice_get xs k) refl e
     by (Some s) i j =
         let here : s.frame ≡ f = cc in subst (IsFrame sizes) here (sent s (slice_get-among xs k s i)).0
 
+-- a frame that is listed alone
+listed-framed : (sizes : Sizes) (o : Option Frame) → ((f : Frame) → o ≡ Some f → IsFrame sizes f) → (f : Frame)
+    → Among f (listed o) → IsFrame sizes f
+listed-framed sizes None h f m = absurd m
+listed-framed sizes (Some g) h f (inl e) = subst (IsFrame sizes) (sym e) (h g refl)
+listed-framed sizes (Some g) h f (inr n) = absurd n
+
+-- that of a source
+source-framed : (w : World) (s : Source) → IsReadFrom w.sizes s → SentAreFrames w → (f : Frame)
+    → frame_of w s ≡ Some f → IsFrame w.sizes f
+source-framed w (of_record k) rd sent f e = recorded-framed w.sizes w.sent k f sent e
+source-framed w (of_bytes bytes read) rd sent f e = (subst (IsReadAs w.sizes bytes) e rd).0
+
+-- those of several
+sources-framed : (w : World) (ss : List Source) → AllByRecursion (IsReadFrom w.sizes) ss → SentAreFrames w
+    → (f : Frame) → Among f (frames_of w ss) → IsFrame w.sizes f
+sources-framed w [] rd sent f m = absurd m
+sources-framed w (s ∷ ss) rd sent f m = elim (Among-either f (listed (frame_of w s)) (frames_of w ss) m) [
+  | inl k ↦ listed-framed w.sizes (frame_of w s) (source-framed w s rd.0 sent) f k
+  | inr k ↦ sources-framed w ss rd.1 sent f k
+]
+
 -- what comes is a frame, where each frame that was sent is one that is written
 pub comes-framed : (w : World) (e : Event) → IsReadIn w.sizes e → SentAreFrames w → ComesFramed w e
 unfolding brought
-comes-framed w (submit c payload) rd sent f b = absurd (let k : None ≡ Some f = b in cc)
-comes-framed w (relay k to) rd sent f b = recorded-framed w.sizes w.sent k f sent b
-comes-framed w (inject to bytes read) rd sent f b = (subst (IsReadAs w.sizes bytes) b rd).0
-comes-framed w (timeout r) rd sent f b = absurd (let k : None ≡ Some f = b in cc)
-comes-framed w (beat r) rd sent f b = absurd (let k : None ≡ Some f = b in cc)
-comes-framed w (prune r height) rd sent f b = absurd (let k : None ≡ Some f = b in cc)
+comes-framed w (submit c payload) rd sent f b = absurd b
+comes-framed w (relay k to) rd sent f b =
+    listed-framed w.sizes (recorded w k) (λ g e. recorded-framed w.sizes w.sent k g sent e) f b
+comes-framed w (inject to bytes read) rd sent f b =
+    listed-framed w.sizes read (λ g e. (subst (IsReadAs w.sizes bytes) e rd).0) f b
+comes-framed w (timeout r) rd sent f b = absurd b
+comes-framed w (beat r) rd sent f b = absurd b
+comes-framed w (prune r height) rd sent f b = absurd b
+comes-framed w (offer to s) rd sent f b =
+    listed-framed w.sizes (frame_of w s) (source-framed w s rd sent) f b
+comes-framed w (gather to ss) rd sent f b = sources-framed w ss rd sent f b
+comes-framed w (lead r d) rd sent f b = absurd b
+comes-framed w (ask r to d) rd sent f b = absurd b
 
 -- ---- what is assumed along a schedule
 
@@ -72,14 +105,14 @@ SentKnown Known w = (s : Sent) → Among s w.sent → (x : Core) → CoreOf x s.
 
 -- of an event: what is injected is read rightly, no tag is forged, and the cores that come in it or are
 -- sent are known
-record IsAssumed (Known : Core → Type 0) (w : World) (h : Happening) : Type 0 where
-  read : IsReadIn w.sizes h.0
+pub record IsAssumed (Known : Core → Type 0) (w : World) (h : Happening) : Type 0 where
+  pub read : IsReadIn w.sizes h.0
   forgery : NoForgeryIn w h.0
-  come : (f : Frame) → brought w h.0 ≡ Some f → (c : Core) → CoreOf c f → IsCore w.sizes c → Known c
+  come : (f : Frame) → Among f (brought w h.0) → (c : Core) → CoreOf c f → IsCore w.sizes c → Known c
   sent : SentKnown Known (happens w h)
 
 -- of each event
-abbrev AssumedAlong : (Core → Type 0) → World → List Happening → Type 0
+abbrev pub AssumedAlong : (Core → Type 0) → World → List Happening → Type 0
 AssumedAlong Known w [] = ⊤
 AssumedAlong Known w (h ∷ hs) = IsAssumed Known w h × AssumedAlong Known (happens w h) hs
 
@@ -90,7 +123,7 @@ sent-stays w [] s m = m
 sent-stays w (h ∷ hs) s m = sent-stays (happens w h) hs s (Among-before s w.sent _ m)
 
 -- the premises, event by event
-assumed-along : (Known : Core → Type 0) (sizes : Sizes) (w : World) (hs : List Happening) → w.sizes ≡ sizes
+pub assumed-along : (Known : Core → Type 0) (sizes : Sizes) (w : World) (hs : List Happening) → w.sizes ≡ sizes
     → AllRead sizes hs → NoForgery w hs
     → ((c : Core) → CoreBrought c w hs → IsCore sizes c → Known c)
     → ((s : Sent) → Among s (after w hs).sent → (x : Core) → CoreOf x s.frame → IsCore sizes x
@@ -109,13 +142,15 @@ assumed-along Known sizes w (h ∷ hs) e rd n come sent = (
 
 -- an event is honest where each frame that was sent is one
 honest-now : (Known : Core → Type 0) (w : World) (h : Happening) → IsAssumed Known w h → SentAreFrames w
-    → IsHonest Known w h.0
-honest-now Known w h a sent =
+    → ((p : ℕ) → is_member w p ≡ true → AreStored (self_of w p) (chronicles w p)) → IsHonest Known w h.0
+honest-now Known w h a sent stored =
     let framed : ComesFramed w h.0 = comes-framed w h.0 a.read sent in
     record {
       framed = framed;
       forgery = a.forgery;
       cores = λ f b c o. a.come f b c o (core-frame w.sizes f c (framed f b) o);
+      written = sent;
+      stored = stored;
     }
 
 -- ---- from the beginning to the end
@@ -134,18 +169,18 @@ new-framed Known sizes is_faulty ring = record {
     none j e = cc
 
 -- what is kept by each event
-record IsWell (Known : Core → Type 0) (w : World) : Type 0 where
-  good : IsGood Known w
-  account : IsAccount w
-  framed : IsFramed Known w
+pub record IsWell (Known : Core → Type 0) (w : World) : Type 0 where
+  pub good : IsGood Known w
+  pub account : IsAccount w
+  pub framed : IsFramed Known w
 
 module _ (Known : Core → Type 0) (apart : NoCollision Known) (genesis : Known genesis_core) where
   -- one event
-  well-happens : (w : World) (h : Happening) → IsWell Known w → IsAssumed Known w h → refusal w h.0 ≡ None
+  pub well-happens : (w : World) (h : Happening) → IsWell Known w → IsAssumed Known w h → refusal w h.0 ≡ None
       → IsWell Known (happens w h)
   unfolding happens
   well-happens w h g a ok =
-      let honest : IsHonest Known w h.0 = honest-now Known w h a g.framed.sent in
+      let honest : IsHonest Known w h.0 = honest-now Known w h a g.framed.sent g.framed.stored in
       record {
         good = good-happens Known apart genesis ground w h g.good honest ok;
         account = account-happens Known w h.0 h.1 g.good honest ok g.account;
@@ -162,25 +197,53 @@ module _ (Known : Core → Type 0) (apart : NoCollision Known) (genesis : Known 
       well-run hs (happens w h) last (well-happens w h g a.0 r.0) a.1 r.1
 
 -- the cores of a run that a frame may have, and genesis's
-unfoldable KnownIn : (sizes : Sizes) (w : World) (hs : List Happening) → Core → Type 0
+unfoldable pub KnownIn : (sizes : Sizes) (w : World) (hs : List Happening) → Core → Type 0
 KnownIn sizes w hs c = CoreOfRun w hs c × IsCoreOrGenesis sizes c
+
+-- its sizes
+pub new-sizes : (sizes : Sizes) (is_faulty : ℕ → Bool) (ring : ℕ → Keyring)
+    → (new_world sizes is_faulty ring).sizes ≡ sizes
+unfolding new_world
+new-sizes sizes is_faulty ring = refl
+
+-- what is known of the world at its start
+pub new-well : (sizes : Sizes) (is_faulty : ℕ → Bool) (ring : ℕ → Keyring) (hs : List Happening)
+    → ArePremises (new_world sizes is_faulty ring) hs
+    → IsWell (KnownIn sizes (new_world sizes is_faulty ring) hs) (new_world sizes is_faulty ring)
+unfolding KnownIn new_world
+new-well sizes is_faulty ring hs met = record {
+  good = new-good _ sizes is_faulty ring (met.keys, correct-quorum sizes is_faulty met.few) (λ c k. k.1);
+  account = new-account sizes is_faulty ring;
+  framed = new-framed _ sizes is_faulty ring;
+}
+
+-- no two known cores have one digest, and genesis's is known
+pub known-apart : (sizes : Sizes) (w : World) (hs : List Happening) → ArePremises w hs
+    → NoCollision (KnownIn sizes w hs)
+unfolding KnownIn
+known-apart sizes w hs met = λ a b ka kb. met.no_collision a b ka.0 kb.0
+
+pub known-genesis : (sizes : Sizes) (w : World) (hs : List Happening) → KnownIn sizes w hs genesis_core
+unfolding KnownIn
+known-genesis sizes w hs = (inl refl, inl refl)
+
+-- what is assumed along such a run
+pub known-along : (sizes : Sizes) (w : World) (hs : List Happening) → w.sizes ≡ sizes → ArePremises w hs
+    → AssumedAlong (KnownIn sizes w hs) w hs
+unfolding KnownIn
+known-along sizes w hs e met =
+    assumed-along _ sizes w hs e (subst (λ (z : Sizes). AllRead z hs) e met.read) met.no_forgery
+    (λ c b k. (inr (inr b), inr k)) (λ s m x o k. (inr (inl (s, m, o)), inr k))
 
 -- what a run whose premises hold comes to
 run-is-well :
     (sizes : Sizes) (is_faulty : ℕ → Bool) (ring : ℕ → Keyring) (hs : List Happening) (last : World)
     → ArePremises (new_world sizes is_faulty ring) hs → run (new_world sizes is_faulty ring) hs ≡ Ok last
     → IsWell (KnownIn sizes (new_world sizes is_faulty ring) hs) last
-unfolding KnownIn new_world
 run-is-well sizes is_faulty ring hs last met e =
     let w : World = new_world sizes is_faulty ring in
-    well-run (KnownIn sizes w hs) (λ a b ka kb. met.no_collision a b ka.0 kb.0) (inl refl, inl refl) hs w last
-    (record {
-      good = new-good _ sizes is_faulty ring (met.keys, correct-quorum sizes is_faulty met.few) (λ c k. k.1);
-      account = new-account sizes is_faulty ring;
-      framed = new-framed _ sizes is_faulty ring;
-    })
-    (assumed-along _ sizes w hs refl met.read met.no_forgery (λ c b k. (inr (inr b), inr k))
-    (λ s m x o k. (inr (inl (s, m, o)), inr k))) e
+    well-run (KnownIn sizes w hs) (known-apart sizes w hs met) (known-genesis sizes w hs) hs w last
+    (new-well sizes is_faulty ring hs met) (known-along sizes w hs (new-sizes sizes is_faulty ring) met) e
 
 -- ---- the laws
 

@@ -8,11 +8,13 @@ use Rattle.definitions.specs.Keyrings.{Keyring}
 use Rattle.definitions.specs.Lists.{Among, IsBeginning}
 use Rattle.definitions.specs.FrameLimits.{IsReadAs, IsWritten, IsCertificate}
 use Rattle.definitions.specs.Digests.{digest_of}
-use Rattle.definitions.specs.Checks.{Identity, is_good}
+use Rattle.definitions.specs.Checks.{Identity}
+use Rattle.definitions.specs.Grounds.{IsKept}
 use Rattle.definitions.specs.States.{Justified, raised, qc_high}
 use Rattle.definitions.specs.Chronicles.{Step, Chronicle, IsLawful}
 use Rattle.definitions.specs.Agreement.{Family, IsLawfulFamily}
-use Rattle.definitions.specs.Worlds.{World, Sent, AcceptedBy, Event, relay, inject, Happening, new_world}
+use Rattle.definitions.specs.Worlds.{World, Sent, AcceptedBy, Event, relay, inject, offer, gather, Happening}
+use Rattle.definitions.specs.Worlds.{Source, of_record, of_bytes, new_world}
 use Rattle.definitions.specs.Worlds.{is_correct, self_of}
 use Rattle.definitions.specs.Frames.{Command, Frame, spelling}
 use Rattle.definitions.specs.Frames as frame
@@ -90,19 +92,20 @@ AreReadAsSent w =
 abbrev pub SentFramesAreRead : Type 0
 SentFramesAreRead = AfterEachRun (λ w. AreSizes w.sizes → AreReadAsSent w)
 
--- a certificate at the replica's sizes, for its block; where that isn't genesis, it is good for the replica
+-- a certificate at the replica's sizes, for its block; where that isn't genesis, it is good for the replica,
+-- or has no votes
 pub record IsCertified (self : Identity) (j : Justified) : Type 0 where
   pub certificate : IsCertificate self.sizes j.certificate
   pub digest : j.certificate.digest ≡ digest_of j.block
-  pub good : 0 < length j.block → is_good self j.certificate ≡ true
+  pub kept : 0 < length j.block → IsKept self j.certificate
 
 -- each certificate that a step brought, or completed by the last vote of a quorum, is one; so is the
--- highest, and it is good
+-- highest, and it is good or has no votes
 pub record HasCertificates (self : Identity) (c : Chronicle) : Type 0 where
   pub each : (s : Step) (earlier : Chronicle) (j : Justified) → IsBeginning (s ∷ earlier) c
       → raised self.sizes s earlier ≡ Some j → IsCertified self j
   pub highest : IsCertified self (qc_high self.sizes c)
-  pub good : is_good self (qc_high self.sizes c).certificate ≡ true
+  pub kept : IsKept self (qc_high self.sizes c).certificate
 
 -- each correct replica has such certificates at the end of each such run
 abbrev pub MadeCertificatesAreCertificates : Type 0
@@ -143,10 +146,17 @@ pub record NamesOneCommand (w : World) (r : AcceptedBy) : Type 0 where
 abbrev pub ReceiptsNameCommands : Type 0
 ReceiptsNameCommands = AfterAnyRun (λ w. (r : AcceptedBy) → Among r w.receipts → NamesOneCommand w r)
 
+-- a source is a recorded frame that was sent to this party
+abbrev pub IsDeliveredFrom : World → ℕ → Source → Type 0
+IsDeliveredFrom w to (of_record k) = (s : Sent) → slice_get w.sent k ≡ Some s → IsFor to s.to s.frame
+IsDeliveredFrom w to (of_bytes bytes read) = ⊥
+
 -- a recorded frame comes to a party that it was sent to, and no bytes are invented
 abbrev pub IsDelivered : World → Event → Type 0
-IsDelivered w (relay k to) = (s : Sent) → slice_get w.sent k ≡ Some s → IsFor to s.to s.frame
+IsDelivered w (relay k to) = IsDeliveredFrom w to (of_record k)
 IsDelivered w (inject to bytes read) = ⊥
+IsDelivered w (offer to source) = IsDeliveredFrom w to source
+IsDelivered w (gather to sources) = AllByRecursion (IsDeliveredFrom w to) sources
 IsDelivered w e = ⊤
 
 -- so do all of a schedule

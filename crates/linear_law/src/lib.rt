@@ -7,6 +7,7 @@ ghost use Rattle.linear_law.specs.Law.{EveryRunIsLinear, ChroniclesAreLawful, Ch
 ghost use Rattle.linear_law.specs.Law.{NoEventConflicts, SentFramesAreFrames, AnySentFramesAreFrames};
 ghost use Rattle.linear_law.specs.Law.{SentFramesAreRead, MadeCertificatesAreCertificates};
 ghost use Rattle.linear_law.specs.Law.{NoSeqIsGivenTwice, ReceiptsNameCommands, DeliveriesForgeNothing};
+ghost use Rattle.linear_law.specs.AsBefore.{UsualRunsAreJudgedAsBefore};
 
 /// Every run is linear.
 pub fn every_run_is_linear()
@@ -68,4 +69,11 @@ pub fn receipts_name_commands()
 /// to, if each correct replica has its own keys.
 pub fn deliveries_forge_nothing()
     ensures { DeliveriesForgeNothing }
+{}
+
+/// A run in which no frame is offered, no copies come together, and no replica is told to lead from a block
+/// or to ask for one, is judged as if there were no such events: each block was taken by a certificate that
+/// is good for its replica, and the highest certificate is the first of the greatest height.
+pub fn usual_runs_are_judged_as_before()
+    ensures { UsualRunsAreJudgedAsBefore }
 {}

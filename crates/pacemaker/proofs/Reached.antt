@@ -13,7 +13,8 @@ use Rattle.definitions.specs.Frames.{Certificate}
 use Rattle.definitions.specs.Branches.{Branch}
 use Rattle.definitions.specs.Chronicles.{Chronicle, Step, Step.took_block, Step.noted, Note.got_vote}
 use Rattle.definitions.specs.Chronicles.{Note.got_new_view, Note.got_request, Note.got_fetch}
-use Rattle.definitions.specs.Chronicles.{Note.timed_out, Note.beat, Note.pruned}
+use Rattle.definitions.specs.Chronicles.{Note.timed_out, Note.beat, Note.pruned, Note.seen_view}
+use Rattle.definitions.specs.Chronicles.{Note.led_from}
 use Rattle.definitions.specs.States.{announcements, announced, reached_view, view}
 use Rattle.definitions.proofs.Lists.{greatest-above, Among-map, Among-mapped, Among-filter, Among-kept}
 use Rattle.definitions.proofs.Counts.{count-same}
@@ -191,6 +192,12 @@ paced-none s most = record {
   announced = λ i l. get_or-replicate MOST_REPLICAS i 0 0 (omega (arith, l, most)) ∙ sym (announced-none i);
 }
 
+-- an announcement is one without its certificate, too
+pub paced-seen : (c : Chronicle) (p : Pace) (v sender : ℕ) (q : Certificate) (b : Branch)
+    → IsPaceOf (noted (got_new_view v sender q b) ∷ c) p → IsPaceOf (noted (seen_view v sender) ∷ c) p
+unfolding view reached_view announced announcements
+paced-seen c p v sender q b o = record { row = o.row; view = o.view; announced = o.announced }
+
 -- ---- any other step
 
 view-stays : (s : Sizes) (st : Step) (c : Chronicle) → LeavesPace st → view s (st ∷ c) ≡ view s c
@@ -203,6 +210,8 @@ view-stays s (noted (got_fetch sender b)) c h = refl
 view-stays s (noted timed_out) c h = absurd h
 view-stays s (noted beat) c h = refl
 view-stays s (noted (pruned height)) c h = refl
+view-stays s (noted (seen_view w sender)) c h = absurd h
+view-stays s (noted (led_from b)) c h = refl
 
 announced-stays : (i : ℕ) (st : Step) (c : Chronicle) → LeavesPace st → announced i (st ∷ c) ≡ announced i c
 unfolding announced announcements
@@ -214,6 +223,8 @@ announced-stays i (noted (got_fetch sender b)) c h = refl
 announced-stays i (noted timed_out) c h = absurd h
 announced-stays i (noted beat) c h = refl
 announced-stays i (noted (pruned height)) c h = refl
+announced-stays i (noted (seen_view w sender)) c h = absurd h
+announced-stays i (noted (led_from b)) c h = refl
 
 -- keeps the pace
 pub paced-still : (st : Step) (c : Chronicle) (p : Pace) → LeavesPace st → IsPaceOf c p → IsPaceOf (st ∷ c) p

@@ -4,6 +4,7 @@ use Rattle.ids.specs.declared.limits.TheConstants.{MOST_REPLICAS}
 use Rattle.ids.specs.Sizes.{Sizes, replicas}
 use Rattle.definitions.specs.Lists.{count_below}
 use Rattle.definitions.specs.Chronicles.{Chronicle, Step, Step.noted, Note.got_new_view, Note.timed_out}
+use Rattle.definitions.specs.Chronicles.{Note.seen_view}
 use Rattle.definitions.specs.States.{announced, view}
 
 -- the sizes, the view, and the greatest view that each replica announced, by number
@@ -22,6 +23,7 @@ pub record IsPaceOf (chronicle : Chronicle) (pace : Pace) : Type 0 where
 abbrev pub LeavesPace : Step → Type 0
 LeavesPace (noted timed_out) = ⊥
 LeavesPace (noted (got_new_view view sender q b)) = ⊥
+LeavesPace (noted (seen_view view sender)) = ⊥
 LeavesPace st = ⊤
 
 -- how many replicas have announced or passed a view

@@ -3,6 +3,7 @@ ghost use Rattle.ids.specs.Sizes.{replicas, leader};
 ghost use Rattle.definitions.specs.Frames.{Certificate};
 ghost use Rattle.definitions.specs.Branches.{Branch};
 ghost use Rattle.definitions.specs.Chronicles.{Chronicle, Step.noted, Note.got_new_view, Note.timed_out};
+ghost use Rattle.definitions.specs.Chronicles.{Note.seen_view};
 ghost use Rattle.pacemaker.specs.Pacing.{IsPaceOf, IsReached, passed_by};
 
 use ids::{Config, MOST_REPLICAS, ReplicaId, View};
@@ -72,6 +73,8 @@ impl Pacemaker {
         ensures sizes { self.new.sizes ≡ self.old.sizes }
         ensures paced { (c : Chronicle) (q : Certificate) (b : Branch) → IsPaceOf c self.old
             → IsPaceOf (noted (got_new_view view sender q b) ∷ c) self.new }
+        ensures seen { (c : Chronicle) → IsPaceOf c self.old
+            → IsPaceOf (noted (seen_view view sender) ∷ c) self.new }
         ensures moved { IsTrue result ↔ (self.old.view < self.new.view) }
     {
         // For the proof: there are few replicas.

@@ -21,13 +21,17 @@ use Rattle.definitions.specs.States.{qc_high, is_due, pending, leads, is_known, 
 use Rattle.definitions.specs.States.{proposed, insert_vote, by_voter}
 use Rattle.definitions.specs.Trees.{is_clear, clear_above, placing_known, placing_new, placing}
 use Rattle.definitions.specs.Rulings.{admitted, votes_for, on_placing, ruling, conflicts, on_request}
+use Rattle.definitions.specs.Rulings.{on_offer, on_relay}
+use Rattle.definitions.specs.Grounds.{are_distinct, are_replicas, is_justified, own_counted}
+use Rattle.definitions.specs.Grounds.{is_own_certified, grounded, may_lead_from}
 use Rattle.definitions.specs.Sendings.{vote_frame, proposal_frame, new_replies, reply_to, sendings}
+use Rattle.definitions.specs.Sendings.{block_frame, fetch_frame}
 use Rattle.definitions.specs.Replicas.{on_step, on_ruling, step}
 use Rattle.definitions.specs.Sessions.{request_frame, submission, on_reply, count_reply}
-use Rattle.definitions.specs.Admission.{check}
+use Rattle.definitions.specs.Admission.{check, check_offer, is_copy, check_copies, check_gathered}
 use Rattle.definitions.specs.Worlds.{new_world}
 use Rattle.definitions.specs.Events.{nothing, stepped, comes, party_of, brought, acts, effect, happens}
-use Rattle.definitions.specs.Events.{submitted, told}
+use Rattle.definitions.specs.Events.{submitted, told, offers}
 use Rattle.definitions.specs.Runs.{refusal, run, after}
 use Rattle.definitions.specs.Premises.{accepted_tags}
 
@@ -42,7 +46,9 @@ unfolding sha256 digest_bytes hash_after compress rounds schedule first_words be
     insert_vote by_voter admitted votes_for placing_known placing_new placing on_placing on_request ruling
     conflicts vote_frame proposal_frame new_replies sendings on_step on_ruling step check request_frame
     submission on_reply count_reply new_world nothing stepped submitted told comes party_of brought acts
-    effect happens refusal run after accepted_tags
+    effect happens refusal run after accepted_tags on_offer on_relay are_distinct are_replicas is_justified
+    own_counted is_own_certified grounded may_lead_from check_offer is_copy check_copies check_gathered offers
+    block_frame fetch_frame
 of_steps = tt
 
 -- with what the cache replies, and the frame of a reply

@@ -50,10 +50,10 @@ were_sent is_faulty sent (x ∷ xs) =
     (is_faulty x.sender || was_sent sent x) && were_sent is_faulty sent xs
 
 -- so were those of what an event brings to a correct party
-abbrev pub none_forged_in : World → Event → Option Frame → Bool
-none_forged_in w e None = true
-none_forged_in w e (Some f) = w.is_faulty (party_of e)
-    || were_sent w.is_faulty w.sent (accepted_tags (self_of w (party_of e)) f)
+abbrev pub none_forged_in : World → Event → List Frame → Bool
+none_forged_in w e [] = true
+none_forged_in w e (f ∷ fs) = (w.is_faulty (party_of e)
+    || were_sent w.is_faulty w.sent (accepted_tags (self_of w (party_of e)) f)) && none_forged_in w e fs
 
 -- and so of a whole schedule
 abbrev none_forged : World → List Happening → Bool
@@ -99,12 +99,22 @@ all-sound is_faulty sent (y ∷ xs) x e (inl i) ok =
     ]
 all-sound is_faulty sent (y ∷ xs) x e (inr m) ok = all-sound is_faulty sent xs x (and_parts _ _ e).1 m ok
 
-event-sound : (w : World) (e : Event) → none_forged_in w e (brought w e) ≡ true → NoForgeryIn w e
-event-sound w e t f b ok ad x m correct =
-    elim (or_cases _ _ (subst (λ (o : Option Frame). none_forged_in w e o ≡ true) b t)) [
+frames-sound : (w : World) (e : Event) (fs : List Frame) (f : Frame) → none_forged_in w e fs ≡ true
+    → Among f fs
+    → w.is_faulty (party_of e) ≡ false → (x : Claim) → Among x (accepted_tags (self_of w (party_of e)) f)
+    → w.is_faulty x.sender ≡ false → WasSent w.sent x
+frames-sound w e [] f t b ok x m correct = absurd b
+frames-sound w e (g ∷ fs) f t (inl i) ok x m correct =
+    elim (or_cases _ _ (and_parts _ _ t).0) [
       | inl h ↦ absurd (true≢false (sym h ∙ ok))
-      | inr h ↦ all-sound w.is_faulty w.sent _ x h m correct
+      | inr h ↦ all-sound w.is_faulty w.sent _ x h
+          (subst (λ (k : Frame). Among x (accepted_tags (self_of w (party_of e)) k)) i m) correct
     ]
+frames-sound w e (g ∷ fs) f t (inr b) ok x m correct =
+    frames-sound w e fs f (and_parts _ _ t).1 b ok x m correct
+
+event-sound : (w : World) (e : Event) → none_forged_in w e (brought w e) ≡ true → NoForgeryIn w e
+event-sound w e t f b ok ad x m correct = frames-sound w e (brought w e) f t b ok x m correct
 
 -- what the test says is so
 run-sound : (hs : List Happening) (w : World) → none_forged w hs ≡ true → NoForgery w hs
@@ -119,9 +129,9 @@ cores_of (frame.proposal v core q t) = core ∷ []
 cores_of (frame.block s core q t) = core ∷ []
 cores_of f = []
 
-abbrev pub cores_in : Option Frame → List Core
-cores_in None = []
-cores_in (Some f) = cores_of f
+abbrev pub cores_in : List Frame → List Core
+cores_in [] = []
+cores_in (f ∷ fs) = cores_of f ++ cores_in fs
 
 -- of the frames of a record
 abbrev cores_sent : List Sent → List Core
@@ -151,12 +161,18 @@ sent-among (t ∷ sent) c s (inl e) o =
 sent-among (t ∷ sent) c s (inr m) o =
     Among-after c (cores_of t.frame) (cores_sent sent) (sent-among sent c s m o)
 
+core-in : (c : Core) (f : Frame) (fs : List Frame) → Among f fs → CoreOf c f → Among c (cores_in fs)
+core-in c f [] m o = absurd m
+core-in c f (g ∷ fs) (inl e) o =
+    Among-before c (cores_of g) (cores_in fs) (core-of c g (subst (CoreOf c) e o))
+core-in c f (g ∷ fs) (inr m) o = Among-after c (cores_of g) (cores_in fs) (core-in c f fs m o)
+
 brought-among : (hs : List Happening) (w : World) (c : Core) → CoreBrought c w hs
     → Among c (cores_brought w hs)
 brought-among [] w c k = absurd k
 brought-among (h ∷ hs) w c (inl x) =
     Among-before c (cores_in (brought w h.0)) (cores_brought (happens w h) hs)
-    (subst (λ (o : Option Frame). Among c (cores_in o)) (sym x.1) (core-of c x.0 x.2))
+    (core-in c x.0 (brought w h.0) x.1 x.2)
 brought-among (h ∷ hs) w c (inr k) =
     Among-after c (cores_in (brought w h.0)) (cores_brought (happens w h) hs)
     (brought-among hs (happens w h) c k)

@@ -8,9 +8,11 @@ mod OneReplica
 mod OnePruned
 mod Rounds
 mod PrunedTree
+mod OnGrounds
 mod Forgery
 mod Computed
 mod Snapshots
 mod LiarTags
 mod LiarWorlds
 mod LiarRun
+mod Healing

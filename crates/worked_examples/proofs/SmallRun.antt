@@ -5,13 +5,13 @@ use Rattle.definitions.specs.Digests.{digest, core_over, digest_of, core_of}
 use Rattle.definitions.specs.Checks.{is_good, cut}
 use Rattle.definitions.specs.Sendings.{vote_frame, proposal_frame}
 use Rattle.definitions.specs.Worlds.{new_world}
-use Rattle.definitions.specs.Events.{party_of, brought, happens}
+use Rattle.definitions.specs.Events.{party_of, brought, listed, happens}
 use Rattle.definitions.specs.Runs.{after}
 use Rattle.std.specs.Prelude.{◌≡◌, [], ◌∷◌}
 use Rattle.definitions.specs.Replicas.{ample}
 use Rattle.definitions.specs.Sendings.{to_all, to_party}
 use Rattle.definitions.specs.Worlds.{World, Sent, beat}
-use Rattle.std.proofs.Common.{arith, inl, inr, sym, subst, ◌∙◌, Some, None, ◌⊎◌, get_or, ap, option_map}
+use Rattle.std.proofs.Common.{arith, inl, inr, sym, subst, ◌∙◌, ◌⊎◌, get_or, ap, option_map}
 use Rattle.std.proofs.Common.{slice_get}
 use Rattle.std.specs.Prelude.{List}
 use Rattle.definitions.specs.Lists.{Among}
@@ -72,13 +72,13 @@ claim_was_sent sent m x (inr k) = absurd k
 
 -- the proposal is the first frame of the record, and is brought
 brings : (w : World) (rest : List Sent) → w.sent ≡ proposal_sent ∷ rest
-    → brought w (relay 0 1) ≡ Some example.proposed
+    → brought w (relay 0 1) ≡ example.proposed ∷ []
 unfolding brought
-brings w rest e = ap (λ (l : List Sent). option_map (λ (s : Sent). s.frame) (slice_get l 0)) e
+brings w rest e = ap (λ (l : List Sent). listed (option_map (λ (s : Sent). s.frame) (slice_get l 0))) e
 
 same-frame : (w : World) (rest : List Sent) (f : Frame) → w.sent ≡ proposal_sent ∷ rest
-    → brought w (relay 0 1) ≡ Some f → f ≡ example.proposed
-same-frame w rest f e b = let h : Some f ≡ Some example.proposed = sym b ∙ brings w rest e in cc
+    → Among f (brought w (relay 0 1)) → f ≡ example.proposed
+same-frame w rest f e b = elim (subst (Among f) (brings w rest e) b) [ inl i ↦ i | inr n ↦ absurd n ]
 
 -- so no tag in it is forged
 none_forged : (w : World) (rest : List Sent) → self_of w 1 ≡ self_of start 1 → w.sent ≡ proposal_sent ∷ rest
@@ -119,9 +119,9 @@ sent_core c s m o =
           (elim k [ inl e ↦ absurd (subst (CoreOf c) (ap (λ (x : Sent). x.frame) e) o) | inr n ↦ absurd n ])
     ]
 
-not_brought : (f : Frame) → brought start (beat 0) ≡ Some f → ⊥
+not_brought : (f : Frame) → Among f (brought start (beat 0)) → ⊥
 unfolding brought
-not_brought f b = let e : None ≡ Some f = b in cc
+not_brought f b = b
 
 brought_core : (c : Core) → CoreBrought c start example.schedule → IsOneOfTwo c
 unfolding after

@@ -12,7 +12,8 @@ use Rattle.definitions.specs.Replicas.{MemorySupply, MemorySupply.ample, Replica
 use Rattle.definitions.specs.Sessions.{Session, Heard}
 use Rattle.definitions.specs.Admission.{Checked, Checked.passes, Checked.rejected, check}
 use Rattle.definitions.specs.Worlds.{World, Sent, AcceptedBy, Event, Event.submit, Event.relay, Event.inject}
-use Rattle.definitions.specs.Worlds.{Event.timeout, Event.beat, Event.prune, Happening, put, is_replica}
+use Rattle.definitions.specs.Worlds.{Event.timeout, Event.beat, Event.prune, Event.offer, Event.gather}
+use Rattle.definitions.specs.Worlds.{Event.lead, Event.ask, Happening, put, is_replica}
 use Rattle.definitions.specs.Worlds.{self_of, new_world}
 use Rattle.definitions.specs.Events.{Effect, nothing, stepped, told, submitted, on_checked, hears, submits}
 use Rattle.definitions.specs.Events.{comes, recorded, brought, party_of, acts, effect, happens}
@@ -70,6 +71,10 @@ is_near (inject to bytes read) = is_these to
 is_near (timeout r) = false
 is_near (beat r) = r == 0
 is_near (prune r height) = false
+is_near (offer to source) = false
+is_near (gather to sources) = false
+is_near (lead r d) = false
+is_near (ask r to d) = false
 
 abbrev pub all_near : List Happening → Bool
 all_near [] = true
@@ -158,6 +163,10 @@ acts-leave s (inject to bytes read) m t = these-leave s to m read t
 acts-leave s (timeout r) m t = absurd (true≢false (sym t))
 acts-leave s (beat r) m t = stepped-leaves (restored s) r m _ (inl (eqb-true r 0 t))
 acts-leave s (prune r height) m t = absurd (true≢false (sym t))
+acts-leave s (offer to source) m t = absurd (true≢false (sym t))
+acts-leave s (gather to sources) m t = absurd (true≢false (sym t))
+acts-leave s (lead r d) m t = absurd (true≢false (sym t))
+acts-leave s (ask r to d) m t = absurd (true≢false (sym t))
 
 effect-leaves : (s : Snapshot) (h : Happening) → is_near h.0 ≡ true
     → LeavesOthers (restored s) (effect (restored s) h)

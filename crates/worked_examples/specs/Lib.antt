@@ -1,6 +1,8 @@
 pub mod Cache
 pub mod Chains
 pub mod Frames
+pub mod Grounds
+pub mod Healing
 pub mod Histories
 pub mod Liar
 pub mod Lines

@@ -5,6 +5,7 @@
 pub mod cache;
 pub mod chains;
 pub mod frames;
+pub mod grounds;
 pub mod histories;
 pub mod lines;
 pub mod pruning;

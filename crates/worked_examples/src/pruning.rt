@@ -32,7 +32,7 @@ pub fn a_pruned_block_is_unknown()
 pub fn what_the_rules_ask_for_stands()
     ensures lock { (s : Sizes) (c : Chronicle) → IsLawful s c → Among (lock c) (window c) }
     ensures executed { (s : Sizes) (c : Chronicle) → IsLawful s c → Among (executed c) (window c) }
-    ensures certified { (s : Sizes) (c : Chronicle) (x : Branch) → Among x (tree c)
+    ensures certified { (s : Sizes) (c : Chronicle) → IsLawful s c → (x : Branch) → Among x (tree c)
         → length (qc_high s c).block ≤ length x → Among x (window c) }
 {}
 

@@ -6,5 +6,5 @@ pub returns : goal.returns
 returns c = record {
   lock = λ s k law. lock-window s k law;
   executed = λ s k law. executed-window s k law;
-  certified = λ s k x m l. high-window s k x m l;
+  certified = λ s k law x m l. high-window s k law x m l;
 }

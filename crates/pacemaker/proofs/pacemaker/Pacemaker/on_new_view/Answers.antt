@@ -1,8 +1,8 @@
-use Rattle.std.proofs.Common.{◌≡◌, ◌≤◌, ℕ, max, refl, ap, ◌∙◌, arith}
+use Rattle.std.proofs.Common.{◌≡◌, ◌≤◌, ℕ, [], max, refl, ap, ◌∙◌, arith}
 use Rattle.ids.specs.Sizes.{replicas}
 use Rattle.ids.specs.declared.limits.TheConstants.{MOST_REPLICAS}
 use Rattle.pacemaker.specs.Pacing.{Pace}
-use Rattle.pacemaker.proofs.Reached.{paced-next, with_announced}
+use Rattle.pacemaker.proofs.Reached.{paced-next, paced-seen, with_announced}
 use Rattle.pacemaker.proofs.pacemaker.Pacemaker.on_new_view.Goals as goal
 
 pub returns-then-moves-clause-paced : goal.returns-then-moves-clause-paced
@@ -28,3 +28,13 @@ returns-else-moves-clause-paced c c' q b o =
     c.note.new.self.view c.reached-reached.result q b o c.requires most
     (c.note.ensures ∙ ap (λ (w : ℕ). with_announced c.args.self.now w c.args.sender) c.view.view_is)
     c.reached-reached.ensures refl greater
+
+pub returns-then-moves-clause-seen : goal.returns-then-moves-clause-seen
+returns-then-moves-clause-seen c c' o =
+    paced-seen c' _ c.args.view c.args.sender (record { digest = []; votes = [] }) []
+    (returns-then-moves-clause-paced c c' (record { digest = []; votes = [] }) [] o)
+
+pub returns-else-moves-clause-seen : goal.returns-else-moves-clause-seen
+returns-else-moves-clause-seen c c' o =
+    paced-seen c' _ c.args.view c.args.sender (record { digest = []; votes = [] }) []
+    (returns-else-moves-clause-paced c c' (record { digest = []; votes = [] }) [] o)

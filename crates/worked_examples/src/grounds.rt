@@ -1,0 +1,43 @@
+//! What a replica takes, and leads from, though it has no certificate that is good for it.
+
+ghost use Rattle.worked_examples.specs.Grounds.{AnEarlierTake, NoGrounds, TwoSenders, OneSender};
+ghost use Rattle.worked_examples.specs.Grounds.{LeadsFromTheLock, LeadsFromNoOther, ALeadMovesThere};
+ghost use Rattle.worked_examples.specs.Healing.{IsWedged, IsOffered, IsGathered};
+ghost use Rattle.worked_examples.specs.Healing.{CopiesPass, OffersPass};
+ghost use Rattle.worked_examples.specs.Grounds.{ALeadKeepsIt, AsksAnyone, ItsViewCounts};
+
+/// A block is taken where an earlier one justifies the same block, or f + 1 replicas sent it; else not.
+pub fn a_block_is_taken_on_grounds()
+    ensures earlier { AnEarlierTake }
+    ensures none { NoGrounds }
+    ensures two { TwoSenders }
+    ensures one { OneSender }
+{}
+
+/// A replica leads from its lock or above, where a block that it took justifies the block.
+pub fn a_replica_leads_from_its_lock()
+    ensures lock { LeadsFromTheLock }
+    ensures others { LeadsFromNoOther }
+    ensures moves { ALeadMovesThere }
+    ensures keeps { ALeadKeepsIt }
+{}
+
+/// A question goes to whoever is named, and a view counts without its certificate.
+pub fn questions_and_views_need_no_certificate()
+    ensures asks { AsksAnyone }
+    ensures views { ItsViewCounts }
+{}
+
+/// A vote that is right for the leader alone makes a certificate that the others refuse. They take its block
+/// all the same, one by its own certificate, the other by two copies, and both vote for it.
+pub fn a_half_vote_wedges_and_grounds_heal()
+    ensures wedged { IsWedged }
+    ensures offered { IsOffered }
+    ensures gathered { IsGathered }
+{}
+
+/// A frame is offered, and copies come together, with their own tags alone.
+pub fn offers_and_copies_need_their_own_tags()
+    ensures copies { CopiesPass }
+    ensures offers { OffersPass }
+{}
