@@ -1,5 +1,5 @@
 -- The window of a chronicle: what the rules look at stands in it, though blocks below the horizon are pruned.
-use Rattle.std.proofs.Common.{ℕ, suc, ◌≡◌, ◌≤◌, ◌+◌, ◌⊎◌, Bool, true, false, List, [], ◌∷◌, length}
+use Rattle.std.proofs.Common.{◌&&◌, ℕ, suc, ◌≡◌, ◌≤◌, ◌+◌, ◌⊎◌, Bool, true, false, List, [], ◌∷◌, length}
 use Rattle.std.proofs.Common.{cond, true≢false, refl, sym, ap, subst, ◌∙◌, arith, inl, inr, map}
 use Rattle.std.proofs.Common.{nat_lt, Option, Some, None, ◌||◌}
 use Rattle.std.proofs.lemmas.Bool.{cond_both, cond-true, eqb-true, ltb-true, ltb-false}
@@ -25,7 +25,7 @@ use Rattle.definitions.specs.Chronicles.{Chronicle, taken_blocks, stored_block, 
 use Rattle.definitions.specs.Chronicles.{decided_by, decided, decides, executed, horizon, standing_blocks}
 use Rattle.definitions.specs.Chronicles.{window, lock, IsLawfulStep, IsLawful}
 use Rattle.definitions.specs.Branches.{Block}
-use Rattle.definitions.specs.States.{Justified, raised, fills, higher, led, qc_high}
+use Rattle.definitions.specs.States.{Justified, raised, fills, comes_whole, higher, led, qc_high}
 
 -- ---- what stands in it
 
@@ -203,16 +203,18 @@ executed-locked c =
     ]
 
 -- the higher of two certificates is one of them, and no lower than either
-pub higher-of : (p q : Justified)
-    → (length q.block ≤ length (higher (Some p) q).block) × (length p.block ≤ length (higher (Some p) q).block)
-higher-of p q =
-    cond_both (nat_lt (length q.block) (length p.block) || fills p q) p q
+pub higher-of : (whole : Bool) (p q : Justified)
+    → (length q.block ≤ length (higher whole (Some p) q).block)
+    × (length p.block ≤ length (higher whole (Some p) q).block)
+higher-of whole p q =
+    cond_both (nat_lt (length q.block) (length p.block) || (whole && fills p q)) p q
     (λ (x : Justified). (length q.block ≤ length x.block) × (length p.block ≤ length x.block))
     (λ e. (
       elim (or_cases _ _ e) [
         | inl t ↦ let w = ltb-true (length q.block) (length p.block) t in omega (arith, w)
         | inr f ↦ let same = ap (λ (b : Branch). length b)
-            ((branch_eq-decides p.block q.block).0 (and_parts _ _ (and_parts _ _ f).0).1) in omega (arith, same)
+            ((branch_eq-decides p.block q.block).0
+            (and_parts _ _ (and_parts _ _ (and_parts _ _ f).1).0).1) in omega (arith, same)
       ],
       omega arith,
     ))
@@ -222,19 +224,20 @@ higher-of p q =
     ))
 
 -- a certificate that comes never lowers the highest one
-pub higher-rises : (o : Option Justified) (q : Justified) → length q.block ≤ length (higher o q).block
-higher-rises None q = omega arith
-higher-rises (Some p) q = (higher-of p q).0
+pub higher-rises : (whole : Bool) (o : Option Justified) (q : Justified)
+    → length q.block ≤ length (higher whole o q).block
+higher-rises whole None q = omega arith
+higher-rises whole (Some p) q = (higher-of whole p q).0
 
-higher-above : (o : Option Justified) (q : Justified) (x : Branch)
-    → ((p : Justified) × (o ≡ Some p) × (p.block ≡ x)) → length x ≤ length (higher o q).block
-higher-above o q x (p, e, i) =
-    subst (λ (y : Option Justified). length x ≤ length (higher y q).block) (sym e)
-    (let k = ap (λ (y : Branch). length y) i in let h = (higher-of p q).1 in omega (arith, k, h))
+higher-above : (whole : Bool) (o : Option Justified) (q : Justified) (x : Branch)
+    → ((p : Justified) × (o ≡ Some p) × (p.block ≡ x)) → length x ≤ length (higher whole o q).block
+higher-above whole o q x (p, e, i) =
+    subst (λ (y : Option Justified). length x ≤ length (higher whole y q).block) (sym e)
+    (let k = ap (λ (y : Branch). length y) i in let h = (higher-of whole p q).1 in omega (arith, k, h))
 
 -- a step is a lead, or brings a certificate or none
 pub qc_high-cases : (s : Sizes) (st : Step) (c : Chronicle)
-    → ((b : Branch) × (st ≡ noted (led_from b))) ⊎ (qc_high s (st ∷ c) ≡ higher (raised s st c) (qc_high s c))
+    → ((b : Branch) × (st ≡ noted (led_from b))) ⊎ (qc_high s (st ∷ c) ≡ higher (comes_whole st) (raised s st c) (qc_high s c))
 unfolding qc_high
 qc_high-cases s (took_block a) c = inr refl
 qc_high-cases s (noted (got_vote voter v b)) c = inr refl
@@ -263,7 +266,7 @@ taking-certified : (s : Sizes) (a : Admitted) (c : Chronicle) → a.new ≡ true
     → length (just1 a.branch) ≤ length (qc_high s (took_block a ∷ c)).block
 unfolding qc_high
 taking-certified s a c n =
-    higher-above (raised s (took_block a) c) (qc_high s c) (just1 a.branch)
+    higher-above true (raised s (took_block a) c) (qc_high s c) (just1 a.branch)
     (record { block = just1 a.branch; certificate = a.certificate }, raised-taken s a c n, refl)
 
 -- a lead puts the highest certificate on its block
@@ -281,7 +284,7 @@ high-stays s st c law n low high =
           subst (λ (x : Step). n ≤ length (qc_high s (x ∷ c)).block) (sym led.1)
           (let e = ap (λ (b : Branch). length b) (led-high s led.0 c) in omega (arith, e, own, low))
       | inr e ↦
-          let r = higher-rises (raised s st c) (qc_high s c) in
+          let r = higher-rises (comes_whole st) (raised s st c) (qc_high s c) in
           let k = ap (λ (q : Justified). length q.block) e in
           omega (arith, r, k, high)
     ]

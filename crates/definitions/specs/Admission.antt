@@ -1,10 +1,11 @@
 -- Which frames a replica admits, and as what input.
 use Rattle.ids.specs.declared.fault.Fault.{Fault}
 use Rattle.ids.specs.declared.fault.Fault.TheVariants as fault
-use Rattle.std.specs.Prelude.{◌&&◌, Bool, true, false, List, [], ◌∷◌, map, Some, None, if◌then◌else◌}
+use Rattle.std.specs.Prelude.{◌&&◌, Bool, true, false, List, [], ◌∷◌, map, length, Some, None, nat_le}
+use Rattle.std.specs.Prelude.{if◌then◌else◌}
 use Rattle.std.specs.List.{list_all}
 use Rattle.std.specs.Str.{bytes_eq}
-use Rattle.ids.specs.Sizes.{leader}
+use Rattle.ids.specs.Sizes.{leader, replicas}
 use Rattle.definitions.specs.Frames.{Core, Certificate, Frame, kind_of, sender_of, content_of, own_tag}
 use Rattle.definitions.specs.Frames as frame
 use Rattle.definitions.specs.Digests.{digest}
@@ -70,10 +71,10 @@ is_copy self core q (frame.block sender k p t) =
     && (bytes_eq (digest k) (digest core) && bytes_eq p.digest q.digest)
 is_copy self core q f = false
 
--- the frames are copies of the block of the first
+-- the frames are copies of the block of the first, and no more than there are replicas
 unfoldable pub check_copies : Identity → Frame → List Frame → Checked
 check_copies self (frame.block sender core q t) fs =
-    when (list_all (is_copy self core q) fs)
+    when (nat_le (length fs) (replicas self.sizes) && list_all (is_copy self core q) fs)
     (relayed_in (map (sender_of self.sizes) fs) core q (findings self core q))
 check_copies self f fs = rejected fault.NotMine
 

@@ -2,7 +2,7 @@
 -- requests, and what to propose (HotStuff, PODC 2019, the event-driven form; the pacemaker is this
 -- project's own).
 use Rattle.ids.specs.declared.limits.TheConstants.{MOST_COMMANDS}
-use Rattle.std.specs.Prelude.{ℕ, suc, ◌-◌, ◌^◌, ◌==◌, ◌&&◌, ◌||◌, not, Bool, List, [], ◌∷◌, ◌++◌, map, filter}
+use Rattle.std.specs.Prelude.{ℕ, suc, ◌-◌, ◌^◌, ◌==◌, ◌&&◌, ◌||◌, not, Bool, true, false, List, [], ◌∷◌, ◌++◌, map, filter}
 use Rattle.std.specs.Prelude.{take, length, min, max, if◌then◌else◌, nat_lt, nat_le, Option, Some, None}
 use Rattle.std.specs.Prelude.{is_some}
 use Rattle.std.specs.List.{list_any}
@@ -99,10 +99,17 @@ fills p q =
     (nat_lt 0 (length q.block) && branch_eq p.block q.block)
     && (length q.certificate.votes == 0 && nat_lt 0 (length p.certificate.votes))
 
--- the one of the greater height, the older one where they are equal, but for one that has no votes
-abbrev pub higher : Option Justified → Justified → Justified
-higher None q = q
-higher (Some p) q = if nat_lt (length q.block) (length p.block) || fills p q then p else q
+-- a step brings a certificate whole, where it has one: votes make theirs here
+abbrev pub comes_whole : Step → Bool
+comes_whole (noted (got_vote voter v b)) = false
+comes_whole s = true
+
+-- the one of the greater height, the older one where they are equal, but for one without votes, which one
+-- that came whole may fill
+abbrev pub higher : (whole : Bool) → Option Justified → Justified → Justified
+higher whole None q = q
+higher whole (Some p) q =
+    if nat_lt (length q.block) (length p.block) || (whole && fills p q) then p else q
 
 -- what a lead from b leaves of the highest certificate: itself where it is for b, else one without votes
 abbrev pub led : Branch → Justified → Justified
@@ -114,7 +121,7 @@ led b q =
 unfoldable pub qc_high : Sizes → Chronicle → Justified
 qc_high s [] = record { block = []; certificate = record { digest = digest genesis_core; votes = [] } }
 qc_high s (noted (led_from b) ∷ earlier) = led b (qc_high s earlier)
-qc_high s (x ∷ earlier) = higher (raised s x earlier) (qc_high s earlier)
+qc_high s (x ∷ earlier) = higher (comes_whole x) (raised s x earlier) (qc_high s earlier)
 
 -- requests in order of arrival that aren't overtaken by the history
 abbrev pub is_same_request : Command → Command → Bool

@@ -21,7 +21,8 @@ use Rattle.definitions.specs.Chronicles.{Note.led_from, Chronicle, history, hori
 use Rattle.definitions.specs.Checks.{Identity, Findings, vote_verifies}
 use Rattle.definitions.specs.Grounds.{are_replicas, is_justified, own_counted, is_own_certified}
 use Rattle.definitions.specs.Grounds.{grounded, may_lead_from}
-use Rattle.definitions.specs.States.{votes, Justified, raised, fills, higher, qc_high, find_block, is_due}
+use Rattle.definitions.specs.States.{votes, Justified, raised, fills, comes_whole, higher, qc_high}
+use Rattle.definitions.specs.States.{find_block, is_due}
 use Rattle.definitions.specs.States.{pending, is_same_request}
 use Rattle.definitions.specs.Rulings.{Input, Input.proposal_in, Input.block_in, Input.vote_in}
 use Rattle.definitions.specs.Rulings.{Input.new_view_in, Input.request_in, Input.fetch_in, Input.timeout_in}
@@ -143,11 +144,11 @@ module _ (P : Bytes → Vote → Type 0) where
   raised-held s (noted (seen_view w r)) c h = tt
   raised-held s (noted (led_from b)) c h = tt
 
-  higher-held : (o : Option Justified) (q : Justified) → IsRaisedHolding o → AllVotes P q.certificate
-      → AllVotes P (higher o q).certificate
-  higher-held None q r h = h
-  higher-held (Some p) q r h =
-      cond_both (nat_lt (length q.block) (length p.block) || fills p q) p q
+  higher-held : (whole : Bool) (o : Option Justified) (q : Justified) → IsRaisedHolding o
+      → AllVotes P q.certificate → AllVotes P (higher whole o q).certificate
+  higher-held whole None q r h = h
+  higher-held whole (Some p) q r h =
+      cond_both (nat_lt (length q.block) (length p.block) || (whole && fills p q)) p q
       (λ (j : Justified). AllVotes P j.certificate) (λ e. r) (λ e. h)
 
   -- the votes of the highest certificate are among those that came
@@ -158,7 +159,7 @@ module _ (P : Bytes → Vote → Type 0) where
       cond_both (branch_eq (qc_high s c).block b) (qc_high s c) _
       (λ (j : Justified). AllVotes P j.certificate) (λ e. high-held s c h.1) (λ e. tt)
   high-held s (st ∷ c) h =
-      higher-held (raised s st c) (qc_high s c) (raised-held s st c h) (high-held s c h.1)
+      higher-held (comes_whole st) (raised s st c) (qc_high s c) (raised-held s st c h) (high-held s c h.1)
 
   -- ---- rulings
 

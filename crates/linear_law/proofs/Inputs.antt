@@ -538,7 +538,7 @@ copies-sent self (frame.block sender core q t) fs i e =
     subst (HaveCopies self fs) g.1 (λ core' q' g' vs ca by v m.
     let r = Among-map (sender_of self.sizes) fs v (subst (Among v) (sym by) m) in
     let copy : IsCopyBy core (sender_of self.sizes r.0) r.0 =
-    copy-by self core q r.0 (all-passes (is_copy self core q) fs r.0 g.0 r.1) in
+    copy-by self core q r.0 (all-passes (is_copy self core q) fs r.0 (and_parts _ _ g.0).1 r.1) in
     (r.0, r.1, subst₂ (λ (c : Core) (u : ℕ). IsCopyBy c u r.0) ca.0 (sym r.2) copy))
 copies-sent self (frame.proposal w c q v) fs i e = absurd (not_mine i e)
 copies-sent self (frame.new_view w s q v) fs i e = absurd (not_mine i e)

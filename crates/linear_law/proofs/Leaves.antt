@@ -21,7 +21,7 @@ use Rattle.definitions.specs.Chronicles.{Chronicle}
 use Rattle.definitions.specs.Chronicles.{taken_blocks, tree, history, horizon, IsLawful, AreKnown, IsSound}
 use Rattle.definitions.specs.Checks.{Identity}
 use Rattle.definitions.specs.States.{known_as, announcements, announced, reached_view, view, raised, qc_high}
-use Rattle.definitions.specs.States.{Justified, fills, higher, votes}
+use Rattle.definitions.specs.States.{Justified, fills, comes_whole, higher, votes}
 use Rattle.definitions.specs.Chronicles.{Note.seen_view, Note.led_from}
 use Rattle.definitions.proofs.Horizons.{higher-rises, qc_high-cases, led-high}
 use Rattle.definitions.specs.States.{is_same_request, is_due, with_request, pending, leads, find_block}
@@ -191,9 +191,10 @@ leaf-step self (noted beat) c = by (child self c (leaf self c)) refl
     by (Some b) e = makes b refl (beat-same self c) e
 leaf-step self (took_block a) c =
     leaf-either self (took_block a) c
-    (higher-rises (raised self.sizes (took_block a) c) (qc_high self.sizes c))
+    (higher-rises true (raised self.sizes (took_block a) c) (qc_high self.sizes c))
 leaf-step self (noted n) c =
-    leaf-either self (noted n) c (higher-rises (raised self.sizes (noted n) c) (qc_high self.sizes c))
+    leaf-either self (noted n) c
+    (higher-rises (comes_whole (noted n)) (raised self.sizes (noted n) c) (qc_high self.sizes c))
 
 -- what a step brings is for a known block
 brought-known : (s : Sizes) (st : Step) (c : Chronicle) → IsLawful s (st ∷ c) → AreKnown (st ∷ c)
@@ -237,10 +238,11 @@ high-known s (st ∷ c) l k =
     P : Justified → Type 0
     P q = Among q.block (tree (st ∷ c))
 
-    by : (o : Option Justified) → IfSome o P → P (qc_high s c) → P (higher o (qc_high s c))
+    by : (o : Option Justified) → IfSome o P → P (qc_high s c) → P (higher (comes_whole st) o (qc_high s c))
     by None m old = old
     by (Some q) m old =
-        cond_both (nat_lt (length (qc_high s c).block) (length q.block) || fills q (qc_high s c)) q
+        cond_both (nat_lt (length (qc_high s c).block) (length q.block)
+        || (comes_whole st && fills q (qc_high s c))) q
         (qc_high s c) P (λ t. m) (λ t. old)
 
 -- each step leaves it as high as the highest certified block

@@ -14,7 +14,8 @@ use Rattle.definitions.specs.Digests.{digest, digest_of}
 use Rattle.definitions.specs.Chronicles.{Step, Step.took_block, Step.noted, Note.got_vote}
 use Rattle.definitions.specs.Chronicles.{Note.got_new_view, Chronicle, taken_blocks}
 use Rattle.definitions.specs.Checks.{Identity, is_genesis, vote_verifies}
-use Rattle.definitions.specs.States.{votes, by_voter, Justified, raised, fills, higher, led, qc_high}
+use Rattle.definitions.specs.States.{votes, by_voter, Justified, raised, fills, comes_whole, higher, led}
+use Rattle.definitions.specs.States.{qc_high}
 use Rattle.definitions.specs.Grounds.{IsKept}
 use Rattle.definitions.proofs.Horizons.{qc_high-cases}
 use Rattle.definitions.specs.Chronicles.{Note.led_from}
@@ -159,16 +160,16 @@ raised-is self st c j h e = subst (AllRaised self) e (raised-all self st c h)
 -- ---- the highest certificate
 
 -- the higher one of two
-higher-high : (self : Identity) (o : Option Justified) (q : Justified) → AllRaised self o
-    → IsHigh self q → IsHigh self (higher o q)
-higher-high self None q r h = h
-higher-high self (Some p) q r h =
-    cond_both (nat_lt (length q.block) (length p.block) || fills p q) p q (IsHigh self)
+higher-high : (self : Identity) (whole : Bool) (o : Option Justified) (q : Justified) → AllRaised self o
+    → IsHigh self q → IsHigh self (higher whole o q)
+higher-high self whole None q r h = h
+higher-high self whole (Some p) q r h =
+    cond_both (nat_lt (length q.block) (length p.block) || (whole && fills p q)) p q (IsHigh self)
     (λ e. record {
       certificate_is = r.certificate_is;
       kept = r.kept (elim (or_cases _ _ e) [
         | inl t ↦ (let l = ltb-true (length q.block) (length p.block) t in omega (arith, l))
-        | inr f ↦ (let g = and_parts _ _ (and_parts _ _ f).0 in let l = ltb-true 0 (length q.block) g.0 in
+        | inr f ↦ (let g = and_parts _ _ (and_parts _ _ (and_parts _ _ f).1).0 in let l = ltb-true 0 (length q.block) g.0 in
             let k = ap (λ (x : Branch). length x) ((branch_eq-decides p.block q.block).0 g.1) in
             omega (arith, l, k))
       ]);
@@ -212,7 +213,7 @@ qc_high-is self (st ∷ c) h =
     elim (qc_high-cases self.sizes st c) [
       | inl l ↦ subst (λ (x : Step). IsHigh self (qc_high self.sizes (x ∷ c))) (sym l.1)
           (led-is self l.0 c (qc_high-is self c h.1))
-      | inr e ↦ subst (IsHigh self) (sym e) (higher-high self (raised self.sizes st c) (qc_high self.sizes c)
+      | inr e ↦ subst (IsHigh self) (sym e) (higher-high self (comes_whole st) (raised self.sizes st c) (qc_high self.sizes c)
           (raised-all self st c h) (qc_high-is self c h.1))
     ]
 
