@@ -1,7 +1,7 @@
 -- What is so of each vote that came to a replica is so of those of its highest certificate, and of each
 -- certificate that it stores.
 use Rattle.ids.specs.declared.limits.TheConstants.{MOST_BLOCKS}
-use Rattle.std.proofs.Common.{ℕ, ◌≡◌, ◌&&◌, ◌||◌, ◌==◌, not, true, List, [], ◌∷◌, length, map, filter, nat_lt, suc}
+use Rattle.std.proofs.Common.{Bool, ℕ, ◌≡◌, ◌&&◌, ◌||◌, ◌==◌, not, true, List, [], ◌∷◌, length, map, filter, nat_lt, suc}
 use Rattle.std.proofs.Common.{refl, sym, ap, subst, inl, inr, Option, Some, None}
 use Rattle.std.specs.Bool.{⊤}
 use Rattle.std.specs.List.{list_any, AllByRecursion}
