@@ -128,16 +128,16 @@ module _ (s : Sizes) (c : Chronicle) (voter : ℕ) (v : Bytes) (b : Branch) wher
   raised-is = refl
 
   higher-lower : (t : Bool) (p q : Justified) → length p.block < suc (length q.block)
-      → higher (cond t (Some p) None) q ≡ q
-  higher-lower true p q le = cond-false (nat_lt (length q.block) (length p.block)) p q
-      (le-ltb (length q.block) (length p.block) (omega (arith, le)))
+      → higher false (cond t (Some p) None) q ≡ q
+  higher-lower true p q le = cond-false (nat_lt (length q.block) (length p.block) || false) p q
+      (ap (λ (t : Bool). t || false) (le-ltb (length q.block) (length p.block) (omega (arith, le))))
   higher-lower false p q le = refl
 
   -- nothing that is higher than q, where the block isn't
   pub raised-lower : (q : Justified) → length b < suc (length q.block)
-      → higher (raised s (noted (got_vote voter v b)) c) q ≡ q
+      → higher false (raised s (noted (got_vote voter v b)) c) q ≡ q
   raised-lower q le =
-      ap (λ (o : Option Justified). higher o q) raised-is
+      ap (λ (o : Option Justified). higher false o q) raised-is
       ∙ higher-lower (nat_lt (length (votes s b c)) (quorum s)
       && (length (votes s b (noted (got_vote voter v b) ∷ c)) == quorum s)) Made q le
 

@@ -1,5 +1,5 @@
 -- What is kept of all blocks: one more vote, and fewer.
-use Rattle.std.proofs.Common.{ℕ, ◌≡◌, ◌<◌, Result, Ok, Err, length, arith, Bool, true, false, cond}
+use Rattle.std.proofs.Common.{ℕ, ◌≡◌, ◌<◌, Result, Ok, Err, arith, Bool, true, false, cond}
 use Rattle.std.proofs.Common.{Option, Some, None, List, [], ◌∷◌, refl, sym, ap, subst, ◌∙◌, nat_lt}
 use Rattle.std.proofs.Common.{bytes_eq, true≢false}
 use Rattle.std.specs.List.{AllByRecursion, flat_map}

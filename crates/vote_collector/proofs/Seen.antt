@@ -1,5 +1,5 @@
 -- What is kept of a replica's chronicle, step by step, where it is seen as a function of the digest.
-use Rattle.std.proofs.Common.{ℕ, suc, ◌≡◌, ◌+◌, ◌<◌, ◌≤◌, ◌==◌, inl, inr, Bool, true, false, Option, Some}
+use Rattle.std.proofs.Common.{ℕ, suc, ◌≡◌, ◌+◌, ◌<◌, ◌≤◌, ◌==◌, ◌||◌, inl, inr, Bool, true, false, Option, Some}
 use Rattle.std.proofs.Common.{None, List, [], ◌∷◌, length, refl, sym, ap, subst, ◌∙◌, arith, nat_lt}
 use Rattle.std.proofs.Common.{bytes_eq}
 use Rattle.std.proofs.lemmas.Bool.{cond-true, cond-false, lt-ltb, ltb-true, cases_lt}
@@ -10,15 +10,18 @@ use Rattle.definitions.specs.Lists.{Among}
 use Rattle.definitions.specs.Frames.{Vote}
 use Rattle.definitions.specs.Branches.{Branch, branch_eq}
 use Rattle.definitions.proofs.Branches.{branch_eq-decides}
-use Rattle.definitions.proofs.Horizons.{high-window, window-tree, tree-window, window-cases, window-genesis}
-use Rattle.definitions.proofs.Horizons.{higher-rises}
+use Rattle.definitions.proofs.Horizons.{window-tree, tree-window, window-cases, window-genesis}
+use Rattle.definitions.proofs.Horizons.{higher-rises, qc_high-cases, horizon-before, horizon-certified}
+use Rattle.definitions.proofs.Horizons.{executed-locked, lock-certified}
 use Rattle.definitions.specs.Digests.{digest_of}
 use Rattle.definitions.specs.Trees.{find_in, IsTree}
 use Rattle.definitions.specs.Chronicles.{Chronicle, Step, Note, Step.took_block, Step.noted, Note.got_vote}
 use Rattle.definitions.specs.Chronicles.{Note.got_new_view, Note.got_request, Note.got_fetch}
-use Rattle.definitions.specs.Chronicles.{Note.timed_out, Note.beat, Note.pruned, Admitted, stored_blocks}
-use Rattle.definitions.specs.Chronicles.{taken_blocks, tree, horizon, standing_blocks, window}
-use Rattle.definitions.specs.States.{Justified, votes, by_voter, insert_vote, raised, higher, qc_high}
+use Rattle.definitions.specs.Chronicles.{Note.timed_out, Note.beat, Note.pruned, Note.seen_view}
+use Rattle.definitions.specs.Chronicles.{Note.led_from, Admitted, stored_blocks, taken_blocks, tree}
+use Rattle.definitions.specs.Chronicles.{horizon, standing_blocks, window, IsLawful}
+use Rattle.definitions.specs.States.{Justified, votes, by_voter, insert_vote, raised, comes_whole}
+use Rattle.definitions.specs.States.{higher, qc_high}
 use Rattle.definitions.proofs.Trees.{found-in, not-found}
 use Rattle.definitions.proofs.Chronicles.{tree-grows}
 use Rattle.definitions.proofs.Certificates.{length-by_voter}
@@ -26,7 +29,7 @@ use Rattle.vote_collector.specs.declared.added.Added.{Added}
 use Rattle.vote_collector.specs.declared.added.Added.TheVariants.{First, Doubled, Complete}
 use Rattle.vote_collector.specs.Collecting.{Entry, votes_in, has_voter, judged}
 use Rattle.vote_collector.specs.Following.{AreCollected, IsOfBlock, certified}
-use Rattle.vote_collector.specs.Lawful.{BringsNoVote}
+use Rattle.vote_collector.specs.Lawful.{LeavesVotes}
 use Rattle.vote_collector.proofs.Entries.{Seen, entry_with, votes-with, seen_with, votes_at, entry_above}
 use Rattle.vote_collector.proofs.Entries.{seen_above}
 use Rattle.vote_collector.proofs.Ballots.{Says, any-by_voter, judged-says, same_digest, votes-other}
@@ -94,14 +97,38 @@ pub votes-none : (s : Sizes) (b : Branch) → votes s b [] ≡ []
 unfolding votes
 votes-none s b = refl
 
+by_voter-none : [] ≡ by_voter []
+unfolding by_voter
+by_voter-none = refl
+
+-- ---- after a lead
+
+votes-led : (s : Sizes) (b : Branch) (c : Chronicle) (x : Branch) → votes s x (noted (led_from b) ∷ c) ≡ []
+unfolding votes
+votes-led s b c x = refl
+
+pub left-none : (s : Sizes) (b : Branch) (c : Chronicle) → IsVotesIn s (noted (led_from b) ∷ c) (λ d. None)
+left-none s b c = record {
+  above = λ x m l. record {
+    same = by_voter-none ∙ ap by_voter (sym (votes-led s b c x));
+    few = let n = ap (λ (l : List Vote). length l) (votes-led s b c x) in omega (arith, n);
+  };
+  alone = λ d e is. absurd (none≢some e is);
+  unknown = λ x none. votes-led s b c x;
+}
+
 -- ---- the window
 
--- of the blocks above the highest certificate's each digest has one
-pub one-high : (s : Sizes) (c : Chronicle) → IsTree (horizon c) (window c) → (x y : Branch) → Among x (tree c)
-    → Among y (tree c) → certified s c < length x → certified s c < length y → digest_of x ≡ digest_of y
-    → x ≡ y
-one-high s c tr x y m n l k e =
-    tr.one x y (high-window s c x m (omega (arith, l))) (high-window s c y n (omega (arith, k))) e
+-- a block above the highest certificate's, where that isn't below the horizon
+above-window : (s : Sizes) (c : Chronicle) → horizon c ≤ certified s c → (x : Branch) → Among x (tree c)
+    → certified s c < length x → Among x (window c)
+above-window s c low x m l = tree-window c x m (omega (arith, low, l))
+
+-- of such blocks each digest has one
+pub one-high : (s : Sizes) (c : Chronicle) → horizon c ≤ certified s c → IsTree (horizon c) (window c)
+    → (x y : Branch) → Among x (tree c) → Among y (tree c) → certified s c < length x
+    → certified s c < length y → digest_of x ≡ digest_of y → x ≡ y
+one-high s c low tr x y m n l k e = tr.one x y (above-window s c low x m l) (above-window s c low y n k) e
 
 -- a block that is taken takes nothing out
 window-took : (a : Admitted) (c : Chronicle) (y : Branch) → Among y (window c)
@@ -116,21 +143,43 @@ window-took a c y m =
 
 -- ---- one step
 
-qc-next : (s : Sizes) (st : Step) (c : Chronicle) → qc_high s (st ∷ c) ≡ higher (raised s st c) (qc_high s c)
+-- a vote
+vote-next : (s : Sizes) (voter : ℕ) (v : Bytes) (b : Branch) (c : Chronicle)
+    → qc_high s (noted (got_vote voter v b) ∷ c)
+    ≡ higher false (raised s (noted (got_vote voter v b)) c) (qc_high s c)
 unfolding qc_high
-qc-next s st c = refl
+vote-next s voter v b c = refl
 
-pub certified-rises : (s : Sizes) (st : Step) (c : Chronicle) → certified s c ≤ certified s (st ∷ c)
-certified-rises s st c =
-    let e =
-    ap (λ (q : Justified). length q.block) (qc-next s st c) in let r =
-    higher-rises (raised s st c) (qc_high s c) in omega (arith, e, r)
+vote-rises : (s : Sizes) (voter : ℕ) (v : Bytes) (b : Branch) (c : Chronicle)
+    → certified s c ≤ certified s (noted (got_vote voter v b) ∷ c)
+vote-rises s voter v b c =
+    let e = ap (λ (q : Justified). length q.block) (vote-next s voter v b c) in
+    let r = higher-rises false (raised s (noted (got_vote voter v b)) c) (qc_high s c) in
+    omega (arith, e, r)
 
-by_voter-none : [] ≡ by_voter []
-unfolding by_voter
-by_voter-none = refl
+-- a step that is neither vote nor lead
+silent-rises : (s : Sizes) (st : Step) (c : Chronicle) → LeavesVotes st
+    → certified s c ≤ certified s (st ∷ c)
+silent-rises s st c silent =
+    elim (qc_high-cases s st c) [
+      | inl led ↦ absurd (subst LeavesVotes led.1 silent)
+      | inr e ↦
+          let h = ap (λ (q : Justified). length q.block) e in
+          let r = higher-rises (comes_whole st) (raised s st c) (qc_high s c) in
+          omega (arith, h, r)
+    ]
 
-module _ (s : Sizes) (st : Step) (c : Chronicle) (kept : Seen) (of : IsVotesIn s c kept) where
+-- after a step that lowers no highest certificate, it isn't below the horizon
+low-next : (s : Sizes) (st : Step) (c : Chronicle) → IsLawful s c → certified s c ≤ certified s (st ∷ c)
+    → horizon (st ∷ c) ≤ certified s (st ∷ c)
+low-next s st c law rises =
+    let h = horizon-before st c in
+    let e = executed-locked c in
+    let l = lock-certified s c law in
+    omega (arith, h, e, l, rises)
+
+module _ (s : Sizes) (st : Step) (c : Chronicle) (kept : Seen) (law : IsLawful s c)
+    (rises : certified s c ≤ certified s (st ∷ c)) (of : IsVotesIn s c kept) where
   -- what stays is of a block of the tree
   alone-next : (new : Seen) (d : Bytes) (e : Entry) → new d ≡ entry_above (certified s (st ∷ c)) (kept d)
       → new d ≡ Some e → IsOfBlock s (st ∷ c) d e
@@ -157,9 +206,8 @@ module _ (s : Sizes) (st : Step) (c : Chronicle) (kept : Seen) (of : IsVotesIn s
         go None e = refl
         go (Some y) e =
             let w = of.alone (digest_of x) y e in
-            let rises = certified-rises s st c in
             let same : w.block ≡ x =
-            one-high s c old w.block x w.among m w.higher (omega (arith, rises, above)) w.its_digest in
+            one-high s c (horizon-certified s c law) old w.block x w.among m w.higher (omega (arith, rises, above)) w.its_digest in
             ap votes_in (above-stays (certified s (st ∷ c)) y
             (let h = ap (λ (z : Branch). length z) same in omega (arith, above, h, w.its_height)))
 
@@ -168,7 +216,6 @@ module _ (s : Sizes) (st : Step) (c : Chronicle) (kept : Seen) (of : IsVotesIn s
         → votes s x (st ∷ c) ≡ votes s x c
         → AreCollected s (st ∷ c) (votes_at (digest_of x) new) x
     above-next new m is same =
-        let rises = certified-rises s st c in
         let w = of.above x m (omega (arith, rises, above)) in
         record {
           same = ap votes_in is ∙ votes-stay m ∙ w.same ∙ ap by_voter (sym same);
@@ -191,7 +238,7 @@ module _ (s : Sizes) (st : Step) (c : Chronicle) (kept : Seen) (of : IsVotesIn s
             let w = of.alone (digest_of x) y e in
             let same_height = height_of y z both.0 in
             let same_block : w.block ≡ x =
-            one-high s (st ∷ c) tr w.block x (tree-grows st c w.block w.among) m
+            one-high s (st ∷ c) (low-next s st c law rises) tr w.block x (tree-grows st c w.block w.among) m
             (let i = w.its_height in let h = both.1 in omega (arith, i, h, same_height)) above
             w.its_digest in
             none (subst (λ (b : Branch). Among b (tree c)) same_block w.among)
@@ -209,7 +256,7 @@ module _ (s : Sizes) (st : Step) (c : Chronicle) (kept : Seen) (of : IsVotesIn s
 
 -- ---- a step that brings no vote
 
-votes-silent : (s : Sizes) (x : Branch) (st : Step) (c : Chronicle) → BringsNoVote st
+votes-silent : (s : Sizes) (x : Branch) (st : Step) (c : Chronicle) → LeavesVotes st
     → votes s x (st ∷ c) ≡ votes s x c
 unfolding votes
 votes-silent s x (took_block a) c h = refl
@@ -220,44 +267,51 @@ votes-silent s x (noted (got_fetch sender b)) c h = refl
 votes-silent s x (noted timed_out) c h = refl
 votes-silent s x (noted beat) c h = refl
 votes-silent s x (noted (pruned height)) c h = refl
+votes-silent s x (noted (seen_view view sender)) c h = refl
+votes-silent s x (noted (led_from b)) c h = absurd h
 
 pub tree-noted : (n : Note) (c : Chronicle) → tree (noted n ∷ c) ≡ tree c
 unfolding tree stored_blocks taken_blocks
 tree-noted n c = refl
 
-pub seen-else : (s : Sizes) (c : Chronicle) (kept : Seen) (st : Step) → BringsNoVote st
+pub seen-else : (s : Sizes) (c : Chronicle) (kept : Seen) (st : Step) → LeavesVotes st → IsLawful s c
     → IsTree (horizon c) (window c) → IsTree (horizon (st ∷ c)) (window (st ∷ c)) → IsVotesIn s c kept
     → IsVotesIn s (st ∷ c) (seen_above (certified s (st ∷ c)) kept)
-seen-else s c kept st silent old tr of = record {
+seen-else s c kept st silent law old tr of = record {
   above = λ x m l. above st silent tr x m l;
-  alone = λ d e is. alone-next s st c kept of (seen_above (certified s (st ∷ c)) kept) d e refl is;
+  alone = λ d e is. alone-next s st c kept law (silent-rises s st c silent) of (seen_above (certified s (st ∷ c)) kept) d e refl is;
   unknown = λ b none. votes-silent s b st c silent ∙ of.unknown b (λ m. none (tree-grows st c b m));
 }
   where
-    above : (st : Step) → BringsNoVote st → IsTree (horizon (st ∷ c)) (window (st ∷ c)) → (x : Branch)
+    above : (st : Step) → LeavesVotes st → IsTree (horizon (st ∷ c)) (window (st ∷ c)) → (x : Branch)
         → Among x (tree (st ∷ c)) → certified s (st ∷ c) < length x
         → AreCollected s (st ∷ c) (votes_at (digest_of x) (seen_above (certified s (st ∷ c)) kept)) x
     above (noted n) silent tr x m l =
-        above-next s (noted n) c kept of old tr x l (seen_above (certified s (noted n ∷ c)) kept)
+        above-next s (noted n) c kept law (silent-rises s (noted n) c silent) of old tr x l (seen_above (certified s (noted n ∷ c)) kept)
         (subst (λ (t : List Branch). Among x t) (tree-noted n c) m) refl (votes-silent s x (noted n) c silent)
     above (took_block a) silent tr x m l = go (find_in (digest_of x) (window c)) refl
       where
         next : Step
         next = took_block a
 
+        rises : certified s c ≤ certified s (next ∷ c)
+        rises = silent-rises s next c silent
+
         high : certified s c < length x
-        high = let rises = certified-rises s next c in omega (arith, rises, l)
+        high = omega (arith, rises, l)
 
         go : (o : Option Branch) → find_in (digest_of x) (window c) ≡ o
             → AreCollected s (next ∷ c) (votes_at (digest_of x) (seen_above (certified s (next ∷ c)) kept)) x
-        go None e = above-new s next c kept of old tr x l
-            (λ k. not-found (digest_of x) (window c) x e (high-window s c x k (omega (arith, high))) refl) m
+        go None e = above-new s next c kept law rises of old tr x l
+            (λ k. not-found (digest_of x) (window c) x e
+            (above-window s c (horizon-certified s c law) x k high) refl) m
             (votes-silent s x next c silent)
         go (Some y) e =
             let r = found-in (digest_of x) (window c) y e in
             let same : y ≡ x =
-            tr.one y x (window-took a c y r.0) (high-window s (next ∷ c) x m (omega (arith, l))) r.1 in
-            above-next s next c kept of old tr x l (seen_above (certified s (next ∷ c)) kept)
+            tr.one y x (window-took a c y r.0)
+            (above-window s (next ∷ c) (low-next s next c law rises) x m l) r.1 in
+            above-next s next c kept law rises of old tr x l (seen_above (certified s (next ∷ c)) kept)
             (subst (λ (z : Branch). Among z (tree c)) same (window-tree c y r.0)) refl
             (votes-silent s x next c silent)
 
@@ -274,10 +328,14 @@ unfolding horizon window standing_blocks stored_blocks taken_blocks
 vote-window voter v b c tr = tr
 
 module _ (s : Sizes) (c : Chronicle) (kept : Seen) (b : Branch) (vote : Vote)
-    (tr : IsTree (horizon c) (window c)) (m : Among b (window c)) (of : IsVotesIn s c kept) where
+    (law : IsLawful s c) (tr : IsTree (horizon c) (window c)) (m : Among b (window c))
+    (of : IsVotesIn s c kept) where
   -- the step
   abbrev pub it : Step
   it = noted (got_vote vote.voter vote.vector b)
+
+  rising : certified s c ≤ certified s (it ∷ c)
+  rising = vote-rises s vote.voter vote.vector b c
 
   -- a block of the same digest is the same
   known : Among b (tree c)
@@ -289,9 +347,9 @@ module _ (s : Sizes) (c : Chronicle) (kept : Seen) (b : Branch) (vote : Vote)
   one-block : (x : Branch) → Among x (tree (it ∷ c)) → certified s (it ∷ c) < length x
       → digest_of b ≡ digest_of x → b ≡ x
   one-block x k l e = tr.one b x m
-      (high-window s c x
+      (above-window s c (horizon-certified s c law) x
       (subst (λ (t : List Branch). Among x t) (tree-noted (got_vote vote.voter vote.vector b) c) k)
-      (let rises = certified-rises s it c in omega (arith, rises, l))) e
+      (let rises = rising in omega (arith, rises, l))) e
 
   after-vote : (new : Seen)
       → ((d : Bytes) → bytes_eq (digest_of b) d ≡ false → new d
@@ -316,7 +374,7 @@ module _ (s : Sizes) (c : Chronicle) (kept : Seen) (b : Branch) (vote : Vote)
               subst (λ (z : Branch). AreCollected s (it ∷ c) (votes_at (digest_of z) new) z) same
               (its_votes (let h = ap (λ (z : Branch). length z) same in omega (arith, h, l)))
           go false e =
-              above-next s it c kept of tr now_tree x l new
+              above-next s it c kept law rising of tr now_tree x l new
               (subst (λ (t : List Branch). Among x t) (tree-noted (got_vote vote.voter vote.vector b) c) k)
               (others (digest_of x) e)
               (votes-other s c vote.voter vote.vector b x (other_branch b x e))
@@ -328,7 +386,7 @@ module _ (s : Sizes) (c : Chronicle) (kept : Seen) (b : Branch) (vote : Vote)
           go true same =
               let k : digest_of b ≡ d = (bytes_eq-Decides (digest_of b) d).0 same in
               subst (λ (x : Bytes). IsOfBlock s (it ∷ c) x e) k (its_entry e (ap new k ∙ is))
-          go false other = alone-next s it c kept of new d e (others d other) is
+          go false other = alone-next s it c kept law rising of new d e (others d other) is
 
       unknown : (x : Branch) → (Among x (tree (it ∷ c)) → ⊥) → votes s x (it ∷ c) ≡ []
       unknown x none = go (branch_eq b x) refl
@@ -351,14 +409,14 @@ module _ (s : Sizes) (c : Chronicle) (kept : Seen) (b : Branch) (vote : Vote)
         → IsLeft s (it ∷ c) kept (qc_high s c)
     unchanged its_votes = (
       after-vote kept (λ d e. all-above d) its_votes
-          (λ e is. alone-next s it c kept of kept (digest_of b) e (all-above (digest_of b)) is),
+          (λ e is. alone-next s it c kept law rising of kept (digest_of b) e (all-above (digest_of b)) is),
       stays,
     )
 
   pub low-vote : length b ≤ certified s c → IsLeft s (it ∷ c) kept (qc_high s c)
   low-vote le =
       let stays =
-      qc-next s it c ∙ raised-lower s c vote.voter vote.vector b (qc_high s c) (omega (arith, le)) in
+      vote-next s vote.voter vote.vector b c ∙ raised-lower s c vote.voter vote.vector b (qc_high s c) (omega (arith, le)) in
       unchanged stays
       (λ l. absurd (let e = ap (λ (q : Justified). length q.block) stays in omega (arith, e, l, le)))
 
@@ -391,11 +449,11 @@ module _ (s : Sizes) (c : Chronicle) (kept : Seen) (b : Branch) (vote : Vote)
     doubled-vote judgement =
         let same = votes-doubled s c vote.voter vote.vector b (sym same-voters ∙ says Doubled judgement) in
         let stays : qc_high s (it ∷ c) ≡ qc_high s c =
-        qc-next s it c ∙ ap (λ (o : Option Justified). higher o (qc_high s c))
+        vote-next s vote.voter vote.vector b c ∙ ap (λ (o : Option Justified). higher false o (qc_high s c))
         (raised-none s c vote.voter vote.vector b (λ e. let n =
         ap (λ (v : List Vote). length v) same in let f = few-ours in omega (arith, e, n, f))) in
         unchanged stays
-        (λ above. above-next s it c kept of tr now_tree b above kept known (all-above stays
+        (λ above. above-next s it c kept law rising of tr now_tree b above kept known (all-above stays
         (digest_of b)) same)
 
     entry-height : (entry_with (length b) vote (kept (digest_of b))).height ≡ length b
@@ -407,7 +465,7 @@ module _ (s : Sizes) (c : Chronicle) (kept : Seen) (b : Branch) (vote : Vote)
             let w =
             of.alone (digest_of b) y e in
             w.its_height
-            ∙ ap (λ (z : Branch). length z) (one-high s c tr w.block b w.among known w.higher l w.its_digest)
+            ∙ ap (λ (z : Branch). length z) (one-high s c (horizon-certified s c law) tr w.block b w.among known w.higher l w.its_digest)
 
     pub first-vote : judged (quorum s) vote.voter (votes_at (digest_of b) kept) ≡ First
         → IsLeft s (it ∷ c) (seen_with (digest_of b) (length b) vote kept) (qc_high s c)
@@ -420,7 +478,7 @@ module _ (s : Sizes) (c : Chronicle) (kept : Seen) (b : Branch) (vote : Vote)
         let few : suc (length ours) ≡ quorum s → ⊥ =
         λ e. told.1 (let n = same-count in omega (arith, e, n)) in
         let stays : qc_high s (it ∷ c) ≡ qc_high s c =
-        qc-next s it c ∙ ap (λ (o : Option Justified). higher o (qc_high s c))
+        vote-next s vote.voter vote.vector b c ∙ ap (λ (o : Option Justified). higher false o (qc_high s c))
         (raised-none s c vote.voter vote.vector b (λ e. few (sym count ∙ e))) in
         let put : new (digest_of b) ≡ Some (entry_with (length b) vote (kept (digest_of b)))
         =
@@ -468,17 +526,17 @@ module _ (s : Sizes) (c : Chronicle) (kept : Seen) (b : Branch) (vote : Vote)
           certificate = record { digest = digest_of b; votes = insert_vote vote (by_voter ours) };
         } in
         let made : qc_high s (it ∷ c) ≡ q =
-        qc-next s it c
-        ∙ ap (λ (o : Option Justified). higher o (qc_high s c))
+        vote-next s vote.voter vote.vector b c
+        ∙ ap (λ (o : Option Justified). higher false o (qc_high s c))
         (raised-made s c vote.voter vote.vector b (sym same-voters ∙ told.0) full)
-        ∙ cond-true (nat_lt (length (qc_high s c).block) (length b)) q (qc_high s c)
-        (lt-ltb (length (qc_high s c).block) (length b) l) in
+        ∙ cond-true (nat_lt (length (qc_high s c).block) (length b) || false) q (qc_high s c)
+        (ap (λ (t : Bool). t || false) (lt-ltb (length (qc_high s c).block) (length b) l)) in
         let height : certified s (it ∷ c) ≡ length b = ap (λ (j : Justified). length j.block) made in
         let new : Seen = seen_above (length b) kept in
         let is : (d : Bytes) → new d ≡ entry_above (certified s (it ∷ c)) (kept d) =
         λ d. ap (λ (h : ℕ). entry_above h (kept d)) (sym height) in (
           after-vote new (λ d other. is d) (λ above. absurd (omega (arith, above, height)))
-              (λ e some. alone-next s it c kept of new (digest_of b) e (is (digest_of b)) some),
+              (λ e some. alone-next s it c kept law rising of new (digest_of b) e (is (digest_of b)) some),
           made
               ∙ ap (λ (v : List Vote). record {
                 block = b;

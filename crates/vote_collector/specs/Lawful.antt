@@ -5,7 +5,8 @@ use Rattle.definitions.specs.Bytes.{Bytes}
 use Rattle.definitions.specs.Frames.{Vote, Certificate}
 use Rattle.definitions.specs.Branches.{Branch}
 use Rattle.definitions.specs.Trees.{find_in, IsTree}
-use Rattle.definitions.specs.Chronicles.{Chronicle, Step, Step.noted, Note.got_vote, horizon, window}
+use Rattle.definitions.specs.Chronicles.{Chronicle, Step, Step.noted, Note.got_vote, Note.led_from, horizon}
+use Rattle.definitions.specs.Chronicles.{window, IsLawful}
 use Rattle.definitions.specs.States.{Justified, qc_high, insert_vote}
 use Rattle.vote_collector.specs.declared.added.Added.TheVariants.{First, Doubled, Complete}
 use Rattle.vote_collector.specs.Collecting.{VotesByDigest, votes_for, judged, with_vote, kept_above}
@@ -37,10 +38,11 @@ pub record FollowsVote (s : Sizes) (c : Chronicle) (kept : VotesByDigest) (d : B
       → Leaves s (noted (got_vote vote.voter vote.vector b) ∷ c) (kept_above (length b) kept)
       (record { block = b; certificate = made_with d vote kept })
 
--- the step brings no vote
-abbrev pub BringsNoVote : Step → Type 0
-BringsNoVote (noted (got_vote voter vector b)) = ⊥
-BringsNoVote st = ⊤
+-- the step brings no vote, and is no lead
+abbrev pub LeavesVotes : Step → Type 0
+LeavesVotes (noted (got_vote voter vector b)) = ⊥
+LeavesVotes (noted (led_from b)) = ⊥
+LeavesVotes st = ⊤
 
 -- ---- the laws
 
@@ -51,12 +53,16 @@ BeginsEmpty s = IsVotesOf s [] []
 -- a vote for a block of the window
 abbrev pub IsFollowedAtVote : Sizes → Chronicle → VotesByDigest → Type 0
 IsFollowedAtVote s c kept =
-    (d : Bytes) (b : Branch) (vote : Vote) → IsTree (horizon c) (window c) → find_in d (window c) ≡ Some b
-    → IsVotesOf s c kept → FollowsVote s c kept d b vote
+    (d : Bytes) (b : Branch) (vote : Vote) → IsLawful s c → IsTree (horizon c) (window c)
+    → find_in d (window c) ≡ Some b → IsVotesOf s c kept → FollowsVote s c kept d b vote
+
+-- a lead: nothing is kept
+abbrev pub IsFollowedAtLead : Sizes → Chronicle → Branch → Type 0
+IsFollowedAtLead s c b = IsVotesOf s (noted (led_from b) ∷ c) []
 
 -- any other step: the votes for blocks of at most the height of the highest certificate then may go
 abbrev pub IsFollowedElse : Sizes → Chronicle → VotesByDigest → Type 0
-IsFollowedElse s c kept = (st : Step) → BringsNoVote st → IsTree (horizon c) (window c)
+IsFollowedElse s c kept = (st : Step) → LeavesVotes st → IsLawful s c → IsTree (horizon c) (window c)
     → IsTree (horizon (st ∷ c)) (window (st ∷ c)) → IsVotesOf s c kept
     → IsVotesOf s (st ∷ c) (kept_above (certified s (st ∷ c)) kept)
 

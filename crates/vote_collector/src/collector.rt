@@ -109,4 +109,11 @@ impl Collector {
     {
         drop_from(&mut self.blocks, height);
     }
+
+    /// Forgets all votes. It takes no memory.
+    pub fn forget_all(&mut self)
+        ensures { self.new ≡ record self.old { kept = [] } }
+    {
+        self.blocks = BTreeMap::new(self.alloc);
+    }
 }

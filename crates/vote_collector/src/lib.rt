@@ -15,4 +15,6 @@ mod laws;
 pub use added::Added;
 pub use collector::Collector;
 pub use kept_vote::KeptVote;
-pub use laws::{begins_empty, none_are_low, other_steps_are_followed, votes_are_followed};
+pub use laws::{
+    begins_empty, leads_are_followed, none_are_low, other_steps_are_followed, votes_are_followed,
+};
