@@ -5,7 +5,7 @@ use Rattle.definitions.specs.Frames.{Core, Certificate, Frame, genesis_core}
 use Rattle.definitions.specs.FrameLimits.{IsFrame, IsCore, IsCertificate}
 use Rattle.definitions.specs.Keyrings.{Keys, keyring_of, is_peer, verify}
 use Rattle.definitions.specs.Checks.{Identity, identity_of, counted_voters, is_good, is_clear_core}
-use Rattle.definitions.specs.Admission.{check, is_passed}
+use Rattle.definitions.specs.Admission.{check, is_passed, own_tag_verifies}
 use Rattle.frames_view.specs.Fields.{frame_certificate, frame_core}
 use Rattle.frames_view.specs.PartViews.{core_of, certificate_of}
 use Rattle.frames_view.specs.declared.views.CertificateView.{CertificateView}
@@ -27,6 +27,11 @@ Fits sizes (certificate q) = IsCertificate sizes q
 abbrev pub passes : Identity → Shown → Bool
 passes self (frame f) = is_passed (check self f)
 passes self (certificate q) = is_good self q
+
+-- its own tag for the replica that has this identity verifies, where it has one
+abbrev pub tag_verifies : Identity → Shown → Bool
+tag_verifies self (frame f) = own_tag_verifies self f
+tag_verifies self (certificate q) = true
 
 -- the certificate in it
 abbrev pub certificate_in : Shown → Certificate
@@ -61,6 +66,7 @@ pub record AreClaims (keys : Keys) (shown : Shown) (c : Claims) : Type 0 where
   pub own : IfSome c.own (λ t. IsTrue (is_peer keys t.sender))
   pub certificate : IfSome c.certificate (λ q. IsCertificate keys.sizes (certificate_of q))
   pub core : IfSome c.core (λ k. IsCore keys.sizes (core_of k))
+  pub tagged : tag_verifies (identity_of keys) shown ≡ is_tagged keys c.own
   pub passed : passes (identity_of keys) shown ≡ (is_tagged keys c.own && is_certified keys c.certificate)
   pub voters : counted_voters (identity_of keys) (certificate_in shown) ≡ voters_in keys c.certificate
   pub clear : is_clear_core (identity_of keys) (core_in shown) ≡ is_clear_in keys c.core

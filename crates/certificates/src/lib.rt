@@ -15,7 +15,8 @@ mod frames;
 mod voters;
 
 pub use certificate::check_cert;
-pub use checked::{Authenticated, CarriesBlock, Certified, Checked};
+pub use check::check_tag;
+pub use checked::{Authenticated, CarriesBlock, Certified, Checked, Tagged};
 pub use cut::{CutVotes, cut_bytes};
 pub use frames::{
     check_block, check_fetch, check_new_view, check_proposal, check_request, check_vote,
