@@ -11,10 +11,12 @@ use Rattle.definitions.specs.Frames.{Command}
 use Rattle.definitions.specs.Branches.{Branch}
 use Rattle.definitions.specs.Lists.{greatest}
 use Rattle.definitions.specs.Histories.{Entry, History, last_seq}
-use Rattle.definitions.specs.Chronicles.{Chronicle, Step, Step.noted, Note.got_request, history, executed}
-use Rattle.definitions.specs.Chronicles.{decided, taken_blocks}
+use Rattle.definitions.specs.Chronicles.{Chronicle, Step, Step.took_block, Step.noted, Note.got_vote}
+use Rattle.definitions.specs.Chronicles.{Note.got_new_view, Note.got_request, Note.got_fetch, Note.timed_out}
+use Rattle.definitions.specs.Chronicles.{Note.beat, Note.pruned, Note.seen_view, Note.led_from, history}
+use Rattle.definitions.specs.Chronicles.{executed, decided, taken_blocks}
 use Rattle.definitions.specs.States.{is_due, is_same_request, pending, picks, with_request}
-use Rattle.mempool.specs.Laws.{unpruned, FollowsRequest, IsLeftBy, IsPicked}
+use Rattle.mempool.specs.Laws.{unpruned, FollowsRequest, IsForgottenBy, IsLeftBy, IsNoLead, IsPicked}
 use Rattle.mempool.specs.Pool.{is_up_to, left_after, first_beside}
 
 pub filter-alike : {A : Type 0} (p q : A → Bool) → ((x : A) → p x ≡ q x) → (xs : List A)
@@ -34,11 +36,52 @@ filter-twice p (x ∷ xs) = by (p x) refl (filter-twice p xs)
         ap (λ b. if b then x ∷ filter p (filter p xs) else filter p (filter p xs)) e ∙ ap (λ l. x ∷ l) rest
     by false e rest = rest
 
+-- what is pending after a step that is no lead
+pub pending-next : (s : Step) (c : Chronicle) → IsNoLead s
+    → pending (s ∷ c) ≡ filter (is_due (history (s ∷ c))) (with_request s (pending c))
+unfolding pending
+pending-next (took_block a) c n = refl
+pending-next (noted (got_vote voter v b)) c n = refl
+pending-next (noted (got_new_view view sender q b)) c n = refl
+pending-next (noted (got_request r)) c n = refl
+pending-next (noted (got_fetch sender b)) c n = refl
+pending-next (noted timed_out) c n = refl
+pending-next (noted beat) c n = refl
+pending-next (noted (pruned height)) c n = refl
+pending-next (noted (seen_view view sender)) c n = refl
+pending-next (noted (led_from b)) c n = absurd n
+
+-- after a lead nothing is
+pub pending-led : (c : Chronicle) (b : Branch) → IsForgottenBy c b
+unfolding pending
+pending-led c b = refl
+
+due-next : (s : Step) (c : Chronicle) → IsNoLead s
+    → filter (is_due (history (s ∷ c))) (pending (s ∷ c)) ≡ pending (s ∷ c)
+due-next s c n =
+    ap (filter (is_due (history (s ∷ c)))) (pending-next s c n)
+    ∙ filter-twice (is_due (history (s ∷ c))) (with_request s (pending c)) ∙ sym (pending-next s c n)
+
+due-led : (b : Branch) (c : Chronicle)
+    → filter (is_due (history (noted (led_from b) ∷ c))) (pending (noted (led_from b) ∷ c))
+    ≡ pending (noted (led_from b) ∷ c)
+due-led b c =
+    ap (filter (is_due (history (noted (led_from b) ∷ c)))) (pending-led c b) ∙ sym (pending-led c b)
+
 -- the pending ones are due
 pub pending-due : (c : Chronicle) → filter (is_due (history c)) (pending c) ≡ pending c
 unfolding pending
 pending-due [] = refl
-pending-due (s ∷ c) = filter-twice (is_due (history (s ∷ c))) (with_request s (pending c))
+pending-due (took_block a ∷ c) = due-next (took_block a) c tt
+pending-due (noted (led_from b) ∷ c) = due-led b c
+pending-due (noted (got_vote voter v b) ∷ c) = due-next (noted (got_vote voter v b)) c tt
+pending-due (noted (got_new_view view sender q b) ∷ c) = due-next (noted (got_new_view view sender q b)) c tt
+pending-due (noted (got_request r) ∷ c) = due-next (noted (got_request r)) c tt
+pending-due (noted (got_fetch sender b) ∷ c) = due-next (noted (got_fetch sender b)) c tt
+pending-due (noted timed_out ∷ c) = due-next (noted timed_out) c tt
+pending-due (noted beat ∷ c) = due-next (noted beat) c tt
+pending-due (noted (pruned height) ∷ c) = due-next (noted (pruned height)) c tt
+pending-due (noted (seen_view view sender) ∷ c) = due-next (noted (seen_view view sender)) c tt
 
 -- a number exceeds the greater of two
 above-both : (a m s : ℕ) → nat_lt (max a m) s ≡ (nat_lt m s && not (nat_le s a))
@@ -85,9 +128,8 @@ due-left (e ∷ earlier) h rs =
     ∙ ap (filter (λ r. not (is_up_to e.client e.seq r))) (due-left earlier h rs)
 
 pub left_by : (c : Chronicle) (s : Step) (new : History) → IsLeftBy c s new
-unfolding pending
-left_by c s new w h =
-    ap (filter (is_due (history (s ∷ c)))) w ∙ ap (λ l. filter (is_due l) (pending c)) h
+left_by c s new n w h =
+    pending-next s c n ∙ ap (filter (is_due (history (s ∷ c)))) w ∙ ap (λ l. filter (is_due l) (pending c)) h
     ∙ due-left new (history c) (pending c)
     ∙ ap (left_after new) (pending-due c)
 

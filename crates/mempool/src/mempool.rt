@@ -129,6 +129,13 @@ impl Mempool {
         );
     }
 
+    /// Lets all requests go. It takes no memory.
+    pub fn forget_all(&mut self)
+        ensures { self.new ≡ [] }
+    {
+        self.requests = IndexMap::new(self.alloc);
+    }
+
     /// The first 16 requests whose client and number are not among those of `on`, in order of
     /// arrival. `on` is of the commands that stand on a branch, in any order.
     pub fn pick(&self, on: &[RequestId]) -> Result<Vec<&Pending>, AllocError>
