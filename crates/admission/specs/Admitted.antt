@@ -14,6 +14,8 @@ use Rattle.frames_view.specs.Places.{IsFetchAt}
 use Rattle.admission.specs.declared.input.Input.{Input}
 use Rattle.admission.specs.declared.input.Input.TheVariants.{Proposal, Block, Vote as AVote, NewView, Request}
 use Rattle.admission.specs.declared.input.Input.TheVariants.{Fetch, Timeout, Beat, Prune}
+use Rattle.admission.specs.declared.input.Input.TheVariants.{OfferedProposal, OfferedBlock, SeenView}
+use Rattle.admission.specs.declared.input.Input.TheVariants.{Relayed, Lead, Ask}
 use Rattle.admission.specs.Inputs.{input_of, is_addressed}
 
 -- each part of the frame that it lends lies in the bytes, at the place where the grammar has it
@@ -27,6 +29,12 @@ LiesIn bytes (Fetch f) = IsFetchAt bytes (head_len bytes.now) f.view
 LiesIn bytes Timeout = ⊥
 LiesIn bytes Beat = ⊥
 LiesIn bytes (Prune height) = ⊥
+LiesIn bytes (OfferedProposal p) = IsProposalAt bytes (head_len bytes.now) p.view
+LiesIn bytes (OfferedBlock b) = IsBlockAt bytes (head_len bytes.now) b.view
+LiesIn bytes (SeenView n) = IsNewViewAt bytes (head_len bytes.now) n.view
+LiesIn bytes (Relayed copies) = ⊥
+LiesIn bytes (Lead block) = ⊥
+LiesIn bytes (Ask replica block) = ⊥
 
 -- it says what passed, was checked for the replica of these keys, and lies in the bytes
 pub record Brings (keys : Keys) (bytes : Bor Bytes) (i : Input) : Type 0 where

@@ -1,3 +1,4 @@
+pub mod Copying
 pub mod Cutting
 pub mod Outcomes
 pub mod Shown

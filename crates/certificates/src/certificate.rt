@@ -10,7 +10,7 @@ ghost use Rattle.certificates.specs.Outcomes.{IsGivenIf};
 use crate::check::check;
 use crate::checked::{Authenticated, Certified, Checked};
 use crate::claims::Claims;
-use crate::voters::Voters;
+use crate::row::ReplicaRow;
 use authenticators::VerifyingKeyring;
 use frames_view::{CertificateView, VoteView};
 use ids::{Config, Fault, Kind, PartyId};
@@ -32,13 +32,13 @@ pub(crate) fn vote_verifies(keyring: &VerifyingKeyring, digest: &[u8; 32], vote:
 }
 
 /// The voters whose tags for the keyring's own replica verify.
-fn counted(keyring: &VerifyingKeyring, certificate: &CertificateView) -> Voters
+fn counted(keyring: &VerifyingKeyring, certificate: &CertificateView) -> ReplicaRow
     requires certificate { IsCertificate keyring.now.sizes (certificate_of certificate.now) }
     ensures { result ≡ counted_voters (identity_of keyring.now) (certificate_of certificate.now) }
 {
     // For the proof: there are few replicas.
     let _n = keyring.config().n();
-    let mut voters = Voters::new();
+    let mut voters = ReplicaRow::new();
     for vote in certificate.votes() {
         if vote_verifies(keyring, certificate.digest(), &vote) {
             voters.push(vote.voter());
@@ -58,7 +58,7 @@ fn is_genesis(digest: &[u8; 32]) -> bool
 /// Whether the certificate is good, where these are its counted voters: that of genesis has no
 /// votes, and any other has a quorum of counted ones.
 #[tactic(auto, unfolding(definitions::specs::Checks::is_good))]
-fn is_good(keyring: &VerifyingKeyring, certificate: &CertificateView, voters: &Voters) -> bool
+fn is_good(keyring: &VerifyingKeyring, certificate: &CertificateView, voters: &ReplicaRow) -> bool
     requires { voters.now ≡ counted_voters (identity_of keyring.now) (certificate_of certificate.now) }
     ensures { result ≡ is_good (identity_of keyring.now) (certificate_of certificate.now) }
 {
@@ -73,7 +73,7 @@ fn is_good(keyring: &VerifyingKeyring, certificate: &CertificateView, voters: &V
 pub(crate) fn good_voters(
     keyring: &VerifyingKeyring,
     certificate: &CertificateView,
-) -> Result<Voters, Fault>
+) -> Result<ReplicaRow, Fault>
     requires certificate { IsCertificate keyring.now.sizes (certificate_of certificate.now) }
     ensures exactly { IsOk result
         ↔ IsTrue (is_good (identity_of keyring.now) (certificate_of certificate.now)) }

@@ -12,13 +12,13 @@ use crate::certificate::good_voters;
 use crate::checked::{Authenticated, Checked, Tagged};
 use crate::claims::OwnTag;
 use crate::commands::is_clear;
-use crate::voters::Voters;
+use crate::row::ReplicaRow;
 use authenticators::VerifyingKeyring;
 use frames_view::CoreView;
 use ids::Fault;
 
 /// Whether the tag verifies, where there is one.
-fn verifies(keyring: &VerifyingKeyring, own: &Option<OwnTag<'_>>) -> bool
+pub(crate) fn verifies(keyring: &VerifyingKeyring, own: &Option<OwnTag<'_>>) -> bool
     requires { IfSome own.now (λ t. IsTrue (is_peer keyring.now t.sender)) }
     ensures { result ≡ is_tagged keyring.now own.now }
 {
@@ -72,7 +72,7 @@ pub(crate) fn check<'a, V: Authenticated + Copy>(
     }
     let voters = match &claims.certificate {
         Some(certificate) => good_voters(keyring, certificate)?,
-        None => Voters::new(),
+        None => ReplicaRow::new(),
     };
     let clear = clear_in(keyring, &claims.core);
     Ok(Checked::new(Tagged::new(keyring, *view, clear), voters))

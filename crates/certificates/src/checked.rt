@@ -6,7 +6,7 @@ ghost use Rattle.certificates.specs.Outcomes.{CheckedView};
 ghost use Rattle.certificates.specs.Shown.{Shown, Fits, passes, tag_verifies, certificate_in, core_in, AreClaims};
 
 use crate::claims::Claims;
-use crate::voters::Voters;
+use crate::row::ReplicaRow;
 use authenticators::VerifyingKeyring;
 use ids::{Config, ReplicaId};
 use std::marker::Model;
@@ -104,7 +104,7 @@ impl<'a, V: CarriesBlock> Tagged<'a, V> {
 #[derive(Drop)]
 pub struct Checked<'a, V: Authenticated> {
     tagged: Tagged<'a, V>,
-    voters: Voters,
+    voters: ReplicaRow,
 }
 
 impl<'a, V: Authenticated> Model for Checked<'a, V> {
@@ -123,7 +123,7 @@ impl<'a, V: Authenticated> Model for Checked<'a, V> {
 
 impl<'a, V: Authenticated> Checked<'a, V> {
     /// What was found of a view that passes.
-    pub(crate) fn new(tagged: Tagged<'a, V>, voters: Voters) -> Checked<'a, V>
+    pub(crate) fn new(tagged: Tagged<'a, V>, voters: ReplicaRow) -> Checked<'a, V>
         requires passed { IsTrue (passes (identity_of tagged.keys) (V.shows tagged.view)) }
         requires voters { voters
             ≡ counted_voters (identity_of tagged.keys) (certificate_in (V.shows tagged.view)) }

@@ -10,13 +10,15 @@ mod check;
 mod checked;
 mod claims;
 mod commands;
+mod copies;
 mod cut;
 mod frames;
-mod voters;
+mod row;
 
 pub use certificate::check_cert;
 pub use check::check_tag;
 pub use checked::{Authenticated, CarriesBlock, Certified, Checked, Tagged};
+pub use copies::Copies;
 pub use cut::{CutVotes, cut_bytes};
 pub use frames::{
     check_block, check_fetch, check_new_view, check_proposal, check_request, check_vote,

@@ -1,18 +1,18 @@
-//! Replicas that were counted.
+//! A row of replicas, which takes no memory of its own.
 
 ghost use Rattle.std.specs.Prelude.{◌≡◌, ◌<◌, ◌++◌, ◌∷◌, [], length};
 
 use ids::{MOST_REPLICAS, ReplicaId};
 use std::marker::Model;
 
-/// Some of the replicas, in the order in which they were counted.
+/// Some replicas, in the order in which they were counted.
 #[derive(Drop)]
-pub(crate) struct Voters {
+pub(crate) struct ReplicaRow {
     row: [ReplicaId; MOST_REPLICAS],
     count: usize,
 }
 
-impl Model for Voters {
+impl Model for ReplicaRow {
     ghost use Rattle.std.specs.Prelude.{ℕ, List, ◌≤◌, take};
     ghost use Rattle.ids.specs.declared.limits.TheConstants.{MOST_REPLICAS};
 
@@ -23,23 +23,23 @@ impl Model for Voters {
     ghost invariant = { λ v. v.count ≤ MOST_REPLICAS };
 }
 
-impl Voters {
+impl ReplicaRow {
     /// None yet.
-    pub(crate) fn new() -> Voters
+    pub(crate) fn new() -> ReplicaRow
         ensures { result ≡ [] }
     {
-        Voters {
+        ReplicaRow {
             row: [ReplicaId(0); MOST_REPLICAS],
             count: 0,
         }
     }
 
     /// One more.
-    pub(crate) fn push(&mut self, voter: ReplicaId)
+    pub(crate) fn push(&mut self, replica: ReplicaId)
         requires { length self.old < MOST_REPLICAS }
-        ensures { self.new ≡ self.old ++ voter ∷ [] }
+        ensures { self.new ≡ self.old ++ replica ∷ [] }
     {
-        self.row[self.count] = voter;
+        self.row[self.count] = replica;
         self.count += 1;
     }
 
