@@ -6,7 +6,6 @@ use Rattle.std.proofs.lemmas.Option.{same_Some}
 use Rattle.std.proofs.lemmas.Bool.{le-ltb, lt-ltb, cond-true, cond-false, le-leb, lt-leb}
 use Rattle.definitions.specs.Bytes.{Bytes}
 use Rattle.definitions.specs.Branches.{Block, Branch, justify_height}
-use Rattle.definitions.specs.Frames.{Core}
 use Rattle.definitions.specs.Trees.{Stored, blocks, find_in, IsTree}
 use Rattle.definitions.specs.Careful.{justifies_from}
 use Rattle.block_tree.specs.Finding.{NodeParts, kept_of, stored_in, justifies_in}

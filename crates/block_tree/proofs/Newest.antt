@@ -66,7 +66,7 @@ standing-step h all k s above known e high =
     ∙ cond-true _ _ _ (in-reach h (length s.branch) (omega (arith, high, same)))
 
 -- nothing stands of those that were pruned
-nothing_stands : (h : ℕ) (all : List Stored) (n : ℕ) → n ≤ length all
+pub nothing_stands : (h : ℕ) (all : List Stored) (n : ℕ) → n ≤ length all
     → ((k : ℕ) → 0 < k → k ≤ n → length (numbered (blocks all) k) < h - 2) → standing h (beginning n all) ≡ []
 nothing_stands h all zero known gone = ap (standing h) (none_first all)
 nothing_stands h all (suc n) known gone =

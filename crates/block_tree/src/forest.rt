@@ -2,13 +2,14 @@
 
 ghost use Rattle.ids.specs.declared.limits.TheConstants.{BELOW_HORIZON, MOST_BLOCKS};
 ghost use Rattle.std.specs.Prelude.{◌≡◌, ◌+◌, ◌-◌, ◌<◌, ◌≤◌, List, [], ◌∷◌, length, drop, nat_lt};
+ghost use Rattle.std.specs.List.{list_any};
 ghost use Rattle.std.specs.Prelude.{option_map, bytes_eq, MatchOption, None, OnErr, OnOk};
 ghost use Rattle.definitions.specs.Branches.{just1};
 ghost use Rattle.definitions.specs.Digests.{digest_of};
 ghost use Rattle.definitions.specs.Trees.{Stored, blocks};
 ghost use Rattle.block_tree.specs.Nodes.{stored_as, window, IsNode, IsNodeOf, IsEntryAt, IsStoredAt};
 ghost use Rattle.block_tree.specs.Numbers.{numbered};
-ghost use Rattle.block_tree.specs.Finding.{stored_in, kept, kept_of};
+ghost use Rattle.block_tree.specs.Finding.{stored_in, justifies_at, kept, kept_of};
 
 use crate::index::Index;
 use crate::links::Links;
@@ -157,6 +158,16 @@ impl Forest {
             at -= 1;
         }
         &self.entry_at(at).node
+    }
+
+    /// Whether a block that stands justifies the one of this digest and height.
+    pub(crate) fn is_justified(&self, digest: &Digest, height: Height) -> bool
+        ensures { result ≡ list_any (justifies_at digest.now height) (window self.now) }
+    {
+        let floor = self.floor();
+        self.entries.iter().any(|entry| {
+            entry.node.height().0 >= floor && entry.node.justifies(digest, height)
+        })
     }
 
     /// Takes a new block. Its memory is taken first: where that is refused, nothing changed.

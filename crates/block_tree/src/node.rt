@@ -1,6 +1,6 @@
 //! One block of the tree.
 
-ghost use Rattle.std.specs.Prelude.{◌≡◌, IfOk};
+ghost use Rattle.std.specs.Prelude.{◌≡◌, ◌==◌, ◌&&◌, IfOk};
 ghost use Rattle.std.specs.Str.{bytes_eq};
 ghost use Rattle.frames_view.specs.Views.{core_of, certificate_of};
 
@@ -68,6 +68,15 @@ impl Node {
         ensures { certificate_of result ≡ self.now.certificate }
     {
         self.certificate.view()
+    }
+
+    /// Whether it justifies a block of this height, and came with a certificate for the one of this digest.
+    pub(crate) fn justifies(&self, digest: &Digest, height: Height) -> bool
+        ensures { result ≡ (self.now.core.justify_height == height)
+            && bytes_eq self.now.certificate.digest digest.now }
+    {
+        self.core.view().justify_height() == height
+            && is_same(&Digest(*self.certificate.view().digest()), digest)
     }
 
     /// Whether the tags of all its commands were right.

@@ -65,7 +65,7 @@ impl Tree {
         if height.0 - 1 != parent.0 {
             return Err(Fault::BadHeight);
         }
-        if !self.is_justified(core, certificate) {
+        if !self.is_certified(core, certificate) {
             return Err(Fault::WrongJustify);
         }
         if self.is_crowded(height) {
@@ -78,7 +78,7 @@ impl Tree {
     }
 
     /// Whether the certificate is for the block that a core justifies, over its parent.
-    fn is_justified(&self, core: &CoreView, certificate: &CertificateView) -> bool
+    fn is_certified(&self, core: &CoreView, certificate: &CertificateView) -> bool
         requires { self.now.horizon ≤ (core_of core.now).justify_height }
         ensures { (parent : Branch) → find_in (core_of core.now).parent (blocks self.now.stored) ≡ Some parent
             → (core_of core.now).height ≡ length (block_of (core_of core.now) ∷ parent)

@@ -2,7 +2,7 @@ use Rattle.std.proofs.Common.{◌≡◌, ◌-◌, ◌+◌, ◌<◌, ◌≤◌, �
 use Rattle.std.specs.Prelude.{option_map}
 use Rattle.definitions.specs.Bytes.{Bytes}
 use Rattle.definitions.specs.Frames.{Core}
-use Rattle.definitions.specs.Trees.{TreeState, blocks, find_in}
+use Rattle.definitions.specs.Trees.{blocks, find_in}
 use Rattle.block_tree.specs.Finding.{kept, justifies_in}
 use Rattle.block_tree.proofs.Sound.{sound-of}
 use Rattle.block_tree.proofs.Steps.{walk-missing, walk-lower}
