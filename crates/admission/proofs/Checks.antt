@@ -9,8 +9,10 @@ use Rattle.definitions.specs.Bytes.{Bytes}
 use Rattle.definitions.specs.Keyrings.{Keys}
 use Rattle.definitions.specs.Rulings as rulings
 use Rattle.definitions.specs.Checks.{identity_of}
-use Rattle.definitions.specs.Admission.{Checked, passes, rejected, check, when, is_passed}
+use Rattle.definitions.specs.Admission.{Checked, passes, rejected, check, check_offer, when, is_passed}
+use Rattle.definitions.specs.Admission.{own_tag_verifies}
 use Rattle.certificates.specs.Outcomes.{CheckedView, IsGivenIf}
+use Rattle.certificates.proofs.Passing.{is_passed_when}
 use Rattle.frames_view.specs.declared.frame_views.ProposalView.{ProposalView}
 use Rattle.frames_view.specs.declared.frame_views.VoteFrameView.{VoteFrameView}
 use Rattle.frames_view.specs.declared.frame_views.NewViewView.{NewViewView}
@@ -27,7 +29,7 @@ use Rattle.frames_view.specs.Views.{frame_of, command_of, proposal_of, block_of,
 use Rattle.frames_view.specs.Views.{fetch_of}
 use Rattle.admission.specs.declared.input.Input.{Input}
 use Rattle.admission.specs.declared.input.Input.TheVariants.{Proposal, Block, Vote as AVote, NewView, Request}
-use Rattle.admission.specs.declared.input.Input.TheVariants.{Fetch}
+use Rattle.admission.specs.declared.input.Input.TheVariants.{Fetch, OfferedProposal, OfferedBlock, SeenView}
 use Rattle.admission.specs.Inputs.{input_of, same_replica, is_addressed}
 use Rattle.admission.specs.Admitted.{Brings, Answers}
 
@@ -142,6 +144,59 @@ pub reply : (keys : Keys) (bytes : Bor Bytes) (f : Frame) (v : ReplyView) → f 
 unfolding check
 reply keys bytes f v is =
     subst (λ x. Answers keys bytes (check (identity_of keys) (frame_of x)) (Err fault.NotMine)) (sym is) refl
+
+-- the same of a frame that is offered
+offered_frame : {X : Type 0} (wrap : CheckedView X → Input) (keys : Keys) (bytes : Bor Bytes) (f : Frame)
+    (ok : Bool) (i : rulings.Input) (v : X) (r : Result (CheckedView X) Fault) (out : Result Input Fault)
+    → check_offer (identity_of keys) (frame_of f) ≡ when ok i → IsGivenIf ok keys v r
+    → input_of (wrap (record { keys = keys; view = v })) ≡ i
+    → Brings keys bytes (wrap (record { keys = keys; view = v })) → out ≡ taken wrap r
+    → Answers keys bytes (check_offer (identity_of keys) (frame_of f)) out
+offered_frame wrap keys bytes f ok i v r out is g e b same =
+    subst (λ x. Answers keys bytes x out) (sym is)
+    (subst (λ x. Answers keys bytes (when ok i) x) (sym same)
+    (given wrap keys bytes ok i v r (subst (λ p. IsGivenIf p keys v r) (sym (is_passed_when ok i)) g) e b))
+
+pub offered_proposal : (keys : Keys) (bytes : Bor Bytes) (f : Frame) (v : ProposalView)
+    (r : Result (CheckedView ProposalView) Fault) (out : Result Input Fault)
+    → f ≡ frame.Proposal v → IsGivenIf (own_tag_verifies (identity_of keys) (proposal_of v)) keys v r
+    → IsFrameAt bytes (head_len bytes.now) f → out ≡ taken OfferedProposal r
+    → Answers keys bytes (check_offer (identity_of keys) (frame_of f)) out
+unfolding check_offer
+offered_proposal keys bytes f v r out is g lent same =
+    offered_frame OfferedProposal keys bytes f _ _ v r out
+    (ap (λ x. check_offer (identity_of keys) (frame_of x)) is) g refl
+    (record { addressed = own keys; lent = subst (IsFrameAt bytes (head_len bytes.now)) is lent }) same
+
+pub offered_block : (keys : Keys) (bytes : Bor Bytes) (f : Frame) (v : BlockView)
+    (r : Result (CheckedView BlockView) Fault) (out : Result Input Fault)
+    → f ≡ frame.Block v → IsGivenIf (own_tag_verifies (identity_of keys) (block_of v)) keys v r
+    → IsFrameAt bytes (head_len bytes.now) f → out ≡ taken OfferedBlock r
+    → Answers keys bytes (check_offer (identity_of keys) (frame_of f)) out
+unfolding check_offer
+offered_block keys bytes f v r out is g lent same =
+    offered_frame OfferedBlock keys bytes f _ _ v r out
+    (ap (λ x. check_offer (identity_of keys) (frame_of x)) is) g refl
+    (record { addressed = own keys; lent = subst (IsFrameAt bytes (head_len bytes.now)) is lent }) same
+
+pub seen_view : (keys : Keys) (bytes : Bor Bytes) (f : Frame) (v : NewViewView)
+    (r : Result (CheckedView NewViewView) Fault) (out : Result Input Fault)
+    → f ≡ frame.NewView v → IsGivenIf (own_tag_verifies (identity_of keys) (new_view_of v)) keys v r
+    → IsFrameAt bytes (head_len bytes.now) f → out ≡ taken SeenView r
+    → Answers keys bytes (check_offer (identity_of keys) (frame_of f)) out
+unfolding check_offer
+seen_view keys bytes f v r out is g lent same =
+    offered_frame SeenView keys bytes f _ _ v r out
+    (ap (λ x. check_offer (identity_of keys) (frame_of x)) is) g refl
+    (record { addressed = own keys; lent = subst (IsFrameAt bytes (head_len bytes.now)) is lent }) same
+
+-- what isn't offered
+pub unoffered : (keys : Keys) (bytes : Bor Bytes) (f g : Frame) → f ≡ g
+    → check_offer (identity_of keys) (frame_of g) ≡ rejected fault.NotMine
+    → Answers keys bytes (check_offer (identity_of keys) (frame_of f)) (Err fault.NotMine)
+unoffered keys bytes f g is refused =
+    subst (λ x. Answers keys bytes x (Err fault.NotMine))
+    (sym (ap (λ x. check_offer (identity_of keys) (frame_of x)) is ∙ refused)) refl
 
 -- what the checks give is for the holder of the keys
 pub addressed : (keys : Keys) (bytes : Bor Bytes) (x : Checked) (out : Result Input Fault)

@@ -7,7 +7,7 @@ use Rattle.definitions.specs.Bytes.{Bytes}
 use Rattle.definitions.specs.Keyrings.{Keys}
 use Rattle.definitions.specs.Frames.{Frame, head_len}
 use Rattle.definitions.specs.FrameLimits.{IsReadAs}
-use Rattle.definitions.specs.Checks.{identity_of}
+use Rattle.definitions.specs.Checks.{Identity, identity_of}
 use Rattle.definitions.specs.Admission.{Checked, passes, rejected, check}
 use Rattle.frames_view.specs.Places.{IsProposalAt, IsBlockAt, IsVoteFrameAt, IsNewViewAt, IsCommandAt}
 use Rattle.frames_view.specs.Places.{IsFetchAt}
@@ -48,13 +48,22 @@ Answers keys bytes (passes i) (Err n) = ⊥
 Answers keys bytes (rejected m) (Ok input) = ⊥
 Answers keys bytes (rejected m) (Err n) = n ≡ m
 
--- by what the bytes are read as
-abbrev pub AnswersRead : Keys → Bor Bytes → Result Input Fault → Option Frame → Type 0
-AnswersRead keys bytes result None = result ≡ Err fault.NotAFrame
-AnswersRead keys bytes result (Some f) = Answers keys bytes (check (identity_of keys) f) result
+-- by what the bytes are read as, where these are the checks of a frame
+abbrev pub AnswersReadBy : (Identity → Frame → Checked) → Keys → Bor Bytes → Result Input Fault → Option Frame
+    → Type 0
+AnswersReadBy checks keys bytes result None = result ≡ Err fault.NotAFrame
+AnswersReadBy checks keys bytes result (Some f) = Answers keys bytes (checks (identity_of keys) f) result
 
 -- Bytes that spell no frame are refused with `NotAFrame`; else the one frame that they spell is checked,
 -- and what the checks come to is the answer.
+abbrev pub AdmitsBy : (Identity → Frame → Checked) → Keys → Bor Bytes → Result Input Fault → Type 0
+AdmitsBy checks keys bytes result =
+    (frame : Option Frame) × IsReadAs keys.sizes bytes.now frame
+    × AnswersReadBy checks keys bytes result frame
+
+-- so of a frame that comes
+abbrev pub AnswersRead : Keys → Bor Bytes → Result Input Fault → Option Frame → Type 0
+AnswersRead keys bytes result frame = AnswersReadBy check keys bytes result frame
+
 abbrev pub Admits : Keys → Bor Bytes → Result Input Fault → Type 0
-Admits keys bytes result =
-    (frame : Option Frame) × IsReadAs keys.sizes bytes.now frame × AnswersRead keys bytes result frame
+Admits keys bytes result = AdmitsBy check keys bytes result

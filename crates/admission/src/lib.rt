@@ -4,7 +4,9 @@
 mod admitting;
 mod input;
 mod lacking;
+mod offering;
 
 pub use admitting::admit;
 pub use input::Input;
 pub use lacking::{missing, missing_of};
+pub use offering::admit_offer;
