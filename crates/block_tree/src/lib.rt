@@ -21,5 +21,6 @@ mod walks;
 
 pub use insert::Plan;
 pub use node::Node;
+pub use place::Place;
 pub use tree::Tree;
 pub use turns::Turns;

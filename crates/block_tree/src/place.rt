@@ -15,7 +15,7 @@ use ids::{Digest, Fault, HEIGHT_LIMIT, Height, MOST_OF_HEIGHT};
 
 /// Where a block stands that isn't refused.
 #[derive(Clone, Copy, Drop)]
-pub(crate) enum Place {
+pub enum Place {
     /// It stands in the tree.
     Stands,
     /// It may stand on its parent.
@@ -23,9 +23,10 @@ pub(crate) enum Place {
 }
 
 impl Tree {
-    /// What a block comes to, with the certificate that came along.
+    /// What a block of this digest comes to, with the certificate that came along: `plan` without a copy of
+    /// it, so that it takes no memory.
     #[tactic(auto, unfolding(definitions::specs::Trees::placing, definitions::specs::Trees::placing_known))]
-    pub(crate) fn placing(
+    pub fn placing(
         &self,
         digest: &Digest,
         core: &CoreView,

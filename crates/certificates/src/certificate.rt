@@ -31,8 +31,8 @@ pub(crate) fn vote_verifies(keyring: &VerifyingKeyring, digest: &[u8; 32], vote:
     keyring.verify(Kind::Vote, PartyId::from(vote.voter()), digest, tag)
 }
 
-/// The voters whose tags for the keyring's own replica verify.
-fn counted(keyring: &VerifyingKeyring, certificate: &CertificateView) -> ReplicaRow
+/// The voters whose tags for the keyring's own replica verify. It takes no memory.
+pub fn counted_voters(keyring: &VerifyingKeyring, certificate: &CertificateView) -> ReplicaRow
     requires certificate { IsCertificate keyring.now.sizes (certificate_of certificate.now) }
     ensures { result ≡ counted_voters (identity_of keyring.now) (certificate_of certificate.now) }
 {
@@ -81,7 +81,7 @@ pub(crate) fn good_voters(
         (λ voters. voters ≡ counted_voters (identity_of keyring.now) (certificate_of certificate.now)) }
     ensures refused { OnErr result (result ≡ Err Fault.BadTag) }
 {
-    let voters = counted(keyring, certificate);
+    let voters = counted_voters(keyring, certificate);
     if !is_good(keyring, certificate, &voters) {
         return Err(Fault::BadTag);
     }

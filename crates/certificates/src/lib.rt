@@ -15,7 +15,7 @@ mod cut;
 mod frames;
 mod row;
 
-pub use certificate::check_cert;
+pub use certificate::{check_cert, counted_voters};
 pub use check::check_tag;
 pub use checked::{Authenticated, CarriesBlock, Certified, Checked, Tagged};
 pub use copies::Copies;
@@ -23,3 +23,4 @@ pub use cut::{CutVotes, cut_bytes};
 pub use frames::{
     check_block, check_fetch, check_new_view, check_proposal, check_request, check_vote,
 };
+pub use row::ReplicaRow;

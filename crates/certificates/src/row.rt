@@ -7,7 +7,7 @@ use std::marker::Model;
 
 /// Some replicas, in the order in which they were counted.
 #[derive(Drop)]
-pub(crate) struct ReplicaRow {
+pub struct ReplicaRow {
     row: [ReplicaId; MOST_REPLICAS],
     count: usize,
 }
@@ -44,7 +44,7 @@ impl ReplicaRow {
     }
 
     /// The replicas, in order.
-    pub(crate) fn as_slice(&self) -> &[ReplicaId]
+    pub fn as_slice(&self) -> &[ReplicaId]
         ensures { result.now ≡ self.now }
     {
         &self.row[..self.count]

@@ -197,7 +197,7 @@ leaf-step self (noted n) c =
     (higher-rises (comes_whole (noted n)) (raised self.sizes (noted n) c) (qc_high self.sizes c))
 
 -- what a step brings is for a known block
-brought-known : (s : Sizes) (st : Step) (c : Chronicle) → IsLawful s (st ∷ c) → AreKnown (st ∷ c)
+pub brought-known : (s : Sizes) (st : Step) (c : Chronicle) → IsLawful s (st ∷ c) → AreKnown (st ∷ c)
     → IfSome (raised s st c) (λ q. Among q.block (tree (st ∷ c)))
 unfolding raised taken_blocks
 brought-known s (took_block a) c l k =
@@ -214,7 +214,7 @@ brought-known s (noted (got_vote voter v b)) c l k =
 brought-known s (noted (got_new_view w r q b)) c l k = tree-grows (noted (got_new_view w r q b)) c b k.0
 brought-known s (noted n) c l k = tt
 
-known-before : (st : Step) (c : Chronicle) → AreKnown (st ∷ c) → AreKnown c
+pub known-before : (st : Step) (c : Chronicle) → AreKnown (st ∷ c) → AreKnown c
 known-before (took_block a) c k = k
 known-before (noted (got_vote voter v b)) c k = k.1
 known-before (noted (got_new_view w r q b)) c k = k.1

@@ -21,10 +21,11 @@ use Rattle.definitions.specs.Chronicles.{stored_blocks, horizon, window}
 use Rattle.definitions.specs.Chronicles.{tree, decided, executed, history, IsSound}
 use Rattle.definitions.specs.Histories.{History, history_of, Answer, answers}
 use Rattle.definitions.specs.Keyrings.{Keys}
-use Rattle.definitions.specs.Checks.{Findings, identity_of}
+use Rattle.definitions.specs.Checks.{Identity, Findings, identity_of}
 use Rattle.definitions.specs.Rulings.{Input, Input.proposal_in, Input.block_in, Input.vote_in}
 use Rattle.definitions.specs.Rulings.{Input.new_view_in, Input.request_in, Input.fetch_in, Input.timeout_in}
-use Rattle.definitions.specs.Rulings.{Input.beat_in, Input.prune_in, Ruling, Ruling.due, ruling, conflicts}
+use Rattle.definitions.specs.Rulings.{Input.beat_in, Input.prune_in, Input.offered_in, Input.relayed_in}
+use Rattle.definitions.specs.Rulings.{Input.lead_in, Input.ask_in, Input.view_in, Ruling, Ruling.due, ruling, conflicts}
 use Rattle.definitions.specs.Sendings.{reply_to, new_replies, sendings}
 use Rattle.definitions.specs.Replicas.{ample, refused_after, running, stopped, cut_short, stopped_at}
 use Rattle.definitions.specs.Replicas.{Replica, Reaction, sends_out, fails, held_history, held_pending}
@@ -66,23 +67,29 @@ fit-carried s (fetch_in sender d) core q f c h = absurd c
 fit-carried s timeout_in core q f c h = absurd c
 fit-carried s beat_in core q f c h = absurd c
 fit-carried s (prune_in height) core q f c h = absurd c
+fit-carried s (offered_in w sender k p g) core q f c h = subst (IsCore s) c.0 h.0
+fit-carried s (relayed_in senders k p g) core q f c h = subst (IsCore s) c.0 h.0
+fit-carried s (lead_in d) core q f c h = absurd c
+fit-carried s (ask_in replica d) core q f c h = absurd c
+fit-carried s (view_in w sender) core q f c h = absurd c
 
-fit-from : (s : Sizes) (i : Input) (st : Step) (c : Chronicle) → IsFitInput s i → FromInput i st
-    → IsSound s (st ∷ c) → AreFit s c → AreFit s (st ∷ c)
+fit-from : (self : Identity) (i : Input) (st : Step) (c : Chronicle) → IsFitInput self.sizes i → FromInput self c i st
+    → IsSound self.sizes (st ∷ c) → AreFit self.sizes c → AreFit self.sizes (st ∷ c)
 unfolding tree stored_blocks taken_blocks
-fit-from s i (took_block a) c h from so fit x m =
+fit-from self i (took_block a) c h from so fit x m =
+    let s = self.sizes in
     step-known (IsCore s) a c a.new refl
     (λ n. taken-known (IsCore s) s a c (so.lawful.0.1 n) fit
     (subst (IsCore s) (sym (from.4.core_is n)) (fit-carried s i from.0 from.1 from.2 from.3 h)))
     fit x m
-fit-from s i (noted n) c h from so fit x m = fit x m
+fit-from self i (noted n) c h from so fit x m = fit x m
 
 fit-step : (keys : Keys) (i : Input) (st : Step) (c : Chronicle) → ruling (identity_of keys) i c ≡ due st
     → IsFitInput keys.sizes i → IsSound keys.sizes (st ∷ c) → AreFit keys.sizes c
     → AreFit keys.sizes (st ∷ c)
 fit-step keys i st c e h so fit =
-    fit-from keys.sizes i st c h (subst (AllStanding (FromInput i)) e (ruling-from (identity_of keys) i c)) so
-    fit
+    fit-from (identity_of keys) i st c h
+    (subst (AllStanding (FromInput (identity_of keys) c i)) e (ruling-from (identity_of keys) i c)) so fit
 
 -- ---- the replies
 
@@ -272,7 +279,7 @@ module _ (keys : Keys) (i : Input) (c : Chronicle) (h : History) (before : h ≡
           waits = left;
           history = is;
           fit = fits;
-          stored = stores-on self i st c t.is_due well;
+          stored = stores-on self i st c t.is_due frame sized well;
           sized = sized-on self i st c t.is_due frame sized;
         };
         standing = refl;
@@ -336,7 +343,7 @@ module _ (keys : Keys) (i : Input) (c : Chronicle) (h : History) (before : h ≡
               ∙ sym (held-waits st c (length new) b.new whole);
           history = b.cut ∙ ap (beginning (length new)) full;
           fit = fit-step keys i st c t.is_due frame t.state.sound fit;
-          stored = stores-on self i st c t.is_due well;
+          stored = stores-on self i st c t.is_due frame sized well;
           sized = sized-on self i st c t.is_due frame sized;
         };
         standing = refl;

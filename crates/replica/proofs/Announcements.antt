@@ -14,9 +14,10 @@ use Rattle.definitions.specs.Checks.{identity_of}
 use Rattle.definitions.specs.Trees.{blocks, find_in}
 use Rattle.definitions.specs.Chronicles.{window}
 use Rattle.definitions.specs.Chronicles.{Note, Step.noted, Note.got_new_view, Note.timed_out, Chronicle}
-use Rattle.definitions.specs.Chronicles.{standing_blocks, IsSound}
+use Rattle.definitions.specs.Chronicles.{standing_blocks, Note.seen_view, IsSound}
 use Rattle.definitions.specs.States.{Justified, view, qc_high, find_block, raised, leaf}
-use Rattle.definitions.specs.Rulings.{Input.timeout_in, Input.new_view_in, Ruling, ruling, conflicts}
+use Rattle.definitions.specs.Rulings.{Input.timeout_in, Input.new_view_in, Input.view_in, Ruling, ruling}
+use Rattle.definitions.specs.Rulings.{conflicts}
 use Rattle.definitions.specs.Rulings.{with_block}
 use Rattle.definitions.specs.Rulings as rulings
 use Rattle.definitions.specs.Sendings.{Sending, to_all, new_view_frame, sendings}
@@ -28,15 +29,17 @@ use Rattle.replica_rules.specs.Ruled.{ref_of}
 use Rattle.replica.specs.declared.change.Change.{Change}
 use Rattle.replica.specs.declared.state.High.{High}
 use Rattle.replica.specs.declared.stored.GotNewView.{GotNewView}
+use Rattle.replica.specs.declared.stored.SeenView.{SeenView}
 use Rattle.replica.specs.Replay.{or_genesis}
 use Rattle.replica.specs.Steps.{shown}
 use Rattle.replica.specs.Kept.{Variables, StateParts, high_of, variables_of, IsStateOf}
 use Rattle.replica.specs.Changes.{changed_variables, raise_of, IsStep}
 use Rattle.replica.specs.Announcements.{new_view_sent, timeout_change, IsTimeout, new_view_change}
 use Rattle.replica.specs.Announcements.{IsAnnounced, IsNewViewAt, IsNewView}
+use Rattle.replica.specs.Grounds.{seen_view_change, IsSeen}
 use Rattle.replica.specs.StepsTo.{Follows, StepsTo, answer, after}
 use Rattle.replica.proofs.Steps.{collects, asks, refused, or-memory, decided}
-use Rattle.replica.proofs.Stays.{shown-if, AreHigh, raise-is, variables-calm, variables-noted}
+use Rattle.replica.proofs.Stays.{shown-if, qc-same, AreHigh, raise-is, variables-calm, variables-noted}
 
 -- ---- a timeout
 
@@ -70,7 +73,7 @@ timeout-step keys c s d o t =
     (record {
       variables =
           (λ i. changed_variables (timeout_change keys (record s { variables = o.same i }) t.pace)
-          (variables_of keys c)) ∙ sym (variables-calm keys timed_out c refl refl refl);
+          (variables_of keys c)) ∙ sym (variables-calm keys timed_out c refl refl refl refl);
       sizes = sizes;
       pace = pace;
       out = (λ i. new_view_sent keys (at i) (q i) ∷ []) ∙ timeout-sent keys c;
@@ -104,9 +107,9 @@ module _ (keys : Keys) (c : Chronicle) (n : GotNewView) (b : Branch)
   unfolding raised
   brought = refl
 
-  high-is : AreHigh keys (noted note) c
+  high-is : IsSound keys.sizes (noted note ∷ c) → AreHigh keys (noted note) c
       (raise_of (record { block = block; certificate = n.certificate }) (high_of (qc_high keys.sizes c)))
-  high-is = raise-is keys (noted note) c (record { block = b; certificate = n.certificate }) block refl
+  high-is so = raise-is keys (noted note) c (record { block = b; certificate = n.certificate }) block so refl refl
       brought block-is
 
   sent-is : cond (nat_lt (view keys.sizes c) (view keys.sizes (noted note ∷ c)))
@@ -124,9 +127,17 @@ module _ (keys : Keys) (c : Chronicle) (n : GotNewView) (b : Branch)
   note-is =
       ap (λ (o : Option Branch). noted (got_new_view n.view n.sender n.certificate (or_genesis o))) found
 
+  note-sound : IsSound keys.sizes c → IsSound keys.sizes (noted note ∷ c)
+  unfolding ruling find_block
+  note-sound so = subst (OnStands (λ st. IsSound keys.sizes (st ∷ c)))
+      (ap (λ (o : Option Branch). with_block o n.sender n.certificate.digest
+      (λ x. rulings.due (noted (got_new_view n.view n.sender n.certificate x)))) found)
+      (ruling-sound (identity_of keys) (new_view_in n.view n.sender n.certificate) c tt so)
+
   announced-step : (s : StateParts) (d : Change) → IsStateOf keys c s → IsAnnounced keys s block n d
       → IsStep keys c (noted note) s.pace d
   announced-step s d o t =
+      let raises = high-is (note-sound o.sound) in
       let sizes : t.pace.sizes ≡ keys.sizes = t.its_pace.sizes ∙ o.sizes in
       let pace = t.its_pace.paced c note (n.certificate, b, refl) o.pace in
       let was = view-after keys c s.pace o.sizes o.pace in
@@ -135,26 +146,19 @@ module _ (keys : Keys) (c : Chronicle) (n : GotNewView) (b : Branch)
       let q : (unwrap_or (r s.variables.high) s.variables.high).certificate
       ≡ (qc_high keys.sizes (noted note ∷ c)).certificate =
       ap (λ (v : Variables). (unwrap_or (r v.high) v.high).certificate) o.same
-      ∙ ap (λ (h : High). h.certificate) high-is.high in
+      ∙ ap (λ (h : High). h.certificate) raises.high in
       subst (IsStep keys c (noted note) s.pace) (sym t.change)
       (record {
         variables = (λ i. changed_variables
             (new_view_change keys (record s { variables = o.same i }) block n t.pace) (variables_of keys c))
             ∙ (λ i. record (variables_of keys c)
-            { chronicle = note-is i ∷ c; high = high-is.high i; leaf = high-is.its_leaf i })
+            { chronicle = note-is i ∷ c; high = raises.high i; leaf = raises.its_leaf i })
             ∙ sym (variables-noted keys note c (qc_high keys.sizes (noted note ∷ c))
             (leaf (identity_of keys) (noted note ∷ c)) refl refl refl refl);
         sizes = sizes;
         pace = pace;
         out = (λ i. cond (nat_lt (was i) (at i)) (new_view_sent keys (at i) (q i) ∷ []) []) ∙ sent-is;
       })
-
-  note-sound : IsSound keys.sizes c → IsSound keys.sizes (noted note ∷ c)
-  unfolding ruling find_block
-  note-sound so = subst (OnStands (λ st. IsSound keys.sizes (st ∷ c)))
-      (ap (λ (o : Option Branch). with_block o n.sender n.certificate.digest
-      (λ x. rulings.due (noted (got_new_view n.view n.sender n.certificate x)))) found)
-      (ruling-sound (identity_of keys) (new_view_in n.view n.sender n.certificate) c tt so)
 
 -- by what is found
 new-view-by : (keys : Keys) (c : Chronicle) (s : StateParts) (n : GotNewView) (result : Result Change Fault)
@@ -179,6 +183,50 @@ new-view-decided keys c s n result h o =
     let same = ap (λ (v : Variables). find_in n.certificate.digest (blocks v.stored)) o.same in
     new-view-by keys c s n result o (find_in n.certificate.digest (blocks (standing_blocks c))) refl
     (subst (IsNewViewAt keys s n result) same h)
+
+-- ---- a view that was seen
+
+seen-sent : (keys : Keys) (c : Chronicle) (n : SeenView) → let st = noted (seen_view n.view n.sender) in
+    cond (nat_lt (view keys.sizes c) (view keys.sizes (st ∷ c)))
+    (new_view_sent keys (view keys.sizes (st ∷ c)) (qc_high keys.sizes (st ∷ c)).certificate ∷ []) []
+    ≡ shown (sendings (identity_of keys) st c)
+unfolding sendings Rattle.definitions.specs.Sendings.new_view_frame
+seen-sent keys c n =
+    let st = noted (seen_view n.view n.sender) in
+    sym (shown-if (nat_lt (view keys.sizes c) (view keys.sizes (st ∷ c)))
+    (to_all, new_view_frame (identity_of keys) (st ∷ c)))
+
+seen-step : (keys : Keys) (c : Chronicle) (s : StateParts) (n : SeenView) (d : Change) → IsStateOf keys c s
+    → IsSeen keys s n d → IsStep keys c (noted (seen_view n.view n.sender)) s.pace d
+unfolding raised
+seen-step keys c s n d o t =
+    let note = seen_view n.view n.sender in
+    let sizes : t.pace.sizes ≡ keys.sizes = t.its_pace.sizes ∙ o.sizes in
+    let pace = t.its_pace.paced c note refl o.pace in
+    let was = view-after keys c s.pace o.sizes o.pace in
+    let at = view-after keys (noted note ∷ c) t.pace sizes pace in
+    let q : s.variables.high.certificate ≡ (qc_high keys.sizes (noted note ∷ c)).certificate =
+    ap (λ (v : Variables). v.high.certificate) o.same
+    ∙ ap (λ (j : Justified). j.certificate) (sym (qc-same keys.sizes (noted note) c refl refl)) in
+    subst (IsStep keys c (noted note) s.pace) (sym t.change)
+    (record {
+      variables =
+          (λ i. changed_variables (seen_view_change keys (record s { variables = o.same i }) n t.pace)
+          (variables_of keys c)) ∙ sym (variables-calm keys note c refl refl refl refl);
+      sizes = sizes;
+      pace = pace;
+      out = (λ i. cond (nat_lt (was i) (at i)) (new_view_sent keys (at i) (q i) ∷ []) []) ∙ seen-sent keys c n;
+    })
+
+pub seen-decided : (keys : Keys) (c : Chronicle) (s : StateParts) (n : SeenView) (result : Result Change Fault)
+    → IfOk result (IsSeen keys s n) → OnErr result (result ≡ Err fault.Memory) → IsStateOf keys c s
+    → StepsTo keys (view_in n.view n.sender) c (answer result) (after result s)
+unfolding ruling conflicts raised
+seen-decided keys c s n result made memory o =
+    decided keys c (noted (seen_view n.view n.sender)) s result (IsSeen keys s n)
+    (ruling-sound (identity_of keys) (view_in n.view n.sender) c tt o.sound) refl refl o tt
+    (λ d t. (seen-step keys c s n d o t, ap (λ (x : Change). collects x.growth) t.change))
+    (or-memory result _ made memory)
 
 -- whether it moved, as a test
 pub moved-is : (t : Bool) (a b : ℕ) → (IsTrue t ↔ (a < b)) → t ≡ nat_lt a b

@@ -16,13 +16,15 @@ use Rattle.definitions.specs.Trees.{Placing, Placing.stands, Placing.grows, Plac
 use Rattle.definitions.specs.Trees.{Placing.unfit, placing}
 use Rattle.definitions.specs.Chronicles.{Chronicle, Step, Step.took_block, Step.noted, Note.pruned}
 use Rattle.definitions.specs.Chronicles.{Note.got_vote, Note.got_new_view, Note.got_request, Note.got_fetch}
-use Rattle.definitions.specs.Chronicles.{Note.timed_out, Note.beat, horizon, executed, decided, taken_blocks}
+use Rattle.definitions.specs.Chronicles.{Note.timed_out, Note.beat, Note.seen_view, Note.led_from, horizon}
+use Rattle.definitions.specs.Chronicles.{executed, decided, taken_blocks}
 use Rattle.definitions.specs.Chronicles.{history, standing_blocks, window, was_pruned}
 use Rattle.definitions.specs.Checks.{Identity, Findings}
 use Rattle.definitions.specs.Histories.{Entry}
 use Rattle.definitions.specs.Rulings as rulings
 use Rattle.definitions.specs.Rulings.{Ruling, Ruling.due, Ruling.missing, Ruling.refusing, ruling, conflicts}
-use Rattle.definitions.specs.Rulings.{on_placing, on_request, with_block}
+use Rattle.definitions.specs.Rulings.{on_placing, on_request, with_block, lead}
+use Rattle.definitions.specs.Grounds.{may_lead_from}
 use Rattle.definitions.specs.States.{find_block, is_same_request, is_due, pending}
 use Rattle.definitions.specs.Replicas.{MemorySupply, ample, refused_at_once, refused_after, running, stopped}
 use Rattle.definitions.specs.Replicas.{cut_short, Replica, Reaction, on_step, on_ruling, step, executes}
@@ -38,6 +40,7 @@ use Rattle.replica.specs.declared.stored.StoredStep.{StoredStep}
 use Rattle.replica.specs.Replay.{replay}
 use Rattle.replica.specs.Logs.{IsArchiveOf}
 use Rattle.replica.specs.Steps.{Stepped, Shows}
+use Rattle.replica.proofs.Grounded.{offer-by, relay-by}
 
 -- who was never given leave has its horizon at 0
 pub unpruned-low : (c : Chronicle) → was_pruned c ≡ false → horizon c ≡ 0
@@ -51,6 +54,8 @@ unpruned-low (noted (got_request r) ∷ c) e = unpruned-low c e
 unpruned-low (noted (got_fetch sender b) ∷ c) e = unpruned-low c e
 unpruned-low (noted timed_out ∷ c) e = unpruned-low c e
 unpruned-low (noted beat ∷ c) e = unpruned-low c e
+unpruned-low (noted (seen_view view sender) ∷ c) e = unpruned-low c e
+unpruned-low (noted (led_from b) ∷ c) e = unpruned-low c e
 
 -- ---- an input that gives none
 
@@ -88,6 +93,11 @@ quiet-request r c =
     && (not (list_any (is_same_request r) (pending c)) && not (nat_lt (length (pending c)) MOST_PENDING))
     ) (refusing fault.PoolFull) (due (noted (got_request r))) (IsQuiet c) (λ e. tt) (λ e. refl)
 
+quiet-lead : (self : Identity) (o : Option Branch) (c : Chronicle) → IsQuiet c (lead self o c)
+unfolding was_pruned
+quiet-lead self None c = tt
+quiet-lead self (Some b) c = cond_both (may_lead_from self b c) _ _ (IsQuiet c) (λ e. refl) (λ e. tt)
+
 -- whether an input gives leave
 abbrev gives_leave : rulings.Input → Bool
 gives_leave (rulings.prune_in height) = true
@@ -108,6 +118,15 @@ quiet-ruling self (rulings.request_in r) c e = quiet-request r c
 quiet-ruling self (rulings.fetch_in sender d) c e = refl
 quiet-ruling self rulings.timeout_in c e = refl
 quiet-ruling self rulings.beat_in c e = refl
+quiet-ruling self (rulings.offered_in w sender core q found) c e =
+    offer-by self core q found c (IsQuiet c) (λ n. tt) (λ r d. tt) w sender
+    (placing (horizon c) MOST_BLOCKS core q (window c)) (λ a k. refl)
+quiet-ruling self (rulings.relayed_in senders core q found) c e =
+    relay-by self core q found c (IsQuiet c) (λ n. tt) senders
+    (placing (horizon c) MOST_BLOCKS core q (window c)) (λ a k. refl)
+quiet-ruling self (rulings.lead_in d) c e = quiet-lead self (find_block d c) c
+quiet-ruling self (rulings.ask_in replica d) c e = tt
+quiet-ruling self (rulings.view_in w sender) c e = refl
 quiet-ruling self (rulings.prune_in height) c e = absurd (true≢false e)
 
 pub no-leave : (i : Input) → ((h : Height) → i ≡ taken.Prune h → ⊥) → prunes i ≡ false
@@ -119,6 +138,12 @@ no-leave (taken.Request r) n = refl
 no-leave (taken.Fetch f) n = refl
 no-leave taken.Timeout n = refl
 no-leave taken.Beat n = refl
+no-leave (taken.OfferedProposal p) n = refl
+no-leave (taken.OfferedBlock b) n = refl
+no-leave (taken.SeenView v) n = refl
+no-leave (taken.Relayed copies) n = refl
+no-leave (taken.Lead block) n = refl
+no-leave (taken.Ask replica block) n = refl
 no-leave (taken.Prune height) n = absurd (n height refl)
 
 -- it does where its frame or parcel does
@@ -132,6 +157,12 @@ leave-of (taken.Fetch f) = refl
 leave-of taken.Timeout = refl
 leave-of taken.Beat = refl
 leave-of (taken.Prune height) = refl
+leave-of (taken.OfferedProposal p) = refl
+leave-of (taken.OfferedBlock b) = refl
+leave-of (taken.SeenView v) = refl
+leave-of (taken.Relayed copies) = refl
+leave-of (taken.Lead block) = refl
+leave-of (taken.Ask replica block) = refl
 
 abbrev IsAsUnpruned : Chronicle → Replica × Reaction → Type 0
 IsAsUnpruned c r = was_pruned r.0.chronicle ≡ was_pruned c
@@ -242,6 +273,12 @@ stepped-pruning self (taken.Request r) old result new e t = absurd (true≢false
 stepped-pruning self (taken.Fetch f) old result new e t = absurd (true≢false (sym e))
 stepped-pruning self taken.Timeout old result new e t = absurd (true≢false (sym e))
 stepped-pruning self taken.Beat old result new e t = absurd (true≢false (sym e))
+stepped-pruning self (taken.OfferedProposal p) old result new e t = absurd (true≢false (sym e))
+stepped-pruning self (taken.OfferedBlock b) old result new e t = absurd (true≢false (sym e))
+stepped-pruning self (taken.SeenView v) old result new e t = absurd (true≢false (sym e))
+stepped-pruning self (taken.Relayed copies) old result new e t = absurd (true≢false (sym e))
+stepped-pruning self (taken.Lead block) old result new e t = absurd (true≢false (sym e))
+stepped-pruning self (taken.Ask replica block) old result new e t = absurd (true≢false (sym e))
 
 -- ---- an archive
 

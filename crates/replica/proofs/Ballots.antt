@@ -54,7 +54,7 @@ module _ (keys : Keys) (c : Chronicle) (s : StateParts) (is : IsStateOf keys c s
   note-is = ap (λ (o : Option Branch). noted (got_vote vote.voter vote.vector (or_genesis o))) found
 
   follows : FollowsVote keys.sizes c s.votes.kept d b vote
-  follows = followed-vote keys.sizes c s.votes.kept d b vote is.sound.is_tree found is.votes
+  follows = followed-vote keys.sizes c s.votes.kept d b vote is.sound.lawful is.sound.is_tree found is.votes
 
   -- what comes of it: the step, and the votes that are kept
   record Comes (x : Change) : Type 0 where
@@ -70,7 +70,7 @@ module _ (keys : Keys) (c : Chronicle) (s : StateParts) (is : IsStateOf keys c s
         (variables_of keys c))
         ∙ (λ i. record (variables_of keys c) { chronicle = note-is i ∷ c })
         ∙ sym (variables-noted keys note c (qc_high keys.sizes c) (leaf (identity_of keys) c) refl refl q
-        (leaf-same (identity_of keys) (noted note) c refl q));
+        (leaf-same (identity_of keys) (noted note) c refl (ap (λ (j : Justified). length j.block) q)));
     sizes = is.sizes;
     pace = paced-still (noted note) c s.pace tt is.pace;
     out = refl;
@@ -99,7 +99,7 @@ module _ (keys : Keys) (c : Chronicle) (s : StateParts) (is : IsStateOf keys c s
               leaf = block-is i;
             })
             ∙ sym (variables-noted keys note c made b refl refl q
-            (leaf-raised (identity_of keys) (noted note) c made q lt));
+            (leaf-raised (identity_of keys) (noted note) c made q lt refl));
         sizes = is.sizes;
         pace = paced-still (noted note) c s.pace tt is.pace;
         out = refl;
@@ -176,7 +176,7 @@ vote-by keys c s d vote (Ok x) is (Some b) e h =
     subst (λ (y : Change). Follows keys (rulings.due st) c (Ok y.out) (changed y s)) (sym h)
     (stands keys c st (vote_change s (record { digest = d; height = length b }) vote) s refl
     (vote-sound keys c s is d vote b e)
-    (counted-waits s (record { digest = d; height = length b }) vote ∙ calm st c s.pending refl is.waits)
+    (counted-waits s (record { digest = d; height = length b }) vote ∙ calm st c s.pending refl refl is.waits)
     is comes.step comes.votes)
 vote-by keys c s d vote (Err f) is (Some b) e h =
     no-memory keys c (noted (got_vote vote.voter vote.vector b)) f s h is

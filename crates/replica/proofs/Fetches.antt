@@ -151,7 +151,7 @@ fetch-step keys c s f o =
     record {
       variables =
           (λ i. changed_variables (fetch_change keys (o.same i) f) (variables_of keys c))
-          ∙ sym (variables-calm keys st c refl refl refl);
+          ∙ sym (variables-calm keys st c refl refl refl refl);
       sizes = o.sizes;
       pace = paced-still (noted st) c s.pace tt o.pace;
       out =

@@ -13,7 +13,7 @@ use Rattle.block_tree.specs.declared.node.Node.{Node}
 use Rattle.block_tree.specs.Nodes.{IsNodeOf}
 use Rattle.replica.specs.declared.stored.StoredStep.{StoredStep}
 use Rattle.replica.specs.declared.stored.StoredStep.TheVariants.{TookNew, TookAgain, GotVote, GotNewView}
-use Rattle.replica.specs.declared.stored.StoredStep.TheVariants.{GotRequest, GotFetch, TimedOut, Beat, Pruned}
+use Rattle.replica.specs.declared.stored.StoredStep.TheVariants.{GotRequest, GotFetch, TimedOut, Beat, Pruned, SeenView, Led}
 use Rattle.replica.specs.Replay.{is_new, taken_new, step_of, before, newest, replay}
 use Rattle.replica.proofs.Replaying.{replay-push}
 
@@ -52,19 +52,8 @@ taken-count (GotFetch f ∷ earlier) stored = taken-count earlier (before (GotFe
 taken-count (TimedOut ∷ earlier) stored = taken-count earlier (before TimedOut stored)
 taken-count (Beat ∷ earlier) stored = taken-count earlier (before Beat stored)
 taken-count (Pruned height ∷ earlier) stored = taken-count earlier (before (Pruned height) stored)
-
--- no stored step names senders of its block
-pub none-sent : (s : StoredStep) (stored : List Stored) → sent_by (step_of s stored) ≡ []
-unfolding sent_by
-none-sent (TookNew t) stored = refl
-none-sent (TookAgain t) stored = refl
-none-sent (GotVote g) stored = refl
-none-sent (GotNewView n) stored = refl
-none-sent (GotRequest r) stored = refl
-none-sent (GotFetch f) stored = refl
-none-sent TimedOut stored = refl
-none-sent Beat stored = refl
-none-sent (Pruned height) stored = refl
+taken-count (SeenView v ∷ earlier) stored = taken-count earlier (before (SeenView v) stored)
+taken-count (Led d ∷ earlier) stored = taken-count earlier (before (Led d) stored)
 
 -- the node of the newest of these blocks
 pub newest-node : (k : ℕ) (stored : List Stored) → k < length stored → (n : Node)

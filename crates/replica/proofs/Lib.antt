@@ -11,6 +11,8 @@ pub mod Advancing
 pub mod Stays
 pub mod Picks
 pub mod Beats
+pub mod OnGrounds
+pub mod Leads
 pub mod Offers
 pub mod Announcements
 pub mod Fetches
@@ -22,5 +24,6 @@ pub mod First
 pub mod WholeSteps
 pub mod Waiting
 pub mod Careful
+pub mod Grounded
 pub mod Keeping
 pub mod Sized

@@ -1,7 +1,7 @@
 -- Steps that are written down.
 use Rattle.std.proofs.Common.{◌≡◌, false, true≢false, List, ◌∷◌, refl, sym, ap, ◌∙◌}
 use Rattle.replica.specs.declared.stored.StoredStep.TheVariants.{TookNew, TookAgain, GotVote, GotNewView}
-use Rattle.replica.specs.declared.stored.StoredStep.TheVariants.{GotRequest, GotFetch, TimedOut, Beat, Pruned}
+use Rattle.replica.specs.declared.stored.StoredStep.TheVariants.{GotRequest, GotFetch, TimedOut, Beat, Pruned, SeenView, Led}
 use Rattle.definitions.specs.Trees.{Stored}
 use Rattle.definitions.specs.Chronicles.{Chronicle, was_pruned}
 use Rattle.replica.specs.declared.stored.StoredStep.{StoredStep}
@@ -35,6 +35,8 @@ unpruned-still (GotFetch f) stored c e = refl
 unpruned-still TimedOut stored c e = refl
 unpruned-still Beat stored c e = refl
 unpruned-still (Pruned height) stored c e = absurd (true≢false e)
+unpruned-still (SeenView v) stored c e = refl
+unpruned-still (Led d) stored c e = refl
 
 -- one step more is written down
 pub logged-one : (old new : List StoredStep → Type 0) (d : Change) (s : StateParts) → Fits s d

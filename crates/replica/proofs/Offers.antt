@@ -5,7 +5,7 @@ use Rattle.ids.specs.declared.fault.Fault.TheVariants as fault
 use Rattle.std.proofs.Common.{ℕ, ◌≡◌, ◌<◌, ◌&&◌, Bool, true, false, [], ◌∷◌, length}
 use Rattle.std.proofs.Common.{cond, refl, sym, ap, ◌∙◌, subst, List, inl, inr, Option, Some, None, Result, Ok}
 use Rattle.std.proofs.Common.{Err}
-use Rattle.std.specs.Prelude.{option_map}
+use Rattle.std.specs.Prelude.{option_map, MatchResult}
 use Rattle.ids.specs.Sizes.{leader}
 use Rattle.definitions.specs.Frames.{Core}
 use Rattle.definitions.specs.Branches.{Branch, just1}
@@ -16,7 +16,7 @@ use Rattle.definitions.specs.Trees.{Stored, blocks, find_in, block_of, Placing, 
 use Rattle.definitions.specs.Trees.{Placing.lacks_parent, Placing.unfit, placing}
 use Rattle.definitions.specs.Chronicles.{Admitted, Step, Step.took_block, Chronicle, standing_blocks}
 use Rattle.definitions.specs.Chronicles.{stored_block}
-use Rattle.definitions.specs.Chronicles.{horizon, window}
+use Rattle.definitions.specs.Chronicles.{horizon, window, IsSound}
 use Rattle.definitions.specs.States.{view, raised}
 use Rattle.definitions.specs.Rulings.{Ruling.due, admitted, votes_for, on_placing, on_block}
 use Rattle.definitions.specs.Rulings.{conflicts}
@@ -50,7 +50,7 @@ use Rattle.replica.specs.declared.change.Growth.{Growth}
 use Rattle.replica.specs.declared.change.Growth.TheVariants.{Nothing, Block}
 use Rattle.replica.specs.declared.stored.StoredStep.{StoredStep}
 use Rattle.replica.specs.Offers.{Offered, is_for, justified_of, high_in, votes_sent}
-use Rattle.replica.specs.Offers.{again_change, IsTaken, IsDecidedAt, IsDecided}
+use Rattle.replica.specs.Offers.{again_change, IsTaken, IsGrown, IsDecidedAt, IsDecided}
 use Rattle.replica.specs.StepsTo.{Follows, halts, answer, after}
 use Rattle.pacemaker.proofs.Reached.{paced-still}
 use Rattle.replica.proofs.Steps.{collects, no-memory, asks, refuses, refused, decided, kept_at, where-kept}
@@ -79,10 +79,16 @@ module _ (keys : Keys) (c : Chronicle) (kept : StateParts) (o : Offered)
   abbrev v : Variables
   v = variables_of keys c
 
+  -- whom a new block names
+  abbrev senders_if : Bool → List ℕ
+  senders_if new = cond new o.senders []
+
   -- the block as the ruling takes it
+  abbrev coming : Bool → Branch → Admitted
+  coming new b = record (admitted b o.core o.certificate o.found new) { senders = senders_if new }
+
   abbrev taken : Bool → Branch → Admitted
-  taken new b = record (admitted b o.core o.certificate o.found new)
-      { voted = votes_for keys.sizes o.view (admitted b o.core o.certificate o.found new) c }
+  taken new b = record (coming new b) { voted = votes_for keys.sizes o.view (coming new b) c }
 
   -- a change that takes a block
   took-step : (a : Admitted) (step : StoredStep) (g : Growth) (r : Ruled) (h : Option High)
@@ -92,7 +98,7 @@ module _ (keys : Keys) (c : Chronicle) (kept : StateParts) (o : Offered)
       → AreHigh keys (took_block a) c h
       → out ≡ votes_sent keys (view keys.sizes c) (digest_of a.branch) a.voted
       → IsStep keys c (took_block a) s.pace
-      (record (noting v step out) { growth = g; rules = r; high = h; leaf = leaf_after h v.leaf })
+      (record (noting v step out) { growth = g; rules = r; high = h; leaf = leaf_after h v.high v.leaf })
   unfolding vote_frame horizon
   took-step a step g r h out low steps stored rules high sent = record {
     variables = λ i. record {
@@ -117,12 +123,11 @@ module _ (keys : Keys) (c : Chronicle) (kept : StateParts) (o : Offered)
 
   voted-again : (b : Branch) → find_in (digest o.core) (window c) ≡ Some b → (w : Option ℕ)
       → (is_for (view keys.sizes c) w && may_vote_in v.rules (digest o.core) v.stored)
-      ≡ votes_for keys.sizes w (admitted b o.core o.certificate o.found false) c
+      ≡ votes_for keys.sizes w (coming false b) c
   unfolding votes_for admitted
   voted-again b found None = refl
   voted-again b found (Some w) =
-      sym (votes-known keys.sizes w c (digest o.core) (admitted b o.core o.certificate o.found false)
-      is.sound refl found)
+      sym (votes-known keys.sizes w c (digest o.core) (coming false b) is.sound refl found)
 
   again-step : (b : Branch) → find_in (digest o.core) (window c) ≡ Some b
       → IsStep keys c (took_block (taken false b)) s.pace (again_change keys s o)
@@ -135,7 +140,7 @@ module _ (keys : Keys) (c : Chronicle) (kept : StateParts) (o : Offered)
       (sym (standing-known a c refl))
       ((λ i. elim (found i) [ Some y ↦ with_vote (voted i) (length y) v.rules | None ↦ v.rules ])
       ∙ ruled-known c a refl)
-      (unraised keys (took_block a) c refl (qc-same keys.sizes (took_block a) c refl))
+      (unraised keys (took_block a) c refl (qc-same keys.sizes (took_block a) c refl refl))
       (λ i. votes_sent keys (view keys.sizes c)
       (sym (found-in (digest o.core) (window c) b found).1 i) (voted i))
 
@@ -152,11 +157,11 @@ module _ (keys : Keys) (c : Chronicle) (kept : StateParts) (o : Offered)
 
     voted-new : (w : Option ℕ)
         → (is_for (view keys.sizes c) w && may_vote_over v.rules (candidate_of o.core o.found.clear)
-        v.stored) ≡ votes_for keys.sizes w (admitted b o.core o.certificate o.found true) c
+        v.stored) ≡ votes_for keys.sizes w (coming true b) c
     unfolding votes_for admitted
     voted-new None = refl
-    voted-new (Some w) = sym (votes-new keys.sizes w c o.core o.certificate
-        (admitted b o.core o.certificate o.found true) is.sound below refl grows-to)
+    voted-new (Some w) =
+        sym (votes-new keys.sizes w c o.core o.certificate (coming true b) is.sound below refl grows-to)
 
     justified-is : justified_of o ≡ ref_of (just1 b)
     justified-is = sym (justified-new keys.sizes c o.core o.certificate b is.sound below grows-to)
@@ -183,10 +188,10 @@ module _ (keys : Keys) (c : Chronicle) (kept : StateParts) (o : Offered)
       clear = h.clear i;
     }
 
-    new-step : (d : Change) → IsTaken keys s o d
+    new-step : (d : Change) → IsSound keys.sizes (took_block new ∷ c) → IsTaken keys s o d
         → IsStep keys c (took_block new) s.pace d × (conflicts (took_block new) c ≡ false)
     unfolding admitted raised
-    new-step d t =
+    new-step d so t =
         let node = node-is t.node t.its_node in
         let voted = voted-new o.view in
         let height : o.core.height ≡ length b =
@@ -209,61 +214,84 @@ module _ (keys : Keys) (c : Chronicle) (kept : StateParts) (o : Offered)
               ∙ sym (standing-new c o.core o.certificate new below refl grows-to))
               ((λ i. with_vote (voted i) (height i) t.rules) ∙ ruled-new c new t.rules r.1)
               (raise-is keys (took_block new) c (record { block = just1 b; certificate = o.certificate })
-              (justified_of o) refl refl justified-is)
+              (justified_of o) so refl refl refl justified-is)
               (λ i. votes_sent keys (view keys.sizes c) (sym digests i) (voted i))),
           r.0,
         )
 
   -- ---- each place
 
-  unfit-stops : (n : Fault) → IsUnfit n → stops n c ≡ halts (horizon c) n
+  pub unfit-stops : (n : Fault) → IsUnfit n → stops n c ≡ halts (horizon c) n
   unfit-stops n (inl e) = rw e refl
   unfit-stops n (inr (inl e)) = rw e refl
   unfit-stops n (inr (inr (inl e))) = rw e refl
   unfit-stops n (inr (inr (inr (inl e)))) = rw e refl
   unfit-stops n (inr (inr (inr (inr e)))) = rw e refl
 
-  place-by : (sender : ℕ) (result : Result Change Fault) → o.core.justify_height < o.core.height
+  -- it stands in the tree
+  pub again-follows : (result : Result Change Fault) (b : Branch) → find_in (digest o.core) (window c) ≡ Some b
+      → IsSound keys.sizes (took_block (taken false b) ∷ c)
+      → MatchResult result (λ d. d ≡ again_change keys s o) (λ n. n ≡ fault.Memory)
+      → Follows keys (due (took_block (taken false b))) c (answer result) (after result s)
+  unfolding admitted conflicts raised
+  again-follows result b found so t =
+      let st = took_block (taken false b) in
+      decided keys c st s result _ so refl refl is tt
+      (λ d q. (
+        subst (IsStep keys c st s.pace) (sym q) (again-step b found),
+        ap (λ (x : Change). collects x.growth) q,
+      )) t
+
+  -- it grows the tree
+  pub grown-follows : (result : Result Change Fault) (b : Branch) → o.core.justify_height < o.core.height
+      → placing (horizon c) MOST_BLOCKS o.core o.certificate (window c) ≡ grows b
+      → Keeps (identity_of keys) c (due (took_block (taken true b))) → IsGrown keys s o result
+      → Follows keys (due (took_block (taken true b))) c (answer result) (after result s)
+  unfolding admitted raised
+  grown-follows (Ok d) b below e so t =
+      decided keys c (took_block (taken true b)) s (Ok d) (IsTaken keys s o) so (new-step b below e d so t).1
+      refl is tt
+      (λ d q. ((new-step b below e d so q).0, ap (λ (x : Change). collects x.growth) q.change)) t
+  grown-follows (Err n) b below e so (inl m) = no-memory keys c (took_block (taken true b)) n s m is
+  grown-follows (Err n) b below e so (inr x) =
+      let r = taking-refused c (taken true b) n (sym x ∙ ruled-is b below e) in
+      refused keys _ c fault.Conflict s _ (ap Err r.1)
+      (refused-for-conflict keys c (took_block (taken true b)) s r.0 is)
+
+  place-by : (sender : ℕ) (result : Result Change Fault) → o.senders ≡ [] → o.core.justify_height < o.core.height
       → (p : Placing) → placing (horizon c) MOST_BLOCKS o.core o.certificate (window c) ≡ p
       → IsPlaced (horizon c) MOST_BLOCKS o.core o.certificate (window c) p → let v =
       on_placing (identity_of keys) o.view sender o.core o.certificate o.found c p in
       Keeps (identity_of keys) c v
       → IsDecidedAt keys s o result p → Follows keys v c (answer result) (after result s)
-  unfolding on_placing admitted conflicts raised
-  place-by sender result below (Placing.stands b) e h so t =
-      let st = took_block (taken false b) in
-      decided keys c st s result _ so refl refl is tt
-      (λ d q. (
-        subst (IsStep keys c st s.pace) (sym q) (again-step b h.0),
-        ap (λ (x : Change). collects x.growth) q,
-      )) t
-  place-by sender (Ok d) below (grows b) e h so t =
-      decided keys c (took_block (taken true b)) s (Ok d) (IsTaken keys s o) so (new-step b below e d t).1
-      refl is tt
-      (λ d q. ((new-step b below e d q).0, ap (λ (x : Change). collects x.growth) q.change)) t
-  place-by sender (Err n) below (grows b) e h so (inl m) =
-      no-memory keys c (took_block (taken true b)) n s m is
-  place-by sender (Err n) below (grows b) e h so (inr x) =
-      let r = taking-refused c (taken true b) n (sym x ∙ ruled-is b below e) in
-      refused keys _ c fault.Conflict s _ (ap Err r.1)
-      (refused-for-conflict keys c (took_block (taken true b)) s r.0 is)
-  place-by sender result below lacks_parent e h so t =
+  unfolding on_placing admitted
+  place-by sender result alone below (Placing.stands b) e h so t = again-follows result b h.0 so t
+  place-by sender result alone below (grows b) e h so t =
+      let same : taken true b ≡ record (admitted b o.core o.certificate o.found true)
+      { voted = votes_for keys.sizes o.view (admitted b o.core o.certificate o.found true) c } =
+      λ i. let a = record (admitted b o.core o.certificate o.found true) { senders = alone i } in
+      record a { voted = votes_for keys.sizes o.view a c } in
+      subst (λ (a : Admitted). Follows keys (due (took_block a)) c (answer result) (after result s)) same
+      (grown-follows result b below e
+      (subst (λ (a : Admitted). Keeps (identity_of keys) c (due (took_block a))) (sym same) so) t)
+  place-by sender result alone below lacks_parent e h so t =
       refused keys _ c _ s result t (asks keys c sender o.core.parent s is)
-  place-by sender result below (unfit n) e h so t =
+  place-by sender result alone below (unfit n) e h so t =
       refused keys _ c n s result t (refuses keys c n s (unfit-stops n h) is)
 
 -- what a block comes to
 pub block-decided :
     (keys : Keys) (c : Chronicle) (s : StateParts) (o : Offered) (sender : ℕ) (result : Result Change Fault)
-    → IsDecided keys s o result → IsStateOf keys c s → o.core.justify_height < o.core.height → let v =
+    → o.senders ≡ [] → IsDecided keys s o result → IsStateOf keys c s → o.core.justify_height < o.core.height
+    → let v =
     on_block (identity_of keys) o.view sender o.core o.certificate o.found c in Keeps (identity_of keys) c v
     → Follows keys v c (answer result) (after result s)
 unfolding window
-block-decided keys c s o sender result h is below so = where-kept keys c s
+block-decided keys c s o sender result alone h is below so = where-kept keys c s
     (λ x. IsDecided keys x o result
     → Follows keys (on_block (identity_of keys) o.view sender o.core o.certificate o.found c) c
     (answer result) (after result x)) is
-    (λ k. place-by keys c s o k sender result below
+    (λ k. place-by keys c s o k sender result alone below
     (placing (horizon c) MOST_BLOCKS o.core o.certificate (window c)) refl
     (placed (horizon c) MOST_BLOCKS o.core o.certificate (window c)) so) h
 
@@ -271,15 +299,14 @@ block-decided keys c s o sender result h is below so = where-kept keys c s
 
 module _ (keys : Keys) (s : StateParts) (o : Offered) (n : Node) (p : Placing)
     (planned : IsPlanned (tree_of s.variables) o.core o.certificate o.found.clear (Ok (Grows n)) p) where
-  pub conflict-decided : (f : Fault)
-      → ruled_after s.variables.rules (justified_of o) s.variables.stored ≡ Err f
-      → IsDecidedAt keys s o (Err f) p
-  conflict-decided f e = by p planned
+  -- what is decided of it as a new one
+  pub grown-decided : (result : Result Change Fault) → IsGrown keys s o result → IsDecidedAt keys s o result p
+  grown-decided result h = by p planned
     where
       by : (p : Placing)
           → IsPlanned (tree_of s.variables) o.core o.certificate o.found.clear (Ok (Grows n)) p
-          → IsDecidedAt keys s o (Err f) p
+          → IsDecidedAt keys s o result p
       by (Placing.stands b) h = absurd (cc)
-      by (grows b) h = inr e
+      by (grows b) k = h
       by lacks_parent h = absurd (cc)
       by (unfit m) h = absurd (cc)

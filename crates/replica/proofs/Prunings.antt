@@ -1,11 +1,11 @@
 -- What a pruning changes is what its step changes.
-use Rattle.std.proofs.Common.{ℕ, ◌≡◌, ◌∷◌, refl, sym, ap, subst, Ok}
+use Rattle.std.proofs.Common.{ℕ, ◌≡◌, ◌∷◌, length, refl, sym, ap, subst, Ok}
 use Rattle.std.specs.Prelude.{option_map}
 use Rattle.ids.specs.declared.limits.TheConstants.{MOST_BLOCKS}
 use Rattle.definitions.specs.Keyrings.{Keys}
 use Rattle.definitions.specs.Checks.{identity_of}
 use Rattle.definitions.specs.Chronicles.{Step.noted, Note.pruned, Chronicle}
-use Rattle.definitions.specs.States.{raised}
+use Rattle.definitions.specs.States.{Justified, raised}
 use Rattle.definitions.specs.Rulings.{Input.prune_in, ruling, conflicts}
 use Rattle.definitions.specs.Sendings.{sendings}
 use Rattle.definitions.proofs.Sound.{ruling-sound}
@@ -28,7 +28,7 @@ module _ (keys : Keys) (c : Chronicle) (height : ℕ) where
   unfolding sendings raised Rattle.definitions.specs.Chronicles.horizon
   prune-step s is =
       let st = noted (pruned height) in
-      let high = qc-same keys.sizes st c refl in
+      let high = qc-same keys.sizes st c refl refl in
       record {
         variables = λ i. record {
           chronicle = st ∷ c;
@@ -37,7 +37,7 @@ module _ (keys : Keys) (c : Chronicle) (height : ℕ) where
           stored = sym (window-pruned height c) i;
           rules = sym (ruled-noted (pruned height) c) i;
           high = high_of (sym high i);
-          leaf = ref_of (sym (leaf-same (identity_of keys) st c refl high) i);
+          leaf = ref_of (sym (leaf-same (identity_of keys) st c refl (ap (λ (q : Justified). length q.block) high)) i);
           own = option_map own_of (sym (proposed-same (identity_of keys) st c refl) i);
         };
         sizes = is.sizes;

@@ -4,7 +4,7 @@ use Rattle.std.proofs.lemmas.List.{reverse-append}
 use Rattle.definitions.specs.Trees.{Stored}
 use Rattle.replica.specs.declared.stored.StoredStep.{StoredStep}
 use Rattle.replica.specs.declared.change.Growth.{Growth}
-use Rattle.replica.specs.declared.change.Growth.TheVariants.{Nothing, Block, Vote, Request, Prune}
+use Rattle.replica.specs.declared.change.Growth.TheVariants.{Nothing, Block, Vote, Request, Prune, Lead}
 use Rattle.replica.specs.Replay.{is_new, step_of, before, replay}
 use Rattle.replica.specs.Changes.{adds, shrinks, grown}
 
@@ -21,6 +21,7 @@ before-grown s (Block n) stored e k = rw e refl
 before-grown s (Vote b v) stored e k = rw e refl
 before-grown s (Request r) stored e k = rw e refl
 before-grown s (Prune to) stored e k = absurd (true≢false k)
+before-grown s Lead stored e k = rw e refl
 
 -- as many steps as are stored
 pub length-replay : (xs : List StoredStep) (stored : List Stored) → length (replay xs stored) ≡ length xs

@@ -42,7 +42,7 @@ module _ (keys : Keys) (c : Chronicle) (s : StateParts) (r : Command) (o : IsSta
   variables-are : variables_of keys (noted (got_request r) ∷ c)
       ≡ record (variables_of keys c) { chronicle = noted (got_request r) ∷ c }
   unfolding raised
-  variables-are = variables-calm keys (got_request r) c refl refl refl
+  variables-are = variables-calm keys (got_request r) c refl refl refl refl
 
   -- what waits after it
   asked-is : asked (noted (got_request r)) c ≡ pending (noted (got_request r) ∷ c)
@@ -95,7 +95,7 @@ module _ (keys : Keys) (c : Chronicle) (s : StateParts) (r : Command) (o : IsSta
       (ruling-sound (identity_of keys) (request_in r) c tt o.sound) in
       let x = step-is g out t in
       stands keys c st d s refl so w o x
-      (votes-else keys st c d s tt (kept-votes g) o.sound.is_tree so.is_tree o.votes x)
+      (votes-else keys st c d s tt (kept-votes g) o.sound.lawful o.sound.is_tree so.is_tree o.votes x)
 
 -- ---- by what was executed for its client
 

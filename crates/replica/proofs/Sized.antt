@@ -1,8 +1,8 @@
 -- The certificates that a replica keeps are certificates at its sizes, and the votes that it took are votes
 -- at these.
-use Rattle.ids.specs.declared.limits.TheConstants.{MOST_PENDING}
-use Rattle.std.proofs.Common.{ℕ, ◌≡◌, ◌==◌, ◌&&◌, not, List, [], ◌∷◌, length, refl, sym, ap}
-use Rattle.std.proofs.Common.{subst, map, nat_lt, inl, Option, Some, None}
+use Rattle.ids.specs.declared.limits.TheConstants.{MOST_PENDING, MOST_BLOCKS}
+use Rattle.std.proofs.Common.{ℕ, ◌≡◌, ◌==◌, ◌&&◌, ◌||◌, not, Bool, List, [], ◌∷◌, length, refl, sym, ap}
+use Rattle.std.proofs.Common.{subst, ◌∙◌, ◌⊎◌, map, nat_lt, inl, inr, Option, Some, None}
 use Rattle.std.specs.List.{list_any, AllByRecursion}
 use Rattle.std.specs.Option.{unwrap_or, option_or}
 use Rattle.std.specs.Prelude.{IfSome, bytes_eq, option_map}
@@ -11,21 +11,27 @@ use Rattle.ids.specs.Sizes.{Sizes, quorum}
 use Rattle.definitions.specs.Bytes.{Bytes}
 use Rattle.definitions.specs.Frames.{Command, Core, Certificate, Vote, genesis_core}
 use Rattle.definitions.specs.FrameLimits.{IsVote, IsCertificate}
-use Rattle.definitions.specs.Branches.{Branch, branch_eq}
+use Rattle.definitions.specs.Branches.{Branch, branch_eq, just1}
 use Rattle.definitions.specs.Digests.{digest_of}
 use Rattle.definitions.specs.Keyrings.{Keys}
 use Rattle.definitions.specs.Trees.{Stored, is_in_reach, Placing, Placing.stands, Placing.grows}
-use Rattle.definitions.specs.Trees.{Placing.lacks_parent, Placing.unfit}
+use Rattle.definitions.specs.Trees.{Placing.lacks_parent, Placing.unfit, placing}
 use Rattle.definitions.specs.Checks.{Identity, Findings, identity_of}
 use Rattle.definitions.specs.Chronicles.{Admitted, Step, Step.took_block, Step.noted, Note.got_vote}
-use Rattle.definitions.specs.Chronicles.{Note.got_new_view, Note.beat, Chronicle, history, horizon}
+use Rattle.definitions.specs.Chronicles.{Note.got_new_view, Note.beat, Note.led_from, Chronicle, history, horizon}
+use Rattle.definitions.specs.Chronicles.{window}
 use Rattle.definitions.specs.Chronicles.{taken_blocks, stored_block, stored_blocks, standing_blocks}
-use Rattle.definitions.specs.States.{Justified, votes, raised, higher, qc_high, find_block, is_due}
+use Rattle.definitions.specs.States.{Justified, votes, raised, fills, comes_whole, higher, qc_high, find_block}
+use Rattle.definitions.specs.States.{is_due}
 use Rattle.definitions.specs.States.{is_same_request, pending, child, leaf, made_with, proposed}
 use Rattle.definitions.specs.Rulings.{Input, Input.proposal_in, Input.block_in, Input.vote_in}
 use Rattle.definitions.specs.Rulings.{Input.new_view_in, Input.request_in, Input.fetch_in, Input.timeout_in}
 use Rattle.definitions.specs.Rulings.{Input.beat_in, Input.prune_in, Ruling.due, admitted, on_placing}
-use Rattle.definitions.specs.Rulings.{on_request, with_block, ruling}
+use Rattle.definitions.specs.Rulings.{Input.offered_in, Input.relayed_in, Input.lead_in, Input.ask_in}
+use Rattle.definitions.specs.Rulings.{Input.view_in, on_request, with_block, lead, ruling}
+use Rattle.definitions.specs.Grounds.{may_lead_from}
+use Rattle.definitions.proofs.Sound.{found}
+use Rattle.definitions.proofs.Trees.{IsPlaced, placed}
 use Rattle.definitions.proofs.Certificates.{IsDigest-digest, IsDigest-digest_of, IsCertificate-by_voter}
 use Rattle.definitions.proofs.Certificates.{all-filter}
 use Rattle.linear_law.proofs.Inputs.{AllStanding}
@@ -36,31 +42,43 @@ use Rattle.block_tree.specs.Finding.{stored_in, NodeParts, kept, kept_of}
 use Rattle.replica.specs.declared.state.High.{High}
 use Rattle.replica.specs.Kept.{Own, own_of, variables_of, IsSized, AreSized, IsFitOwn, AreCertified}
 use Rattle.replica.specs.Kept.{StateParts}
-use Rattle.replica.specs.Changes.{raise_of}
+use Rattle.replica.specs.Changes.{fills_for, raise_of}
 use Rattle.replica.specs.Beats.{child_of, made_by}
 use Rattle.replica.specs.Inputs.{IsFitInput}
+use Rattle.replica.proofs.Grounded.{IsKeptAs, offer-by, relay-by}
 
--- ---- what an input comes to
+-- ---- parts of what comes
+
+-- the certificate of a block that has a place is for what it justifies
+for-justified : (core : Core) (q : Certificate) (c : Chronicle) (p : Placing)
+    → IsPlaced (horizon c) MOST_BLOCKS core q (window c) p → (b : Branch)
+    → ((p ≡ stands b) ⊎ (p ≡ grows b)) → q.digest ≡ digest_of (just1 b)
+for-justified core q c p h b (inl e) =
+    (subst (IsPlaced (horizon c) MOST_BLOCKS core q (window c)) e h).1
+for-justified core q c p h b (inr e) =
+    let g = (subst (IsPlaced (horizon c) MOST_BLOCKS core q (window c)) e h).1 in
+    g.justified ∙ ap (λ (x : Branch). digest_of (just1 x)) (sym g.is)
 
 placed-sized : (self : Identity) (w : Option ℕ) (sender : ℕ) (core : Core) (q : Certificate) (f : Findings)
-    (c : Chronicle) (p : Placing) → IsCertificate self.sizes q
+    (c : Chronicle) (p : Placing) → IsPlaced (horizon c) MOST_BLOCKS core q (window c) p → IsCertificate self.sizes q
     → AllStanding (IsSized self.sizes) (on_placing self w sender core q f c p)
 unfolding on_placing admitted
-placed-sized self w sender core q f c (stands b) h = h
-placed-sized self w sender core q f c (grows b) h = h
-placed-sized self w sender core q f c lacks_parent h = tt
-placed-sized self w sender core q f c (unfit n) h = tt
+placed-sized self w sender core q f c (stands b) at h = (h, for-justified core q c (stands b) at b (inl refl))
+placed-sized self w sender core q f c (grows b) at h = (h, for-justified core q c (grows b) at b (inr refl))
+placed-sized self w sender core q f c lacks_parent at h = tt
+placed-sized self w sender core q f c (unfit n) at h = tt
 
 vote-sized : (sizes : Sizes) (o : Option Branch) (d : Bytes) (b : Vote) → IsVote sizes b
     → AllStanding (IsSized sizes) (with_block o b.voter d (λ x. due (noted (got_vote b.voter b.vector x))))
 vote-sized sizes None d b h = tt
 vote-sized sizes (Some x) d b h = h
 
-new_view-sized : (sizes : Sizes) (o : Option Branch) (w sender : ℕ) (q : Certificate) → IsCertificate sizes q
+new_view-sized : (sizes : Sizes) (c : Chronicle) (o : Option Branch) (w sender : ℕ) (q : Certificate)
+    → find_block q.digest c ≡ o → IsCertificate sizes q
     → AllStanding (IsSized sizes)
     (with_block o sender q.digest (λ x. due (noted (got_new_view w sender q x))))
-new_view-sized sizes None w sender q h = tt
-new_view-sized sizes (Some x) w sender q h = h
+new_view-sized sizes c None w sender q e h = tt
+new_view-sized sizes c (Some x) w sender q e h = (h, sym (found q.digest c x e).1)
 
 request-sized : (sizes : Sizes) (r : Command) (c : Chronicle)
     → AllStanding (IsSized sizes) (on_request r c)
@@ -71,27 +89,11 @@ request-sized sizes r c =
     (nat_lt (length (pending c)) MOST_PENDING))) _ _
     (AllStanding (IsSized sizes)) (λ e. tt) (λ e. tt)
 
-ruling-sized : (self : Identity) (i : Input) (c : Chronicle) → IsFitInput self.sizes i
-    → AllStanding (IsSized self.sizes) (ruling self i c)
-unfolding ruling
-ruling-sized self (proposal_in w core q f) c h = placed-sized self _ _ core q f c _ h.1
-ruling-sized self (block_in sender core q f) c h = placed-sized self _ _ core q f c _ h.1
-ruling-sized self (vote_in d b) c h = vote-sized self.sizes (find_block d c) d b h
-ruling-sized self (new_view_in w sender q) c h =
-    new_view-sized self.sizes (find_block q.digest c) w sender q h
-ruling-sized self (request_in r) c h = request-sized self.sizes r c
-ruling-sized self (fetch_in sender d) c h = tt
-ruling-sized self timeout_in c h = tt
-ruling-sized self beat_in c h = tt
-ruling-sized self (prune_in height) c h = tt
-
--- one step more
-pub sized-on : (self : Identity) (i : Input) (st : Step) (c : Chronicle) → ruling self i c ≡ due st
-    → IsFitInput self.sizes i → AreSized self.sizes c → AreSized self.sizes (st ∷ c)
-sized-on self i st c e h old = (
-  subst (AllStanding (IsSized self.sizes)) e (ruling-sized self i c h),
-  old,
-)
+lead-sized : (sizes : Sizes) (self : Identity) (c : Chronicle) (o : Option Branch)
+    → AllStanding (IsSized sizes) (lead self o c)
+lead-sized sizes self c None = tt
+lead-sized sizes self c (Some b) =
+    cond_both (may_lead_from self b c) _ _ (AllStanding (IsSized sizes)) (λ e. tt) (λ e. tt)
 
 -- ---- the votes for a block, and the highest certificate
 
@@ -105,41 +107,113 @@ votes-sized sizes block (noted (got_vote voter v b) ∷ c) h =
     (length (votes sizes block c)) (quorum sizes))) _ _
     (AllByRecursion (IsVote sizes))
     (λ e. (h.0, votes-sized sizes block c h.1)) (λ e. votes-sized sizes block c h.1)
+votes-sized sizes block (noted (led_from b) ∷ c) h = tt
 votes-sized sizes block (took_block a ∷ c) h = votes-sized sizes block c h.1
 votes-sized sizes block (noted n ∷ c) h = votes-sized sizes block c h.1
 
 abbrev IsFit : Sizes → Option Justified → Type 0
 IsFit sizes o = IfSome o (λ j. IsCertificate sizes j.certificate)
 
+-- a certificate of its block
+abbrev IsNamed : Sizes → Justified → Type 0
+IsNamed sizes j = IsCertificate sizes j.certificate × (j.certificate.digest ≡ digest_of j.block)
+
 raised-sized : (sizes : Sizes) (st : Step) (c : Chronicle) → AreSized sizes (st ∷ c)
-    → IsFit sizes (raised sizes st c)
+    → IfSome (raised sizes st c) (IsNamed sizes)
 unfolding raised
-raised-sized sizes (took_block a) c h = cond_both a.new _ _ (IsFit sizes) (λ e. h.0) (λ e. tt)
+raised-sized sizes (took_block a) c h =
+    cond_both a.new _ _ (λ (o : Option Justified). IfSome o (IsNamed sizes)) (λ e. h.0) (λ e. tt)
 raised-sized sizes (noted (got_vote voter v b)) c h =
     let st = noted (got_vote voter v b) in
     cond_both (nat_lt (length (votes sizes b c)) (quorum sizes)
-    && (length (votes sizes b (st ∷ c)) == quorum sizes)) _ _ (IsFit sizes)
-    (λ e. IsCertificate-by_voter sizes (digest_of b) (votes sizes b (st ∷ c)) (IsDigest-digest_of b)
-    (votes-sized sizes b (st ∷ c) h) (votes-each sizes b (st ∷ c)) (eqb-true _ _ (and_parts _ _ e).1))
+    && (length (votes sizes b (st ∷ c)) == quorum sizes)) _ _
+    (λ (o : Option Justified). IfSome o (IsNamed sizes))
+    (λ e. (
+      IsCertificate-by_voter sizes (digest_of b) (votes sizes b (st ∷ c)) (IsDigest-digest_of b)
+          (votes-sized sizes b (st ∷ c) h) (votes-each sizes b (st ∷ c)) (eqb-true _ _ (and_parts _ _ e).1),
+      refl,
+    ))
     (λ e. tt)
 raised-sized sizes (noted (got_new_view w sender q b)) c h = h.0
 raised-sized sizes (noted n) c h = tt
 
-higher-sized : (sizes : Sizes) (o : Option Justified) (q : Justified) → IsFit sizes o
-    → IsCertificate sizes q.certificate → IsCertificate sizes (higher o q).certificate
-higher-sized sizes None q r h = h
-higher-sized sizes (Some p) q r h =
-    cond_both (nat_lt (length q.block) (length p.block)) p q
-    (λ (j : Justified). IsCertificate sizes j.certificate) (λ e. r) (λ e. h)
+higher-sized : (sizes : Sizes) (whole : Bool) (o : Option Justified) (q : Justified) → IfSome o (IsNamed sizes)
+    → IsNamed sizes q → IsNamed sizes (higher whole o q)
+higher-sized sizes whole None q r h = h
+higher-sized sizes whole (Some p) q r h =
+    cond_both (nat_lt (length q.block) (length p.block) || (whole && fills p q)) p q
+    (IsNamed sizes) (λ e. r) (λ e. h)
 
-qc_high-sized : (sizes : Sizes) (c : Chronicle) → AreSized sizes c
-    → IsCertificate sizes (qc_high sizes c).certificate
-unfolding qc_high
-qc_high-sized sizes [] h =
-    record { digest = IsDigest-digest genesis_core; count = inl refl; votes = tt; rising = tt }
+pub qc_high-sized : (sizes : Sizes) (c : Chronicle) → AreSized sizes c → IsNamed sizes (qc_high sizes c)
+unfolding qc_high digest_of
+qc_high-sized sizes [] h = (
+  record { digest = IsDigest-digest genesis_core; count = inl refl; votes = tt; rising = tt },
+  refl,
+)
+qc_high-sized sizes (noted (led_from b) ∷ c) h =
+    cond_both (branch_eq (qc_high sizes c).block b) (qc_high sizes c) _
+    (IsNamed sizes) (λ e. qc_high-sized sizes c h.1)
+    (λ e. (record { digest = IsDigest-digest_of b; count = inl refl; votes = tt; rising = tt }, refl))
 qc_high-sized sizes (st ∷ c) h =
-    higher-sized sizes (raised sizes st c) (qc_high sizes c) (raised-sized sizes st c h)
+    higher-sized sizes (comes_whole st) (raised sizes st c) (qc_high sizes c) (raised-sized sizes st c h)
     (qc_high-sized sizes c h.1)
+
+-- ---- what an input comes to
+
+-- a block that was kept for its grounds
+pub kept-sized : (self : Identity) (core : Core) (q : Certificate) (c : Chronicle) (p : Placing) (a : Admitted)
+    → IsPlaced (horizon c) MOST_BLOCKS core q (window c) p → IsCertificate self.sizes q → AreSized self.sizes c
+    → IsKeptAs self core q c p a → IsSized self.sizes (took_block a)
+kept-sized self core q c p a at h old k = elim k.certificate_is [
+  | inl bare ↦ (
+    subst (IsCertificate self.sizes) (sym bare)
+        (record { digest = h.digest; count = inl refl; votes = tt; rising = tt }),
+    ap (λ (x : Certificate). x.digest) bare ∙ for-justified core q c p at a.branch place,
+  )
+  | inr own ↦
+      let high = qc_high-sized self.sizes c old in (
+        subst (IsCertificate self.sizes) (sym own.0) high.0,
+        ap (λ (x : Certificate). x.digest) own.0 ∙ high.1 ∙ ap digest_of own.1,
+      )
+]
+  where
+    place : (p ≡ stands a.branch) ⊎ (p ≡ grows a.branch)
+    place = elim k.place_is [ inl s ↦ inl s.0 | inr g ↦ inr g.0 ]
+
+ruling-sized : (self : Identity) (i : Input) (c : Chronicle) → IsFitInput self.sizes i → AreSized self.sizes c
+    → AllStanding (IsSized self.sizes) (ruling self i c)
+unfolding ruling
+ruling-sized self (proposal_in w core q f) c h old =
+    placed-sized self _ _ core q f c _ (placed (horizon c) MOST_BLOCKS core q (window c)) h.1
+ruling-sized self (block_in sender core q f) c h old =
+    placed-sized self _ _ core q f c _ (placed (horizon c) MOST_BLOCKS core q (window c)) h.1
+ruling-sized self (vote_in d b) c h old = vote-sized self.sizes (find_block d c) d b h
+ruling-sized self (new_view_in w sender q) c h old =
+    new_view-sized self.sizes c (find_block q.digest c) w sender q refl h
+ruling-sized self (request_in r) c h old = request-sized self.sizes r c
+ruling-sized self (fetch_in sender d) c h old = tt
+ruling-sized self timeout_in c h old = tt
+ruling-sized self beat_in c h old = tt
+ruling-sized self (prune_in height) c h old = tt
+ruling-sized self (offered_in w sender core q f) c h old =
+    offer-by self core q f c (AllStanding (IsSized self.sizes)) (λ n. tt) (λ r d. tt) w sender
+    (placing (horizon c) MOST_BLOCKS core q (window c))
+    (λ a k. kept-sized self core q c _ a (placed (horizon c) MOST_BLOCKS core q (window c)) h.1 old k)
+ruling-sized self (relayed_in senders core q f) c h old =
+    relay-by self core q f c (AllStanding (IsSized self.sizes)) (λ n. tt) senders
+    (placing (horizon c) MOST_BLOCKS core q (window c))
+    (λ a k. kept-sized self core q c _ a (placed (horizon c) MOST_BLOCKS core q (window c)) h.1 old k)
+ruling-sized self (lead_in d) c h old = lead-sized self.sizes self c (find_block d c)
+ruling-sized self (ask_in replica d) c h old = tt
+ruling-sized self (view_in w sender) c h old = tt
+
+-- one step more
+pub sized-on : (self : Identity) (i : Input) (st : Step) (c : Chronicle) → ruling self i c ≡ due st
+    → IsFitInput self.sizes i → AreSized self.sizes c → AreSized self.sizes (st ∷ c)
+sized-on self i st c e h old = (
+  subst (AllStanding (IsSized self.sizes)) e (ruling-sized self i c h old),
+  old,
+)
 
 -- ---- the own last proposal
 
@@ -154,7 +228,7 @@ unfolding proposed
 proposed-sized self [] h = tt
 proposed-sized self (noted beat ∷ c) h =
     made_with-sized self.sizes (child self c (leaf self c)) (qc_high self.sizes c).certificate
-    (proposed self c) (qc_high-sized self.sizes c h.1) (proposed-sized self c h.1)
+    (proposed self c) (qc_high-sized self.sizes c h.1).0 (proposed-sized self c h.1)
 proposed-sized self (took_block a ∷ c) h = proposed-sized self c h.1
 proposed-sized self (noted n ∷ c) h = proposed-sized self c h.1
 
@@ -174,7 +248,7 @@ taken-sized sizes [] h = tt
 taken-sized sizes (took_block a ∷ c) h =
     cond_both a.new (a ∷ taken_blocks c) (taken_blocks c)
     (λ (xs : List Admitted). AllByRecursion (IsFitStored sizes) (map stored_block xs))
-    (λ e. (h.0, taken-sized sizes c h.1)) (λ e. taken-sized sizes c h.1)
+    (λ e. (h.0.0, taken-sized sizes c h.1)) (λ e. taken-sized sizes c h.1)
 taken-sized sizes (noted n ∷ c) h = taken-sized sizes c h.1
 
 standing-sized : (sizes : Sizes) (c : Chronicle) → AreSized sizes c
@@ -215,7 +289,7 @@ pub certified-of : (keys : Keys) (c : Chronicle) → AreSized keys.sizes c
     → AreCertified keys.sizes (variables_of keys c)
 certified-of keys c h =
     record {
-      high = qc_high-sized keys.sizes c h;
+      high = (qc_high-sized keys.sizes c h).0;
       own = own-sized keys.sizes (proposed (identity_of keys) c) (proposed-sized (identity_of keys) c h);
       stored = standing-sized keys.sizes c h;
     }
@@ -225,7 +299,7 @@ pub raise-sized : (sizes : Sizes) (new high : High) → IsCertificate sizes new.
     → IsCertificate sizes high.certificate
     → IsCertificate sizes (unwrap_or (raise_of new high) high).certificate
 raise-sized sizes new high n h =
-    cond_both (nat_lt high.block.height new.block.height) (Some new) None
+    cond_both (nat_lt high.block.height new.block.height || fills_for new high) (Some new) None
     (λ (o : Option High). IsCertificate sizes (unwrap_or o high).certificate) (λ e. n) (λ e. h)
 
 -- what a beat proposes

@@ -10,24 +10,26 @@ use Rattle.definitions.specs.Bytes.{Bytes}
 use Rattle.definitions.specs.Frames.{Command}
 use Rattle.definitions.specs.Keyrings.{Keys}
 use Rattle.definitions.specs.Trees.{IsTree}
-use Rattle.definitions.specs.Chronicles.{Step, Chronicle, horizon, window, history, IsSound}
+use Rattle.definitions.specs.Chronicles.{Step, Step.took_block, Step.noted, Note.led_from, Chronicle, horizon}
+use Rattle.definitions.specs.Chronicles.{window, history, IsLawful, IsSound}
 use Rattle.definitions.specs.States.{view, qc_high, is_due, pending, with_request}
 use Rattle.definitions.specs.Rulings.{Ruling, Ruling.due, Ruling.missing, Ruling.refusing, conflicts}
 use Rattle.definitions.specs.Replicas.{ample, refused_at_once, running, stopped, stops, on_step, on_ruling}
 use Rattle.mempool.proofs.Following.{pending-due}
 use Rattle.vote_collector.specs.Collecting.{Entry, kept_above}
 use Rattle.vote_collector.specs.Following.{IsVotesOf, certified}
-use Rattle.vote_collector.specs.Lawful.{BringsNoVote}
+use Rattle.vote_collector.specs.Lawful.{LeavesVotes}
 use Rattle.vote_collector.proofs.Steps.{followed-else, none-low}
 use Rattle.replica.specs.declared.state.High.{High}
 use Rattle.replica.specs.declared.change.Growth.{Growth}
-use Rattle.replica.specs.declared.change.Growth.TheVariants.{Nothing, Block, Vote, Request, Prune}
+use Rattle.replica.specs.declared.change.Growth.TheVariants.{Nothing, Block, Vote, Request, Prune, Lead}
 use Rattle.replica.specs.declared.change.Change.{Change}
 use Rattle.signed_frames.specs.Outs.{SentBytes}
 use Rattle.replica.specs.Kept.{Variables, StateParts, high_of, variables_of, IsStateOf}
 use Rattle.replica.specs.Changes.{asked, pended, collected, left_above, votes_after, changed}
 use Rattle.replica.specs.Changes.{changed_variables, IsStep}
 use Rattle.replica.specs.StepsTo.{halts, IsRefused, Follows, answer, after}
+use Rattle.replica.proofs.Waiting.{is_lead, asked-is}
 
 -- ---- what a ruling comes to
 
@@ -103,43 +105,45 @@ stands keys c st d s k so p o x votes = record {
   sent = x.out;
 }
 
--- a vote or a request is added
+-- a vote or a request is added, or all are forgotten
 abbrev pub collects : Growth → Bool
 collects (Vote b v) = true
 collects (Request r) = true
+collects Lead = true
 collects g = false
 
 quiet : (g : Growth) (kept : List (Bytes × Entry)) (waits : List Command) → collects g ≡ false
     → (collected g kept ≡ kept) × (pended g waits ≡ waits)
 quiet (Vote b v) kept waits e = absurd (true≢false e)
 quiet (Request r) kept waits e = absurd (true≢false e)
+quiet Lead kept waits e = absurd (true≢false e)
 quiet Nothing kept waits e = (refl, refl)
 quiet (Block n) kept waits e = (refl, refl)
 quiet (Prune to) kept waits e = (refl, refl)
 
 -- the collected votes after a step that brings none, by what is raised
 left-above-is : (s : Sizes) (st : Step) (c : Chronicle) (kept : List (Bytes × Entry)) (r : Option High)
-    → BringsNoVote st → IsTree (horizon c) (window c) → IsTree (horizon (st ∷ c)) (window (st ∷ c))
+    → LeavesVotes st → IsLawful s c → IsTree (horizon c) (window c) → IsTree (horizon (st ∷ c)) (window (st ∷ c))
     → IsVotesOf s c kept
     → unwrap_or r (high_of (qc_high s c)) ≡ high_of (qc_high s (st ∷ c))
     → IsVotesOf s (st ∷ c) (left_above r kept)
-left-above-is s st c kept None b old tr is e =
+left-above-is s st c kept None b law old tr is e =
     let h : certified s c ≡ certified s (st ∷ c) = ap (λ (x : High). x.block.height) e in
     subst (IsVotesOf s (st ∷ c)) (none-low s c kept (certified s (st ∷ c)) is (omega (arith, h)))
-    (followed-else s c kept st b old tr is)
-left-above-is s st c kept (Some r) b old tr is e =
+    (followed-else s c kept st b law old tr is)
+left-above-is s st c kept (Some r) b law old tr is e =
     let h : r.block.height ≡ certified s (st ∷ c) = ap (λ (x : High). x.block.height) e in
     subst (λ (n : ℕ). IsVotesOf s (st ∷ c) (kept_above n kept)) (sym h)
-    (followed-else s c kept st b old tr is)
+    (followed-else s c kept st b law old tr is)
 
-pub votes-else : (keys : Keys) (st : Step) (c : Chronicle) (d : Change) (s : StateParts) → BringsNoVote st
-    → collected d.growth s.votes.kept ≡ s.votes.kept → IsTree (horizon c) (window c)
+pub votes-else : (keys : Keys) (st : Step) (c : Chronicle) (d : Change) (s : StateParts) → LeavesVotes st
+    → collected d.growth s.votes.kept ≡ s.votes.kept → IsLawful keys.sizes c → IsTree (horizon c) (window c)
     → IsTree (horizon (st ∷ c)) (window (st ∷ c))
     → IsVotesOf keys.sizes c s.votes.kept → IsStep keys c st s.pace d
     → IsVotesOf keys.sizes (st ∷ c) (votes_after d s.votes.kept)
-votes-else keys st c d s b q old tr is x =
+votes-else keys st c d s b q law old tr is x =
     subst (λ (k : List (Bytes × Entry)). IsVotesOf keys.sizes (st ∷ c) (left_above d.high k)) (sym q)
-    (left-above-is keys.sizes st c s.votes.kept d.high b old tr is
+    (left-above-is keys.sizes st c s.votes.kept d.high b law old tr is
     (ap (λ (v : Variables). v.high) x.variables))
 
 -- ---- what was decided
@@ -151,22 +155,27 @@ or-memory (Ok d) P made memory = made
 or-memory (Err n) P made memory = memory-is n memory
 
 -- the requests that wait, where none came
-pub calm : (st : Step) (c : Chronicle) (waits : List Command) → with_request st (pending c) ≡ pending c
-    → waits ≡ pending c → waits ≡ asked st c
-calm st c waits e w = w ∙ sym (ap (filter (is_due (history c))) e ∙ pending-due c)
+pub calm : (st : Step) (c : Chronicle) (waits : List Command) → is_lead st ≡ false
+    → with_request st (pending c) ≡ pending c → waits ≡ pending c → waits ≡ asked st c
+calm st c waits l e w = w ∙ sym (asked-is st c l ∙ ap (filter (is_due (history c))) e ∙ pending-due c)
+
+no-lead : (st : Step) → LeavesVotes st → is_lead st ≡ false
+no-lead (noted (led_from b)) h = absurd h
+no-lead (took_block a) h = refl
+no-lead (noted n) h = refl
 
 -- The change is made, or memory is refused: for a step that brings no vote and no request, and conflicts
 -- with nothing.
 pub decided : (keys : Keys) (c : Chronicle) (st : Step) (s : StateParts) (result : Result Change Fault)
     (P : Change → Type 0) → IsSound keys.sizes (st ∷ c) → conflicts st c ≡ false
-    → with_request st (pending c) ≡ pending c → IsStateOf keys c s → BringsNoVote st
+    → with_request st (pending c) ≡ pending c → IsStateOf keys c s → LeavesVotes st
     → ((d : Change) → P d → IsStep keys c st s.pace d × (collects d.growth ≡ false))
     → MatchResult result P (λ n. n ≡ fault.Memory) → Follows keys (due st) c (answer result) (after result s)
 decided keys c st s (Ok d) P so k w o b makes m =
     let x = makes d m in
     let stays = quiet d.growth s.votes.kept s.pending x.1 in
-    stands keys c st d s k so (stays.1 ∙ calm st c s.pending w o.waits) o x.0
-    (votes-else keys st c d s b stays.0 o.sound.is_tree so.is_tree o.votes x.0)
+    stands keys c st d s k so (stays.1 ∙ calm st c s.pending (no-lead st b) w o.waits) o x.0
+    (votes-else keys st c d s b stays.0 o.sound.lawful o.sound.is_tree so.is_tree o.votes x.0)
 decided keys c st s (Err n) P so k w o b makes m = no-memory keys c st n s m o
 
 -- ---- where this chronicle stands

@@ -1,6 +1,6 @@
 -- What waits after a step: what was executed of its blocks waits no more.
 use Rattle.ids.specs.declared.limits.TheConstants.{MOST_COMMANDS}
-use Rattle.std.proofs.Common.{ℕ, suc, ◌≡◌, ◌<◌, ◌≤◌, Bool, List, [], ◌∷◌, ◌++◌, length, filter, reverse}
+use Rattle.std.proofs.Common.{ℕ, suc, ◌≡◌, ◌<◌, ◌≤◌, Bool, true, false, true≢false, List, [], ◌∷◌, ◌++◌, length, filter, reverse}
 use Rattle.std.proofs.Common.{take, not, refl, sym, ap, subst, ◌∙◌, arith, ◌&&◌, ◌==◌, inl, inr}
 use Rattle.std.specs.List.{list_any}
 use Rattle.std.proofs.lemmas.Bool.{cond-true, cond-false, cases_lt, le-ltb, le-leb, lt-leb}
@@ -9,13 +9,15 @@ use Rattle.definitions.specs.Lists.{beginning, IsBeginning}
 use Rattle.definitions.specs.Frames.{Command}
 use Rattle.definitions.specs.Branches.{Block, Branch}
 use Rattle.definitions.specs.Histories.{History, history_of}
-use Rattle.definitions.specs.Chronicles.{Step, Chronicle, executed, history}
+use Rattle.definitions.specs.Chronicles.{Step, Step.took_block, Step.noted, Note.led_from, Chronicle, executed}
+use Rattle.definitions.specs.Chronicles.{history}
 use Rattle.definitions.specs.States.{is_due, pending, with_request}
 use Rattle.definitions.specs.Replicas.{cut_short, held_executed, held_pending, whole_blocks}
 use Rattle.definitions.proofs.Lists.{beginning-begins, beginning-whole, length-added}
 use Rattle.definitions.proofs.Histories.{history_of-grows}
 use Rattle.mempool.specs.Pool.{is_up_to, left_after, first_beside, stands_among}
 use Rattle.mempool.proofs.Following.{filter-alike, due-left, pending-due}
+use Rattle.replica.specs.Changes.{asked}
 
 -- ---- what is left after executed commands
 
@@ -30,13 +32,43 @@ pub left-due : (c : Chronicle) (new : History)
     → filter (is_due (new ++ history c)) (pending c) ≡ left_after new (pending c)
 left-due c new = due-left new (history c) (pending c) ∙ ap (left_after new) (pending-due c)
 
+-- whether a step leads from a block, and so forgets what waited
+abbrev pub is_lead : Step → Bool
+is_lead (noted (led_from b)) = true
+is_lead st = false
+
+pub asked-is : (st : Step) (c : Chronicle) → is_lead st ≡ false
+    → asked st c ≡ filter (is_due (history c)) (with_request st (pending c))
+asked-is (noted (led_from b)) c l = absurd (true≢false l)
+asked-is (took_block a) c l = refl
+asked-is (noted n) c l = refl
+
+pending-next : (st : Step) (c : Chronicle) → is_lead st ≡ false
+    → pending (st ∷ c) ≡ filter (is_due (history (st ∷ c))) (with_request st (pending c))
+unfolding pending
+pending-next (noted (led_from b)) c l = absurd (true≢false l)
+pending-next (took_block a) c l = refl
+pending-next (noted n) c l = refl
+
+none-left : (new : History) → left_after new [] ≡ []
+unfolding left_after
+none-left [] = refl
+none-left (e ∷ new) = ap (filter (λ r. not (is_up_to e.client e.seq r))) (none-left new)
+
+waits-else : (st : Step) (c : Chronicle) (new : History) → is_lead st ≡ false → history (st ∷ c) ≡ new ++ history c
+    → pending (st ∷ c) ≡ left_after new (asked st c)
+waits-else st c new l e =
+    pending-next st c l
+    ∙ ap (λ (h : History). filter (is_due h) (with_request st (pending c))) e
+    ∙ due-left new (history c) (with_request st (pending c)) ∙ ap (left_after new) (sym (asked-is st c l))
+
 -- what waits after a step
 pub waits-on : (st : Step) (c : Chronicle) (new : History) → history (st ∷ c) ≡ new ++ history c
-    → pending (st ∷ c) ≡ left_after new (filter (is_due (history c)) (with_request st (pending c)))
+    → pending (st ∷ c) ≡ left_after new (asked st c)
 unfolding pending
-waits-on st c new e =
-    ap (λ (h : History). filter (is_due h) (with_request st (pending c))) e
-    ∙ due-left new (history c) (with_request st (pending c))
+waits-on (noted (led_from b)) c new e = sym (none-left new)
+waits-on (took_block a) c new e = waits-else (took_block a) c new refl e
+waits-on (noted n) c new e = waits-else (noted n) c new refl e
 
 -- what waits after a step that was cut short
 pub held-waits : (st : Step) (c : Chronicle) (held : ℕ) (new : History)

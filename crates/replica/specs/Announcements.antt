@@ -55,7 +55,7 @@ new_view_change keys s block n pace =
     let sent = new_view_sent keys pace.view (unwrap_or high v.high).certificate ∷ [] in
     record (noting v (Announced n) (if nat_lt s.pace.view pace.view then sent else [])) {
       high = high;
-      leaf = leaf_after high v.leaf;
+      leaf = leaf_after high v.high v.leaf;
       pace = Some pace;
     }
 

@@ -1,8 +1,9 @@
 -- What a step changes, as functions of what is kept.
-use Rattle.std.specs.Prelude.{ℕ, ◌≡◌, ◌≤◌, Bool, true, false, List, [], ◌∷◌, filter, nat_lt, if◌then◌else◌}
-use Rattle.std.specs.Prelude.{Option}
+use Rattle.std.specs.Prelude.{ℕ, ◌≡◌, ◌==◌, ◌≤◌, ◌&&◌, ◌||◌, Bool, true, false, List, [], ◌∷◌, filter, length}
+use Rattle.std.specs.Prelude.{nat_lt, if◌then◌else◌, Option}
 use Rattle.std.specs.Prelude.{Some, None, ⊤}
 use Rattle.std.specs.Option.{option_or, unwrap_or}
+use Rattle.std.specs.Str.{bytes_eq}
 use Rattle.ids.specs.Sizes.{Sizes, leader}
 use Rattle.definitions.specs.Bytes.{Bytes}
 use Rattle.definitions.specs.FrameLimits.{IsVote}
@@ -12,7 +13,8 @@ use Rattle.block_tree.specs.Nodes.{stored_as}
 use Rattle.block_tree.specs.Insertions.{MayStand}
 use Rattle.definitions.specs.Keyrings.{Keys}
 use Rattle.definitions.specs.Checks.{Identity, identity_of}
-use Rattle.definitions.specs.Chronicles.{Step, Step.took_block, Step.noted, Note.got_request, Chronicle}
+use Rattle.definitions.specs.Chronicles.{Step, Step.took_block, Step.noted, Note.got_request, Note.led_from}
+use Rattle.definitions.specs.Chronicles.{Chronicle}
 use Rattle.definitions.specs.Chronicles.{history}
 use Rattle.definitions.specs.Sendings.{to_party, Sending, vote_frame, sendings}
 use Rattle.definitions.specs.States.{view, is_due, pending, with_request}
@@ -23,7 +25,7 @@ use Rattle.replica.specs.declared.state.High.{High}
 use Rattle.replica.specs.declared.stored.StoredStep.{StoredStep}
 use Rattle.replica.specs.declared.change.Change.{Change}
 use Rattle.replica.specs.declared.change.Growth.{Growth}
-use Rattle.replica.specs.declared.change.Growth.TheVariants.{Nothing, Block, Vote, Request, Prune}
+use Rattle.replica.specs.declared.change.Growth.TheVariants.{Nothing, Block, Vote, Request, Prune, Lead}
 use Rattle.replica.specs.Replay.{is_new, is_pruning, step_of}
 use Rattle.signed_frames.specs.Outs.{SentBytes}
 use Rattle.replica.specs.Steps.{shown}
@@ -45,14 +47,16 @@ abbrev pub tree_after : Growth → TreeState → TreeState
 tree_after g t =
     record { most = t.most; horizon = horizon_after g t.horizon; stored = grown g t.stored }
 
--- the collected votes with what is added
+-- the collected votes with what is added; a lead forgets them
 abbrev pub collected : Growth → List (Bytes × Entry) → List (Bytes × Entry)
 collected (Vote b v) kept = with_vote b.digest b.height v kept
+collected Lead kept = []
 collected g kept = kept
 
--- the requests that wait, with what is added
+-- the requests that wait, with what is added; a lead forgets them
 abbrev pub pended : Growth → List Command → List Command
 pended (Request r) waits = with_request (noted (got_request r)) waits
+pended Lead waits = []
 pended g waits = waits
 
 -- without those that no higher certificate can need
@@ -121,14 +125,22 @@ noting v step out = record {
   pace = None;
 }
 
--- a certificate with its block, where it is higher than the highest one so far
-abbrev pub raise_of : High → High → Option High
-raise_of new high = if nat_lt high.block.height new.block.height then Some new else None
+-- the new one has votes, and the other, which is for the same block above genesis, has none
+abbrev pub fills_for : High → High → Bool
+fills_for new high =
+    (nat_lt 0 high.block.height
+    && ((new.block.height == high.block.height) && bytes_eq new.block.digest high.block.digest))
+    && (length high.certificate.votes == 0 && nat_lt 0 (length new.certificate.votes))
 
--- the leaf after a raise
-abbrev pub leaf_after : Option High → BlockRef → BlockRef
-leaf_after (Some h) leaf = h.block
-leaf_after None leaf = leaf
+-- a certificate that came whole, with its block, where it takes the place of the highest one so far
+abbrev pub raise_of : High → High → Option High
+raise_of new high =
+    if nat_lt high.block.height new.block.height || fills_for new high then Some new else None
+
+-- the leaf after a raise: the block, where it is higher than that of the highest certificate before
+abbrev pub leaf_after : Option High → High → BlockRef → BlockRef
+leaf_after (Some h) high leaf = if nat_lt high.block.height h.block.height then h.block else leaf
+leaf_after None high leaf = leaf
 
 -- what a step sends before anything is executed
 abbrev pub sent_first : Identity → Step → Chronicle → List Sending
@@ -138,6 +150,7 @@ sent_first self (noted n) c = sendings self (noted n) c
 
 -- the requests that wait after a step and before anything is executed
 abbrev pub asked : Step → Chronicle → List Command
+asked (noted (led_from b)) c = []
 asked st c = filter (is_due (history c)) (with_request st (pending c))
 
 -- the change makes what is kept that of one step more, and sends what is sent first

@@ -8,9 +8,9 @@ use Rattle.definitions.specs.Frames.{Command, Certificate, core_bytes}
 use Rattle.definitions.specs.Keyrings.{Keys}
 use Rattle.definitions.specs.Checks.{identity_of}
 use Rattle.ids.specs.Sizes.{Sizes}
-use Rattle.definitions.specs.Branches.{Branch}
+use Rattle.definitions.specs.Branches.{Branch, just1}
 use Rattle.definitions.specs.FrameLimits.{IsVote, IsCertificate, IsCore}
-use Rattle.definitions.specs.Digests.{core_of, AllKnown}
+use Rattle.definitions.specs.Digests.{core_of, digest_of, AllKnown}
 use Rattle.definitions.specs.Trees.{Stored, TreeState}
 use Rattle.definitions.specs.Chronicles.{Admitted, Step, Step.took_block, Step.noted, Note.got_vote}
 use Rattle.definitions.specs.Chronicles.{Note.got_new_view, Chronicle, tree, horizon, standing_blocks}
@@ -84,11 +84,12 @@ AreFit sizes c = (x : Branch) → Among x (tree c) → AllKnown (IsCore sizes) x
 abbrev pub AreStored : Chronicle → Type 0
 AreStored c = (a : Admitted) → Among (took_block a) c → IsStored c a
 
--- the certificate or the vote that a step brought is one at these sizes
+-- the certificate that a step brought is one at these sizes, and of its block; the vote is one at these sizes
 abbrev pub IsSized : Sizes → Step → Type 0
-IsSized sizes (took_block a) = IsCertificate sizes a.certificate
+IsSized sizes (took_block a) =
+    IsCertificate sizes a.certificate × (a.certificate.digest ≡ digest_of (just1 a.branch))
 IsSized sizes (noted (got_vote voter vector b)) = IsVote sizes (record { voter = voter; vector = vector })
-IsSized sizes (noted (got_new_view view sender q b)) = IsCertificate sizes q
+IsSized sizes (noted (got_new_view view sender q b)) = IsCertificate sizes q × (q.digest ≡ digest_of b)
 IsSized sizes st = ⊤
 
 -- so are those of each step

@@ -12,6 +12,7 @@ pub mod Beats
 pub mod Offers
 pub mod Announcements
 pub mod Fetches
+pub mod Grounds
 pub mod Requests
 pub mod Ballots
 pub mod Inputs

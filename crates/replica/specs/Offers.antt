@@ -29,12 +29,13 @@ use Rattle.replica.specs.Kept.{StateParts}
 use Rattle.replica.specs.Changes.{noting, raise_of, leaf_after}
 use Rattle.replica.specs.Kept.{tree_of}
 
--- A block with its certificate and what a check found of them, and the view that it was proposed for, if it
--- was.
+-- A block with its certificate and what a check found of them, the replicas that sent it, where it is to be taken
+-- for their number, and the view that it was proposed for, if it was.
 pub record Offered : Type 0 where
   pub core : Core
   pub certificate : Certificate
   pub found : Findings
+  pub senders : List ℕ
   pub view : Option ℕ
 
 -- it was proposed for this view
@@ -103,12 +104,12 @@ new_change keys s o n rules =
     let v = s.variables in
     let voted = votes_new s o in
     let high = raise_of (high_in o) v.high in
-    let step = TookNew (record { counted = o.found.counted; voted = voted }) in
+    let step = TookNew (record { counted = o.found.counted; senders = o.senders; voted = voted }) in
     record (noting v step (votes_sent keys s.pace.view (digest o.core) voted)) {
       growth = Block n;
       rules = with_vote voted o.core.height rules;
       high = high;
-      leaf = leaf_after high v.leaf;
+      leaf = leaf_after high v.high v.leaf;
     }
 
 -- it is taken by these rules and as this node
@@ -119,14 +120,17 @@ pub record IsTaken (keys : Keys) (s : StateParts) (o : Offered) (d : Change) : T
   pub its_node : IsNodeFor (tree_of s.variables) o.core o.certificate o.found.clear node
   pub change : d ≡ new_change keys s o node rules
 
+-- what is decided of a block that grows the tree
+abbrev pub IsGrown : Keys → StateParts → Offered → Result Change Fault → Type 0
+IsGrown keys s o result = MatchResult result (IsTaken keys s o) (λ n. (n ≡ fault.Memory)
+    ⊎ (ruled_after s.variables.rules (justified_of o) s.variables.stored ≡ Err n))
+
 -- ---- what is decided of a block that comes to this
 
 abbrev pub IsDecidedAt : Keys → StateParts → Offered → Result Change Fault → Placing → Type 0
 IsDecidedAt keys s o result (stands b) =
     MatchResult result (λ d. d ≡ again_change keys s o) (λ n. n ≡ fault.Memory)
-IsDecidedAt keys s o result (grows b) =
-    MatchResult result (IsTaken keys s o) (λ n. (n ≡ fault.Memory)
-    ⊎ (ruled_after s.variables.rules (justified_of o) s.variables.stored ≡ Err n))
+IsDecidedAt keys s o result (grows b) = IsGrown keys s o result
 IsDecidedAt keys s o result lacks_parent = result ≡ Err fault.UnknownParent
 IsDecidedAt keys s o result (unfit n) = result ≡ Err n
 

@@ -4,14 +4,15 @@ ghost use Rattle.std.specs.Prelude.{◌≡◌, ◌<◌, [], ◌∷◌, if◌then
 ghost use Rattle.std.specs.Option.{unwrap_or};
 ghost use Rattle.ids.specs.Sizes.{replicas};
 ghost use Rattle.replica.specs.Announcements.{new_view_sent, IsTimeout, IsAnnounced, IsNewView};
-ghost use Rattle.replica.specs.Inputs.{announced_by};
+ghost use Rattle.replica.specs.Grounds.{IsSeen};
+ghost use Rattle.replica.specs.Inputs.{announced_by, seen_in};
 ghost use Rattle.definitions.specs.FrameLimits.{IsCertificate};
 ghost use Rattle.replica.specs.Kept.{AreCertified};
 
 use crate::blocks::{leaf_after, raised};
 use crate::change::Change;
 use crate::state::{High, State};
-use crate::stored::{GotNewView, StoredStep};
+use crate::stored::{GotNewView, SeenView, StoredStep};
 use authenticators::ReplicaKeyring;
 use certificates::cut_bytes;
 use frames_view::{CertificateBuf, NewViewView};
@@ -112,10 +113,33 @@ fn take_new_view(
         sender,
         certificate,
     });
-    let leaf = leaf_after(&high, state.leaf);
+    let leaf = leaf_after(&high, &state.high, state.leaf);
     Ok(Change {
         high,
         leaf,
+        pace: Some(pace),
+        ..Change::noting(state, step, out)
+    })
+}
+
+/// What the view of an announcement comes to whose certificate isn't good for this replica: it counts, and where the
+/// replica moves on to a greater view, it announces that.
+pub(crate) fn decide_seen_view(
+    state: &State,
+    keyring: &ReplicaKeyring,
+    announced: &NewViewView,
+) -> Result<Change, Fault>
+    requires sender { (seen_in announced.now).sender < replicas state.now.pace.sizes }
+    requires certified { AreCertified keyring.now.sizes state.now.variables }
+    ensures made { IfOk result (IsSeen keyring.now state.now (seen_in announced.now)) }
+    ensures memory { OnErr result (result ≡ Err Fault.Memory) }
+{
+    let (view, sender) = (announced.view(), announced.sender());
+    let mut pace = state.pace;
+    let moved = pace.on_new_view(sender, view);
+    let out = announcement_if(state.alloc, keyring, moved, pace.view(), &state.high)?;
+    let step = StoredStep::SeenView(SeenView { view, sender });
+    Ok(Change {
         pace: Some(pace),
         ..Change::noting(state, step, out)
     })

@@ -5,10 +5,10 @@ ghost use Rattle.definitions.specs.Digests.{digest as digest_of_core};
 ghost use Rattle.frames_view.specs.Views.{certificate_of};
 ghost use Rattle.block_tree.specs.Insertions.{IsNodeFor};
 ghost use Rattle.replica_rules.specs.Ruled.{with_vote};
-ghost use Rattle.replica.specs.Changes.{raise_of, leaf_after};
+ghost use Rattle.replica.specs.Changes.{fills_for, raise_of, leaf_after};
 ghost use Rattle.replica.specs.Kept.{tree_of};
 ghost use Rattle.replica.specs.Offers.{votes_sent, with_vote_in, again_step, again_change, new_change};
-ghost use Rattle.replica.specs.Offers.{IsDecided};
+ghost use Rattle.replica.specs.Offers.{IsGrown, IsDecided};
 
 use crate::change::{Change, Growth};
 use crate::offer::Offer;
@@ -104,7 +104,19 @@ fn take_again(
     })
 }
 
-/// A certificate with its block, where it is higher than the highest one so far.
+/// Whether a certificate for a block has votes where the highest one, which is for the same block above genesis, has
+/// none.
+fn fills(block: BlockRef, certificate: &CertificateView, high: &High) -> bool
+    ensures { result
+        ≡ fills_for (record { block = block; certificate = certificate_of certificate.now }) high.now }
+{
+    let is_same = block.height == high.block.height && block.digest == high.block.digest;
+    let held = high.certificate.view();
+    (high.block.height.0 > 0 && is_same) && held.votes().next().is_none() && certificate.votes().next().is_some()
+}
+
+/// A certificate that came whole, with its block, where it takes the place of the highest one so far: it is higher, or
+/// for the same block, and that one has no votes.
 pub(crate) fn raised(
     alloc: Global,
     block: BlockRef,
@@ -114,19 +126,25 @@ pub(crate) fn raised(
     ensures { IfOk result (λ r. r
         ≡ raise_of (record { block = block; certificate = certificate_of certificate.now }) high.now) }
 {
-    if block.height <= high.block.height {
+    if block.height <= high.block.height && !fills(block, certificate, high) {
         return Ok(None);
     }
     let certificate = CertificateBuf::copy(alloc, certificate)?;
     Ok(Some(High { block, certificate }))
 }
 
-/// The leaf after a raise.
-pub(crate) fn leaf_after(raised: &Option<High>, leaf: BlockRef) -> BlockRef
-    ensures { result ≡ leaf_after raised.now leaf }
+/// The leaf after a raise of this certificate.
+pub(crate) fn leaf_after(raised: &Option<High>, high: &High, leaf: BlockRef) -> BlockRef
+    ensures { result ≡ leaf_after raised.now high.now leaf }
 {
     match raised {
-        Some(high) => high.block,
+        Some(raised) => {
+            if raised.block.height > high.block.height {
+                raised.block
+            } else {
+                leaf
+            }
+        }
         None => leaf,
     }
 }
@@ -154,9 +172,12 @@ fn take_new(
         &offer.certificate,
         &state.high,
     )?;
-    let leaf = leaf_after(&high, state.leaf);
-    let counted = offer.counted.to_vec(state.alloc)?;
-    let step = StoredStep::TookNew(TookNew { counted, voted });
+    let leaf = leaf_after(&high, &state.high, state.leaf);
+    let step = StoredStep::TookNew(TookNew {
+        counted: offer.counted.to_vec(state.alloc)?,
+        senders: offer.senders.to_vec(state.alloc)?,
+        voted,
+    });
     Ok(Change {
         growth: Growth::Block(node),
         rules,
@@ -164,6 +185,21 @@ fn take_new(
         leaf,
         ..Change::noting(state, step, out)
     })
+}
+
+/// What a block that may stand in the tree, as this node, comes to.
+fn grow(
+    state: &State,
+    keyring: &ReplicaKeyring,
+    offer: &Offer,
+    node: Node,
+) -> Result<Change, Fault>
+    requires node { IsNodeFor (tree_of state.now.variables) offer.now.core offer.now.certificate
+        offer.now.found.clear node }
+    ensures { IsGrown keyring.now state.now offer.now result }
+{
+    let rules = state.rules.taking(&state.tree, offer.justified())?;
+    take_new(state, keyring, offer, node, rules)
 }
 
 /// What a block comes to.
@@ -179,9 +215,6 @@ pub(crate) fn decide_block(
         .plan(&offer.core, &offer.certificate, offer.clear)?
     {
         Plan::Stands(digest) => take_again(state, keyring, offer, digest),
-        Plan::Grows(node) => {
-            let rules = state.rules.taking(&state.tree, offer.justified())?;
-            take_new(state, keyring, offer, node, rules)
-        }
+        Plan::Grows(node) => grow(state, keyring, offer, node),
     }
 }

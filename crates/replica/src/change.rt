@@ -25,6 +25,8 @@ pub(crate) enum Growth {
     Request(Pending),
     /// Nothing: the tree is pruned to this horizon.
     Prune(Height),
+    /// Nothing: collected votes and requests that wait are forgotten.
+    Lead,
 }
 
 /// A step that is to stand: what it changes, and what it sends.
@@ -34,7 +36,7 @@ pub(crate) struct Change {
     pub(crate) out: Out,
     pub(crate) growth: Growth,
     pub(crate) rules: Rules,
-    /// A higher certificate.
+    /// What takes the place of the highest certificate.
     pub(crate) high: Option<High>,
     pub(crate) leaf: BlockRef,
     /// A new proposal of its own.

@@ -72,9 +72,8 @@ impl<'a> StepView<'a> {
     /// The votes that it counts; none where it took no new block.
     #[tactic(auto, unfolding(definitions::specs::Audit::counted_by, definitions::specs::Audit::counted_for))]
     pub fn counts(&self) -> Option<CountedVotes<'a>>
-        ensures votes { MatchOption result (counted_by self.now ≡ [])
+        ensures { MatchOption result (counted_by self.now ≡ [])
             (λ c. (c.voters.now ≡ counted_by self.now) × (c.block ≡ counted_for self.now)) }
-        ensures no_senders { sent_by self.now ≡ [] }
     {
         match self.step {
             StoredStep::TookNew(taken) => Some(CountedVotes {
@@ -82,6 +81,17 @@ impl<'a> StepView<'a> {
                 block: Digest(*self.tree.nth_newest(self.newer).certificate().digest()),
             }),
             _ => None,
+        }
+    }
+
+    /// The replicas that sent the new block that it took, where it was taken for their number; else none.
+    #[tactic(auto, unfolding(definitions::specs::Audit::sent_by))]
+    pub fn senders(&self) -> &'a [ReplicaId]
+        ensures { result.now ≡ sent_by self.now }
+    {
+        match self.step {
+            StoredStep::TookNew(taken) => &taken.senders,
+            _ => &[],
         }
     }
 }

@@ -10,6 +10,8 @@ mod change;
 mod chronicle;
 mod execution;
 mod fetch;
+mod grounds;
+mod lead;
 mod offer;
 mod pick;
 mod prune;

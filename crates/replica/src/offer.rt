@@ -1,15 +1,15 @@
 //! A block that comes.
 
-ghost use Rattle.std.specs.Prelude.{◌≡◌, Some, None, IsTrue};
+ghost use Rattle.std.specs.Prelude.{◌≡◌, [], Some, None, IsTrue};
 ghost use Rattle.definitions.specs.Admission.{check, is_passed};
 ghost use Rattle.definitions.specs.Checks.{identity_of};
 ghost use Rattle.definitions.specs.FrameLimits.{IsFrame};
-ghost use Rattle.frames_view.specs.Views.{proposal_of, block_of};
+ghost use Rattle.frames_view.specs.Views.{proposal_of, block_of, certificate_of};
 ghost use Rattle.replica.specs.Offers.{is_for, justified_of};
-ghost use Rattle.replica.specs.Inputs.{proposal_offered, block_offered};
+ghost use Rattle.replica.specs.Inputs.{proposal_offered, block_offered, tagged_proposal, tagged_block};
 ghost use Rattle.replica_rules.specs.Votes.{candidate_of};
 
-use certificates::Checked;
+use certificates::{Checked, Copies, Tagged};
 use frames_view::{BlockView, CertificateView, CoreView, ProposalView};
 use ids::{Digest, ReplicaId, View};
 use replica_rules::{BlockRef, Candidate};
@@ -23,6 +23,8 @@ pub(crate) struct Offer<'a, 'b> {
     pub(crate) certificate: CertificateView<'a>,
     pub(crate) counted: &'b [ReplicaId],
     pub(crate) clear: bool,
+    /// The replicas that sent it, where it is to be taken for their number.
+    pub(crate) senders: &'b [ReplicaId],
     pub(crate) view: Option<View>,
 }
 
@@ -36,6 +38,7 @@ impl<'a, 'b> Model for Offer<'a, 'b> {
       core = core_of o.core;
       certificate = certificate_of o.certificate;
       found = record { counted = o.counted.now; clear = o.clear };
+      senders = o.senders.now;
       view = o.view;
     } };
 }
@@ -54,6 +57,7 @@ impl<'a, 'b> Offer<'a, 'b> {
             certificate: proposal.certificate(),
             counted: checked.counted(),
             clear: checked.is_clear(),
+            senders: &[],
             view: Some(proposal.view()),
         }
     }
@@ -71,7 +75,74 @@ impl<'a, 'b> Offer<'a, 'b> {
             certificate: view.certificate(),
             counted: block.counted(),
             clear: block.is_clear(),
+            senders: &[],
             view: None,
+        }
+    }
+
+    /// The block of a proposal whose certificate needn't be good for this replica.
+    pub(crate) fn of_offered_proposal(
+        tagged: &'b Tagged<'a, ProposalView<'a>>,
+    ) -> Offer<'a, 'b>
+        ensures offered { result ≡ tagged_proposal tagged.entry.now }
+        ensures frame { IsFrame tagged.entry.now.keys.sizes (proposal_of tagged.entry.now.view) }
+    {
+        let proposal = tagged.view();
+        Offer {
+            core: proposal.core(),
+            certificate: proposal.certificate(),
+            counted: &[],
+            clear: tagged.is_clear(),
+            senders: &[],
+            view: Some(proposal.view()),
+        }
+    }
+
+    /// A block that was asked for, whose certificate needn't be good for this replica.
+    pub(crate) fn of_offered_block(tagged: &'b Tagged<'a, BlockView<'a>>) -> Offer<'a, 'b>
+        ensures offered { result ≡ tagged_block [] tagged.entry.now }
+        ensures frame { IsFrame tagged.entry.now.keys.sizes (block_of tagged.entry.now.view) }
+    {
+        let block = tagged.view();
+        Offer {
+            core: block.core(),
+            certificate: block.certificate(),
+            counted: &[],
+            clear: tagged.is_clear(),
+            senders: &[],
+            view: None,
+        }
+    }
+
+    /// A block that several replicas sent.
+    pub(crate) fn of_copies(copies: &'b Copies<'a>) -> Offer<'a, 'b>
+        ensures offered { result ≡ tagged_block copies.entry.now.senders copies.entry.now.first }
+        ensures frame { IsFrame copies.entry.now.first.keys.sizes (block_of copies.entry.now.first.view) }
+    {
+        Offer {
+            senders: copies.senders(),
+            ..Offer::of_offered_block(copies.first())
+        }
+    }
+
+    /// The same block with another certificate, of which these votes were counted.
+    pub(crate) fn with<'c>(
+        &'c self,
+        certificate: CertificateView<'c>,
+        counted: &'c [ReplicaId],
+    ) -> Offer<'c, 'c>
+        ensures { result ≡ record self.entry.now {
+          certificate = certificate_of certificate.entry;
+          found = record { counted = counted.entry.now; clear = self.entry.now.found.clear };
+        } }
+    {
+        Offer {
+            core: self.core,
+            certificate,
+            counted,
+            clear: self.clear,
+            senders: self.senders,
+            view: self.view,
         }
     }
 

@@ -28,13 +28,15 @@ ghost use Rattle.replica.specs.Inputs.{IsFitInput, prunes};
 ghost use Rattle.replica.specs.Logs.{Logs, LogsAll};
 ghost use Rattle.replica.specs.Replay.{is_pruning, replay};
 
-use crate::announce::{decide_new_view, decide_timeout};
+use crate::announce::{decide_new_view, decide_seen_view, decide_timeout};
 use crate::beat::{decide_beat, leads};
 use crate::blocks::decide_block;
 use crate::change::Change;
 use crate::chronicle::ChronicleView;
 use crate::execution::execute;
 use crate::fetch::decide_fetch;
+use crate::grounds::{decide_offer, decide_relay};
+use crate::lead::decide_lead;
 use crate::offer::Offer;
 use crate::prune::decide_prune;
 use crate::request::decide_request;
@@ -136,6 +138,14 @@ fn decide(
             decide_beat(state, keyring)
         }
         Input::Prune(height) => Ok(decide_prune(state, height)),
+        Input::OfferedProposal(proposal) => {
+            decide_offer(state, keyring, &Offer::of_offered_proposal(&proposal))
+        }
+        Input::OfferedBlock(block) => decide_offer(state, keyring, &Offer::of_offered_block(&block)),
+        Input::SeenView(announced) => decide_seen_view(state, keyring, announced.view()),
+        Input::Relayed(copies) => decide_relay(state, keyring, &Offer::of_copies(&copies)),
+        Input::Lead(block) => decide_lead(state, keyring, block),
+        Input::Ask(_, _) => Err(Fault::UnknownParent),
     }
 }
 

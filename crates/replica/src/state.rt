@@ -126,10 +126,15 @@ fn grow(
             tree.prune(horizon);
             Ok(())
         }
+        Growth::Lead => {
+            votes.forget_all();
+            pool.forget_all();
+            Ok(())
+        }
     }
 }
 
-/// A higher certificate takes the place of the highest one.
+/// A certificate takes the place of the highest one.
 fn raise(high: &mut High, raised: Option<High>)
     ensures { high.new ≡ unwrap_or raised high.old }
 {
@@ -138,7 +143,7 @@ fn raise(high: &mut High, raised: Option<High>)
     }
 }
 
-/// The votes that are needed no more under a higher certificate go.
+/// The votes that are needed no more under another highest certificate go.
 fn forget(votes: &mut Collector, raised: &Option<High>)
     ensures { votes.new ≡ record votes.old { kept = left_above raised.now votes.old.kept } }
 {

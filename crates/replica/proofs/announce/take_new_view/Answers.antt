@@ -55,7 +55,7 @@ returns-clause-made c =
     let out =
     c.in_ok-out.ensures.made
     ∙ (λ i. cond (moved i) (new_view_sent keys (c.view.ensures i) (highest i).certificate ∷ []) []) in
-    let leaf = c.leaf_after-leaf.ensures ∙ (λ i. leaf_after (raised i) (c.state.view_is i).variables.leaf) in
+    let leaf = c.leaf_after-leaf.ensures ∙ (λ i. leaf_after (raised i) (high i) (c.state.view_is i).variables.leaf) in
     record {
       pace = new;
       its_pace = record {

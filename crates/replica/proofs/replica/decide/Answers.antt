@@ -1,4 +1,4 @@
-use Rattle.std.proofs.Common.{◌≡◌, ◌<◌, true, ◌^◌, Ok, refl, sym, IfOk, length, ap, ◌∙◌, subst, arith}
+use Rattle.std.proofs.Common.{◌≡◌, ◌<◌, [], true, ◌^◌, Ok, refl, sym, IfOk, length, ap, ◌∙◌, subst, arith}
 use Rattle.ids.specs.Sizes.{Sizes, leader}
 use Rattle.definitions.specs.FrameLimits.{IsCore, IsCertificate}
 use Rattle.definitions.specs.Rulings.{ruling}
@@ -7,24 +7,30 @@ use Rattle.frames_view.specs.Fields.{frame_vote}
 use Rattle.frames_view.specs.Views.{command_of, proposal_of, block_of, vote_frame_of, new_view_of}
 use Rattle.frames_view.specs.declared.frame_views.NewViewView.{NewViewView}
 use Rattle.frames_view.specs.declared.frame_views.FetchView.{FetchView}
-use Rattle.definitions.specs.Checks.{identity_of}
+use Rattle.definitions.specs.Checks.{identity_of, counted_voters, is_clear_core}
 use Rattle.definitions.proofs.Sound.{ruling-sound}
-use Rattle.admission.specs.declared.input.Input.TheVariants.{Proposal, Block}
+use Rattle.admission.specs.declared.input.Input.TheVariants.{Proposal, Block, OfferedProposal, OfferedBlock}
+use Rattle.admission.specs.declared.input.Input.TheVariants.{Relayed}
 use Rattle.replica.specs.Kept.{Variables, StateParts}
 use Rattle.admission.specs.Inputs.{input_of, same_replica}
-use Rattle.replica.specs.Inputs.{proposal_offered, block_offered, announced_by, asked_by}
+use Rattle.replica.specs.Inputs.{proposal_offered, block_offered, tagged_proposal, tagged_block, announced_by}
+use Rattle.replica.specs.Inputs.{seen_in, asked_by}
+use Rattle.replica.specs.Grounds.{IsOffer, IsRelay, IsSeen}
 use Rattle.replica.specs.Offers.{Offered, IsDecided}
 use Rattle.replica.specs.Announcements.{IsNewView}
 use Rattle.replica.specs.Fetches.{fetch_change}
 use Rattle.replica.proofs.Beats.{beat-decided}
 use Rattle.replica.proofs.Offers.{block-decided}
-use Rattle.replica.proofs.Announcements.{timeout-decided, new-view-decided}
+use Rattle.replica.proofs.Announcements.{timeout-decided, new-view-decided, seen-decided}
+use Rattle.replica.proofs.OnGrounds.{offer-decided, relay-decided}
+use Rattle.replica.proofs.Leads.{lead-decided}
+use Rattle.replica.proofs.Steps.{asks}
 use Rattle.replica.proofs.Fetches.{fetch-decided}
 use Rattle.replica.proofs.Ballots.{vote-decided}
 use Rattle.replica.specs.Ballots.{IsVoteDecided}
 use Rattle.frames_view.specs.declared.frame_views.VoteFrameView.{VoteFrameView}
 use Rattle.replica.proofs.Checked.{addressed-sizes, checked-proposal, checked-block, checked-vote}
-use Rattle.replica.proofs.Fits.{fits-timeout, fits-new-view, fits-block, fits-vote}
+use Rattle.replica.proofs.Fits.{fits-timeout, fits-new-view, fits-block, fits-vote, fits-offer, fits-relay}
 use Rattle.replica.specs.Requests.{IsRequested}
 use Rattle.replica.proofs.Requests.{request-decided}
 use Rattle.frames_view.specs.declared.views.CommandView.{CommandView}
@@ -46,7 +52,7 @@ returns-in-Proposal-clause-decided c c' w =
     let decided = subst (λ (x : Offered). IsDecided keys c.args.state.now x c.decide_block.result)
     c.of_proposal.ensures.offered c.decide_block.ensures in
     rw c.in-Proposal.is (block-decided keys c' c.args.state.now (proposal_offered p)
-    (leader keys.sizes (frame_view (proposal_of p.view))) c.decide_block.result decided o ch.below
+    (leader keys.sizes (frame_view (proposal_of p.view))) c.decide_block.result refl decided o ch.below
     (ruling-sound (identity_of keys) (input_of (Proposal p)) c' ch o.sound))
 
 pub returns-in-Block-clause-decided : goal.returns-in-Block-clause-decided
@@ -60,7 +66,7 @@ returns-in-Block-clause-decided c c' w =
     let decided = subst (λ (x : Offered). IsDecided keys c.args.state.now x c.decide_block-in-Block.result)
     c.of_block.ensures.offered c.decide_block-in-Block.ensures in
     rw c.in-Block.is (block-decided keys c' c.args.state.now (block_offered b)
-    (frame_replica (block_of b.view)) c.decide_block-in-Block.result decided o ch.below
+    (frame_replica (block_of b.view)) c.decide_block-in-Block.result refl decided o ch.below
     (ruling-sound (identity_of keys) (input_of (Block b)) c' ch o.sound))
 
 pub returns-in-NewView-clause-decided : goal.returns-in-NewView-clause-decided
@@ -207,3 +213,122 @@ returns-in-Prune-clause-decided c c' w =
     let o = state-going keys c' s c.args.executor.now.history w in
     rw c.in-Prune.is (subst (λ (d : Change). StepsTo keys (prune_in c.in-Prune.height) c' (answer (Ok d))
     (after (Ok d) s)) (sym c.decide_prune.ensures) (prune-decided keys c' c.in-Prune.height s o))
+
+-- ---- on grounds
+
+pub returns-in-OfferedProposal-clause-decided : goal.returns-in-OfferedProposal-clause-decided
+unfolding ruling
+returns-in-OfferedProposal-clause-decided c c' w =
+    let keys = c.args.keyring.now in
+    let s = c.args.state.now in
+    let o = state-going keys c' s c.args.executor.now.history w in
+    let p = c.in-OfferedProposal.proposal in
+    let below = c.of_offered_proposal.ensures.frame.1.justify_height in
+    let decided = subst (λ (x : Offered). IsOffer keys s x c.decide_offer.result)
+    c.of_offered_proposal.ensures.offered c.decide_offer.ensures in
+    rw c.in-OfferedProposal.is (offer-decided keys c' s (tagged_proposal p)
+    (counted_voters (identity_of p.keys) (frame_certificate (proposal_of p.view)))
+    (leader p.keys.sizes (frame_view (proposal_of p.view))) c.decide_offer.result refl decided o w.sized below
+    (ruling-sound (identity_of keys) (input_of (OfferedProposal p)) c' below o.sound))
+
+pub returns-in-OfferedBlock-clause-decided : goal.returns-in-OfferedBlock-clause-decided
+unfolding ruling
+returns-in-OfferedBlock-clause-decided c c' w =
+    let keys = c.args.keyring.now in
+    let s = c.args.state.now in
+    let o = state-going keys c' s c.args.executor.now.history w in
+    let b = c.in-OfferedBlock.block in
+    let below = c.of_offered_block.ensures.frame.1.justify_height in
+    let decided = subst (λ (x : Offered). IsOffer keys s x c.decide_offer-in-OfferedBlock.result)
+    c.of_offered_block.ensures.offered c.decide_offer-in-OfferedBlock.ensures in
+    rw c.in-OfferedBlock.is (offer-decided keys c' s (tagged_block [] b)
+    (counted_voters (identity_of b.keys) (frame_certificate (block_of b.view)))
+    (frame_replica (block_of b.view)) c.decide_offer-in-OfferedBlock.result refl decided o w.sized below
+    (ruling-sound (identity_of keys) (input_of (OfferedBlock b)) c' below o.sound))
+
+pub returns-in-Relayed-clause-decided : goal.returns-in-Relayed-clause-decided
+unfolding ruling
+returns-in-Relayed-clause-decided c c' w =
+    let keys = c.args.keyring.now in
+    let s = c.args.state.now in
+    let o = state-going keys c' s c.args.executor.now.history w in
+    let g = c.in-Relayed.copies in
+    let b = g.first in
+    let core = frame_core (block_of b.view) in
+    let q = frame_certificate (block_of b.view) in
+    let below = c.of_copies.ensures.frame.1.justify_height in
+    let decided = subst (λ (x : Offered). IsRelay keys s x c.decide_relay.result)
+    c.of_copies.ensures.offered c.decide_relay.ensures in
+    rw c.in-Relayed.is (relay-decided keys c' s core q (is_clear_core (identity_of b.keys) core)
+    (counted_voters (identity_of b.keys) q) g.senders c.decide_relay.result decided o below
+    (ruling-sound (identity_of keys) (input_of (Relayed g)) c' below o.sound))
+
+pub returns-in-SeenView-clause-decided : goal.returns-in-SeenView-clause-decided
+returns-in-SeenView-clause-decided c c' w =
+    let keys = c.args.keyring.now in
+    let s = c.args.state.now in
+    let o = state-going keys c' s c.args.executor.now.history w in
+    let n = c.in-SeenView.announced in
+    let made = subst (λ (x : NewViewView). IfOk c.decide_seen_view.result (IsSeen keys s (seen_in x)))
+    c.view-in-SeenView.ensures.view c.decide_seen_view.ensures.made in
+    rw c.in-SeenView.is
+    (seen-decided keys c' s (seen_in n.view) c.decide_seen_view.result made c.decide_seen_view.ensures.memory o)
+
+pub returns-in-Lead-clause-decided : goal.returns-in-Lead-clause-decided
+returns-in-Lead-clause-decided c c' w =
+    let keys = c.args.keyring.now in
+    let s = c.args.state.now in
+    let o = state-going keys c' s c.args.executor.now.history w in
+    rw c.in-Lead.is (lead-decided keys c' s c.in-Lead.block c.decide_lead.result c.decide_lead.ensures o)
+
+pub returns-in-Ask-clause-decided : goal.returns-in-Ask-clause-decided
+unfolding ruling
+returns-in-Ask-clause-decided c c' w =
+    let keys = c.args.keyring.now in
+    let s = c.args.state.now in
+    let o = state-going keys c' s c.args.executor.now.history w in
+    rw c.in-Ask.is (asks keys c' c.in-Ask.field-0 c.in-Ask.field-1 s o)
+
+pub returns-in-OfferedProposal-clause-fits : goal.returns-in-OfferedProposal-clause-fits
+returns-in-OfferedProposal-clause-fits c =
+    fits-offer c.args.keyring.now c.args.state.now c.of_offered_proposal.result c.decide_offer.result
+    c.decide_offer.ensures
+
+pub returns-in-OfferedBlock-clause-fits : goal.returns-in-OfferedBlock-clause-fits
+returns-in-OfferedBlock-clause-fits c =
+    fits-offer c.args.keyring.now c.args.state.now c.of_offered_block.result c.decide_offer-in-OfferedBlock.result
+    c.decide_offer-in-OfferedBlock.ensures
+
+pub returns-in-Relayed-clause-fits : goal.returns-in-Relayed-clause-fits
+returns-in-Relayed-clause-fits c =
+    fits-relay c.args.keyring.now c.args.state.now c.of_copies.result c.decide_relay.result
+    c.decide_relay.ensures
+
+pub returns-in-OfferedProposal-clause-fit : goal.returns-in-OfferedProposal-clause-fit
+returns-in-OfferedProposal-clause-fit c =
+    let keys = c.args.keyring.now in
+    let p = c.in-OfferedProposal.proposal in
+    let own : same_replica p.keys keys ≡ true = rw c.in-OfferedProposal.is at c.requires.own in
+    rw c.in-OfferedProposal.is (subst (λ (s : Sizes). IsCore s (frame_core (proposal_of p.view))
+    × IsCertificate s (frame_certificate (proposal_of p.view)))
+    (addressed-sizes p.keys keys own)
+    (c.of_offered_proposal.ensures.frame.1, c.of_offered_proposal.ensures.frame.2))
+
+pub returns-in-OfferedBlock-clause-fit : goal.returns-in-OfferedBlock-clause-fit
+returns-in-OfferedBlock-clause-fit c =
+    let keys = c.args.keyring.now in
+    let b = c.in-OfferedBlock.block in
+    let own : same_replica b.keys keys ≡ true = rw c.in-OfferedBlock.is at c.requires.own in
+    rw c.in-OfferedBlock.is (subst (λ (s : Sizes). IsCore s (frame_core (block_of b.view))
+    × IsCertificate s (frame_certificate (block_of b.view)))
+    (addressed-sizes b.keys keys own)
+    (c.of_offered_block.ensures.frame.1, c.of_offered_block.ensures.frame.2))
+
+pub returns-in-Relayed-clause-fit : goal.returns-in-Relayed-clause-fit
+returns-in-Relayed-clause-fit c =
+    let keys = c.args.keyring.now in
+    let b = c.in-Relayed.copies.first in
+    let own : same_replica b.keys keys ≡ true = rw c.in-Relayed.is at c.requires.own in
+    rw c.in-Relayed.is (subst (λ (s : Sizes). IsCore s (frame_core (block_of b.view))
+    × IsCertificate s (frame_certificate (block_of b.view)))
+    (addressed-sizes b.keys keys own) (c.of_copies.ensures.frame.1, c.of_copies.ensures.frame.2))

@@ -1,15 +1,15 @@
 use Rattle.std.proofs.Common.{◌<◌, drop, length, sym, ap, ◌∙◌}
 use Rattle.definitions.specs.Frames.{Certificate}
-use Rattle.definitions.specs.Audit.{counted_by, counted_for, sent_by}
+use Rattle.definitions.specs.Audit.{counted_by, counted_for}
 use Rattle.replica.specs.declared.stored.StoredStep.{StoredStep}
 use Rattle.replica.specs.Entries.{NewEntry}
 use Rattle.replica.specs.Replay.{is_new, step_of}
-use Rattle.replica.proofs.Lent.{newest-node, none-sent}
+use Rattle.replica.proofs.Lent.{newest-node}
 use Rattle.replica.proofs.chronicle.StepView.counts.Goals as goal
 
-pub returns-in-TookNew-clause-votes : goal.returns-in-TookNew-clause-votes
+pub returns-in-TookNew : goal.returns-in-TookNew
 unfolding counted_by counted_for
-returns-in-TookNew-clause-votes c =
+returns-in-TookNew c =
     let view = c.self.inside in
     let stored = drop view.newer view.tree.now.stored in
     let l : view.newer < length view.tree.now.stored = c.self.invariant (ap is_new c.in-TookNew.is) in
@@ -22,13 +22,3 @@ returns-in-TookNew-clause-votes c =
           ∙ ap (λ (s : StoredStep). counted_for (step_of s stored)) (sym c.in-TookNew.is)
           ∙ ap counted_for c.self.view_is,
     )
-
-pub returns-in-TookNew-clause-no_senders : goal.returns-in-TookNew-clause-no_senders
-returns-in-TookNew-clause-no_senders c =
-    let view = c.self.inside in
-    sym (ap sent_by c.self.view_is) ∙ none-sent view.step.now (drop view.newer view.tree.now.stored)
-
-pub returns-in_default-clause-no_senders : goal.returns-in_default-clause-no_senders
-returns-in_default-clause-no_senders c =
-    let view = c.self.inside in
-    sym (ap sent_by c.self.view_is) ∙ none-sent view.step.now (drop view.newer view.tree.now.stored)

@@ -6,7 +6,7 @@ use Rattle.definitions.specs.FrameLimits.{IsVote}
 use Rattle.definitions.specs.Checks.{identity_of, vote_verifies}
 use Rattle.frames_view.specs.Views.{vote_of, certificate_of, votes_left}
 use Rattle.certificates.proofs.Counting.{counted_same, counted_first, counted_last, all-left, votes-few}
-use Rattle.certificates.proofs.certificate.counted.Goals as goal
+use Rattle.certificates.proofs.certificate.counted_voters.Goals as goal
 
 pub loop-vote-init : goal.loop-vote-init
 loop-vote-init c =

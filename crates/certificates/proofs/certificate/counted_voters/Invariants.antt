@@ -6,7 +6,7 @@ use Rattle.definitions.specs.FrameLimits.{IsVote}
 use Rattle.definitions.specs.Checks.{identity_of, counted_voters}
 use Rattle.frames_view.specs.Views.{certificate_of, votes_left}
 use Rattle.certificates.proofs.Counting.{counted_among}
-use Rattle.certificates.proofs.certificate.counted.Given as goal
+use Rattle.certificates.proofs.certificate.counted_voters.Given as goal
 
 abbrev pub invariant-loop-vote : goal.invariant-loop-vote
 invariant-loop-vote l = record {
