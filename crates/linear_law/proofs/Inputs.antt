@@ -2,7 +2,7 @@
 use Rattle.ids.specs.declared.limits.TheConstants.{MOST_BLOCKS}
 use Rattle.ids.specs.declared.kind.Kind.TheVariants as kind
 use Rattle.ids.specs.declared.fault.Fault.TheVariants as fault
-use Rattle.std.proofs.Common.{ℕ, ◌≡◌, ◌&&◌, not, true, List, [], ◌∷◌, length, refl, sym, subst, subst₂, inl}
+use Rattle.std.proofs.Common.{ℕ, ◌≡◌, ◌&&◌, not, true, List, [], ◌∷◌, ◌++◌, length, refl, sym, subst, subst₂, inl}
 use Rattle.std.proofs.Common.{suc, Bool, false, inr, Option, Some, None, true≢false, nat_lt, ◌∙◌, ap}
 use Rattle.std.specs.Bool.{⊤}
 use Rattle.std.specs.List.{list_any, AllByRecursion}
@@ -299,37 +299,39 @@ pub record IsCarried (self : Identity) (f : Frame) (core : Core) (q : Certificat
       → (x : Claim) × Among x (accepted_tags self f) × (x.label ≡ kind.Request)
       × (x.sender ≡ client_party k.client) × (x.content ≡ command_content k.client k.seq k.payload)
 
-proposal-carried : (self : Identity) (view : ℕ) (core : Core) (q : Certificate) (v : Bytes)
-    → IsFrame self.sizes (frame.proposal view core q v)
-    → IsCarried self (frame.proposal view core q v) core q (findings self core q)
-unfolding accepted_tags IsCommandTag
-proposal-carried self view core q v fr = record {
-  core_is = fr.1;
-  certificate_is = fr.2;
-  from = refl;
+-- a frame whose tags are its own, then those of the certificate's votes, then those of the block's commands
+part-carried : (self : Identity) (f : Frame) (core : Core) (q : Certificate) → IsCore self.sizes core
+    → IsCertificate self.sizes q → CoreOf core f → (own : Claim)
+    → accepted_tags self f ≡ own ∷ vote_claims self q ++ command_claims self core
+    → IsCarried self f core q (findings self core q)
+unfolding IsCommandTag
+part-carried self f core q fit certified from own tags = record {
+  core_is = fit;
+  certificate_is = certified;
+  from = from;
   counted = refl;
-  votes = λ x m. inr (Among-before x _ _ m);
+  votes = λ x m. listed x (Among-before x _ _ m);
   commands =
       λ k h m. let r =
       clear-claimed self core k h m in
-      (r.0, inr (Among-after r.0 (vote_claims self q) _ r.1), r.2.0, r.2.1, r.2.2);
+      (r.0, listed r.0 (Among-after r.0 (vote_claims self q) _ r.1), r.2.0, r.2.1, r.2.2);
 }
+  where
+    listed : (x : Claim) → Among x (vote_claims self q ++ command_claims self core)
+        → Among x (accepted_tags self f)
+    listed x m = subst (Among x) (sym tags) (inr m)
+
+proposal-carried : (self : Identity) (view : ℕ) (core : Core) (q : Certificate) (v : Bytes)
+    → IsFrame self.sizes (frame.proposal view core q v)
+    → IsCarried self (frame.proposal view core q v) core q (findings self core q)
+unfolding accepted_tags
+proposal-carried self view core q v fr = part-carried self _ core q fr.1 fr.2 refl _ refl
 
 block-carried : (self : Identity) (sender : ℕ) (core : Core) (q : Certificate) (t : Bytes)
     → IsFrame self.sizes (frame.block sender core q t)
     → IsCarried self (frame.block sender core q t) core q (findings self core q)
-unfolding accepted_tags IsCommandTag
-block-carried self sender core q t fr = record {
-  core_is = fr.1;
-  certificate_is = fr.2;
-  from = refl;
-  counted = refl;
-  votes = λ x m. inr (Among-before x _ _ m);
-  commands =
-      λ k h m. let r =
-      clear-claimed self core k h m in
-      (r.0, inr (Among-after r.0 (vote_claims self q) _ r.1), r.2.0, r.2.1, r.2.2);
-}
+unfolding accepted_tags
+block-carried self sender core q t fr = part-carried self _ core q fr.1 fr.2 refl _ refl
 
 abbrev pub CarriedBy : Identity → Frame → Input → Type 0
 CarriedBy self f i =

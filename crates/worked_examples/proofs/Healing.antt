@@ -18,7 +18,7 @@ is_gathered = (refl, refl)
 
 pub copies_pass : CopiesPass
 unfolding of_runs
-copies_pass = (refl, refl, refl, refl, refl)
+copies_pass = (refl, refl, refl, refl, refl, refl)
 
 pub offers_pass : OffersPass
 unfolding of_runs

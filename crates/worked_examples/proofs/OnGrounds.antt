@@ -2,7 +2,7 @@
 use Rattle.std.proofs.Common.{refl}
 use Rattle.worked_examples.specs.Grounds.{AnEarlierTake, NoGrounds, TwoSenders, OneSender}
 use Rattle.worked_examples.specs.Grounds.{LeadsFromTheLock, LeadsFromNoOther, ALeadMovesThere, ALeadKeepsIt}
-use Rattle.worked_examples.specs.Grounds.{AsksAnyone, ItsViewCounts}
+use Rattle.worked_examples.specs.Grounds.{AWholeOneFills, VotesFillNothing, AsksAnyone, ItsViewCounts}
 use Rattle.worked_examples.proofs.Computed.{of_steps}
 
 pub an_earlier_take : AnEarlierTake
@@ -36,6 +36,14 @@ a_lead_moves_there ring = (refl, refl, refl)
 pub a_lead_keeps_it : ALeadKeepsIt
 unfolding of_steps
 a_lead_keeps_it = refl
+
+pub a_whole_one_fills : AWholeOneFills
+unfolding of_steps
+a_whole_one_fills = refl
+
+pub votes_fill_nothing : VotesFillNothing
+unfolding of_steps
+votes_fill_nothing = refl
 
 pub asks_anyone : AsksAnyone
 unfolding of_steps

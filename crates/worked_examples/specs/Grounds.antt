@@ -8,8 +8,8 @@ use Rattle.definitions.specs.Digests.{digest_of, core_of}
 use Rattle.definitions.specs.Frames.{Certificate}
 use Rattle.definitions.specs.Keyrings.{Keyring}
 use Rattle.definitions.specs.Checks.{Identity, Findings}
-use Rattle.definitions.specs.Chronicles.{Step.took_block, Step.noted, Note.led_from, Note.seen_view}
-use Rattle.definitions.specs.Chronicles.{Chronicle}
+use Rattle.definitions.specs.Chronicles.{Step, Step.took_block, Step.noted, Note.got_vote, Note.got_new_view}
+use Rattle.definitions.specs.Chronicles.{Note.led_from, Note.seen_view, Chronicle}
 use Rattle.definitions.specs.States.{view, qc_high, leaf, pending}
 use Rattle.definitions.specs.Rulings.{Ruling, Ruling.due, Ruling.missing, Ruling.refusing, ruling}
 use Rattle.definitions.specs.Rulings.{Input.offered_in, Input.relayed_in, Input.lead_in, Input.ask_in}
@@ -74,6 +74,10 @@ OneSender =
     × (relayed ring (3 ∷ 3 ∷ []) (chain 3) (after 2) ≡ refusing fault.BadTag)
     × (relayed ring (3 ∷ 4 ∷ []) (chain 3) (after 2) ≡ refusing fault.BadTag)
 
+-- a vote for the second block
+abbrev pub voted : ℕ → Step
+voted replica = noted (got_vote replica [] (chain 2))
+
 -- what it makes of a lead from a block; its lock is the second of four
 abbrev pub led_to : Keyring → Branch → Ruling
 led_to ring b = ruling (self_with ring) (lead_in (digest_of b)) (after 4)
@@ -102,6 +106,20 @@ ALeadMovesThere =
 -- a lead from the block of the highest certificate keeps it
 abbrev pub ALeadKeepsIt : Type 0
 ALeadKeepsIt = qc_high four (noted (led_from (chain 3)) ∷ after 4) ≡ qc_high four (after 4)
+
+-- after a lead from the lock there comes a certificate for its block, whole
+abbrev pub filled : Chronicle
+filled =
+    noted (got_new_view 1 3 (made_up (chain 2)) (chain 2)) ∷ noted (led_from (chain 2)) ∷ after 4
+
+-- it takes the place of the one without votes
+abbrev pub AWholeOneFills : Type 0
+AWholeOneFills = (qc_high four filled).certificate ≡ made_up (chain 2)
+
+-- that of single votes doesn't
+abbrev pub VotesFillNothing : Type 0
+VotesFillNothing =
+    (qc_high four (voted 2 ∷ voted 1 ∷ voted 0 ∷ noted (led_from (chain 2)) ∷ after 4)).certificate.votes ≡ []
 
 -- any replica is asked for any block
 abbrev pub AsksAnyone : Type 0

@@ -98,12 +98,13 @@ abbrev pub untagged : Frame → Frame
 untagged (frame.block sender core q t) = frame.block sender core q (replicate tag_len 0)
 untagged f = f
 
--- copies of one block pass, each with its own tag
+-- copies of one block pass, each with its own tag, and no more than there are replicas
 abbrev pub CopiesPass : Type 0
 CopiesPass =
     (is_passed (check_gathered reader (copy_by 0 block2 ∷ copy_by 1 block2 ∷ [])) ≡ true)
     × (check_gathered reader (copy_by 0 block2 ∷ untagged (copy_by 1 block2) ∷ []) ≡ rejected fault.BadTag)
     × (check_gathered reader (copy_by 0 block2 ∷ copy_by 1 block1 ∷ []) ≡ rejected fault.BadTag)
+    × (check_gathered reader (replicate 5 (copy_by 0 block2)) ≡ rejected fault.BadTag)
     × (check_gathered reader (half_vote ∷ []) ≡ rejected fault.NotMine)
     × (check_gathered reader [] ≡ rejected fault.NotAFrame)
 

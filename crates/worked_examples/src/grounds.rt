@@ -4,7 +4,8 @@ ghost use Rattle.worked_examples.specs.Grounds.{AnEarlierTake, NoGrounds, TwoSen
 ghost use Rattle.worked_examples.specs.Grounds.{LeadsFromTheLock, LeadsFromNoOther, ALeadMovesThere};
 ghost use Rattle.worked_examples.specs.Healing.{IsWedged, IsOffered, IsGathered};
 ghost use Rattle.worked_examples.specs.Healing.{CopiesPass, OffersPass};
-ghost use Rattle.worked_examples.specs.Grounds.{ALeadKeepsIt, AsksAnyone, ItsViewCounts};
+ghost use Rattle.worked_examples.specs.Grounds.{ALeadKeepsIt, AWholeOneFills, VotesFillNothing};
+ghost use Rattle.worked_examples.specs.Grounds.{AsksAnyone, ItsViewCounts};
 
 /// A block is taken where an earlier one justifies the same block, or f + 1 replicas sent it; else not.
 pub fn a_block_is_taken_on_grounds()
@@ -14,12 +15,15 @@ pub fn a_block_is_taken_on_grounds()
     ensures one { OneSender }
 {}
 
-/// A replica leads from its lock or above, where a block that it took justifies the block.
+/// A replica leads from its lock or above, where a block that it took justifies the block. After that
+/// a certificate that comes whole takes the place of one without votes, and single votes do not.
 pub fn a_replica_leads_from_its_lock()
     ensures lock { LeadsFromTheLock }
     ensures others { LeadsFromNoOther }
     ensures moves { ALeadMovesThere }
     ensures keeps { ALeadKeepsIt }
+    ensures whole { AWholeOneFills }
+    ensures votes { VotesFillNothing }
 {}
 
 /// A question goes to whoever is named, and a view counts without its certificate.
