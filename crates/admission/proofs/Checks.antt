@@ -39,7 +39,7 @@ taken wrap (Ok x) = Ok (wrap x)
 taken wrap (Err n) = Err n
 
 -- the keys are for their own replica
-own : (keys : Keys) → IsTrue (same_replica keys keys)
+pub own : (keys : Keys) → IsTrue (same_replica keys keys)
 own keys =
     and_from _ _ (eq-eqb keys.party keys.party refl)
     (and_from _ _

@@ -1,3 +1,4 @@
 pub mod Admitted
+pub mod Gathering
 pub mod Inputs
 pub mod Lacking

@@ -2,11 +2,13 @@
 #![tactic(auto)]
 
 mod admitting;
+mod gathering;
 mod input;
 mod lacking;
 mod offering;
 
 pub use admitting::admit;
+pub use gathering::admit_copies;
 pub use input::Input;
 pub use lacking::{missing, missing_of};
 pub use offering::admit_offer;
