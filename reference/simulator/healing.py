@@ -2,8 +2,8 @@
 
 The correct replica with the highest lock leads from that lock. Before that all correct replicas get the block that
 justifies the lock, with all below it: so the lock has grounds with each of them. The leader makes blocks until one is
-above all heights for which correct replicas voted, before any vote for them is counted. Votes go to all, so each correct
-replica has a certificate of its own for the last one. Three more blocks decide it.
+above all heights for which correct replicas voted, before any vote for them is counted. Votes go to all, so each
+correct replica has a certificate of its own for the last one. Three more blocks decide it.
 
 No correct replica may have stopped or pruned, and there has to be room for the blocks.
 """

@@ -430,8 +430,7 @@ class Writer:
         return Inject(last, liar.question(last, self.world.replicas[last].highest.digest))
 
     def _half(self):
-        """The leader of the last proposal takes it. Before all others a liar votes for it, rightly for the leader alone.
-        """
+        """The leader of the last proposal takes it. Before others liars vote for it, rightly for the leader alone."""
         proposals = [sent.data for sent in self.world.record if kind_of(sent.data) == Kind.PROPOSAL]
         liars = [liar for liar in self.liars if liar.party < FIRST_CLIENT]
         if not proposals:
@@ -474,7 +473,7 @@ class Writer:
     def _some_block(self, to):
         """The digest of a block above genesis, and which others have it; mostly of the lowest that a replica lacks."""
         trees = {number: replica.tree for number, replica in self.world.replicas.items() if number != to}
-        blocks = {digest: block.height for tree in trees.values() for digest, block in tree.blocks.items() if block.core}
+        blocks = {block.digest: block.height for tree in trees.values() for block in tree.blocks.values() if block.core}
         lacking = [digest for digest in blocks if not self.world.replicas[to].tree.get(digest)]
         if not blocks:
             return None, []
@@ -492,8 +491,7 @@ class Writer:
         return [number for number in sent if kind_of(self.world.record[number].data) == Kind.BLOCK]
 
     def _guide(self):
-        """Whoever leads, or leads next, is to lead from its lock, from what it holds the highest certificate of, or from
-        any block."""
+        """Whoever leads, or leads next, is to lead from its lock, from its highest certificate's block or from any."""
         rng, replicas = self.rng, self.world.replicas
         views = [replica.pacemaker.view for replica in replicas.values()]
         number = (max(views) + rng.randrange(2)) % self.config.n

@@ -3,8 +3,7 @@ votes of a leader and of a voter, half requests, among four replicas and among s
 from dataclasses import replace
 
 from . import frames
-from .frames import GENESIS, Certificate, Core, Kind, NewViewFrame, ProposalFrame, RequestFrame, Vote, VoteFrame, kind_of
-from .frames import write
+from .frames import (GENESIS, Certificate, Core, Kind, NewViewFrame, RequestFrame, Vote, VoteFrame, kind_of, write)
 from .healing import Healer
 from .random_schedules import halved
 from .signing import block_of, command_of, proposal_of, vote_of
@@ -125,8 +124,8 @@ def a_half_vote_of_a_voter():
 
 
 def an_offer_and_two_copies():
-    """The leader's first certificate has a liar's half vote. Once the others' votes came to replica 1, too, it takes the
-    next block by its own certificate. Replica 2 gets two copies of the block, and then votes."""
+    """The leader's first certificate has a liar's half vote. Once the others' votes came to replica 1, too, it takes
+    the next block by its own certificate. Replica 2 gets two copies of the block, and then votes."""
     run = Run(clients=1, faulty=[3])
     [first] = run.do(Beat(0))
     votes = run.relay(first, [0, 1, 2])
@@ -184,4 +183,5 @@ def a_client_that_halves_its_request():
 
 
 EXAMPLES = [a_half_vote_of_a_leader, a_half_vote_of_a_voter, an_announced_half_vote, a_request_right_for_one_alone,
-            a_client_that_halves_its_request, an_offer_and_two_copies, half_votes_among_seven, a_lock_of_one_among_seven]
+            a_client_that_halves_its_request, an_offer_and_two_copies, half_votes_among_seven,
+            a_lock_of_one_among_seven]

@@ -218,9 +218,10 @@ class Chronicle:
     def votes(self, branch):
         """Those kept for a block since the last lead: one a voter, a quorum at most."""
         kept = {}
-        for step in self.steps[self.last_lead:]:
-            if isinstance(step, GotVote) and step.branch is branch and step.vote.voter not in kept and len(kept) < self.config.quorum:
-                kept[step.vote.voter] = step.vote
+        came = [step for step in self.steps[self.last_lead:] if isinstance(step, GotVote)]
+        for vote in [step.vote for step in came if step.branch is branch]:
+            if vote.voter not in kept and len(kept) < self.config.quorum:
+                kept[vote.voter] = vote
         return kept
 
     @cached_property
