@@ -4,9 +4,8 @@ import collections
 
 from . import frames
 from .frames import GENESIS, BlockFrame, Certificate, Command, Core, Kind, Vote, VoteFrame, write
-from .signing import block_of, command_of
+from .signing import block_of, command_of, half_command, half_vote
 from .sizes import FIRST_CLIENT
-from .stated_grounds import half_command, half_vote
 from .stated_runs import GET_A
 
 

@@ -16,6 +16,7 @@ from .frames import (GENESIS, BlockFrame, Certificate, Command, Core, FetchFrame
 from .own_frames import ALL
 from .replica import Replica
 from .requests import Request
+from .signing import halved
 from .sizes import FIRST_CLIENT, TOP, Config, Fault, Refusal, party_name
 from .tags import Keyring
 from .world import Ask, Beat, Gather, Inject, Lead, Offer, Prune, Relay, Submit, Timeout, World
@@ -535,11 +536,6 @@ class Writer:
         if not self.world.record:
             return None
         return Relay(self.rng.randrange(len(self.world.record)), self._any_party())
-
-
-def halved(vector, receivers):
-    """Tags of which only those for these replicas are right."""
-    return b"".join(frames.tag_for(vector, r) if r in receivers else bytes(32) for r in range(len(vector) // 32))
 
 
 def _refused(rng, head, events, prunes, grounds):

@@ -14,7 +14,6 @@ class Watched(World):
     def __init__(self, config, faulty):
         super().__init__(config, faulty)
         self.voted, self.taken = collections.defaultdict(set), collections.defaultdict(set)
-        self.seen = dict.fromkeys(self.replicas, 0)
         self.happened, self.answers, self.receipts = [], [], []
 
     def happen(self, event):
@@ -25,23 +24,20 @@ class Watched(World):
             self.voted[vote.digest].add(event.party)
         if receipt:
             self.receipts.append((self.events, event.party - FIRST_CLIENT, receipt))
-        if event.party in self.replicas:
-            self._look_at(self.replicas[event.party])
+        if event.party in self.replicas and refused is None:
+            self._look_at(event.party, self.replicas[event.party].came)
         return refused, sent, receipt
 
-    def _look_at(self, replica):
-        for step in (replica.chronicle or [])[self.seen[replica.me]:]:
-            self.seen[replica.me] += 1
-            if step.core:
-                self._look_at_block(replica.me, step, step.core.digest())
-
-    def _look_at_block(self, number, step, digest):
-        if step.new:
-            for voter in self.replicas.keys() & step.counted:
-                assert voter in self.voted[step.justified], "r%d counts a vote that r%d never gave" % (number, voter)
-            for sender in self.replicas.keys() & step.senders:
-                assert sender in self.taken[digest], "r%d names r%d, which never took that" % (number, sender)
-            self.taken[digest].add(number)
+    def _look_at(self, number, step):
+        """What stood of the event, as it is stored."""
+        if not step.new:
+            return
+        digest = step.core.digest()
+        for voter in self.replicas.keys() & step.counted:
+            assert voter in self.voted[step.justified], "r%d counts a vote that r%d never gave" % (number, voter)
+        for sender in self.replicas.keys() & step.senders:
+            assert sender in self.taken[digest], "r%d names r%d, which never took that" % (number, sender)
+        self.taken[digest].add(number)
 
     def could_be_certified(self, block):
         liars = sum(party < FIRST_CLIENT for party in self.faulty)
