@@ -39,6 +39,10 @@ class Watched(World):
             assert sender in self.taken[digest], "r%d names r%d, which never took that" % (number, sender)
         self.taken[digest].add(number)
 
+    def view(self):
+        """The highest of a correct replica."""
+        return max(replica.pacemaker.view for replica in self.replicas.values())
+
     def could_be_certified(self, block):
         liars = sum(party < FIRST_CLIENT for party in self.faulty)
         return not block.core or len(self.voted[block.digest]) + liars >= self.config.quorum
