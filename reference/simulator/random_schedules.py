@@ -11,6 +11,7 @@ from dataclasses import replace
 
 from . import frames
 from .blocks import Block
+from .checks import OFFERED
 from .frames import (GENESIS, BlockFrame, Certificate, Command, Core, FetchFrame, Kind, NewViewFrame,
                      ProposalFrame, ReplyFrame, RequestFrame, Vote, VoteFrame, kind_of, respelled, write, write_old)
 from .own_frames import ALL
@@ -254,7 +255,7 @@ class Writer:
         f = faults or f
         some = rng.choice([1, 1, 2, 2, 3, 8, 64])
         config = Config(f, clients or some)
-        self.faulty = self._faulty(config)
+        self.faulty = self._faulty(config) if not grounds or rng.random() < 0.05 else self._most_faulty(config)
         self.config = config
         self.world = World(config, self.faulty, replica)
         self.past = {GENESIS: Block(GENESIS, None, None, True, None, None)} if prunes else {}
@@ -308,6 +309,13 @@ class Writer:
         if replicas and 0 not in replicas and rng.random() < 0.5:
             replicas[0] = 0             # the first leader
         clients = rng.sample(range(config.clients), rng.randrange(min(3, config.clients + 1)))
+        return replicas + [FIRST_CLIENT + client for client in clients]
+
+    def _most_faulty(self, config):
+        """As many replicas as may be, mostly, and some clients."""
+        rng = self.rng
+        clients = rng.sample(range(config.clients), rng.randrange(min(3, config.clients + 1)))
+        replicas = rng.sample(range(config.n), max(1, config.f - rng.choice([0, 0, 0, 1])))
         return replicas + [FIRST_CLIENT + client for client in clients]
 
     def write(self, length):
@@ -431,29 +439,46 @@ class Writer:
         return Inject(last, liar.question(last, self.world.replicas[last].highest.digest))
 
     def _half(self):
-        """The leader of the last proposal takes it. Before others liars vote for it, rightly for the leader alone."""
-        proposals = [sent.data for sent in self.world.record if kind_of(sent.data) == Kind.PROPOSAL]
-        liars = [liar for liar in self.liars if liar.party < FIRST_CLIENT]
-        if not proposals:
-            return None
-        frame = frames.read(self.config, proposals[-1])
-        leader, digest = frame.view % self.config.n, frame.core.digest()
-        self._happen(Inject(leader, proposals[-1]))
-        *others, last = self.rng.sample(liars, self.rng.randrange(len(liars)) + 1)
-        for liar in others:
-            self._happen(Inject(leader, liar.half_vote(digest, leader)))
-        return Inject(leader, last.half_vote(digest, leader))
+        """A correct leader proposes. Liars vote first, rightly for it alone, then others do; others may hear of the
+        votes. It proposes again, which those refuse that didn't."""
+        rng, replicas = self.rng, self.world.replicas
+        leaders = sorted({replica.pacemaker.leader() for replica in replicas.values()} & replicas.keys())
+        leader = rng.choice(leaders) if leaders else None
+        for proposal in self._sent(Beat(leader)) if leaders else ():
+            digest = frames.read(self.config, self.world.record[proposal].data).core.digest()
+            votes = self._sent(Relay(proposal, leader))
+            for liar in self.liars:
+                if liar.party < FIRST_CLIENT and rng.random() < 0.7:
+                    self._happen(Inject(leader, liar.half_vote(digest, leader)))
+            for replica in sorted(replicas.keys() - {leader}):
+                votes += self._sent(Relay(proposal, replica)) if rng.random() < 0.9 else []
+            hearers = [leader] + rng.sample(sorted(replicas), rng.choice([0, 1, 1, 2, len(replicas)]))
+            for vote in [number for number in votes if kind_of(self.world.record[number].data) == Kind.VOTE]:
+                for hearer in hearers:
+                    self._happen(Relay(vote, hearer))
+            for again in self._sent(Beat(leader)):
+                for replica in rng.sample(sorted(replicas), len(replicas)):
+                    self._happen(Relay(again, replica))
+        return Timeout(leader) if leaders and rng.random() < 0.1 else None
+
+    def _sent(self, event):
+        """The numbers of the frames that are sent in an event."""
+        first = len(self.world.record)
+        self._happen(event)
+        return list(range(first, len(self.world.record)))
 
     def _offer(self):
         """Mostly what was refused for a tag, to whoever refused it, but also anything."""
         rng, to = self.rng, self.rng.randrange(self.config.n)
         if self.refused and rng.random() < 0.8:
-            source, to = rng.choice(self.refused)
+            source, to = self.refused.pop(rng.randrange(len(self.refused)))
             return Offer(to, source)
         liars = [liar for liar in self.liars if liar.party < FIRST_CLIENT]
         if liars and rng.random() < 0.5:
             return Offer(to, rng.choice(liars).frame(self.world, to))
-        return Offer(to, rng.randrange(len(self.world.record))) if self.world.record else None
+        kinds = OFFERED if rng.random() < 0.9 else tuple(Kind)
+        found = [at for at, sent in enumerate(self.world.record) if kind_of(sent.data) in kinds]
+        return Offer(to, rng.choice(found)) if found else None
 
     def _gather(self):
         """A block, mostly one that a replica lacks, of others that were asked for it, and of liars."""
@@ -484,12 +509,8 @@ class Writer:
 
     def _asked(self, to, holder, digest):
         """The number of the block that a replica is sent, if any, once it asked."""
-        first = len(self.world.record)
-        self._happen(Ask(to, holder, digest))
-        if len(self.world.record) > first:
-            self._happen(Relay(first, holder))
-        sent = range(first, len(self.world.record))
-        return [number for number in sent if kind_of(self.world.record[number].data) == Kind.BLOCK]
+        answers = [self._sent(Relay(question, holder)) for question in self._sent(Ask(to, holder, digest))]
+        return [number for sent in answers for number in sent if kind_of(self.world.record[number].data) == Kind.BLOCK]
 
     def _guide(self):
         """Whoever leads, or leads next, is to lead from its lock, from its highest certificate's block or from any."""
@@ -567,5 +588,6 @@ def random_schedule(seed, longest=400, clients=None, prunes=PRUNES, grounds=GROU
     with so many clients, and so many faults, where that is said."""
     rng = random.Random(seed)
     length = rng.choice([40, 200, longest, longest] if prunes else [5, 40, 120, 200, longest])
-    head, events = Writer(rng, clients, prunes, grounds=grounds, faults=faults).write(length)
+    writer = Writer(rng, clients, prunes, grounds=grounds, faults=faults)
+    head, events = writer.write(length * max(1, writer.config.n // 8) if grounds else length)
     return _refused(rng, head, events, prunes, grounds) if rng.random() < 0.06 else (head, events)

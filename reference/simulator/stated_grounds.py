@@ -7,7 +7,7 @@ from .healing import Healer
 from .signing import (block_of, certificate_of, command_of, fetch_of, half_command, half_vote, new_view_of, proposal_of,
                       reply_of, request_of, vote_of)
 from .sizes import FIRST_CLIENT
-from .stated_runs import SET_A, Run
+from .stated_runs import C1, SET_A, Run
 from .world import Ask, Beat, Gather, Lead, Offer, Submit, Timeout
 
 
@@ -223,9 +223,10 @@ def offered_by_an_earlier_take():
     run = Run(faulty=[3])
     cores = taken(run, 1, 2)
     sibling = Core(cores[1].digest(), 3, 1)
+    cert = without_votes(sibling, cores)
     offer(run, 1, block_of(run.config, 3, 1, cores[2], certificate_of(run.config, cores[1].digest(), (0, 2, 3))),
-          block_of(run.config, 3, 1, sibling, without_votes(sibling, cores)),
-          fetch_of(run.config, 3, 1, sibling.digest()))
+          block_of(run.config, 3, 2, sibling, cert), proposal_of(run.config, 0, sibling, cert)[:-96] + bytes(96),
+          block_of(run.config, 3, 1, sibling, cert), fetch_of(run.config, 3, 1, sibling.digest()))
     run.inject(fetch_of(run.config, 3, 1, sibling.digest()), [1])
     return run
 
@@ -242,6 +243,18 @@ def offered_by_an_own_certificate():
     offer(run, 1, data, data)
     run.inject(fetch_of(run.config, 3, 1, cores[1].digest()), [1])
     offer(run, 1, block_of(run.config, 3, 1, cores[1], without_votes(cores[1], cores)))
+    return run
+
+
+def offered_unclear():
+    """A block with a command that is right for others is taken, and gets no vote; nor does the next one. A block beside
+    it does."""
+    run = Run(faulty=[3, C1])
+    cores = taken(run, 1, 2)
+    command = half_command(command_of(run.config, 1, 1, SET_A), [0, 2, 3])
+    unclear = Core(cores[1].digest(), 3, 1, (command,))
+    for core in (unclear, Core(unclear.digest(), 4, 1), Core(cores[1].digest(), 3, 1)):
+        offer(run, 1, proposal_of(run.config, 0, core, without_votes(core, cores)))
     return run
 
 
@@ -263,7 +276,8 @@ def offered_views():
     """Views of announcements count whose certificates aren't good, or are of blocks that nobody has."""
     run = Run(faulty=[3])
     for sender, view in ((3, 2), (2, 1), (0, 2)):
-        offer(run, 1, new_view_of(run.config, sender, view, Certificate(bytes([view]) * 32)))
+        data = new_view_of(run.config, sender, view, Certificate(bytes([view]) * 32))
+        offer(run, 1, data[:-96] + bytes(96), data)
     return run
 
 
@@ -369,6 +383,7 @@ def all_runs():
         ("offers of each kind of frame", offers_of_each_kind()),
         ("a block is offered that an earlier take gives grounds", offered_by_an_earlier_take()),
         ("a block is offered that an own certificate gives grounds", offered_by_an_own_certificate()),
+        ("blocks are offered of which two are not clear", offered_unclear()),
         ("offers that are refused", offers_that_are_refused()),
         ("views of announcements that are offered", offered_views()),
         ("copies that come together", gathered_copies()),
