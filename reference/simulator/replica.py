@@ -12,7 +12,7 @@ from dataclasses import dataclass
 
 from .blocks import Tree
 from .cache import Cache
-from .checks import good_votes, need
+from .checks import Copies, good_votes, need
 from .frames import GENESIS, MOST_COMMANDS, Certificate, Core, Kind
 from .own_frames import OwnFrames
 from .sizes import TOP, Fault, Refusal
@@ -133,14 +133,14 @@ class Replica:
     def receive(self, checked):
         """Takes a frame whose tags were checked."""
         return self._step({
-            Kind.PROPOSAL: self._on_proposal, Kind.BLOCK: self._on_block, Kind.VOTE: self._on_vote,
+            Kind.PROPOSAL: self._on_block, Kind.BLOCK: self._on_block, Kind.VOTE: self._on_vote,
             Kind.NEW_VIEW: self._on_new_view, Kind.REQUEST: self._on_request, Kind.FETCH: self._on_fetch,
         }[checked.frame.kind], checked)
 
     def offered(self, checked):
         """Takes a frame whose own tag was checked, and no certificate."""
         return self._step({
-            Kind.PROPOSAL: self._on_offered_proposal, Kind.BLOCK: self._on_offered_block,
+            Kind.PROPOSAL: self._on_offered_block, Kind.BLOCK: self._on_offered_block,
             Kind.NEW_VIEW: self._on_seen_view,
         }[checked.frame.kind], checked)
 
@@ -184,33 +184,23 @@ class Replica:
         """A full tree stops a replica that has no horizon. One with a horizon can prune again."""
         return fault == Fault.CONFLICT or (fault == Fault.FULL and self.tree.horizon == 0)
 
-    def _on_proposal(self, checked):
-        frame = checked.frame
-        return self._on_any_block(checked, frame.view % self.config.n, frame.view,
-                                  lambda block, new: Kept(frame.cert, checked.counted))
-
     def _on_block(self, checked):
-        return self._on_any_block(checked, checked.frame.sender, None,
-                                  lambda block, new: Kept(checked.frame.cert, checked.counted))
-
-    def _on_offered_proposal(self, checked):
-        frame = checked.frame
-        return self._on_any_block(checked, frame.view % self.config.n, frame.view, self._kept_on_grounds)
+        return self._take_in(checked, self._kept_as_it_came)
 
     def _on_offered_block(self, checked):
-        return self._on_any_block(checked, checked.frame.sender, None, self._kept_on_grounds)
+        return self._take_in(checked, self._kept_on_grounds)
 
     def _on_copies(self, copies):
-        return self._on_any_block(copies, None, None,
-                                  lambda block, new: self._kept_for_senders(block, new, copies.senders))
+        return self._take_in(copies, self._kept_for_senders)
 
-    def _on_any_block(self, checked, sender, view, kept_of):
-        """A block comes, with its view where it is proposed. What is kept with it may be refused."""
-        block, new = self._place(checked, sender)
-        kept = kept_of(block, new)
+    def _take_in(self, came, kept_of):
+        """A block comes, proposed or on its own. What is kept with it may be refused."""
+        sender, view = self._origin(came)
+        block, new = self._place(came, sender)
+        kept = kept_of(came, block, new)
         decided = self._decided_by(block) if new else None
         voted = view == self.pacemaker.view and self._may_vote(block)
-        self.came = Step(checked.frame.core, kept.cert.digest, kept.counted, new, voted, kept.senders)
+        self.came = Step(came.frame.core, kept.cert.digest, kept.counted, new, voted, kept.senders)
         out = []
         if voted:
             self.voted_height = block.height
@@ -219,6 +209,15 @@ class Replica:
             block.cert = kept.cert
             out += self._take(block, decided)
         return out
+
+    def _origin(self, came):
+        """Who is asked for what lacks, and the view of a proposal. Of copies nobody is."""
+        frame = came.frame
+        if isinstance(came, Copies):
+            return None, None
+        if frame.kind == Kind.PROPOSAL:
+            return frame.view % self.config.n, frame.view
+        return frame.sender, None
 
     def _on_vote(self, checked):
         digest, vote = checked.frame.digest, checked.frame.vote
@@ -317,17 +316,22 @@ class Replica:
     def _has_grounds(self, block):
         return self._is_justified(block) or self._is_own_certified(block)
 
-    def _kept_on_grounds(self, block, new):
+    # ---- what is kept with a block: of what came, of the block, and whether it is new
+
+    def _kept_as_it_came(self, checked, _block, _new):
+        return Kept(checked.frame.cert, checked.counted)
+
+    def _kept_on_grounds(self, _checked, block, new):
         """A block that stands had grounds. What a new one justifies has to have some."""
         if not new or self._is_justified(block.justified):
             return Kept(Certificate(block.justified_digest))
         need(self._is_own_certified(block.justified))
         return Kept(self.highest, self._own_counted())
 
-    def _kept_for_senders(self, block, new, senders):
+    def _kept_for_senders(self, copies, block, new):
         """Of a new block the senders have to be distinct, and more than f."""
-        need(not new or len(set(senders)) == len(senders) > self.config.f)
-        return Kept(Certificate(block.justified_digest), (), senders if new else ())
+        need(not new or len(set(copies.senders)) == len(copies.senders) > self.config.f)
+        return Kept(Certificate(block.justified_digest), (), copies.senders if new else ())
 
     # ---- rules
 
@@ -335,10 +339,10 @@ class Replica:
         """Somebody else is asked for the block, where somebody is named."""
         return Refusal(Fault.UNKNOWN_PARENT, None if sender in (None, self.me) else (sender, digest))
 
-    def _place(self, checked, sender):
-        core = checked.frame.core
+    def _place(self, came, sender):
+        core = came.frame.core
         try:
-            return self.tree.place(core, checked.frame.cert, checked.clear)
+            return self.tree.place(core, came.frame.cert, came.clear)
         except Refusal as refusal:
             if refusal.fault == Fault.UNKNOWN_PARENT:
                 raise self._unknown(sender, core.parent) from None
