@@ -1,14 +1,17 @@
 """One replica that is given anything: all others lie, and what they sign is taken as checked. So it sees
 forks, which no world with enough correct replicas shows. The seed alone decides."""
+from dataclasses import replace
+
 from . import requests
-from .checks import Checked
+from .checks import Checked, Copies
 from .frames import (BlockFrame, Certificate, Command, Core, FetchFrame, Kind, NewViewFrame, ProposalFrame,
-                     RequestFrame, Vote, VoteFrame, kind_of, read)
+                     RequestFrame, VoteFrame, kind_of, read)
+from .signing import certificate_of, vote_of
 from .sizes import TOP, Config, Refusal
 from .whole_history import Branch
 
 WEIGHTS = {"block": 40, "again": 8, "vote": 20, "new_view": 3, "request": 8, "fetch": 4, "timeout": 1,
-           "beat": 8, "prune": 6}
+           "beat": 8, "prune": 6, "offer": 10, "gather": 6, "lead": 4, "ask": 1}
 
 
 class Lone:
@@ -50,8 +53,7 @@ class Lone:
         return self.known[self.rng.choice(list(self.replica.tree.blocks)[-3:])]
 
     def _certificate(self, block):
-        voters = () if not block.core else (0, 1, 2)
-        return Certificate(block.digest, tuple(Vote(voter, bytes(128)) for voter in voters))
+        return certificate_of(self.config, block.digest, (0, 1, 2))
 
     def _bring(self, core, cert):
         """As a proposal, mostly of the replica's own view, or on its own."""
@@ -63,6 +65,39 @@ class Lone:
         return self.replica.receive(Checked(frame, rng.random() < 0.95, (0, 1, 2)))
 
     def _block(self):
+        return self._bring(*self._any_block())
+
+    def _offer(self):
+        """A block, or an announcement of any certificate."""
+        rng, (core, cert) = self.rng, self._any_block()
+        frame = ProposalFrame(self.replica.pacemaker.view, core, replace(cert, votes=()))
+        if rng.random() < 0.3:
+            frame = BlockFrame(rng.randrange(self.config.n), core, replace(cert, votes=()))
+        if rng.random() < 0.1:
+            view = min(self.replica.pacemaker.view + rng.randrange(3), TOP)
+            frame = NewViewFrame(view, rng.randrange(self.config.n), Certificate(bytes(32)))
+        else:
+            self._note(frame)
+        return self.replica.offered(Checked(frame, rng.random() < 0.95))
+
+    def _gather(self):
+        rng = self.rng
+        senders = tuple(rng.choice([(0, 1), (2, 3), (1, 2, 3), (3,), (2, 2)]))
+        frame = BlockFrame(senders[0], *self._any_block())
+        self._note(frame)
+        return self.replica.gathered(Copies(frame, rng.random() < 0.95, senders))
+
+    def _lead(self):
+        """Mostly from the lock, or from something above it."""
+        lock, highest = self.replica.lock, self.replica.highest_block
+        if self.rng.random() < 0.5:
+            return self.replica.lead(self.rng.choice([lock, highest, highest.justified or lock]).digest)
+        return self.replica.lead(self._some().digest)
+
+    def _ask(self):
+        return self.replica.ask(self.rng.randrange(self.config.n), self._some().digest)
+
+    def _any_block(self):
         rng, parent = self.rng, self._some()
         below = rng.choice([0, 0, 0, 0, 0, 1, 2, 3, parent.height])
         justified = parent.at(max(0, parent.height - below))
@@ -70,15 +105,16 @@ class Lone:
         height = parent.height + 1 + (rng.random() < 0.02)
         named = parent.digest if rng.random() < 0.98 else bytes(32)
         cert = self._certificate(justified if rng.random() < 0.97 else self._some())
-        return self._bring(Core(named, height, justified.height, commands), cert)
+        return Core(named, height, justified.height, commands), cert
 
     def _again(self):
         block = self.rng.choice(list(self.known.values()))
         return self._bring(block.core, block.cert) if block.core else []
 
     def _vote(self):
-        vote = Vote(self.rng.randrange(self.config.n), bytes(128))
-        return self.replica.receive(Checked(VoteFrame(self._some().digest, vote)))
+        digest = self._some().digest
+        vote = vote_of(self.config, self.rng.randrange(self.config.n), digest)
+        return self.replica.receive(Checked(VoteFrame(digest, vote)))
 
     def _new_view(self):
         views = [0, 1, self.replica.pacemaker.view + 1, TOP if self.rng.random() < 0.05 else 1]

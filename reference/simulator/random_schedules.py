@@ -1,26 +1,30 @@
 """Schedules at random: whole runs under losses, repeats, late frames, timeouts, missing blocks, faulty
 parties and injected frames, which are good, cut short, changed in a byte, spelled in the other version, or
-signed by a faulty party's own keys.
+signed by a faulty party's own keys. Where blocks may be taken on grounds, faulty parties' votes are right for some
+receivers alone, and what is refused for its certificate is offered, asked for and gathered.
 
 The writer of a schedule runs it as it writes, so that each event is one that can happen and the faulty
-parties know what was sent. The seed alone decides, and whether replicas prune.
+parties know what was sent. The seed alone decides, whether replicas prune, and whether blocks may be taken on grounds.
 """
 import random
 from dataclasses import replace
 
 from . import frames
 from .blocks import Block
+from .checks import OFFERED
 from .frames import (GENESIS, BlockFrame, Certificate, Command, Core, FetchFrame, Kind, NewViewFrame,
                      ProposalFrame, ReplyFrame, RequestFrame, Vote, VoteFrame, kind_of, respelled, write, write_old)
 from .own_frames import ALL
 from .replica import Replica
 from .requests import Request
-from .sizes import FIRST_CLIENT, TOP, Config, Refusal, party_name
+from .signing import halved
+from .sizes import FIRST_CLIENT, TOP, Config, Fault, Refusal, party_name
 from .tags import Keyring
-from .world import Beat, Inject, Prune, Relay, Submit, Timeout, World
+from .world import Ask, Beat, Gather, Inject, Lead, Offer, Prune, Relay, Submit, Timeout, World
 
-# Whether replicas prune, where nothing else is said.
+# Whether replicas prune, and whether blocks may be taken on grounds, where nothing else is said.
 PRUNES = False
+GROUNDS = False
 
 KEYS = [b"a", b"b", b"counter", b"k" * 250]
 DATA = [b"", b"x", b"5", b"12x", b"18446744073709551615", b"\r\nset a", bytes(range(256)), b"y" * 4096]
@@ -46,7 +50,8 @@ def random_request(rng):
 class Liar:
     """What a faulty party may send: frames with its own keys, of anything that it saw."""
 
-    def __init__(self, rng, config, party, past):
+    def __init__(self, rng, config, party, past, halves=False):
+        self.halves = halves        # its votes may be right for some receivers alone
         self.rng = rng
         self.config = config
         self.party = party
@@ -69,6 +74,29 @@ class Liar:
             at = 32 * self.rng.randrange(self.config.n)
             vector = vector[:at] + bytes(32) + vector[at + 32:]
         return vector
+
+    def _vote_vector(self, digest):
+        """Its vote's tags, where it gives half votes mostly of few receivers alone."""
+        if not self.halves or self.rng.random() < 0.3:
+            return self._vector(Kind.VOTE, digest)
+        n, few = self.config.n, self.rng.choice([1, 1, self.config.f + 1, self.config.n - 1])
+        return halved(self.keyring.vector(Kind.VOTE, digest), self.rng.sample(range(n), few))
+
+    def half_vote(self, digest, leader):
+        """A vote for a block that is right for one replica alone."""
+        vector = halved(self.keyring.vector(Kind.VOTE, digest), [leader])
+        return self._spelled(VoteFrame(digest, Vote(self.party, vector)))
+
+    def copy(self, world, to, block):
+        """A block for a replica, with any certificate for what it justifies."""
+        digest, rng = block.justified_digest, self.rng
+        cert = rng.choice([Certificate(digest), block.cert, Certificate(digest, self._made_up())])
+        frame = BlockFrame(self.party, block.core, cert if rng.random() < 0.95 else self._certificate(world, block))
+        return self._spelled(replace(frame, tag=self.keyring.tag(Kind.BLOCK, to, frame.content())))
+
+    def _made_up(self):
+        voters = sorted(self.rng.sample(range(self.config.n), self.config.quorum))
+        return tuple(Vote(voter, bytes(32 * self.config.n)) for voter in voters)
 
     def _request(self):
         rng = self.rng
@@ -139,7 +167,8 @@ class Liar:
 
     def _votes_for(self, world, digest):
         """Those that were sent, and an own one."""
-        votes = {self.party: Vote(self.party, self.keyring.vector(Kind.VOTE, digest))}
+        vector = self._vote_vector(digest) if self.halves else self.keyring.vector(Kind.VOTE, digest)
+        votes = {self.party: Vote(self.party, vector)}
         for sent in world.record:
             if kind_of(sent.data) == Kind.VOTE:
                 frame = frames.read(self.config, sent.data)
@@ -185,7 +214,7 @@ class Liar:
     def _vote(self, world, _to):
         digest = self._known(world).digest if self.rng.random() < 0.9 else bytes(32)
         voter = self.party if self.rng.random() < 0.95 else self.rng.randrange(self.config.n)
-        return self._spelled(VoteFrame(digest, Vote(voter, self._vector(Kind.VOTE, digest))))
+        return self._spelled(VoteFrame(digest, Vote(voter, self._vote_vector(digest))))
 
     def _new_view(self, world, _to):
         view = self.rng.choice([0, 1, 2, 3, 7, TOP])
@@ -218,18 +247,20 @@ class Liar:
 
 
 class Writer:
-    """Writes one schedule, with prunings or without."""
+    """Writes one schedule, with prunings or without, with blocks that are taken on grounds or without."""
 
-    def __init__(self, rng, clients=None, prunes=PRUNES, replica=Replica):
+    def __init__(self, rng, clients=None, prunes=PRUNES, replica=Replica, grounds=GROUNDS, faults=None):
         self.rng = rng
         f = rng.choice([1, 1, 1, 1, 1, 2, 3, 4]) if rng.random() < 0.94 else rng.choice([5, 6, 7, 10])
+        f = faults or f
         some = rng.choice([1, 1, 2, 2, 3, 8, 64])
         config = Config(f, clients or some)
-        self.faulty = self._faulty(config)
+        self.faulty = self._faulty(config) if not grounds or rng.random() < 0.05 else self._most_faulty(config)
         self.config = config
         self.world = World(config, self.faulty, replica)
         self.past = {GENESIS: Block(GENESIS, None, None, True, None, None)} if prunes else {}
-        self.liars = [Liar(rng, config, party, self.past) for party in self.faulty]
+        self.liars = [Liar(rng, config, party, self.past, grounds) for party in self.faulty]
+        self.refused = []           # (source, replica) of the last frames that were refused for a tag
         self.events = []
         self.waiting = []           # (frame, party) that are still to be brought
         self.loss = rng.choice([0, 0, 0.02, 0.1, 0.3])
@@ -248,6 +279,17 @@ class Writer:
             self._plan_prunings()
         if self.weights["lead"]:
             self.weights["timeout"] = rng.choice([0.3, 1, 3])
+        if grounds:
+            self._plan_grounds()
+
+    def _plan_grounds(self):
+        """Mostly frames come, so that what lacks are certificates."""
+        rng = self.rng
+        self.weights["offer"], self.weights["gather"] = rng.choice([3, 10, 20]), rng.choice([1, 3, 6])
+        self.weights["guide"], self.weights["ask"] = rng.choice([0, 1, 3]), rng.choice([0, 1, 3])
+        self.weights["half"] = rng.choice([4, 8, 15]) if any(liar.party < FIRST_CLIENT for liar in self.liars) else 0
+        if rng.random() < 0.7:
+            self.loss, self.lateness = rng.choice([0, 0.02]), rng.choice([1, 4])
 
     def _plan_prunings(self):
         """Mostly all goes well, so that the chain grows. Old frames come again."""
@@ -269,6 +311,13 @@ class Writer:
         clients = rng.sample(range(config.clients), rng.randrange(min(3, config.clients + 1)))
         return replicas + [FIRST_CLIENT + client for client in clients]
 
+    def _most_faulty(self, config):
+        """As many replicas as may be, mostly, and some clients."""
+        rng = self.rng
+        clients = rng.sample(range(config.clients), rng.randrange(min(3, config.clients + 1)))
+        replicas = rng.sample(range(config.n), max(1, config.f - rng.choice([0, 0, 0, 1])))
+        return replicas + [FIRST_CLIENT + client for client in clients]
+
     def write(self, length):
         """(heading, events)"""
         while len(self.events) < length:
@@ -281,8 +330,11 @@ class Writer:
 
     def _happen(self, event):
         first = len(self.world.record)
-        _, sent, _ = self.world.happen(event)
+        refused, sent, _ = self.world.happen(event)
         self.events.append(event)
+        if refused == Fault.BAD_TAG and isinstance(event, (Relay, Inject)) and event.party < FIRST_CLIENT:
+            source = event.frame if isinstance(event, Relay) else event.data
+            self.refused = self.refused[-20:] + [(source, event.party)]
         if self.past and event.party in self.world.replicas:
             self._remember(self.world.replicas[event.party].tree)
         for at, frame in enumerate(sent):
@@ -386,6 +438,96 @@ class Writer:
         self._happen(Inject(last, data))
         return Inject(last, liar.question(last, self.world.replicas[last].highest.digest))
 
+    def _half(self):
+        """A correct leader proposes. Liars vote first, rightly for it alone, then others do; others may hear of the
+        votes. It proposes again, which those refuse that didn't."""
+        rng, replicas = self.rng, self.world.replicas
+        leaders = sorted({replica.pacemaker.leader() for replica in replicas.values()} & replicas.keys())
+        leader = rng.choice(leaders) if leaders else None
+        for proposal in self._sent(Beat(leader)) if leaders else ():
+            digest = frames.read(self.config, self.world.record[proposal].data).core.digest()
+            votes = self._sent(Relay(proposal, leader))
+            for liar in self.liars:
+                if liar.party < FIRST_CLIENT and rng.random() < 0.7:
+                    self._happen(Inject(leader, liar.half_vote(digest, leader)))
+            for replica in sorted(replicas.keys() - {leader}):
+                votes += self._sent(Relay(proposal, replica)) if rng.random() < 0.9 else []
+            hearers = [leader] + rng.sample(sorted(replicas), rng.choice([0, 1, 1, 2, len(replicas)]))
+            for vote in [number for number in votes if kind_of(self.world.record[number].data) == Kind.VOTE]:
+                for hearer in hearers:
+                    self._happen(Relay(vote, hearer))
+            for again in self._sent(Beat(leader)):
+                for replica in rng.sample(sorted(replicas), len(replicas)):
+                    self._happen(Relay(again, replica))
+        return Timeout(leader) if leaders and rng.random() < 0.1 else None
+
+    def _sent(self, event):
+        """The numbers of the frames that are sent in an event."""
+        first = len(self.world.record)
+        self._happen(event)
+        return list(range(first, len(self.world.record)))
+
+    def _offer(self):
+        """Mostly what was refused for a tag, to whoever refused it, but also anything."""
+        rng, to = self.rng, self.rng.randrange(self.config.n)
+        if self.refused and rng.random() < 0.8:
+            source, to = self.refused.pop(rng.randrange(len(self.refused)))
+            return Offer(to, source)
+        liars = [liar for liar in self.liars if liar.party < FIRST_CLIENT]
+        if liars and rng.random() < 0.5:
+            return Offer(to, rng.choice(liars).frame(self.world, to))
+        kinds = OFFERED if rng.random() < 0.9 else tuple(Kind)
+        found = [at for at, sent in enumerate(self.world.record) if kind_of(sent.data) in kinds]
+        return Offer(to, rng.choice(found)) if found else None
+
+    def _gather(self):
+        """A block, mostly one that a replica lacks, of others that were asked for it, and of liars."""
+        rng, to = self.rng, self.rng.choice(sorted(self.world.replicas))
+        digest, holders = self._some_block(to)
+        if digest is None:
+            return None
+        few = min(len(holders), self.config.f + rng.choice([-1, 0, 1, 1, 1, 1]))
+        sources = [answer for holder in rng.sample(holders, max(0, few)) for answer in self._asked(to, holder, digest)]
+        liars = [liar for liar in self.liars if liar.party < FIRST_CLIENT and rng.random() < 0.5]
+        block = self.world.replicas[holders[0]].tree.get(digest)
+        sources += [liar.copy(self.world, to, block) for liar in liars if block]
+        if rng.random() < 0.1 and self.world.record:
+            sources.append(rng.choice([b"", b"x", rng.randrange(len(self.world.record)), *sources]))
+        rng.shuffle(sources)
+        return Gather(to, tuple(sources)) if sources else None
+
+    def _some_block(self, to):
+        """The digest of a block above genesis, and which others have it; mostly of the lowest that a replica lacks."""
+        trees = {number: replica.tree for number, replica in self.world.replicas.items() if number != to}
+        blocks = {block.digest: block.height for tree in trees.values() for block in tree.blocks.values() if block.core}
+        lacking = [digest for digest in blocks if not self.world.replicas[to].tree.get(digest)]
+        if not blocks:
+            return None, []
+        some = sorted(lacking if lacking and self.rng.random() < 0.9 else blocks, key=lambda d: (blocks[d], d))
+        digest = some[0] if self.rng.random() < 0.7 else self.rng.choice(some)
+        return digest, sorted(number for number, tree in trees.items() if tree.get(digest))
+
+    def _asked(self, to, holder, digest):
+        """The number of the block that a replica is sent, if any, once it asked."""
+        answers = [self._sent(Relay(question, holder)) for question in self._sent(Ask(to, holder, digest))]
+        return [number for sent in answers for number in sent if kind_of(self.world.record[number].data) == Kind.BLOCK]
+
+    def _guide(self):
+        """Whoever leads, or leads next, is to lead from its lock, from its highest certificate's block or from any."""
+        rng, replicas = self.rng, self.world.replicas
+        views = [replica.pacemaker.view for replica in replicas.values()]
+        number = (max(views) + rng.randrange(2)) % self.config.n
+        replica = replicas.get(number) or replicas[rng.choice(sorted(replicas))]
+        highest = replica.highest_block
+        some = [replica.lock, highest, highest.justified or highest, rng.choice(list(replica.tree.blocks.values()))]
+        return Lead(replica.me, rng.choice(some).digest if rng.random() < 0.95 else bytes(32))
+
+    def _ask(self):
+        """Anyone is asked for anything."""
+        digest, _ = self._some_block(min(self.world.replicas))
+        some = digest if digest and self.rng.random() < 0.9 else bytes(32)
+        return Ask(self.rng.randrange(self.config.n), self.rng.randrange(self.config.n), some)
+
     def _spoil(self):
         """A frame that was sent, cut short, made longer, changed in a byte or spelled in version 1, maybe changed
         then; or as it is, to anyone."""
@@ -417,7 +559,7 @@ class Writer:
         return Relay(self.rng.randrange(len(self.world.record)), self._any_party())
 
 
-def _refused(rng, head, events, prunes):
+def _refused(rng, head, events, prunes, grounds):
     """A schedule that is refused as a whole, or whose last event ends the run."""
     f, clients, faulty = head
     how = rng.randrange(5)
@@ -433,15 +575,19 @@ def _refused(rng, head, events, prunes):
             Submit(0, b"quit\r\n"), Submit(0, b"get a \r\n"), Submit(200, b"quit\r\n"),
             Timeout(255), Beat(3 * f + 1),
             Inject(FIRST_CLIENT + clients, b""), Relay(2 ** 64 - 1, FIRST_CLIENT + clients)]
-    last = rng.choice(some + [Prune(3 * f + 1, 0), Prune(255, TOP)] if prunes else some)
+    some += [Prune(3 * f + 1, 0), Prune(255, TOP)] if prunes else []
+    some += [Offer(3 * f + 1, 0), Offer(0, 10 ** 6), Gather(0, (b"", 10 ** 6)), Gather(255, (b"x",)),
+             Lead(3 * f + 1, GENESIS), Ask(0, 3 * f + 1, GENESIS), Ask(3 * f + 1, 0, GENESIS)] if grounds else []
+    last = rng.choice(some)
     at = rng.randrange(len(events) + 1)
     return head, events[:at] + [last] + events[at:]
 
 
-def random_schedule(seed, longest=400, clients=None, prunes=PRUNES):
-    """(heading, events), decided by the seed, and by whether replicas prune; with so many clients, where that
-    is said."""
+def random_schedule(seed, longest=400, clients=None, prunes=PRUNES, grounds=GROUNDS, faults=None):
+    """(heading, events), decided by the seed, by whether replicas prune, and by whether blocks may be taken on grounds;
+    with so many clients, and so many faults, where that is said."""
     rng = random.Random(seed)
     length = rng.choice([40, 200, longest, longest] if prunes else [5, 40, 120, 200, longest])
-    head, events = Writer(rng, clients, prunes).write(length)
-    return _refused(rng, head, events, prunes) if rng.random() < 0.06 else (head, events)
+    writer = Writer(rng, clients, prunes, grounds=grounds, faults=faults)
+    head, events = writer.write(length * max(1, writer.config.n // 8) if grounds else length)
+    return _refused(rng, head, events, prunes, grounds) if rng.random() < 0.06 else (head, events)

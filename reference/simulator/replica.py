@@ -4,11 +4,15 @@ The rules are those of the paper of 2019 (three certified blocks in direct succe
 this repository's profile: a block's height is its parent's plus one, the justified block is named by its
 height on the block's own branch, and a replica votes over clear blocks alone. A replica that is told to prune
 forgets its past: its tree keeps a window, and its chronicle and its history are gone.
+
+A block whose certificate isn't good for this replica is taken where what it justifies has grounds, and is kept
+with a certificate without votes.
 """
 from dataclasses import dataclass
 
 from .blocks import Tree
 from .cache import Cache
+from .checks import Copies, good_votes, need
 from .frames import GENESIS, MOST_COMMANDS, Certificate, Core, Kind
 from .own_frames import OwnFrames
 from .sizes import TOP, Fault, Refusal
@@ -29,12 +33,23 @@ class Answer:
 @dataclass(frozen=True)
 class Step:
     """What stands of an input; of a block as it came: its core, the digest of what it justifies, the voters
-    that were counted for that, whether the block was new, and whether it was voted for."""
+    that were counted for that, whether the block was new, whether it was voted for, and who sent it, where it was
+    taken for their number."""
     core: Core = None
     justified: bytes = b""
     counted: tuple = ()
     new: bool = False
     voted: bool = False
+    senders: tuple = ()
+
+
+@dataclass(frozen=True)
+class Kept:
+    """What is kept with a block: its certificate, whose votes were counted for it, and who sent the block, where it
+    is taken for their number."""
+    cert: Certificate
+    counted: tuple = ()
+    senders: tuple = ()
 
 
 class Executor:
@@ -118,9 +133,28 @@ class Replica:
     def receive(self, checked):
         """Takes a frame whose tags were checked."""
         return self._step({
-            Kind.PROPOSAL: self._on_proposal, Kind.BLOCK: self._on_block, Kind.VOTE: self._on_vote,
+            Kind.PROPOSAL: self._on_block, Kind.BLOCK: self._on_block, Kind.VOTE: self._on_vote,
             Kind.NEW_VIEW: self._on_new_view, Kind.REQUEST: self._on_request, Kind.FETCH: self._on_fetch,
         }[checked.frame.kind], checked)
+
+    def offered(self, checked):
+        """Takes a frame whose own tag was checked, and no certificate."""
+        return self._step({
+            Kind.PROPOSAL: self._on_offered_block, Kind.BLOCK: self._on_offered_block,
+            Kind.NEW_VIEW: self._on_seen_view,
+        }[checked.frame.kind], checked)
+
+    def gathered(self, copies):
+        """Takes a block that several replicas sent."""
+        return self._step(self._on_copies, copies)
+
+    def lead(self, digest):
+        """Is to lead from the block of a digest."""
+        return self._step(self._on_lead, digest)
+
+    def ask(self, to, digest):
+        """Is to ask a replica for the block of a digest."""
+        return self._step(self._on_ask, to, digest)
 
     def timeout(self):
         return self._step(self._on_timeout)
@@ -150,22 +184,40 @@ class Replica:
         """A full tree stops a replica that has no horizon. One with a horizon can prune again."""
         return fault == Fault.CONFLICT or (fault == Fault.FULL and self.tree.horizon == 0)
 
-    def _on_proposal(self, checked):
-        sender = checked.frame.view % self.config.n
-        block, new = self._place(checked, sender)
+    def _on_block(self, checked):
+        return self._take_in(checked, self._kept_as_it_came)
+
+    def _on_offered_block(self, checked):
+        return self._take_in(checked, self._kept_on_grounds)
+
+    def _on_copies(self, copies):
+        return self._take_in(copies, self._kept_for_senders)
+
+    def _take_in(self, came, kept_of):
+        """A block comes, proposed or on its own. What is kept with it may be refused."""
+        sender, view = self._origin(came)
+        block, new = self._place(came, sender)
+        kept = kept_of(came, block, new)
         decided = self._decided_by(block) if new else None
+        voted = view == self.pacemaker.view and self._may_vote(block)
+        self.came = Step(came.frame.core, kept.cert.digest, kept.counted, new, voted, kept.senders)
         out = []
-        voted = checked.frame.view == self.pacemaker.view and self._may_vote(block)
         if voted:
             self.voted_height = block.height
             out.append(self.own.vote(sender, block.digest))
-        self.came = self._step_with(checked, new, voted)
-        return out + (self._take(block, decided) if new else [])
+        if new:
+            block.cert = kept.cert
+            out += self._take(block, decided)
+        return out
 
-    def _on_block(self, checked):
-        block, new = self._place(checked, checked.frame.sender)
-        self.came = self._step_with(checked, new, False)
-        return self._take(block, self._decided_by(block)) if new else []
+    def _origin(self, came):
+        """Who is asked for what lacks, and the view of a proposal. Of copies nobody is."""
+        frame = came.frame
+        if isinstance(came, Copies):
+            return None, None
+        if frame.kind == Kind.PROPOSAL:
+            return frame.view % self.config.n, frame.view
+        return frame.sender, None
 
     def _on_vote(self, checked):
         digest, vote = checked.frame.digest, checked.frame.vote
@@ -184,7 +236,11 @@ class Replica:
         block = self.tree.get(frame.cert.digest)
         if block is None:
             raise self._unknown(frame.sender, frame.cert.digest)
-        self._raise(block, frame.cert)
+        self._raise_whole(block, frame.cert)
+        return self._on_seen_view(checked)
+
+    def _on_seen_view(self, checked):
+        frame = checked.frame
         return [self._new_view()] if self.pacemaker.on_new_view(frame.sender, frame.view) else []
 
     def _on_request(self, checked):
@@ -227,18 +283,66 @@ class Replica:
         self.tree.prune(max(self.tree.horizon, min(height, self.executed.height)))
         return []
 
+    def _on_lead(self, digest):
+        """Leaf and highest certificate are of that block from now on. Votes and requests that wait are forgotten."""
+        block = self.tree.get(digest)
+        if block is None or block.height < self.lock.height or not self._has_grounds(block):
+            raise Refusal(Fault.UNKNOWN_PARENT)
+        if block is not self.highest_block:
+            self.highest, self.highest_block = Certificate(digest), block
+        self.leaf, self.leaf_height = digest, block.height
+        self.pending = {}
+        for other in self.tree.blocks.values():
+            other.votes = {}
+        return []
+
+    def _on_ask(self, to, digest):
+        raise self._unknown(to, digest)
+
+    # ---- grounds
+
+    def _is_justified(self, block):
+        """Some block of the tree justifies it."""
+        return any(other.core and other.justified is block for other in self.tree.blocks.values())
+
+    def _own_counted(self):
+        """The voters of the highest certificate whose tags for this replica verify."""
+        return tuple(vote.voter for vote in good_votes(self.keyring, self.highest))
+
+    def _is_own_certified(self, block):
+        """It is the block of the highest certificate, of which this replica counts a quorum."""
+        return block is self.highest_block and len(self._own_counted()) >= self.config.quorum
+
+    def _has_grounds(self, block):
+        return self._is_justified(block) or self._is_own_certified(block)
+
+    # ---- what is kept with a block: of what came, of the block, and whether it is new
+
+    def _kept_as_it_came(self, checked, _block, _new):
+        return Kept(checked.frame.cert, checked.counted)
+
+    def _kept_on_grounds(self, _checked, block, new):
+        """A block that stands had grounds. What a new one justifies has to have some."""
+        if not new or self._is_justified(block.justified):
+            return Kept(Certificate(block.justified_digest))
+        need(self._is_own_certified(block.justified))
+        return Kept(self.highest, self._own_counted())
+
+    def _kept_for_senders(self, copies, block, new):
+        """Of a new block the senders have to be distinct, and more than f."""
+        need(not new or len(set(copies.senders)) == len(copies.senders) > self.config.f)
+        return Kept(Certificate(block.justified_digest), (), copies.senders if new else ())
+
     # ---- rules
 
-    def _step_with(self, checked, new, voted):
-        return Step(checked.frame.core, checked.frame.cert.digest, checked.counted, new, voted)
-
     def _unknown(self, sender, digest):
-        return Refusal(Fault.UNKNOWN_PARENT, None if sender == self.me else (sender, digest))
+        """Somebody else is asked for the block, where somebody is named."""
+        return Refusal(Fault.UNKNOWN_PARENT, None if sender in (None, self.me) else (sender, digest))
 
-    def _place(self, checked, sender):
-        core = checked.frame.core
+    def _place(self, came, sender):
+        core = came.frame.core
         try:
-            return self.tree.place(core, checked.frame.cert, checked.clear)
+            return self.tree.place(core, came.frame.cert, came.clear)
         except Refusal as refusal:
             if refusal.fault == Fault.UNKNOWN_PARENT:
                 raise self._unknown(sender, core.parent) from None
@@ -259,6 +363,12 @@ class Replica:
             self.highest, self.highest_block = cert, block
             self.leaf, self.leaf_height = block.digest, block.height
 
+    def _raise_whole(self, block, cert):
+        """One that came whole takes the place of one without votes, too."""
+        self._raise(block, cert)
+        if block is self.highest_block and block.core and not self.highest.votes:
+            self.highest = cert
+
     def _decided_by(self, block):
         """The block that is to be executed once this one is taken, if any. Heights are compared before a link
         is followed, since what isn't in direct succession may have been pruned."""
@@ -278,7 +388,7 @@ class Replica:
     def _take(self, block, decided):
         """The block joins the tree. What it decides is executed, and answered."""
         self.tree.insert(block)
-        self._raise(block.justified, block.cert)
+        self._raise_whole(block.justified, block.cert)
         if block.justified.justify_height > self.lock.height:
             self.lock = block.justified.justified
         if decided is None:

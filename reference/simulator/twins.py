@@ -22,6 +22,18 @@ class Twins(Replica):
     def receive(self, checked):
         return self._both("receive", checked)
 
+    def offered(self, checked):
+        return self._both("offered", checked)
+
+    def gathered(self, copies):
+        return self._both("gathered", copies)
+
+    def lead(self, digest):
+        return self._both("lead", digest)
+
+    def ask(self, to, digest):
+        return self._both("ask", to, digest)
+
     def timeout(self):
         return self._both("timeout")
 
@@ -36,7 +48,8 @@ class Twins(Replica):
         others = outcome(getattr(self.whole, name), *given)
         assert mine == others, (self.me, name, mine, others)
         out, refused = mine
-        what = given[0].frame.kind.name if name == "receive" else name
+        what = given[0].frame.kind.name if name in ("receive", "offered") else name
+        what = "offered " + what if name == "offered" else what
         self.tally[what, refused[0].name if refused else "ok"] += 1
         assert self._state() == whole_state(self.whole), (self.me, name)
         self._check_window()
@@ -51,6 +64,7 @@ class Twins(Replica):
             "lock": (self.lock.digest, self.lock.height),
             "executed": (self.executed.digest, self.executed.height),
             "highest": (self.highest, self.highest_block.height), "leaf": (self.leaf, self.leaf_height),
+            "votes": {digest: block.votes for digest, block in self.tree.blocks.items() if block.votes},
             "proposed": self.own_proposal, "view": self.pacemaker.view,
             "pending": list(self.pending.values()), "length": self.executor.length, "stopped": self.stopped,
         }
@@ -87,6 +101,7 @@ def whole_state(whole):
         "lock": (now.lock.digest, now.lock.height),
         "executed": (now.executed.digest, now.executed.height),
         "highest": (cert, block.height), "leaf": now.leaf,
+        "votes": {branch.digest: votes for branch in [ROOT] + now.standing if (votes := now.votes(branch))},
         "proposed": now.proposed, "view": now.view, "pending": now.pending,
         "length": len(now.executed.history), "stopped": whole.stopped,
     }

@@ -6,6 +6,7 @@ from functools import cached_property
 
 from . import blocks
 from .cache import Cache
+from .checks import good_votes
 from .frames import GENESIS, MOST_COMMANDS, Certificate, Core, Kind
 from .own_frames import OwnFrames
 from .replica import MOST_PENDING, Answer
@@ -69,6 +70,17 @@ class GotNewView:
     view: int
     sender: int
     cert: Certificate
+    branch: Branch
+
+
+@dataclass(frozen=True)
+class SeenView:
+    view: int
+    sender: int
+
+
+@dataclass(frozen=True)
+class LedFrom:
     branch: Branch
 
 
@@ -179,7 +191,7 @@ class Chronicle:
     @cached_property
     def reached(self):
         """The greatest view that more than f replicas have announced or passed."""
-        said = [(step.sender, step.view) for step in self.of(GotNewView)]
+        said = [(step.sender, step.view) for step in self.steps if isinstance(step, (GotNewView, SeenView))]
         views = [view for _, view in said
                  if len({sender for sender, other in said if other >= view}) > self.config.f]
         return max(views, default=0)
@@ -190,7 +202,7 @@ class Chronicle:
             return 0
         if isinstance(self.step, TimedOut):
             return min(self.earlier.view + 1, TOP)
-        if isinstance(self.step, GotNewView):
+        if isinstance(self.step, (GotNewView, SeenView)):
             return max(self.earlier.view, self.reached)
         return self.earlier.view
 
@@ -198,12 +210,18 @@ class Chronicle:
     def leads(self):
         return self.view % self.config.n == self.me
 
+    @cached_property
+    def last_lead(self):
+        """How many steps there were up to the last lead."""
+        return max((at for at, step in enumerate(self.steps, 1) if isinstance(step, LedFrom)), default=0)
+
     def votes(self, branch):
-        """Those kept for a block: one a voter, a quorum at most."""
+        """Those kept for a block since the last lead: one a voter, a quorum at most."""
         kept = {}
-        for step in self.of(GotVote):
-            if step.branch is branch and step.vote.voter not in kept and len(kept) < self.config.quorum:
-                kept[step.vote.voter] = step.vote
+        came = [step for step in self.steps[self.last_lead:] if isinstance(step, GotVote)]
+        for vote in [step.vote for step in came if step.branch is branch]:
+            if vote.voter not in kept and len(kept) < self.config.quorum:
+                kept[vote.voter] = vote
         return kept
 
     @cached_property
@@ -222,11 +240,33 @@ class Chronicle:
 
     @cached_property
     def highest(self):
-        """The first certificate of the greatest height, with its block."""
+        """The first certificate of the greatest height, with its block, since the last lead. One without votes gives
+        way to another for its block that comes with a block or an announcement."""
         if not self.earlier:
             return ROOT, Certificate(GENESIS)
-        raised, before = self.raised, self.earlier.highest
-        return raised if raised and raised[0].height > before[0].height else before
+        before, cert = self.earlier.highest
+        if isinstance(self.step, LedFrom):
+            led = self.step.branch
+            return (before, cert) if led is before else (led, Certificate(led.digest))
+        if not self.raised:
+            return before, cert
+        came = not isinstance(self.step, GotVote)
+        fills = came and self.raised[0] is before and before.core and not cert.votes
+        return self.raised if self.raised[0].height > before.height or fills else (before, cert)
+
+    # ---- grounds
+
+    def is_justified(self, branch):
+        return any(other.justified is branch for other in self.standing)
+
+    def own_counted(self, keyring):
+        return [vote.voter for vote in good_votes(keyring, self.highest[1])]
+
+    def is_own_certified(self, branch, keyring):
+        return self.highest[0] is branch and len(self.own_counted(keyring)) >= self.config.quorum
+
+    def has_grounds(self, branch, keyring):
+        return self.is_justified(branch) or self.is_own_certified(branch, keyring)
 
     # ---- requests, and what to propose
 
@@ -244,6 +284,8 @@ class Chronicle:
     def pending(self):
         """Requests in order of arrival that aren't overtaken by the history."""
         if not self.earlier:
+            return []
+        if isinstance(self.step, LedFrom):
             return []
         waiting = list(self.earlier.pending)
         if isinstance(self.step, GotRequest) and not is_among(self.step.command, waiting):
@@ -273,6 +315,8 @@ class Chronicle:
             core, _ = self.earlier.child
             return core.digest(), core.height
         branch, _ = self.highest
+        if isinstance(self.step, LedFrom):
+            return branch.digest, branch.height
         if branch.height > self.earlier.highest[0].height:
             return branch.digest, branch.height
         return self.earlier.leaf
@@ -295,7 +339,8 @@ class WholeReplica:
     def __init__(self, config, me):
         self.config = config
         self.me = me
-        self.own = OwnFrames(Keyring(config, me))
+        self.keyring = Keyring(config, me)
+        self.own = OwnFrames(self.keyring)
         self.chronicle = Chronicle(me, config)
         self.stopped = False
 
@@ -314,6 +359,23 @@ class WholeReplica:
         if frame.kind == Kind.REQUEST:
             return self._input(self._request, frame.command)
         return self._input(self._fetch, frame)
+
+    def offered(self, checked):
+        frame = checked.frame
+        if frame.kind == Kind.NEW_VIEW:
+            return self._input(self._seen_view, frame)
+        if frame.kind == Kind.PROPOSAL:
+            return self._input(self._take_offered, checked, frame.view % self.config.n, frame.view)
+        return self._input(self._take_offered, checked, frame.sender, None)
+
+    def gathered(self, copies):
+        return self._input(self._take_gathered, copies)
+
+    def lead(self, digest):
+        return self._input(self._lead, digest)
+
+    def ask(self, to, digest):
+        return self._input(self._ask, to, digest)
 
     def timeout(self):
         return self._input(self._timeout)
@@ -340,8 +402,11 @@ class WholeReplica:
     def _find(self, now, digest, sender):
         branch = now.find(digest)
         if branch is None:
-            raise Refusal(Fault.UNKNOWN_PARENT, None if sender == self.me else (sender, digest))
+            raise self._unknown(sender, digest)
         return branch
+
+    def _unknown(self, sender, digest):
+        return Refusal(Fault.UNKNOWN_PARENT, None if sender in (None, self.me) else (sender, digest))
 
     def _place(self, now, checked, sender):
         """(branch, whether it is new), by the tests in their order."""
@@ -376,6 +441,31 @@ class WholeReplica:
 
     def _take_block(self, now, checked, sender, view):
         branch, new = self._place(now, checked, sender)
+        return self._take(now, branch, new, sender, view)
+
+    def _take_offered(self, now, checked, sender, view):
+        """A new block needs grounds for what it justifies: a standing block that justifies it too, or the own
+        certificate, which is kept then."""
+        branch, new = self._place(now, checked, sender)
+        justified = branch.justified
+        if new and not now.has_grounds(justified, self.keyring):
+            raise Refusal(Fault.BAD_TAG)
+        if new:
+            own = now.highest[1]
+            branch.cert = Certificate(justified.digest) if now.is_justified(justified) else own
+        return self._take(now, branch, new, sender, view)
+
+    def _take_gathered(self, now, copies):
+        """A new block needs more than f senders, each once."""
+        branch, new = self._place(now, copies, None)
+        senders = copies.senders
+        if new and (len(senders) <= self.config.f or any(senders.count(sender) > 1 for sender in senders)):
+            raise Refusal(Fault.BAD_TAG)
+        if new:
+            branch.cert = Certificate(branch.justified.digest)
+        return self._take(now, branch, new, None, None)
+
+    def _take(self, now, branch, new, sender, view):
         if new and now.is_decided_against(branch):
             raise Refusal(Fault.CONFLICT)
         voted = view is not None and self._votes_for(now, branch, view)
@@ -391,6 +481,19 @@ class WholeReplica:
         branch = self._find(now, frame.cert.digest, frame.sender)
         after = now.then(GotNewView(frame.view, frame.sender, frame.cert, branch))
         return after, [self._announcement(after)] if after.view > now.view else []
+
+    def _seen_view(self, now, frame):
+        after = now.then(SeenView(frame.view, frame.sender))
+        return after, [self._announcement(after)] if after.view > now.view else []
+
+    def _lead(self, now, digest):
+        branch = now.find(digest)
+        if branch is None or branch.height < now.lock.height or not now.has_grounds(branch, self.keyring):
+            raise Refusal(Fault.UNKNOWN_PARENT)
+        return now.then(LedFrom(branch)), []
+
+    def _ask(self, _now, to, digest):
+        raise self._unknown(to, digest)
 
     def _announcement(self, after):
         return self.own.new_view(after.view, after.highest[1])

@@ -35,6 +35,35 @@ class Inject:
 
 
 @dataclass(frozen=True)
+class Offer:
+    """A frame of the record, by its number, or bytes are offered to a replica, whatever the certificate in them."""
+    party: int
+    source: object
+
+
+@dataclass(frozen=True)
+class Gather:
+    """Frames of the record or bytes come to a replica together."""
+    party: int
+    sources: tuple
+
+
+@dataclass(frozen=True)
+class Lead:
+    """A replica is told to lead from the block of a digest."""
+    party: int
+    digest: bytes
+
+
+@dataclass(frozen=True)
+class Ask:
+    """A replica is told to ask another one for the block of a digest."""
+    party: int
+    to: int
+    digest: bytes
+
+
+@dataclass(frozen=True)
 class Timeout:
     """A replica's view has lasted too long."""
     party: int
@@ -60,6 +89,17 @@ class Sent:
     data: bytes
 
 
+def sources_of(event):
+    """Where the frames that an event brings come from: each is a number of the record, or bytes."""
+    if isinstance(event, Relay):
+        return (event.frame,)
+    if isinstance(event, Inject):
+        return (event.data,)
+    if isinstance(event, Offer):
+        return (event.source,)
+    return event.sources if isinstance(event, Gather) else ()
+
+
 class World:
     def __init__(self, config, faulty=(), replica=Replica):
         if not all(config.is_party(party) for party in faulty):
@@ -79,12 +119,7 @@ class World:
 
         An event that names a party that isn't there, a frame that wasn't sent or a payload that is no request
         ends the run."""
-        if not self.config.is_party(event.party):
-            raise Refusal(Fault.NO_SUCH_PARTY)
-        if isinstance(event, Relay) and event.frame >= len(self.record):
-            raise Refusal(Fault.NO_SUCH_FRAME)
-        if isinstance(event, Submit) and requests.read_canonical(event.payload) is None:
-            raise Refusal(Fault.NOT_A_REQUEST)
+        self._need_all_there(event)
         self.events += 1
         refused, out, receipt = None, [], None
         if event.party not in self.faulty:
@@ -97,7 +132,21 @@ class World:
         self.record += sent
         return refused, sent, receipt
 
+    def _need_all_there(self, event):
+        parties = [event.party, event.to] if isinstance(event, Ask) else [event.party]
+        if not all(self.config.is_party(party) for party in parties):
+            raise Refusal(Fault.NO_SUCH_PARTY)
+        if any(isinstance(source, int) and source >= len(self.record) for source in sources_of(event)):
+            raise Refusal(Fault.NO_SUCH_FRAME)
+        if isinstance(event, Submit) and requests.read_canonical(event.payload) is None:
+            raise Refusal(Fault.NOT_A_REQUEST)
+
+    def _bytes_of(self, source):
+        return self.record[source].data if isinstance(source, int) else source
+
     def _answer(self, event):
+        if isinstance(event, (Offer, Gather, Lead, Ask)):
+            return self._on_grounds(self.replicas[event.party], event), None
         if isinstance(event, Submit):
             return [(ALL, self.sessions[event.client].submit(event.payload))], None
         if isinstance(event, Timeout):
@@ -106,11 +155,21 @@ class World:
             return self.replicas[event.party].beat(), None
         if isinstance(event, Prune):
             return self.replicas[event.party].prune(event.height), None
-        data = self.record[event.frame].data if isinstance(event, Relay) else event.data
+        [data] = [self._bytes_of(source) for source in sources_of(event)]
         if event.party >= FIRST_CLIENT:
             return [], self.sessions[event.party - FIRST_CLIENT].receive(data)
         replica = self.replicas[event.party]
         return replica.receive(checks.admit(replica.keyring, data)), None
+
+    def _on_grounds(self, replica, event):
+        pieces = [self._bytes_of(source) for source in sources_of(event)]
+        if isinstance(event, Offer):
+            return replica.offered(checks.admit_offer(replica.keyring, *pieces))
+        if isinstance(event, Gather):
+            return replica.gathered(checks.admit_copies(replica.keyring, pieces))
+        if isinstance(event, Lead):
+            return replica.lead(event.digest)
+        return replica.ask(event.to, event.digest)
 
     def lengths(self):
         """(number, length of its history) of each correct replica."""
