@@ -23,7 +23,10 @@ use Rattle.definitions.specs.Checks.{Identity, Findings}
 use Rattle.definitions.specs.Rulings.{Ruling, Ruling.refusing, Ruling.due, Input, Input.proposal_in}
 use Rattle.definitions.specs.Rulings.{Input.block_in, Input.vote_in, Input.new_view_in, Input.request_in}
 use Rattle.definitions.specs.Rulings.{Input.fetch_in, Input.timeout_in, Input.beat_in, Input.prune_in}
-use Rattle.definitions.specs.Rulings.{ruling, on_block, on_placing, on_request, with_block}
+use Rattle.definitions.specs.Rulings.{Input.offered_in, Input.relayed_in, Input.lead_in, Input.ask_in}
+use Rattle.definitions.specs.Rulings.{Input.view_in, Ruling.missing, ruling, on_block, on_placing, on_request}
+use Rattle.definitions.specs.Rulings.{with_block, take_grounded, on_offer, on_relay, lead}
+use Rattle.definitions.specs.Grounds.{are_replicas, may_lead_from}
 use Rattle.doorkeeper.specs.declared.brought.Brought.{Brought}
 use Rattle.doorkeeper.specs.Doors.{of_height, PassedAll, AreTakenIn, NoneCrowdedOut}
 use Rattle.doorkeeper.proofs.Senders.{count-cons, never-crowded}
@@ -133,6 +136,10 @@ due-taken : (s : Step) → IsTaken (due s)
 unfolding IsTaken
 due-taken s = λ e. cc
 
+missing-taken : (sender : ℕ) (d : Bytes) → IsTaken (missing sender d)
+unfolding IsTaken
+missing-taken sender d = λ e. cc
+
 other-taken : (n : Fault) → (n ≡ fault.Crowded → ⊥) → IsTaken (refusing n)
 unfolding IsTaken
 other-taken n d = λ e. d (cc)
@@ -159,6 +166,35 @@ ruled-request r c =
     (refusing fault.PoolFull) (due (noted (got_request r))) IsTaken
     (λ _. other-taken fault.PoolFull (λ e. cc)) (λ _. due-taken (noted (got_request r)))
 
+ruled-lead : (self : Identity) (o : Option Branch) (c : Chronicle) → IsTaken (lead self o c)
+ruled-lead self None c = other-taken fault.UnknownParent (λ e. cc)
+ruled-lead self (Some b) c =
+    cond_both (may_lead_from self b c) _ _ IsTaken (λ _. due-taken _)
+    (λ _. other-taken fault.UnknownParent (λ e. cc))
+
+ruled-grounded : (self : Identity) (w : Option ℕ) (o : Option Admitted) (c : Chronicle)
+    → IsTaken (take_grounded self w o c)
+ruled-grounded self w None c = other-taken fault.BadTag (λ e. cc)
+ruled-grounded self w (Some a) c = due-taken _
+
+ruled-offer : (self : Identity) (w : Option ℕ) (sender : ℕ) (core : Core) (q : Certificate) (f : Findings)
+    (c : Chronicle) (p : Placing) → IsRoomy p → IsTaken (on_offer self w sender core q f c p)
+unfolding on_offer IsTaken IsRoomy
+ruled-offer self w sender core q f c (stands b) roomy = λ e. cc
+ruled-offer self w sender core q f c (grows b) roomy = ruled-grounded self w _ c
+ruled-offer self w sender core q f c lacks_parent roomy = λ e. cc
+ruled-offer self w sender core q f c (unfit n) roomy = λ e. roomy (ap unfit (cc))
+
+ruled-relay : (self : Identity) (senders : List ℕ) (core : Core) (q : Certificate) (f : Findings) (c : Chronicle)
+    (p : Placing) → IsRoomy p → IsTaken (on_relay self senders core q f c p)
+unfolding on_relay IsTaken IsRoomy
+ruled-relay self senders core q f c (stands b) roomy = λ e. cc
+ruled-relay self senders core q f c (grows b) roomy =
+    cond_both (are_replicas self.sizes (suc self.sizes.faults) senders) _ _ IsTaken (λ _. due-taken _)
+    (λ _. other-taken fault.BadTag (λ e. cc))
+ruled-relay self senders core q f c lacks_parent roomy = λ e. cc
+ruled-relay self senders core q f c (unfit n) roomy = λ e. roomy (ap unfit (cc))
+
 -- whatever block comes, as a proposal or not
 block-taken : (self : Identity) (w : Option ℕ) (sender : ℕ) (core : Core) (q : Certificate) (f : Findings)
     (c : Chronicle) (n : ℕ) (taken : List Brought) → PassedAll n taken → AreTakenIn c taken
@@ -181,6 +217,15 @@ none-out self (fetch_in sender d) c n taken passed those = due-taken _
 none-out self timeout_in c n taken passed those = due-taken _
 none-out self beat_in c n taken passed those = due-taken _
 none-out self (prune_in height) c n taken passed those = due-taken _
+none-out self (offered_in w sender core q f) c n taken passed those =
+    ruled-offer self w sender core q f c _
+    (placed (horizon c) MOST_BLOCKS core q (window c) (window-few n c taken passed those))
+none-out self (relayed_in senders core q f) c n taken passed those =
+    ruled-relay self senders core q f c _
+    (placed (horizon c) MOST_BLOCKS core q (window c) (window-few n c taken passed those))
+none-out self (lead_in d) c n taken passed those = ruled-lead self _ c
+none-out self (ask_in replica d) c n taken passed those = missing-taken replica d
+none-out self (view_in w sender) c n taken passed those = due-taken _
 
 pub none-crowded-out : NoneCrowdedOut
 unfolding IsTaken

@@ -1,8 +1,8 @@
 -- How far a proposal's block may stand above the block that it justifies. This is the project's own rule of the running
 -- server. No theorem rests on it: what climbs too far is lost, as on any network.
-use Rattle.std.specs.Prelude.{ℕ, ◌≡◌, ◌+◌, ◌-◌, ◌*◌, ◌^◌, ◌<◌, ◌≤◌, min, Bool, false, nat_lt}
+use Rattle.std.specs.Prelude.{ℕ, ◌≡◌, ◌+◌, ◌-◌, ◌*◌, ◌^◌, ◌<◌, ◌≤◌, min, Bool, false, nat_lt, Some}
 use Rattle.definitions.specs.Frames.{Core, Certificate}
-use Rattle.definitions.specs.Rulings.{Input, Input.proposal_in}
+use Rattle.definitions.specs.Rulings.{Input, Input.proposal_in, Input.offered_in}
 use Rattle.definitions.specs.Checks.{Findings}
 use Rattle.tuning.specs.declared.links.TheConstants.{MOST_CLIMB}
 
@@ -10,9 +10,11 @@ use Rattle.tuning.specs.declared.links.TheConstants.{MOST_CLIMB}
 abbrev pub most_climb : ℕ → ℕ
 most_climb view = min (min (view + 1) (2 ^ 64 - 1) * MOST_CLIMB) (2 ^ 64 - 1)
 
--- whether an input is a proposal that climbs further
+-- whether an input is a proposal, offered or not, that climbs further
 abbrev pub climbs_too_far : Input → Bool
 climbs_too_far (proposal_in view core q found) = nat_lt (most_climb view) (core.height - core.justify_height)
+climbs_too_far (offered_in (Some view) sender core q found) =
+    nat_lt (most_climb view) (core.height - core.justify_height)
 climbs_too_far other = false
 
 -- Where a proposal doesn't climb too far, one of a later view doesn't that justifies no lower block and stands at most

@@ -3,20 +3,25 @@
 use Rattle.std.specs.Prelude.{ℕ, ◌≡◌, ◌==◌, ◌*◌, ◌-◌, ◌/◌, ◌<◌, ◌≤◌, ◌&&◌, min, Bool, IsTrue, List, [], ◌∷◌, count_by}
 use Rattle.std.specs.Prelude.{filter, length, map}
 use Rattle.std.specs.Prelude.{nat_lt, nat_le, if◌then◌else◌, Option, Some, None, ⊤}
-use Rattle.ids.specs.Sizes.{Sizes, leader}
+use Rattle.ids.specs.Sizes.{Sizes, replicas, leader}
 use Rattle.ids.specs.declared.limits.TheConstants.{MOST_OF_HEIGHT}
 use Rattle.ids.specs.declared.fault.Fault.TheVariants as fault
 use Rattle.definitions.specs.Checks.{Identity}
 use Rattle.definitions.specs.Chronicles.{Chronicle, taken_blocks}
-use Rattle.definitions.specs.Rulings.{Input, Input.proposal_in, Input.block_in, Ruling.refusing, ruling}
+use Rattle.definitions.specs.Rulings.{Input, Input.proposal_in, Input.block_in, Input.offered_in, Input.relayed_in}
+use Rattle.definitions.specs.Rulings.{Ruling.refusing, ruling}
 use Rattle.doorkeeper.specs.declared.brought.Brought.{Brought}
 use Rattle.tuning.specs.declared.links.TheConstants.{MOST_OF_SENDER}
 
--- the block that an input brings: a proposal's by the leader of its view, and another by its sender
+-- the block that an input brings: a proposal's by the leader of its view, copies by the sender of the first, and another
+-- by its sender
 abbrev pub brings : Sizes → Input → Option Brought
 brings sizes (proposal_in view core q found) =
     Some (record { height = core.height; sender = leader sizes view })
 brings sizes (block_in sender core q found) = Some (record { height = core.height; sender = sender })
+brings sizes (offered_in view sender core q found) = Some (record { height = core.height; sender = sender })
+brings sizes (relayed_in (sender ∷ others) core q found) =
+    if nat_lt sender (replicas sizes) then Some (record { height = core.height; sender = sender }) else None
 brings sizes other = None
 
 -- how many of these taken blocks have this height and were brought by this sender

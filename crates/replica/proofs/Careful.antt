@@ -1,11 +1,10 @@
 -- Whether a block or one between it and the one that it justifies justifies one below a lock.
 use Rattle.std.proofs.Common.{ℕ, suc, ◌≡◌, ◌<◌, ◌≤◌, Bool, true, false, List, ◌∷◌, length, refl, sym, ap}
 use Rattle.std.proofs.Common.{◌∙◌, arith, inl, inr, Option, Some, None, not}
-use Rattle.std.specs.Prelude.{option_map, nat_le, ◌&&◌, ◌+◌}
+use Rattle.std.specs.Prelude.{option_map, nat_le, ◌&&◌}
 use Rattle.std.proofs.lemmas.Option.{same_Some}
 use Rattle.std.proofs.lemmas.Bool.{le-ltb, lt-ltb, cond-true, cond-false, le-leb, lt-leb}
-use Rattle.ids.specs.Sizes.{Sizes}
-use Rattle.definitions.specs.Branches.{Block, Branch, just1, just2, just3, justify_height}
+use Rattle.definitions.specs.Branches.{Block, Branch, just1, just2, justify_height}
 use Rattle.definitions.specs.Frames.{Core}
 use Rattle.definitions.specs.Trees.{blocks, find_in, block_of}
 use Rattle.definitions.specs.Chronicles.{Chronicle, executed, horizon, lock, standing_blocks, window}

@@ -1,11 +1,11 @@
 -- What is taken of a block that was offered, or sent by several.
 use Rattle.ids.specs.declared.fault.Fault.{Fault}
-use Rattle.std.proofs.Common.{ℕ, suc, ◌≡◌, ◌⊎◌, ◌&&◌, true, false, List, [], refl, inl, inr, Option}
+use Rattle.std.proofs.Common.{ℕ, suc, ◌≡◌, ◌⊎◌, ◌&&◌, true, false, List, refl, inl, inr, Option}
 use Rattle.std.proofs.lemmas.Bool.{cond_both, and_parts}
 use Rattle.ids.specs.Sizes.{quorum}
 use Rattle.definitions.specs.Bytes.{Bytes}
 use Rattle.definitions.specs.Frames.{Core, Certificate}
-use Rattle.definitions.specs.Branches.{Branch, just1, branch_eq}
+use Rattle.definitions.specs.Branches.{just1, branch_eq}
 use Rattle.definitions.specs.Trees.{Placing, Placing.stands, Placing.grows, Placing.lacks_parent}
 use Rattle.definitions.specs.Trees.{Placing.unfit}
 use Rattle.definitions.specs.Checks.{Identity, Findings}

@@ -14,10 +14,10 @@ use Rattle.definitions.specs.Digests.{digest_of}
 use Rattle.definitions.specs.Keyrings.{Keys}
 use Rattle.definitions.specs.Checks.{identity_of}
 use Rattle.definitions.specs.Trees.{blocks, find_in}
-use Rattle.definitions.specs.Chronicles.{Step, Step.noted, Note.led_from, Chronicle, horizon, window, standing_blocks}
+use Rattle.definitions.specs.Chronicles.{Step, Step.noted, Note.led_from, Chronicle, window, standing_blocks}
 use Rattle.definitions.specs.Chronicles.{IsSound, lock}
-use Rattle.definitions.specs.States.{Justified, led, qc_high, leaf, find_block}
-use Rattle.definitions.specs.Grounds.{is_justified, is_own_certified, may_lead_from}
+use Rattle.definitions.specs.States.{qc_high, leaf, find_block}
+use Rattle.definitions.specs.Grounds.{may_lead_from}
 use Rattle.definitions.specs.Rulings.{Input.lead_in, Ruling, Ruling.due, Ruling.refusing, lead, ruling, conflicts}
 use Rattle.definitions.specs.Sendings.{sendings}
 use Rattle.definitions.proofs.Horizons.{horizon-noted, standing-noted, high-window}

@@ -7,7 +7,6 @@ use Rattle.std.proofs.lemmas.List.{drop-drop, reverse-append}
 use Rattle.definitions.specs.Branches.{Branch}
 use Rattle.definitions.specs.Digests.{digest, digest_of, core_of}
 use Rattle.definitions.specs.Trees.{Stored}
-use Rattle.definitions.specs.Audit.{sent_by}
 use Rattle.definitions.specs.Chronicles.{taken_blocks}
 use Rattle.block_tree.specs.declared.node.Node.{Node}
 use Rattle.block_tree.specs.Nodes.{IsNodeOf}

@@ -2,8 +2,8 @@
 use Rattle.ids.specs.declared.limits.TheConstants.{MOST_BLOCKS}
 use Rattle.ids.specs.declared.fault.Fault.{Fault}
 use Rattle.ids.specs.declared.fault.Fault.TheVariants as fault
-use Rattle.std.proofs.Common.{ℕ, suc, ◌≡◌, ◌<◌, ◌≤◌, ◌&&◌, ◌||◌, Bool, true, false, List, [], ◌∷◌, length, cond}
-use Rattle.std.proofs.Common.{refl, sym, ap, ◌∙◌, subst, arith, inl, inr, Option, Some, None, Result, Ok, Err, nat_le}
+use Rattle.std.proofs.Common.{ℕ, suc, ◌≡◌, ◌<◌, ◌&&◌, Bool, true, false, List, [], cond}
+use Rattle.std.proofs.Common.{refl, sym, ap, ◌∙◌, subst, arith, Option, Some, None, Result}
 use Rattle.std.proofs.lemmas.Bool.{and_parts}
 use Rattle.std.specs.List.{list_any}
 use Rattle.std.specs.Str.{bytes_eq}
@@ -13,16 +13,16 @@ use Rattle.definitions.specs.Bytes.{Bytes}
 use Rattle.definitions.specs.Lists.{Among}
 use Rattle.definitions.specs.Frames.{Core, Certificate}
 use Rattle.definitions.specs.Branches.{Branch, just1, branch_eq}
-use Rattle.definitions.specs.Digests.{digest, digest_of}
+use Rattle.definitions.specs.Digests.{digest_of}
 use Rattle.definitions.specs.Keyrings.{Keys}
 use Rattle.definitions.specs.Checks.{Findings, identity_of}
-use Rattle.definitions.specs.Trees.{Stored, blocks, find_in, Placing, Placing.grows, Placing.lacks_parent}
+use Rattle.definitions.specs.Trees.{Stored, find_in, Placing, Placing.grows, Placing.lacks_parent}
 use Rattle.definitions.specs.Trees.{Placing.unfit, placing_known, placing_new, placing}
-use Rattle.definitions.specs.Chronicles.{Admitted, Step.took_block, Step.noted, Note.led_from, Chronicle}
-use Rattle.definitions.specs.Chronicles.{horizon, window, standing_blocks, IsSound, lock}
-use Rattle.definitions.specs.States.{Justified, qc_high}
+use Rattle.definitions.specs.Chronicles.{Admitted, Step.took_block, Chronicle}
+use Rattle.definitions.specs.Chronicles.{horizon, window, standing_blocks, IsSound}
+use Rattle.definitions.specs.States.{qc_high}
 use Rattle.definitions.specs.Grounds.{are_replicas, is_justified, own_counted, is_own_certified, without_votes}
-use Rattle.definitions.specs.Grounds.{grounded, may_lead_from}
+use Rattle.definitions.specs.Grounds.{grounded}
 use Rattle.definitions.specs.Rulings.{Ruling, Ruling.due, Ruling.refusing, admitted, votes_for, take_block}
 use Rattle.definitions.specs.Rulings.{take_grounded, on_offer, on_relay}
 use Rattle.definitions.proofs.Branches.{branch_eq-decides}
@@ -57,9 +57,10 @@ module _ (keys : Keys) (c : Chronicle) (so : IsSound keys.sizes c) where
   pub window-block : (x y : Branch) → Among x (window c) → Among y (window c)
       → bytes_eq (digest_of x) (digest_of y) ≡ branch_eq x y
   window-block x y m n =
-      same-tests {A = x ≡ y} (bytes_eq (digest_of x) (digest_of y)) (branch_eq x y)
-      (λ t. so.is_tree.one x y m n ((bytes_eq-Decides (digest_of x) (digest_of y)).0 t),
-      λ is. (bytes_eq-Decides (digest_of x) (digest_of y)).1 (ap digest_of is))
+      same-tests {A = x ≡ y} (bytes_eq (digest_of x) (digest_of y)) (branch_eq x y) (
+        λ t. so.is_tree.one x y m n ((bytes_eq-Decides (digest_of x) (digest_of y)).0 t),
+        λ is. (bytes_eq-Decides (digest_of x) (digest_of y)).1 (ap digest_of is),
+      )
       (branch_eq-decides x y)
 
   -- and found

@@ -5,7 +5,7 @@ use Rattle.std.proofs.Common.{cond, refl, sym, ap, ◌∙◌, subst, inl, inr, a
 use Rattle.std.specs.Prelude.{option_map, IfSome}
 use Rattle.std.specs.Str.{bytes_eq}
 use Rattle.std.proofs.lemmas.Slice.Eq.{bytes_eq-Decides}
-use Rattle.std.proofs.lemmas.Bool.{lt-ltb, le-ltb, ltb-true, ltb-false, cond_both, eqb-true, eq-eqb}
+use Rattle.std.proofs.lemmas.Bool.{ltb-true, ltb-false, cond_both, eqb-true, eq-eqb}
 use Rattle.ids.specs.Sizes.{Sizes}
 use Rattle.definitions.specs.Lists.{Among}
 use Rattle.definitions.specs.Branches.{Branch, branch_eq}
@@ -93,11 +93,12 @@ pub same-block : (s : Sizes) (c : Chronicle) → IsSound s c → (x y : Branch) 
     → length (qc_high s c).block ≤ length x → length x ≡ length y
     → bytes_eq (digest_of x) (digest_of y) ≡ branch_eq x y
 same-block s c so x y m k low e =
-    same-tests {A = x ≡ y} (bytes_eq (digest_of x) (digest_of y)) (branch_eq x y)
-    (λ t. so.is_tree.one x y (high-window s c so.lawful x m low)
-    (high-window s c so.lawful y k (omega (arith, low, e)))
-    ((bytes_eq-Decides (digest_of x) (digest_of y)).0 t),
-    λ is. (bytes_eq-Decides (digest_of x) (digest_of y)).1 (ap digest_of is))
+    same-tests {A = x ≡ y} (bytes_eq (digest_of x) (digest_of y)) (branch_eq x y) (
+      λ t. so.is_tree.one x y (high-window s c so.lawful x m low)
+          (high-window s c so.lawful y k (omega (arith, low, e)))
+          ((bytes_eq-Decides (digest_of x) (digest_of y)).0 t),
+      λ is. (bytes_eq-Decides (digest_of x) (digest_of y)).1 (ap digest_of is),
+    )
     (branch_eq-decides x y)
 
 -- ---- a certificate that is brought

@@ -1,7 +1,7 @@
 -- What is decided of blocks that are taken on grounds, and of a lead.
 use Rattle.ids.specs.declared.fault.Fault.{Fault}
 use Rattle.ids.specs.declared.fault.Fault.TheVariants as fault
-use Rattle.std.specs.Prelude.{ℕ, suc, ◌≡◌, ◌&&◌, ◌||◌, Bool, true, false, [], ◌∷◌, length, if◌then◌else◌, nat_le, nat_lt}
+use Rattle.std.specs.Prelude.{suc, ◌≡◌, ◌&&◌, ◌||◌, Bool, true, false, [], ◌∷◌, length, if◌then◌else◌, nat_le, nat_lt}
 use Rattle.std.specs.Prelude.{Option, Some, None, Result, Ok, Err}
 use Rattle.std.specs.Str.{bytes_eq}
 use Rattle.ids.specs.Sizes.{quorum}

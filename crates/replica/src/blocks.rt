@@ -112,7 +112,9 @@ fn fills(block: BlockRef, certificate: &CertificateView, high: &High) -> bool
 {
     let is_same = block.height == high.block.height && block.digest == high.block.digest;
     let held = high.certificate.view();
-    (high.block.height.0 > 0 && is_same) && held.votes().next().is_none() && certificate.votes().next().is_some()
+    (high.block.height.0 > 0 && is_same)
+        && held.votes().next().is_none()
+        && certificate.votes().next().is_some()
 }
 
 /// A certificate that came whole, with its block, where it takes the place of the highest one so far: it is higher, or
@@ -188,12 +190,7 @@ fn take_new(
 }
 
 /// What a block that may stand in the tree, as this node, comes to.
-fn grow(
-    state: &State,
-    keyring: &ReplicaKeyring,
-    offer: &Offer,
-    node: Node,
-) -> Result<Change, Fault>
+fn grow(state: &State, keyring: &ReplicaKeyring, offer: &Offer, node: Node) -> Result<Change, Fault>
     requires node { IsNodeFor (tree_of state.now.variables) offer.now.core offer.now.certificate
         offer.now.found.clear node }
     ensures { IsGrown keyring.now state.now offer.now result }

@@ -90,7 +90,11 @@ fn take_own(state: &State, keyring: &ReplicaKeyring, offer: &Offer) -> Result<Ch
 }
 
 /// A certificate of the block of a digest, without votes.
-pub(crate) fn without_votes(state: &State, keyring: &ReplicaKeyring, block: Digest) -> CertificateBuf
+pub(crate) fn without_votes(
+    state: &State,
+    keyring: &ReplicaKeyring,
+    block: Digest,
+) -> CertificateBuf
     ensures { result ≡ record { digest = block; votes = [] } }
 {
     CertificateBuf::without_votes(state.alloc, keyring.config(), block)
@@ -108,7 +112,10 @@ pub(crate) fn decide_offer(
     let block = offer.justified().digest;
     let certificate = without_votes(state, keyring, block);
     let bare = offer.with(certificate.view(), &[]);
-    match state.tree.placing(&bare.core.digest(), &bare.core, &bare.certificate)? {
+    match state
+        .tree
+        .placing(&bare.core.digest(), &bare.core, &bare.certificate)?
+    {
         Place::Stands => decide_block(state, keyring, &bare),
         Place::Grows => {
             if state.tree.is_justified(&block) {
@@ -130,7 +137,10 @@ pub(crate) fn decide_relay(
 {
     let certificate = without_votes(state, keyring, offer.justified().digest);
     let bare = offer.with(certificate.view(), &[]);
-    match state.tree.placing(&bare.core.digest(), &bare.core, &bare.certificate)? {
+    match state
+        .tree
+        .placing(&bare.core.digest(), &bare.core, &bare.certificate)?
+    {
         Place::Stands => decide_block(state, keyring, &bare),
         Place::Grows => {
             let config = keyring.config();

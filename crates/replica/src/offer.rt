@@ -81,9 +81,7 @@ impl<'a, 'b> Offer<'a, 'b> {
     }
 
     /// The block of a proposal whose certificate needn't be good for this replica.
-    pub(crate) fn of_offered_proposal(
-        tagged: &'b Tagged<'a, ProposalView<'a>>,
-    ) -> Offer<'a, 'b>
+    pub(crate) fn of_offered_proposal(tagged: &'b Tagged<'a, ProposalView<'a>>) -> Offer<'a, 'b>
         ensures offered { result ≡ tagged_proposal tagged.entry.now }
         ensures frame { IsFrame tagged.entry.now.keys.sizes (proposal_of tagged.entry.now.view) }
     {

@@ -141,7 +141,11 @@ fn decide(
         Input::OfferedProposal(proposal) => {
             decide_offer(state, keyring, &Offer::of_offered_proposal(&proposal))
         }
-        Input::OfferedBlock(block) => decide_offer(state, keyring, &Offer::of_offered_block(&block)),
+        Input::OfferedBlock(block) => decide_offer(
+            state,
+            keyring,
+            &Offer::of_offered_block(&block),
+        ),
         Input::SeenView(announced) => decide_seen_view(state, keyring, announced.view()),
         Input::Relayed(copies) => decide_relay(state, keyring, &Offer::of_copies(&copies)),
         Input::Lead(block) => decide_lead(state, keyring, block),

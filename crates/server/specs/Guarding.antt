@@ -6,7 +6,7 @@ use Rattle.ids.specs.declared.fault.Fault.TheVariants.{BadHeight, NotMine, Wrong
 use Rattle.admission.specs.declared.input.Input.{Input}
 use Rattle.admission.specs.declared.input.Input.TheVariants as input
 use Rattle.admission.specs.Inputs.{input_of}
-use Rattle.definitions.specs.Rulings.{Input as Ruled, Input.proposal_in}
+use Rattle.definitions.specs.Rulings.{Input as Ruled, Input.proposal_in, Input.offered_in}
 use Rattle.doorkeeper.specs.Climbs.{climbs_too_far}
 use Rattle.signed_frames.specs.Outs.{SentBytes}
 use Rattle.turns.specs.declared.prompt.Prompt.{Prompt}
@@ -15,12 +15,17 @@ use Rattle.locked_replica.specs.Kept.{KeptState}
 use Rattle.replica.specs.Careful.{is_careless as is_careless_core}
 use Rattle.replica.specs.Wanting.{wants_beat}
 
--- a block, a vote or a view: by it a proposal may have come to stand, or another block may be the one to propose on
+-- a block, a vote, a view or a lead: by it a proposal may have come to stand, or another block may be the one to propose on
 abbrev pub moves : Input → Bool
 moves (input.Proposal checked) = true
 moves (input.Block checked) = true
 moves (input.Vote checked) = true
 moves (input.NewView checked) = true
+moves (input.OfferedProposal tagged) = true
+moves (input.OfferedBlock tagged) = true
+moves (input.Relayed copies) = true
+moves (input.Lead block) = true
+moves (input.SeenView tagged) = true
 moves other = false
 
 -- leave to propose
@@ -54,6 +59,7 @@ is_vain kept input = is_beat input && not (wants_beat (record { keys = kept.keys
 -- a proposal for which a vote would be careless
 abbrev pub is_careless : KeptState → Ruled → Bool
 is_careless kept (proposal_in view core q found) = is_careless_core core kept.replica.chronicle
+is_careless kept (offered_in (Some view) sender core q found) = is_careless_core core kept.replica.chronicle
 is_careless kept other = false
 
 -- Why an input is refused before the doorkeeper counts: a vain beat, a proposal that climbs too far, or a careless one.

@@ -36,7 +36,15 @@ fn moves(input: &Input<'_>) -> bool
 {
     matches!(
         input,
-        Input::Proposal(_) | Input::Block(_) | Input::Vote(_) | Input::NewView(_)
+        Input::Proposal(_)
+            | Input::Block(_)
+            | Input::Vote(_)
+            | Input::NewView(_)
+            | Input::OfferedProposal(_)
+            | Input::OfferedBlock(_)
+            | Input::Relayed(_)
+            | Input::Lead(_)
+            | Input::SeenView(_)
     )
 }
 
@@ -87,6 +95,7 @@ impl<'a> Guarded<'a> {
     {
         match input {
             Input::Proposal(checked) => self.replica().is_careless(&checked.view().core()),
+            Input::OfferedProposal(tagged) => self.replica().is_careless(&tagged.view().core()),
             _ => false,
         }
     }

@@ -1,4 +1,4 @@
-use Rattle.std.proofs.Common.{◌≡◌, sym, subst, Ok}
+use Rattle.std.proofs.Common.{subst, Ok}
 use Rattle.definitions.specs.Trees.{TreeState, blocks, placing}
 use Rattle.block_tree.specs.declared.insert.Plan.{Plan}
 use Rattle.block_tree.specs.declared.insert.Plan.TheVariants.{Grows}

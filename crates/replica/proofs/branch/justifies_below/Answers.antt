@@ -1,10 +1,9 @@
-use Rattle.std.proofs.Common.{◌≡◌, ◌∙◌, sym, ap, subst, Some, None, arith, length, not, Bool, ℕ, ◌≤◌, ◌<◌, ◌+◌}
+use Rattle.std.proofs.Common.{◌≡◌, ◌∙◌, ap, arith, length, not, ℕ, ◌≤◌}
 use Rattle.std.specs.Prelude.{option_map}
 use Rattle.definitions.specs.Bytes.{Bytes}
 use Rattle.definitions.specs.Trees.{blocks, find_in}
 use Rattle.frames_view.specs.Views.{core_of}
 use Rattle.block_tree.specs.Finding.{justifies_in}
-use Rattle.replica.specs.Careful.{justifies_below}
 use Rattle.replica.proofs.Careful as careful
 use Rattle.replica.proofs.branch.justifies_below.Goals as goal
 

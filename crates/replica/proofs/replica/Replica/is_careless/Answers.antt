@@ -1,5 +1,4 @@
-use Rattle.std.proofs.Common.{ap, ◌∙◌, ◌≤◌, length, subst, sym, ◌≡◌, Bool}
-use Rattle.definitions.specs.Chronicles.{lock, horizon}
+use Rattle.std.proofs.Common.{ap, ◌∙◌, ◌≤◌, subst, sym}
 use Rattle.definitions.specs.Trees.{blocks}
 use Rattle.frames_view.specs.Views.{core_of}
 use Rattle.replica.specs.Careful.{justifies_below, is_careless}
