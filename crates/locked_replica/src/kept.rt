@@ -14,7 +14,7 @@ ghost use Rattle.locked_replica.specs.Addressed.{may_step};
 
 use crate::closed::{Closed, NotAll};
 use crate::once::each_once;
-use certificates::{Authenticated, Checked};
+use authenticators::VerifyingKeyring;
 use ids::{Fault, ReplicaId};
 use marks::{Eye, Marks};
 use replica::{Archived, Input, Out};
@@ -135,29 +135,31 @@ impl<'a> Kept<'a> {
             && self.shares[share.number()] == share.count()
     }
 
-    /// Whether a frame was checked for this replica, at its sizes.
-    fn is_mine<V: Authenticated>(&self, checked: &Checked<'_, V>) -> bool
-        ensures { result ≡ same_replica checked.now.keys self.now.keys }
+    /// Whether this is a keyring of this replica, at its sizes.
+    fn is_mine(&self, keyring: &VerifyingKeyring) -> bool
+        ensures { result ≡ same_replica keyring.now self.now.keys }
     {
-        checked.keyring().replica() == self.number()
-            && checked.config() == self.replica.replica().config()
+        keyring.replica() == self.number() && keyring.config() == self.replica.replica().config()
     }
 
-    /// Whether the input was checked for this replica, at its sizes. Timeouts, beats and prunings are for
-    /// anyone.
+    /// Whether the input was checked for this replica, at its sizes. What didn't come in a frame is for anyone;
+    /// who is to be asked has to be a replica.
     pub fn is_addressed(&self, input: &Input) -> bool
         ensures { result ≡ is_addressed self.now.keys input.now }
     {
         match input {
-            Input::Proposal(proposal) => self.is_mine(proposal),
-            Input::Block(block) => self.is_mine(block),
-            Input::Vote(vote) => self.is_mine(vote),
-            Input::NewView(announced) => self.is_mine(announced),
-            Input::Request(request) => self.is_mine(request),
-            Input::Fetch(asked) => self.is_mine(asked),
-            Input::Timeout => true,
-            Input::Beat => true,
-            Input::Prune(_) => true,
+            Input::Proposal(proposal) => self.is_mine(proposal.keyring()),
+            Input::Block(block) => self.is_mine(block.keyring()),
+            Input::Vote(vote) => self.is_mine(vote.keyring()),
+            Input::NewView(announced) => self.is_mine(announced.keyring()),
+            Input::Request(request) => self.is_mine(request.keyring()),
+            Input::Fetch(asked) => self.is_mine(asked.keyring()),
+            Input::OfferedProposal(proposal) => self.is_mine(proposal.keyring()),
+            Input::OfferedBlock(block) => self.is_mine(block.keyring()),
+            Input::SeenView(announced) => self.is_mine(announced.keyring()),
+            Input::Relayed(copies) => self.is_mine(copies.first().keyring()),
+            Input::Timeout | Input::Beat | Input::Prune(_) | Input::Lead(_) => true,
+            Input::Ask(replica, _) => replica.0 < self.replica.replica().config().n(),
         }
     }
 
