@@ -5,7 +5,7 @@ import collections
 from . import audit, frames, judging
 from .frames import Kind, kind_of
 from .sizes import FIRST_CLIENT
-from .world import World
+from .world import Gather, Lead, Offer, World
 
 
 class Watched(World):
@@ -64,6 +64,17 @@ class Watched(World):
                 "worlds in which some lack the lock": any(top.lock.digest not in r.tree.blocks for r in replicas),
                 "worlds whose highest certificates differ": len({replica.highest for replica in replicas}) > 1}
         return [what for what, holds in told.items() if holds]
+
+    def counts(self):
+        """How often there was what."""
+        yield from ["worlds", "worlds of %d replicas" % self.config.n] + ["events"] * self.events
+        for event, answer in zip(self.happened, self.answers):
+            if isinstance(event, (Offer, Gather, Lead)):
+                yield "%s: %s" % (type(event).__name__.lower(), answer.name if answer else "ok")
+        for replica in self.replicas.values():
+            blocks = [block for block in replica.tree.blocks.values() if block.justify_height]
+            yield from ["blocks kept without votes"] * sum(not block.cert.votes for block in blocks)
+            yield from ["blocks taken for their senders"] * sum(len(s.senders) > 0 for s in replica.chronicle or [])
 
     def check_outcome(self, ask_audit):
         run = judging.Run.__new__(judging.Run)
