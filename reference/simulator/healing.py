@@ -7,6 +7,8 @@ correct replica has a certificate of its own for the last one. Three more blocks
 
 No correct replica may have stopped or pruned, and there has to be room for the blocks.
 """
+from itertools import product
+
 from .frames import Kind, kind_of
 from .own_frames import ALL
 from .sizes import FIRST_CLIENT, Fault
@@ -22,7 +24,6 @@ class Healer:
         self.world = world
         self.correct = sorted(world.replicas)
         self.events = []
-        self.sent = []              # by replicas to which frames were shown
 
     def do(self, event):
         """(refusal or None, numbers of the frames that were sent, receipt or None)"""
@@ -82,18 +83,17 @@ class Healer:
             _, [question], _ = self.do(Ask(replica, other, digest))
             for copy in self.do(Relay(question, other))[1]:
                 copies.append(copy)
-                if self._show(copy, replica) is None:
+                if self._show(copy, replica)[0] is None:
                     return
         if copies:
             self.do(Gather(replica, tuple(copies)))
 
     def _show(self, number, replica):
-        """A frame comes, and is offered where its certificate isn't good there; the refusal."""
+        """A frame comes, and is offered where its certificate isn't good there: the refusal, and what was sent."""
         refused, sent, _ = self.do(Relay(number, replica))
         if refused == Fault.BAD_TAG:
             refused, sent, _ = self.do(Offer(replica, number))
-        self.sent += sent
-        return refused
+        return refused, list(sent)
 
     # ---- blocks
 
@@ -104,19 +104,16 @@ class Healer:
 
     def _round(self, leader, count):
         """So many blocks, which the leader takes one by one; then all to the others, and all votes to all."""
-        self.sent, proposals = [], []
+        proposals, sent = [], []
         for _ in range(count):
-            proposals += self.do(Beat(leader))[1]
-            self._show(proposals[-1], leader)
-        for replica in self.correct:
-            for proposal in proposals if replica != leader else ():
-                self._show(proposal, replica)
-        for vote in [number for number in self.sent if self._kind(number) == Kind.VOTE]:
-            for replica in self.correct:
+            _, [proposal], _ = self.do(Beat(leader))
+            proposals.append(proposal)
+            sent += self._show(proposal, leader)[1]
+        for replica, proposal in product(self.correct, proposals):
+            sent += self._show(proposal, replica)[1] if replica != leader else []
+        for vote, replica in product(sent, self.correct):
+            if kind_of(self.world.record[vote].data) == Kind.VOTE:
                 self.do(Relay(vote, replica))
-
-    def _kind(self, number):
-        return kind_of(self.world.record[number].data)
 
     # ---- the client
 

@@ -24,6 +24,17 @@ class Run:
             self.answers.append(refused)
             if receipt:
                 self.receipts.append((self.world.events, event.party - FIRST_CLIENT, receipt))
+        self._look_at_histories()
+
+    @classmethod
+    def that_was(cls, world, events, answers, receipts):
+        """One that was run elsewhere; a receipt stands behind its event and its client."""
+        run = cls.__new__(cls)
+        run.world, run.events, run.answers, run.receipts = world, events, answers, receipts
+        run._look_at_histories()
+        return run
+
+    def _look_at_histories(self):
         self.histories = {number: replica.history for number, replica in sorted(self.world.replicas.items())}
 
     def submissions(self):

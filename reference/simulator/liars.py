@@ -47,15 +47,21 @@ class Liars:
         known = sorted(self.cores, key=lambda digest: (self.height(digest), digest))
         return self.rng.choice(known[-count:] if self.rng.random() < 0.75 else known)
 
+    def highest(self, digests):
+        return max(digests & self.cores.keys(), key=lambda digest: (self.height(digest), digest))
+
     def few(self):
         """To whom something is shown."""
         all_, most_few = len(self.good), self.config.f + 1
         return self.rng.sample(self.good, self.rng.choice([all_, most_few, most_few, 1, self.rng.randint(1, all_)]))
 
+    def can_certify(self, digest):
+        return digest == GENESIS or len(self.votes[digest]) + len(self.bad) >= self.config.quorum
+
     def certificate(self, digest, receivers):
         """One that is good for these, with as few correct votes as it takes or more; none where it can't be had."""
         honest, quorum = self.votes[digest], self.config.quorum
-        if digest == GENESIS or len(honest) + len(self.bad) < quorum:
+        if digest == GENESIS or not self.can_certify(digest):
             return Certificate(GENESIS) if digest == GENESIS else None
         own = self.rng.randint(max(0, quorum - len(honest)), min(len(self.bad), quorum))
         alone = receivers if self.rng.random() < self.half else range(self.config.n)
@@ -93,8 +99,7 @@ class Liars:
         """A next block, and what it justifies."""
         parent = parent or self.high(3)
         branch = self.branch(parent)
-        certified = [digest for digest in branch[:30] if digest == GENESIS
-                     or len(self.votes[digest]) + len(self.bad) >= self.config.quorum]
+        certified = [digest for digest in branch[:30] if self.can_certify(digest)]
         if justified not in branch:
             justified = certified[0] if certified and self.rng.random() < 0.6 else self.rng.choice(certified or branch)
         core = Core(parent, len(branch), len(branch) - 1 - branch.index(justified), self.some_commands())

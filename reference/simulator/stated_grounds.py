@@ -38,7 +38,9 @@ def try_in_vain(run):
     leader = next_view(run)
     while leader not in correct(run):
         leader = next_view(run)
+    before = run.world.replicas[leader].highest
     run.round(leader, correct(run))
+    assert run.world.replicas[leader].highest == before
 
 
 def healed(run, client=0):
@@ -54,14 +56,14 @@ def healed(run, client=0):
 
 # ---- half votes of leaders
 
-def wedged_by_a_leader(faulty=(0,), clear_of=range(1, 4)):
+def wedged_by_a_leader(faulty=(0,), receivers=range(1, 4)):
     """Faulty replicas lead, the first of them at first. Of the first block each of these correct replicas gets a
     certificate that is good for itself alone, with the next block."""
     run = Run(faulty=faulty, faults=len(faulty))
     first = Core(GENESIS, 1, 0)
-    run.inject(proposal_of(run.config, 0, first, Certificate(GENESIS)), clear_of)
+    run.inject(proposal_of(run.config, 0, first, Certificate(GENESIS)), receivers)
     second = Core(first.digest(), 2, 1)
-    for replica in clear_of:
+    for replica in receivers:
         cert = half_certificate(run, first.digest(), [replica])
         run.inject(proposal_of(run.config, 0, second, cert), [replica])
     return run, second

@@ -2,14 +2,14 @@
 parties, or an event is taken to be refused memory."""
 from dataclasses import replace
 
-from . import frames, stated_runs
-from .frames import GENESIS, Core, Kind, ReplyFrame, RequestFrame, write
+from . import frames, stated_grounds, stated_runs
+from .frames import GENESIS, Certificate, Core, Kind, ReplyFrame, RequestFrame, write
 from .replica import MOST_PENDING
-from .signing import certificate_of, command_of, proposal_of, request_of
+from .signing import block_of, certificate_of, command_of, proposal_of, request_of
 from .sizes import FIRST_CLIENT
 from .stated_runs import GET_A, REPLICAS, SET_A, Run
 from .tags import Keyring
-from .world import Relay, Submit, Timeout
+from .world import Gather, Relay, Submit, Timeout
 
 STORED, EXISTS = b"STORED\r\n", b"EXISTS\r\n"
 
@@ -120,6 +120,31 @@ def two_histories():
     return run
 
 
+def gather_chain(run, replica, senders, command):
+    """A replica gets copies of a chain that begins with a command, in the names of these."""
+    below = GENESIS
+    for height in range(1, 5):
+        core = Core(below, height, height - 1, (command,) if height == 1 else ())
+        copies = [block_of(run.config, sender, replica, core, Certificate(below)) for sender in senders]
+        run.do(Gather(replica, tuple(copies)))
+        below = core.digest()
+
+
+def two_histories_by_copies():
+    """Two replicas gather copies of two chains in the names of replicas that never sent them."""
+    run, commands = two_commands()
+    gather_chain(run, 1, (2, 3), commands[0])
+    gather_chain(run, 2, (1, 3), commands[1])
+    return run
+
+
+def copies_of_what_was_not_submitted():
+    run = Run()
+    for replica, senders in ((1, (0, 3)), (2, (0, 3)), (3, (1, 2))):
+        gather_chain(run, replica, senders, command_of(run.config, 0, 1, SET_A))
+    return run
+
+
 def a_conflict():
     """One replica is shown two chains, and stops."""
     run, commands = two_commands()
@@ -195,6 +220,14 @@ def garbage_behind_a_refusal():
     run.inject(run.world.record[request].data[:-64] + bytes(64), [2])
     run.inject(run.world.record[request].data[:-96] + bytes(96), [1])
     return run
+
+
+def cases_on_grounds():
+    """As `all_cases`."""
+    runs = [(run.__name__.replace("_", " "), run()) for run in stated_grounds.EXAMPLES]
+    runs += [("two histories by copies", two_histories_by_copies()),
+             ("copies of a command that was not submitted", copies_of_what_was_not_submitted())]
+    return [("", name, run.schedule()) for name, run in runs]
 
 
 def all_cases():

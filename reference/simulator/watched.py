@@ -5,7 +5,7 @@ import collections
 from . import audit, frames, judging
 from .frames import Kind, kind_of
 from .sizes import FIRST_CLIENT
-from .world import World
+from .world import Gather, Lead, Offer, World
 
 
 class Watched(World):
@@ -54,6 +54,7 @@ class Watched(World):
             justified = [block.justified for block in replica.tree.blocks.values() if block.justified]
             for block in justified + [replica.lock, replica.highest_block]:
                 assert self.could_be_certified(block), "r%d has grounds for what can't be certified" % replica.me
+        assert audit.judge_windows(list(self.replicas.values()))[0] != "fork", "two decide differently"
 
     def differences(self):
         """How far apart correct replicas are, in words."""
@@ -65,12 +66,19 @@ class Watched(World):
                 "worlds whose highest certificates differ": len({replica.highest for replica in replicas}) > 1}
         return [what for what, holds in told.items() if holds]
 
+    def counts(self):
+        """How often there was what."""
+        yield from ["worlds", "worlds of %d replicas" % self.config.n] + ["events"] * self.events
+        for event, answer in zip(self.happened, self.answers):
+            if isinstance(event, (Offer, Gather, Lead)):
+                yield "%s: %s" % (type(event).__name__.lower(), answer.name if answer else "ok")
+        for replica in self.replicas.values():
+            blocks = [block for block in replica.tree.blocks.values() if block.justify_height]
+            yield from ["blocks kept without votes"] * sum(not block.cert.votes for block in blocks)
+            yield from ["blocks taken for their senders"] * sum(len(s.senders) > 0 for s in replica.chronicle or [])
+
     def check_outcome(self, ask_audit):
-        run = judging.Run.__new__(judging.Run)
-        run.world, run.events, run.answers, run.receipts = self, self.happened, self.answers, self.receipts
-        run.histories = {number: replica.history for number, replica in sorted(self.replicas.items())}
-        if None not in run.histories.values():
-            assert not [fault for fault in judging.faults_of(run) if fault], "not linear"
-            assert not (ask_audit and audit.unbacked(list(self.replicas.values()))), "an audit blames a correct replica"
-        else:
-            assert audit.judge_windows(list(self.replicas.values()))[0] != "fork", "windows fork"
+        """What has to hold at the end, where nobody pruned. The audit takes its time."""
+        run = judging.Run.that_was(self, self.happened, self.answers, self.receipts)
+        assert not [fault for fault in judging.faults_of(run) if fault], "not linear"
+        assert not (ask_audit and audit.unbacked(list(self.replicas.values()))), "an audit blames a correct replica"
