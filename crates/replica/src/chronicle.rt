@@ -1,7 +1,7 @@
 //! The chronicle of a replica, as it is lent.
 
 ghost use Rattle.std.specs.Prelude.{◌≡◌, [], ◌∷◌, length, reverse, option_map, MatchOption};
-ghost use Rattle.definitions.specs.Audit.{gives_vote, counted_by, counted_for, sent_by, core_in};
+ghost use Rattle.definitions.specs.Audit.{gives_vote, takes, counted_by, counted_for, sent_by, core_in};
 ghost use Rattle.frames_view.specs.Views.{core_of};
 ghost use Rattle.replica.specs.Replay.{taken_new, replay};
 
@@ -92,6 +92,17 @@ impl<'a> StepView<'a> {
         match self.step {
             StoredStep::TookNew(taken) => &taken.senders,
             _ => &[],
+        }
+    }
+
+    /// Whether it took the block of a digest, as a new one.
+    #[tactic(auto, unfolding(definitions::specs::Audit::takes))]
+    pub fn takes(&self, block: &Digest) -> bool
+        ensures { result ≡ takes block.now self.now }
+    {
+        match self.step {
+            StoredStep::TookNew(_) => self.tree.nth_newest(self.newer).digest() == *block,
+            _ => false,
         }
     }
 }
