@@ -2,62 +2,76 @@
 use Rattle.ids.specs.declared.limits.TheConstants.{MOST_BLOCKS}
 use Rattle.ids.specs.declared.fault.Fault.{Fault}
 use Rattle.ids.specs.declared.fault.Fault.TheVariants as fault
-use Rattle.std.proofs.Common.{ℕ, IfOk, ◌≡◌, ◌⊎◌, ◌&&◌, not, Bool, true, false, List, [], length, map, refl}
+use Rattle.std.proofs.Common.{ℕ, suc, IfOk, ◌∷◌, ◌≡◌, ◌&&◌, not, Bool, true, false, List, [], length, map, refl}
 use Rattle.std.proofs.Common.{sym, ap, subst, ◌∙◌, inl, inr, Option, Some, None, Result, Ok, Err, nat_lt}
 use Rattle.std.specs.Bool.{⊤}
 use Rattle.std.specs.List.{list_any}
-use Rattle.std.proofs.lemmas.Bool.{cond_both}
-use Rattle.ids.specs.Sizes.{AreSizes, leader}
+use Rattle.std.specs.Prelude.{IsTrue}
+use Rattle.std.proofs.lemmas.Bool.{cond_both, lt-ltb}
+use Rattle.ids.specs.Sizes.{Sizes, AreSizes, leader, replicas}
 use Rattle.definitions.specs.Bytes.{Bytes}
 use Rattle.definitions.specs.Frames.{Core, Certificate, Command, Frame}
 use Rattle.definitions.specs.Frames as frame
 use Rattle.definitions.specs.Branches.{Branch}
 use Rattle.definitions.specs.Checks.{Identity, Findings}
-use Rattle.definitions.specs.Chronicles.{Step, Chronicle, horizon, window, history, Note.got_vote}
+use Rattle.definitions.specs.Chronicles.{Admitted, Step, Chronicle, horizon, window, history, Note.got_vote}
 use Rattle.definitions.specs.Chronicles.{Note.got_new_view, Step.noted}
 use Rattle.definitions.specs.States.{find_block, is_due, is_same_request, pending}
 use Rattle.definitions.specs.Trees.{Placing, Placing.stands, Placing.grows, Placing.lacks_parent}
 use Rattle.definitions.specs.Trees.{Placing.unfit, placing}
-use Rattle.definitions.specs.Rulings.{Input, Input.timeout_in, Input.beat_in, Input.prune_in, Ruling}
+use Rattle.definitions.specs.Rulings.{Input, timeout_in, beat_in, prune_in, lead_in, ask_in, proposal_in}
+use Rattle.definitions.specs.Rulings.{block_in, vote_in, new_view_in, request_in, fetch_in, offered_in}
+use Rattle.definitions.specs.Rulings.{relayed_in, view_in, Ruling, on_offer, take_grounded, on_relay, lead}
 use Rattle.definitions.specs.Rulings.{Ruling.due}
 use Rattle.definitions.specs.Rulings.{Ruling.missing, Ruling.refusing, ruling, conflicts, on_placing}
 use Rattle.definitions.specs.Rulings.{on_block, on_request, with_block}
-use Rattle.definitions.specs.Admission.{Checked, Checked.passes, Checked.rejected, check, when}
+use Rattle.definitions.specs.Admission.{Checked, Checked.passes, Checked.rejected, check, check_offer, when}
+use Rattle.definitions.specs.Admission.{check_gathered, check_copies}
+use Rattle.definitions.specs.Grounds.{are_replicas, may_lead_from}
 use Rattle.definitions.specs.Replicas.{MemorySupply, MemorySupply.ample, MemorySupply.refused_at_once}
 use Rattle.definitions.specs.Replicas.{MemorySupply.refused_after}
 use Rattle.definitions.specs.Replicas.{Replica, Standing, Standing.running, Standing.stopped}
 use Rattle.definitions.specs.Replicas.{Standing.cut_short, Reaction, Reaction.sends_out, Reaction.fails}
 use Rattle.definitions.specs.Replicas.{Reaction.asks_for, executes, on_step, on_ruling, step}
 use Rattle.definitions.proofs.Trees.{IsPlaced, placed}
-use Rattle.definitions.proofs.Checks.{when-good}
 use Rattle.definitions.proofs.Spellings.{IsReadAs-unique}
 use Rattle.std.specs.Borrow.{Bor}
 use Rattle.definitions.specs.FrameLimits.{IsReadAs}
 use Rattle.definitions.specs.Keyrings.{Keys}
 use Rattle.definitions.specs.Checks.{identity_of}
-use Rattle.admission.specs.Lacking.{lacked, lacked_by}
+use Rattle.admission.specs.Lacking.{lacked, lacked_by, IsLackedBy}
+use Rattle.admission.specs.Gathering.{Gathers, AnswersGathered}
+use Rattle.admission.specs.Inputs.{input_of, is_addressed}
 use Rattle.admission.specs.Admitted as admitted
-use Rattle.admission.specs.Admitted.{Admits, AnswersRead}
+use Rattle.admission.specs.Admitted.{AdmitsBy, AnswersReadBy}
 use Rattle.admission.specs.declared.input.Input as entering
+use Rattle.admission.specs.declared.input.Input.TheVariants as entry
 use Rattle.replica.specs.Steps.{Shows, Stepped}
 use Rattle.signed_frames.specs.Outs.{SentBytes, sent_of}
 use Rattle.world_schedule.specs.declared.effect.Effect.{Effect}
-use Rattle.world_schedule.specs.Turns.{admits, takes, TellsReaction, Takes, Ticks}
-use Rattle.world_schedule.specs.Asking.{Answers, Asks, is_lack, Refuses}
+use Rattle.world_schedule.specs.Turns.{admits, checked, TellsReaction, Takes, TakesBytes, TakesCopies}
+use Rattle.world_schedule.specs.Turns.{IsMove, asked_by}
+use Rattle.world_schedule.specs.Asking.{AnswersTo, Answers, AnswersCopies, Asks, OnlyRefuses, is_lack}
+use Rattle.world_schedule.specs.Asking.{Refuses, TellsAnswer}
 
 -- ---- what reactions there are
 
--- a ruling asks for what is lacking alone, and refuses with something else than that
+-- a ruling asks for what is lacking alone, and refuses for want of a block only where none is asked for
 abbrev RulesRightly : Option (ℕ × Bytes) → Ruling → Type 0
 RulesRightly lack (due st) = ⊤
 RulesRightly lack (missing sender d) = lack ≡ Some (sender, d)
-RulesRightly lack (refusing n) = n ≡ fault.UnknownParent → ⊥
+RulesRightly lack (refusing n) = n ≡ fault.UnknownParent → lack ≡ None
 
 -- so does a reaction
 abbrev ReactsRightly : Option (ℕ × Bytes) → Reaction → Type 0
 ReactsRightly lack (sends_out out) = ⊤
-ReactsRightly lack (fails n) = n ≡ fault.UnknownParent → ⊥
+ReactsRightly lack (fails n) = n ≡ fault.UnknownParent → lack ≡ None
 ReactsRightly lack (asks_for sender d) = lack ≡ Some (sender, d)
+
+-- it is refused for something else
+other : {lack : Option (ℕ × Bytes)} (n : Fault) → (n ≡ fault.UnknownParent → ⊥)
+    → n ≡ fault.UnknownParent → lack ≡ None
+other n h k = absurd (h k)
 
 -- a step that is to stand asks for nothing
 on_step-right : (lack : Option (ℕ × Bytes)) (self : Identity) (m : MemorySupply) (st : Step) (c : Chronicle)
@@ -110,7 +124,36 @@ unfolding on_placing
 placed-right self w sender core q f c (stands b) h = tt
 placed-right self w sender core q f c (grows b) h = tt
 placed-right self w sender core q f c lacks_parent h = refl
-placed-right self w sender core q f c (unfit n) h = unfit-other core q c n h
+placed-right self w sender core q f c (unfit n) h = other n (unfit-other core q c n h)
+
+grounds-right : (lack : Option (ℕ × Bytes)) (self : Identity) (w : Option ℕ) (o : Option Admitted)
+    (c : Chronicle) → RulesRightly lack (take_grounded self w o c)
+grounds-right lack self w None c = λ k. cc
+grounds-right lack self w (Some a) c = tt
+
+offered-right : (self : Identity) (w : Option ℕ) (sender : ℕ) (core : Core) (q : Certificate) (f : Findings)
+    (c : Chronicle) (p : Placing) → IsPlaced (horizon c) MOST_BLOCKS core q (window c) p
+    → RulesRightly (Some (sender, core.parent)) (on_offer self w sender core q f c p)
+unfolding on_offer
+offered-right self w sender core q f c (stands b) h = tt
+offered-right self w sender core q f c (grows b) h = grounds-right _ self w _ c
+offered-right self w sender core q f c lacks_parent h = refl
+offered-right self w sender core q f c (unfit n) h = other n (unfit-other core q c n h)
+
+relayed-right : (self : Identity) (senders : List ℕ) (core : Core) (q : Certificate) (f : Findings)
+    (c : Chronicle) (p : Placing) → RulesRightly None (on_relay self senders core q f c p)
+unfolding on_relay
+relayed-right self senders core q f c (stands b) = tt
+relayed-right self senders core q f c (grows b) =
+    cond_both (are_replicas self.sizes (suc self.sizes.faults) senders) _ _ (RulesRightly None) (λ e. tt)
+    (λ e k. refl)
+relayed-right self senders core q f c lacks_parent = λ k. refl
+relayed-right self senders core q f c (unfit n) = λ k. refl
+
+lead-right : (self : Identity) (o : Option Branch) (c : Chronicle) → RulesRightly None (lead self o c)
+lead-right self None c = λ k. refl
+lead-right self (Some b) c =
+    cond_both (may_lead_from self b c) _ _ (RulesRightly None) (λ e. tt) (λ e k. refl)
 
 block-right : (self : Identity) (w : Option ℕ) (sender : ℕ) (core : Core) (q : Certificate) (f : Findings)
     (c : Chronicle) → RulesRightly (Some (sender, core.parent)) (on_block self w sender core q f c)
@@ -129,58 +172,87 @@ request-right lack r c = cond_both (is_due (history c) r
     && (not (list_any (is_same_request r) (pending c)) && not (nat_lt (length (pending c)) 4096))) _ _
     (RulesRightly lack) (λ e k. cc) (λ e. tt)
 
--- an input that a frame brings
-frame-right : (self : Identity) (f : Frame) (i : Input) (c : Chronicle) → check self f ≡ passes i
-    → RulesRightly (lacked self.sizes f) (ruling self i c)
+-- ---- what was checked
+
+-- what was checked is taken so, and the checks themselves refuse for something else
+abbrev IsRight : Option (ℕ × Bytes) → Identity → Checked → Chronicle → Type 0
+IsRight lack self (passes i) c = RulesRightly lack (ruling self i c)
+IsRight lack self (rejected n) c = n ≡ fault.UnknownParent → ⊥
+
+when-right : (lack : Option (ℕ × Bytes)) (self : Identity) (ok : Bool) (i : Input) (c : Chronicle)
+    → RulesRightly lack (ruling self i c) → IsRight lack self (when ok i) c
+when-right lack self true i c h = h
+when-right lack self false i c h = λ k. cc
+
+pub check-right : (self : Identity) (read : Option Frame) (c : Chronicle)
+    → IsRight (lacked_by self.sizes read) self (checked check self read) c
 unfolding check ruling
-frame-right self (frame.request r) i c e =
-    subst (λ x. RulesRightly None (ruling self x c)) (when-good _ _ _ e).1 (request-right None r c)
-frame-right self (frame.proposal view core q v) i c e =
-    subst (λ x. RulesRightly (Some (leader self.sizes view, core.parent)) (ruling self x c))
-    (when-good _ _ _ e).1 (block-right self _ _ core q _ c)
-frame-right self (frame.vote d b) i c e =
-    subst (λ x. RulesRightly (Some (b.voter, d)) (ruling self x c)) (when-good _ _ _ e).1
+check-right self None c = λ k. cc
+check-right self (Some (frame.request r)) c = when-right _ self _ _ c (request-right None r c)
+check-right self (Some (frame.proposal view core q v)) c =
+    when-right _ self _ _ c (block-right self _ _ core q _ c)
+check-right self (Some (frame.vote d b)) c =
+    when-right _ self _ _ c
     (found-right (find_block d c) b.voter d (λ x. noted (got_vote b.voter b.vector x)))
-frame-right self (frame.new_view view sender q v) i c e =
-    subst (λ x. RulesRightly (Some (sender, q.digest)) (ruling self x c)) (when-good _ _ _ e).1
+check-right self (Some (frame.new_view view sender q v)) c =
+    when-right _ self _ _ c
     (found-right (find_block q.digest c) sender q.digest (λ x. noted (got_new_view view sender q x)))
-frame-right self (frame.fetch sender d t) i c e =
-    subst (λ x. RulesRightly None (ruling self x c)) (when-good _ _ _ e).1 tt
-frame-right self (frame.block sender core q t) i c e =
-    subst (λ x. RulesRightly (Some (sender, core.parent)) (ruling self x c)) (when-good _ _ _ e).1
-    (block-right self _ _ core q _ c)
-frame-right self (frame.reply r k s p t g) i c e = absurd (apart e)
-  where
-    apart : rejected fault.NotMine ≡ passes i → ⊥
-    apart h = cc
+check-right self (Some (frame.fetch sender d t)) c = when-right _ self _ _ c tt
+check-right self (Some (frame.block sender core q t)) c =
+    when-right _ self _ _ c (block-right self _ _ core q _ c)
+check-right self (Some (frame.reply r k s p t g)) c = λ k. cc
 
--- what is rejected isn't for a block
-when-other : (ok : Bool) (i : Input) (n : Fault) → when ok i ≡ rejected n → n ≡ fault.UnknownParent → ⊥
-when-other ok i n e k = cond_both ok (passes i) (rejected fault.BadTag)
-    (λ (x : Checked). x ≡ rejected n → ⊥) (λ t h. cc) (λ t h. let a : fault.BadTag ≡ n = cc in cc) e
+pub offer-right : (self : Identity) (read : Option Frame) (c : Chronicle)
+    → IsRight (lacked_by self.sizes read) self (checked check_offer self read) c
+unfolding check_offer ruling
+offer-right self None c = λ k. cc
+offer-right self (Some (frame.proposal view core q v)) c =
+    when-right _ self _ _ c (offered-right self _ _ core q _ c _ (placed (horizon c) MOST_BLOCKS core q (window c)))
+offer-right self (Some (frame.block sender core q t)) c =
+    when-right _ self _ _ c (offered-right self _ _ core q _ c _ (placed (horizon c) MOST_BLOCKS core q (window c)))
+offer-right self (Some (frame.new_view view sender q v)) c = when-right _ self _ _ c tt
+offer-right self (Some (frame.request r)) c = λ k. cc
+offer-right self (Some (frame.vote d b)) c = λ k. cc
+offer-right self (Some (frame.fetch sender d t)) c = λ k. cc
+offer-right self (Some (frame.reply r k s p t g)) c = λ k. cc
 
-check-other : (self : Identity) (f : Frame) (n : Fault) → check self f ≡ rejected n
-    → n ≡ fault.UnknownParent → ⊥
-unfolding check
-check-other self (frame.request c) n e = when-other _ _ n e
-check-other self (frame.proposal w c q v) n e = when-other _ _ n e
-check-other self (frame.vote d b) n e = when-other _ _ n e
-check-other self (frame.new_view w s q v) n e = when-other _ _ n e
-check-other self (frame.fetch s d t) n e = when-other _ _ n e
-check-other self (frame.block s c q t) n e = when-other _ _ n e
-check-other self (frame.reply r c s p t g) n e = λ k. let a : fault.NotMine ≡ n = cc in cc
+pub gathered-right : (self : Identity) (fs : List Frame) (c : Chronicle)
+    → IsRight None self (check_gathered self fs) c
+unfolding check_gathered check_copies ruling
+gathered-right self [] c = λ k. cc
+gathered-right self (frame.block sender core q t ∷ fs) c =
+    when-right None self _ _ c (relayed-right self _ core q _ c _)
+gathered-right self (frame.request r ∷ fs) c = λ k. cc
+gathered-right self (frame.proposal view core q v ∷ fs) c = λ k. cc
+gathered-right self (frame.vote d b ∷ fs) c = λ k. cc
+gathered-right self (frame.new_view view sender q v ∷ fs) c = λ k. cc
+gathered-right self (frame.fetch sender d t ∷ fs) c = λ k. cc
+gathered-right self (frame.reply r k s p t g ∷ fs) c = λ k. cc
 
--- ---- what bytes bring
+-- an input that no frame brings
+pub move-right : (sizes : Sizes) (self : Identity) (i : Input) (c : Chronicle) → IsMove sizes i
+    → IsRight (asked_by i) self (passes i) c
+unfolding ruling
+move-right sizes self timeout_in c h = tt
+move-right sizes self beat_in c h = tt
+move-right sizes self (prune_in height) c h = tt
+move-right sizes self (lead_in block) c h = lead-right self (find_block block c) c
+move-right sizes self (ask_in to block) c h = refl
+move-right sizes self (proposal_in w core q f) c h = absurd h
+move-right sizes self (block_in sender core q f) c h = absurd h
+move-right sizes self (vote_in d b) c h = absurd h
+move-right sizes self (new_view_in w sender q) c h = absurd h
+move-right sizes self (request_in r) c h = absurd h
+move-right sizes self (fetch_in sender d) c h = absurd h
+move-right sizes self (offered_in w sender core q f) c h = absurd h
+move-right sizes self (relayed_in senders core q f) c h = absurd h
+move-right sizes self (view_in w sender) c h = absurd h
 
--- a reaction to bytes
-pub takes-right : (self : Identity) (m : MemorySupply) (read : Option Frame) (old : Replica)
-    → ReactsRightly (lacked_by self.sizes read) (takes self m read old).1
-takes-right self m None old = λ k. cc
-takes-right self m (Some f) old = by (check self f) refl
-  where
-    by : (x : Checked) → check self f ≡ x → ReactsRightly (lacked self.sizes f) (admits self m x old).1
-    by (passes i) e = step-right (lacked self.sizes f) self m i old (frame-right self f i old.chronicle e)
-    by (rejected n) e = check-other self f n e
+-- so a reaction to it
+admits-right : (lack : Option (ℕ × Bytes)) (self : Identity) (m : MemorySupply) (x : Checked) (old : Replica)
+    → IsRight lack self x old.chronicle → ReactsRightly lack (admits self m x old).1
+admits-right lack self m (passes i) old h = step-right lack self m i old h
+admits-right lack self m (rejected n) old h = other n h
 
 -- where a block is asked for, memory changes nothing
 abbrev AsksAny : Identity → MemorySupply → Ruling → Chronicle → ℕ → Bytes → MemorySupply → Type 0
@@ -245,171 +317,55 @@ step-any self m i r sender d other = by r.standing
     by stopped = λ e. refl
     by (cut_short held) = λ e. refl
 
-takes-any :
-    (self : Identity) (m : MemorySupply) (read : Option Frame) (old : Replica) (sender : ℕ) (d : Bytes)
-    (other : MemorySupply) → (takes self m read old).1 ≡ asks_for sender d
-    → takes self other read old ≡ takes self m read old
-takes-any self m None old sender d other = λ e. refl
-takes-any self m (Some f) old sender d other = by (check self f)
-  where
-    by : (x : Checked) → (admits self m x old).1 ≡ asks_for sender d
-        → admits self other x old ≡ admits self m x old
-    by (passes i) = step-any self m i old sender d other
-    by (rejected n) = λ e. refl
+admits-any : (self : Identity) (m : MemorySupply) (x : Checked) (old : Replica) (sender : ℕ) (d : Bytes)
+    (other : MemorySupply) → (admits self m x old).1 ≡ asks_for sender d
+    → admits self other x old ≡ admits self m x old
+admits-any self m (passes i) old sender d other = step-any self m i old sender d other
+admits-any self m (rejected n) old sender d other = λ e. refl
 
 -- ---- what is told
 
--- frames that go out
-pub sent-told : (self : Identity) (bytes : Bytes) (old new : Replica) (sent : List SentBytes) (e : Effect)
-    → Answers self bytes old new (Ok sent)
-    → map sent_of e.out.items ≡ sent → e.accepted ≡ None → e.answer ≡ None → Takes self bytes old new e
-sent-told self bytes old new sent e a out accepted answer =
-    by (takes self a.memory a.read old).1 refl a.answer
+pub told : (lack : Option (ℕ × Bytes)) (self : Identity) (x : Checked) (old new : Replica)
+    (result : Result (List SentBytes) Fault) (e : Effect) → IsRight lack self x old.chronicle
+    → AnswersTo self x old new result → TellsAnswer self lack result e → Takes self x old new e
+told lack self x old new result e right a t = by (admits self a.memory x old).1 refl result a.answer t
   where
-    by : (x : Reaction) → (takes self a.memory a.read old).1 ≡ x → Shows x (Ok sent)
-        → Takes self bytes old new e
-    by (sends_out l) is s = record {
-      read = a.read;
-      is_read = a.is_read;
+    reacts : ReactsRightly lack (admits self a.memory x old).1
+    reacts = admits-right lack self a.memory x old right
+
+    by : (y : Reaction) → (admits self a.memory x old).1 ≡ y → (r : Result (List SentBytes) Fault)
+        → Shows y r → TellsAnswer self lack r e → Takes self x old new e
+    by (sends_out l) is (Ok sent) s t = record {
       memory = a.memory;
       state = a.state;
-      tells = subst (λ x. TellsReaction self a.memory x e) (sym is)
-          (record { out = out ∙ s; accepted = accepted; answer = answer });
+      tells = subst (λ y. TellsReaction self a.memory y e) (sym is)
+          (record { out = t.0 ∙ s; accepted = t.1; answer = t.2 });
     }
-    by (fails n) is s = absurd s
-    by (asks_for sender d) is s = absurd s
-
--- a refusal of another kind
-pub refusal-told : (self : Identity) (bytes : Bytes) (old new : Replica) (n : Fault) (e : Effect)
-    → Answers self bytes old new (Err n) → (n ≡ fault.UnknownParent → ⊥)
-    → e.out.items ≡ [] → e.accepted ≡ None → e.answer ≡ Some n → Takes self bytes old new e
-refusal-told self bytes old new n e a other out accepted answer =
-    by (takes self a.memory a.read old).1 refl a.answer
-  where
-    by : (x : Reaction) → (takes self a.memory a.read old).1 ≡ x → Shows x (Err n)
-        → Takes self bytes old new e
-    by (sends_out l) is s = absurd s
-    by (fails k) is s = record {
-      read = a.read;
-      is_read = a.is_read;
-      memory = a.memory;
-      state = a.state;
-      tells = subst (λ x. TellsReaction self a.memory x e) (sym is)
-          (record { out = ap (map sent_of) out; accepted = accepted; answer = answer ∙ ap Some s });
-    }
-    by (asks_for sender d) is s = absurd (other s)
-
--- a block was lacking
-pub lack-told : (self : Identity) (bytes : Bytes) (old new : Replica) (e : Effect) → AreSizes self.sizes
-    → Answers self bytes old new (Err fault.UnknownParent) → Asks self bytes e → Takes self bytes old new e
-lack-told self bytes old new e are a k = by (takes self a.memory a.read old).1 refl a.answer
-  where
-    same : a.read ≡ k.read
-    same = IsReadAs-unique self.sizes are bytes a.read k.read a.is_read k.is_read
-
-    by : (x : Reaction) → (takes self a.memory a.read old).1 ≡ x → Shows x (Err fault.UnknownParent)
-        → Takes self bytes old new e
-    by (sends_out l) is s = absurd s
-    by (fails n) is s = absurd (subst (ReactsRightly (lacked_by self.sizes a.read)) is
-        (takes-right self a.memory a.read old) (sym s))
-    by (asks_for sender d) is s =
-        let lack : lacked_by self.sizes a.read ≡ Some (sender, d) =
-        subst (ReactsRightly (lacked_by self.sizes a.read)) is (takes-right self a.memory a.read old) in
-        let any = takes-any self a.memory a.read old sender d k.memory is in
+    by (sends_out l) is (Err n) s t = absurd s
+    by (fails k) is (Ok sent) s t = absurd s
+    by (fails k) is (Err n) s t =
+        let none : k ≡ fault.UnknownParent → lack ≡ None = subst (ReactsRightly lack) is reacts in
+        let only = t.only (λ h. none (sym s ∙ h)) in
         record {
-          read = a.read;
-          is_read = a.is_read;
-          memory = k.memory;
-          state = a.state ∙ ap (λ (x : Replica × Reaction). x.0) (sym any);
-          tells = subst (λ x. TellsReaction self k.memory x e)
-              (sym (ap (λ (x : Replica × Reaction). x.1) any ∙ is))
-              (k.tells sender d (ap (lacked_by self.sizes) (sym same) ∙ lack));
+          memory = a.memory;
+          state = a.state;
+          tells = subst (λ y. TellsReaction self a.memory y e) (sym is) (record {
+            out = ap (map sent_of) only.out;
+            accepted = only.accepted;
+            answer = only.answer ∙ ap Some s;
+          });
         }
-
--- ---- timeouts, beats and prunings
-
--- an input that no frame brings
-abbrev pub IsTimer : Input → Type 0
-IsTimer i = (i ≡ timeout_in) ⊎ ((i ≡ beat_in) ⊎ ((height : ℕ) × (i ≡ prune_in height)))
-
--- it is due
-timer-due : (self : Identity) (i : Input) (c : Chronicle) → IsTimer i → RulesRightly None (ruling self i c)
-unfolding ruling
-timer-due self i c (inl e) = subst (λ x. RulesRightly None (ruling self x c)) (sym e) tt
-timer-due self i c (inr (inl e)) = subst (λ x. RulesRightly None (ruling self x c)) (sym e) tt
-timer-due self i c (inr (inr (height, e))) = subst (λ x. RulesRightly None (ruling self x c)) (sym e) tt
-
--- frames that go out
-pub sent-ticked : (self : Identity) (i : Input) (old new : Replica) (sent : List SentBytes) (e : Effect)
-    → Stepped self i old (Ok sent) new
-    → map sent_of e.out.items ≡ sent → e.accepted ≡ None → e.answer ≡ None → Ticks self i old new e
-sent-ticked self i old new sent e a out accepted answer = by (step self a.memory i old).1 refl a.answer
-  where
-    by : (x : Reaction) → (step self a.memory i old).1 ≡ x → Shows x (Ok sent) → Ticks self i old new e
-    by (sends_out l) is s = record {
-      memory = a.memory;
-      state = a.state;
-      tells = subst (λ x. TellsReaction self a.memory x e) (sym is)
-          (record { out = out ∙ s; accepted = accepted; answer = answer });
-    }
-    by (fails n) is s = absurd s
-    by (asks_for sender d) is s = absurd s
-
--- a refusal
-pub refusal-ticked : (self : Identity) (i : Input) (old new : Replica) (n : Fault) (e : Effect)
-    → IsTimer i → Stepped self i old (Err n) new
-    → e.out.items ≡ [] → e.accepted ≡ None → e.answer ≡ Some n → Ticks self i old new e
-refusal-ticked self i old new n e timer a out accepted answer = by (step self a.memory i old).1 refl a.answer
-  where
-    none : {A : Type 0} (x : A) → None ≡ Some x → ⊥
-    none x k = cc
-
-    by : (x : Reaction) → (step self a.memory i old).1 ≡ x → Shows x (Err n) → Ticks self i old new e
-    by (sends_out l) is s = absurd s
-    by (fails k) is s = record {
-      memory = a.memory;
-      state = a.state;
-      tells = subst (λ x. TellsReaction self a.memory x e) (sym is)
-          (record { out = ap (map sent_of) out; accepted = accepted; answer = answer ∙ ap Some s });
-    }
-    by (asks_for sender d) is s =
-        absurd (none (sender, d) (subst (ReactsRightly None) is
-        (step-right None self a.memory i old (timer-due self i old.chronicle timer))))
-
--- ---- what isn't admitted
-
--- a refusal of the checks is the replica's answer, and changes nothing
-pub refused-answers :
-    (keys : Keys) (bytes : Bor Bytes) (old : Replica) (n : Fault) (result : Result (List SentBytes) Fault)
-    → Admits keys bytes (Err n) → result ≡ Err n → Answers (identity_of keys) bytes.now old old result
-refused-answers keys bytes old n result (read, is_read, h) e = by read is_read h
-  where
-    checked : (f : Frame) → IsReadAs keys.sizes bytes.now (Some f) → (x : Checked)
-        → check (identity_of keys) f ≡ x → admitted.Answers keys bytes x (Err n)
-        → Answers (identity_of keys) bytes.now old old result
-    checked f rd (passes i) is h = absurd h
-    checked f rd (rejected m) is h = record {
-      read = Some f;
-      is_read = rd;
-      memory = ample;
-      state = ap (λ (x : Checked). (admits (identity_of keys) ample x old).0) (sym is);
-      answer = subst (λ (x : Checked). Shows (admits (identity_of keys) ample x old).1 result) (sym is)
-          (subst (Shows (fails m)) (sym e) h);
-    }
-
-    by : (o : Option Frame) → IsReadAs keys.sizes bytes.now o → AnswersRead keys bytes (Err n) o
-        → Answers (identity_of keys) bytes.now old old result
-    by None rd h = record {
-      read = None;
-      is_read = rd;
-      memory = ample;
-      state = refl;
-      answer = subst (Shows (fails fault.NotAFrame)) (sym e) (let k : n ≡ fault.NotAFrame = same h in k);
-    }
-      where
-        same : ◌≡◌ {A = Result entering.Input Fault} (Err n) (Err fault.NotAFrame) → n ≡ fault.NotAFrame
-        same k = cc
-    by (Some f) rd h = checked f rd (check (identity_of keys) f) refl h
+    by (asks_for sender d) is (Ok sent) s t = absurd s
+    by (asks_for sender d) is (Err n) s t =
+        let there : lack ≡ Some (sender, d) = subst (ReactsRightly lack) is reacts in
+        let asks = t.asks sender d there s in
+        let any = admits-any self a.memory x old sender d asks.memory is in
+        record {
+          memory = asks.memory;
+          state = a.state ∙ ap (λ (y : Replica × Reaction). y.0) (sym any);
+          tells = subst (λ y. TellsReaction self asks.memory y e)
+              (sym (ap (λ (y : Replica × Reaction). y.1) any ∙ is)) asks.tells;
+        }
 
 -- ---- refusals
 
@@ -420,46 +376,200 @@ lack-true n e = absurd (let k : false ≡ true = e in cc)
 lack-false : (n : Fault) → is_lack n ≡ false → n ≡ fault.UnknownParent → ⊥
 lack-false n e k = let h : true ≡ false = subst (λ (x : Fault). is_lack x ≡ false) k e in cc
 
--- it was lacking
-pub lack-refused : (self : Identity) (bytes : Bytes) (n : Fault) (r : Result Effect Fault)
-    → is_lack n ≡ true → IfOk r (λ e. Asks self bytes e) → IfOk r (λ e. Refuses self bytes n e)
-lack-refused self bytes n (Ok e) is a =
-    let k =
-    lack-true n is in
-    record {
-      lack = λ h. a;
-      out = λ no. absurd (no k);
-      accepted = λ no. absurd (no k);
-      answer = λ no. absurd (no k);
-    }
-lack-refused self bytes n (Err x) is a = tt
-
--- it was not
-pub other-refused : (self : Identity) (bytes : Bytes) (n : Fault) (e : Effect) → is_lack n ≡ false
-    → e.out.items ≡ [] → e.accepted ≡ None → e.answer ≡ Some n → Refuses self bytes n e
-other-refused self bytes n e is out accepted answer =
-    record {
-      lack = λ k. absurd (lack-false n is k);
-      out = λ no. out;
-      accepted = λ no. accepted;
-      answer = λ no. answer;
-    }
-
--- what is told of a refusal is what the replica took
-pub refused-if : (keys own : Keys) (bytes : Bytes) (old new : Replica) (n : Fault) (r : Result Effect Fault)
-    → AreSizes keys.sizes → identity_of own ≡ identity_of keys
-    → Answers (identity_of keys) bytes old new (Err n) → IfOk r (λ e. Refuses (identity_of own) bytes n e)
-    → IfOk r (λ e. Takes (identity_of keys) bytes old new e)
-refused-if keys own bytes old new n (Ok e) are same a k = by (is_lack n) refl
+-- no block was lacking
+pub nothing-lacked : (self : Identity) (lack : Option (ℕ × Bytes)) (n : Fault) (e : Effect) → lack ≡ None
+    → OnlyRefuses n e → Refuses self lack n e
+nothing-lacked self lack n e none only = record {
+  asks = λ to block is k. absurd (never to block (sym none ∙ is));
+  only = λ h. only;
+}
   where
-    by : (b : Bool) → is_lack n ≡ b → Takes (identity_of keys) bytes old new e
-    by true is =
-        let lacks = lack-true n is in
-        lack-told (identity_of keys) bytes old new e are
-        (subst (λ (x : Fault). Answers (identity_of keys) bytes old new (Err x)) lacks a)
-        (subst (λ (i : Identity). Asks i bytes e) same (k.lack lacks))
-    by false is =
-        let other = lack-false n is in
-        refusal-told (identity_of keys) bytes old new n e a other (k.out other) (k.accepted other)
-        (k.answer other)
-refused-if keys own bytes old new n (Err x) are same a k = tt
+    never : (to : ℕ) (block : Bytes) → ◌≡◌ {A = Option (ℕ × Bytes)} None (Some (to, block)) → ⊥
+    never to block k = cc
+
+-- it was refused for something else
+pub refused-otherwise : (self : Identity) (lack : Option (ℕ × Bytes)) (n : Fault) (e : Effect)
+    → is_lack n ≡ false → OnlyRefuses n e → Refuses self lack n e
+refused-otherwise self lack n e is only = record {
+  asks = λ to block there k. absurd (lack-false n is k);
+  only = λ h. only;
+}
+
+-- it was lacking
+pub lack-refused : (self : Identity) (lack : Option (ℕ × Bytes)) (to : ℕ) (block : Bytes) (n : Fault)
+    (r : Result Effect Fault)
+    → lack ≡ Some (to, block) → is_lack n ≡ true → IfOk r (λ e. Asks self to block e)
+    → IfOk r (λ e. Refuses self lack n e)
+lack-refused self lack to block n (Ok e) there is a = record {
+  asks = λ t b found k.
+      let same : (to, block) ≡ (t, b) = some_is (sym there ∙ found) in
+      subst (λ (p : ℕ × Bytes). Asks self p.0 p.1 e) same a;
+  only = λ h. absurd (never (sym there ∙ h (lack-true n is)));
+}
+  where
+    some_is : {t : ℕ} {b : Bytes} → ◌≡◌ {A = Option (ℕ × Bytes)} (Some (to, block)) (Some (t, b))
+        → ◌≡◌ {A = ℕ × Bytes} (to, block) (t, b)
+    some_is k = cc
+
+    never : ◌≡◌ {A = Option (ℕ × Bytes)} (Some (to, block)) None → ⊥
+    never k = cc
+lack-refused self lack to block n (Err x) there is a = tt
+
+-- ---- what isn't admitted
+
+-- a refusal of the checks is the replica's answer, and changes nothing
+rejected-answers : (self : Identity) (x : Checked) (old : Replica) (n m : Fault)
+    (result : Result (List SentBytes) Fault) → x ≡ rejected m → n ≡ m → result ≡ Err n
+    → AnswersTo self x old old result
+rejected-answers self x old n m result is same e = record {
+  memory = ample;
+  state = ap (λ (y : Checked). (admits self ample y old).0) (sym is);
+  answer = subst (λ (y : Checked). Shows (admits self ample y old).1 result) (sym is)
+      (subst (Shows (fails m)) (sym e) same);
+}
+
+pub refused-answers : (checks : Identity → Frame → Checked) (keys : Keys) (bytes : Bor Bytes) (old : Replica)
+    (n : Fault) (result : Result (List SentBytes) Fault)
+    → AdmitsBy checks keys bytes (Err n) → result ≡ Err n
+    → Answers checks (identity_of keys) bytes.now old old result
+refused-answers checks keys bytes old n result (read, is_read, h) e =
+    record { read = read; is_read = is_read; answers = by read h }
+  where
+    frame-checked : (x : Checked) → admitted.Answers keys bytes x (Err n)
+        → AnswersTo (identity_of keys) x old old result
+    frame-checked (passes i) h = absurd h
+    frame-checked (rejected m) h = rejected-answers (identity_of keys) (rejected m) old n m result refl h e
+
+    same : ◌≡◌ {A = Result entering.Input Fault} (Err n) (Err fault.NotAFrame) → n ≡ fault.NotAFrame
+    same k = cc
+
+    by : (o : Option Frame) → AnswersReadBy checks keys bytes (Err n) o
+        → AnswersTo (identity_of keys) (checked checks (identity_of keys) o) old old result
+    by None h =
+        rejected-answers (identity_of keys) (rejected fault.NotAFrame) old n fault.NotAFrame result refl
+        (same h) e
+    by (Some f) h = frame-checked (checks (identity_of keys) f) h
+
+pub refused-copies : (keys : Keys) (frames : List (Bor Bytes)) (old : Replica) (n : Fault)
+    (result : Result (List SentBytes) Fault)
+    → Gathers keys frames (Err n) → result ≡ Err n
+    → AnswersCopies (identity_of keys) frames old old result
+refused-copies keys frames old n result (reads, are_read, h) e =
+    record { reads = reads; are_read = are_read; answers = by (check_gathered (identity_of keys) _) h }
+  where
+    by : (x : Checked) → AnswersGathered keys x (Err n) → AnswersTo (identity_of keys) x old old result
+    by (passes i) h = absurd h
+    by (rejected m) h = rejected-answers (identity_of keys) (rejected m) old n m result refl h e
+
+-- ---- what is admitted
+
+-- a step is an answer
+pub stepped-answers : (self : Identity) (i : Input) (x : Checked) (old new : Replica)
+    (result : Result (List SentBytes) Fault) → x ≡ passes i → Stepped self i old result new
+    → AnswersTo self x old new result
+stepped-answers self i x old new result is t = record {
+  memory = t.memory;
+  state = t.state ∙ ap (λ (y : Checked). (admits self t.memory y old).0) (sym is);
+  answer = subst (λ (y : Checked). Shows (admits self t.memory y old).1 result) (sym is) t.answer;
+}
+
+pub admitted-answers : (checks : Identity → Frame → Checked) (keys : Keys) (bytes : Bor Bytes)
+    (old new : Replica) (input : entering.Input) (result : Result (List SentBytes) Fault)
+    → AdmitsBy checks keys bytes (Ok input) → Stepped (identity_of keys) (input_of input) old result new
+    → Answers checks (identity_of keys) bytes.now old new result
+admitted-answers checks keys bytes old new input result (read, is_read, h) t =
+    record { read = read; is_read = is_read; answers = by read h }
+  where
+    frame-checked : (x : Checked) → admitted.Answers keys bytes x (Ok input)
+        → AnswersTo (identity_of keys) x old new result
+    frame-checked (passes i) h =
+        stepped-answers (identity_of keys) (input_of input) (passes i) old new result (ap passes (sym h.0)) t
+    frame-checked (rejected m) h = absurd h
+
+    never : ◌≡◌ {A = Result entering.Input Fault} (Ok input) (Err fault.NotAFrame) → ⊥
+    never k = cc
+
+    by : (o : Option Frame) → AnswersReadBy checks keys bytes (Ok input) o
+        → AnswersTo (identity_of keys) (checked checks (identity_of keys) o) old new result
+    by None h = absurd (never h)
+    by (Some f) h = frame-checked (checks (identity_of keys) f) h
+
+pub admitted-copies : (keys : Keys) (frames : List (Bor Bytes)) (old new : Replica) (input : entering.Input)
+    (result : Result (List SentBytes) Fault)
+    → Gathers keys frames (Ok input) → Stepped (identity_of keys) (input_of input) old result new
+    → AnswersCopies (identity_of keys) frames old new result
+admitted-copies keys frames old new input result (reads, are_read, h) t =
+    record { reads = reads; are_read = are_read; answers = by (check_gathered (identity_of keys) _) h }
+  where
+    by : (x : Checked) → AnswersGathered keys x (Ok input) → AnswersTo (identity_of keys) x old new result
+    by (passes i) h =
+        stepped-answers (identity_of keys) (input_of input) (passes i) old new result (ap passes (sym h.0)) t
+    by (rejected m) h = absurd h
+
+-- ---- where there is an effect
+
+-- who asks and who answers is the same
+module _ (own keys : Keys) (same : identity_of own ≡ identity_of keys) (old new : Replica)
+    (answer : Result (List SentBytes) Fault) where
+  pub bytes-if : (checks : Identity → Frame → Checked) (bytes : Bytes) (lack : Option (ℕ × Bytes))
+      (r : Result Effect Fault) → AreSizes keys.sizes
+      → ((read : Option Frame)
+      → IsRight (lacked_by keys.sizes read) (identity_of keys) (checked checks (identity_of keys) read)
+      old.chronicle)
+      → IsLackedBy keys.sizes bytes lack → Answers checks (identity_of keys) bytes old new answer
+      → IfOk r (λ e. TellsAnswer (identity_of own) lack answer e)
+      → IfOk r (λ e. TakesBytes checks (identity_of keys) bytes old new e)
+  bytes-if checks bytes lack (Ok e) are right (frame, is_read, is) a t =
+      let one : frame ≡ a.read =
+      IsReadAs-unique keys.sizes are bytes frame a.read is_read a.is_read in
+      let lacks : lacked_by keys.sizes a.read ≡ lack = ap (lacked_by keys.sizes) (sym one) ∙ sym is in
+      record {
+        read = a.read;
+        is_read = a.is_read;
+        takes = told lack (identity_of keys) (checked checks (identity_of keys) a.read) old new answer e
+            (subst (λ (l : Option (ℕ × Bytes)). IsRight l (identity_of keys)
+            (checked checks (identity_of keys) a.read) old.chronicle) lacks (right a.read))
+            a.answers (subst (λ (i : Identity). TellsAnswer i lack answer e) same t);
+      }
+  bytes-if checks bytes lack (Err n) are right (frame, is_read, is) a t = tt
+
+  pub copies-if : (frames : List (Bor Bytes)) (r : Result Effect Fault)
+      → AnswersCopies (identity_of keys) frames old new answer
+      → IfOk r (λ e. TellsAnswer (identity_of own) None answer e)
+      → IfOk r (λ e. TakesCopies (identity_of keys) frames old new e)
+  copies-if frames (Ok e) a t = record {
+    reads = a.reads;
+    are_read = a.are_read;
+    takes = told None (identity_of keys) _ old new answer e (gathered-right (identity_of keys) _ old.chronicle)
+        a.answers (subst (λ (i : Identity). TellsAnswer i None answer e) same t);
+  }
+  copies-if frames (Err n) a t = tt
+
+  pub moves-if : (i : Input) (r : Result Effect Fault) → IsMove keys.sizes i
+      → AnswersTo (identity_of keys) (passes i) old new answer
+      → IfOk r (λ e. TellsAnswer (identity_of own) (asked_by i) answer e)
+      → IfOk r (λ e. Takes (identity_of keys) (passes i) old new e)
+  moves-if i (Ok e) move a t =
+      told (asked_by i) (identity_of keys) (passes i) old new answer e
+      (move-right keys.sizes (identity_of keys) i old.chronicle move) a
+      (subst (λ (j : Identity). TellsAnswer j (asked_by i) answer e) same t)
+  moves-if i (Err n) move a t = tt
+
+-- an input that no frame brings is for anyone
+pub move-addressed : (keys : Keys) (input : entering.Input) → IsMove keys.sizes (input_of input)
+    → IsTrue (is_addressed keys input)
+move-addressed keys entry.Timeout h = refl
+move-addressed keys entry.Beat h = refl
+move-addressed keys (entry.Prune height) h = refl
+move-addressed keys (entry.Lead block) h = refl
+move-addressed keys (entry.Ask to block) h = lt-ltb to (replicas keys.sizes) h
+move-addressed keys (entry.Proposal p) h = absurd h
+move-addressed keys (entry.Block p) h = absurd h
+move-addressed keys (entry.Vote p) h = absurd h
+move-addressed keys (entry.NewView p) h = absurd h
+move-addressed keys (entry.Request p) h = absurd h
+move-addressed keys (entry.Fetch p) h = absurd h
+move-addressed keys (entry.OfferedProposal p) h = absurd h
+move-addressed keys (entry.OfferedBlock p) h = absurd h
+move-addressed keys (entry.SeenView p) h = absurd h
+move-addressed keys (entry.Relayed p) h = absurd h

@@ -4,3 +4,4 @@ pub mod Seated
 pub mod Runs
 pub mod Telling
 pub mod Rooms
+pub mod Sourced

@@ -10,7 +10,7 @@ use Rattle.std.specs.Option.{option_to_list}
 use Rattle.std.proofs.lemmas.Bool.{and_parts, not-false, ltb-true, or_left, cond_both, cond-true, cond-false}
 use Rattle.std.proofs.lemmas.List.{length-map, map-append, reverse-append, take-append-drop, take_more}
 use Rattle.std.proofs.lemmas.List.{drop_more, take_all}
-use Rattle.ids.specs.Sizes.{Sizes, AreSizes}
+use Rattle.ids.specs.Sizes.{Sizes, AreSizes, replicas}
 use Rattle.definitions.specs.Bytes.{Bytes}
 use Rattle.definitions.specs.Lists.{Among}
 use Rattle.definitions.specs.Frames.{Frame, spelling}
@@ -21,10 +21,17 @@ use Rattle.definitions.specs.Replicas.{MemorySupply.ample}
 use Rattle.definitions.specs.Sessions.{Receipt}
 use Rattle.definitions.specs.Worlds as worlds
 use Rattle.definitions.specs.Worlds.{World, Sent, AcceptedBy, Happening, new_world, is_correct}
-use Rattle.definitions.specs.Runs.{refusal, run}
+use Rattle.definitions.specs.Runs.{refusal, run, is_there}
+use Rattle.definitions.specs.Rulings.{Input}
+use Rattle.std.specs.List.{list_all, flat_map, AllByRecursion}
+use Rattle.std.specs.Borrow.{Bor}
+use Rattle.std.specs.Prelude.{if◌then◌else◌, Vec}
+use Rattle.std.specs.Global.{Global}
+use Rattle.admission.specs.Gathering.{AreReadAs}
 use Rattle.definitions.specs.Events as events
 use Rattle.definitions.specs.Events.{nothing, comes, recorded, acts, party_of, effect, happens, client_number}
-use Rattle.definitions.specs.Premises.{IsReadIn, AllRead, ArePremises}
+use Rattle.definitions.specs.Events.{frame_of, listed}
+use Rattle.definitions.specs.Premises.{IsReadFrom, IsReadIn, AllRead, ArePremises}
 use Rattle.definitions.proofs.Spellings.{IsReadAs-unique}
 use Rattle.linear_law.specs.Law.{SentAreFrames}
 use Rattle.linear_law.proofs.Linear.{run-step}
@@ -38,25 +45,43 @@ use Rattle.client_accept.specs.Sessions as sessions
 use Rattle.world_schedule.specs.declared.effect.Effect.{Effect}
 use Rattle.world_schedule.specs.declared.event.Event.{Event}
 use Rattle.world_schedule.specs.declared.event.Event.TheVariants.{Submit, Relay, Inject, Timeout, Beat}
-use Rattle.world_schedule.specs.declared.event.Event.TheVariants.{Prune}
+use Rattle.world_schedule.specs.declared.event.Event.TheVariants.{Prune, Offer, Gather, Lead, Ask}
+use Rattle.world_schedule.specs.declared.event.Source.{Source}
+use Rattle.world_schedule.specs.declared.event.Source.TheVariants.{Record, Bytes as SomeBytes}
+use Rattle.world_schedule.specs.Sources.{AreBytes, AreBytesOf}
 use Rattle.world_schedule.specs.declared.outcome.SentFrame.{SentFrame}
 use Rattle.world_schedule.specs.declared.outcome.Outcome.{Outcome}
 use Rattle.world_schedule.specs.declared.journal.Journal.{Journal}
 use Rattle.world_schedule.specs.declared.running.State.{State}
 use Rattle.world_schedule.specs.Settings.{Setting, is_faulty_in, ring_in, start_of, Holds}
-use Rattle.world_schedule.specs.Schedules.{party_named, event_of, has_party, why_refused, IsEventOf}
+use Rattle.world_schedule.specs.Schedules.{party_named, event_of, has_party, has_frame, why_refused, IsEventOf}
+use Rattle.world_schedule.specs.Schedules.{first_read, source_of, sources_of, has_source}
 use Rattle.world_schedule.specs.Schedules.{AreThese, IsRefusedFor}
 use Rattle.world_schedule.specs.Outcomes.{Shown, shown_frame, shown_sent, accepted_by, histories_of, TellsOf}
 use Rattle.world_schedule.specs.Told.{Told}
 use Rattle.world_schedule.specs.Turns.{Tells}
-use Rattle.world_schedule.specs.Seats.{with_effect, AreOf, Brings, Hands, Moves, Acts, Does}
+use Rattle.world_schedule.specs.Seats.{with_effect, AreOf, Brings, Offers, Gathers, gathers, Hands, Moves, Acts}
+use Rattle.world_schedule.specs.Seats.{Does}
 use Rattle.world_schedule.specs.Progress.{IsJournalOf, IsAt, GoesOn, HasRun}
 use Rattle.world_schedule.specs.Running.{IsRunOf}
 
 -- ---- which events are refused
 
+-- sources are there for the definitions where they are for the code
+source-there : (w : World) (read : Option Frame) (source : Source)
+    → is_there w (source_of read source) ≡ has_source (length w.sent) source
+source-there w read (Record frame) = refl
+source-there w read (SomeBytes bytes) = refl
+
+sources-there : (w : World) (reads : List (Option Frame)) (ss : List Source)
+    → list_all (is_there w) (sources_of reads ss) ≡ list_all (has_source (length w.sent)) ss
+sources-there w [] [] = refl
+sources-there w (r ∷ reads) [] = refl
+sources-there w [] (x ∷ ss) = λ i. source-there w None x i && sources-there w [] ss i
+sources-there w (r ∷ reads) (x ∷ ss) = λ i. source-there w r x i && sources-there w reads ss i
+
 -- the definitions refuse an event for what the code tests
-pub refusal-is : (w : World) (read : Option Frame) (event : Event) (sizes : Sizes) (sent : ℕ)
+pub refusal-is : (w : World) (read : List (Option Frame)) (event : Event) (sizes : Sizes) (sent : ℕ)
     → w.sizes ≡ sizes → length w.sent ≡ sent
     → refusal w (event_of read event) ≡ why_refused sizes sent event
 unfolding refusal
@@ -72,9 +97,23 @@ refusal-is w read (Timeout replica) sizes sent e n =
 refusal-is w read (Beat replica) sizes sent e n = ap (λ (z : Sizes). why_refused z sent (Beat replica)) e
 refusal-is w read (Prune replica height) sizes sent e n =
     ap (λ (z : Sizes). why_refused z sent (Prune replica height)) e
+refusal-is w read (Offer to (Record frame)) sizes sent e n =
+    ap (λ (z : Sizes). why_refused z (length w.sent) (Offer to (Record frame))) e
+    ∙ ap (λ (k : ℕ). why_refused sizes k (Offer to (Record frame))) n
+refusal-is w read (Offer to (SomeBytes bytes)) sizes sent e n =
+    ap (λ (z : Sizes). why_refused z sent (Offer to (SomeBytes bytes))) e
+refusal-is w read (Gather to sources) sizes sent e n =
+    ap (λ (b : Bool). if not (is_replica_of w.sizes to) then Some fault.NoSuchParty
+    else (if not b then Some fault.NoSuchFrame else None)) (sources-there w read sources.items)
+    ∙ ap (λ (z : Sizes). why_refused z (length w.sent) (Gather to sources)) e
+    ∙ ap (λ (k : ℕ). why_refused sizes k (Gather to sources)) n
+refusal-is w read (Lead replica block) sizes sent e n =
+    ap (λ (z : Sizes). why_refused z sent (Lead replica block)) e
+refusal-is w read (Ask replica to block) sizes sent e n =
+    ap (λ (z : Sizes). why_refused z sent (Ask replica to block)) e
 
 -- an event is at the party that it names
-pub party-is : (read : Option Frame) (event : Event) → party_of (event_of read event) ≡ party_named event
+pub party-is : (read : List (Option Frame)) (event : Event) → party_of (event_of read event) ≡ party_named event
 unfolding party_of
 party-is read (Submit client payload) = refl
 party-is read (Relay frame to) = refl
@@ -82,6 +121,10 @@ party-is read (Inject to bytes) = refl
 party-is read (Timeout replica) = refl
 party-is read (Beat replica) = refl
 party-is read (Prune replica height) = refl
+party-is read (Offer to source) = refl
+party-is read (Gather to sources) = refl
+party-is read (Lead replica block) = refl
+party-is read (Ask replica to block) = refl
 
 -- ---- the record
 
@@ -108,6 +151,38 @@ recorded-at (f ∷ frames) (x ∷ xs) (suc k) d e l =
     let r = recorded-at frames xs k d (ap (drop 1) e) (omega (arith, l)) in
     record { sent = r.sent; here = r.here; among = inr r.among; bytes = r.bytes }
 
+-- what the bytes of a source are read as is its frame
+source-read : (s : Setting) (w : World) (sent : List SentFrame) (source : Source) (bytes : Bytes)
+    (read : Option Frame) → AreSizes s.sizes → w.sizes ≡ s.sizes
+    → map shown_frame sent ≡ map shown_sent w.sent → SentAreFrames w → AreBytes sent source bytes
+    → IsReadAs s.sizes bytes read
+    → (frame_of w (source_of read source) ≡ read) × IsReadFrom s.sizes (source_of read source)
+source-read s w sent (Record k) bytes read are same told fit (d, l, is) rd =
+    let r = recorded-at sent w.sent k d told l in
+    let fits = subst (λ (z : Sizes). IsWritten z r.sent.frame) same (fit r.sent r.among) in
+    let spells : IsReadAs s.sizes bytes (Some r.sent.frame) = (fits.0, inr (fits.1, is ∙ r.bytes)) in
+    let one : read ≡ Some r.sent.frame =
+    IsReadAs-unique s.sizes are bytes read (Some r.sent.frame) rd spells in
+    (ap (option_map (λ (x : Sent). x.frame)) r.here ∙ sym one, tt)
+source-read s w sent (SomeBytes own) bytes read are same told fit is rd =
+    (refl, subst (λ (b : Bytes). IsReadAs s.sizes b read) is rd)
+
+sources-read : (s : Setting) (w : World) (sent : List SentFrame) (ss : List Source) (frames : List (Bor Bytes))
+    (reads : List (Option Frame)) → AreSizes s.sizes → w.sizes ≡ s.sizes
+    → map shown_frame sent ≡ map shown_sent w.sent → SentAreFrames w → AreBytesOf sent ss frames
+    → AreReadAs s.sizes frames reads
+    → (events.frames_of w (sources_of reads ss) ≡ flat_map listed reads)
+    × AllByRecursion (IsReadFrom s.sizes) (sources_of reads ss)
+sources-read s w sent [] [] [] are same told fit b rd = (refl, tt)
+sources-read s w sent [] [] (r ∷ reads) are same told fit b rd = absurd rd
+sources-read s w sent [] (x ∷ frames) reads are same told fit b rd = absurd b
+sources-read s w sent (x ∷ ss) [] reads are same told fit b rd = absurd b
+sources-read s w sent (x ∷ ss) (y ∷ frames) [] are same told fit b rd = absurd rd
+sources-read s w sent (x ∷ ss) (y ∷ frames) (r ∷ reads) are same told fit b rd =
+    let one = source-read s w sent x y.now r are same told fit b.0 rd.0 in
+    let others = sources-read s w sent ss frames reads are same told fit b.1 rd.1 in
+    (λ i. listed (one.0 i) ++ others.0 i, (one.1, others.1))
+
 -- ---- one event at a party
 
 module _ (s : Setting) (w : World) (held : List steps.Held) (seats : List sessions.Held) (e : Effect) where
@@ -127,7 +202,7 @@ module _ (s : Setting) (w : World) (held : List steps.Held) (seats : List sessio
       let there : recorded w k ≡ b.read = ap (option_map (λ (x : Sent). x.frame)) r.here ∙ sym read in
       record {
         happening = (worlds.relay k to, b.memory);
-        is_event = (None, tt, refl);
+        is_event = ([], tt, refl);
         parties = subst (λ (o : Option Frame). AreOf s held seats (with_effect w (comes to b.memory o w)))
             (sym there) b.parties;
         tells =
@@ -136,24 +211,25 @@ module _ (s : Setting) (w : World) (held : List steps.Held) (seats : List sessio
 
   -- any bytes come
   pub injected : (to : ℕ) (event : Event) (bytes : Bytes)
-      → ((read : Option Frame) → event_of read event ≡ worlds.inject to bytes read)
+      → ((reads : List (Option Frame)) → event_of reads event ≡ worlds.inject to bytes (first_read reads))
       → Brings s w to bytes held seats e → Acts s w event held seats e
   unfolding acts party_of
   injected to event bytes is b = record {
     happening = (worlds.inject to bytes b.read, b.memory);
-    is_event = (b.read, subst (IsReadIn s.sizes) (sym (is b.read)) b.is_read, sym (is b.read));
+    is_event =
+        (b.read ∷ [], subst (IsReadIn s.sizes) (sym (is (b.read ∷ []))) b.is_read, sym (is (b.read ∷ [])));
     parties = b.parties;
     tells = b.tells;
   }
 
   -- a client submits
   pub handed : (client : ℕ) (event : Event) (payload : Bytes)
-      → event_of None event ≡ worlds.submit client payload → Hands s w client payload held seats e
+      → event_of [] event ≡ worlds.submit client payload → Hands s w client payload held seats e
       → Acts s w event held seats e
   unfolding acts party_of
   handed client event payload is b = record {
     happening = (worlds.submit client payload, b.memory);
-    is_event = (None, subst (IsReadIn s.sizes) (sym is) tt, sym is);
+    is_event = ([], subst (IsReadIn s.sizes) (sym is) tt, sym is);
     parties = b.parties;
     tells = b.tells;
   }
@@ -164,7 +240,7 @@ module _ (s : Setting) (w : World) (held : List steps.Held) (seats : List sessio
   unfolding acts party_of
   timed-out i b = record {
     happening = (worlds.timeout i, b.memory);
-    is_event = (None, tt, refl);
+    is_event = ([], tt, refl);
     parties = b.parties;
     tells = b.tells;
   }
@@ -175,7 +251,7 @@ module _ (s : Setting) (w : World) (held : List steps.Held) (seats : List sessio
   unfolding acts party_of
   beaten i b = record {
     happening = (worlds.beat i, b.memory);
-    is_event = (None, tt, refl);
+    is_event = ([], tt, refl);
     parties = b.parties;
     tells = b.tells;
   }
@@ -187,10 +263,67 @@ module _ (s : Setting) (w : World) (held : List steps.Held) (seats : List sessio
   unfolding acts party_of
   pruned-to i height b = record {
     happening = (worlds.prune i height, b.memory);
-    is_event = (None, tt, refl);
+    is_event = ([], tt, refl);
     parties = b.parties;
     tells = b.tells;
   }
+
+  -- a lead
+  pub led : (i : ℕ) (block : Bytes) → Moves s w (Rattle.definitions.specs.Rulings.lead_in block) i held seats e
+      → Acts s w (Lead i block) held seats e
+  unfolding acts party_of
+  led i block b = record {
+    happening = (worlds.lead i block, b.memory);
+    is_event = ([], tt, refl);
+    parties = b.parties;
+    tells = b.tells;
+  }
+
+  -- a question
+  pub asked : (i to : ℕ) (block : Bytes)
+      → Moves s w (Rattle.definitions.specs.Rulings.ask_in to block) i held seats e
+      → Acts s w (Ask i to block) held seats e
+  unfolding acts party_of
+  asked i to block b = record {
+    happening = (worlds.ask i to block, b.memory);
+    is_event = ([], tt, refl);
+    parties = b.parties;
+    tells = b.tells;
+  }
+
+  -- an offer
+  pub offered : (to : ℕ) (source : Source) (sent : List SentFrame) (bytes : Bytes) → AreSizes s.sizes
+      → w.sizes ≡ s.sizes → map shown_frame sent ≡ map shown_sent w.sent → SentAreFrames w
+      → AreBytes sent source bytes → Offers s w to bytes held seats e
+      → Acts s w (Offer to source) held seats e
+  unfolding acts party_of
+  offered to source sent bytes are same told fit there b =
+      let r = source-read s w sent source bytes b.read are same told fit there b.is_read in
+      record {
+        happening = (worlds.offer to (source_of b.read source), b.memory);
+        is_event = (b.read ∷ [], r.1, refl);
+        parties = subst (λ (o : Option Frame). AreOf s held seats (with_effect w (events.offers to b.memory o w)))
+            (sym r.0) b.parties;
+        tells = subst (λ (o : Option Frame). Tells (events.offers to b.memory o w) (client_at to) e) (sym r.0)
+            b.tells;
+      }
+
+  -- copies of a block
+  pub gathered : (to : ℕ) (sources : Vec Source Global) (sent : List SentFrame) (frames : List (Bor Bytes))
+      → AreSizes s.sizes → w.sizes ≡ s.sizes → map shown_frame sent ≡ map shown_sent w.sent → SentAreFrames w
+      → AreBytesOf sent sources.items frames → Gathers s w to frames held seats e
+      → Acts s w (Gather to sources) held seats e
+  unfolding acts party_of
+  gathered to sources sent frames are same told fit there b =
+      let r = sources-read s w sent sources.items frames b.reads are same told fit there b.are_read in
+      record {
+        happening = (worlds.gather to (sources_of b.reads sources.items), b.memory);
+        is_event = (b.reads, r.1, refl);
+        parties = subst (λ (fs : List Frame). AreOf s held seats (with_effect w (gathers to b.memory fs w)))
+            (sym r.0) b.parties;
+        tells = subst (λ (fs : List Frame). Tells (gathers to b.memory fs w) (client_at to) e) (sym r.0)
+            b.tells;
+      }
 
   -- a correct party does what it does
   pub correct-does : (event : Event) → is_faulty_in s (party_named event) ≡ false
@@ -209,7 +342,7 @@ module _ (s : Setting) (w : World) (held : List steps.Held) (seats : List sessio
       }
 
   -- a faulty one does nothing
-  pub faulty-does : (event : Event) (read : Option Frame) → IsReadIn s.sizes (event_of read event)
+  pub faulty-does : (event : Event) (read : List (Option Frame)) → IsReadIn s.sizes (event_of read event)
       → is_faulty_in s (party_named event) ≡ true → w.is_faulty ≡ is_faulty_in s → AreOf s held seats w
       → e.out.items ≡ [] → e.accepted ≡ None → e.answer ≡ None → Does s w event held seats e
   unfolding effect nothing
@@ -337,9 +470,9 @@ went-on s w event old new e at ok d n = record {
 -- an event that is refused
 pub was-refused : (s : Setting) (w : World) (event : Event) (old : State) (n : Fault) → IsAt s old w
     → why_refused s.sizes (length old.journal.frames.items) event ≡ Some n
-    → refusal w (event_of None event) ≡ Some n
+    → refusal w (event_of [] event) ≡ Some n
 was-refused s w event old n at bad =
-    refusal-is w None event s.sizes (length old.journal.frames.items) at.parties.setting.sizes_are
+    refusal-is w [] event s.sizes (length old.journal.frames.items) at.parties.setting.sizes_are
     (sym (length-map w.sent shown_sent) ∙ sym (ap length at.told.frames)
     ∙ length-map old.journal.frames.items shown_frame) ∙ bad
 
@@ -460,7 +593,7 @@ whole-run s events state o holds r t = record {
 -- a submission
 pub handed-if : (s : Setting) (held held' : List steps.Held) (seats seats' : List sessions.Held)
     (event : Event) (client : ℕ) (payload : Bytes) (sent : List SentFrame) (r : Result Effect Fault)
-    → event_of None event ≡ worlds.submit client payload
+    → event_of [] event ≡ worlds.submit client payload
     → IfOk r (λ e. (w : World) → AreOf s held seats w → Hands s w client payload held' seats' e)
     → IfOk r (λ e. (w : World) → AreOf s held seats w → map shown_frame sent ≡ map shown_sent w.sent
     → SentAreFrames w → Acts s w event held' seats' e)
@@ -471,7 +604,7 @@ handed-if s held held' seats seats' event client payload sent (Err n) is h = tt
 -- bytes
 pub injected-if : (s : Setting) (held held' : List steps.Held) (seats seats' : List sessions.Held)
     (event : Event) (to : ℕ) (bytes : Bytes) (sent : List SentFrame) (r : Result Effect Fault)
-    → ((read : Option Frame) → event_of read event ≡ worlds.inject to bytes read)
+    → ((reads : List (Option Frame)) → event_of reads event ≡ worlds.inject to bytes (first_read reads))
     → IfOk r (λ e. (w : World) → AreOf s held seats w → Brings s w to bytes held' seats' e)
     → IfOk r (λ e. (w : World) → AreOf s held seats w → map shown_frame sent ≡ map shown_sent w.sent
     → SentAreFrames w → Acts s w event held' seats' e)
@@ -507,6 +640,72 @@ relayed-if s held held' seats seats' event k to bytes sent d (Ok e) is are ok th
     (subst (λ (x : Event). why_refused s.sizes (length sent) x ≡ None) is ok)) there (h w at))
 relayed-if s held held' seats seats' event k to bytes sent d (Err n) is are ok there h = tt
 
+-- an input that no frame brings
+pub moved-if : (s : Setting) (held held' : List steps.Held) (seats seats' : List sessions.Held)
+    (event named : Event) (input : Input) (i : ℕ) (sent : List SentFrame) (r : Result Effect Fault)
+    → event ≡ named
+    → ((w : World) (e : Effect) → Moves s w input i held' seats' e → Acts s w named held' seats' e)
+    → IfOk r (λ e. (w : World) → AreOf s held seats w → Moves s w input i held' seats' e)
+    → IfOk r (λ e. (w : World) → AreOf s held seats w → map shown_frame sent ≡ map shown_sent w.sent
+    → SentAreFrames w → Acts s w event held' seats' e)
+moved-if s held held' seats seats' event named input i sent (Ok e) is act h =
+    λ w at told fit. subst (λ (x : Event). Acts s w x held' seats' e) (sym is) (act w e (h w at))
+moved-if s held held' seats seats' event named input i sent (Err n) is act h = tt
+
+-- an offer
+pub offered-if : (s : Setting) (held held' : List steps.Held) (seats seats' : List sessions.Held)
+    (event : Event) (to : ℕ) (source : Source) (bytes : Bytes) (sent : List SentFrame) (r : Result Effect Fault)
+    → event ≡ Offer to source → AreSizes s.sizes → AreBytes sent source bytes
+    → IfOk r (λ e. (w : World) → AreOf s held seats w → Offers s w to bytes held' seats' e)
+    → IfOk r (λ e. (w : World) → AreOf s held seats w → map shown_frame sent ≡ map shown_sent w.sent
+    → SentAreFrames w → Acts s w event held' seats' e)
+offered-if s held held' seats seats' event to source bytes sent (Ok e) is are there h = λ w at told fit.
+    subst (λ (x : Event). Acts s w x held' seats' e) (sym is)
+    (offered s w held' seats' e to source sent bytes are at.setting.sizes_are told fit there (h w at))
+offered-if s held held' seats seats' event to source bytes sent (Err n) is are there h = tt
+
+-- copies of a block
+pub gathered-if : (s : Setting) (held held' : List steps.Held) (seats seats' : List sessions.Held)
+    (event : Event) (to : ℕ) (sources : Vec Source Global) (ss : List Source) (sent : List SentFrame)
+    (r : Result Effect Fault) → event ≡ Gather to sources → AreSizes s.sizes → ss ≡ sources.items
+    → IfOk r (λ e. (frames : List (Bor Bytes)) × AreBytesOf sent ss frames
+    × ((w : World) → AreOf s held seats w → Gathers s w to frames held' seats' e))
+    → IfOk r (λ e. (w : World) → AreOf s held seats w → map shown_frame sent ≡ map shown_sent w.sent
+    → SentAreFrames w → Acts s w event held' seats' e)
+gathered-if s held held' seats seats' event to sources ss sent (Ok e) is are lent (frames, there, h) =
+    λ w at told fit. subst (λ (x : Event). Acts s w x held' seats' e) (sym is)
+    (gathered s w held' seats' e to sources sent frames are at.setting.sizes_are told fit
+    (subst (λ (l : List Source). AreBytesOf sent l frames) lent there) (h w at))
+gathered-if s held held' seats seats' event to sources ss sent (Err n) is are lent h = tt
+
+-- what is named is there
+allowed : (p f : Bool) (r : Option Fault) → (if not p then Some fault.NoSuchParty
+    else (if not f then Some fault.NoSuchFrame else r)) ≡ None → (p ≡ true) × (f ≡ true)
+allowed true true r e = (refl, refl)
+allowed true false r e = absurd (some fault.NoSuchFrame e)
+  where
+    some : (n : Fault) → Some n ≡ None → ⊥
+    some n h = cc
+allowed false f r e = absurd (some fault.NoSuchParty e)
+  where
+    some : (n : Fault) → Some n ≡ None → ⊥
+    some n h = cc
+
+pub allowed-event : (sizes : Sizes) (sent : ℕ) (event named : Event) → event ≡ named
+    → why_refused sizes sent event ≡ None
+    → (has_party sizes named ≡ true) × (has_frame sent named ≡ true)
+allowed-event sizes sent event named is ok =
+    allowed (has_party sizes named) (has_frame sent named) _
+    (subst (λ (x : Event). why_refused sizes sent x ≡ None) is ok)
+
+pub is-below : (sizes : Sizes) (i : ℕ) → is_replica_of sizes i ≡ true → i < replicas sizes
+is-below sizes i h = ltb-true i (replicas sizes) h
+
+pub both-below : (sizes : Sizes) (i j : ℕ) → (is_replica_of sizes i && is_replica_of sizes j) ≡ true
+    → (i < replicas sizes) × (j < replicas sizes)
+both-below sizes i j h =
+    let both = and_parts _ _ h in (is-below sizes i both.0, is-below sizes j both.1)
+
 -- an event at a correct party
 pub correct-if : (s : Setting) (held held' : List steps.Held) (seats seats' : List sessions.Held)
     (event : Event) (sent : List SentFrame) (r : Result Effect Fault)
@@ -535,7 +734,7 @@ pub after-note :
     → OnOk r (new.journal.answers.items ≡ old.journal.answers.items ++ e.answer ∷ [])
     → OnErr r (r ≡ Err fault.Memory)
     → MatchResult r (λ _. GoesOn s w event new)
-    (λ n. (n ≡ fault.Memory) ⊎ (refusal w (event_of None event) ≡ Some n))
+    (λ n. (n ≡ fault.Memory) ⊎ (refusal w (event_of [] event) ≡ Some n))
 after-note s w event old new e (Ok x) at ok d f p a m =
     went-on s w event old new e at ok d (record { frames = f; receipts = p; answers = a })
 after-note s w event old new e (Err n) at ok d f p a m = inl (same m)
@@ -548,10 +747,10 @@ pub stood :
     (s : Setting) (w : World) (event : Event) (new : State) (old : Result (Unit {0}) Fault) (x : Unit {0})
     → old ≡ Ok x
     → MatchResult old (λ _. GoesOn s w event new)
-    (λ n. (n ≡ fault.Memory) ⊎ (refusal w (event_of None event) ≡ Some n)) → GoesOn s w event new
+    (λ n. (n ≡ fault.Memory) ⊎ (refusal w (event_of [] event) ≡ Some n)) → GoesOn s w event new
 stood s w event new old x is h =
     subst (λ (r : Result (Unit {0}) Fault). MatchResult r (λ _. GoesOn s w event new)
-    (λ n. (n ≡ fault.Memory) ⊎ (refusal w (event_of None event) ≡ Some n))) is h
+    (λ n. (n ≡ fault.Memory) ⊎ (refusal w (event_of [] event) ≡ Some n))) is h
 
 -- nothing was told yet
 pub first-at : (s : Setting) (state : State)
@@ -572,7 +771,7 @@ first-at s state p f a r = record {
 -- an event is refused
 pub ends-refused : (s : Setting) (events : List Event) (i : ℕ) (d event : Event) (old : State) (n : Fault)
     → i < length events → event ≡ slice_index_or events i d → (r : HasRun s (take i events) old)
-    → (n ≡ fault.Memory) ⊎ (refusal r.world (event_of None event) ≡ Some n)
+    → (n ≡ fault.Memory) ⊎ (refusal r.world (event_of [] event) ≡ Some n)
     → (n ≡ fault.Memory) ⊎ IsRefusedFor s events n
 ends-refused s events i d event old n l is r (inl m) = inl m
 ends-refused s events i d event old n l is r (inr h) = inr (record {

@@ -17,24 +17,32 @@ use Rattle.definitions.specs.FrameLimits.{IsReadAs}
 use Rattle.definitions.specs.Keyrings.{Keyring, Keys, keyring_of, client_at}
 use Rattle.definitions.specs.Checks.{Identity, identity_of}
 use Rattle.definitions.specs.Rulings.{Input}
-use Rattle.definitions.specs.Admission.{Checked, Checked.passes, Checked.rejected, check}
+use Rattle.definitions.specs.Admission.{Checked, Checked.passes, Checked.rejected, check, check_offer}
+use Rattle.definitions.specs.Admission.{check_gathered}
+use Rattle.std.specs.List.{flat_map}
+use Rattle.std.specs.Borrow.{Bor}
+use Rattle.admission.specs.Gathering.{AreReadAs}
 use Rattle.definitions.specs.Replicas as replicas
 use Rattle.definitions.specs.Replicas.{MemorySupply, Reaction, step}
 use Rattle.definitions.specs.Sessions.{Client, Session, Heard, submission, on_reply}
 use Rattle.definitions.specs.Worlds.{World, is_replica, self_of, put, new_world}
 use Rattle.definitions.specs.Worlds as worlds
 use Rattle.definitions.specs.Events as events
-use Rattle.definitions.specs.Events.{nothing, stepped, told, submitted, on_checked, comes}
+use Rattle.definitions.specs.Events.{nothing, stepped, told, submitted, on_checked, comes, offers, listed}
 use Rattle.signed_frames.specs.Clients.{client_of}
 use Rattle.replica.specs.Steps as steps
 use Rattle.signed_frames.specs.Outs.{sent_of}
 use Rattle.client_accept.specs.Sessions as sessions
 use Rattle.world_schedule.specs.declared.effect.Effect.{Effect}
+use Rattle.world_schedule.specs.declared.event.Source.{Source}
+use Rattle.world_schedule.specs.declared.outcome.SentFrame.{SentFrame}
+use Rattle.world_schedule.specs.Sources.{AreBytesOf}
 use Rattle.world_schedule.specs.Settings.{Setting, start_of}
-use Rattle.world_schedule.specs.Turns.{Tells, admits, takes, TellsReaction, Takes, Ticks, hears, Submits}
+use Rattle.world_schedule.specs.Turns.{Tells, admits, checked, TellsReaction, Takes, TakesBytes, TakesCopies}
+use Rattle.world_schedule.specs.Turns.{hears, Submits}
 use Rattle.world_schedule.specs.Turns.{Hears}
 use Rattle.world_schedule.specs.Seats.{HasKeysOf, IsIn, EachBelow, IsNewReplica, IsNewSession, with_effect}
-use Rattle.world_schedule.specs.Seats.{AreOf, Brings, Hands, Moves}
+use Rattle.world_schedule.specs.Seats.{AreSeated, AreOf, Brings, Offers, Gathers, Hands, Moves}
 
 -- ---- rows
 
@@ -234,65 +242,99 @@ module _ (s : Setting) (held : List steps.Held) (seats : List sessions.Held) (w 
       reacts p m new e (step (self_of w p) m i (w.replica p)) l keys is tells
   on-checked p m new e (rejected n) l keys is tells = refuses p m new e n l keys is tells
 
-  -- bytes come
-  frame-comes : (p : ℕ) (m : MemorySupply) (new : steps.Held) (e : Effect) (read : Option Frame)
-      → p < replicas s.sizes → HasKeysOf s p new.keys
-      → new.replica ≡ (takes (self_of w p) m read (w.replica p)).0
-      → TellsReaction (self_of w p) m (takes (self_of w p) m read (w.replica p)).1 e
-      → AreOf s (slice_set held p new) seats (with_effect w (comes p m read w))
-      × Tells (comes p m read w) (client_at p) e
-  unfolding comes
-  frame-comes p m new e None l keys is tells = refuses p m new e fault.NotAFrame l keys is tells
-  frame-comes p m new e (Some f) l keys is tells =
-      cond_both (is_replica w p) (on_checked p m (check (self_of w p) f) w) (events.hears (client_at p) m f w)
-      (λ (x : events.Effect). AreOf s (slice_set held p new) seats (with_effect w x)
-      × Tells x (client_at p) e)
-      (λ t. on-checked p m new e (check (self_of w p) f) l keys is tells)
-      (λ t. absurd (false≢true (sym t ∙ is-one p l)))
-    where
-      false≢true : false ≡ true → ⊥
-      false≢true k = cc
-
-  pub replica-takes : (p : ℕ) (bytes : Bytes) (old new : steps.Held) (e : Effect) → p < replicas s.sizes
-      → old ≡ slice_index_or held p old → new.keys ≡ old.keys
-      → Takes (identity_of old.keys) bytes old.replica new.replica e
-      → Brings s w p bytes (slice_set held p new) seats e
-  replica-takes p bytes old new e l here same t =
+  -- what was checked came to it, whoever it is
+  pub replica-takes : (p : ℕ) (x : Identity → Checked) (old new : steps.Held) (e : Effect)
+      → p < replicas s.sizes → old ≡ slice_index_or held p old → new.keys ≡ old.keys
+      → Takes (identity_of old.keys) (x (identity_of old.keys)) old.replica new.replica e
+      → (m : MemorySupply)
+      × AreOf s (slice_set held p new) seats (with_effect w (on_checked p m (x (self_of w p)) w))
+      × Tells (on_checked p m (x (self_of w p)) w) (client_at p) e
+  replica-takes p x old new e l here same t =
       let k : HasKeysOf s p old.keys =
       subst (λ (h : steps.Held). HasKeysOf s p h.keys) (sym here) (at.seated.replica_keys p old l) in
       let mine : HasKeysOf s p new.keys = subst (HasKeysOf s p) (sym same) k in
       let state : old.replica ≡ w.replica p =
       ap (λ (h : steps.Held). h.replica) here ∙ at.replicas_are p old l in
-      let x : Takes (self_of w p) bytes (w.replica p) new.replica e =
-      subst (λ (i : Identity). Takes i bytes (w.replica p) new.replica e)
-      (self-is s w p old.keys at.setting k)
-      (subst (λ (r : replicas.Replica). Takes (identity_of old.keys) bytes r new.replica e) state t) in
-      let done = frame-comes p x.memory new e x.read l mine x.state x.tells in
+      let y : Takes (self_of w p) (x (self_of w p)) (w.replica p) new.replica e =
+      subst (λ (i : Identity). Takes i (x i) (w.replica p) new.replica e) (self-is s w p old.keys at.setting k)
+      (subst (λ (r : replicas.Replica). Takes (identity_of old.keys) (x (identity_of old.keys)) r new.replica e)
+      state t) in
+      let done = on-checked p y.memory new e (x (self_of w p)) l mine y.state y.tells in
+      (y.memory, done.0, done.1)
+
+  -- the sizes of its keys
+  its-sizes : (p : ℕ) (old : steps.Held) → p < replicas s.sizes → old ≡ slice_index_or held p old
+      → old.keys.sizes ≡ s.sizes
+  its-sizes p old l here =
+      (subst (λ (h : steps.Held). HasKeysOf s p h.keys) (sym here) (at.seated.replica_keys p old l)).sizes_are
+
+  -- bytes that come are checked so
+  comes-checked : (p : ℕ) (m : MemorySupply) (read : Option Frame) → p < replicas s.sizes
+      → comes p m read w ≡ on_checked p m (checked check (self_of w p) read) w
+  unfolding comes
+  comes-checked p m None l = refl
+  comes-checked p m (Some f) l = cond-true (is_replica w p) _ _ (is-one p l)
+
+  -- and offered ones so
+  offers-checked : (p : ℕ) (m : MemorySupply) (read : Option Frame)
+      → offers p m read w ≡ on_checked p m (checked check_offer (self_of w p) read) w
+  unfolding offers
+  offers-checked p m None = refl
+  offers-checked p m (Some f) = refl
+
+  pub replica-brings : (p : ℕ) (bytes : Bytes) (old new : steps.Held) (e : Effect) → p < replicas s.sizes
+      → old ≡ slice_index_or held p old → new.keys ≡ old.keys
+      → TakesBytes check (identity_of old.keys) bytes old.replica new.replica e
+      → Brings s w p bytes (slice_set held p new) seats e
+  replica-brings p bytes old new e l here same t =
+      let done = replica-takes p (λ i. checked check i t.read) old new e l here same t.takes in
+      let is = sym (comes-checked p done.0 t.read l) in
       record {
-        read = x.read;
-        is_read = subst (λ (z : Sizes). IsReadAs z bytes x.read) at.setting.sizes_are x.is_read;
-        memory = x.memory;
-        parties = done.0;
-        tells = done.1;
+        read = t.read;
+        is_read = subst (λ (z : Sizes). IsReadAs z bytes t.read) (its-sizes p old l here) t.is_read;
+        memory = done.0;
+        parties = subst (λ (f : events.Effect). AreOf s (slice_set held p new) seats (with_effect w f)) is
+            done.1;
+        tells = subst (λ (f : events.Effect). Tells f (client_at p) e) is done.2;
       }
 
-  pub replica-ticks : (p : ℕ) (input : Input) (old new : steps.Held) (e : Effect) → p < replicas s.sizes
+  pub replica-offers : (p : ℕ) (bytes : Bytes) (old new : steps.Held) (e : Effect) → p < replicas s.sizes
       → old ≡ slice_index_or held p old → new.keys ≡ old.keys
-      → Ticks (identity_of old.keys) input old.replica new.replica e
+      → TakesBytes check_offer (identity_of old.keys) bytes old.replica new.replica e
+      → Offers s w p bytes (slice_set held p new) seats e
+  replica-offers p bytes old new e l here same t =
+      let done = replica-takes p (λ i. checked check_offer i t.read) old new e l here same t.takes in
+      let is = sym (offers-checked p done.0 t.read) in
+      record {
+        read = t.read;
+        is_read = subst (λ (z : Sizes). IsReadAs z bytes t.read) (its-sizes p old l here) t.is_read;
+        memory = done.0;
+        parties = subst (λ (f : events.Effect). AreOf s (slice_set held p new) seats (with_effect w f)) is
+            done.1;
+        tells = subst (λ (f : events.Effect). Tells f (client_at p) e) is done.2;
+      }
+
+  pub replica-gathers : (p : ℕ) (frames : List (Bor Bytes)) (old new : steps.Held) (e : Effect)
+      → p < replicas s.sizes → old ≡ slice_index_or held p old → new.keys ≡ old.keys
+      → TakesCopies (identity_of old.keys) frames old.replica new.replica e
+      → Gathers s w p frames (slice_set held p new) seats e
+  replica-gathers p frames old new e l here same t =
+      let done = replica-takes p (λ i. check_gathered i (flat_map listed t.reads)) old new e l here same t.takes
+      in record {
+        reads = t.reads;
+        are_read = subst (λ (z : Sizes). AreReadAs z frames t.reads) (its-sizes p old l here) t.are_read;
+        memory = done.0;
+        parties = done.1;
+        tells = done.2;
+      }
+
+  pub replica-moves : (p : ℕ) (input : Input) (old new : steps.Held) (e : Effect) → p < replicas s.sizes
+      → old ≡ slice_index_or held p old → new.keys ≡ old.keys
+      → Takes (identity_of old.keys) (passes input) old.replica new.replica e
       → Moves s w input p (slice_set held p new) seats e
-  replica-ticks p input old new e l here same t =
-      let k : HasKeysOf s p old.keys =
-      subst (λ (h : steps.Held). HasKeysOf s p h.keys) (sym here) (at.seated.replica_keys p old l) in
-      let mine : HasKeysOf s p new.keys = subst (HasKeysOf s p) (sym same) k in
-      let state : old.replica ≡ w.replica p =
-      ap (λ (h : steps.Held). h.replica) here ∙ at.replicas_are p old l in
-      let x : Ticks (self_of w p) input (w.replica p) new.replica e =
-      subst (λ (i : Identity). Ticks i input (w.replica p) new.replica e)
-      (self-is s w p old.keys at.setting k)
-      (subst (λ (r : replicas.Replica). Ticks (identity_of old.keys) input r new.replica e) state t) in
-      let done =
-      reacts p x.memory new e (step (self_of w p) x.memory input (w.replica p)) l mine x.state x.tells in
-      record { memory = x.memory; parties = done.0; tells = done.1 }
+  replica-moves p input old new e l here same t =
+      let done = replica-takes p (λ i. passes input) old new e l here same t in
+      record { memory = done.0; parties = done.1; tells = done.2 }
 
   -- ---- a client
 
@@ -400,29 +442,62 @@ module _ (s : Setting) (held : List steps.Held) (seats : List sessions.Held) (w 
 
 -- ---- where there is an effect
 
--- bytes came to a replica
-pub takes-if : (s : Setting) (held : List steps.Held) (seats : List sessions.Held) (i p : ℕ) (bytes : Bytes)
-    (old new : steps.Held) (r : Result Effect Fault) → i ≡ p → p < replicas s.sizes
-    → old ≡ slice_index_or held i old → new.keys ≡ old.keys
-    → IfOk r (λ e. Takes (identity_of old.keys) bytes old.replica new.replica e)
-    → IfOk r
-    (λ e. (w : World) → AreOf s held seats w → Brings s w p bytes (slice_set held i new) seats e)
-takes-if s held seats i p bytes old new (Ok e) is l here same t = λ w at.
-    subst (λ (n : ℕ). Brings s w p bytes (slice_set held n new) seats e) (sym is)
-    (replica-takes s held seats w at p bytes old new e l
-    (subst (λ (n : ℕ). old ≡ slice_index_or held n old) is here) same t)
-takes-if s held seats i p bytes old new (Err n) is l here same t = tt
+-- the keys of a replica have the sizes of its world
+pub seated-sizes : (s : Setting) (held : List steps.Held) (seats : List sessions.Held) (i p : ℕ)
+    (old : steps.Held) → AreSeated s held seats → i ≡ p → p < replicas s.sizes → old ≡ slice_index_or held i old
+    → old.keys.sizes ≡ s.sizes
+seated-sizes s held seats i p old at is l here =
+    (subst (λ (h : steps.Held). HasKeysOf s p h.keys) (sym (subst (λ (n : ℕ). old ≡ slice_index_or held n old)
+    is here)) (at.replica_keys p old l)).sizes_are
 
--- a replica's time was out, its beat came, or it was given leave to prune
-pub ticks-at : (s : Setting) (held : List steps.Held) (seats : List sessions.Held) (i p : ℕ) (input : Input)
-    (old new : steps.Held) (e : Effect) → i ≡ p → p < replicas s.sizes → old ≡ slice_index_or held i old
-    → new.keys ≡ old.keys
-    → Ticks (identity_of old.keys) input old.replica new.replica e → (w : World) → AreOf s held seats w
-    → Moves s w input p (slice_set held i new) seats e
-ticks-at s held seats i p input old new e is l here same t w at =
-    subst (λ (n : ℕ). Moves s w input p (slice_set held n new) seats e) (sym is)
-    (replica-ticks s held seats w at p input old new e l
-    (subst (λ (n : ℕ). old ≡ slice_index_or held n old) is here) same t)
+-- something came to a replica
+module _ (s : Setting) (held : List steps.Held) (seats : List sessions.Held) (i p : ℕ) (old new : steps.Held)
+    (is : i ≡ p) (l : p < replicas s.sizes) (here : old ≡ slice_index_or held i old)
+    (same : new.keys ≡ old.keys) where
+  there : old ≡ slice_index_or held p old
+  there = subst (λ (n : ℕ). old ≡ slice_index_or held n old) is here
+
+  -- bytes
+  pub brings-if : (bytes : Bytes) (r : Result Effect Fault)
+      → IfOk r (λ e. TakesBytes check (identity_of old.keys) bytes old.replica new.replica e)
+      → IfOk r (λ e. (w : World) → AreOf s held seats w → Brings s w p bytes (slice_set held i new) seats e)
+  brings-if bytes (Ok e) t = λ w at.
+      subst (λ (n : ℕ). Brings s w p bytes (slice_set held n new) seats e) (sym is)
+      (replica-brings s held seats w at p bytes old new e l there same t)
+  brings-if bytes (Err n) t = tt
+
+  -- bytes that are offered
+  pub offers-if : (bytes : Bytes) (r : Result Effect Fault)
+      → IfOk r (λ e. TakesBytes check_offer (identity_of old.keys) bytes old.replica new.replica e)
+      → IfOk r (λ e. (w : World) → AreOf s held seats w → Offers s w p bytes (slice_set held i new) seats e)
+  offers-if bytes (Ok e) t = λ w at.
+      subst (λ (n : ℕ). Offers s w p bytes (slice_set held n new) seats e) (sym is)
+      (replica-offers s held seats w at p bytes old new e l there same t)
+  offers-if bytes (Err n) t = tt
+
+  -- frames together
+  pub gathers-if : (sent : List SentFrame) (sources : List Source) (r : Result Effect Fault)
+      → IfOk r (λ e. (frames : List (Bor Bytes)) × AreBytesOf sent sources frames
+      × TakesCopies (identity_of old.keys) frames old.replica new.replica e)
+      → IfOk r (λ e. (frames : List (Bor Bytes)) × AreBytesOf sent sources frames
+      × ((w : World) → AreOf s held seats w → Gathers s w p frames (slice_set held i new) seats e))
+  gathers-if sent sources (Ok e) (frames, are, t) = (
+    frames,
+    are,
+    λ w at.
+        subst (λ (n : ℕ). Gathers s w p frames (slice_set held n new) seats e) (sym is)
+        (replica-gathers s held seats w at p frames old new e l there same t),
+  )
+  gathers-if sent sources (Err n) t = tt
+
+  -- an input that no frame brings
+  pub moves-if : (input : Input) (r : Result Effect Fault)
+      → IfOk r (λ e. Takes (identity_of old.keys) (passes input) old.replica new.replica e)
+      → IfOk r (λ e. (w : World) → AreOf s held seats w → Moves s w input p (slice_set held i new) seats e)
+  moves-if input (Ok e) t = λ w at.
+      subst (λ (n : ℕ). Moves s w input p (slice_set held n new) seats e) (sym is)
+      (replica-moves s held seats w at p input old new e l there same t)
+  moves-if input (Err n) t = tt
 
 -- a client submitted
 pub submits-if : (s : Setting) (held : List steps.Held) (seats : List sessions.Held) (i c : ℕ)

@@ -1,3 +1,4 @@
+pub mod Sources
 pub mod Told
 pub mod Settings
 pub mod Schedules

@@ -7,9 +7,13 @@ use Rattle.definitions.specs.Frames.{Frame}
 use Rattle.definitions.specs.FrameLimits.{IsReadAs}
 use Rattle.definitions.specs.Replicas.{MemorySupply, running}
 use Rattle.definitions.specs.Sessions.{new_session}
-use Rattle.definitions.specs.Worlds.{World, Happening}
+use Rattle.definitions.specs.Worlds.{World, Happening, self_of}
+use Rattle.definitions.specs.Admission.{check_gathered}
+use Rattle.std.specs.List.{flat_map}
+use Rattle.std.specs.Borrow.{Bor}
+use Rattle.admission.specs.Gathering.{AreReadAs}
 use Rattle.definitions.specs.Events as events
-use Rattle.definitions.specs.Events.{comes, submits, acts, effect, client_number}
+use Rattle.definitions.specs.Events.{comes, offers, submits, acts, effect, client_number, on_checked, listed}
 use Rattle.definitions.specs.Rulings.{Input}
 use Rattle.definitions.specs.Keyrings.{client_at}
 use Rattle.replica.specs.Steps as steps
@@ -70,6 +74,10 @@ pub record AreOf (s : Setting) (held : List steps.Held) (seats : List sessions.H
   pub sessions_are : (c : ℕ) (d : sessions.Held) → c < s.sizes.clients
       → (slice_index_or seats c d).session ≡ w.session c
 
+-- frames come together to a replica
+abbrev pub gathers : ℕ → MemorySupply → List Frame → World → events.Effect
+gathers to m frames w = on_checked to m (check_gathered (self_of w to) frames) w
+
 -- bytes came to a party that isn't faulty
 pub record Brings (s : Setting) (w : World) (to : ℕ) (bytes : Bytes) (held : List steps.Held)
     (seats : List sessions.Held) (e : Effect) : Type 0 where
@@ -86,7 +94,25 @@ pub record Hands (s : Setting) (w : World) (client : ℕ) (payload : Bytes) (hel
   pub parties : AreOf s held seats (with_effect w (submits client memory payload w))
   pub tells : Tells (submits client memory payload w) (client_at (client_party client)) e
 
--- a replica that isn't faulty took a timeout, a beat or leave to prune
+-- bytes were offered to a replica that isn't faulty
+pub record Offers (s : Setting) (w : World) (to : ℕ) (bytes : Bytes) (held : List steps.Held)
+    (seats : List sessions.Held) (e : Effect) : Type 0 where
+  pub read : Option Frame
+  pub is_read : IsReadAs s.sizes bytes read
+  pub memory : MemorySupply
+  pub parties : AreOf s held seats (with_effect w (offers to memory read w))
+  pub tells : Tells (offers to memory read w) (client_at to) e
+
+-- frames came together to a replica that isn't faulty
+pub record Gathers (s : Setting) (w : World) (to : ℕ) (frames : List (Bor Bytes)) (held : List steps.Held)
+    (seats : List sessions.Held) (e : Effect) : Type 0 where
+  pub reads : List (Option Frame)
+  pub are_read : AreReadAs s.sizes frames reads
+  pub memory : MemorySupply
+  pub parties : AreOf s held seats (with_effect w (gathers to memory (flat_map listed reads) w))
+  pub tells : Tells (gathers to memory (flat_map listed reads) w) (client_at to) e
+
+-- a replica that isn't faulty took an input that no frame brings
 pub record Moves (s : Setting) (w : World) (input : Input) (i : ℕ) (held : List steps.Held)
     (seats : List sessions.Held) (e : Effect) : Type 0 where
   pub memory : MemorySupply

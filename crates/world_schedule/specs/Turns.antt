@@ -1,19 +1,23 @@
 -- What events bring to one party.
 use Rattle.ids.specs.declared.fault.Fault.TheVariants as fault
-use Rattle.std.specs.Prelude.{ℕ, ◌≡◌, [], map, Option, Some, None}
+use Rattle.std.specs.Prelude.{ℕ, ◌≡◌, ◌<◌, List, [], map, Option, Some, None, ⊤}
+use Rattle.std.specs.List.{flat_map}
+use Rattle.std.specs.Borrow.{Bor}
+use Rattle.admission.specs.Gathering.{AreReadAs}
 use Rattle.std.specs.Option.{option_to_list}
 use Rattle.definitions.specs.Bytes.{Bytes}
 use Rattle.definitions.specs.Frames.{Frame}
 use Rattle.definitions.specs.FrameLimits.{IsReadAs}
 use Rattle.definitions.specs.Keyrings.{client_at}
 use Rattle.definitions.specs.Checks.{Identity}
-use Rattle.definitions.specs.Rulings.{Input}
+use Rattle.ids.specs.Sizes.{Sizes, replicas}
+use Rattle.definitions.specs.Rulings.{Input, timeout_in, beat_in, prune_in, lead_in, ask_in}
 use Rattle.definitions.specs.Replicas.{MemorySupply, Replica, Reaction, fails, step}
-use Rattle.definitions.specs.Admission.{Checked, passes, rejected, check}
+use Rattle.definitions.specs.Admission.{Checked, passes, rejected, check_gathered}
 use Rattle.definitions.specs.Sessions.{Client, Session, Heard, not_counted, submission, on_reply}
 use Rattle.definitions.specs.Events as events
 use Rattle.definitions.specs.Events.{out_of, answer_of, submitted_out, submitted_answer, accepted_of}
-use Rattle.definitions.specs.Events.{heard_answer}
+use Rattle.definitions.specs.Events.{heard_answer, listed}
 use Rattle.signed_frames.specs.Clients.{client_of}
 use Rattle.replica.specs.Steps.{shown}
 use Rattle.signed_frames.specs.Outs.{sent_of}
@@ -33,10 +37,10 @@ abbrev pub admits : Identity → MemorySupply → Checked → Replica → Replic
 admits self m (passes i) r = step self m i r
 admits self m (rejected n) r = (r, fails n)
 
--- what it makes of bytes that are read so
-abbrev pub takes : Identity → MemorySupply → Option Frame → Replica → Replica × Reaction
-takes self m None r = (r, fails fault.NotAFrame)
-takes self m (Some f) r = admits self m (check self f) r
+-- what the checks of a frame come to, where bytes are read so
+abbrev pub checked : (Identity → Frame → Checked) → Identity → Option Frame → Checked
+checked checks self None = rejected fault.NotAFrame
+checked checks self (Some f) = checks self f
 
 -- the effect tells of a reaction
 pub record TellsReaction (self : Identity) (m : MemorySupply) (x : Reaction) (e : Effect) : Type 0 where
@@ -44,19 +48,39 @@ pub record TellsReaction (self : Identity) (m : MemorySupply) (x : Reaction) (e 
   pub accepted : e.accepted ≡ None
   pub answer : e.answer ≡ answer_of x
 
--- bytes came to a replica
-pub record Takes (self : Identity) (bytes : Bytes) (old new : Replica) (e : Effect) : Type 0 where
+-- an input that no frame brings; who is to be asked is a replica
+abbrev pub IsMove : Sizes → Input → Type 0
+IsMove sizes timeout_in = ⊤
+IsMove sizes beat_in = ⊤
+IsMove sizes (prune_in height) = ⊤
+IsMove sizes (lead_in block) = ⊤
+IsMove sizes (ask_in to block) = to < replicas sizes
+IsMove sizes input = ⊥
+
+-- whom it has a replica ask, and for which block
+abbrev pub asked_by : Input → Option (ℕ × Bytes)
+asked_by (ask_in to block) = Some (to, block)
+asked_by input = None
+
+-- what was checked came to a replica
+pub record Takes (self : Identity) (x : Checked) (old new : Replica) (e : Effect) : Type 0 where
+  pub memory : MemorySupply
+  pub state : new ≡ (admits self memory x old).0
+  pub tells : TellsReaction self memory (admits self memory x old).1 e
+
+-- bytes came to a replica, which makes these checks
+pub record TakesBytes (checks : Identity → Frame → Checked) (self : Identity) (bytes : Bytes)
+    (old new : Replica) (e : Effect) : Type 0 where
   pub read : Option Frame
   pub is_read : IsReadAs self.sizes bytes read
-  pub memory : MemorySupply
-  pub state : new ≡ (takes self memory read old).0
-  pub tells : TellsReaction self memory (takes self memory read old).1 e
+  pub takes : Takes self (checked checks self read) old new e
 
--- its time is out, its beat comes, or it is given leave to prune
-pub record Ticks (self : Identity) (input : Input) (old new : Replica) (e : Effect) : Type 0 where
-  pub memory : MemorySupply
-  pub state : new ≡ (step self memory input old).0
-  pub tells : TellsReaction self memory (step self memory input old).1 e
+-- frames came to a replica together
+pub record TakesCopies (self : Identity) (frames : List (Bor Bytes)) (old new : Replica) (e : Effect) :
+    Type 0 where
+  pub reads : List (Option Frame)
+  pub are_read : AreReadAs self.sizes frames reads
+  pub takes : Takes self (check_gathered self (flat_map listed reads)) old new e
 
 -- ---- a client
 

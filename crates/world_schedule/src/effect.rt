@@ -1,7 +1,9 @@
 //! What an event does beside its change of a party.
 
 ghost use Rattle.std.specs.Prelude.{◌≡◌, [], ◌∷◌, map, None, IfOk, OnErr};
+ghost use Rattle.definitions.specs.Checks.{Identity};
 ghost use Rattle.signed_frames.specs.Outs.{sent_of};
+ghost use Rattle.world_schedule.specs.Asking.{TellsAnswer};
 
 use client_accept::Receipt;
 use ids::{ClientId, Fault};
@@ -40,6 +42,16 @@ impl Effect {
             out: out.into_sendings(),
             accepted: None,
             answer: None,
+        }
+    }
+
+    /// What is told of an answer, where nobody is asked for a block.
+    pub(crate) fn answers(alloc: Global, answer: Result<Out, Fault>) -> Effect
+        ensures { (self : Identity) → TellsAnswer self None answer result }
+    {
+        match answer {
+            Ok(out) => Effect::sends(out),
+            Err(fault) => Effect::only(alloc, Some(fault)),
         }
     }
 

@@ -10,9 +10,10 @@ mod parties;
 mod replica_party;
 mod replica_turn;
 mod running;
+mod sources;
 mod world;
 
-pub use event::Event;
+pub use event::{Event, Source};
 pub use outcome::{Accepted, History, Outcome, SentFrame};
 pub use running::run;
 pub use world::World;

@@ -1,27 +1,34 @@
 //! The parties of a run.
 
-ghost use Rattle.std.specs.Prelude.{◌≡◌, ◌<◌, ℕ, [], ◌∷◌, ◌++◌, None, length, map, IsTrue, IfOk, OnOk};
+ghost use Rattle.std.specs.Prelude.{◌≡◌, ◌<◌, ℕ, List, [], ◌∷◌, ◌++◌, None, length, map, IsTrue, IfOk, OnOk};
 ghost use Rattle.std.specs.Prelude.{OnErr};
 ghost use Rattle.ids.specs.Sizes.{client_party, replicas};
 ghost use Rattle.definitions.specs.Keyrings.{is_party_of};
 ghost use Rattle.definitions.specs.Canonical.{is_canonical};
-ghost use Rattle.definitions.specs.Rulings.{timeout_in, beat_in, prune_in};
+ghost use Rattle.std.specs.Borrow.{Bor};
+ghost use Rattle.std.specs.List.{list_all};
+ghost use Rattle.definitions.specs.Bytes.{Bytes};
+ghost use Rattle.admission.specs.Inputs.{input_of};
+ghost use Rattle.world_schedule.specs.Turns.{IsMove};
+ghost use Rattle.world_schedule.specs.Sources.{AreBytesOf};
 ghost use Rattle.definitions.specs.Worlds as worlds;
 ghost use Rattle.linear_law.specs.Law.{SentAreFrames};
 ghost use Rattle.world_schedule.specs.Settings.{Setting, start_of};
-ghost use Rattle.world_schedule.specs.Schedules.{why_refused};
+ghost use Rattle.world_schedule.specs.Schedules.{why_refused, has_source};
 ghost use Rattle.world_schedule.specs.Outcomes.{shown_frame, shown_sent, told_by, histories_of};
 ghost use Rattle.world_schedule.specs.Seats.{EachBelow, IsNewReplica, IsNewSession, AreSeated, AreOf};
-ghost use Rattle.world_schedule.specs.Seats.{Brings, Hands, Moves, Acts};
+ghost use Rattle.world_schedule.specs.Seats.{Brings, Offers, Gathers, Hands, Moves, Acts};
 
 use crate::effect::Effect;
-use crate::event::Event;
+use crate::event::{Event, Source};
 use crate::outcome::{History, SentFrame};
 use crate::replica_party::ReplicaParty;
+use crate::sources::bytes_of;
 use crate::world::World;
 use crate::{client, replica_turn};
 use client_accept::Session;
-use ids::{ClientId, Fault, Height, PartyId, ReplicaId};
+use ids::{ClientId, Fault, PartyId, ReplicaId};
+use replica::Input;
 
 /// All replicas and clients, also the faulty ones, which no event changes.
 #[derive(Drop)]
@@ -175,38 +182,53 @@ impl Parties {
         client::submit(world.alloc(), session, payload)
     }
 
-    /// Tells a replica that its view has lasted too long.
-    fn timeout(&mut self, world: &World, replica: ReplicaId) -> Effect
+    /// Has a replica take an input that no frame brings.
+    fn step(&mut self, world: &World, replica: ReplicaId, input: Input<'_>) -> Result<Effect, Fault>
         requires seated { AreSeated world.now self.old.replicas.items self.old.sessions.items }
         requires replica { replica < replicas world.now.sizes }
-        ensures { (w : worlds.World) → AreOf world.now self.old.replicas.items self.old.sessions.items w
-            → Moves world.now w timeout_in replica self.new.replicas.items self.new.sessions.items result }
+        requires moves { IsMove world.now.sizes (input_of input) }
+        ensures moved { IfOk result
+            (λ e. (w : worlds.World) → AreOf world.now self.old.replicas.items self.old.sessions.items w
+            → Moves world.now w (input_of input.entry) replica self.new.replicas.items
+            self.new.sessions.items e) }
+        ensures memory { OnErr result (result ≡ Err Fault.Memory) }
     {
         let replica = &mut self.replicas[usize::from(replica.0)];
-        replica_turn::timeout(world.alloc(), replica)
+        replica_turn::step(world.alloc(), replica, input)
     }
 
-    /// Tells a replica to propose, if it leads.
-    fn beat(&mut self, world: &World, replica: ReplicaId) -> Effect
+    /// Offers bytes to a replica.
+    fn offer(&mut self, world: &World, to: ReplicaId, bytes: &[u8]) -> Result<Effect, Fault>
         requires seated { AreSeated world.now self.old.replicas.items self.old.sessions.items }
-        requires replica { replica < replicas world.now.sizes }
-        ensures { (w : worlds.World) → AreOf world.now self.old.replicas.items self.old.sessions.items w
-            → Moves world.now w beat_in replica self.new.replicas.items self.new.sessions.items result }
+        requires replica { to < replicas world.now.sizes }
+        ensures offered { IfOk result
+            (λ e. (w : worlds.World) → AreOf world.now self.old.replicas.items self.old.sessions.items w
+            → Offers world.now w to bytes.now self.new.replicas.items self.new.sessions.items e) }
+        ensures memory { OnErr result (result ≡ Err Fault.Memory) }
     {
-        let replica = &mut self.replicas[usize::from(replica.0)];
-        replica_turn::beat(world.alloc(), replica)
+        let replica = &mut self.replicas[usize::from(to.0)];
+        replica_turn::offer(world.alloc(), replica, bytes)
     }
 
-    /// Gives a replica leave to prune its tree up to a height.
-    fn prune(&mut self, world: &World, replica: ReplicaId, height: Height) -> Effect
+    /// Brings the frames of these sources to a replica together.
+    fn gather(
+        &mut self,
+        world: &World,
+        to: ReplicaId,
+        sent: &[SentFrame],
+        sources: &[Source],
+    ) -> Result<Effect, Fault>
         requires seated { AreSeated world.now self.old.replicas.items self.old.sessions.items }
-        requires replica { replica < replicas world.now.sizes }
-        ensures { (w : worlds.World) → AreOf world.now self.old.replicas.items self.old.sessions.items w
-            → Moves world.now w (prune_in height) replica self.new.replicas.items self.new.sessions.items
-            result }
+        requires replica { to < replicas world.now.sizes }
+        requires there { IsTrue (list_all (has_source (length sent.now)) sources.now) }
+        ensures gathered { IfOk result (λ e. (frames : List (Bor Bytes))
+            × AreBytesOf sent.now sources.now frames
+            × ((w : worlds.World) → AreOf world.now self.old.replicas.items self.old.sessions.items w
+            → Gathers world.now w to frames self.new.replicas.items self.new.sessions.items e)) }
+        ensures memory { OnErr result (result ≡ Err Fault.Memory) }
     {
-        let replica = &mut self.replicas[usize::from(replica.0)];
-        replica_turn::prune(world.alloc(), replica, height)
+        let replica = &mut self.replicas[usize::from(to.0)];
+        replica.take_copies(world.alloc(), sent, sources)
     }
 
     /// Has the party that an event names take it.
@@ -230,9 +252,17 @@ impl Parties {
             Event::Submit { client, payload } => self.submit(world, *client, payload),
             Event::Relay { frame, to } => self.bring(world, *to, &sent[*frame as usize].frame),
             Event::Inject { to, bytes } => self.bring(world, *to, bytes),
-            Event::Timeout(replica) => Ok(self.timeout(world, *replica)),
-            Event::Beat(replica) => Ok(self.beat(world, *replica)),
-            Event::Prune { replica, height } => Ok(self.prune(world, *replica, *height)),
+            Event::Timeout(replica) => self.step(world, *replica, Input::Timeout),
+            Event::Beat(replica) => self.step(world, *replica, Input::Beat),
+            Event::Prune { replica, height } => self.step(world, *replica, Input::Prune(*height)),
+            Event::Offer { to, source } => self.offer(world, *to, bytes_of(sent, source)),
+            Event::Gather { to, sources } => self.gather(world, *to, sent, sources),
+            Event::Lead { replica, block } => self.step(world, *replica, Input::Lead(*block)),
+            Event::Ask { replica, to, block } => self.step(
+                world,
+                *replica,
+                Input::Ask(*to, *block),
+            ),
         }
     }
 

@@ -1,18 +1,29 @@
 //! A replica as a party of a world.
 
-ghost use Rattle.std.specs.Prelude.{◌≡◌, ◌<◌, IsTrue, IfOk, OnErr};
+ghost use Rattle.std.specs.Prelude.{◌≡◌, ◌<◌, List, length, IsTrue, IfOk, OnErr};
 ghost use Rattle.ids.specs.Sizes.{replicas};
 ghost use Rattle.definitions.specs.Checks.{identity_of};
 ghost use Rattle.admission.specs.Inputs.{input_of, is_addressed};
-ghost use Rattle.replica.specs.Steps.{Stepped};
-ghost use Rattle.world_schedule.specs.Asking.{Answers};
+ghost use Rattle.definitions.specs.Admission.{passes, check, check_offer};
+ghost use Rattle.std.specs.Borrow.{Bor};
+ghost use Rattle.std.specs.List.{list_all};
+ghost use Rattle.definitions.specs.Bytes.{Bytes};
+ghost use Rattle.world_schedule.specs.Asking.{AnswersTo, Answers};
+ghost use Rattle.world_schedule.specs.Schedules.{has_source};
+ghost use Rattle.world_schedule.specs.Sources.{AreBytesOf};
+ghost use Rattle.world_schedule.specs.Turns.{TakesCopies};
 ghost use Rattle.world_schedule.specs.Seats.{IsNewReplica};
 
+use crate::effect::Effect;
+use crate::event::Source;
+use crate::outcome::SentFrame;
+use crate::sources::frames_of;
 use crate::world::World;
-use admission::admit;
+use admission::{admit, admit_copies, admit_offer};
 use authenticators::ReplicaKeyring;
 use ids::{Fault, ReplicaId};
 use replica::{Archived, Input, Out, Replica};
+use std::alloc::Global;
 use std::marker::Model;
 
 /// A replica, and its keys once more, with which what comes to it is checked.
@@ -61,12 +72,12 @@ impl ReplicaParty {
         self.replica
     }
 
-    /// Takes an input: one step of the replica.
+    /// Takes an input that was checked for it: one step of the replica.
     pub(crate) fn step(&mut self, input: Input<'_>) -> Result<Out, Fault>
         requires { IsTrue (is_addressed self.old.keys input) }
-        ensures stepped { Stepped (identity_of self.old.keys) (input_of input.entry) self.old.replica result
-            self.new.replica }
         ensures keys { self.new.keys ≡ self.old.keys }
+        ensures answers { AnswersTo (identity_of self.old.keys) (passes (input_of input.entry))
+            self.old.replica self.new.replica result }
     {
         self.replica.step(input)
     }
@@ -74,12 +85,50 @@ impl ReplicaParty {
     /// Takes bytes, checked with the replica's keys.
     pub(crate) fn take(&mut self, bytes: &[u8]) -> Result<Out, Fault>
         ensures keys { self.new.keys ≡ self.old.keys }
-        ensures taken { Answers (identity_of self.old.keys) bytes.now self.old.replica self.new.replica
+        ensures taken { Answers check (identity_of self.old.keys) bytes.now self.old.replica self.new.replica
             result }
     {
         match admit(self.keyring.verifying(), bytes) {
             Ok(input) => self.replica.step(input),
             Err(fault) => Err(fault),
+        }
+    }
+
+    /// Takes bytes that are offered.
+    pub(crate) fn take_offer(&mut self, bytes: &[u8]) -> Result<Out, Fault>
+        ensures keys { self.new.keys ≡ self.old.keys }
+        ensures taken { Answers check_offer (identity_of self.old.keys) bytes.now self.old.replica
+            self.new.replica result }
+    {
+        match admit_offer(self.keyring.verifying(), bytes) {
+            Ok(input) => self.replica.step(input),
+            Err(fault) => Err(fault),
+        }
+    }
+
+    /// Takes the frames of these sources together. For want of a block below it asks nobody.
+    ///
+    /// `Memory` where the row of their bytes is refused; the replica then takes nothing.
+    pub(crate) fn take_copies(
+        &mut self,
+        alloc: Global,
+        sent: &[SentFrame],
+        sources: &[Source],
+    ) -> Result<Effect, Fault>
+        requires there { IsTrue (list_all (has_source (length sent.now)) sources.now) }
+        ensures keys { self.new.keys ≡ self.old.keys }
+        ensures taken { IfOk result (λ e. (frames : List (Bor Bytes))
+            × AreBytesOf sent.now sources.now frames
+            × TakesCopies (identity_of self.old.keys) frames self.old.replica self.new.replica e) }
+        ensures memory { OnErr result (result ≡ Err Fault.Memory) }
+    {
+        let frames = frames_of(alloc, sent, sources)?;
+        match admit_copies(self.keyring.verifying(), frames.as_slice()) {
+            Ok(input) => {
+                let answer = self.replica.step(input);
+                Ok(Effect::answers(alloc, answer))
+            }
+            Err(fault) => Ok(Effect::only(alloc, Some(fault))),
         }
     }
 }

@@ -1,38 +1,33 @@
 //! What events bring to a replica.
 
-ghost use Rattle.std.specs.Prelude.{◌≡◌, IfOk, OnErr};
-ghost use Rattle.definitions.specs.Bytes.{Bytes};
-ghost use Rattle.definitions.specs.Frames.{Frame};
-ghost use Rattle.definitions.specs.FrameLimits.{IsReadAs};
+ghost use Rattle.std.specs.Prelude.{◌≡◌, ◌<◌, IfSome, IfOk, OnErr};
+ghost use Rattle.ids.specs.Sizes.{replicas};
+ghost use Rattle.definitions.specs.Admission.{passes, check, check_offer};
 ghost use Rattle.definitions.specs.Checks.{identity_of};
-ghost use Rattle.definitions.specs.Rulings.{timeout_in, beat_in, prune_in};
-ghost use Rattle.admission.specs.Lacking.{lacked_by};
-ghost use Rattle.world_schedule.specs.Turns.{Takes, Ticks};
-ghost use Rattle.world_schedule.specs.Asking.{Asks, is_lack, Refuses};
+ghost use Rattle.admission.specs.Inputs.{input_of};
+ghost use Rattle.world_schedule.specs.Turns.{Takes, TakesBytes, IsMove, asked_by};
+ghost use Rattle.world_schedule.specs.Asking.{Asks, is_lack, Refuses, TellsAnswer};
 
 use crate::effect::Effect;
 use crate::replica_party::ReplicaParty;
 use admission::missing;
-use ids::{Fault, Height, Kind};
-use replica::{Input, Replica, Sending, To};
+use ids::{Digest, Fault, Kind, ReplicaId};
+use replica::{Input, Out, Replica, Sending, To};
 use std::alloc::Global;
 
-/// The effect of a refused frame whose block's branch isn't whole: the question for what is
-/// missing, to the frame's sender. It is left out where that is the replica itself, or where memory
-/// for it is refused.
+/// The effect of a refusal for want of a block: the question for it, to this replica. It is left out where
+/// that is the replica itself, or where memory for it is refused.
 #[tactic(auto, unfolding(definitions::specs::Sendings::fetch_frame))]
-fn ask(alloc: Global, replica: &Replica, bytes: &[u8]) -> Result<Effect, Fault>
-    ensures asked { IfOk result (λ e. Asks (identity_of replica.now.keys) bytes.now e) }
+fn ask(alloc: Global, replica: &Replica, to: ReplicaId, block: &Digest) -> Result<Effect, Fault>
+    requires { to < replicas replica.now.keys.sizes }
+    ensures asked { IfOk result (λ e. Asks (identity_of replica.now.keys) to block.now e) }
     ensures memory { OnErr result (result ≡ Err Fault.Memory) }
 {
     let refused = Some(Fault::UnknownParent);
-    let Some((to, block)) = missing(&replica.config(), bytes) else {
-        return Ok(Effect::only(alloc, refused));
-    };
     if to == replica.number() {
         return Ok(Effect::only(alloc, refused));
     }
-    match replica.write_fetch(to, &block) {
+    match replica.write_fetch(to, block) {
         Ok(frame) => {
             let sending = Sending {
                 to: To::Replica(to),
@@ -52,15 +47,41 @@ fn is_lack(fault: Fault) -> bool
     matches!(fault, Fault::UnknownParent)
 }
 
-/// The effect of a refusal of bytes.
-fn refuse(alloc: Global, replica: &Replica, bytes: &[u8], fault: Fault) -> Result<Effect, Fault>
-    ensures refused { IfOk result (λ e. Refuses (identity_of replica.now.keys) bytes.now fault e) }
+/// The effect of a refusal, where this block may have been lacking, and this replica is to be asked for it.
+fn refuse(
+    alloc: Global,
+    replica: &Replica,
+    lack: Option<(ReplicaId, Digest)>,
+    fault: Fault,
+) -> Result<Effect, Fault>
+    requires { IfSome lack (λ l. l.0 < replicas replica.now.keys.sizes) }
+    ensures refused { IfOk result (λ e. Refuses (identity_of replica.now.keys) lack fault e) }
     ensures memory { OnErr result (result ≡ Err Fault.Memory) }
 {
+    let Some((to, block)) = lack else {
+        return Ok(Effect::only(alloc, Some(fault)));
+    };
     if is_lack(fault) {
-        return ask(alloc, replica, bytes);
+        return ask(alloc, replica, to, &block);
     }
     Ok(Effect::only(alloc, Some(fault)))
+}
+
+/// The effect of what a replica answered.
+fn tell(
+    alloc: Global,
+    replica: &Replica,
+    lack: Option<(ReplicaId, Digest)>,
+    answer: Result<Out, Fault>,
+) -> Result<Effect, Fault>
+    requires { IfSome lack (λ l. l.0 < replicas replica.now.keys.sizes) }
+    ensures told { IfOk result (λ e. TellsAnswer (identity_of replica.now.keys) lack answer e) }
+    ensures memory { OnErr result (result ≡ Err Fault.Memory) }
+{
+    match answer {
+        Ok(out) => Ok(Effect::sends(out)),
+        Err(fault) => refuse(alloc, replica, lack, fault),
+    }
 }
 
 /// Brings bytes to a replica.
@@ -70,50 +91,58 @@ pub(crate) fn receive(
     bytes: &[u8],
 ) -> Result<Effect, Fault>
     ensures keys { replica.new.keys ≡ replica.old.keys }
-    ensures taken { IfOk result
-        (λ e. Takes (identity_of replica.old.keys) bytes.now replica.old.replica replica.new.replica e) }
+    ensures taken { IfOk result (λ e. TakesBytes check (identity_of replica.old.keys) bytes.now
+        replica.old.replica replica.new.replica e) }
     ensures memory { OnErr result (result ≡ Err Fault.Memory) }
 {
     // For the proof: there are few replicas.
     replica.replica().config().holds();
-    match replica.take(bytes) {
-        Ok(out) => Ok(Effect::sends(out)),
-        Err(fault) => refuse(alloc, replica.replica(), bytes, fault),
+    let lack = missing(&replica.replica().config(), bytes);
+    let answer = replica.take(bytes);
+    tell(alloc, replica.replica(), lack, answer)
+}
+
+/// Offers bytes to a replica.
+pub(crate) fn offer(
+    alloc: Global,
+    replica: &mut ReplicaParty,
+    bytes: &[u8],
+) -> Result<Effect, Fault>
+    ensures keys { replica.new.keys ≡ replica.old.keys }
+    ensures taken { IfOk result (λ e. TakesBytes check_offer (identity_of replica.old.keys) bytes.now
+        replica.old.replica replica.new.replica e) }
+    ensures memory { OnErr result (result ≡ Err Fault.Memory) }
+{
+    // For the proof: there are few replicas.
+    replica.replica().config().holds();
+    let lack = missing(&replica.replica().config(), bytes);
+    let answer = replica.take_offer(bytes);
+    tell(alloc, replica.replica(), lack, answer)
+}
+
+/// Whom an input has a replica ask, and for which block.
+fn asked_by(input: &Input<'_>) -> Option<(ReplicaId, Digest)>
+    ensures { result ≡ asked_by (input_of input.now) }
+{
+    match input {
+        Input::Ask(to, block) => Some((*to, *block)),
+        _ => None,
     }
 }
 
-/// Tells a replica that its view has lasted too long.
-pub(crate) fn timeout(alloc: Global, replica: &mut ReplicaParty) -> Effect
+/// Has a replica take an input that no frame brings.
+pub(crate) fn step(
+    alloc: Global,
+    replica: &mut ReplicaParty,
+    input: Input<'_>,
+) -> Result<Effect, Fault>
+    requires { IsMove replica.old.keys.sizes (input_of input) }
     ensures keys { replica.new.keys ≡ replica.old.keys }
-    ensures ticked { Ticks (identity_of replica.old.keys) timeout_in replica.old.replica replica.new.replica
-        result }
+    ensures taken { IfOk result (λ e. Takes (identity_of replica.old.keys) (passes (input_of input.entry))
+        replica.old.replica replica.new.replica e) }
+    ensures memory { OnErr result (result ≡ Err Fault.Memory) }
 {
-    match replica.step(Input::Timeout) {
-        Ok(out) => Effect::sends(out),
-        Err(fault) => Effect::only(alloc, Some(fault)),
-    }
-}
-
-/// Gives a replica leave to prune its tree up to a height.
-pub(crate) fn prune(alloc: Global, replica: &mut ReplicaParty, height: Height) -> Effect
-    ensures keys { replica.new.keys ≡ replica.old.keys }
-    ensures ticked { Ticks (identity_of replica.old.keys) (prune_in height) replica.old.replica
-        replica.new.replica result }
-{
-    match replica.step(Input::Prune(height)) {
-        Ok(out) => Effect::sends(out),
-        Err(fault) => Effect::only(alloc, Some(fault)),
-    }
-}
-
-/// Tells a replica to propose, if it leads.
-pub(crate) fn beat(alloc: Global, replica: &mut ReplicaParty) -> Effect
-    ensures keys { replica.new.keys ≡ replica.old.keys }
-    ensures ticked { Ticks (identity_of replica.old.keys) beat_in replica.old.replica replica.new.replica
-        result }
-{
-    match replica.step(Input::Beat) {
-        Ok(out) => Effect::sends(out),
-        Err(fault) => Effect::only(alloc, Some(fault)),
-    }
+    let lack = asked_by(&input);
+    let answer = replica.step(input);
+    tell(alloc, replica.replica(), lack, answer)
 }

@@ -1,14 +1,16 @@
 //! The run of a schedule.
 
-ghost use Rattle.std.specs.Prelude.{◌≡◌, ◌⊎◌, ℕ, Option, None, length, map, IsTrue, IfOk, IfErr, OnErr};
+ghost use Rattle.std.specs.Prelude.{◌≡◌, ◌⊎◌, ℕ, List, [], Option, None, length, map, IsTrue, IfOk, IfErr, OnErr};
 ghost use Rattle.std.specs.Prelude.{MatchResult};
 ghost use Rattle.definitions.specs.Frames.{Frame};
-ghost use Rattle.definitions.specs.Premises.{IsReadIn};
+ghost use Rattle.std.specs.List.{AllByRecursion};
+ghost use Rattle.definitions.specs.Premises.{IsReadFrom, IsReadIn};
 ghost use Rattle.definitions.specs.Worlds as worlds;
 ghost use Rattle.linear_law.specs.Law.{SentAreFrames};
 ghost use Rattle.definitions.specs.Runs.{refusal};
 ghost use Rattle.world_schedule.specs.Settings.{start_of};
 ghost use Rattle.world_schedule.specs.Schedules.{has_party, has_frame, has_request, why_refused, event_of};
+ghost use Rattle.world_schedule.specs.Schedules.{source_of, sources_of};
 ghost use Rattle.world_schedule.specs.Schedules.{IsRefusedFor};
 ghost use Rattle.world_schedule.specs.Outcomes.{shown_frame, shown_sent, TellsOf};
 ghost use Rattle.world_schedule.specs.Seats.{AreSeated, AreOf, Does};
@@ -16,10 +18,11 @@ ghost use Rattle.world_schedule.specs.Progress.{IsAt, GoesOn, HasRun};
 ghost use Rattle.world_schedule.specs.Running.{IsRunOf};
 
 use crate::effect::Effect;
-use crate::event::Event;
+use crate::event::{Event, Source};
 use crate::journal::Journal;
 use crate::outcome::{Outcome, SentFrame};
 use crate::parties::Parties;
+use crate::sources::{are_there, is_there};
 use crate::world::{World, has_party};
 use frames_view::read;
 use ids::{Config, Fault};
@@ -32,28 +35,34 @@ fn names_party(config: &Config, event: &Event) -> bool
     match event {
         Event::Submit { client, .. } => client.0 < config.clients(),
         Event::Relay { to, .. } | Event::Inject { to, .. } => has_party(config, *to),
-        Event::Timeout(replica) | Event::Beat(replica) | Event::Prune { replica, .. } => {
-            replica.0 < config.n()
-        }
+        Event::Offer { to, .. } | Event::Gather { to, .. } => to.0 < config.n(),
+        Event::Timeout(replica)
+        | Event::Beat(replica)
+        | Event::Prune { replica, .. }
+        | Event::Lead { replica, .. } => replica.0 < config.n(),
+        Event::Ask { replica, to, .. } => replica.0 < config.n() && to.0 < config.n(),
     }
 }
 
-/// Whether the frame that an event names is one of the record.
+/// Whether each frame that an event names is one of the record.
 fn names_frame(sent: &[SentFrame], event: &Event) -> bool
     ensures { result ≡ has_frame (length sent.now) event.now }
 {
     match event {
         Event::Relay { frame, .. } => *frame < sent.len() as u64,
+        Event::Offer { source, .. } => is_there(sent, source),
+        Event::Gather { sources, .. } => are_there(sent, sources),
         _ => true,
     }
 }
 
-/// Whether the payload of a submission is a canonical request.
+/// Whether the payload of a submission is a canonical request, and a digest that is asked for as long as one.
 fn names_request(event: &Event) -> bool
     ensures { result ≡ has_request event.now }
 {
     match event {
         Event::Submit { payload, .. } => read_canonical(payload).is_some(),
+        Event::Ask { block, .. } => block.0.as_slice().len() == 32,
         _ => true,
     }
 }
@@ -81,17 +90,43 @@ struct State {
     journal: Journal,
 }
 
-/// Reads the bytes that an event brings, if any: whether they are a frame.
+/// Reads the bytes of a source, if it has any: whether they are a frame.
+fn is_frame(config: &Config, source: &Source) -> bool
+    ensures { (read : Option Frame) × IsReadFrom config.now (source_of read source.now) }
+{
+    match source {
+        Source::Record(_) => false,
+        Source::Bytes(bytes) => read(config, bytes).is_ok(),
+    }
+}
+
+/// Reads the bytes of sources: whether there is a frame among them.
+fn are_frames(config: &Config, sources: &[Source]) -> bool
+    ensures { (reads : List (Option Frame))
+        × AllByRecursion (IsReadFrom config.now) (sources_of reads sources.now) }
+{
+    let mut found = false;
+    for source in sources {
+        found = is_frame(config, source) || found;
+    }
+    found
+}
+
+/// Reads the bytes that an event brings, if any: whether there is a frame among them.
 fn brings_frame(config: &Config, event: &Event) -> bool
-    ensures { (read : Option Frame) × IsReadIn config.now (event_of read event.now) }
+    ensures { (reads : List (Option Frame)) × IsReadIn config.now (event_of reads event.now) }
 {
     match event {
         Event::Inject { bytes, .. } => read(config, bytes).is_ok(),
+        Event::Offer { source, .. } => is_frame(config, source),
+        Event::Gather { sources, .. } => are_frames(config, sources),
         Event::Submit { .. } => false,
         Event::Relay { .. } => false,
         Event::Timeout(_) => false,
         Event::Beat(_) => false,
         Event::Prune { .. } => false,
+        Event::Lead { .. } => false,
+        Event::Ask { .. } => false,
     }
 }
 
@@ -146,7 +181,7 @@ impl State {
         requires { AreSeated world.now self.old.parties.replicas.items self.old.parties.sessions.items }
         ensures { (w : worlds.World) → IsAt world.now self.old w → SentAreFrames w
             → MatchResult result (λ _. GoesOn world.now w event.now self.new)
-            (λ n. (n ≡ Fault.Memory) ⊎ (refusal w (event_of None event.now) ≡ Some n)) }
+            (λ n. (n ≡ Fault.Memory) ⊎ (refusal w (event_of [] event.now) ≡ Some n)) }
     {
         if let Err(fault) = self.allow(world, event) {
             return Err(fault);

@@ -1,8 +1,0 @@
-use Rattle.std.proofs.Common.{refl, inr}
-use Rattle.world_schedule.proofs.Asking.{refusal-ticked}
-use Rattle.world_schedule.proofs.replica_turn.prune.Goals as goal
-
-pub returns-in-Err-clause-ticked : goal.returns-in-Err-clause-ticked
-returns-in-Err-clause-ticked c =
-    refusal-ticked _ _ _ _ _ _ (inr (inr (_, refl))) c.in-Err.ensures.stepped c.only.ensures.out
-    c.only.ensures.accepted c.only.ensures.answer
