@@ -3,7 +3,7 @@
 from .audit import Collision, MissingTake, MissingVote
 from .audit_lines import Life
 from .frames import Certificate, VoteFrame, write
-from .signing import block_of, certificate_of, proposal_of, vote_of
+from .signing import block_of, certificate_of, new_view_of, proposal_of, spoilt_for, vote_of
 from .stated_audits import A, A1, A2, B, B1, B2, B3, CONFIG, NOTHING, OF_A, OF_B, case, fed, r1, r2_with_a, r2_with_b
 
 
@@ -77,6 +77,17 @@ def an_offer_with_an_own_certificate():
     return [case([r1(), r2_with_a(), life], asked)]
 
 
+def an_own_certificate_of_many_votes():
+    """Of the announced certificate's four votes one is spoilt for replica 3, which doesn't count it for the block that
+    it is offered then."""
+    life = Life(CONFIG, 3)
+    life.bring(proposal_of(CONFIG, 0, B[0], OF_B[0]))
+    life.bring(new_view_of(CONFIG, 0, 0, spoilt_for(certificate_of(CONFIG, B1, range(4)), 2, [3])))
+    life.bring("offer:" + block_of(CONFIG, 0, 3, B[1], Certificate(B1)).hex())
+    gathered(life, B[2:], (0, 1))
+    return [case([r1(), r2_with_a(), life], [MissingVote(3, voter, B1) for voter in range(4)] + takes(3, 1, B3))]
+
+
 def steps_after_a_lead():
     """A lead is a step, so that those behind it have other numbers. A refused one is none."""
     life = r1()
@@ -89,4 +100,5 @@ def steps_after_a_lead():
 
 def all_cases():
     return (a_fork_by_copies() + copies_of_what_was_taken() + copies_in_a_circle() + a_sender_behind_its_front()
-            + too_few_copies() + an_offer_with_an_own_certificate() + steps_after_a_lead())
+            + too_few_copies() + an_offer_with_an_own_certificate() + an_own_certificate_of_many_votes()
+            + steps_after_a_lead())
