@@ -5,8 +5,6 @@ use Rattle.std.specs.Prelude.{MatchOption}
 use Rattle.std.specs.Option.{option_or}
 use Rattle.std.specs.Borrow.{Bor}
 use Rattle.std.proofs.lemmas.List.{map-append, take-append-drop, take_more}
-use Rattle.definitions.specs.Bytes.{Bytes}
-use Rattle.definitions.specs.Digests.{digest_of}
 use Rattle.definitions.specs.Lists.{Among}
 use Rattle.definitions.specs.Audit.{Member, Judged}
 use Rattle.definitions.specs.WindowAudit.{last_block, Meets, Differs, Misses, Leads}

@@ -1,17 +1,20 @@
--- Votes that are missing at the fronts.
+-- What is missing at the fronts.
 use Rattle.std.proofs.Common.{ℕ, ◌≡◌, Bool, true, false, List, [], refl, sym, ap, subst, ◌∙◌, inl, inr}
 use Rattle.std.proofs.Common.{Option, None, Some, true≢false, not, length, arith}
 use Rattle.std.specs.Prelude.{◌==◌, All, MatchOption}
 use Rattle.std.specs.Option.{is_some}
 use Rattle.std.specs.Borrow.{Bor}
 use Rattle.std.specs.List.{list_all, list_any}
+use Rattle.std.proofs.lemmas.Option.{same_Some}
 use Rattle.std.proofs.lemmas.Bool.{cases_Bool, cases_lt, eqb-true, eq-eqb, and_parts, and_from}
 use Rattle.definitions.specs.Bytes.{Bytes}
-use Rattle.definitions.specs.Lists.{Among}
-use Rattle.definitions.specs.Chronicles.{Step}
+use Rattle.definitions.specs.Lists.{Among, beginning}
+use Rattle.definitions.specs.Frames.{Core}
+use Rattle.definitions.specs.Digests.{digest}
+use Rattle.definitions.specs.Chronicles.{Step, Step.took_block, Step.noted}
 use Rattle.definitions.specs.Audit.{Judged, Cut, is_judged, chronicle_of, counted_by, counted_for, sent_by}
-use Rattle.definitions.specs.Audit.{sent_block, step_after, has_taken, each_judged, is_backed, may_move}
-use Rattle.definitions.specs.Audit.{AreFronts}
+use Rattle.definitions.specs.Audit.{sent_block, step_after, is_backed, may_move, AreFronts}
+use Rattle.definitions.specs.Audit.{has_vote, has_taken, core_in}
 use Rattle.audit_ground.specs.Law.{NoneUnbacked}
 use Rattle.definitions.proofs.Lists.{all-passes}
 use Rattle.definitions.proofs.Lists.{any-found, any-from}
@@ -20,7 +23,11 @@ use Rattle.audit_ground.proofs.Fronts.{behind-not_backed, whole-none_unbacked, f
 use Rattle.audit_ground.proofs.Fronts.{may_move-is}
 use Rattle.replica.specs.Steps.{Held}
 use Rattle.audit.specs.Judged.{judged}
-use Rattle.audit.specs.Fronts.{vote_stands}
+use Rattle.audit.specs.declared.deeds.Deed.{Deed}
+use Rattle.audit.specs.declared.deeds.Deed.TheVariants.{Vote, Take}
+use Rattle.audit.specs.declared.deeds.Missing.{Missing}
+use Rattle.audit.specs.Deeds.{does, named_by, named_for, is_done, stands}
+use Rattle.audit.specs.Deeds.{IsMissing}
 use Rattle.audit.proofs.ByNumber.{by-number}
 use Rattle.audit.proofs.Lists.{each-holds}
 use Rattle.audit.proofs.Moves.{no-steps}
@@ -58,34 +65,66 @@ none-unbacked rs k f h = whole-none_unbacked (judged rs) k f (λ u. whole (judge
       | inr n ↦ no-steps (judged rs) (k u) u n
     ]
 
--- one vote that doesn't stand is enough
-lacking : (ks : Judged) (k : Cut) (s : Step) (v : ℕ) (d : Bytes) → Among v (counted_by s)
-    → counted_for s ≡ d → vote_stands ks k d v ≡ false → is_backed ks k s ≡ false
+-- a step without a core names no senders
+pub no-core : (s : Step) → None ≡ core_in (Some s) → sent_by s ≡ []
+unfolding core_in sent_by
+no-core (took_block a) e = absurd (none_some e)
+no-core (noted n) e = refl
+
+-- and they sent the block of its core
+pub own-core : (s : Step) (a : Core) → Some a ≡ core_in (Some s) → digest a ≡ sent_block s
+unfolding core_in sent_block
+own-core (took_block x) a e = ap digest (same_Some a x.core e)
+own-core (noted n) a e = absurd (none_some (sym e))
+
+-- whether v did it in the cut
+pub done-in : (deed : Deed) (ks : Judged) (k : Cut) (d : Bytes) (v : ℕ)
+    → list_any (does deed d) (beginning (k v) (chronicle_of ks v)) ≡ is_done deed ks k d v
+unfolding has_vote has_taken
+done-in Vote ks k d v = refl
+done-in Take ks k d v = refl
+
+-- of a step that is backed, the deeds of each kind stand
+each-stands : (deed : Deed) (ks : Judged) (k : Cut) (s : Step) → is_backed ks k s ≡ true
+    → list_all (stands deed ks k (named_for deed s)) (named_by deed s) ≡ true
 unfolding is_backed
-lacking ks k s v d m e h =
+each-stands Vote ks k s h = (and_parts _ _ h).0
+each-stands Take ks k s h = (and_parts _ _ h).1
+
+-- and one of which they do is backed
+all-backed : (ks : Judged) (k : Cut) (s : Step)
+    → list_all (stands Vote ks k (counted_for s)) (counted_by s) ≡ true
+    → list_all (stands Take ks k (sent_block s)) (sent_by s) ≡ true → is_backed ks k s ≡ true
+unfolding is_backed
+all-backed ks k s h i = and_from _ _ h i
+
+-- one that doesn't stand is enough
+lacking : (ks : Judged) (k : Cut) (s : Step) (m : Missing) → IsMissing ks k s m → is_backed ks k s ≡ false
+lacking ks k s m is =
     elim (cases_Bool (is_backed ks k s)) [
-      | inl t ↦ absurd (true≢false (sym (all-passes (vote_stands ks k (counted_for s)) (counted_by s) v
-          (and_parts _ _ t).0 m) ∙ ap (λ (x : Bytes). vote_stands ks k x v) e ∙ h))
+      | inl t ↦ absurd (true≢false (sym (all-passes (stands m.deed ks k (named_for m.deed s))
+          (named_by m.deed s) m.replica (each-stands m.deed ks k s t) is.named.among)
+          ∙ ap (λ (x : Bytes). stands m.deed ks k x m.replica) is.named.block ∙ is.missing))
       | inr f ↦ f
     ]
 
--- where the step names no senders, the votes alone decide
-by-votes : (ks : Judged) (k : Cut) (s : Step) → sent_by s ≡ []
-    → list_all (vote_stands ks k (counted_for s)) (counted_by s) ≡ true → is_backed ks k s ≡ true
-unfolding is_backed
-by-votes ks k s none h = and_from _ _ h (ap (each_judged ks (has_taken ks k (sent_block s))) none)
+-- what was looked for among the deeds of the second kind, where those of the first stand
+pub else-backed : (ks : Judged) (k : Cut) (s : Step) (o : Option Missing)
+    → list_all (stands Vote ks k (counted_for s)) (counted_by s) ≡ true
+    → MatchOption o (list_all (stands Take ks k (sent_block s)) (sent_by s) ≡ true) (IsMissing ks k s)
+    → MatchOption o (is_backed ks k s ≡ true) (IsMissing ks k s)
+else-backed ks k s None h i = all-backed ks k s h i
+else-backed ks k s (Some m) h i = i
 
--- all that stand are enough
-pub all-backed : (ks : Judged) (k : Cut) (s : Step) (d : Bytes) (voters : List ℕ) → voters ≡ counted_by s
-    → d ≡ counted_for s → sent_by s ≡ [] → list_all (vote_stands ks k d) voters ≡ true
-    → is_backed ks k s ≡ true
-all-backed ks k s d voters v e none h =
-    by-votes ks k s none (sym (λ i. list_all (vote_stands ks k (e i)) (v i)) ∙ h)
+-- of those that a step names all stand, where it names none or each was looked at
+pub none-named : (deed : Deed) (ks : Judged) (k : Cut) (s : Step) → named_by deed s ≡ []
+    → list_all (stands deed ks k (named_for deed s)) (named_by deed s) ≡ true
+none-named deed ks k s e = ap (list_all (stands deed ks k (named_for deed s))) e
 
--- a step that counts none is backed
-pub none-counted : (ks : Judged) (k : Cut) (s : Step) → counted_by s ≡ [] → sent_by s ≡ []
-    → is_backed ks k s ≡ true
-none-counted ks k s e none = by-votes ks k s none (ap (list_all (vote_stands ks k (counted_for s))) e)
+pub all-named : (deed : Deed) (ks : Judged) (k : Cut) (s : Step) (d : Bytes) (vs : List ℕ)
+    → vs ≡ named_by deed s → d ≡ named_for deed s → list_all (stands deed ks k d) vs ≡ true
+    → list_all (stands deed ks k (named_for deed s)) (named_by deed s) ≡ true
+all-named deed ks k s d vs v e h = sym (λ i. list_all (stands deed ks k (e i)) (v i)) ∙ h
 
 -- the replica may move where its next step is backed
 pub moves : (ks : Judged) (k : Cut) (u : ℕ) (s : Step) → Some s ≡ step_after (k u) (chronicle_of ks u)
@@ -106,12 +145,11 @@ told false true e = refl
 told false false e = e
 
 -- none is missing exactly where the step is backed
-pub none-missing : (ks : Judged) (k : Cut) (s : Step) (o : Option (ℕ × Bytes))
-    → MatchOption o (is_backed ks k s ≡ true)
-    (λ m. Among m.0 (counted_by s) × (counted_for s ≡ m.1) × (vote_stands ks k m.1 m.0 ≡ false))
+pub none-missing : (ks : Judged) (k : Cut) (s : Step) (o : Option Missing)
+    → MatchOption o (is_backed ks k s ≡ true) (IsMissing ks k s)
     → (r : Bool) → is_some o ≡ not r → r ≡ is_backed ks k s
 none-missing ks k s None h r e = told false r e ∙ sym h
-none-missing ks k s (Some m) h r e = told true r e ∙ sym (lacking ks k s m.0 m.1 h.0 h.1 h.2)
+none-missing ks k s (Some m) h r e = told true r e ∙ sym (lacking ks k s m h)
 
 -- a number is among these where one of them equals it
 pub among-from : (v : ℕ) (xs : List ℕ) → list_any (λ y. y == v) xs ≡ true → Among v xs

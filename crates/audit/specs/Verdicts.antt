@@ -4,7 +4,7 @@ use Rattle.definitions.specs.WindowAudit as windows
 use Rattle.audit.specs.declared.verdict.CorePlace.{CorePlace}
 use Rattle.audit.specs.declared.verdict.CorePlace.TheVariants.{Genesis, Step}
 use Rattle.audit.specs.declared.verdict.Reason.{Reason}
-use Rattle.audit.specs.declared.verdict.Reason.TheVariants.{Vote, Collision}
+use Rattle.audit.specs.declared.verdict.Reason.TheVariants.{Vote, Take, Collision}
 use Rattle.audit.specs.declared.verdict.Verdict.{Verdict}
 use Rattle.audit.specs.declared.verdict.Verdict.TheVariants.{Agree, Fork}
 use Rattle.audit.specs.declared.verdict.WindowVerdict.{WindowVerdict}
@@ -16,6 +16,7 @@ place_of (Step i k) = audit.at_step i k
 
 abbrev pub reason_of : Reason → audit.Reason
 reason_of (Vote u v d) = audit.missing_vote u v d
+reason_of (Take u v d) = audit.missing_take u v d
 reason_of (Collision p q) = audit.collision (place_of p) (place_of q)
 
 abbrev pub verdict_of : Verdict → audit.Verdict

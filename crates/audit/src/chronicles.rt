@@ -3,17 +3,19 @@
 ghost use Rattle.std.specs.Prelude.{◌≡◌, ◌+◌, ◌<◌, ◌^◌, OnSome};
 ghost use Rattle.std.specs.List.{list_any};
 ghost use Rattle.definitions.specs.Lists.{beginning};
-ghost use Rattle.definitions.specs.Audit.{gives_vote, step_after};
+ghost use Rattle.definitions.specs.Audit.{step_after};
+ghost use Rattle.audit.specs.Deeds.{does};
 
+use crate::deeds::Deed;
 use ids::Digest;
 use replica::{ChronicleView, StepView};
 
-/// Whether one of these steps gave a vote for the block of a digest.
-pub(crate) fn gave_vote(chronicle: ChronicleView<'_>, block: &Digest) -> bool
-    ensures { result ≡ list_any (gives_vote block.now) chronicle.entry }
+/// Whether one of these steps did a deed for the block of a digest.
+pub(crate) fn was_done(chronicle: ChronicleView<'_>, deed: Deed, block: &Digest) -> bool
+    ensures { result ≡ list_any (does deed block.now) chronicle.entry }
 {
     for step in chronicle {
-        if step.gives_vote(block) {
+        if deed.is_done_by(&step, block) {
             return true;
         }
     }

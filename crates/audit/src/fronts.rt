@@ -1,20 +1,21 @@
 //! The fronts: the greatest beginnings of the judged chronicles in which each counted vote of a judged
-//! replica comes before the step that counts it.
+//! replica comes before the step that counts it, and each judged sender of a block took it before.
 
 ghost use Rattle.std.specs.Prelude.{◌≡◌, ◌+◌, ◌<◌, ◌^◌, ℕ, true, false, IsTrue, MatchOption, OnSome};
 ghost use Rattle.std.specs.List.{list_all};
 ghost use Rattle.std.specs.Bool.{OnTrue};
 ghost use Rattle.ids.specs.declared.limits.TheConstants.{MOST_REPLICAS};
 ghost use Rattle.definitions.specs.Lists.{Among};
-ghost use Rattle.definitions.specs.Audit.{chronicle_of, step_after, counted_by, counted_for, is_backed};
-ghost use Rattle.definitions.specs.Audit.{may_move, AreFronts};
+ghost use Rattle.definitions.specs.Audit.{chronicle_of, step_after, is_backed, may_move, AreFronts};
 ghost use Rattle.audit.specs.Judged.{judged};
-ghost use Rattle.audit.specs.Fronts.{cut_of, vote_stands};
+ghost use Rattle.audit.specs.Deeds.{stands, named_by, named_for, IsMissing};
+ghost use Rattle.audit.specs.Fronts.{cut_of};
 
-use crate::chronicles::{gave_vote, oldest, step_after};
+use crate::chronicles::{oldest, step_after, was_done};
+use crate::deeds::{Deed, Missing, Named};
 use crate::members::{chronicle_of, place};
 use ids::{Digest, MOST_REPLICAS, ReplicaId};
-use replica::{CountedVotes, StepView, Whole};
+use replica::{StepView, Whole};
 
 /// How many steps of each replica are made, by its number.
 pub(crate) type Row = [usize; MOST_REPLICAS];
@@ -26,56 +27,76 @@ fn made(fronts: &Row, number: ReplicaId) -> usize
     fronts.get(usize::from(number.0)).copied().unwrap_or(0)
 }
 
-/// Whether a replica's vote for the block of a digest is made, or the replica isn't judged.
-pub(crate) fn vote_stands(
+/// Whether a replica's deed for the block of a digest is made, or the replica isn't judged.
+pub(crate) fn stands(
     replicas: &[&Whole<'_>],
     fronts: &Row,
+    deed: Deed,
     block: &Digest,
-    voter: ReplicaId,
+    number: ReplicaId,
 ) -> bool
-    ensures { result ≡ vote_stands (judged replicas.now) (cut_of fronts.now) block.now voter }
+    ensures { result ≡ stands deed (judged replicas.now) (cut_of fronts.now) block.now number }
 {
-    match chronicle_of(replicas, voter) {
-        Some(chronicle) => gave_vote(oldest(chronicle, made(fronts, voter)), block),
+    match chronicle_of(replicas, number) {
+        Some(chronicle) => was_done(oldest(chronicle, made(fronts, number)), deed, block),
         None => true,
     }
 }
 
-/// The first voter whose counted vote isn't made.
+/// The first of those named for a deed whose own isn't made.
 fn first_missing(
     replicas: &[&Whole<'_>],
     fronts: &Row,
-    counted: &CountedVotes<'_>,
+    deed: Deed,
+    named: &Named<'_>,
 ) -> Option<ReplicaId>
     ensures { MatchOption result
-        (list_all (vote_stands (judged replicas.now) (cut_of fronts.now) counted.now.block)
-        counted.now.voters.now ≡ true)
-        (λ v. Among v counted.now.voters.now
-        × (vote_stands (judged replicas.now) (cut_of fronts.now) counted.now.block v ≡ false)) }
+        (list_all (stands deed (judged replicas.now) (cut_of fronts.now) named.now.block)
+        named.now.replicas.now ≡ true)
+        (λ v. Among v named.now.replicas.now
+        × (stands deed (judged replicas.now) (cut_of fronts.now) named.now.block v ≡ false)) }
 {
-    for voter in counted.voters {
-        if !vote_stands(replicas, fronts, &counted.block, *voter) {
-            return Some(*voter);
+    for number in named.replicas {
+        if !stands(replicas, fronts, deed, &named.block, *number) {
+            return Some(*number);
         }
     }
     None
 }
 
-/// A vote that a step counts and that isn't made: its voter, and the digest of the block.
-pub(crate) fn missing_vote(
+/// A deed of this kind on which a step relies, and which isn't made.
+fn missing_deed(
     replicas: &[&Whole<'_>],
     fronts: &Row,
+    deed: Deed,
     step: &StepView<'_>,
-) -> Option<(ReplicaId, Digest)>
-    ensures { MatchOption result (is_backed (judged replicas.now) (cut_of fronts.now) step.now ≡ true)
-        (λ m. Among m.0 (counted_by step.now) × (counted_for step.now ≡ m.1)
-        × (vote_stands (judged replicas.now) (cut_of fronts.now) m.1 m.0 ≡ false)) }
+) -> Option<Missing>
+    ensures { MatchOption result
+        (list_all (stands deed (judged replicas.now) (cut_of fronts.now) (named_for deed step.now))
+        (named_by deed step.now) ≡ true)
+        (IsMissing (judged replicas.now) (cut_of fronts.now) step.now) }
 {
-    let Some(counted) = step.counts() else {
+    let Some(named) = deed.named_by(step) else {
         return None;
     };
-    let voter = first_missing(replicas, fronts, &counted)?;
-    Some((voter, counted.block))
+    let replica = first_missing(replicas, fronts, deed, &named)?;
+    let block = named.block;
+    Some(Missing {
+        deed,
+        replica,
+        block,
+    })
+}
+
+/// A deed on which a step relies, and which isn't made: a vote, or else a take.
+pub(crate) fn missing(replicas: &[&Whole<'_>], fronts: &Row, step: &StepView<'_>) -> Option<Missing>
+    ensures { MatchOption result (is_backed (judged replicas.now) (cut_of fronts.now) step.now ≡ true)
+        (IsMissing (judged replicas.now) (cut_of fronts.now) step.now) }
+{
+    match missing_deed(replicas, fronts, Deed::Vote, step) {
+        Some(vote) => Some(vote),
+        None => missing_deed(replicas, fronts, Deed::Take, step),
+    }
 }
 
 /// A replica's first step that isn't made.
@@ -91,13 +112,13 @@ pub(crate) fn next_step<'a>(
     step_after(chronicle_of(replicas, number)?, made(fronts, number))
 }
 
-/// Whether a replica's next step may be made: each vote that it counts is.
+/// Whether a replica's next step may be made: each deed on which it relies is.
 fn may_move(replicas: &[&Whole<'_>], fronts: &Row, number: ReplicaId) -> bool
     ensures moves { result ≡ may_move (judged replicas.now) (cut_of fronts.now) number }
     ensures few { OnTrue result (cut_of fronts.now number + 1 < 2 ^ 64) }
 {
     match next_step(replicas, fronts, number) {
-        Some(step) => missing_vote(replicas, fronts, &step).is_none(),
+        Some(step) => missing(replicas, fronts, &step).is_none(),
         None => false,
     }
 }

@@ -9,6 +9,7 @@ ghost use Rattle.audit.specs.Judged.{judged, AreEnough};
 ghost use Rattle.audit.specs.Verdicts.{reason_of, verdict_of};
 
 use crate::collisions::{find_collision, is_collision};
+use crate::deeds::Deed;
 use crate::enough::{are_enough, hold};
 use crate::histories::histories_agree;
 use crate::unbacked::{find_unbacked, is_unbacked};
@@ -16,7 +17,7 @@ use crate::verdict::{Reason, Verdict};
 use ids::Fault;
 use replica::Whole;
 
-/// A reason for a fork: an unbacked vote, or else a collision.
+/// A reason for a fork: an unbacked vote or an untaken block, or else a collision.
 fn find_reason(replicas: &[&Whole<'_>]) -> Option<Reason>
     requires { AreDistinct (numbers (judged replicas.now)) }
     ensures { MatchOption result
@@ -67,7 +68,12 @@ pub fn check_reason(replicas: &[&Whole<'_>], reason: &Reason) -> bool
             receiver,
             voter,
             digest,
-        } => is_unbacked(replicas, *receiver, *voter, digest),
+        } => is_unbacked(replicas, *receiver, Deed::Vote, digest, *voter),
+        Reason::Take {
+            receiver,
+            sender,
+            digest,
+        } => is_unbacked(replicas, *receiver, Deed::Take, digest, *sender),
         Reason::Collision { first, second } => is_collision(replicas, first, second),
     }
 }

@@ -5,6 +5,7 @@
 mod chronicles;
 mod collisions;
 mod cores;
+mod deeds;
 mod enough;
 mod fronts;
 mod histories;

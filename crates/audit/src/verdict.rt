@@ -20,6 +20,13 @@ pub enum Reason {
         voter: ReplicaId,
         digest: Digest,
     },
+    /// The first step of the receiver behind its front took the block of this digest because more than f
+    /// replicas sent it, the sender among them, and within its own front the sender hadn't taken it.
+    Take {
+        receiver: ReplicaId,
+        sender: ReplicaId,
+        digest: Digest,
+    },
     /// Two unequal cores have one digest.
     Collision {
         first: CorePlace,

@@ -13,6 +13,7 @@ use Rattle.definitions.specs.Audit.{gives_vote, counted_by, counted_for, takes, 
 use Rattle.definitions.specs.Audit.{step_after, has_vote, has_taken, is_backed, may_move, AreFronts}
 use Rattle.definitions.specs.Audit.{IsUnbacked, IsUntaken}
 use Rattle.audit_ground.specs.Law.{FrontsAreOne, MovingFindsTheFronts, NoneUnbacked, UnbackedVotesAreSeen}
+use Rattle.audit_ground.specs.Law.{UntakenBlocksAreSeen}
 use Rattle.audit_ground.proofs.Lists.{any-longer, step_after-some, step_after-none}
 use Rattle.audit_ground.proofs.Lists.{step_after-within}
 use Rattle.audit_ground.proofs.Turns.{greatest-from_stuck, greatest-one, greatest-stuck, Under, IsGrowing}
@@ -240,4 +241,17 @@ unbacked-votes_are_seen ks k u v d f r =
       r.digest,
       r.judged,
       subst (λ (j : ℕ). list_any (gives_vote d) (beginning j (chronicle_of ks v)) ≡ false) (same v) r.missing,
+    )
+
+-- the law of this name
+pub untaken-blocks_are_seen : UntakenBlocksAreSeen
+unfolding has_taken
+untaken-blocks_are_seen ks k u v d f r =
+    let same = fronts-one ks r.fronts k r.are_fronts f in (
+      r.step,
+      subst (λ (j : ℕ). step_after j (chronicle_of ks u) ≡ Some r.step) (same u) r.behind,
+      r.sent,
+      r.digest,
+      r.judged,
+      subst (λ (j : ℕ). list_any (takes d) (beginning j (chronicle_of ks v)) ≡ false) (same v) r.missing,
     )

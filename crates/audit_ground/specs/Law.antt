@@ -13,6 +13,7 @@ use Rattle.definitions.specs.Replicas.{held_history}
 use Rattle.definitions.specs.Agreement.{Family, IsOrderly, IsLawfulFamily}
 use Rattle.definitions.specs.Audit.{Member, Judged, is_judged, chronicle_of, Cut, Turns, steps_in}
 use Rattle.definitions.specs.Audit.{AreAllowed, counted_by, counted_for, step_after, has_vote, may_move}
+use Rattle.definitions.specs.Audit.{sent_by, sent_block, has_taken}
 use Rattle.definitions.specs.Audit.{AreFronts, Reason, Verdict, IsUnbacked, IsUntaken, Holds}
 use Rattle.definitions.specs.Audit.{HistoriesAgree}
 use Rattle.definitions.specs.Audit.{IsVerdict}
@@ -115,6 +116,12 @@ abbrev pub UnbackedVotesAreSeen : Type 0
 UnbackedVotesAreSeen = (ks : Judged) (k : Cut) (u v : ℕ) (d : Bytes) → AreFronts ks k → IsUnbacked ks u v d →
     (s : Step) × (step_after (k u) (chronicle_of ks u) ≡ Some s) × Among v (counted_by s)
     × (counted_for s ≡ d) × (is_judged ks v ≡ true) × (has_vote ks k d v ≡ false)
+
+-- and an untaken block is one for which that step names the sender, whose front lacks it
+abbrev pub UntakenBlocksAreSeen : Type 0
+UntakenBlocksAreSeen = (ks : Judged) (k : Cut) (u v : ℕ) (d : Bytes) → AreFronts ks k → IsUntaken ks u v d →
+    (s : Step) × (step_after (k u) (chronicle_of ks u) ≡ Some s) × Among v (sent_by s)
+    × (sent_block s ≡ d) × (is_judged ks v ≡ true) × (has_taken ks k d v ≡ false)
 
 -- what holds of the judged where no two known cores collide and no vote is unbacked
 abbrev pub WhereBacked : (Sizes → Judged → Type 0) → Type 0

@@ -4,7 +4,8 @@
 #![tactic(auto)]
 
 ghost use Rattle.audit_ground.specs.Law.{StoredBlocksAreNamed, FrontsAreOne, MovingFindsTheFronts};
-ghost use Rattle.audit_ground.specs.Law.{UnbackedVotesAreSeen, BackedChroniclesAreOrderly};
+ghost use Rattle.audit_ground.specs.Law.{UnbackedVotesAreSeen, UntakenBlocksAreSeen};
+ghost use Rattle.audit_ground.specs.Law.{BackedChroniclesAreOrderly};
 ghost use Rattle.audit_ground.specs.Law.{BackedHistoriesAgree, OrderlyChroniclesAreBacked};
 ghost use Rattle.audit_ground.specs.Law.{EachForkHasAReason, EachAuditAnswers, SomeAgreement, SomeFork};
 ghost use Rattle.audit_ground.specs.Law.{SomeCircle, AgreeingWindowsAreRight, ForkingWindowsAreRight};
@@ -29,6 +30,11 @@ pub fn moving_one_counter_finds_the_fronts()
 /// At any fronts, an unbacked vote is one that the first step behind counts and the voter's front lacks.
 pub fn unbacked_votes_are_seen()
     ensures { UnbackedVotesAreSeen }
+{}
+
+/// And an untaken block is one for which that step names the sender, whose front lacks it.
+pub fn untaken_blocks_are_seen()
+    ensures { UntakenBlocksAreSeen }
 {}
 
 /// Where no two known cores collide and no vote is unbacked, the judged are a lawful family.

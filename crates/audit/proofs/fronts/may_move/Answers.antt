@@ -8,7 +8,7 @@ pub returns-in-Some-clause-moves : goal.returns-in-Some-clause-moves
 returns-in-Some-clause-moves c =
     let ks = judged c.args.replicas.now in
     let k = cut_of c.args.fronts.now in
-    none-missing ks k c.in-Some.step c.missing_vote.result c.missing_vote.ensures c.is_none.result
+    none-missing ks k c.in-Some.step c.missing.result c.missing.ensures c.is_none.result
     c.is_none.ensures
     ∙ sym (moves ks k c.args.number c.in-Some.step c.in-Some.ensures.step)
 
