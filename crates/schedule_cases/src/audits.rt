@@ -5,12 +5,12 @@
 //! the windows of the replicas show.
 //!
 //! A replica is its number and its inputs, each behind a comma: `beat`, `timeout`, `prune:HEIGHT`
-//! (which only a line about windows may have), or a frame in hexadecimal, which is checked with the
-//! replica's own keys. A refused input is passed over. A number `NUMBER@CLIENTS` makes the replica
-//! with another number of clients.
+//! (which only a line about windows may have), `lead:DIGEST`, `offer:FRAME`, `gather:FRAME+FRAME..`, or a frame.
+//! Frames are in hexadecimal, and checked with the replica's own keys. A refused input is passed over. A number
+//! `NUMBER@CLIENTS` makes the replica with another number of clients.
 //!
-//! A reason is `vote:RECEIVER:VOTER:DIGEST` or `collision:PLACE:PLACE`. A place is `genesis`, or
-//! `REPLICA/STEP`, where steps are counted from 0.
+//! A reason is `vote:RECEIVER:VOTER:DIGEST`, `take:RECEIVER:SENDER:DIGEST` or `collision:PLACE:PLACE`. A place is
+//! `genesis`, or `REPLICA/STEP`, where steps are counted from 0.
 //!
 //! What the audit answers is told first: `agree`, the number of its refusal, or `fork`, the reason
 //! in the same words with spaces between them, and `true` or `false` as that reason is checked. The

@@ -10,7 +10,7 @@ fn replica(digits: &str) -> Result<ReplicaId, Fault> {
 }
 
 /// A digest in hexadecimal.
-fn digest(digits: &str) -> Result<Digest, Fault> {
+pub(crate) fn digest(digits: &str) -> Result<Digest, Fault> {
     let mut bytes = [0; 32];
     hex::decode_to_slice(digits, &mut bytes)
         .ok()
@@ -29,14 +29,30 @@ fn place(word: &str) -> Result<CorePlace, Fault> {
     })
 }
 
+/// Two replicas and a digest.
+fn pair(words: &str) -> Result<(ReplicaId, ReplicaId, Digest), Fault> {
+    let (receiver, rest) = words.split_once(':').ok_or(Fault::BadFields)?;
+    let (other, digits) = rest.split_once(':').ok_or(Fault::BadFields)?;
+    Ok((replica(receiver)?, replica(other)?, digest(digits)?))
+}
+
 /// A missing vote.
 fn vote(words: &str) -> Result<Reason, Fault> {
-    let (receiver, rest) = words.split_once(':').ok_or(Fault::BadFields)?;
-    let (voter, digits) = rest.split_once(':').ok_or(Fault::BadFields)?;
+    let (receiver, voter, digest) = pair(words)?;
     Ok(Reason::Vote {
-        receiver: replica(receiver)?,
-        voter: replica(voter)?,
-        digest: digest(digits)?,
+        receiver,
+        voter,
+        digest,
+    })
+}
+
+/// A sender that didn't take what it sent.
+fn take(words: &str) -> Result<Reason, Fault> {
+    let (receiver, sender, digest) = pair(words)?;
+    Ok(Reason::Take {
+        receiver,
+        sender,
+        digest,
     })
 }
 
@@ -54,6 +70,7 @@ pub(crate) fn reason_of(field: &str) -> Result<Reason, Fault> {
     let (kind, words) = field.split_once(':').ok_or(Fault::BadFields)?;
     match kind {
         "vote" => vote(words),
+        "take" => take(words),
         "collision" => collision(words),
         _ => Err(Fault::BadFields),
     }

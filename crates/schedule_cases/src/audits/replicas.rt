@@ -3,8 +3,9 @@
 ghost use Rattle.std.specs.Prelude.{IsTrue};
 ghost use Rattle.admission.specs.Inputs.{is_addressed};
 
-use admission::admit;
-use ids::{Config, Fault, Height, ReplicaId};
+use crate::audits::reasons::digest;
+use admission::{admit, admit_copies, admit_offer};
+use ids::{Config, Digest, Fault, Height, ReplicaId};
 use replica::{Archived, Input, Replica, Whole};
 use simulated_keys::replica_keyring_of;
 use std::alloc::Global;
@@ -29,7 +30,38 @@ enum Brought {
     Beat,
     Timeout,
     Prune(Height),
+    Lead(Digest),
     Frame(Vec<u8>),
+    Offer(Vec<u8>),
+    Copies(Vec<Vec<u8>>),
+}
+
+/// Bytes in hexadecimal.
+fn bytes_of(alloc: Global, digits: &str) -> Result<Vec<u8>, Fault> {
+    hex::decode(alloc, digits).ok().ok_or(Fault::BadFields)
+}
+
+/// The frames of a word, with a plus between them.
+fn frames_of(alloc: Global, words: &str) -> Result<Vec<Vec<u8>>, Fault> {
+    let mut all = Vec::new(alloc);
+    for digits in words.split('+') {
+        all.push(bytes_of(alloc, digits)?)?;
+    }
+    Ok(all)
+}
+
+/// What a word with a name before it brings.
+fn read_named(alloc: Global, name: &str, rest: &str) -> Result<Brought, Fault> {
+    match name {
+        "prune" => {
+            let height = rest.parse().ok().ok_or(Fault::BadFields)?;
+            Ok(Brought::Prune(Height(height)))
+        }
+        "lead" => Ok(Brought::Lead(digest(rest)?)),
+        "offer" => Ok(Brought::Offer(bytes_of(alloc, rest)?)),
+        "gather" => Ok(Brought::Copies(frames_of(alloc, rest)?)),
+        _ => Err(Fault::BadFields),
+    }
 }
 
 /// What a word brings.
@@ -39,12 +71,10 @@ fn read_word(alloc: Global, word: &str) -> Result<Brought, Fault> {
         "timeout" => return Ok(Brought::Timeout),
         _ => {}
     }
-    if let Some(digits) = word.strip_prefix("prune:") {
-        let height = digits.parse().ok().ok_or(Fault::BadFields)?;
-        return Ok(Brought::Prune(Height(height)));
+    match word.split_once(':') {
+        Some((name, rest)) => read_named(alloc, name, rest),
+        None => Ok(Brought::Frame(bytes_of(alloc, word)?)),
     }
-    let bytes = hex::decode(alloc, word).ok().ok_or(Fault::BadFields)?;
-    Ok(Brought::Frame(bytes))
 }
 
 /// What the words of a replica bring.
@@ -78,6 +108,36 @@ fn receive(alloc: Global, replica: &mut Archived, bytes: &[u8]) -> Result<(), Fa
     }
 }
 
+/// Offers the bytes of a frame.
+fn offer(alloc: Global, replica: &mut Archived, bytes: &[u8]) -> Result<(), Fault> {
+    let (config, own) = (replica.replica().config(), replica.replica().number());
+    let ring = replica_keyring_of(alloc, config, own)?;
+    match admit_offer(ring.verifying(), bytes) {
+        Ok(input) => step(replica, input),
+        Err(_) => Ok(()),
+    }
+}
+
+/// The frames, lent.
+fn lent_frames<'a>(alloc: Global, frames: &'a [Vec<u8>]) -> Result<Vec<&'a [u8]>, Fault> {
+    let mut lent = Vec::new(alloc);
+    for frame in frames {
+        lent.push(frame.as_slice())?;
+    }
+    Ok(lent)
+}
+
+/// Brings the bytes of frames together.
+fn gather(alloc: Global, replica: &mut Archived, frames: &[Vec<u8>]) -> Result<(), Fault> {
+    let (config, own) = (replica.replica().config(), replica.replica().number());
+    let ring = replica_keyring_of(alloc, config, own)?;
+    let lent = lent_frames(alloc, frames)?;
+    match admit_copies(ring.verifying(), lent.as_slice()) {
+        Ok(input) => step(replica, input),
+        Err(_) => Ok(()),
+    }
+}
+
 /// Brings all that is brought to a replica.
 fn bring(alloc: Global, replica: &mut Archived, all: &[Brought]) -> Result<(), Fault> {
     for brought in all {
@@ -85,7 +145,10 @@ fn bring(alloc: Global, replica: &mut Archived, all: &[Brought]) -> Result<(), F
             Brought::Beat => step(replica, Input::Beat)?,
             Brought::Timeout => step(replica, Input::Timeout)?,
             Brought::Prune(height) => step(replica, Input::Prune(*height))?,
+            Brought::Lead(block) => step(replica, Input::Lead(*block))?,
             Brought::Frame(bytes) => receive(alloc, replica, bytes)?,
+            Brought::Offer(bytes) => offer(alloc, replica, bytes)?,
+            Brought::Copies(frames) => gather(alloc, replica, frames)?,
         }
     }
     Ok(())

@@ -20,6 +20,11 @@ fn tell_reason(reason: &Reason, text: &mut String) -> Result<(), Fault> {
             voter,
             digest,
         } => write!(text, "fork vote {} {} {digest}", receiver.0, voter.0)?,
+        Reason::Take {
+            receiver,
+            sender,
+            digest,
+        } => write!(text, "fork take {} {} {digest}", receiver.0, sender.0)?,
         Reason::Collision { first, second } => {
             text.push_str("fork collision")?;
             tell_place(first, text)?;
