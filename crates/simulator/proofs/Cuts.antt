@@ -20,12 +20,16 @@ use Rattle.definitions.specs.Bytes.{Bytes}
 use Rattle.simulator.specs.Texts.{IsBelow, spaced, party_text}
 use Rattle.run_report.specs.Names.{replica_text, client_text}
 use Rattle.simulator.specs.Lines.{IsHeading, heading_text, parties_text, submission_text, injection_text}
-use Rattle.simulator.specs.Lines.{delivery_text, pruning_text, IsEvent, event_text}
+use Rattle.simulator.specs.Lines.{delivery_text, pruning_text, IsEvent, event_text, offer_text, offered_text}
+use Rattle.simulator.specs.Lines.{IsSource, source_text, sources_text, gathering_text, IsLead, lead_text}
+use Rattle.simulator.specs.Lines.{question_text}
 use Rattle.simulator.specs.Schedules.{BeginsWith, IsPrintable, IsPlain, is_lf}
 use Rattle.world_schedule.specs.declared.event.Event.{Event}
 use Rattle.simulator.specs.declared.lines.Heading.{Heading}
 use Rattle.world_schedule.specs.declared.event.Event.TheVariants.{Submit, Relay, Inject, Timeout, Beat}
-use Rattle.world_schedule.specs.declared.event.Event.TheVariants.{Prune}
+use Rattle.world_schedule.specs.declared.event.Event.TheVariants.{Prune, Offer, Gather, Lead, Ask}
+use Rattle.world_schedule.specs.declared.event.Source.{Source}
+use Rattle.world_schedule.specs.declared.event.Source.TheVariants.{Record, Bytes as SomeBytes}
 
 -- ---- what schedules are written with is printable
 
@@ -84,6 +88,23 @@ plain_digits (b ∷ bytes) fits =
     (All-cons IsPrintable (slice_index lower_digits (b % 16)) (encode_lower bytes)
     (plain_digit (b % 16) (omega (arith, small))) (plain_digits bytes (λ i. fits (suc i))))
 
+plain_source : (s : Source) → IsSource s → IsPlain (source_text s)
+plain_source (Record frame) fits = plain_decimal frame fits
+plain_source (SomeBytes bytes) fits =
+    All-cons IsPrintable 120 (encode_lower bytes.items) (lit≤ tt, lit< tt) (plain_digits bytes.items fits)
+
+plain_sources : (ss : List Source) → All IsSource ss → IsPlain (sources_text ss)
+plain_sources [] fits = All-nil IsPrintable
+plain_sources (s ∷ ss) fits =
+    All-cons IsPrintable 32 (source_text s ++ sources_text ss) (lit≤ tt, lit< tt)
+    (All-append IsPrintable (source_text s) (sources_text ss) (plain_source s (All-head IsSource s ss fits))
+    (plain_sources ss (All-tail IsSource s ss fits)))
+
+plain_lead : (replica : ℕ) (block : Bytes) → IsLead (replica, block) → IsPlain (lead_text (replica, block))
+plain_lead replica block fits =
+    plain_spaced (replica_text replica) (encode_lower block) (plain_replica replica fits.0)
+    (plain_digits block fits.1.0)
+
 pub plain_event : (e : Event) → IsEvent e → IsPlain (event_text e)
 plain_event (Submit client payload) fits =
     All-append IsPrintable (codes "submit ") (submission_text (client, payload))
@@ -111,6 +132,28 @@ plain_event (Prune replica height) fits =
     (All-from_recursion IsPrintable (codes "prune ") (search rules))
     (plain_spaced (replica_text replica) (decimal height) (plain_replica replica fits.0)
     (plain_decimal height fits.1))
+plain_event (Offer to (Record frame)) fits =
+    All-append IsPrintable (codes "offer ") (offer_text (frame, to))
+    (All-from_recursion IsPrintable (codes "offer ") (search rules))
+    (plain_spaced (decimal frame) (replica_text to) (plain_decimal frame fits.0) (plain_replica to fits.1))
+plain_event (Offer to (SomeBytes bytes)) fits =
+    All-append IsPrintable (codes "offer-bytes ") (offered_text (to, bytes))
+    (All-from_recursion IsPrintable (codes "offer-bytes ") (search rules))
+    (plain_spaced (replica_text to) (encode_lower bytes.items) (plain_replica to fits.0)
+    (plain_digits bytes.items fits.1))
+plain_event (Gather to sources) fits =
+    All-append IsPrintable (codes "gather ") (gathering_text (to, sources))
+    (All-from_recursion IsPrintable (codes "gather ") (search rules))
+    (All-append IsPrintable (replica_text to) (sources_text sources.items) (plain_replica to fits.0)
+    (plain_sources sources.items fits.1))
+plain_event (Lead replica block) fits =
+    All-append IsPrintable (codes "lead ") (lead_text (replica, block))
+    (All-from_recursion IsPrintable (codes "lead ") (search rules)) (plain_lead replica block fits)
+plain_event (Ask replica to block) fits =
+    All-append IsPrintable (codes "ask ") (question_text (replica, to, block))
+    (All-from_recursion IsPrintable (codes "ask ") (search rules))
+    (plain_spaced (replica_text replica) (lead_text (to, block)) (plain_replica replica fits.0)
+    (plain_lead to block fits.1))
 
 pub plain_is_utf8 : (words : Bytes) → IsPlain words → IsUtf8 words
 plain_is_utf8 words plain = IsUtf8-from_ascii words (λ i. by i (nat_lt i (length words)) refl)

@@ -7,10 +7,12 @@ use Rattle.std.proofs.lemmas.Str.Pattern.{IsSplitOnceResult, split_after}
 use Rattle.definitions.specs.Bytes.{Bytes}
 use Rattle.simulator.specs.Lines.{IsDelivery, delivery_text, IsSubmission, submission_text, IsInjection}
 use Rattle.simulator.specs.Lines.{injection_text, IsPruning, pruning_text, IsQuiet, IsBare, IsEvent}
-use Rattle.simulator.specs.Lines.{event_text}
+use Rattle.simulator.specs.Lines.{event_text, IsOffer, offer_text, AreOffered, offered_text, IsGathering}
+use Rattle.simulator.specs.Lines.{gathering_text, IsLead, lead_text, IsQuestion, question_text}
 use Rattle.world_schedule.specs.declared.event.Event.{Event}
-use Rattle.world_schedule.specs.declared.event.Event.TheVariants.{Submit, Relay, Inject, Timeout, Beat}
-use Rattle.world_schedule.specs.declared.event.Event.TheVariants.{Prune}
+use Rattle.world_schedule.specs.declared.event.Event.TheVariants.{Submit, Relay, Inject}
+use Rattle.world_schedule.specs.declared.event.Event.TheVariants.{Prune, Offer, Gather, Lead, Ask}
+use Rattle.world_schedule.specs.declared.event.Source.TheVariants.{Record, Bytes as SomeBytes}
 use Rattle.simulator.specs.declared.words.NotRead.{NotRead}
 use Rattle.simulator.specs.declared.words.NotRead.TheVariants.{Bad, Memory}
 use Rattle.simulator.proofs.Numbers.{no_space}
@@ -63,12 +65,20 @@ pub no_delivery : (bs rest : Bytes) → bs ≡ codes "relay " ++ rest
 no_delivery bs rest whole none = λ e fits spelled. by e fits (spelled ∙ whole)
   where
     by : (e : Event) → IsBare e → event_text e ≡ codes "relay " ++ rest → ⊥
-    by (Submit client payload) fits same = fits
     by (Relay frame to) fits same = none (frame, to) fits (cc)
-    by (Inject to bytes) fits same = fits
-    by (Timeout replica) fits same = absurd (omega (arith, ap first_byte same))
-    by (Beat replica) fits same = absurd (omega (arith, ap first_byte same))
-    by (Prune replica height) fits same = absurd (omega (arith, ap first_byte same))
+    by (Offer to (Record frame)) fits same = absurd (omega (arith, ap first_byte same))
+    by (Offer to (SomeBytes bytes)) fits same = fits
+    by e fits same = absurd (omega (arith, ap first_byte same))
+
+-- nor is what begins as an offer of a recorded frame
+pub no_offer : (bs rest : Bytes) → bs ≡ codes "offer " ++ rest
+    → IsReadOf offer_text IsOffer rest None → IsReadOf event_text IsBare bs None
+no_offer bs rest whole none = λ e fits spelled. by e fits (spelled ∙ whole)
+  where
+    by : (e : Event) → IsBare e → event_text e ≡ codes "offer " ++ rest → ⊥
+    by (Offer to (Record frame)) fits same = none (frame, to) fits (ap (drop 6) same)
+    by (Offer to (SomeBytes bytes)) fits same = fits
+    by e fits same = absurd (omega (arith, ap first_byte same))
 
 -- what begins as a pruning and isn't one is no event that brings nothing
 pub no_pruning : (bs rest : Bytes) → bs ≡ codes "prune " ++ rest
@@ -76,12 +86,29 @@ pub no_pruning : (bs rest : Bytes) → bs ≡ codes "prune " ++ rest
 no_pruning bs rest whole none = λ e fits spelled. by e fits (spelled ∙ whole)
   where
     by : (e : Event) → IsQuiet e → event_text e ≡ codes "prune " ++ rest → ⊥
-    by (Submit client payload) fits same = fits
-    by (Relay frame to) fits same = fits
-    by (Inject to bytes) fits same = fits
-    by (Timeout replica) fits same = absurd (omega (arith, ap first_byte same))
-    by (Beat replica) fits same = absurd (omega (arith, ap first_byte same))
     by (Prune replica height) fits same = none (replica, height) fits (ap (drop 6) same)
+    by (Offer to source) fits same = fits
+    by e fits same = absurd (omega (arith, ap first_byte same))
+
+-- nor is what begins as a lead
+pub no_lead : (bs rest : Bytes) → bs ≡ codes "lead " ++ rest
+    → IsReadOf lead_text IsLead rest None → IsReadOf event_text IsQuiet bs None
+no_lead bs rest whole none = λ e fits spelled. by e fits (spelled ∙ whole)
+  where
+    by : (e : Event) → IsQuiet e → event_text e ≡ codes "lead " ++ rest → ⊥
+    by (Lead replica block) fits same = none (replica, block) fits (ap (drop 5) same)
+    by (Offer to source) fits same = fits
+    by e fits same = absurd (omega (arith, ap first_byte same))
+
+-- nor is what begins as a question
+pub no_question : (bs rest : Bytes) → bs ≡ codes "ask " ++ rest
+    → IsReadOf question_text IsQuestion rest None → IsReadOf event_text IsQuiet bs None
+no_question bs rest whole none = λ e fits spelled. by e fits (spelled ∙ whole)
+  where
+    by : (e : Event) → IsQuiet e → event_text e ≡ codes "ask " ++ rest → ⊥
+    by (Ask replica to block) fits same = none (replica, to, block) fits (ap (drop 4) same)
+    by (Offer to source) fits same = fits
+    by e fits same = absurd (omega (arith, ap first_byte same))
 
 -- what begins as a submission and isn't one is no event
 pub no_submission : (bs rest : Bytes) → bs ≡ codes "submit " ++ rest
@@ -90,11 +117,9 @@ no_submission bs rest whole none = λ e fits spelled. by e fits (spelled ∙ who
   where
     by : (e : Event) → IsEvent e → event_text e ≡ codes "submit " ++ rest → ⊥
     by (Submit client payload) fits same = none (client, payload) fits (ap (drop 7) same)
-    by (Relay frame to) fits same = absurd (omega (arith, ap first_byte same))
-    by (Inject to bytes) fits same = absurd (omega (arith, ap first_byte same))
-    by (Timeout replica) fits same = absurd (omega (arith, ap first_byte same))
-    by (Beat replica) fits same = absurd (omega (arith, ap first_byte same))
-    by (Prune replica height) fits same = absurd (omega (arith, ap first_byte same))
+    by (Offer to (Record frame)) fits same = absurd (omega (arith, ap first_byte same))
+    by (Offer to (SomeBytes bytes)) fits same = absurd (omega (arith, ap first_byte same))
+    by e fits same = absurd (omega (arith, ap first_byte same))
 
 -- nor is what begins as an injection
 pub no_injection : (bs rest : Bytes) → bs ≡ codes "inject " ++ rest
@@ -102,34 +127,32 @@ pub no_injection : (bs rest : Bytes) → bs ≡ codes "inject " ++ rest
 no_injection bs rest whole none = λ e fits spelled. by e fits (spelled ∙ whole)
   where
     by : (e : Event) → IsEvent e → event_text e ≡ codes "inject " ++ rest → ⊥
-    by (Submit client payload) fits same = absurd (omega (arith, ap first_byte same))
-    by (Relay frame to) fits same = absurd (omega (arith, ap first_byte same))
     by (Inject to bytes) fits same = none (to, bytes) fits (ap (drop 7) same)
-    by (Timeout replica) fits same = absurd (omega (arith, ap first_byte same))
-    by (Beat replica) fits same = absurd (omega (arith, ap first_byte same))
-    by (Prune replica height) fits same = absurd (omega (arith, ap first_byte same))
+    by (Offer to (Record frame)) fits same = absurd (omega (arith, ap first_byte same))
+    by (Offer to (SomeBytes bytes)) fits same = absurd (omega (arith, ap first_byte same))
+    by e fits same = absurd (omega (arith, ap first_byte same))
 
--- what begins as neither, and is no event without bytes, is none
-pub no_event : (bs : Bytes) → ((rest : Bytes) → bs ≢ codes "submit " ++ rest)
-    → ((rest : Bytes) → bs ≢ codes "inject " ++ rest)
-    → IsReadOf event_text IsBare bs None → IsReading event_text IsEvent bs (Err Bad)
-no_event bs not_submitted not_injected none = λ e. by e
+-- nor is what begins as an offer of bytes
+pub none_offered : (bs rest : Bytes) → bs ≡ codes "offer-bytes " ++ rest
+    → IsReading offered_text AreOffered rest (Err Bad) → IsReading event_text IsEvent bs (Err Bad)
+none_offered bs rest whole none = λ e fits spelled. by e fits (spelled ∙ whole)
   where
-    by : (e : Event) → IsEvent e → event_text e ≢ bs
-    by (Submit client payload) fits spelled = not_submitted (submission_text (client, payload)) (sym spelled)
-    by (Relay frame to) fits spelled = none (Relay frame to) fits spelled
-    by (Inject to bytes) fits spelled = not_injected (injection_text (to, bytes)) (sym spelled)
-    by (Timeout replica) fits spelled = none (Timeout replica) fits spelled
-    by (Beat replica) fits spelled = none (Beat replica) fits spelled
-    by (Prune replica height) fits spelled = none (Prune replica height) fits spelled
+    by : (e : Event) → IsEvent e → event_text e ≡ codes "offer-bytes " ++ rest → ⊥
+    by (Offer to (SomeBytes bytes)) fits same = none (to, bytes) fits (ap (drop 12) same)
+    by (Offer to (Record frame)) fits same =
+        absurd (omega (arith, ap (λ (t : Bytes). slice_index t 5) same))
+    by e fits same = absurd (omega (arith, ap first_byte same))
 
-pub bare_is_event : (e : Event) → IsBare e → IsEvent e
-bare_is_event (Submit client payload) fits = absurd fits
-bare_is_event (Relay frame to) fits = fits
-bare_is_event (Inject to bytes) fits = absurd fits
-bare_is_event (Timeout replica) fits = fits
-bare_is_event (Beat replica) fits = fits
-bare_is_event (Prune replica height) fits = fits
+-- nor is what begins as a gathering
+pub no_gathering : (bs rest : Bytes) → bs ≡ codes "gather " ++ rest
+    → IsReading gathering_text IsGathering rest (Err Bad) → IsReading event_text IsEvent bs (Err Bad)
+no_gathering bs rest whole none = λ e fits spelled. by e fits (spelled ∙ whole)
+  where
+    by : (e : Event) → IsEvent e → event_text e ≡ codes "gather " ++ rest → ⊥
+    by (Gather to sources) fits same = none (to, sources) fits (ap (drop 7) same)
+    by (Offer to (Record frame)) fits same = absurd (omega (arith, ap first_byte same))
+    by (Offer to (SomeBytes bytes)) fits same = absurd (omega (arith, ap first_byte same))
+    by e fits same = absurd (omega (arith, ap first_byte same))
 
 pub not_submitted : (bs rest : Bytes) → bs ≡ codes "submit " ++ rest → (w : NotRead)
     → IsReading submission_text IsSubmission rest (Err w) → IsReading event_text IsEvent bs (Err w)
@@ -140,3 +163,13 @@ pub not_injected : (bs rest : Bytes) → bs ≡ codes "inject " ++ rest → (w :
     → IsReading injection_text IsInjection rest (Err w) → IsReading event_text IsEvent bs (Err w)
 not_injected bs rest whole Memory none = tt
 not_injected bs rest whole Bad none = no_injection bs rest whole none
+
+pub not_offered : (bs rest : Bytes) → bs ≡ codes "offer-bytes " ++ rest → (w : NotRead)
+    → IsReading offered_text AreOffered rest (Err w) → IsReading event_text IsEvent bs (Err w)
+not_offered bs rest whole Memory none = tt
+not_offered bs rest whole Bad none = none_offered bs rest whole none
+
+pub not_gathered : (bs rest : Bytes) → bs ≡ codes "gather " ++ rest → (w : NotRead)
+    → IsReading gathering_text IsGathering rest (Err w) → IsReading event_text IsEvent bs (Err w)
+not_gathered bs rest whole Memory none = tt
+not_gathered bs rest whole Bad none = no_gathering bs rest whole none

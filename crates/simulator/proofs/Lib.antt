@@ -6,4 +6,5 @@ pub mod Digits
 pub mod Fields
 pub mod Parties
 pub mod Readings
+pub mod Sources
 pub mod Told

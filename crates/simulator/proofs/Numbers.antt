@@ -44,3 +44,8 @@ small_is_read {E} bs n (Err e) read fits = λ m small spelled.
 pub no_space : (n : ℕ) → n < 2 ^ 64 → (i : ℕ) → i < length (decimal n) → get_or (decimal n) i 0 ≢ 32
 no_space n small =
     not_in_digits own (decimal n) 32 (digits_decimal own n small) (λ range. omega (arith, range.0))
+
+-- nor does a letter
+pub no_letter : (n c : ℕ) → n < 2 ^ 64 → 57 < c → (i : ℕ) → i < length (decimal n) → get_or (decimal n) i 0 ≢ c
+no_letter n c small high =
+    not_in_digits own (decimal n) c (digits_decimal own n small) (λ range. omega (arith, range.1, high))

@@ -21,7 +21,7 @@ use Rattle.simulator.proofs.Numbers.{no_space}
 
 -- ---- words
 
-word_behind : (letter : ℕ) (rest : Bytes) → letter ≢ 32 → IsWord rest → IsWord (letter ∷ rest)
+pub word_behind : (letter : ℕ) (rest : Bytes) → letter ≢ 32 → IsWord rest → IsWord (letter ∷ rest)
 word_behind letter rest other word zero within = other
 word_behind letter rest other word (suc i) within = word i (omega (arith, within))
 

@@ -6,9 +6,10 @@ use Rattle.hex.specs.Hex.{encode_lower, IsBytes}
 use Rattle.ids.specs.declared.party.PartyId.{PartyId}
 use Rattle.definitions.specs.Bytes.{Bytes}
 use Rattle.simulator.specs.Texts.{IsReadOf, IsReading, IsWord, behind_word, party_text, spaced}
-use Rattle.run_report.specs.Names.{client_text}
+use Rattle.run_report.specs.Names.{client_text, replica_text}
 use Rattle.simulator.specs.Lines.{IsHeading, heading_text, AreSizesOf, AreParties, parties_text, IsSubmission}
-use Rattle.simulator.specs.Lines.{submission_text, IsInjection, injection_text, IsEvent}
+use Rattle.simulator.specs.Lines.{submission_text, IsInjection, injection_text, IsEvent, AreOffered}
+use Rattle.simulator.specs.Lines.{offered_text}
 use Rattle.std.specs.Prelude.{IsErrOf, ◌==◌}
 use Rattle.std.specs.List.{All}
 use Rattle.simulator.specs.Schedules.{lines, HasNoEvent}
@@ -17,7 +18,8 @@ use Rattle.world_schedule.specs.declared.event.Event.{Event}
 use Rattle.simulator.specs.declared.lines.Heading.{Heading}
 use Rattle.simulator.specs.declared.words.NotRead.{NotRead}
 use Rattle.simulator.specs.declared.words.NotRead.TheVariants.{Bad, Memory}
-use Rattle.simulator.proofs.Parties.{cut_once, client_word, party_word, decimal_word, others_behind, is_behind}
+use Rattle.simulator.proofs.Parties.{cut_once, client_word, party_word, replica_word, decimal_word, others_behind}
+use Rattle.simulator.proofs.Parties.{is_behind}
 
 -- where nothing was read, the text spells nothing
 pub unread :
@@ -60,6 +62,16 @@ no_bytes fields digits to small spelled Bad none = λ i fits spells.
     let both = same_fields (party_text i.0) (party_text to) (encode_lower i.1.items) digits fields
     (party_word i.0 fits.0) (party_word to small) spells spelled in
     none i.1 fits.1 both.1
+
+pub none_offered : (fields digits : Bytes) (to : ℕ) → to < 256 → spaced (replica_text to) digits ≡ fields
+    → (w : NotRead)
+    → IsReading (λ (v : Vec ℕ Global). encode_lower v.items) (λ v. IsBytes v.items) digits (Err w)
+    → IsReading offered_text AreOffered fields (Err w)
+none_offered fields digits to small spelled Memory none = tt
+none_offered fields digits to small spelled Bad none = λ o fits spells.
+    let both = same_fields (replica_text o.0) (replica_text to) (encode_lower o.1.items) digits fields
+    (replica_word o.0 fits.0) (replica_word to small) spells spelled in
+    none o.1 fits.1 both.1
 
 -- where no parties stand behind the sizes, the words are no heading
 pub no_parties : (words : Bytes) (faults clients : ℕ) (rest : Option Bytes)

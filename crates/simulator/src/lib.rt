@@ -1,6 +1,7 @@
 //! The simulator: it reads a schedule, brings frames about as the schedule says, and tells what happened.
 #![tactic(auto)]
 
+mod ground_lines;
 mod lines;
 mod schedule;
 mod sim_fault;

@@ -9,10 +9,11 @@ ghost use Rattle.simulator.specs.Lines.{submission_text, IsInjection, injection_
 ghost use Rattle.simulator.specs.Lines.{IsPruning, pruning_text, IsQuiet};
 ghost use Rattle.simulator.specs.Lines.{IsEvent, event_text};
 
+use crate::ground_lines::{gathering_of, lead_of, offer_of, offered_of, question_of};
 use crate::words::{NotRead, bytes_of, client_of, number_of, party_of, replica_of};
 use ids::{ClientId, Height, PartyId, ReplicaId};
 use std::alloc::Global;
-use world_schedule::Event;
+use world_schedule::{Event, Source};
 
 /// What the first line says, with sizes as they were written: no limit but that of the numbers was tested.
 #[derive(Drop)]
@@ -73,7 +74,7 @@ fn parties_of(alloc: Global, text: Option<&str>) -> Result<Vec<PartyId>, NotRead
 }
 
 /// The text's first word, and what stands behind the space that ends it.
-fn cut_word(text: &str) -> (&str, Option<&str>)
+pub(crate) fn cut_word(text: &str) -> (&str, Option<&str>)
     ensures { IsCut text.now result.0.now (option_map (λ rest. rest.now) result.1) }
 {
     match text.split_once(' ') {
@@ -93,6 +94,15 @@ pub(crate) fn event_of(alloc: Global, words: &str) -> Result<Event, NotRead>
     if let Some(fields) = words.strip_prefix("inject ") {
         let (to, bytes) = injection_of(alloc, fields)?;
         return Ok(Event::Inject { to, bytes });
+    }
+    if let Some(fields) = words.strip_prefix("offer-bytes ") {
+        let (to, bytes) = offered_of(alloc, fields)?;
+        let source = Source::Bytes(bytes);
+        return Ok(Event::Offer { to, source });
+    }
+    if let Some(fields) = words.strip_prefix("gather ") {
+        let (to, sources) = gathering_of(alloc, fields)?;
+        return Ok(Event::Gather { to, sources });
     }
     match bare_event_of(words) {
         Some(event) => Ok(event),
@@ -149,26 +159,35 @@ fn receiver_of(fields: &str) -> Option<(PartyId, &str)>
 fn bare_event_of(words: &str) -> Option<Event>
     ensures { IsReadOf event_text IsBare words.now result }
 {
-    match words.strip_prefix("relay ") {
-        Some(fields) => {
-            let (frame, to) = delivery_of(fields)?;
-            Some(Event::Relay { frame, to })
-        }
-        None => quiet_event_of(words),
+    if let Some(fields) = words.strip_prefix("relay ") {
+        let (frame, to) = delivery_of(fields)?;
+        return Some(Event::Relay { frame, to });
     }
+    if let Some(fields) = words.strip_prefix("offer ") {
+        let (frame, to) = offer_of(fields)?;
+        let source = Source::Record(frame);
+        return Some(Event::Offer { to, source });
+    }
+    quiet_event_of(words)
 }
 
-/// An event that brings nothing: a pruning, a timeout or a beat.
+/// An event that brings nothing: a pruning, a lead, a question, a timeout or a beat.
 fn quiet_event_of(words: &str) -> Option<Event>
     ensures { IsReadOf event_text IsQuiet words.now result }
 {
-    match words.strip_prefix("prune ") {
-        Some(fields) => {
-            let (replica, height) = pruning_of(fields)?;
-            Some(Event::Prune { replica, height })
-        }
-        None => timer_of(words),
+    if let Some(fields) = words.strip_prefix("prune ") {
+        let (replica, height) = pruning_of(fields)?;
+        return Some(Event::Prune { replica, height });
     }
+    if let Some(fields) = words.strip_prefix("lead ") {
+        let (replica, block) = lead_of(fields)?;
+        return Some(Event::Lead { replica, block });
+    }
+    if let Some(fields) = words.strip_prefix("ask ") {
+        let (replica, to, block) = question_of(fields)?;
+        return Some(Event::Ask { replica, to, block });
+    }
+    timer_of(words)
 }
 
 /// A replica, and the height up to which it may prune.

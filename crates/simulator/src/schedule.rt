@@ -3,10 +3,17 @@
 //! Its first line is `world F C`, and behind it, each after a space, the faulty parties: F faulty
 //! replicas are tolerated, and there are C clients. Each other line is an event: `submit cN HEX`
 //! submits a payload, `relay K PARTY` brings frame K of the record to a party, `inject PARTY HEX`
-//! brings bytes, `timeout rN` and `beat rN` are a timeout and a beat of replica N. A party is `r`
-//! or `c` and its number. Each line ends by LF, and one space stands between fields. Numbers are
-//! decimals without leading zeros, below 2^64, and a party's below 256. HEX is an even number of
-//! hexadecimal digits in lower case.
+//! brings bytes, `timeout rN` and `beat rN` are a timeout and a beat of replica N, and `prune rN H`
+//! has it prune at height H.
+//!
+//! `offer K rN` offers replica N a frame of the record, and `offer-bytes rN HEX` bytes. `gather rN`
+//! brings it frames together; behind it stand their sources, at least one, each after a space: a
+//! number of the record, or `x` and HEX. `lead rN DIGEST` has it lead from a block, and `ask rN rM
+//! DIGEST` has it ask replica M for one.
+//!
+//! A party is `r` or `c` and its number. Each line ends by LF, and one space stands between fields.
+//! Numbers are decimals without leading zeros, below 2^64, and a party's below 256. HEX is an even
+//! number of hexadecimal digits in lower case, and DIGEST 64 of them.
 
 ghost use Rattle.std.specs.Prelude.{◌≡◌, ◌↔◌, ◌<◌, length, IsOk, IfSome, IfOk, IfErr, IsErrOf, OnErr};
 ghost use Rattle.std.specs.Prelude.{MatchOption, position};

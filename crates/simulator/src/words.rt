@@ -5,9 +5,10 @@ ghost use Rattle.simulator.specs.declared.words.NotRead.TheVariants as not_read;
 ghost use Rattle.hex.specs.Hex.{encode_lower, IsBytes};
 ghost use Rattle.simulator.specs.Texts.{undecoded, IsReadOf, IsReading, IsBelow, party_text};
 ghost use Rattle.run_report.specs.Names.{replica_text, client_text};
+ghost use Rattle.simulator.specs.Lines.{IsDigest};
 
 use hex::FromHexError;
-use ids::{ClientId, PartyId, ReplicaId};
+use ids::{ClientId, Digest, PartyId, ReplicaId};
 use mc_lines::read_number;
 use std::alloc::{AllocError, AllocFailed, Global};
 
@@ -94,4 +95,19 @@ pub(crate) fn bytes_of(alloc: Global, digits: &str) -> Result<Vec<u8>, NotRead>
     } else {
         Err(NotRead::Bad)
     }
+}
+
+/// The digest that sixty-four lower-case hexadecimal digits write.
+pub(crate) fn digest_of(word: &str) -> Option<Digest>
+    ensures { IsReadOf encode_lower IsDigest word.now result }
+{
+    let mut digest = [0; 32];
+    hex::decode_to_slice(word, &mut digest).ok()?;
+    // Digits in upper case are read too, and aren't those that write the digest.
+    let mut again = [0; 64];
+    hex::encode_to_slice(digest.as_slice(), &mut again).ok()?;
+    if again.as_slice() != word.as_bytes() {
+        return None;
+    }
+    Some(Digest(digest))
 }
