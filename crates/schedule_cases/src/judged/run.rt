@@ -59,9 +59,12 @@ impl<'a> Run<'a> {
         let party = match event {
             Event::Submit { .. } => return None,
             Event::Relay { to, .. } | Event::Inject { to, .. } => *to,
-            Event::Timeout(replica) | Event::Beat(replica) | Event::Prune { replica, .. } => {
-                PartyId::from(*replica)
-            }
+            Event::Offer { to, .. } | Event::Gather { to, .. } => PartyId::from(*to),
+            Event::Timeout(replica)
+            | Event::Beat(replica)
+            | Event::Prune { replica, .. }
+            | Event::Lead { replica, .. }
+            | Event::Ask { replica, .. } => PartyId::from(*replica),
         };
         let number = u8::try_from(party.0).ok()?;
         if self.world.is_faulty(party) {
