@@ -8,7 +8,7 @@ use Rattle.std.specs.Bool.{⊤}
 use Rattle.std.specs.List.{list_any}
 use Rattle.std.specs.Prelude.{IsTrue}
 use Rattle.std.proofs.lemmas.Bool.{cond_both, lt-ltb}
-use Rattle.ids.specs.Sizes.{Sizes, AreSizes, leader, replicas}
+use Rattle.ids.specs.Sizes.{Sizes, AreSizes, replicas}
 use Rattle.definitions.specs.Bytes.{Bytes}
 use Rattle.definitions.specs.Frames.{Core, Certificate, Command, Frame}
 use Rattle.definitions.specs.Frames as frame
@@ -36,10 +36,9 @@ use Rattle.definitions.specs.Replicas.{Reaction.asks_for, executes, on_step, on_
 use Rattle.definitions.proofs.Trees.{IsPlaced, placed}
 use Rattle.definitions.proofs.Spellings.{IsReadAs-unique}
 use Rattle.std.specs.Borrow.{Bor}
-use Rattle.definitions.specs.FrameLimits.{IsReadAs}
 use Rattle.definitions.specs.Keyrings.{Keys}
 use Rattle.definitions.specs.Checks.{identity_of}
-use Rattle.admission.specs.Lacking.{lacked, lacked_by, IsLackedBy}
+use Rattle.admission.specs.Lacking.{lacked_by, IsLackedBy}
 use Rattle.admission.specs.Gathering.{Gathers, AnswersGathered}
 use Rattle.admission.specs.Inputs.{input_of, is_addressed}
 use Rattle.admission.specs.Admitted as admitted

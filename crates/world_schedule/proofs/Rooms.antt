@@ -1,6 +1,6 @@
 -- Keyrings of a world whose caches have another room.
-use Rattle.std.proofs.Common.{ℕ, zero, suc, ◌≡◌, List, [], ◌∷◌, length, map, refl, sym, ap, ◌∙◌, subst}
-use Rattle.std.proofs.Common.{slice_index_or, Option, None, Some, inr, Result, Ok, Err}
+use Rattle.std.proofs.Common.{ℕ, zero, suc, ◌≡◌, List, [], ◌∷◌, map, refl, sym, ap, ◌∙◌, subst}
+use Rattle.std.proofs.Common.{slice_index_or, None, Some, inr, Result, Ok, Err}
 use Rattle.std.specs.Prelude.{IfErr, MatchResult}
 use Rattle.std.proofs.lemmas.List.{length-map}
 use Rattle.ids.specs.declared.fault.Fault.{Fault}

@@ -1,5 +1,5 @@
 -- Where frames come from, as the code has them.
-use Rattle.std.specs.Prelude.{ℕ, ◌≡◌, ◌<◌, List, [], ◌∷◌, length, slice_index_or, ⊤}
+use Rattle.std.specs.Prelude.{◌≡◌, ◌<◌, List, [], ◌∷◌, length, slice_index_or, ⊤}
 use Rattle.std.specs.Borrow.{Bor}
 use Rattle.definitions.specs.Bytes.{Bytes}
 use Rattle.world_schedule.specs.declared.event.Source.{Source}

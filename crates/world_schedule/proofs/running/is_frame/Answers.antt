@@ -1,4 +1,4 @@
-use Rattle.std.proofs.Common.{sym, subst, Option, None, option_map}
+use Rattle.std.proofs.Common.{sym, subst, Option, option_map}
 use Rattle.std.specs.Result.{result_ok}
 use Rattle.definitions.specs.Frames.{Frame}
 use Rattle.frames_view.specs.Views.{frame_of}
