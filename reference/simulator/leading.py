@@ -1,0 +1,151 @@
+"""How a replica leads its view when others may lie.
+
+The first attempt is as ever: from the highest certificate. If no certificate comes, and no votes of more than f
+replicas, it leads from its own lock, then from what others claim, one block of each sender in turns. Each attempt
+begins with empty blocks up to above all heights in its tree, of which only the last needs votes; then it climbs on.
+"""
+from . import policy
+from .world import Beat, Lead
+
+
+class Leading:
+    def __init__(self, edge):
+        self.edge = edge
+        self.tried = {}             # digest -> attempts from it, in all views
+        self.last_sender = -1       # whose claim had the last turn
+        self.failures, self.turns = {}, {}
+        self.careful_until = -1     # one client's request a block until then
+
+    def enter(self):
+        """Another view: nothing was done in it yet."""
+        self.started = self.chosen = self.succeeded = self.tried_lock = False
+        self._forget_blocks()
+
+    def _forget_blocks(self):
+        self.tops = {}              # digest -> who voted for it
+        self.clients = set()        # whose commands are in blocks without a certificate
+        self.target = 0
+        self.step = 1
+        self.certified_at = self.votes_at = self.sent_at = self.edge.now
+
+    def holds(self):
+        """An attempt from a chosen block is under way: nothing may move the leaf but votes for its blocks."""
+        return self.chosen and not self.succeeded
+
+    def wants_vote(self, digest):
+        return not self.holds() or digest in self.tops
+
+    def voted(self, voter, digest):
+        if digest in self.tops and voter not in self.tops[digest]:
+            self.tops[digest].add(voter)
+            self.votes_at = self.edge.now
+
+    def _voters(self):
+        return max(map(len, self.tops.values()), default=0)
+
+    def clock(self, waiting):
+        """Once a tick while the replica leads, and somebody waits."""
+        if not waiting:
+            return
+        edge, replica = self.edge, self.edge.replica
+        if not self.started:
+            self.started, self.high = True, replica.highest_block
+            self._forget_blocks()
+        elif replica.highest_block is not self.high:
+            self.succeeded, self.high = True, replica.highest_block
+            self._forget_blocks()
+        if policy.is_over(self.votes_at, self.certified_at, self._voters(), edge.f, edge.now, edge.times):
+            self._next_attempt()
+        self._propose(waiting)
+
+    # ---- blocks
+
+    def _propose(self, waiting):
+        """The next block on a certified leaf; or empty ones up to the target; or, after a while, higher ones."""
+        replica = self.edge.replica
+        if replica.leaf == replica.highest_block.digest:
+            top = max(block.height for block in self.edge.tree.blocks.values())
+            if top <= replica.leaf_height and not self.holds():
+                self._give_requests(waiting)
+            elif replica.pending:
+                self.edge.do(Lead(self.edge.me, replica.leaf))
+            self.target = max(top, replica.voted_height) + 1
+        elif self.edge.now - self.sent_at >= self.edge.times.again and replica.leaf_height >= self.target:
+            self.target = replica.leaf_height + self.step
+            self.step = min(2 * self.step, policy.PACE * self.edge.times.again) if self.chosen else 1
+        self._climb()
+
+    def _climb(self):
+        """So many blocks as a tick has room for. Votes count for the last of each tick."""
+        replica = self.edge.replica
+        count = min(policy.PACE, self.target - replica.leaf_height)
+        for _ in range(count):
+            self.edge.do(Beat(self.edge.me))
+            self.edge.town.come_to_itself()
+            self.clients |= {command.client for command in replica.own_proposal[0].commands}
+            self.sent_at = self.edge.now
+        if count > 0:
+            self.tops[replica.leaf] = set()
+
+    # ---- requests
+
+    def _give_requests(self, waiting):
+        """All that wait; or, behind a block with commands that found no certificate, one client's alone, and none before
+        all certified commands are executed."""
+        if self.edge.now > self.careful_until:
+            for client in waiting:
+                self.edge.hand_in(client)
+            return
+        self.edge.do(Lead(self.edge.me, self.edge.replica.leaf))
+        if not self._has_unexecuted():
+            client = policy.next_client(waiting, self.failures, self.turns)
+            self.turns[client] = self.edge.now
+            self.edge.hand_in(client)
+
+    def _has_unexecuted(self):
+        replica = self.edge.replica
+        return any(block.core.commands for block in replica.highest_block.above(replica.executed.height))
+
+    def _note_failure(self):
+        """A block with commands found no certificate."""
+        if len(self.clients) == 1:
+            [client] = self.clients
+            self.failures[client] = self.failures.get(client, 0) + 1
+        if self.clients:
+            self.careful_until = self.edge.now + self.edge.times.trouble
+
+    # ---- attempts
+
+    def _next_attempt(self):
+        self.edge.meet_trouble()
+        self._note_failure()
+        replica = self.edge.replica
+        base = self._base()
+        self.tried[base] = self.tried.get(base, 0) + 1
+        self.chosen = self.edge.do(Lead(self.edge.me, base)) is None
+        self.succeeded, self.high = False, replica.highest_block
+        self._forget_blocks()
+        self.edge.town.count["attempts"] += 1
+
+    def _base(self):
+        """The highest certificate's block where one came in this attempt; then the own lock; then what was tried least."""
+        replica = self.edge.replica
+        if self.succeeded:
+            return replica.highest_block.digest
+        if not self.tried_lock:
+            self.tried_lock = True
+            return replica.lock.digest
+        self.edge.questions.try_all()
+        claims = self._claims()
+        base = policy.next_base([replica.lock.digest] + list(claims), self.tried)
+        self.last_sender = claims.get(base, self.last_sender)
+        return base
+
+    def _claims(self):
+        """What blocks justify that others announced and that stand here, no lower than the lock: digest -> sender."""
+        found = {}
+        for sender in policy.in_turns(self.edge.claims, self.last_sender):
+            block = self.edge.tree.get(self.edge.claims[sender])
+            if block is not None and block.core and block.justify_height >= self.edge.replica.lock.height:
+                found.setdefault(block.justified.digest, sender)
+        return found

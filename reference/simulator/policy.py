@@ -1,0 +1,105 @@
+"""What the edge around a replica decides when others may lie: rules over plain values.
+
+None of them knows who lies, and no theorem needs them: an edge only loses, delays, repeats and offers frames. They say
+when a replica goes on, and for whom. While nobody lies none of them sends a frame more.
+
+A frame's way is how long frames take between replicas at most, mostly; all times are multiples of it.
+"""
+from dataclasses import dataclass
+
+MOST_OF_SENDER = 4              # blocks of a height that one sender brings
+MOST_OF_HEIGHT = 64             # blocks of a height that a tree takes
+MOST_CLIMB = 64                 # heights that a proposal of view 0 may climb
+PACE = 8                        # heights a tick that a leader climbs, and that come in from a sender
+SPARE = 64                      # heights that may come in from a sender at once
+MOST_PARKED = 256               # proposals of a view that wait for grounds or a parent
+MOST_VOTES_KEPT = 64            # votes of a voter for blocks that aren't there
+MOST_QUESTIONS = 12             # times that a block is asked for on one frame's account
+
+
+@dataclass(frozen=True)
+class Times:
+    """How long things last, in ticks, where a frame takes `way` ticks."""
+    way: int = 1
+
+    @property
+    def trouble(self):
+        """Behind the last trouble votes go to all for so long."""
+        return 400 * self.way
+
+    @property
+    def attempt(self):
+        """A leader waits so long for news of an attempt."""
+        return 8 * self.way + 2
+
+    @property
+    def again(self):
+        """A question, an announcement or a higher block follows after so long, where nothing came."""
+        return 3 * self.way + 1
+
+    @property
+    def repeat(self):
+        """A client sends its request again."""
+        return 20 * self.way
+
+
+# ---- whom a block is charged to
+
+def allowance(n):
+    """So many blocks of a height come in on one replica's account.
+
+    A block is charged to the replica whose frame made this one ask: the leader of the proposal that brought or needed
+    it, or the sender of the announcement that named it. Its ancestors are charged as it is. Who answers a question pays
+    nothing, so a correct replica's answers never use up its account; and nothing comes in on nobody's account. Hence n
+    accounts bound a height, whoever asks whom: n times this number, which is less than the 64 that a tree takes for each
+    f (16, 28, 40, 52, 48, 57, 44, 50, 56, 62 for f = 1 to 10). Liars together fill f of these accounts, and
+    no more, however many blocks each of them spread.
+    """
+    return min(MOST_OF_SENDER, (MOST_OF_HEIGHT - 1) // n)
+
+
+def most_of_a_height(n):
+    """So many blocks of a height come to a correct replica at most."""
+    return n * allowance(n)
+
+
+def climbs_too_far(view, height, justified_height, most):
+    """Whether a proposal stands too high above the block that it justifies; most may be None."""
+    return most is not None and height - justified_height > most * (view + 1)
+
+
+# ---- trouble and views
+
+def patience(times, f, bad_views):
+    """A view without progress ends after so long: f + 2 attempts at least, and more after each bad view."""
+    return times.attempt * (f + 2) * (4 + min(bad_views, 16)) // 4
+
+
+def may_begin(announced, view, quorum):
+    """A view's clock begins once a quorum of replicas announced it, or a higher one; view 0 needs no announcement."""
+    return view == 0 or sum(other >= view for other in announced) >= quorum
+
+
+def is_over(votes_at, certified_at, voters, f, now, times):
+    """A leader gives an attempt up when neither a certificate nor votes of more than f replicas came for a while."""
+    news = max(certified_at, votes_at) if voters > f else certified_at
+    return now - news > times.attempt
+
+
+# ---- what a leader leads from
+
+def next_base(candidates, tried):
+    """The block that was tried least, of several the first; None where there is none."""
+    return min(candidates, key=lambda digest: tried.get(digest, 0), default=None)
+
+
+def in_turns(senders, last):
+    """Senders from the one behind the last one that had its turn."""
+    return sorted(senders, key=lambda sender: (sender <= last, sender))
+
+
+# ---- whose requests
+
+def next_client(waiting, failures, turns):
+    """Whose request is proposed alone: fewest failures first, then who had no turn for the longest time."""
+    return min(waiting, key=lambda client: (failures.get(client, 0), turns.get(client, -1), client), default=None)

@@ -1,0 +1,129 @@
+"""A world with time: edges around correct replicas, clients that wait and ask again, liars, and links between them."""
+import collections
+import random
+from dataclasses import dataclass
+
+from . import policy
+from .edge import Edge
+from .frames import Kind, kind_of, read
+from .links import Links, LinkSizes
+from .own_frames import ALL
+from .sizes import FIRST_CLIENT, Refusal
+from .stated_runs import SET_A
+from .watched import Watched
+from .world import Relay, Submit
+
+
+@dataclass(frozen=True)
+class Options:
+    """What of the rules is in force, so that a rule can be left out."""
+    most_climb: object = policy.MOST_CLIMB
+    pace: int = policy.PACE
+    sticky: bool = True
+
+
+@dataclass(frozen=True)
+class Wait:
+    """A request that was answered, or that waits still (view is None)."""
+    client: int
+    since: int
+    ticks: int
+    view: object
+
+
+class Town:
+    def __init__(self, seed, config, faulty, sizes=LinkSizes(), options=Options()):
+        self.rng = random.Random("town %s" % seed)
+        self.config, self.world = config, Watched(config, faulty)
+        self.links = Links(self.rng, sizes)
+        self.times = policy.Times(1 + sizes.delay)
+        self.now = 0
+        self.count = collections.Counter()
+        self.frames = {}                        # number in the record -> frame
+        self.to_themselves = collections.deque()
+        self.since, self.request = {}, {}       # client -> tick, number in the record
+        self.waits = []
+        self.edges = {number: Edge(self, number, options) for number in self.world.replicas}
+
+    # ---- frames
+
+    def frame(self, item):
+        """What a frame of the record, or what bytes spell; None where they are no frame."""
+        if not isinstance(item, int):
+            return self._read(item)
+        if item not in self.frames:
+            self.frames[item] = self._read(self.world.record[item].data)
+        return self.frames[item]
+
+    def _read(self, data):
+        try:
+            return read(self.config, data)
+        except Refusal:
+            return None
+
+    def send(self, source, number, to):
+        """A frame of the record goes out: to one, or to all replicas."""
+        kind = kind_of(self.world.record[number].data)
+        receivers = range(self.config.n) if to == ALL else [to]
+        self.count["frames of kind %s" % Kind(kind).name] += len(receivers)
+        for receiver in receivers:
+            if receiver == source:
+                self.to_self(receiver, source, number)
+            elif receiver in self.edges or receiver - FIRST_CLIENT in self.world.sessions:
+                self.links.send(self.now, source, receiver, number)
+
+    def to_self(self, receiver, source, item):
+        self.to_themselves.append((receiver, source, item))
+
+    def come_to_itself(self):
+        """What replicas sent to themselves comes at once."""
+        while self.to_themselves:
+            receiver, source, item = self.to_themselves.popleft()
+            self.edges[receiver].handle(source, item)
+
+    # ---- time
+
+    def run(self, ticks, liars=None, is_done=lambda: False):
+        for _ in range(ticks):
+            self.now += 1
+            self._tick(liars)
+            if is_done():
+                return
+
+    def _tick(self, liars):
+        for client in self.world.sessions:
+            self._ask(client)
+        if liars:
+            liars.act()
+        for source, to, item in self.links.due(self.now):
+            self._come(source, to, item)
+        for edge in self.edges.values():
+            edge.clock()
+            self.come_to_itself()
+            edge.send_vote()
+        self.come_to_itself()
+
+    def _come(self, source, to, item):
+        if to in self.edges:
+            self.edges[to].handle(source, item)
+            self.come_to_itself()
+        else:
+            receipt = self.world.happen(Relay(item, to))[2]
+            if receipt:
+                client = to - FIRST_CLIENT
+                self.waits.append(self._wait(client, self.world.view()))
+
+    def _wait(self, client, view=None):
+        return Wait(client, self.since[client], self.now - self.since[client], view)
+
+    def still_waiting(self):
+        return [self._wait(client) for client, session in self.world.sessions.items() if session.outstanding]
+
+    def _ask(self, client):
+        """A client has its next request, or sends the last one again."""
+        if not self.world.sessions[client].outstanding:
+            self.world.happen(Submit(client, SET_A))
+            self.request[client], self.since[client] = len(self.world.record) - 1, self.now
+        if (self.now - self.since[client]) % self.times.repeat == 0:
+            for replica in self.edges:
+                self.links.send(self.now, FIRST_CLIENT + client, replica, self.request[client])
