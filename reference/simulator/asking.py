@@ -40,7 +40,7 @@ class Questions:
             return
         for other in range(self.edge.n) if whom is None else [whom]:
             if other != self.edge.me:
-                self.edge.ask(Ask(self.edge.me, other, digest))
+                self.edge.do(Ask(self.edge.me, other, digest))
 
     def ask_again(self):
         """What wasn't answered is asked of all."""

@@ -10,7 +10,7 @@ from .frames import Kind, kind_of
 from .leading import Leading
 from .own_frames import ALL
 from .sizes import FIRST_CLIENT, Fault
-from .world import Inject, Lead, Offer, Relay, Timeout
+from .world import Ask, Inject, Lead, Offer, Relay, Timeout
 
 
 class Edge:
@@ -43,18 +43,12 @@ class Edge:
 
     # ---- events, and what is sent
 
-    def do(self, event):
-        """The refusal or None. What was answered is sent, but for questions: `Questions` asks."""
-        return self._happen(event, False)
-
-    def ask(self, event):
-        return self._happen(event, True)
-
-    def _happen(self, event, asks):
+    def do(self, event, sends=True):
+        """The refusal or None. What was answered is sent, but for a refusal's question: `Questions` asks."""
         refused, sent, _ = self.town.world.happen(event)
         first = len(self.town.world.record) - len(sent)
-        for number, frame in enumerate(sent, first):
-            self._send(number, frame, asks)
+        for number, frame in enumerate(sent if sends else (), first):
+            self._send(number, frame, isinstance(event, Ask))
         if self.view != self.seen:
             self._moved()
         return refused

@@ -5,6 +5,7 @@ replicas, it leads from its own lock, then from what others claim, one block of 
 begins with empty blocks up to above all heights in its tree, of which only the last needs votes; then it climbs on.
 """
 from . import policy
+from .frames import Core
 from .world import Beat, Lead
 
 
@@ -36,7 +37,7 @@ class Leading:
         return not self.holds() or digest in self.tops
 
     def voted(self, voter, digest):
-        if digest in self.tops and voter not in self.tops[digest]:
+        if voter != self.edge.me and digest in self.tops and voter not in self.tops[digest]:
             self.tops[digest].add(voter)
             self.votes_at = self.edge.now
 
@@ -76,16 +77,22 @@ class Leading:
         self._climb()
 
     def _climb(self):
-        """So many blocks as a tick has room for. Votes count for the last of each tick."""
-        replica = self.edge.replica
-        count = min(policy.PACE, self.target - replica.leaf_height)
-        for _ in range(count):
-            self.edge.do(Beat(self.edge.me))
-            self.edge.town.come_to_itself()
-            self.clients |= {command.client for command in replica.own_proposal[0].commands}
-            self.sent_at = self.edge.now
-        if count > 0:
+        """So many new blocks as a tick has room for. Votes count for the last of each tick."""
+        replica, made = self.edge.replica, 0
+        while made < policy.PACE and replica.leaf_height < self.target:
+            made += self._make_block()
             self.tops[replica.leaf] = set()
+
+    def _make_block(self):
+        """Whether the block is new. An earlier attempt's isn't sent again."""
+        edge, replica = self.edge, self.edge.replica
+        core = Core(replica.leaf, replica.leaf_height + 1, replica.highest_block.height)
+        stood = not replica.pending and edge.tree.get(core.digest()) is not None
+        edge.do(Beat(edge.me), not stood)
+        edge.town.come_to_itself()
+        self.clients |= {command.client for command in replica.own_proposal[0].commands}
+        self.sent_at = edge.now
+        return not stood
 
     # ---- requests
 

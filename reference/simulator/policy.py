@@ -71,8 +71,8 @@ def climbs_too_far(view, height, justified_height, most):
 # ---- trouble and views
 
 def patience(times, f, bad_views):
-    """A view without progress ends after so long: f + 2 attempts at least, and more after each bad view."""
-    return times.attempt * (f + 2) * (4 + min(bad_views, 16)) // 4
+    """A view without progress ends after so long: f + 2 attempts and one that succeeds, and more after each bad view."""
+    return times.attempt * (f + 3) * (8 + min(bad_views, 32)) // 8
 
 
 def may_begin(announced, view, quorum):
@@ -81,7 +81,8 @@ def may_begin(announced, view, quorum):
 
 
 def is_over(votes_at, certified_at, voters, f, now, times):
-    """A leader gives an attempt up when neither a certificate nor votes of more than f replicas came for a while."""
+    """A leader gives an attempt up when neither a certificate nor votes of more than f other replicas came for a while.
+    Votes of fewer may all be liars'."""
     news = max(certified_at, votes_at) if voters > f else certified_at
     return now - news > times.attempt
 

@@ -33,7 +33,7 @@ class Wait:
 
 class Town:
     def __init__(self, seed, config, faulty, sizes=LinkSizes(), options=Options()):
-        self.rng = random.Random("town %s" % seed)
+        self.rng = random.Random("town %s" % (seed,))
         self.config, self.world = config, Watched(config, faulty)
         self.links = Links(self.rng, sizes)
         self.times = policy.Times(1 + sizes.delay)
