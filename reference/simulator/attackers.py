@@ -85,7 +85,7 @@ class Attacker:
         cert, leader = self.liars.certificate(justified, receivers), view % self.config.n
         self.show(leader, proposal_of(self.config, view, self.liars.cores[digest], cert), receivers)
 
-    def lead(self, is_spoilt, period=3):
+    def lead(self, is_spoilt, period=3, receivers=None):
         """A liar that leads has a block on the highest certified one, with padding: right and to all, or, at these heights,
         to f + 1 with certificates that are right for these alone."""
         view = self.leads()
@@ -94,7 +94,7 @@ class Attacker:
         self.led, top = self.town.now, self.certified()
         voted = max(replica.voted_height for replica in self.world.replicas.values())
         half = is_spoilt(self.liars.height(top) + 1)
-        receivers = self.rng.sample(self.good, self.config.f + 1) if half else self.good
+        receivers = self.rng.sample(self.good, self.config.f + 1) if half else receivers or self.good
         parent = top
         for _ in range(max(1, voted + 1 - self.liars.height(top))):
             parent = self.extend(parent, top, () if half else self.requests())
@@ -197,6 +197,13 @@ class HalfClaims(Attacker):
                 self.show(liar, new_view_of(self.config, liar, self.view(), Certificate(digest)), [leader])
 
 
+class ToFew(HalfVotes):
+    """A liar that leads is right, but to f + 1 alone: others are left behind."""
+
+    def attack(self):
+        self.lead(lambda _height: False, receivers=self.good[:self.config.f + 1])
+
+
 class Race(Attacker):
     """A liar that leads sends as many heights as fit through one link, to one replica alone."""
     speed = 10
@@ -279,6 +286,6 @@ class FromAMoment(HalfVotes):
 
 ATTACKS = {
     "none": Attacker, "mute": Mute, "half votes": HalfVotes, "each third": EachThird, "in turns": InTurns,
-    "wrong digests": WrongDigests, "false claims": FalseClaims, "half claims": HalfClaims, "race": Race,
-    "race twice": RaceTwice, "clients": FaultyClients, "a moment": FromAMoment,
+    "wrong digests": WrongDigests, "false claims": FalseClaims, "half claims": HalfClaims, "to few": ToFew, "race": Race,
+    "race twice": RaceTwice, "clients 1": FaultyClients, "clients 6": FaultyClients, "clients 20": FaultyClients, "a moment": FromAMoment,
 }

@@ -156,14 +156,20 @@ class Edge:
         high = self.replica.highest_block
         refused = self.do(self._coming(item))
         if refused == Fault.UNKNOWN_PARENT:
-            votes = self.votes_kept[frame.vote.voter]
-            votes[frame.digest] = item, frame
-            if len(votes) > policy.MOST_VOTES_KEPT:
-                del votes[next(iter(votes))]
+            self._keep_vote(item, frame)
         elif refused is None:
             self.leading.voted(frame.vote.voter, frame.digest)
             if self.parked and self.replica.highest_block is not high:
                 self.retry()
+
+    def _keep_vote(self, item, frame):
+        """For a block that isn't there. One for which more than f replicas voted is asked for."""
+        votes = self.votes_kept[frame.vote.voter]
+        votes[frame.digest] = item, frame
+        if len(votes) > policy.MOST_VOTES_KEPT:
+            del votes[next(iter(votes))]
+        if sum(frame.digest in others for others in self.votes_kept.values()) > self.f:
+            self.questions.need(frame.digest, frame.vote.voter)
 
     def _on_announcement(self, item, frame):
         """Its view counts, whatever it names. What it names is asked for by the leader of the view alone."""
@@ -172,6 +178,7 @@ class Edge:
         if frame.view < self.view:
             self._tell(frame.sender)
         if frame.view > self.view:
+            self.meet_trouble()
             self._speak_for_lock()
         if self.leading.holds() or self.do(self._coming(item)) is not None:
             self.do(Offer(self.me, item))
@@ -242,10 +249,13 @@ class Edge:
         elif not waiting:
             self.progress = self.now
         elif self.now - max(self.begun, self.progress) > policy.patience(self.times, self.f, self.bad_views):
-            self._speak_for_lock()
-            self.do(Timeout(self.me))
+            self.end_view()
         elif self.view % self.n == self.me:
             self.leading.clock(waiting)
+
+    def end_view(self):
+        self._speak_for_lock()
+        self.do(Timeout(self.me))
 
     def _begin(self):
         if policy.may_begin(self.replica.pacemaker.announced, self.view, self.config.quorum):

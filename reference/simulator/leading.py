@@ -20,6 +20,7 @@ class Leading:
     def enter(self):
         """Another view: nothing was done in it yet."""
         self.started = self.chosen = self.succeeded = self.tried_lock = False
+        self.sent = set()           # digests of this view's proposals
         self._forget_blocks()
 
     def _forget_blocks(self):
@@ -84,15 +85,16 @@ class Leading:
             self.tops[replica.leaf] = set()
 
     def _make_block(self):
-        """Whether the block is new. An earlier attempt's isn't sent again."""
+        """Whether the block is sent. One that was sent in this view isn't sent again."""
         edge, replica = self.edge, self.edge.replica
         core = Core(replica.leaf, replica.leaf_height + 1, replica.highest_block.height)
-        stood = not replica.pending and edge.tree.get(core.digest()) is not None
-        edge.do(Beat(edge.me), not stood)
+        was_sent = not replica.pending and core.digest() in self.sent
+        edge.do(Beat(edge.me), not was_sent)
         edge.town.come_to_itself()
         self.clients |= {command.client for command in replica.own_proposal[0].commands}
+        self.sent.add(replica.own_proposal[0].digest())
         self.sent_at = edge.now
-        return not stood
+        return not was_sent
 
     # ---- requests
 

@@ -20,6 +20,7 @@ class Options:
     most_climb: object = policy.MOST_CLIMB
     pace: int = policy.PACE
     sticky: bool = True
+    restless: int = 0           # all views end each time so many ticks are over
 
 
 @dataclass(frozen=True)
@@ -34,6 +35,7 @@ class Wait:
 class Town:
     def __init__(self, seed, config, faulty, sizes=LinkSizes(), options=Options()):
         self.rng = random.Random("town %s" % (seed,))
+        self.options = options
         self.config, self.world = config, Watched(config, faulty)
         self.links = Links(self.rng, sizes)
         self.times = policy.Times(1 + sizes.delay)
@@ -97,8 +99,9 @@ class Town:
             liars.act()
         for source, to, item in self.links.due(self.now):
             self._come(source, to, item)
+        ends = self.options.restless and self.now % self.options.restless == 0
         for edge in self.edges.values():
-            edge.clock()
+            edge.end_view() if ends else edge.clock()
             self.come_to_itself()
             edge.send_vote()
         self.come_to_itself()
@@ -118,6 +121,17 @@ class Town:
 
     def still_waiting(self):
         return [self._wait(client) for client, session in self.world.sessions.items() if session.outstanding]
+
+    def blocks(self):
+        """So many were proposed by correct replicas, in the best case of all."""
+        return max(replica.voted_height for replica in self.world.replicas.values())
+
+    def check(self):
+        """No two correct replicas decide differently, none stopped, and what has grounds could be certified."""
+        self.world.check()
+        histories = sorted((replica.history for replica in self.world.replicas.values()), key=len)
+        for short, long in zip(histories, histories[1:]):
+            assert long[:len(short)] == short, "histories differ"
 
     def _ask(self, client):
         """A client has its next request, or sends the last one again."""
