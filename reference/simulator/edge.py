@@ -21,7 +21,7 @@ class Edge:
         self.n, self.f, self.times = self.config.n, self.config.f, town.times
         self.door = Doorkeeper(self.n, options.most_climb, options.pace)
         self.questions, self.leading = Questions(self), Leading(self)
-        self.trouble_until = -1
+        self.trouble_until = self.careful_until = -1
         self.requests = {}                                      # client -> (item, frame) of its last request
         self.claims = {}                                        # replica -> the digest that it announced last
         self.votes_kept = collections.defaultdict(dict)         # voter -> digest -> item
@@ -73,6 +73,13 @@ class Edge:
 
     def meet_trouble(self):
         self.trouble_until = self.now + (self.times.trouble if self.options.sticky else self.times.attempt)
+
+    def is_careful(self):
+        """Blocks were seen a short while ago that have spoilt requests."""
+        return self.now <= self.careful_until
+
+    def meet_spoilt(self):
+        self.careful_until = self.now + self.times.trouble
 
     def bring(self, item):
         """A frame comes, and is offered where only its certificate isn't good here: the refusal or None."""
@@ -143,6 +150,8 @@ class Edge:
 
     def after_take(self, digest):
         """A block stands: what waited for it comes."""
+        if not self.tree.get(digest).clear:
+            self.meet_spoilt()
         for votes in self.votes_kept.values():
             if digest in votes:
                 self._on_vote(*votes.pop(digest))
@@ -248,10 +257,14 @@ class Edge:
             self._begin()
         elif not waiting:
             self.progress = self.now
-        elif self.now - max(self.begun, self.progress) > policy.patience(self.times, self.f, self.bad_views):
+        elif self.now - max(self.begun, self.progress) > self._patience(waiting):
             self.end_view()
         elif self.view % self.n == self.me:
             self.leading.clock(waiting)
+
+    def _patience(self, waiting):
+        turns = len(waiting) if self.is_careful() else 0
+        return policy.patience(self.times, self.f, self.bad_views, turns)
 
     def end_view(self):
         self._speak_for_lock()

@@ -15,7 +15,6 @@ class Leading:
         self.tried = {}             # digest -> attempts from it, in all views
         self.last_sender = -1       # whose claim had the last turn
         self.failures, self.turns = {}, {}
-        self.careful_until = -1     # one client's request a block until then
 
     def enter(self):
         """Another view: nothing was done in it yet."""
@@ -56,7 +55,8 @@ class Leading:
         elif replica.highest_block is not self.high:
             self.succeeded, self.high = True, replica.highest_block
             self._forget_blocks()
-        if policy.is_over(self.votes_at, self.certified_at, self._voters(), edge.f, edge.now, edge.times):
+        limit = edge.times.again if len(self.clients) == 1 and edge.is_careful() else edge.times.attempt
+        if policy.is_over(self.votes_at, self.certified_at, self._voters(), edge.f, edge.now, limit):
             self._next_attempt()
         self._propose(waiting)
 
@@ -101,7 +101,7 @@ class Leading:
     def _give_requests(self, waiting):
         """All that wait; or, behind a block with commands that found no certificate, one client's alone, and none before
         all certified commands are executed."""
-        if self.edge.now > self.careful_until:
+        if not self.edge.is_careful():
             for client in waiting:
                 self.edge.hand_in(client)
             return
@@ -121,7 +121,7 @@ class Leading:
             [client] = self.clients
             self.failures[client] = self.failures.get(client, 0) + 1
         if self.clients:
-            self.careful_until = self.edge.now + self.edge.times.trouble
+            self.edge.meet_spoilt()
 
     # ---- attempts
 

@@ -33,6 +33,11 @@ class Times:
         return 8 * self.way + 2
 
     @property
+    def turn(self):
+        """One client's turn: its block, and empty blocks that decide or replace it."""
+        return 8 * self.way
+
+    @property
     def again(self):
         """A question, an announcement or a higher block follows after so long, where nothing came."""
         return 3 * self.way + 1
@@ -70,9 +75,10 @@ def climbs_too_far(view, height, justified_height, most):
 
 # ---- trouble and views
 
-def patience(times, f, bad_views):
-    """A view without progress ends after so long: f + 2 attempts and one that succeeds, and more after each bad view."""
-    return times.attempt * (f + 3) * (8 + min(bad_views, 32)) // 8
+def patience(times, f, bad_views, turns):
+    """A view without progress ends after so long: f + 2 attempts and one that succeeds, and more after each bad view; and
+    a turn for each of so many clients."""
+    return times.attempt * (f + 3) * (8 + min(bad_views, 32)) // 8 + times.turn * turns
 
 
 def may_begin(announced, view, quorum):
@@ -80,11 +86,11 @@ def may_begin(announced, view, quorum):
     return view == 0 or sum(other >= view for other in announced) >= quorum
 
 
-def is_over(votes_at, certified_at, voters, f, now, times):
-    """A leader gives an attempt up when neither a certificate nor votes of more than f other replicas came for a while.
+def is_over(votes_at, certified_at, voters, f, now, limit):
+    """A leader gives an attempt up when neither a certificate nor votes of more than f other replicas came for so long.
     Votes of fewer may all be liars'."""
     news = max(certified_at, votes_at) if voters > f else certified_at
-    return now - news > times.attempt
+    return now - news >= limit
 
 
 # ---- what a leader leads from
