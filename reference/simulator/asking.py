@@ -103,7 +103,8 @@ class Questions:
         if core.height != parent.height + 1:
             return []
         justified = parent.at(core.justify).digest
-        kept = {sender: copy for sender, copy in self.copies[digest].items() if copy[1].cert.digest == justified}
+        kept = {sender: copy for sender, copy in self.copies[digest].items()
+                if copy[1].cert.digest == justified or not self.edge.has("digests")}
         self.copies[digest] = kept
         if not kept:
             del self.copies[digest]
@@ -113,7 +114,7 @@ class Questions:
         return any(self.edge.bring(item) is None for item in items)
 
     def _several_are(self, items):
-        if len(items) <= self.edge.f:
+        if len(items) <= self.edge.f or not self.edge.has("copies"):
             return False
         sources = tuple(items[:self.edge.n])
         return self.edge.do(Gather(self.edge.me, sources)) is None

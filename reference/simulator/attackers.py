@@ -11,6 +11,7 @@ FAR = 10 ** 9
 
 class Attacker:
     """Liars who see all that correct parties send, and have an attack each tick until they fall silent."""
+    left_out = ()                   # clients whose requests liars don't propose
 
     def __init__(self, town, quiet=FAR):
         self.town, self.world, self.config, self.rng = town, town.world, town.config, town.rng
@@ -104,14 +105,23 @@ class Attacker:
             self.show(liar, write(VoteFrame(parent, half_vote(self.config, liar, parent, rightly))), self.good)
 
     def requests(self):
-        """Of correct clients that wait."""
+        """Of clients that wait."""
         last = max(self.world.replicas.values(), key=lambda replica: replica.executor.length).executor.last_seq
         waiting = {command.client: command for command in self.liars.commands if command.seq > last(command.client)}
-        return tuple(waiting.values())[:16]
+        return tuple(command for client, command in waiting.items() if client not in self.left_out)[:16]
 
 
 class Mute(Attacker):
     """Nothing."""
+
+
+class LeaveOut(Attacker):
+    """All is right, but liars that lead never propose the requests of one client."""
+    left_out = (0,)
+
+    def attack(self):
+        self.vote(lambda _core, _leader, _liar: range(self.config.n))
+        self.lead(lambda _height: False)
 
 
 class HalfVotes(Attacker):
@@ -285,7 +295,7 @@ class FromAMoment(HalfVotes):
 
 
 ATTACKS = {
-    "none": Attacker, "mute": Mute, "half votes": HalfVotes, "each third": EachThird, "in turns": InTurns,
+    "none": Attacker, "mute": Mute, "leave out": LeaveOut, "half votes": HalfVotes, "each third": EachThird, "in turns": InTurns,
     "wrong digests": WrongDigests, "false claims": FalseClaims, "half claims": HalfClaims, "to few": ToFew, "race": Race,
     "race twice": RaceTwice, "clients 1": FaultyClients, "clients 6": FaultyClients, "clients 20": FaultyClients, "a moment": FromAMoment,
 }

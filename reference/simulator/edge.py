@@ -30,7 +30,9 @@ class Edge:
         self.answered = {}                                      # replica -> when it was told our view
         self.early = []                                         # proposals of later views
         self.bad_views = 0
-        self.length = 0
+        self.length = 0                                         # of the history
+        self.served = {}                                        # client -> when it last waited for nothing
+        self.ended = collections.Counter()                      # client -> views that ended since, for it alone
         self._enter()
 
     @property
@@ -68,15 +70,19 @@ class Edge:
             self.town.send(self.me, self.vote, ALL)
             self.vote = None
 
+    def has(self, rule):
+        """Whether a rule is in force."""
+        return rule not in self.options.without
+
     def in_trouble(self):
-        return self.now <= self.trouble_until
+        return self.now <= self.trouble_until and self.has("votes to all")
 
     def meet_trouble(self):
-        self.trouble_until = self.now + (self.times.trouble if self.options.sticky else self.times.attempt)
+        self.trouble_until = self.now + (self.times.trouble if self.has("lasting trouble") else self.times.attempt)
 
     def is_careful(self):
         """Blocks were seen a short while ago that have spoilt requests."""
-        return self.now <= self.careful_until
+        return self.now <= self.careful_until and self.has("turns")
 
     def meet_spoilt(self):
         self.careful_until = self.now + self.times.trouble
@@ -84,7 +90,7 @@ class Edge:
     def bring(self, item):
         """A frame comes, and is offered where only its certificate isn't good here: the refusal or None."""
         refused = self.do(self._coming(item))
-        if refused == Fault.BAD_TAG and self._is_its_own(item):
+        if refused == Fault.BAD_TAG and self.has("offers") and self._is_its_own(item):
             refused = self.do(Offer(self.me, item))
         return refused
 
@@ -211,6 +217,7 @@ class Edge:
             self.do(self._coming(item))
         else:
             self.requests[command.client] = item, frame
+            self.served.setdefault(command.client, self.now)
 
     def hand_in(self, client):
         self.do(self._coming(self.requests[client][0]))
@@ -253,25 +260,35 @@ class Edge:
             self.length, self.bad_views, self.progress = self.replica.executor.length, 0, self.now
         self.questions.ask_again()
         waiting = self.waiting()
+        for client in self.requests.keys() - waiting:
+            self.served[client], self.ended[client] = self.now, 0
         if self.begun is None:
             self._begin()
         elif not waiting:
             self.progress = self.now
-        elif self.now - max(self.begun, self.progress) > self._patience(waiting):
+        elif self._is_over(waiting):
             self.end_view()
         elif self.view % self.n == self.me:
             self.leading.clock(waiting)
 
-    def _patience(self, waiting):
+    def _is_over(self, waiting):
+        """Nothing was executed for too long, or nothing of one client."""
         turns = len(waiting) if self.is_careful() else 0
-        return policy.patience(self.times, self.f, self.bad_views, turns)
+        patience = policy.patience(self.times, self.f, self.bad_views, turns)
+        if self.now - max(self.begun, self.progress) > patience:
+            return True
+        late = [client for client in waiting if self.has("fairness") and policy.is_too_long(
+            self.now - max(self.begun, self.served[client]), patience, self.ended[client])]
+        self.ended.update(late)
+        return bool(late)
 
     def end_view(self):
         self._speak_for_lock()
         self.do(Timeout(self.me))
 
     def _begin(self):
-        if policy.may_begin(self.replica.pacemaker.announced, self.view, self.config.quorum):
+        announced = self.replica.pacemaker.announced
+        if not self.has("beginnings") or policy.may_begin(announced, self.view, self.config.quorum):
             self.begun = self.progress = self.now
         elif self.announcement is not None and (self.now - self.entered) % self.times.again == 0:
             self.town.send(self.me, self.announcement, ALL)

@@ -66,12 +66,12 @@ class Leading:
         """The next block on a certified leaf; or empty ones up to the target; or, after a while, higher ones."""
         replica = self.edge.replica
         if replica.leaf == replica.highest_block.digest:
-            top = max(block.height for block in self.edge.tree.blocks.values())
+            top = max(block.height for block in self.edge.tree.blocks.values()) if self.edge.has("padding") else 0
             if top <= replica.leaf_height and not self.holds():
                 self._give_requests(waiting)
             elif replica.pending:
                 self.edge.do(Lead(self.edge.me, replica.leaf))
-            self.target = max(top, replica.voted_height) + 1
+            self.target = max(top, replica.leaf_height) + 1
         elif self.edge.now - self.sent_at >= self.edge.times.again and replica.leaf_height >= self.target:
             self.target = replica.leaf_height + self.step
             self.step = min(2 * self.step, policy.PACE * self.edge.times.again) if self.chosen else 1
@@ -106,7 +106,7 @@ class Leading:
                 self.edge.hand_in(client)
             return
         self.edge.do(Lead(self.edge.me, self.edge.replica.leaf))
-        if not self._has_unexecuted():
+        if not self.edge.has("flush") or not self._has_unexecuted():
             client = policy.next_client(waiting, self.failures, self.turns)
             self.turns[client] = self.edge.now
             self.edge.hand_in(client)
@@ -141,7 +141,7 @@ class Leading:
         replica = self.edge.replica
         if self.succeeded:
             return replica.highest_block.digest
-        if not self.tried_lock:
+        if not self.tried_lock and self.edge.has("lock first"):
             self.tried_lock = True
             return replica.lock.digest
         self.edge.questions.try_all()
@@ -153,7 +153,8 @@ class Leading:
     def _claims(self):
         """What blocks justify that others announced and that stand here, no lower than the lock: digest -> sender."""
         found = {}
-        for sender in policy.in_turns(self.edge.claims, self.last_sender):
+        senders = self.edge.claims if self.edge.has("claims") else ()
+        for sender in policy.in_turns(senders, self.last_sender):
             block = self.edge.tree.get(self.edge.claims[sender])
             if block is not None and block.core and block.justify_height >= self.edge.replica.lock.height:
                 found.setdefault(block.justified.digest, sender)

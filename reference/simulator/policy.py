@@ -48,6 +48,11 @@ class Times:
         return 20 * self.way
 
 
+# What can be left out of the policy, by its name.
+RULES = ("offers", "copies", "digests", "votes to all", "lasting trouble", "beginnings", "padding", "lock first", "claims",
+         "turns", "flush", "fairness")
+
+
 # ---- whom a block is charged to
 
 def allowance(n):
@@ -79,6 +84,12 @@ def patience(times, f, bad_views, turns):
     """A view without progress ends after so long: f + 2 attempts and one that succeeds, and more after each bad view; and
     a turn for each of so many clients."""
     return times.attempt * (f + 3) * (8 + min(bad_views, 32)) // 8 + times.turn * turns
+
+
+def is_too_long(waited, view_patience, views_ended):
+    """A view ends for one client that waits while others are served: after two patiences at first, and after twice as long
+    for each view that ended for it, since a faulty client's request may wait for ever."""
+    return waited > view_patience * 2 ** (1 + views_ended)
 
 
 def may_begin(announced, view, quorum):

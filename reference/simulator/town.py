@@ -16,10 +16,10 @@ from .world import Relay, Submit
 
 @dataclass(frozen=True)
 class Options:
-    """What of the rules is in force, so that a rule can be left out."""
+    """Numbers of the doorkeeper, rules that are left out, to see what they are for, and how restless the world is."""
     most_climb: object = policy.MOST_CLIMB
     pace: int = policy.PACE
-    sticky: bool = True
+    without: frozenset = frozenset()
     restless: int = 0           # all views end each time so many ticks are over
 
 
@@ -126,9 +126,15 @@ class Town:
         """So many were proposed by correct replicas, in the best case of all."""
         return max(replica.voted_height for replica in self.world.replicas.values())
 
+    def crowd(self):
+        """The most blocks of one height with a correct replica."""
+        return max(max(replica.tree.of_height.values(), default=0) for replica in self.world.replicas.values())
+
     def check(self):
-        """No two correct replicas decide differently, none stopped, and what has grounds could be certified."""
+        """No two correct replicas decide differently, none stopped, and what has grounds could be certified. No height has
+        more blocks than its accounts allow."""
         self.world.check()
+        assert self.crowd() <= policy.most_of_a_height(self.config.n), "crowded"
         histories = sorted((replica.history for replica in self.world.replicas.values()), key=len)
         for short, long in zip(histories, histories[1:]):
             assert long[:len(short)] == short, "histories differ"
