@@ -1,14 +1,14 @@
-"""Which blocks come in to one replica: few of a height on one replica's account, no proposal that climbs too far, and
-heights of a sender at no more than a pace. What is kept out is lost."""
+"""Which blocks come in to one replica: few of a height on one replica's account, and a leader's heights at no more than a
+pace. What is kept out is lost."""
 import collections
 
 from . import policy
 
 
 class Doorkeeper:
-    """Accounts of one replica. `most_climb` is None, and `pace` 0, where there is no such bound."""
+    """Accounts of one replica. There is no ceiling where `most_climb` is None, and no bound of heights a tick where `pace` is 0."""
 
-    def __init__(self, n, most_climb=policy.MOST_CLIMB, pace=policy.PACE):
+    def __init__(self, n, most_climb=None, pace=policy.PACE):
         self.most = policy.allowance(n)
         self.most_climb, self.pace = most_climb, pace
         self.brought = collections.Counter()        # (payer, height) -> blocks that were taken

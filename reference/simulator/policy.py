@@ -9,7 +9,6 @@ from dataclasses import dataclass
 
 MOST_OF_SENDER = 4              # blocks of a height that one sender brings
 MOST_OF_HEIGHT = 64             # blocks of a height that a tree takes
-MOST_CLIMB = 64                 # heights that a proposal of view 0 may climb
 PACE = 8                        # heights a tick that a leader climbs, and that come in from a sender
 SPARE = 64                      # heights that may come in from a sender at once
 MOST_PARKED = 256               # proposals of a view that wait for grounds or a parent
@@ -74,16 +73,21 @@ def most_of_a_height(n):
 
 
 def climbs_too_far(view, height, justified_height, most):
-    """Whether a proposal stands too high above the block that it justifies; most may be None."""
+    """Whether a proposal of a view stands more than most (view + 1) above the block that it justifies. No ceiling (None)
+    serves better: liars who lead view w get one replica to vote 2 most (w + 1) above the highest lock, by two such climbs,
+    and a leader that may climb but most (v + 1) from that lock has to wait for view 2 w + 1. A pace gives each leader in
+    its time what it gave to liars in theirs."""
     return most is not None and height - justified_height > most * (view + 1)
 
 
 # ---- trouble and views
 
 def patience(times, f, bad_views, turns):
-    """A view without progress ends after so long: f + 2 attempts and one that succeeds, and more after each bad view; and
-    a turn for each of so many clients."""
-    return times.attempt * (f + 3) * (8 + min(bad_views, 32)) // 8 + times.turn * turns
+    """A view without progress ends after so long: three attempts at first, so that liars who lead one after the other
+    don't take long; after f bad views f + 2 attempts and one that succeeds, and more after each further one. And a turn
+    for each of so many clients."""
+    attempts = 3 + min(bad_views, f)
+    return times.attempt * attempts * (8 + min(max(0, bad_views - f), 32)) // 8 + times.turn * turns
 
 
 def is_too_long(waited, view_patience, views_ended):

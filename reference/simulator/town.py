@@ -17,7 +17,7 @@ from .world import Relay, Submit
 @dataclass(frozen=True)
 class Options:
     """Numbers of the doorkeeper, rules that are left out, to see what they are for, and how restless the world is."""
-    most_climb: object = policy.MOST_CLIMB
+    most_climb: object = None
     pace: int = policy.PACE
     without: frozenset = frozenset()
     restless: int = 0           # all views end each time so many ticks are over
