@@ -42,6 +42,17 @@ class Questions:
             if other != self.edge.me:
                 self.edge.do(Ask(self.edge.me, other, digest))
 
+    def need_below(self, frame, payer, whom):
+        """The parent of a block. Padding is known before it comes: where all between the block and what it justifies are
+        empty blocks, all that lack are asked for at once."""
+        core, tree = frame.core, self.edge.tree
+        base = tree.get(frame.cert.digest)
+        lacking = policy.padding(base.digest, base.height, core.height - 1) if base and self.edge.has("padding") else []
+        if not lacking or lacking[-1] != core.parent:
+            lacking = [core.parent]
+        for digest in lacking:
+            self.need(digest, payer, whom)
+
     def ask_again(self):
         """What wasn't answered is asked of all."""
         late = [digest for digest, question in self.open.items()
@@ -79,8 +90,8 @@ class Questions:
             core, question = self._core(digest), self.open[digest]
             parent = self.edge.tree.get(core.parent)
             if parent is None:
-                sender = next(iter(self.copies[digest]))
-                self.need(core.parent, question.payer, None if question.to_all else sender)
+                sender, (_, frame) = next(iter(self.copies[digest].items()))
+                self.need_below(frame, question.payer, None if question.to_all else sender)
             elif not self.edge.door.has_room(question.payer, core.height):
                 self.edge.town.count["blocks over an account"] += 1
                 self._close(digest)

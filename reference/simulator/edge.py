@@ -28,6 +28,7 @@ class Edge:
         self.vote = None                                        # to be sent at the end of this tick, to all
         self.announcement = None
         self.answered = {}                                      # replica -> when it was told our view
+        self.taken = collections.deque()                        # blocks for which others may wait, the first in hand
         self.early = []                                         # proposals of later views
         self.bad_views = 0
         self.length = 0                                         # of the history
@@ -136,7 +137,7 @@ class Edge:
                 self.door.took(leader, frame.core.height)
                 self.after_take(digest)
         elif refused == Fault.UNKNOWN_PARENT and leader != self.me:
-            self.questions.need(frame.core.parent, leader, leader)
+            self.questions.need_below(frame, leader, leader)
             self._park(item, frame)
         elif refused == Fault.BAD_TAG and self._is_its_own(item):
             self.meet_trouble()
@@ -155,7 +156,15 @@ class Edge:
                 self._try_proposal(item, frame)
 
     def after_take(self, digest):
-        """A block stands: what waited for it comes."""
+        """A block stands: what waited for it comes, and then what waits for that."""
+        self.taken.append(digest)
+        if len(self.taken) > 1:
+            return
+        while self.taken:
+            self._settle(self.taken[0])
+            self.taken.popleft()
+
+    def _settle(self, digest):
         if not self.tree.get(digest).clear:
             self.meet_spoilt()
         for votes in self.votes_kept.values():

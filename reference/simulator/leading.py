@@ -19,7 +19,6 @@ class Leading:
     def enter(self):
         """Another view: nothing was done in it yet."""
         self.started = self.chosen = self.succeeded = self.tried_lock = False
-        self.sent = set()           # digests of this view's proposals
         self._forget_blocks()
 
     def _forget_blocks(self):
@@ -74,7 +73,7 @@ class Leading:
             self.target = max(top, replica.leaf_height) + 1
         elif self.edge.now - self.sent_at >= self.edge.times.again and replica.leaf_height >= self.target:
             self.target = replica.leaf_height + self.step
-            self.step = min(2 * self.step, policy.PACE * self.edge.times.again) if self.chosen else 1
+            self.step = min(2 * self.step, policy.first_step(16, self.edge.times)) if self.chosen else 1
         self._climb()
 
     def _climb(self):
@@ -85,16 +84,15 @@ class Leading:
             self.tops[replica.leaf] = set()
 
     def _make_block(self):
-        """Whether the block is sent. One that was sent in this view isn't sent again."""
+        """Whether the block is sent. Padding that stands isn't sent, but for the last: who lacks it asks for it."""
         edge, replica = self.edge, self.edge.replica
         core = Core(replica.leaf, replica.leaf_height + 1, replica.highest_block.height)
-        was_sent = not replica.pending and core.digest() in self.sent
-        edge.do(Beat(edge.me), not was_sent)
+        stands = not replica.pending and core.height < self.target and edge.tree.get(core.digest()) is not None
+        edge.do(Beat(edge.me), not stands)
         edge.town.come_to_itself()
         self.clients |= {command.client for command in replica.own_proposal[0].commands}
-        self.sent.add(replica.own_proposal[0].digest())
         self.sent_at = edge.now
-        return not was_sent
+        return not stands
 
     # ---- requests
 
@@ -134,6 +132,7 @@ class Leading:
         self.chosen = self.edge.do(Lead(self.edge.me, base)) is None
         self.succeeded, self.high = False, replica.highest_block
         self._forget_blocks()
+        self.step = policy.first_step(self.tried[base], self.edge.times)
         self.edge.town.count["attempts"] += 1
 
     def _base(self):

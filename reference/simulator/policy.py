@@ -5,7 +5,10 @@ when a replica goes on, and for whom. While nobody lies none of them sends a fra
 
 A frame's way is how long frames take between replicas at most, mostly; all times are multiples of it.
 """
+import functools
 from dataclasses import dataclass
+
+from .frames import Core
 
 MOST_OF_SENDER = 4              # blocks of a height that one sender brings
 MOST_OF_HEIGHT = 64             # blocks of a height that a tree takes
@@ -113,6 +116,21 @@ def is_over(votes_at, certified_at, voters, f, now, limit):
 def next_base(candidates, tried):
     """The block that was tried least, of several the first; None where there is none."""
     return min(candidates, key=lambda digest: tried.get(digest, 0), default=None)
+
+
+@functools.lru_cache(maxsize=4096)
+def padding(base, base_height, height):
+    """The digests of the empty blocks over a base that justify it, up to a height."""
+    digests, parent = [], base
+    for at in range(base_height + 1, height + 1):
+        parent = Core(parent, at, base_height).digest()
+        digests.append(parent)
+    return tuple(digests)
+
+
+def first_step(tried, times):
+    """By so many heights a leader climbs on at first, in an attempt from what was tried so often: faster each time."""
+    return min(2 ** min(tried, 16), PACE * times.again)
 
 
 def in_turns(senders, last):
