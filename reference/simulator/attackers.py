@@ -86,19 +86,19 @@ class Attacker:
         cert, leader = self.liars.certificate(justified, receivers), view % self.config.n
         self.show(leader, proposal_of(self.config, view, self.liars.cores[digest], cert), receivers)
 
-    def lead(self, is_spoilt, period=3, receivers=None):
-        """A liar that leads has a block on the highest certified one, with padding: right and to all, or, at these heights,
-        to f + 1 with certificates that are right for these alone."""
+    def lead(self, is_spoilt, few=None, period=3):
+        """A liar that leads has a block on the highest certified one, with padding: right and to all; or, at these heights,
+        to f + 1 (to these few, if any are named) with certificates that are right for these alone."""
         view = self.leads()
         if view is None or self.town.now < self.led + period * self.town.times.way:
             return
         self.led, top = self.town.now, self.certified()
         voted = max(replica.voted_height for replica in self.world.replicas.values())
         half = is_spoilt(self.liars.height(top) + 1)
-        receivers = self.rng.sample(self.good, self.config.f + 1) if half else receivers or self.good
+        receivers = few or self.rng.sample(self.good, self.config.f + 1) if half else self.good
         parent = top
         for _ in range(max(1, voted + 1 - self.liars.height(top))):
-            parent = self.extend(parent, top, () if half else self.requests())
+            parent = self.extend(parent, top, () if half and not few else self.requests())
             self.propose(view, parent, top, receivers, half)
         for liar in self.bad:
             rightly = receivers if half else range(self.config.n)
@@ -169,19 +169,22 @@ class FalseClaims(HalfVotes):
 
 
 class HalfClaims(Attacker):
-    """Padding of a lying view is shown to f + 1. Later each leader is shown blocks that justify it, other ones each, with
-    certificates that are right for this leader alone."""
+    """Padding of a lying view is shown to f + 1. Then each replica is shown a block that justifies some of it, with a
+    certificate that is right for this one alone, and later, when it leads, some more."""
     claims, length = 3, 40
 
     def __init__(self, town, quiet=FAR):
         super().__init__(town, quiet)
-        self.padded, self.chain, self.shown = set(), [], {}
+        self.padded, self.trapped, self.chain, self.shown = set(), set(), [], {}
 
     def attack(self):
         view = self.leads()
         if view is not None and view not in self.padded:
             self.padded.add(view)
             self._pad(view)
+        if view is not None and self.chain and view not in self.trapped and self.liars.can_certify(self.chain[0]):
+            self.trapped.add(view)
+            self._trap(view)
         leader = self.view() % self.config.n
         if leader in self.good and self.chain and (self.view(), leader) not in self.shown:
             self.shown[self.view(), leader] = [self._claim(leader) for _ in range(self.claims * len(self.bad))]
@@ -190,11 +193,17 @@ class HalfClaims(Attacker):
 
     def _pad(self, view):
         base = self.certified()
-        few, parent, self.chain = self.good[:self.config.f + 1], base, []
+        few, parent, self.chain = self.good[-self.config.f - 1:], base, []
         for _ in range(self.length):
             parent = self.extend(parent, base)
             self.propose(view, parent, base, few, True)
             self.chain.append(parent)
+
+    def _trap(self, view):
+        for replica in self.good:
+            certified = [digest for digest in self.chain if self.liars.can_certify(digest)]
+            justified = self.rng.choice(certified)
+            self.propose(view, self.extend(self.chain[-1], justified), justified, [replica], True)
 
     def _claim(self, leader):
         certified = [digest for digest in self.chain if self.liars.can_certify(digest)] or self.chain[:1]
@@ -207,11 +216,11 @@ class HalfClaims(Attacker):
                 self.show(liar, new_view_of(self.config, liar, self.view(), Certificate(digest)), [leader])
 
 
-class ToFew(HalfVotes):
-    """A liar that leads is right, but to f + 1 alone: others are left behind."""
+class ToFew(Attacker):
+    """A liar that leads is right to f + 1 alone, always the same: others are left behind, and can't read certificates."""
 
     def attack(self):
-        self.lead(lambda _height: False, receivers=self.good[:self.config.f + 1])
+        self.lead(lambda _height: True, self.good[-self.config.f - 1:])
 
 
 class Race(Attacker):

@@ -28,6 +28,7 @@ class Edge:
         self.vote = None                                        # to be sent at the end of this tick, to all
         self.announcement = None
         self.answered = {}                                      # replica -> when it was told our view
+        self.taken_at = 0
         self.taken = collections.deque()                        # blocks for which others may wait, the first in hand
         self.early = []                                         # proposals of later views
         self.bad_views = 0
@@ -157,6 +158,7 @@ class Edge:
 
     def after_take(self, digest):
         """A block stands: what waited for it comes, and then what waits for that."""
+        self.taken_at = self.now
         self.taken.append(digest)
         if len(self.taken) > 1:
             return

@@ -18,7 +18,8 @@ class Leading:
 
     def enter(self):
         """Another view: nothing was done in it yet."""
-        self.started = self.chosen = self.succeeded = self.tried_lock = False
+        self.started = self.chosen = self.succeeded = self.tried_lock = self.gathered = False
+        self.gathers_since = None   # when it began to take what it asked for, while it does
         self._forget_blocks()
 
     def _forget_blocks(self):
@@ -45,19 +46,25 @@ class Leading:
 
     def clock(self, waiting):
         """Once a tick while the replica leads, and somebody waits."""
-        if not waiting:
-            return
-        edge, replica = self.edge, self.edge.replica
-        if not self.started:
+        replica = self.edge.replica
+        if self.gathers_since is not None:
+            if self._gathers():
+                return
+            self._attempt()
+        elif not self.started:
             self.started, self.high = True, replica.highest_block
             self._forget_blocks()
         elif replica.highest_block is not self.high:
             self.succeeded, self.high = True, replica.highest_block
             self._forget_blocks()
-        limit = edge.times.again if len(self.clients) == 1 and edge.is_careful() else edge.times.attempt
-        if policy.is_over(self.votes_at, self.certified_at, self._voters(), edge.f, edge.now, limit):
-            self._next_attempt()
+        elif self._is_over() and not self._next_attempt():
+            return
         self._propose(waiting)
+
+    def _is_over(self):
+        times, is_trial = self.edge.times, len(self.clients) == 1 and self.edge.is_careful()
+        return policy.is_over(self.votes_at, self.certified_at, self._voters(), self.edge.f, self.edge.now,
+                              times.again if is_trial else times.attempt)
 
     # ---- blocks
 
@@ -124,13 +131,27 @@ class Leading:
     # ---- attempts
 
     def _next_attempt(self):
+        """Whether it begins at once. Behind that from the own lock the replica first takes what it asked for."""
         self.edge.meet_trouble()
         self._note_failure()
-        replica = self.edge.replica
+        if self.tried_lock and not self.succeeded and not self.gathered:
+            self.gathered, self.chosen, self.gathers_since = True, False, self.edge.now
+            self.edge.questions.try_all()
+            return False
+        self._attempt()
+        return True
+
+    def _gathers(self):
+        """Blocks that were asked for still come in."""
+        edge = self.edge
+        return edge.questions.open and edge.now - max(edge.taken_at, self.gathers_since) <= 2 * edge.times.again
+
+    def _attempt(self):
+        self.gathers_since = None
         base = self._base()
         self.tried[base] = self.tried.get(base, 0) + 1
         self.chosen = self.edge.do(Lead(self.edge.me, base)) is None
-        self.succeeded, self.high = False, replica.highest_block
+        self.succeeded, self.high = False, self.edge.replica.highest_block
         self._forget_blocks()
         self.step = policy.first_step(self.tried[base], self.edge.times)
         self.edge.town.count["attempts"] += 1
@@ -143,7 +164,6 @@ class Leading:
         if not self.tried_lock and self.edge.has("lock first"):
             self.tried_lock = True
             return replica.lock.digest
-        self.edge.questions.try_all()
         claims = self._claims()
         base = policy.next_base([replica.lock.digest] + list(claims), self.tried)
         self.last_sender = claims.get(base, self.last_sender)
