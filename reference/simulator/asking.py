@@ -24,6 +24,7 @@ class Questions:
         self.edge = edge
         self.open = {}          # digest -> Question
         self.copies = {}        # digest -> {sender: (item, frame)}
+        self.news_at = 0        # when a block last came that had not come before
 
     def need(self, digest, payer, whom=None):
         """Asks this replica, or all where none is named, unless that was done a short while ago."""
@@ -76,6 +77,7 @@ class Questions:
         digest = frame.core.digest()
         if digest not in self.open or not has_own_tag(self.edge.replica.keyring, frame):
             return
+        self.news_at = self.edge.now if digest not in self.copies else self.news_at
         self.copies.setdefault(digest, {})[frame.sender] = item, frame
         self.try_take(digest)
 

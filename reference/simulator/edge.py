@@ -28,7 +28,6 @@ class Edge:
         self.vote = None                                        # to be sent at the end of this tick, to all
         self.announcement = None
         self.answered = {}                                      # replica -> when it was told our view
-        self.taken_at = 0
         self.taken = collections.deque()                        # blocks for which others may wait, the first in hand
         self.early = []                                         # proposals of later views
         self.bad_views = 0
@@ -158,7 +157,6 @@ class Edge:
 
     def after_take(self, digest):
         """A block stands: what waited for it comes, and then what waits for that."""
-        self.taken_at = self.now
         self.taken.append(digest)
         if len(self.taken) > 1:
             return
@@ -282,10 +280,13 @@ class Edge:
         elif self.view % self.n == self.me:
             self.leading.clock(waiting)
 
+    def patience(self):
+        turns = len(self.waiting()) if self.is_careful() else 0
+        return policy.patience(self.times, self.f, self.bad_views, turns)
+
     def _is_over(self, waiting):
         """Nothing was executed for too long, or nothing of one client."""
-        turns = len(waiting) if self.is_careful() else 0
-        patience = policy.patience(self.times, self.f, self.bad_views, turns)
+        patience = self.patience()
         if self.now - max(self.begun, self.progress) > patience:
             return True
         late = [client for client in waiting if self.has("fairness") and policy.is_too_long(

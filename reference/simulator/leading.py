@@ -1,7 +1,8 @@
 """How a replica leads its view when others may lie.
 
 The first attempt is as ever: from the highest certificate. If no certificate comes, and no votes of more than f
-replicas, it leads from its own lock, then from what others claim, one block of each sender in turns. Each attempt
+others, it leads from its own lock, then from what others claim, one block of each sender in turns; before that, or
+before all if more than f others claim what it lacks, it takes what it asked for, as long as that comes in. Each attempt
 begins with empty blocks up to above all heights in its tree, of which only the last needs votes; then it climbs on.
 """
 from . import policy
@@ -46,14 +47,18 @@ class Leading:
 
     def clock(self, waiting):
         """Once a tick while the replica leads, and somebody waits."""
-        replica = self.edge.replica
-        if self.gathers_since is not None:
-            if self._gathers():
+        replica, gathered = self.edge.replica, self.gathers_since is not None
+        if gathered and self._gathers():
+            return
+        self.gathers_since = None
+        if not self.started:
+            if not self.gathered and self._lacks_claims():
+                self._gather()
                 return
-            self._attempt()
-        elif not self.started:
             self.started, self.high = True, replica.highest_block
             self._forget_blocks()
+        elif gathered:
+            self._attempt()
         elif replica.highest_block is not self.high:
             self.succeeded, self.high = True, replica.highest_block
             self._forget_blocks()
@@ -131,23 +136,31 @@ class Leading:
     # ---- attempts
 
     def _next_attempt(self):
-        """Whether it begins at once. Behind that from the own lock the replica first takes what it asked for."""
+        """Whether it begins at once. Behind that from the own lock the replica takes what it asked for first."""
         self.edge.meet_trouble()
         self._note_failure()
         if self.tried_lock and not self.succeeded and not self.gathered:
-            self.gathered, self.chosen, self.gathers_since = True, False, self.edge.now
-            self.edge.questions.try_all()
+            self._gather()
             return False
         self._attempt()
         return True
 
+    def _lacks_claims(self):
+        """More than f others announced what doesn't stand here, so a correct one did."""
+        return sum(self.edge.tree.get(digest) is None for digest in self.edge.claims.values()) > self.edge.f
+
+    def _gather(self):
+        self.gathered, self.chosen, self.gathers_since = True, False, self.edge.now
+        self.edge.questions.try_all()
+
     def _gathers(self):
-        """Blocks that were asked for still come in."""
+        """Blocks that were asked for still come in; but no longer than half a view, since liars may have endless ones."""
         edge = self.edge
-        return edge.questions.open and edge.now - max(edge.taken_at, self.gathers_since) <= 2 * edge.times.again
+        news = max(edge.questions.news_at, self.gathers_since)
+        has_time = edge.now - self.gathers_since <= edge.patience() // 2
+        return edge.questions.open and has_time and edge.now - news <= 2 * edge.times.again
 
     def _attempt(self):
-        self.gathers_since = None
         base = self._base()
         self.tried[base] = self.tried.get(base, 0) + 1
         self.chosen = self.edge.do(Lead(self.edge.me, base)) is None
@@ -165,7 +178,7 @@ class Leading:
             self.tried_lock = True
             return replica.lock.digest
         claims = self._claims()
-        base = policy.next_base([replica.lock.digest] + list(claims), self.tried)
+        base = policy.next_base(list(claims) + [replica.lock.digest], self.tried)
         self.last_sender = claims.get(base, self.last_sender)
         return base
 
