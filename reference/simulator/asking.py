@@ -7,7 +7,6 @@ from dataclasses import dataclass
 
 from . import policy
 from .checks import has_own_tag
-from .sizes import Fault
 from .world import Ask, Gather
 
 
@@ -44,8 +43,8 @@ class Questions:
                 self.edge.do(Ask(self.edge.me, other, digest))
 
     def need_below(self, frame, payer, whom):
-        """The parent of a block. Padding is known before it comes: where all between the block and what it justifies are
-        empty blocks, all that lack are asked for at once."""
+        """The parent of a block. Padding is known before it comes: where all between the block and what it justifies
+        are empty blocks, all that lack are asked for at once."""
         core, tree = frame.core, self.edge.tree
         base = tree.get(frame.cert.digest)
         lacking = policy.padding(base.digest, base.height, core.height - 1) if base and self.edge.has("padding") else []

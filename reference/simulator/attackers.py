@@ -3,8 +3,9 @@ import itertools
 
 from .frames import GENESIS, Certificate, Core, Kind, RequestFrame, VoteFrame, write
 from .liars import Liars
-from .signing import block_of, half_command, half_vote, new_view_of, proposal_of, vote_of
+from .signing import block_of, command_of, half_command, half_vote, new_view_of, proposal_of
 from .sizes import FIRST_CLIENT
+from .stated_runs import SET_A
 
 FAR = 10 ** 9
 
@@ -87,8 +88,8 @@ class Attacker:
         self.show(leader, proposal_of(self.config, view, self.liars.cores[digest], cert), receivers)
 
     def lead(self, is_spoilt, few=None, period=3):
-        """A liar that leads has a block on the highest certified one, with padding: right and to all; or, at these heights,
-        to f + 1 (to these few, if any are named) with certificates that are right for these alone."""
+        """A liar that leads has a block on the highest certified one, with padding: right and to all; or, at these
+        heights, to f + 1 (to these few, if any are named) with certificates that are right for these alone."""
         view = self.leads()
         if view is None or self.town.now < self.led + period * self.town.times.way:
             return
@@ -217,7 +218,7 @@ class HalfClaims(Attacker):
 
 
 class ToFew(Attacker):
-    """A liar that leads is right to f + 1 alone, always the same: others are left behind, and can't read certificates."""
+    """A liar that leads is right to f + 1 alone, always the same. With others certificates aren't good."""
 
     def attack(self):
         self.lead(lambda _height: True, self.good[-self.config.f - 1:])
@@ -246,7 +247,8 @@ class Race(Attacker):
             self.propose(view, self.top, self.base, [replica.me], True)
 
     def _base(self, replica):
-        known = [digest for digest in replica.tree.blocks if digest in self.liars.cores and self.liars.can_certify(digest)]
+        known = [digest for digest in replica.tree.blocks.keys() & self.liars.cores.keys()
+                 if self.liars.can_certify(digest)]
         return max(known, key=lambda digest: (self.liars.height(digest), digest))
 
 
@@ -277,14 +279,9 @@ class FaultyClients(Attacker):
             if self.town.now % self.period != client % self.period:
                 continue
             self.liars.seqs[client] += 1
-            command = self._command(client)
+            command = command_of(self.config, client, self.liars.seqs[client], SET_A)
             for replica in self.good:
                 self.show(FIRST_CLIENT + client, write(RequestFrame(half_command(command, [replica]))), [replica])
-
-    def _command(self, client):
-        from .signing import command_of
-        from .stated_runs import SET_A
-        return command_of(self.config, client, self.liars.seqs[client], SET_A)
 
 
 class FromAMoment(HalfVotes):
@@ -304,7 +301,8 @@ class FromAMoment(HalfVotes):
 
 
 ATTACKS = {
-    "none": Attacker, "mute": Mute, "leave out": LeaveOut, "half votes": HalfVotes, "each third": EachThird, "in turns": InTurns,
-    "wrong digests": WrongDigests, "false claims": FalseClaims, "half claims": HalfClaims, "to few": ToFew, "race": Race,
-    "race twice": RaceTwice, "clients 1": FaultyClients, "clients 6": FaultyClients, "clients 20": FaultyClients, "a moment": FromAMoment,
+    "none": Attacker, "mute": Mute, "leave out": LeaveOut, "half votes": HalfVotes, "each third": EachThird,
+    "in turns": InTurns, "wrong digests": WrongDigests, "false claims": FalseClaims, "half claims": HalfClaims,
+    "to few": ToFew, "race": Race, "race twice": RaceTwice, "a moment": FromAMoment,
+    "clients 1": FaultyClients, "clients 6": FaultyClients, "clients 20": FaultyClients,
 }

@@ -1,12 +1,12 @@
-"""Which blocks come in to one replica: few of a height on one replica's account, and a leader's heights at no more than a
-pace. What is kept out is lost."""
+"""Which blocks come in to one replica: few of a height on one replica's account, and a leader's heights at no more than
+a pace. What is kept out is lost."""
 import collections
 
 from . import policy
 
 
 class Doorkeeper:
-    """Accounts of one replica. There is no ceiling where `most_climb` is None, and no bound of heights a tick where `pace` is 0."""
+    """Accounts of one replica. `most_climb` may be None, for no ceiling; `pace` may be 0, for no bound of a tick."""
 
     def __init__(self, n, most_climb=None, pace=policy.PACE):
         self.most = policy.allowance(n)

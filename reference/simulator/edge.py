@@ -253,8 +253,8 @@ class Edge:
             self.town.to_self(self.me, self.me, item)
 
     def _speak_for_lock(self):
-        """What is announced has to speak for the lock: if the highest block justifies a lower one, the highest becomes a
-        block over the lock."""
+        """What is announced has to speak for the lock: if the highest block justifies a lower one, the highest becomes
+        a block over the lock."""
         high, lock = self.replica.highest_block, self.replica.lock
         if high.justify_height >= lock.height:
             return

@@ -109,8 +109,8 @@ class Leading:
     # ---- requests
 
     def _give_requests(self, waiting):
-        """All that wait; or, behind a block with commands that found no certificate, one client's alone, and none before
-        all certified commands are executed."""
+        """All that wait; or, behind a block with commands that found no certificate, one client's alone, and none
+        before all certified commands are executed."""
         if not self.edge.is_careful():
             for client in waiting:
                 self.edge.hand_in(client)
@@ -154,7 +154,7 @@ class Leading:
         self.edge.questions.try_all()
 
     def _gathers(self):
-        """Blocks that were asked for still come in; but no longer than half a view, since liars may have endless ones."""
+        """Blocks that were asked for still come in; at most for half a view, since liars may have endless ones."""
         edge = self.edge
         news = max(edge.questions.news_at, self.gathers_since)
         has_time = edge.now - self.gathers_since <= edge.patience() // 2
@@ -170,7 +170,7 @@ class Leading:
         self.edge.town.count["attempts"] += 1
 
     def _base(self):
-        """The highest certificate's block where one came in this attempt; then the own lock; then what was tried least."""
+        """The highest certificate's block where one came in this attempt; the own lock; then what was tried least."""
         replica = self.edge.replica
         if self.succeeded:
             return replica.highest_block.digest

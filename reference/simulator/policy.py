@@ -51,8 +51,8 @@ class Times:
 
 
 # What can be left out of the policy, by its name.
-RULES = ("offers", "copies", "digests", "votes to all", "lasting trouble", "beginnings", "padding", "lock first", "claims",
-         "turns", "flush", "fairness")
+RULES = ("offers", "copies", "digests", "votes to all", "lasting trouble", "beginnings", "padding", "lock first",
+         "claims", "turns", "flush", "fairness")
 
 
 # ---- whom a block is charged to
@@ -63,9 +63,9 @@ def allowance(n):
     A block is charged to the replica whose frame made this one ask: the leader of the proposal that brought or needed
     it, or the sender of the announcement that named it. Its ancestors are charged as it is. Who answers a question pays
     nothing, so a correct replica's answers never use up its account; and nothing comes in on nobody's account. Hence n
-    accounts bound a height, whoever asks whom: n times this number, which is less than the 64 that a tree takes for each
-    f (16, 28, 40, 52, 48, 57, 44, 50, 56, 62 for f = 1 to 10). Liars together fill f of these accounts, and
-    no more, however many blocks each of them spread.
+    accounts bound a height, whoever asks whom: n times this number, which is less than the 64 that a tree takes for
+    each f (16, 28, 40, 52, 48, 57, 44, 50, 56, 62 for f = 1 to 10). Liars together fill f of these accounts, and no
+    more, however many blocks each of them spread.
     """
     return min(MOST_OF_SENDER, (MOST_OF_HEIGHT - 1) // n)
 
@@ -76,10 +76,10 @@ def most_of_a_height(n):
 
 
 def climbs_too_far(view, height, justified_height, most):
-    """Whether a proposal of a view stands more than most (view + 1) above the block that it justifies. No ceiling (None)
-    serves better: liars who lead view w get one replica to vote 2 most (w + 1) above the highest lock, by two such climbs,
-    and a leader that may climb but most (v + 1) from that lock has to wait for view 2 w + 1. A pace gives each leader in
-    its time what it gave to liars in theirs."""
+    """Whether a proposal of a view stands more than most (view + 1) above the block that it justifies. No ceiling
+    (None) serves better: liars who lead view w get one replica to vote 2 most (w + 1) above the highest lock, by two
+    such climbs, and a leader that may climb but most (v + 1) from that lock has to wait for view 2 w + 1. A pace gives
+    each leader in its time what it gave to liars in theirs."""
     return most is not None and height - justified_height > most * (view + 1)
 
 
@@ -94,8 +94,8 @@ def patience(times, f, bad_views, turns):
 
 
 def is_too_long(waited, view_patience, views_ended):
-    """A view ends for one client that waits while others are served: after two patiences at first, and after twice as long
-    for each view that ended for it, since a faulty client's request may wait for ever."""
+    """A view ends for one client that waits while others are served: after two patiences at first, and after twice as
+    long for each view that ended for it, since a faulty client's request may wait for ever."""
     return waited > view_patience * 2 ** (1 + views_ended)
 
 

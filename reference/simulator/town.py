@@ -131,8 +131,8 @@ class Town:
         return max(max(replica.tree.of_height.values(), default=0) for replica in self.world.replicas.values())
 
     def check(self):
-        """No two correct replicas decide differently, none stopped, and what has grounds could be certified. No height has
-        more blocks than its accounts allow."""
+        """No two correct replicas decide differently, none stopped, and what has grounds could be certified. No height
+        has more blocks than its accounts allow."""
         self.world.check()
         assert self.crowd() <= policy.most_of_a_height(self.config.n), "crowded"
         histories = sorted((replica.history for replica in self.world.replicas.values()), key=len)
