@@ -1,11 +1,11 @@
 """What liars do in a world with time. Each attack is a class; its name in the table is its key in `ATTACKS`."""
 import itertools
 
-from .frames import GENESIS, Certificate, Core, Kind, RequestFrame, VoteFrame, write
+from .frames import GENESIS, TAG, Certificate, Command, Core, Kind, RequestFrame, VoteFrame, write
 from .liars import Liars
 from .signing import block_of, command_of, half_command, half_vote, new_view_of, proposal_of
 from .sizes import FIRST_CLIENT
-from .stated_runs import SET_A
+from .stated_runs import GET_A, SET_A
 
 FAR = 10 ** 9
 
@@ -224,6 +224,33 @@ class ToFew(Attacker):
         self.lead(lambda _height: True, self.good[-self.config.f - 1:])
 
 
+class Crowd(HalfVotes):
+    """A liar that leads shows each replica other blocks of one height, as many as it lets in, and announces all of them, so
+    that each is asked for. Votes are half."""
+
+    def __init__(self, town, quiet=FAR):
+        super().__init__(town, quiet)
+        self.made = []
+
+    def attack(self):
+        view = self.leads()
+        if view is not None and self.town.now >= self.led + 6 * self.town.times.way:
+            self.led = self.town.now
+            self._crowd(view)
+        self.vote(self.receivers)
+        self.answer()
+        for liar in self.bad if self.made else ():
+            digest = self.rng.choice(self.made[-8 * len(self.good):])
+            self.show(liar, new_view_of(self.config, liar, self.view(), Certificate(digest)), self.good)
+
+    def _crowd(self, view):
+        top = self.certified()
+        for replica in self.good * 4:
+            command = Command(0, len(self.made) + 1, GET_A, bytes(TAG * self.config.n))
+            self.made.append(self.extend(top, top, (command,)))
+            self.propose(view, self.made[-1], top, [replica], True)
+
+
 class Race(Attacker):
     """A liar that leads sends as many heights as fit through one link, to one replica alone."""
     speed = 10
@@ -303,6 +330,6 @@ class FromAMoment(HalfVotes):
 ATTACKS = {
     "none": Attacker, "mute": Mute, "leave out": LeaveOut, "half votes": HalfVotes, "each third": EachThird,
     "in turns": InTurns, "wrong digests": WrongDigests, "false claims": FalseClaims, "half claims": HalfClaims,
-    "to few": ToFew, "race": Race, "race twice": RaceTwice, "a moment": FromAMoment,
+    "to few": ToFew, "crowd": Crowd, "race": Race, "race twice": RaceTwice, "a moment": FromAMoment,
     "clients 1": FaultyClients, "clients 6": FaultyClients, "clients 20": FaultyClients,
 }

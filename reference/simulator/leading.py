@@ -91,20 +91,29 @@ class Leading:
     def _climb(self):
         """So many new blocks as a tick has room for. Votes count for the last of each tick."""
         replica, made = self.edge.replica, 0
-        while made < policy.PACE and replica.leaf_height < self.target:
+        while made < policy.PACE and replica.leaf_height < self.target and self._may_make_block():
             made += self._make_block()
             self.tops[replica.leaf] = set()
+
+    def _next_stands(self):
+        """The next block is padding that stands here."""
+        replica = self.edge.replica
+        core = Core(replica.leaf, replica.leaf_height + 1, replica.highest_block.height)
+        return not replica.pending and self.edge.tree.get(core.digest()) is not None
+
+    def _may_make_block(self):
+        """The own account bounds a height, too."""
+        return self._next_stands() or self.edge.door.has_room(self.edge.me, self.edge.replica.leaf_height + 1)
 
     def _make_block(self):
         """Whether the block is sent. Padding that stands isn't sent, but for the last: who lacks it asks for it."""
         edge, replica = self.edge, self.edge.replica
-        core = Core(replica.leaf, replica.leaf_height + 1, replica.highest_block.height)
-        stands = not replica.pending and core.height < self.target and edge.tree.get(core.digest()) is not None
-        edge.do(Beat(edge.me), not stands)
+        is_known = self._next_stands() and replica.leaf_height + 1 < self.target
+        edge.do(Beat(edge.me), not is_known)
         edge.town.come_to_itself()
         self.clients |= {command.client for command in replica.own_proposal[0].commands}
         self.sent_at = edge.now
-        return not stands
+        return not is_known
 
     # ---- requests
 
