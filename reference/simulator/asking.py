@@ -3,6 +3,7 @@
 A copy is kept only where its own tag is right, and counts only where its certificate's digest is that of the block that
 it justifies. Each copy is tried alone, then copies of more than f senders together.
 """
+import collections
 from dataclasses import dataclass
 
 from . import policy
@@ -14,6 +15,7 @@ from .world import Ask, Gather
 class Question:
     payer: int          # whose frame made the replica ask
     at: int             # the tick of the last time
+    first: object       # whom it's asked at first; None for all
     times: int = 0
     to_all: bool = False
 
@@ -23,17 +25,22 @@ class Questions:
         self.edge = edge
         self.open = {}          # digest -> Question
         self.copies = {}        # digest -> {sender: (item, frame)}
+        self.asked_now = collections.Counter()      # tick -> questions, of the last tick that had some
         self.news_at = 0        # when a block last came that had not come before
 
     def need(self, digest, payer, whom=None):
-        """Asks this replica, or all where none is named, unless that was done a short while ago."""
+        """Asks this replica, or all where none is named, unless that was done a short while ago. So many questions go out
+        in a tick as there may be heights; others wait."""
         if self.edge.tree.get(digest) is not None:
             return
         now, question = self.edge.now, self.open.get(digest)
         if question is None:
-            question = self.open[digest] = Question(payer, now - self.edge.times.again)
-        elif now - question.at < self.edge.times.again and (question.to_all or whom is not None):
+            question = self.open[digest] = Question(payer, now, whom)
+        elif not self._is_due(question) and (question.to_all or whom is not None):
             return
+        if self.asked_now[now] >= policy.PACE:
+            return
+        self.asked_now = collections.Counter({now: self.asked_now[now] + 1})
         question.at, question.times, question.to_all = now, question.times + 1, whom is None
         if question.times > policy.MOST_QUESTIONS:
             self._close(digest)
@@ -53,12 +60,16 @@ class Questions:
         for digest in lacking:
             self.need(digest, payer, whom)
 
+    def _is_due(self, question):
+        """Each time it takes longer."""
+        return self.edge.now - question.at >= self.edge.times.again * question.times
+
     def ask_again(self):
-        """What wasn't answered is asked of all."""
-        late = [digest for digest, question in self.open.items()
-                if self.edge.now - question.at >= self.edge.times.again and not self._waits_for_parent(digest)]
-        for digest in late:
-            self.need(digest, self.open[digest].payer)
+        """What wasn't asked yet is asked, and what wasn't answered is asked of all."""
+        late = [(digest, question) for digest, question in self.open.items()
+                if self._is_due(question) and not self._waits_for_parent(digest)]
+        for digest, question in late[:policy.PACE]:
+            self.need(digest, question.payer, None if question.times else question.first)
 
     def _waits_for_parent(self, digest):
         copies = self.copies.get(digest)
