@@ -16,6 +16,7 @@ PACE = 8                        # heights a tick that a leader climbs, and that 
 SPARE = 64                      # heights that may come in from a sender at once
 MOST_PARKED = 256               # proposals of a view that wait for grounds or a parent
 MOST_VOTES_KEPT = 64            # votes of a voter for blocks that aren't there
+MOST_PADDING = 4096             # blocks whose digests are computed before they come
 MOST_QUESTIONS = 12             # times that a block is asked for on one frame's account
 
 
@@ -120,9 +121,10 @@ def next_base(candidates, tried):
 
 @functools.lru_cache(maxsize=4096)
 def padding(base, base_height, height):
-    """The digests of the empty blocks over a base that justify it, up to a height."""
+    """The digests of the empty blocks over a base that justify it, up to a height; none where there are too many."""
     digests, parent = [], base
-    for at in range(base_height + 1, height + 1):
+    last = height if height - base_height <= MOST_PADDING else base_height
+    for at in range(base_height + 1, last + 1):
         parent = Core(parent, at, base_height).digest()
         digests.append(parent)
     return tuple(digests)
