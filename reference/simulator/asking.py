@@ -61,8 +61,8 @@ class Questions:
             self.need(digest, payer, whom)
 
     def _is_due(self, question):
-        """Each time it takes longer."""
-        return self.edge.now - question.at >= self.edge.times.again * question.times
+        """From time to time, later where it was often asked."""
+        return self.edge.now - question.at >= self.edge.times.again * min(question.times, 2)
 
     def ask_again(self):
         """What wasn't asked yet is asked, and what wasn't answered is asked of all."""
@@ -112,8 +112,6 @@ class Questions:
 
     def _take(self, digest, core, parent, payer):
         right = self._right_copies(digest, core, parent)
-        if not right:
-            return
         if self._one_is_enough(right) or self._several_are(right):
             self._close(digest)
             self.edge.door.took(payer, core.height)
