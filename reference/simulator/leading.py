@@ -16,6 +16,7 @@ class Leading:
         self.tried = {}             # digest -> attempts from it, in all views
         self.last_sender = -1       # whose claim had the last turn
         self.failures, self.turns = {}, {}
+        self.failed = 0             # blocks with commands in a row that found no certificate
 
     def enter(self):
         """Another view: nothing was done in it yet."""
@@ -61,6 +62,7 @@ class Leading:
             self._attempt()
         elif replica.highest_block is not self.high:
             self.succeeded, self.high = True, replica.highest_block
+            self.failed = 0 if self.clients else self.failed
             self._forget_blocks()
         elif self._is_over() and not self._next_attempt():
             return
@@ -69,7 +71,7 @@ class Leading:
     def _is_over(self):
         times, is_trial = self.edge.times, len(self.clients) == 1 and self.edge.is_careful()
         return policy.is_over(self.votes_at, self.certified_at, self._voters(), self.edge.f, self.edge.now,
-                              times.again if is_trial else times.attempt)
+                              times.trial if is_trial else times.attempt)
 
     # ---- blocks
 
@@ -135,11 +137,12 @@ class Leading:
         return any(block.core.commands for block in replica.highest_block.above(replica.executed.height))
 
     def _note_failure(self):
-        """A block with commands found no certificate."""
+        """A block with commands found no certificate. Once that may be for want of grounds."""
+        self.failed += bool(self.clients)
         if len(self.clients) == 1:
             [client] = self.clients
             self.failures[client] = self.failures.get(client, 0) + 1
-        if self.clients:
+        if self.clients and self.failed > 1:
             self.edge.meet_spoilt()
 
     # ---- attempts

@@ -41,6 +41,11 @@ class Times:
         return 8 * self.way
 
     @property
+    def trial(self):
+        """A leader waits so long for a block of one client."""
+        return 5 * self.way
+
+    @property
     def again(self):
         """A question, an announcement or a higher block follows after so long, where nothing came."""
         return 3 * self.way + 1
