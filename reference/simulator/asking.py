@@ -56,7 +56,7 @@ class Questions:
         base = tree.get(frame.cert.digest)
         lacking = policy.padding(base.digest, base.height, core.height - 1) if base and self.edge.has("padding") else []
         if not lacking or lacking[-1] != core.parent:
-            lacking = [core.parent]
+            lacking = [core.parent] if base or core.justify == core.height - 1 else [frame.cert.digest, core.parent]
         for digest in lacking:
             self.need(digest, payer, whom)
 
