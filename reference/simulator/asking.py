@@ -29,8 +29,8 @@ class Questions:
         self.news_at = 0        # when a block last came that had not come before
 
     def need(self, digest, payer, whom=None):
-        """Asks this replica, or all where none is named, unless that was done a short while ago. So many questions go out
-        in a tick as there may be heights; others wait."""
+        """Asks this replica, or all where none is named, unless that was done a short while ago. No more questions go
+        out in a tick than heights; others wait."""
         if self.edge.tree.get(digest) is not None:
             return
         now, question = self.edge.now, self.open.get(digest)
