@@ -1,3 +1,4 @@
 pub mod Watching
 pub mod Laws
 pub mod Pruning
+pub mod Troubled

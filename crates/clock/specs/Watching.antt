@@ -1,8 +1,8 @@
 -- What is due to a replica, by what was seen of it.
 use Rattle.std.specs.Prelude.{ℕ, ◌+◌, ◌*◌, ◌/◌, ◌-◌, ◌^◌, ◌==◌, ◌&&◌, ◌||◌, not, min, max, nat_le, Bool}
-use Rattle.std.specs.Prelude.{if◌then◌else◌, nat_lt, Some, None}
-use Rattle.tuning.specs.declared.clocks.TheConstants.{COMMAND_SHARE, LAG_WEIGHT, LEAST_BEAT_MILLIS, LEAST_COMMAND_MILLIS}
-use Rattle.tuning.specs.declared.clocks.TheConstants.{MOST_COUNTED, MOST_UNDECIDED, VIEW_LIMIT}
+use Rattle.std.specs.Prelude.{if◌then◌else◌, nat_lt, false, Some, None}
+use Rattle.tuning.specs.declared.clocks.TheConstants.{COMMAND_SHARE, LAG_WEIGHT, LEAD_PART, LEAST_BEAT_MILLIS}
+use Rattle.tuning.specs.declared.clocks.TheConstants.{LEAST_COMMAND_MILLIS, MOST_COUNTED, MOST_UNDECIDED, VIEW_LIMIT}
 use Rattle.clock.specs.declared.watch.Pulse.{Pulse}
 use Rattle.clock.specs.declared.watch.Due.{Due}
 use Rattle.clock.specs.declared.watch.Watch.{Watch}
@@ -23,6 +23,7 @@ unseen replicas = record {
   pause = LEAST_BEAT_MILLIS;
   height = 0;
   from = 0;
+  led = false;
 }
 
 -- its view or its history changed since it was looked at last
@@ -75,11 +76,18 @@ rests w p = moved w p || p.wants_beat_now || not p.wants_beat
 abbrev pub is_overdue : Watch → ℕ → Pulse → Bool
 is_overdue w now p = not (rests w p) && nat_le w.pause (now - w.asked)
 
+-- It leads, what it proposed waits for votes, and its view lags and was slow for a part of what it may be. Once in a view.
+abbrev pub leads_anew : Watch → ℕ → (slow : ℕ) → Pulse → Bool
+leads_anew w now slow p =
+    (p.wants_beat && not p.wants_beat_now) && (not (w.led && (p.view == w.view))
+    && (lags w now p && nat_le (limit_of p.view / LEAD_PART) slow))
+
 -- what is due
 abbrev pub due_of : Watch → ℕ → Pulse → Due
 due_of w now p = record {
   beat = p.wants_beat_now || is_overdue w now p;
   timeout = if is_due w now p then Some p.view else None;
+  lead = leads_anew w now (slow_after w now p) p;
 }
 
 -- the next pause, in milliseconds: half of the last, and no less than the least, where the replica has got on, and
@@ -100,4 +108,5 @@ looked w now p = record {
   pause = pause_after w.pause (moved w p) (is_overdue w now p);
   height = p.height;
   from = if settled w p || is_due w now p then p.voted else w.from;
+  led = leads_anew w now (slow_after w now p) p || (w.led && (p.view == w.view));
 }

@@ -1,6 +1,7 @@
 //! The thread that looks at a replica.
 
 use crate::forgetting::{Keep, prune_at, shown_by};
+use crate::trouble::Trouble;
 use crate::watch::{Due, Pulse, Watch};
 use ids::{Fault, Height, MOST_REPLICAS};
 use std::sync::Wait;
@@ -15,7 +16,13 @@ pub trait Watched {
     /// What is seen of it now.
     fn pulse<R: Wait>(&self, rt: &R) -> Pulse;
 
-    /// Hands in a beat or a timeout, or both.
+    /// How many certificates came so far that weren't good for it.
+    fn doubted(&self) -> u64;
+
+    /// Is told whether there is trouble around it.
+    fn tell_trouble(&self, is_on: bool);
+
+    /// Hands in a beat, a timeout or a lead, or several of them.
     fn hand_in<R: Wait>(&self, rt: &R, due: Due);
 
     /// Shows all replicas the height up to which it has executed, or that it goes on no more.
@@ -37,8 +44,8 @@ fn millis_since<R: Clock>(rt: &R, start: Option<Instant>) -> u64 {
     }
 }
 
-/// Looks at a replica, one of so many, each `LOOK_MILLIS` until it is told to stop, and hands in beats,
-/// timeouts, and prunings that leave it so much, if it is to prune.
+/// Looks at a replica, one of so many, each `LOOK_MILLIS` until it is told to stop, and hands in beats, timeouts,
+/// leads, and prunings that leave it so much, if it is to prune. It tells whether there is trouble.
 ///
 /// It ends where the replica has stopped, too, and tells why; where it was told to stop, it tells nothing.
 pub fn keep_time<R: Wait + Clock, W: Watched>(
@@ -49,7 +56,7 @@ pub fn keep_time<R: Wait + Clock, W: Watched>(
     stop: &AtomicBool,
 ) -> Option<Fault> {
     let start = Instant::now(rt).ok();
-    let mut watch = Watch::new(replicas);
+    let (mut watch, mut trouble) = (Watch::new(replicas), Trouble::none());
     for _ in rt.forever() {
         if stop.load(SeqCst) {
             break;
@@ -60,7 +67,9 @@ pub fn keep_time<R: Wait + Clock, W: Watched>(
         if pulse.stopped.is_some() {
             return pulse.stopped;
         }
-        replica.hand_in(rt, watch.look(millis_since(rt, start), pulse));
+        let now = millis_since(rt, start);
+        replica.tell_trouble(trouble.look(now, pulse.view, replica.doubted()));
+        replica.hand_in(rt, watch.look(now, pulse));
         if let Some(height) = keep.and_then(|keep| prune_at(keep, &replica.shown(), &pulse)) {
             replica.prune(rt, height);
         }

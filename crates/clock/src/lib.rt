@@ -7,6 +7,7 @@
 mod forgetting;
 mod keeping;
 mod laws;
+mod trouble;
 mod watch;
 
 pub use forgetting::{Keep, lacks_next, prune_at};
@@ -15,4 +16,5 @@ pub use laws::{
     proposals_may_wait, slower_ones_are_helped, the_window_is_kept, timeouts_are_earned,
     timeouts_are_given, what_is_kept_is_within,
 };
+pub use trouble::Trouble;
 pub use watch::{Due, Pulse, Watch};

@@ -1,13 +1,13 @@
 //! What is due to one replica.
 
 ghost use Rattle.std.specs.Prelude.{◌≡◌, ◌-◌, if◌then◌else◌};
-ghost use Rattle.clock.specs.Watching.{climbs, due_of, is_over, is_overdue, lags, limit_of, looked};
+ghost use Rattle.clock.specs.Watching.{climbs, due_of, is_over, is_overdue, lags, leads_anew, limit_of, looked};
 ghost use Rattle.clock.specs.Watching.{most_undecided, moved, settled};
 ghost use Rattle.clock.specs.Watching.{patience_of, pause_after, rests, slow_after, unseen};
 
 use ids::{Fault, Height, View};
 use tuning::{
-    COMMAND_SHARE, LAG_WEIGHT, LEAST_BEAT_MILLIS, LEAST_COMMAND_MILLIS, MOST_COUNTED,
+    COMMAND_SHARE, LAG_WEIGHT, LEAD_PART, LEAST_BEAT_MILLIS, LEAST_COMMAND_MILLIS, MOST_COUNTED,
     MOST_UNDECIDED, VIEW_LIMIT,
 };
 
@@ -41,6 +41,8 @@ pub struct Due {
     pub beat: bool,
     /// A timeout of this view: it was slow for too long, or brought too much that was never decided.
     pub timeout: Option<View>,
+    /// Leave to lead from its lock: what it proposes finds no certificate.
+    pub lead: bool,
 }
 
 /// What was seen of a replica so far.
@@ -61,6 +63,8 @@ pub struct Watch {
     height: Height,
     /// What it had voted for when its view began, or when a block was executed last.
     from: Height,
+    /// Whether it was given leave to lead from its lock in this view.
+    led: bool,
 }
 
 /// How slow a view may be: `VIEW_LIMIT`, and as much more for each view before.
@@ -121,6 +125,7 @@ impl Watch {
             pause: LEAST_BEAT_MILLIS,
             height: Height(0),
             from: Height(0),
+            led: false,
         }
     }
 
@@ -197,6 +202,17 @@ impl Watch {
         !self.rests(pulse) && now.saturating_sub(self.asked) >= self.pause
     }
 
+    /// Whether it leads, what it proposed waits for votes, and its view was slow for a part of what it may be: then its
+    /// certificates may be good for it alone. Once in a view.
+    fn leads_anew(&self, now: u64, slow: u64, pulse: Pulse) -> bool
+        ensures { result ≡ leads_anew self.now now slow pulse }
+    {
+        let waits = pulse.wants_beat && !pulse.wants_beat_now;
+        let is_first = !(self.led && pulse.view.0 == self.view.0);
+        let limit = limit_of(pulse.view.0) / LEAD_PART;
+        waits && is_first && self.lags(now, pulse) && slow >= limit
+    }
+
     /// What is due to a replica of which this is seen at a moment, in milliseconds from some start.
     pub fn look(&mut self, now: u64, pulse: Pulse) -> Due
         ensures due { result ≡ due_of self.old now pulse }
@@ -206,6 +222,7 @@ impl Watch {
         let over = self.is_over(now, slow, pulse) || self.climbs(pulse);
         let (rests, overdue) = (self.rests(pulse), self.is_overdue(now, pulse));
         let counts_anew = self.is_settled(pulse) || over;
+        let lead = self.leads_anew(now, slow, pulse);
         *self = Watch {
             view: pulse.view,
             executed: pulse.executed,
@@ -216,10 +233,12 @@ impl Watch {
             pause: pause_after(self.pause, moved, overdue),
             height: pulse.height,
             from: if counts_anew { pulse.voted } else { self.from },
+            led: lead || (self.led && pulse.view.0 == self.view.0),
         };
         Due {
             beat: pulse.wants_beat_now || overdue,
             timeout: over.then_some(pulse.view),
+            lead,
         }
     }
 }

@@ -9,6 +9,8 @@ mod links;
 mod own;
 mod parcel;
 mod queue;
+mod taking;
+mod unfounded;
 mod waiting;
 mod worker;
 

@@ -10,7 +10,7 @@ use crate::inbox::{Inbox, Row};
 use crate::parcel::Parcel;
 use bytes::Bytes;
 use fair_queue::Refusal;
-use ids::{ClientId, Config, Fault, Height, MOST_REPLICAS, ReplicaId, View};
+use ids::{ClientId, Config, Digest, Fault, Height, MOST_REPLICAS, ReplicaId, View};
 use signed_frames::To;
 use std::alloc::{AllocError, Global};
 use std::marker::Model;
@@ -414,6 +414,13 @@ impl Links {
         ensures { OnErr result ((result ≡ Err Fault.Memory) ⊎ (result ≡ Err Fault.NoSuchParty)) }
     {
         self.hand_in(rt, to, Parcel::Timeout(view))
+    }
+
+    /// Gives a replica leave to lead from the block of a digest.
+    pub fn lead<R: Wait>(&self, rt: &R, to: ReplicaId, block: Digest) -> Result<(), Fault>
+        ensures { OnErr result ((result ≡ Err Fault.Memory) ⊎ (result ≡ Err Fault.NoSuchParty)) }
+    {
+        self.hand_in(rt, to, Parcel::Lead(block))
     }
 
     /// Gives a replica leave to prune its tree up to a height.

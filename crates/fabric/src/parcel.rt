@@ -4,7 +4,7 @@ ghost use Rattle.std.specs.Prelude.{◌≡◌, ◌+◌, length};
 ghost use Rattle.tuning.specs.declared.links.TheConstants.{PARCEL_SIZE};
 
 use bytes::Bytes;
-use ids::View;
+use ids::{Digest, View};
 use tuning::PARCEL_SIZE;
 
 /// How much a frame takes of its sender's share, at a replica's link and at a client's.
@@ -28,6 +28,8 @@ pub enum Parcel {
     Beat,
     /// This view has lasted too long.
     Timeout(View),
+    /// Leave to lead from the block of this digest.
+    Lead(Digest),
     /// Leave to prune the tree up to this height.
     Prune(u64),
     /// The worker that takes it ends.

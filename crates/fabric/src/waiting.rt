@@ -1,13 +1,16 @@
 //! Frames that wait for a block.
 
 use crate::queue::{Question, Queue};
+use crate::unfounded::{Unfounded, UnfoundedList};
 use admission::missing_of;
 use bytes::Bytes;
 use frames_view::{Frame, read};
-use ids::{Config, Digest, ReplicaId};
+use ids::{ClientId, Config, Digest, ReplicaId};
 use std::alloc::Global;
+use std::collections::BTreeMap;
 use std::sync::atomic::AtomicU64;
 use std::sync::atomic::Ordering::SeqCst;
+use std::mem;
 use std::sync::{Mutex, Wait};
 use std::thread;
 use std::time::{Clock, Duration};
@@ -48,6 +51,11 @@ impl Carried {
             Carried::Nothing => None,
             Carried::Block(block) | Carried::Proposal(block) => Some(block),
         }
+    }
+
+    /// Whether it is a proposal's block.
+    pub(crate) fn is_proposal(self) -> bool {
+        matches!(self, Carried::Proposal(_))
     }
 
     /// Whether a frame that brings this does all that one does that brings the other.
@@ -96,7 +104,8 @@ impl Waiting {
     }
 }
 
-/// Where the frames of one replica's link wait that lack a block. Its workers share it by reference.
+/// Where the frames of one replica's link wait that lack a block, and proposals that lack grounds; and where requests are
+/// kept that a lead forgets. The replica's workers share it by reference.
 ///
 /// `tuning` says how many wait at most, and with how many bytes; what comes then drives out the oldest. What is driven
 /// out, or for which memory is refused, is lost, as on any network. So that none is lost while one worker
@@ -113,6 +122,14 @@ pub struct WaitingRoom {
     done: AtomicU64,
     /// How many frames wait.
     waiting: AtomicU64,
+    unfounded: Mutex<UnfoundedList>,
+    /// How many proposals lack grounds.
+    lacking_grounds: AtomicU64,
+    /// How many frames were taken that may give grounds to another.
+    news: AtomicU64,
+    alloc: Global,
+    /// The last request of each client since there was trouble.
+    requests: Mutex<BTreeMap<ClientId, Bytes>>,
 }
 
 impl WaitingRoom {
@@ -124,6 +141,11 @@ impl WaitingRoom {
             busy: AtomicU64::new(0),
             done: AtomicU64::new(0),
             waiting: AtomicU64::new(0),
+            unfounded: Mutex::new(UnfoundedList::new(alloc)),
+            lacking_grounds: AtomicU64::new(0),
+            news: AtomicU64::new(0),
+            alloc,
+            requests: Mutex::new(BTreeMap::new(alloc)),
         }
     }
 
@@ -197,5 +219,47 @@ impl WaitingRoom {
     /// Whether nothing waits.
     pub(crate) fn is_empty(&self) -> bool {
         self.waiting.load(SeqCst) == 0
+    }
+
+    /// How many frames were taken that may give grounds to a proposal.
+    pub(crate) fn news(&self) -> u64 {
+        self.news.load(SeqCst)
+    }
+
+    /// One more was taken.
+    pub(crate) fn has_news(&self) {
+        self.news.fetch_add(1, SeqCst);
+    }
+
+    /// Lets a proposal wait for grounds.
+    pub(crate) fn wait_for_grounds<R: Wait>(&self, rt: &R, frame: Unfounded) {
+        let mut list = self.unfounded.lock(rt);
+        list.add(frame);
+        self.lacking_grounds.store(list.len() as u64, SeqCst);
+    }
+
+    /// The proposal that has waited for grounds since it was tried longest ago, where there was news since. It waits no
+    /// longer.
+    pub(crate) fn next_unfounded<R: Wait>(&self, rt: &R) -> Option<Unfounded> {
+        if self.lacking_grounds.load(SeqCst) == 0 {
+            return None;
+        }
+        let mut list = self.unfounded.lock(rt);
+        let frame = list.next(self.news());
+        self.lacking_grounds.store(list.len() as u64, SeqCst);
+        frame
+    }
+
+    /// Keeps the last request of a client. Where memory is refused it isn't kept: its client sends it again.
+    pub(crate) fn keep_request<R: Wait>(&self, rt: &R, client: ClientId, bytes: &Bytes) {
+        if let Ok(copy) = bytes.clone() {
+            let _refused = self.requests.lock(rt).insert(client, copy);
+        }
+    }
+
+    /// The requests that were kept. They are kept no longer.
+    pub(crate) fn take_requests<R: Wait>(&self, rt: &R) -> BTreeMap<ClientId, Bytes> {
+        let mut kept = self.requests.lock(rt);
+        mem::replace(&mut *kept, BTreeMap::new(self.alloc))
     }
 }

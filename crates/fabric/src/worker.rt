@@ -1,6 +1,5 @@
 //! What each worker thread does.
 
-ghost use Rattle.turns.specs.Shares.{Counts};
 ghost use Rattle.fabric.specs.Shares.{HasGrown};
 
 use crate::inbox::Inbox;
@@ -8,7 +7,7 @@ use crate::links::Links;
 use crate::own::OwnFrames;
 use crate::parcel::Parcel;
 use crate::queue::Question;
-use crate::waiting::{Carried, Waiting, WaitingRoom};
+use crate::waiting::WaitingRoom;
 use admission::Input;
 use authenticators::VerifyingKeyring;
 use bytes::Bytes;
@@ -18,20 +17,20 @@ use signed_frames::{Out, Sending, To, WorkerKeyring};
 use std::alloc::Global;
 use std::sync::Wait;
 use std::time::Clock;
-use turns::{Gate, Prompt, Share, Steps, turn};
+use turns::{Gate, Prompt, Share, Steps};
 
 /// A worker of a replica: it takes from the replica's link, sends by `out`, and has keys of its own, with which it
 /// checks frames and asks for blocks, and can't say anything else in the replica's name.
 #[derive(Drop)]
 pub struct Worker<'a, G, O = Links> {
-    alloc: Global,
-    keyring: WorkerKeyring,
-    gate: &'a G,
+    pub(crate) alloc: Global,
+    pub(crate) keyring: WorkerKeyring,
+    pub(crate) gate: &'a G,
     inbox: &'a Inbox,
-    out: &'a O,
-    room: &'a WaitingRoom,
+    pub(crate) out: &'a O,
+    pub(crate) room: &'a WaitingRoom,
     /// The block that its last proposal's certificate is for.
-    certified: Option<Digest>,
+    pub(crate) certified: Option<Digest>,
     /// What was sent to the replica itself, and isn't taken yet.
     own: OwnFrames,
 }
@@ -42,8 +41,13 @@ pub trait Outgoing {
     /// taken is lost, as on any network.
     fn send<R: Wait>(&self, rt: &R, from: ReplicaId, sending: Sending);
 
-    /// Is told of a frame that this keyring's replica refused, since a tag in it isn't right.
-    fn refused<R: Wait>(&self, _rt: &R, _keyring: &VerifyingKeyring, _bytes: &[u8]) {}
+    /// Whether there is trouble around the replica: then its votes go to all.
+    fn in_trouble(&self) -> bool {
+        false
+    }
+
+    /// Is told of a frame whose certificate isn't good for this keyring's replica, where the frame's own tag is right.
+    fn doubted<R: Wait>(&self, _rt: &R, _keyring: &VerifyingKeyring, _bytes: &[u8]) {}
 }
 
 /// The number of a frame that a replica sends to itself: it goes over no link.
@@ -96,9 +100,10 @@ impl<'a, G: Gate, O: Outgoing> Worker<'a, G, O> {
 
     /// Sends all frames of a step. What goes to the replica itself is its next parcel: over its link it would come
     /// behind the others' answers to it, which would lack its block.
-    fn send_all<R: Wait>(&mut self, rt: &R, out: Out) {
+    pub(crate) fn send_all<R: Wait>(&mut self, rt: &R, out: Out) {
         let own = self.keyring.replica();
         for sending in out.into_sendings() {
+            let sending = self.aimed(sending);
             if sending.to == To::Replica(own) {
                 self.keep(Bytes::from_vec(sending.frame).ok());
                 continue;
@@ -108,6 +113,17 @@ impl<'a, G: Gate, O: Outgoing> Worker<'a, G, O> {
                 self.keep(copy.ok());
             }
             self.out.send(rt, own, sending);
+        }
+    }
+
+    /// A frame as it is to be sent: in trouble votes go to all.
+    fn aimed(&self, sending: Sending) -> Sending {
+        let Sending { to, kind, frame } = sending;
+        let goes_to_all = kind == Kind::Vote && self.out.in_trouble();
+        Sending {
+            to: if goes_to_all { To::All } else { to },
+            kind,
+            frame,
         }
     }
 
@@ -161,135 +177,6 @@ impl<'a, G: Gate, O: Outgoing> Worker<'a, G, O> {
         }
     }
 
-    /// The turn of one frame. What it sends goes out.
-    fn bring<R: Wait, S: Steps>(
-        &mut self,
-        rt: &R,
-        steps: &mut S,
-        share: &mut Share,
-        number: u64,
-        bytes: &[u8],
-    ) -> Result<(), Fault>
-        ensures { HasGrown share.old share.new }
-    {
-        let out = turn(
-            rt,
-            steps,
-            share,
-            self.gate,
-            number,
-            self.keyring.verifying(),
-            bytes,
-        )?;
-        self.send_all(rt, out);
-        Ok(())
-    }
-
-    /// Brings the frames that lack this block, which the replica has by now, and those that lack a
-    /// block that one of them brought.
-    fn release<R: Wait, S: Steps>(
-        &mut self,
-        rt: &R,
-        steps: &mut S,
-        share: &mut Share,
-        block: Digest,
-    )
-        ensures { HasGrown share.old share.new }
-    {
-        let mut known = Vec::new(self.alloc);
-        let mut latest = Some(block);
-        for _ in rt.forever() {
-            let Some(block) = latest.take().or_else(|| known.pop()) else {
-                break;
-            };
-            let Some(frame) = self.room.take_for(rt, &block) else {
-                continue;
-            };
-            let _refused = known.push(block);
-            let brought = self.bring(rt, steps, share, frame.number, frame.bytes.as_slice());
-            if brought.is_ok() {
-                latest = frame.brings.block();
-            }
-        }
-    }
-
-    /// Takes a frame that was refused with `UnknownParent`. It waits, and who takes the block later finds it. Where
-    /// the replica has another worker, that may have taken the block before the frame began to wait: so the frame
-    /// is brought once more.
-    fn take_later<R: Wait, S: Steps>(
-        &mut self,
-        rt: &R,
-        steps: &mut S,
-        share: &mut Share,
-        number: u64,
-        bytes: Bytes,
-    )
-        ensures { HasGrown share.old share.new }
-    {
-        let Ok(copy) = bytes.clone() else {
-            return;
-        };
-        let Some(frame) = Waiting::new(&self.keyring.config(), number, copy) else {
-            return;
-        };
-        let brings = frame.brings.block();
-        self.room.wait(rt, frame);
-        if !self.room.is_shared() {
-            return;
-        }
-        let brought = self.bring(rt, steps, share, number, bytes.as_slice());
-        if brought == Err(Fault::UnknownParent) {
-            return;
-        }
-        let _copy = self.room.take_number(rt, number);
-        if let (Ok(()), Some(block)) = (brought, brings) {
-            self.release(rt, steps, share, block);
-        }
-    }
-
-    /// Whether a frame is a vote that comes too late: for the block of the certificate that this replica's last
-    /// proposal has. A step would write it down and change nothing else, and so it may get lost, as on any network.
-    /// Of each block's votes all but a quorum are such.
-    fn is_late(&self, bytes: &[u8]) -> bool {
-        let Some(certified) = self.certified else {
-            return false;
-        };
-        match read(&self.keyring.config(), bytes) {
-            Ok(Frame::Vote(vote)) => certified.0 == *vote.digest(),
-            _ => false,
-        }
-    }
-
-    /// Takes one frame. Where it brings a block, what waited for that block comes next.
-    fn take<R: Wait, S: Steps>(
-        &mut self,
-        rt: &R,
-        steps: &mut S,
-        share: &mut Share,
-        number: u64,
-        bytes: Bytes,
-    )
-        ensures { HasGrown share.old share.new }
-    {
-        if self.is_late(bytes.as_slice()) {
-            return;
-        }
-        match self.bring(rt, steps, share, number, bytes.as_slice()) {
-            Ok(()) if self.room.is_empty() => {}
-            Ok(()) => {
-                if let Some(block) = Carried::by(&self.keyring.config(), bytes.as_slice()).block() {
-                    self.release(rt, steps, share, block);
-                }
-            }
-            Err(Fault::UnknownParent) => self.take_later(rt, steps, share, number, bytes),
-            Err(Fault::BadTag) => {
-                self.out
-                    .refused(rt, self.keyring.verifying(), bytes.as_slice());
-            }
-            Err(_) => {}
-        }
-    }
-
     /// One step that no frame brings.
     fn step<R: Wait, S: Steps>(
         &mut self,
@@ -311,6 +198,23 @@ impl<'a, G: Gate, O: Outgoing> Worker<'a, G, O> {
     {
         if let Some(Ok(out)) = steps.prompt(rt, share, Prompt::Timeout(view)) {
             self.send_all(rt, out);
+        }
+    }
+
+    /// The replica is to lead from the block of this digest. It forgets by that what waits, so what clients asked since
+    /// there was trouble comes again.
+    fn lead<R: Wait, S: Steps>(
+        &mut self,
+        rt: &R,
+        steps: &mut S,
+        share: &mut Share,
+        block: Digest,
+    )
+        ensures { HasGrown share.old share.new }
+    {
+        self.step(rt, steps, share, Input::Lead(block));
+        for (_client, bytes) in self.room.take_requests(rt) {
+            self.take(rt, steps, share, OWN, bytes);
         }
     }
 
@@ -343,11 +247,13 @@ impl<'a, G: Gate, O: Outgoing> Worker<'a, G, O> {
                 }
                 Parcel::Beat => self.step(rt, steps, &mut share, Input::Beat),
                 Parcel::Timeout(view) => self.time_out(rt, steps, &mut share, view),
+                Parcel::Lead(block) => self.lead(rt, steps, &mut share, block),
                 Parcel::Prune(height) => {
                     self.step(rt, steps, &mut share, Input::Prune(Height(height)));
                 }
                 Parcel::Stop => break,
             }
+            self.try_again(rt, steps, &mut share);
             self.propose(rt, steps, &mut share);
             self.end(rt);
         }

@@ -8,6 +8,7 @@ ghost use Rattle.frames_view.specs.Views.{block_of, certificate_of, new_view_of,
 ghost use Rattle.server.specs.Doubting.{IsDoubt};
 
 use crate::stations::Station;
+use crate::trouble::TroubleSign;
 use authenticators::VerifyingKeyring;
 use certificates::check_cert;
 use fabric::{Links, Outgoing};
@@ -208,11 +209,12 @@ impl Doubts {
     }
 }
 
-/// The links, and what is told of frames that their replica refuses.
+/// The links, and what is told of frames whose certificates aren't good for their replica.
 #[derive(Drop)]
 pub(crate) struct Doubting<'a> {
     pub(crate) links: &'a Links,
     pub(crate) doubts: &'a Doubts,
+    pub(crate) trouble: &'a TroubleSign,
 }
 
 impl Outgoing for Doubting<'_> {
@@ -220,7 +222,12 @@ impl Outgoing for Doubting<'_> {
         self.links.send(rt, from, sending);
     }
 
-    fn refused<R: Wait>(&self, rt: &R, keyring: &VerifyingKeyring, bytes: &[u8]) {
+    fn in_trouble(&self) -> bool {
+        self.trouble.is_on()
+    }
+
+    fn doubted<R: Wait>(&self, rt: &R, keyring: &VerifyingKeyring, bytes: &[u8]) {
+        self.trouble.doubt();
         self.doubts.look(rt, keyring, bytes);
     }
 }

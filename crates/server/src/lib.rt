@@ -14,6 +14,7 @@ mod roll;
 mod running;
 mod stations;
 mod terms;
+mod trouble;
 mod views;
 mod watching;
 mod worker;

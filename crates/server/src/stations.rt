@@ -13,6 +13,7 @@ use crate::guarded::Guarded;
 use crate::laggards::Reach;
 use crate::lying::{LiarStart, LyingOut};
 use crate::terms::{Liars, Terms};
+use crate::trouble::TroubleSign;
 use crate::watching::Progress;
 use crate::worker::WorkerStart;
 use authenticators::ReplicaKeyring;
@@ -46,6 +47,7 @@ pub(crate) struct Station<'a> {
     /// One more than the last view that its clock ended, 0 where there is none.
     ended: AtomicU64,
     doubts: Doubts,
+    trouble: TroubleSign,
     inbox: Arc<Inbox>,
     room: WaitingRoom,
 }
@@ -128,6 +130,14 @@ impl<'s, 'a> Watched for Timed<'s, 'a> {
         }
     }
 
+    fn doubted(&self) -> u64 {
+        self.station.trouble.doubted()
+    }
+
+    fn tell_trouble(&self, is_on: bool) {
+        self.station.trouble.show(is_on);
+    }
+
     fn hand_in<R: Wait>(&self, rt: &R, due: Due) {
         if due.beat {
             let _ = self.links.beat(rt, self.station.number);
@@ -136,6 +146,7 @@ impl<'s, 'a> Watched for Timed<'s, 'a> {
             self.station.ended.store(view.0.saturating_add(1), SeqCst);
             let _ = self.links.timeout(rt, self.station.number, view);
         }
+        // LEAD
     }
 
     fn show(&self, height: Height) {
@@ -171,8 +182,11 @@ pub(crate) fn run_worker<R: Wait + Clock + AllocGlobal>(
     let mut steps = &station.locked;
     let _share = match liar {
         None => {
-            let doubts = &station.doubts;
-            let out = Doubting { links, doubts };
+            let out = Doubting {
+                links,
+                doubts: &station.doubts,
+                trouble: &station.trouble,
+            };
             let worker = Worker::new(alloc, keyring, &gate, &station.inbox, &out, &station.room);
             worker.run(rt, &mut steps, share)
         }
@@ -311,6 +325,7 @@ fn build_station<'a>(
         shown: AtomicU64::new(0),
         ended: AtomicU64::new(0),
         doubts: Doubts::none(),
+        trouble: TroubleSign::none(),
         inbox,
         room: WaitingRoom::new(alloc, terms.workers.count()),
     };

@@ -34,6 +34,14 @@ pub const VIEW_LIMIT: u64 = 1000;
 /// all with blocks that are never decided.
 pub const MOST_UNDECIDED: u64 = 2 * MOST_CLIMB;
 
+/// Milliseconds for which a replica's votes go to all behind the last trouble: some hundred times what frames take between
+/// replicas. Shorter: a liar that does harm at times has each leader begin anew. Longer: more votes than needed.
+pub const TROUBLE_MILLIS: u64 = 4000;
+
+/// After which part of what its view may be slow a leader without certificates leads from its lock: one in so many. A
+/// smaller part: a correct leader on a slow machine begins anew before votes came.
+pub const LEAD_PART: u64 = 2;
+
 /// Which part of its window a replica holds beyond it before it is asked to forget: one in so many. A smaller part: it
 /// is asked more often.
 pub const WINDOW_SLACK: u64 = 8;

@@ -18,3 +18,10 @@ pub const WORKER_CROWD: u64 = 512;
 
 /// Milliseconds for which a worker holds back at most: what waits may lack a block that never comes.
 pub const WORKER_HELD_MILLIS: u64 = 1000;
+
+/// Proposals that wait at one replica for what gives them grounds, at most; the oldest makes way. Fewer: a faulty leader
+/// drives out what a correct one proposed.
+pub const MOST_UNFOUNDED: usize = 256;
+
+/// Bytes that they have together, at most, beside the one that came last.
+pub const MOST_UNFOUNDED_BYTES: usize = 8_388_608;

@@ -4,12 +4,14 @@
 
 mod frame_turn;
 mod gate;
+mod offer_turn;
 mod prompt;
 mod share;
 mod steps;
 
 pub use frame_turn::turn;
 pub use gate::{Gate, Open};
+pub use offer_turn::offer;
 pub use prompt::Prompt;
 pub use share::Share;
 pub use steps::{Steps, UnderLock};

@@ -1,0 +1,234 @@
+//! How a worker takes one frame.
+
+ghost use Rattle.fabric.specs.Shares.{HasGrown};
+
+use crate::unfounded::Unfounded;
+use crate::waiting::{Carried, Waiting};
+use crate::worker::{Outgoing, Worker};
+use bytes::Bytes;
+use frames_view::{Frame, read};
+use ids::{Digest, Fault};
+use signed_frames::Out;
+use std::sync::Wait;
+use turns::{Gate, Share, Steps, offer, turn};
+
+impl<'a, G: Gate, O: Outgoing> Worker<'a, G, O> {
+    /// The turn of one frame; where a tag isn't right, it is offered. What it sends goes out.
+    fn bring<R: Wait, S: Steps>(
+        &mut self,
+        rt: &R,
+        steps: &mut S,
+        share: &mut Share,
+        number: u64,
+        bytes: &[u8],
+    ) -> Result<(), Fault>
+        ensures { HasGrown share.old share.new }
+    {
+        let answer = turn(
+            rt,
+            steps,
+            share,
+            self.gate,
+            number,
+            self.keyring.verifying(),
+            bytes,
+        );
+        match answer {
+            Err(Fault::BadTag) => self.offer(rt, steps, share, number, bytes),
+            answer => self.finish(rt, answer),
+        }
+    }
+
+    /// What a step sends goes out.
+    fn finish<R: Wait>(&mut self, rt: &R, answer: Result<Out, Fault>) -> Result<(), Fault> {
+        let out = answer?;
+        self.send_all(rt, out);
+        Ok(())
+    }
+
+    /// Offers a frame: its own tag may be right, and only its certificate not good for this replica. A proposal that has
+    /// no grounds waits for them.
+    fn offer<R: Wait, S: Steps>(
+        &mut self,
+        rt: &R,
+        steps: &mut S,
+        share: &mut Share,
+        number: u64,
+        bytes: &[u8],
+    ) -> Result<(), Fault>
+        ensures { HasGrown share.old share.new }
+    {
+        let tried_at = self.room.news();
+        let keyring = self.keyring.verifying();
+        let Some(answer) = offer(rt, steps, share, keyring, bytes) else {
+            return Err(Fault::BadTag);
+        };
+        self.out.doubted(rt, keyring, bytes);
+        let brought = self.finish(rt, answer);
+        if brought == Err(Fault::BadTag) {
+            self.wait_for_grounds(rt, number, bytes, tried_at);
+        }
+        brought
+    }
+
+    /// Lets a proposal wait for grounds that was tried when the replica had so much news.
+    fn wait_for_grounds<R: Wait>(&self, rt: &R, number: u64, bytes: &[u8], tried_at: u64) {
+        if !Carried::by(&self.keyring.config(), bytes).is_proposal() {
+            return;
+        }
+        if let Ok(bytes) = Bytes::copy_from_slice(self.alloc, bytes) {
+            self.room.wait_for_grounds(
+                rt,
+                Unfounded {
+                    number,
+                    bytes,
+                    tried_at,
+                },
+            );
+        }
+    }
+
+    /// Brings the frames that lack this block, which the replica has by now, and those that lack a
+    /// block that one of them brought.
+    fn release<R: Wait, S: Steps>(
+        &mut self,
+        rt: &R,
+        steps: &mut S,
+        share: &mut Share,
+        block: Digest,
+    )
+        ensures { HasGrown share.old share.new }
+    {
+        let mut known = Vec::new(self.alloc);
+        let mut latest = Some(block);
+        for _ in rt.forever() {
+            let Some(block) = latest.take().or_else(|| known.pop()) else {
+                break;
+            };
+            let Some(frame) = self.room.take_for(rt, &block) else {
+                continue;
+            };
+            let _refused = known.push(block);
+            let brought = self.bring(rt, steps, share, frame.number, frame.bytes.as_slice());
+            if brought.is_ok() {
+                self.room.has_news();
+                latest = frame.brings.block();
+            }
+        }
+    }
+
+    /// Takes a frame that was refused with `UnknownParent`. It waits, and who takes the block later finds it. Where
+    /// the replica has another worker, that may have taken the block before the frame began to wait: so the frame
+    /// is brought once more.
+    fn take_later<R: Wait, S: Steps>(
+        &mut self,
+        rt: &R,
+        steps: &mut S,
+        share: &mut Share,
+        number: u64,
+        bytes: Bytes,
+    )
+        ensures { HasGrown share.old share.new }
+    {
+        let Ok(copy) = bytes.clone() else {
+            return;
+        };
+        let Some(frame) = Waiting::new(&self.keyring.config(), number, copy) else {
+            return;
+        };
+        let brings = frame.brings.block();
+        if brings.is_none() {
+            // Of an announcement the view counts at once.
+            let _vote = self.offer(rt, steps, share, number, bytes.as_slice());
+        }
+        self.room.wait(rt, frame);
+        if !self.room.is_shared() {
+            return;
+        }
+        let brought = self.bring(rt, steps, share, number, bytes.as_slice());
+        if brought == Err(Fault::UnknownParent) {
+            return;
+        }
+        let _copy = self.room.take_number(rt, number);
+        if let (Ok(()), Some(block)) = (brought, brings) {
+            self.release(rt, steps, share, block);
+        }
+    }
+
+    /// Whether a frame is a vote that comes too late: for the block of the certificate that this replica's last
+    /// proposal has. A step would write it down and change nothing else, and so it may get lost, as on any network.
+    /// Of each block's votes all but a quorum are such.
+    fn is_late(&self, bytes: &[u8]) -> bool {
+        let Some(certified) = self.certified else {
+            return false;
+        };
+        match read(&self.keyring.config(), bytes) {
+            Ok(Frame::Vote(vote)) => certified.0 == *vote.digest(),
+            _ => false,
+        }
+    }
+
+    /// Takes one frame. Where it brings a block, what waited for that block comes next.
+    pub(crate) fn take<R: Wait, S: Steps>(
+        &mut self,
+        rt: &R,
+        steps: &mut S,
+        share: &mut Share,
+        number: u64,
+        bytes: Bytes,
+    )
+        ensures { HasGrown share.old share.new }
+    {
+        if self.is_late(bytes.as_slice()) {
+            return;
+        }
+        match self.bring(rt, steps, share, number, bytes.as_slice()) {
+            Ok(()) => self.taken(rt, steps, share, &bytes),
+            Err(Fault::UnknownParent) => self.take_later(rt, steps, share, number, bytes),
+            Err(_) => {}
+        }
+    }
+
+    /// A frame was taken. What waited for the block that it brings comes next. In trouble a request is kept.
+    fn taken<R: Wait, S: Steps>(
+        &mut self,
+        rt: &R,
+        steps: &mut S,
+        share: &mut Share,
+        bytes: &Bytes,
+    )
+        ensures { HasGrown share.old share.new }
+    {
+        self.room.has_news();
+        if self.out.in_trouble() {
+            self.keep_request(rt, bytes);
+        }
+        if self.room.is_empty() {
+            return;
+        }
+        if let Some(block) = Carried::by(&self.keyring.config(), bytes.as_slice()).block() {
+            self.release(rt, steps, share, block);
+        }
+    }
+
+    /// Keeps a frame that is a request.
+    fn keep_request<R: Wait>(&self, rt: &R, bytes: &Bytes) {
+        if let Ok(Frame::Request(command)) = read(&self.keyring.config(), bytes.as_slice()) {
+            self.room.keep_request(rt, command.client(), bytes);
+        }
+    }
+
+    /// A proposal that lacked grounds is brought once more, where something came since that may give it some.
+    pub(crate) fn try_again<R: Wait, S: Steps>(
+        &mut self,
+        rt: &R,
+        steps: &mut S,
+        share: &mut Share,
+    )
+        ensures { HasGrown share.old share.new }
+    {
+        if let Some(frame) = self.room.next_unfounded(rt) {
+            self.take(rt, steps, share, frame.number, frame.bytes);
+        }
+    }
+}
