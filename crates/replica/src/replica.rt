@@ -7,7 +7,7 @@ ghost use Rattle.ids.specs.Sizes.{IsRoom, HasNoRoom, replicas};
 ghost use Rattle.audit_ground.specs.Law.{IsLawfullyKept};
 ghost use Rattle.definitions.specs.Checks.{identity_of};
 ghost use Rattle.definitions.specs.Chronicles.{Chronicle, IsLawful, executed, horizon, standing_blocks};
-ghost use Rattle.definitions.specs.Chronicles.{window, vheight, was_pruned};
+ghost use Rattle.definitions.specs.Chronicles.{lock, window, vheight, was_pruned};
 ghost use Rattle.definitions.specs.Digests.{digest_of};
 ghost use Rattle.definitions.specs.Frames.{spelling};
 ghost use Rattle.definitions.specs.Replicas.{running, held_history, held_pending};
@@ -388,6 +388,13 @@ impl Replica {
         ensures { result ≡ vheight self.now.replica.chronicle }
     {
         self.state.rules.vheight()
+    }
+
+    /// The digest of the block that it is locked on.
+    pub fn lock(&self) -> Digest
+        ensures { result ≡ digest_of (lock self.now.replica.chronicle) }
+    {
+        self.state.rules.lock().digest
     }
 
     /// The digest of the last block that was decided.

@@ -146,7 +146,10 @@ impl<'s, 'a> Watched for Timed<'s, 'a> {
             self.station.ended.store(view.0.saturating_add(1), SeqCst);
             let _ = self.links.timeout(rt, self.station.number, view);
         }
-        // LEAD
+        if due.lead {
+            let lock = self.station.locked.lock(rt).replica().lock();
+            let _ = self.links.lead(rt, self.station.number, lock);
+        }
     }
 
     fn show(&self, height: Height) {
