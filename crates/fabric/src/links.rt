@@ -10,7 +10,8 @@ use crate::inbox::{Inbox, Row};
 use crate::parcel::Parcel;
 use bytes::Bytes;
 use fair_queue::Refusal;
-use ids::{ClientId, Config, Digest, Fault, Height, MOST_REPLICAS, ReplicaId, View};
+use frames_view::version;
+use ids::{ClientId, Config, Digest, Fault, Height, Kind, MOST_REPLICAS, ReplicaId, View};
 use signed_frames::To;
 use std::alloc::{AllocError, Global};
 use std::marker::Model;
@@ -109,6 +110,12 @@ fn last_bytes(frame: &[u8]) -> u64 {
         Some(bytes) => u64::from_be_bytes(*bytes),
         None => 0,
     }
+}
+
+/// Whether a frame is a client's request, by its kind.
+fn is_request(frame: &[u8]) -> bool {
+    let place = if version(frame) == Some(2) { 1 } else { 0 };
+    frame.get(place).copied() == Some(Kind::Request.number())
 }
 
 /// Whether more than `CLIENT_CROWD` requests wait at the links of more replicas than may be faulty, where so many wait at
@@ -354,7 +361,8 @@ impl Links {
         self.share_with_all(rt, self.client_row(), None, frame)
     }
 
-    /// Hands in a frame of a replica where it goes. What goes to itself goes over no link.
+    /// Hands in a frame of a replica where it goes. What goes to itself goes over no link. A request is lost: it comes over
+    /// its client's own link alone, so that no replica overtakes it with a copy that others can't check.
     pub(crate) fn send_from<R: Wait>(
         &self,
         rt: &R,
@@ -365,6 +373,10 @@ impl Links {
         ensures { OnErr result ((result ≡ Err Fault.Memory) ⊎ (result ≡ Err Fault.NoSuchParty)) }
     {
         let row = self.replica_row(from);
+        if is_request(frame.as_slice()) {
+            self.turn_away(row);
+            return Ok(());
+        }
         match to {
             To::All => self.share_with_all(rt, row, Some(from), frame),
             To::Replica(to) => {

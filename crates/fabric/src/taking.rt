@@ -2,6 +2,7 @@
 
 ghost use Rattle.fabric.specs.Shares.{HasGrown};
 
+use crate::questioned::Questioned;
 use crate::unfounded::Unfounded;
 use crate::waiting::{Carried, Waiting};
 use crate::worker::{Outgoing, Worker};
@@ -10,11 +11,12 @@ use frames_view::{Frame, read};
 use ids::{Digest, Fault};
 use signed_frames::Out;
 use std::sync::Wait;
-use turns::{Gate, Share, Steps, offer, turn};
+use std::time::Clock;
+use turns::{Gate, Share, Steps, gather, offer, turn};
 
-impl<'a, G: Gate, O: Outgoing> Worker<'a, G, O> {
+impl<'a, G: Gate, O: Outgoing + Questioned> Worker<'a, G, O> {
     /// The turn of one frame; where a tag isn't right, it is offered. What it sends goes out.
-    fn bring<R: Wait, S: Steps>(
+    fn bring<R: Wait + Clock, S: Steps>(
         &mut self,
         rt: &R,
         steps: &mut S,
@@ -46,9 +48,9 @@ impl<'a, G: Gate, O: Outgoing> Worker<'a, G, O> {
         Ok(())
     }
 
-    /// Offers a frame: its own tag may be right, and only its certificate not good for this replica. A proposal that has
-    /// no grounds waits for them.
-    fn offer<R: Wait, S: Steps>(
+    /// Offers a frame: its own tag may be right, and only its certificate not good for this replica. What has no grounds
+    /// waits for them.
+    fn offer<R: Wait + Clock, S: Steps>(
         &mut self,
         rt: &R,
         steps: &mut S,
@@ -64,33 +66,64 @@ impl<'a, G: Gate, O: Outgoing> Worker<'a, G, O> {
             return Err(Fault::BadTag);
         };
         self.out.doubted(rt, keyring, bytes);
-        let brought = self.finish(rt, answer);
-        if brought == Err(Fault::BadTag) {
-            self.wait_for_grounds(rt, number, bytes, tried_at);
+        match self.finish(rt, answer) {
+            Err(Fault::BadTag) => {
+                let frame = Bytes::copy_from_slice(self.alloc, bytes)?;
+                self.seek_grounds(rt, steps, share, Unfounded { number, bytes: frame, tried_at })
+            }
+            brought => brought,
         }
-        brought
     }
 
-    /// Lets a proposal wait for grounds that was tried when the replica had so much news.
-    fn wait_for_grounds<R: Wait>(&self, rt: &R, number: u64, bytes: &[u8], tried_at: u64) {
-        if !Carried::by(&self.keyring.config(), bytes).is_proposal() {
-            return;
+    /// A frame brings a block without grounds. A proposal waits for some, and all are asked for its block. A block that was
+    /// asked for is kept, and taken where more senders than may be faulty sent it.
+    fn seek_grounds<R: Wait + Clock, S: Steps>(
+        &mut self,
+        rt: &R,
+        steps: &mut S,
+        share: &mut Share,
+        frame: Unfounded,
+    ) -> Result<(), Fault>
+        ensures { HasGrown share.old share.new }
+    {
+        let Some((carried, sender)) = Carried::from(&self.keyring.config(), frame.bytes.as_slice()) else {
+            return Err(Fault::BadTag);
+        };
+        match carried {
+            Carried::Proposal(block) => {
+                self.out.need(rt, block, sender);
+                self.room.wait_for_grounds(rt, frame);
+                Err(Fault::BadTag)
+            }
+            Carried::Block(block) => match self.out.keep(rt, self.alloc, &block, sender, frame.bytes) {
+                Some(copies) => self.gather(rt, steps, share, copies),
+                None => Err(Fault::BadTag),
+            },
+            Carried::Nothing => Err(Fault::BadTag),
         }
-        if let Ok(bytes) = Bytes::copy_from_slice(self.alloc, bytes) {
-            self.room.wait_for_grounds(
-                rt,
-                Unfounded {
-                    number,
-                    bytes,
-                    tried_at,
-                },
-            );
+    }
+
+    /// Copies of one block come together.
+    fn gather<R: Wait, S: Steps>(
+        &mut self,
+        rt: &R,
+        steps: &mut S,
+        share: &mut Share,
+        copies: Vec<Bytes>,
+    ) -> Result<(), Fault>
+        ensures { HasGrown share.old share.new }
+    {
+        let mut frames: Vec<&[u8]> = Vec::with_capacity(self.alloc, copies.len())?;
+        for copy in &copies {
+            frames.push_reserved(copy.as_slice());
         }
+        let answer = gather(rt, steps, share, self.keyring.verifying(), &frames);
+        self.finish(rt, answer)
     }
 
     /// Brings the frames that lack this block, which the replica has by now, and those that lack a
     /// block that one of them brought.
-    fn release<R: Wait, S: Steps>(
+    fn release<R: Wait + Clock, S: Steps>(
         &mut self,
         rt: &R,
         steps: &mut S,
@@ -111,8 +144,8 @@ impl<'a, G: Gate, O: Outgoing> Worker<'a, G, O> {
             let _refused = known.push(block);
             let brought = self.bring(rt, steps, share, frame.number, frame.bytes.as_slice());
             if brought.is_ok() {
-                self.room.has_news();
                 latest = frame.brings.block();
+                self.has_taken(rt, latest);
             }
         }
     }
@@ -120,7 +153,7 @@ impl<'a, G: Gate, O: Outgoing> Worker<'a, G, O> {
     /// Takes a frame that was refused with `UnknownParent`. It waits, and who takes the block later finds it. Where
     /// the replica has another worker, that may have taken the block before the frame began to wait: so the frame
     /// is brought once more.
-    fn take_later<R: Wait, S: Steps>(
+    fn take_later<R: Wait + Clock, S: Steps>(
         &mut self,
         rt: &R,
         steps: &mut S,
@@ -169,7 +202,7 @@ impl<'a, G: Gate, O: Outgoing> Worker<'a, G, O> {
     }
 
     /// Takes one frame. Where it brings a block, what waited for that block comes next.
-    pub(crate) fn take<R: Wait, S: Steps>(
+    pub(crate) fn take<R: Wait + Clock, S: Steps>(
         &mut self,
         rt: &R,
         steps: &mut S,
@@ -190,7 +223,7 @@ impl<'a, G: Gate, O: Outgoing> Worker<'a, G, O> {
     }
 
     /// A frame was taken. What waited for the block that it brings comes next. In trouble a request is kept.
-    fn taken<R: Wait, S: Steps>(
+    fn taken<R: Wait + Clock, S: Steps>(
         &mut self,
         rt: &R,
         steps: &mut S,
@@ -199,15 +232,23 @@ impl<'a, G: Gate, O: Outgoing> Worker<'a, G, O> {
     )
         ensures { HasGrown share.old share.new }
     {
-        self.room.has_news();
-        if self.out.in_trouble() {
-            self.keep_request(rt, bytes);
-        }
-        if self.room.is_empty() {
+        if self.room.is_empty() && !self.out.in_trouble() {
+            self.room.has_news();
             return;
         }
-        if let Some(block) = Carried::by(&self.keyring.config(), bytes.as_slice()).block() {
+        self.keep_request(rt, bytes);
+        let block = Carried::by(&self.keyring.config(), bytes.as_slice()).block();
+        self.has_taken(rt, block);
+        if let Some(block) = block {
             self.release(rt, steps, share, block);
+        }
+    }
+
+    /// A frame was taken that brings this block, if any: it isn't asked for any more.
+    fn has_taken<R: Wait>(&self, rt: &R, block: Option<Digest>) {
+        self.room.has_news();
+        if let (true, Some(block)) = (self.out.in_trouble(), block) {
+            self.out.close(rt, &block);
         }
     }
 
@@ -219,7 +260,7 @@ impl<'a, G: Gate, O: Outgoing> Worker<'a, G, O> {
     }
 
     /// A proposal that lacked grounds is brought once more, where something came since that may give it some.
-    pub(crate) fn try_again<R: Wait, S: Steps>(
+    pub(crate) fn try_again<R: Wait + Clock, S: Steps>(
         &mut self,
         rt: &R,
         steps: &mut S,

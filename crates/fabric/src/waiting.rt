@@ -45,17 +45,19 @@ impl Carried {
         }
     }
 
+    /// What the frame of these bytes carries, and who sent it. None, where frames of this kind bring no block.
+    pub(crate) fn from(config: &Config, bytes: &[u8]) -> Option<(Carried, ReplicaId)> {
+        let frame = read(config, bytes).ok()?;
+        let (sender, _lacks) = missing_of(config, &frame)?;
+        Some((Carried::of(&frame), sender))
+    }
+
     /// The block.
     pub(crate) fn block(self) -> Option<Digest> {
         match self {
             Carried::Nothing => None,
             Carried::Block(block) | Carried::Proposal(block) => Some(block),
         }
-    }
-
-    /// Whether it is a proposal's block.
-    pub(crate) fn is_proposal(self) -> bool {
-        matches!(self, Carried::Proposal(_))
     }
 
     /// Whether a frame that brings this does all that one does that brings the other.

@@ -6,9 +6,11 @@ use crate::inbox::Inbox;
 use crate::links::Links;
 use crate::own::OwnFrames;
 use crate::parcel::Parcel;
+use crate::questioned::Questioned;
 use crate::queue::Question;
 use crate::waiting::WaitingRoom;
 use admission::Input;
+use asking::Ask;
 use authenticators::VerifyingKeyring;
 use bytes::Bytes;
 use frames_view::{Frame, read};
@@ -17,6 +19,7 @@ use signed_frames::{Out, Sending, To, WorkerKeyring};
 use std::alloc::Global;
 use std::sync::Wait;
 use std::time::Clock;
+use tuning::QUESTION_PACE;
 use turns::{Gate, Prompt, Share, Steps};
 
 /// A worker of a replica: it takes from the replica's link, sends by `out`, and has keys of its own, with which it
@@ -76,7 +79,10 @@ fn certified_by(config: &Config, out: &Out) -> Option<Digest> {
     }
 }
 
-impl<'a, G: Gate, O: Outgoing> Worker<'a, G, O> {
+/// They keep no questions.
+impl Questioned for Links {}
+
+impl<'a, G: Gate, O: Outgoing + Questioned> Worker<'a, G, O> {
     /// A worker of the keyring's replica. The replica's workers share the room.
     pub fn new(
         alloc: Global,
@@ -159,21 +165,49 @@ impl<'a, G: Gate, O: Outgoing> Worker<'a, G, O> {
         }
     }
 
-    /// A parcel is done. Asks for the block that a waiting frame lacks, if it has waited long enough.
-    fn end<R: Wait>(&self, rt: &R) {
-        let Some(Question { sender, block }) = self.room.end(rt) else {
-            return;
-        };
-        if sender == self.keyring.replica() || sender.0 >= self.keyring.config().n() {
+    /// Asks a replica for a block.
+    fn ask_one<R: Wait>(&self, rt: &R, to: ReplicaId, block: &Digest) {
+        if to == self.keyring.replica() || to.0 >= self.keyring.config().n() {
             return;
         }
-        if let Ok(frame) = self.keyring.fetch_frame(self.alloc, sender, &block) {
+        if let Ok(frame) = self.keyring.fetch_frame(self.alloc, to, block) {
             let sending = Sending {
-                to: To::Replica(sender),
+                to: To::Replica(to),
                 kind: Kind::Fetch,
                 frame,
             };
             self.out.send(rt, self.keyring.replica(), sending);
+        }
+    }
+
+    /// Asks for blocks that lack since a frame had no grounds, as far as questions are due.
+    fn ask<R: Wait + Clock>(&self, rt: &R) {
+        for _ in 0..QUESTION_PACE {
+            let Some(Ask { block, to }) = self.out.next(rt) else {
+                break;
+            };
+            match to {
+                Some(to) => self.ask_one(rt, to, &block),
+                None => self.ask_all(rt, &block),
+            }
+        }
+    }
+
+    /// Asks all others for a block.
+    fn ask_all<R: Wait>(&self, rt: &R, block: &Digest) {
+        for to in 0..self.keyring.config().n() {
+            self.ask_one(rt, ReplicaId(to), block);
+        }
+    }
+
+    /// A parcel is done. Asks for the block that a waiting frame lacks, if it has waited long enough, and in trouble for
+    /// those that lack since a frame had no grounds.
+    fn end<R: Wait + Clock>(&self, rt: &R) {
+        if let Some(Question { sender, block }) = self.room.end(rt) {
+            self.ask_one(rt, sender, &block);
+        }
+        if self.out.in_trouble() {
+            self.ask(rt);
         }
     }
 
@@ -203,7 +237,7 @@ impl<'a, G: Gate, O: Outgoing> Worker<'a, G, O> {
 
     /// The replica is to lead from the block of this digest. It forgets by that what waits, so what clients asked since
     /// there was trouble comes again.
-    fn lead<R: Wait, S: Steps>(
+    fn lead<R: Wait + Clock, S: Steps>(
         &mut self,
         rt: &R,
         steps: &mut S,

@@ -8,14 +8,11 @@ ghost use Rattle.frames_view.specs.Views.{block_of, certificate_of, new_view_of,
 ghost use Rattle.server.specs.Doubting.{IsDoubt};
 
 use crate::stations::Station;
-use crate::trouble::TroubleSign;
 use authenticators::VerifyingKeyring;
 use certificates::check_cert;
-use fabric::{Links, Outgoing};
 use frames_view::{BlockView, CertificateView, Frame, NewViewView, ProposalView, VoteView, read};
 use ids::{Kind, MOST_REPLICAS, PartyId, ReplicaId};
 use log::{Log, warn};
-use signed_frames::Sending;
 use std::fmt;
 use std::sync::atomic::AtomicBool;
 use std::sync::atomic::Ordering::SeqCst;
@@ -206,29 +203,6 @@ impl Doubts {
         let found = self.found.lock(rt).take();
         self.is_asked.store(true, SeqCst);
         found
-    }
-}
-
-/// The links, and what is told of frames whose certificates aren't good for their replica.
-#[derive(Drop)]
-pub(crate) struct Doubting<'a> {
-    pub(crate) links: &'a Links,
-    pub(crate) doubts: &'a Doubts,
-    pub(crate) trouble: &'a TroubleSign,
-}
-
-impl Outgoing for Doubting<'_> {
-    fn send<R: Wait>(&self, rt: &R, from: ReplicaId, sending: Sending) {
-        self.links.send(rt, from, sending);
-    }
-
-    fn in_trouble(&self) -> bool {
-        self.trouble.is_on()
-    }
-
-    fn doubted<R: Wait>(&self, rt: &R, keyring: &VerifyingKeyring, bytes: &[u8]) {
-        self.trouble.doubt();
-        self.doubts.look(rt, keyring, bytes);
     }
 }
 

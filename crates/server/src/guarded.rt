@@ -12,8 +12,9 @@ ghost use Rattle.locked_replica.specs.Stepping.{WholeStep};
 ghost use Rattle.turns.specs.Shares.{Counts};
 ghost use Rattle.ids.specs.declared.limits.TheConstants.{BELOW_HORIZON};
 
+use asking::Questions;
 use doorkeeper::{Brought, Doorkeeper, brings, climbs_too_far};
-use ids::{Fault, Height};
+use ids::{Fault, Height, ReplicaId};
 use locked_replica::{Kept, Share};
 use replica::{Input, Out, Replica};
 use turns::{Prompt, UnderLock};
@@ -28,6 +29,8 @@ pub(crate) struct Guarded<'a> {
     pub(crate) most_blocks: usize,
     /// Whether its last proposal is out: it took no block, vote or view since.
     pub(crate) is_out: bool,
+    /// The blocks that were asked for since they had no grounds.
+    pub(crate) questions: Questions,
 }
 
 /// Whether by an input a proposal may come to stand, or another block be the one to propose on.
@@ -116,6 +119,20 @@ impl<'a> Guarded<'a> {
         }
     }
 
+    /// On whose account a block comes, where it was asked for.
+    fn payer(&self, input: &Input<'_>) -> Option<ReplicaId> {
+        if self.questions.is_empty() {
+            return None;
+        }
+        let block = match input {
+            Input::Block(checked) => checked.view().core().digest(),
+            Input::OfferedBlock(tagged) => tagged.view().core().digest(),
+            Input::Relayed(copies) => copies.first().view().core().digest(),
+            _ => return None,
+        };
+        self.questions.payer(&block)
+    }
+
     /// A step, after which it is known whether the last proposal is out.
     fn step_and_note(&mut self, share: &mut Share, input: Input<'_>) -> Result<Out, Fault>
         ensures stepped { WholeStep self.old.kept share.old input.entry result self.new.kept share.new }
@@ -202,7 +219,8 @@ impl<'a> UnderLock for Guarded<'a> {
         if let Some(fault) = self.refusal(&input) {
             return Err(fault);
         }
-        match brings(&self.replica().config(), &input) {
+        let payer = self.payer(&input);
+        match brings(&self.replica().config(), &input, payer) {
             Some(block) => self.take(share, input, &block),
             None => self.note(share, input),
         }

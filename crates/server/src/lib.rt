@@ -10,6 +10,7 @@ mod guarded;
 mod laggards;
 mod link;
 mod lying;
+mod outside;
 mod roll;
 mod running;
 mod stations;

@@ -1,7 +1,7 @@
 //! The way out of a replica that lies.
 
 use bytes::Bytes;
-use fabric::{Links, Outgoing};
+use fabric::{Links, Outgoing, Questioned};
 use ids::ReplicaId;
 use liars::{Lies, Lying};
 use signed_frames::Sending;
@@ -77,3 +77,6 @@ impl<'a, C: Clock> Outgoing for LyingOut<'a, C> {
         }
     }
 }
+
+/// It asks for nothing that has no grounds.
+impl<C> Questioned for LyingOut<'_, C> {}

@@ -8,14 +8,16 @@ ghost use Rattle.std.specs.List.{range_with_len};
 ghost use Rattle.ids.specs.Sizes.{replicas};
 ghost use Rattle.marks.specs.Eyes.{first_eye};
 
-use crate::doubts::{Doubting, Doubts};
+use crate::doubts::Doubts;
 use crate::guarded::Guarded;
 use crate::laggards::Reach;
 use crate::lying::{LiarStart, LyingOut};
+use crate::outside::Outside;
 use crate::terms::{Liars, Terms};
 use crate::trouble::TroubleSign;
 use crate::watching::Progress;
 use crate::worker::WorkerStart;
+use asking::Questions;
 use authenticators::ReplicaKeyring;
 use clock::{Due, Keep, Pulse, Watched, keep_time};
 use doorkeeper::Doorkeeper;
@@ -31,7 +33,7 @@ use std::alloc::{AllocError, Global};
 use std::hash::RandomState;
 use std::sync::atomic::Ordering::SeqCst;
 use std::sync::atomic::{AtomicBool, AtomicU64};
-use std::sync::{Arc, Mutex, Wait};
+use std::sync::{Arc, Mutex, MutexGuard, Wait};
 use std::time::Clock;
 use turns::Open;
 
@@ -89,6 +91,16 @@ impl<'a> Station<'a> {
     /// What is wrong with frames that the replica refuses.
     pub(crate) fn doubts(&self) -> &Doubts {
         &self.doubts
+    }
+
+    /// Whether there is trouble around the replica.
+    pub(crate) fn trouble(&self) -> &TroubleSign {
+        &self.trouble
+    }
+
+    /// What lies under the lock, once that is free.
+    pub(crate) fn lock<R: Wait>(&self, rt: &R) -> MutexGuard<'_, Guarded<'a>> {
+        self.locked.lock(rt)
     }
 
     /// What the replica has executed, and what it has forgotten.
@@ -185,11 +197,7 @@ pub(crate) fn run_worker<R: Wait + Clock + AllocGlobal>(
     let mut steps = &station.locked;
     let _share = match liar {
         None => {
-            let out = Doubting {
-                links,
-                doubts: &station.doubts,
-                trouble: &station.trouble,
-            };
+            let out = Outside::new(rt, links, station);
             let worker = Worker::new(alloc, keyring, &gate, &station.inbox, &out, &station.room);
             worker.run(rt, &mut steps, share)
         }
@@ -323,6 +331,7 @@ fn build_station<'a>(
             door: Doorkeeper::new(alloc, keys.config()),
             most_blocks: terms.most_blocks(),
             is_out: false,
+            questions: Questions::new(alloc, keys.config()),
         }),
         keep: terms.keep(keys.config()),
         shown: AtomicU64::new(0),

@@ -1,4 +1,4 @@
-//! A deployment and its clients in one process: with no liar, and with each that doesn't end the service; one whose replicas forget what
+//! A deployment and its clients in one process: with no liar, and with each that is as plain; one whose replicas forget what
 //! is a few heights below; one whose replicas have one worker each; one of seven replicas; and one whose replicas
 //! may hold few blocks.
 //! What each client reads is printed.
@@ -119,7 +119,7 @@ enum Trial {
 }
 
 /// The deployments, in the order in which they are told.
-const TRIALS: [Trial; 11] = [
+const TRIALS: [Trial; 13] = [
     Trial::Liar(None),
     Trial::Liar(Some(Liar::Plain(Lie::Mute))),
     Trial::Liar(Some(Liar::Plain(Lie::TwoFaced))),
@@ -128,6 +128,8 @@ const TRIALS: [Trial; 11] = [
     Trial::Liar(Some(Liar::Plain(Lie::Flooder))),
     Trial::Liar(Some(Liar::Plain(Lie::Climber))),
     Trial::Liar(Some(Liar::Plain(Lie::Spoiler))),
+    Trial::Liar(Some(Liar::Plain(Lie::HalfVoter))),
+    Trial::Liar(Some(Liar::Plain(Lie::HalfVotes))),
     Trial::Window(4),
     Trial::OneWorker,
     Trial::TwoFaults(Lie::BadReply),

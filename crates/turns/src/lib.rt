@@ -4,6 +4,7 @@
 
 mod frame_turn;
 mod gate;
+mod gather_turn;
 mod offer_turn;
 mod prompt;
 mod share;
@@ -11,6 +12,7 @@ mod steps;
 
 pub use frame_turn::turn;
 pub use gate::{Gate, Open};
+pub use gather_turn::gather;
 pub use offer_turn::offer;
 pub use prompt::Prompt;
 pub use share::Share;

@@ -5,7 +5,7 @@ ghost use Rattle.std.specs.Prelude.{⊤};
 use crate::workers::frames;
 use anyhow::{Result, bail};
 use authenticators::ReplicaKeyring;
-use fabric::{Ends, Links, Outgoing, WaitingRoom, Worker};
+use fabric::{Ends, Links, Outgoing, Questioned, WaitingRoom, Worker};
 use frames_view::genesis_digest;
 use ids::{Config, Digest, Fault, Kind, ReplicaId};
 use locked_replica::Share;
@@ -65,6 +65,8 @@ pub(crate) struct Nowhere;
 impl Outgoing for Nowhere {
     fn send<R: Wait>(&self, _rt: &R, _from: ReplicaId, _sending: Sending) {}
 }
+
+impl Questioned for Nowhere {}
 
 /// One frame goes out.
 fn out_of(alloc: Global, to: To, kind: Kind, frame: Vec<u8>) -> Result<Out> {

@@ -1,0 +1,35 @@
+//! Which blocks a replica asks others for.
+
+use asking::Ask;
+use bytes::Bytes;
+use ids::{Digest, ReplicaId};
+use std::alloc::Global;
+use std::sync::Wait;
+use std::time::Clock;
+
+/// Where it is kept which blocks a replica asked for since a frame had no grounds, and the copies that came. Who keeps none
+/// asks nobody.
+pub trait Questioned {
+    /// A block lacks, by a frame of this payer, on whose account all are to be asked.
+    fn need<R: Wait + Clock>(&self, _rt: &R, _block: Digest, _payer: ReplicaId) {}
+
+    /// The next question, if one is due.
+    fn next<R: Wait + Clock>(&self, _rt: &R) -> Option<Ask> {
+        None
+    }
+
+    /// Keeps the copy that a sender sent of a block. All copies of it, once some are of more senders than may be faulty.
+    fn keep<R: Wait>(
+        &self,
+        _rt: &R,
+        _alloc: Global,
+        _block: &Digest,
+        _sender: ReplicaId,
+        _copy: Bytes,
+    ) -> Option<Vec<Bytes>> {
+        None
+    }
+
+    /// A block was taken.
+    fn close<R: Wait>(&self, _rt: &R, _block: &Digest) {}
+}

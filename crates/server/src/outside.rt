@@ -1,0 +1,96 @@
+//! What lies around the workers of a correct replica.
+
+ghost use Rattle.std.specs.Prelude.{◌≡◌};
+
+use crate::stations::Station;
+use asking::Ask;
+use authenticators::VerifyingKeyring;
+use bytes::Bytes;
+use fabric::{Links, Outgoing, Questioned};
+use ids::{Digest, ReplicaId};
+use signed_frames::Sending;
+use std::alloc::Global;
+use std::sync::Wait;
+use std::time::{Clock, Instant};
+
+/// The links, and a replica's station: its sign of trouble, what it doubts, and its questions.
+#[derive(Drop)]
+pub(crate) struct Outside<'s, 'a> {
+    links: &'s Links,
+    station: &'s Station<'a>,
+    /// When its worker began. None where the clock can't be read: then no time passes for its questions.
+    start: Option<Instant>,
+}
+
+impl<'s, 'a> Outside<'s, 'a> {
+    /// What lies around a worker that begins now.
+    pub(crate) fn new<R: Clock>(rt: &R, links: &'s Links, station: &'s Station<'a>) -> Outside<'s, 'a> {
+        Outside {
+            links,
+            station,
+            start: Instant::now(rt).ok(),
+        }
+    }
+
+    /// The milliseconds since its worker began.
+    fn now<R: Clock>(&self, rt: &R) -> u64 {
+        let passed = self.start.and_then(|start| start.elapsed(rt).ok());
+        match passed {
+            Some(passed) => u64::try_from(passed.as_millis()).unwrap_or(u64::MAX),
+            None => 0,
+        }
+    }
+}
+
+impl Outgoing for Outside<'_, '_> {
+    fn send<R: Wait>(&self, rt: &R, from: ReplicaId, sending: Sending) {
+        self.links.send(rt, from, sending);
+    }
+
+    fn in_trouble(&self) -> bool {
+        self.station.trouble().is_on()
+    }
+
+    fn doubted<R: Wait>(&self, rt: &R, keyring: &VerifyingKeyring, bytes: &[u8]) {
+        self.station.trouble().doubt();
+        self.station.doubts().look(rt, keyring, bytes);
+    }
+}
+
+/// The questions stand under the replica's lock, where its doorkeeper learns on whose account a block comes.
+impl Questioned for Outside<'_, '_> {
+    fn need<R: Wait + Clock>(&self, rt: &R, block: Digest, payer: ReplicaId) {
+        let now = self.now(rt);
+        let _refused = self.station.lock(rt).questions.need(block, payer, None, now);
+    }
+
+    fn next<R: Wait + Clock>(&self, rt: &R) -> Option<Ask> {
+        let now = self.now(rt);
+        self.station.lock(rt).questions.next(now)
+    }
+
+    fn keep<R: Wait>(
+        &self,
+        rt: &R,
+        alloc: Global,
+        block: &Digest,
+        sender: ReplicaId,
+        copy: Bytes,
+    ) -> Option<Vec<Bytes>> {
+        let faults = self.links.config().faults();
+        let mut guarded = self.station.lock(rt);
+        let senders = guarded.questions.keep(block, sender, copy).ok()?;
+        if senders <= usize::from(faults) {
+            return None;
+        }
+        let mut copies = Vec::new(alloc);
+        for copy in guarded.questions.copies(block) {
+            copies.push(copy.frame.clone().ok()?).ok()?;
+        }
+        Some(copies)
+    }
+
+    fn close<R: Wait>(&self, rt: &R, block: &Digest) {
+        self.station.lock(rt).questions.close(block);
+    }
+}
