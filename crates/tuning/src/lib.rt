@@ -4,12 +4,17 @@
 //! None of them makes an answer wrong: they say who waits, how long, and for how much there is room.
 #![tactic(auto)]
 
+mod asking;
 mod clients;
 mod clocks;
 mod links;
 mod waiting;
 mod warnings;
 
+pub use asking::{
+    MOST_ASKED_FOR, MOST_COPY_BYTES, MOST_TIMES_ASKED, QUESTION_PACE, QUESTION_PACE_MILLIS,
+    QUESTION_PAUSE_MILLIS,
+};
 pub use clients::{
     CLIENT_CROWD, CLIENT_HELD_MILLIS, CLOSED_LOOK_MILLIS, LATE_TRIES, LINGER_BYTES, LINGER_MILLIS,
     LINGER_TIMES, MOST_TRIES, REPLY_WAIT_MILLIS,

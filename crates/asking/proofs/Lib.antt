@@ -1,0 +1,4 @@
+pub mod Bounds
+pub mod Changing
+pub mod Choosing
+pub mod Turns

@@ -1,0 +1,211 @@
+//! One question.
+
+ghost use Rattle.std.specs.Prelude.{◌≡◌, ◌+◌, ◌-◌, ◌<◌, ◌≤◌, ◌^◌, ◌*◌, ◌&&◌, ◌==◌, count_by, IfOk, OnErr, OnOk, length};
+ghost use Rattle.std.specs.Prelude.{not, filter, nat_lt, nat_le};
+ghost use Rattle.asking.specs.Asking.{asked_at, hastened, is_due, is_for, is_from, is_vain, later, new_question};
+ghost use Rattle.asking.specs.Asking.{released, size_of, waiting_for, waits_for, with_copy_of};
+ghost use Rattle.tuning.specs.declared.asking.TheConstants.{MOST_COPY_BYTES, MOST_TIMES_ASKED};
+
+use crate::ask::Ask;
+use crate::block_copy::BlockCopy;
+use bytes::Bytes;
+use ids::{Digest, ReplicaId};
+use std::alloc::{AllocError, Global};
+use std::marker::Model;
+use tuning::{MOST_TIMES_ASKED, QUESTION_PAUSE_MILLIS};
+
+/// A block that lacks.
+#[derive(Drop)]
+pub(crate) struct Question {
+    block: Digest,
+    /// Whose frame made the replica ask.
+    payer: ReplicaId,
+    /// Whom the next question goes to. None: to all.
+    whom: Option<ReplicaId>,
+    /// How often it was asked.
+    times: u8,
+    /// When the next question may go out, in milliseconds.
+    due: u64,
+    /// The block for which the copies wait.
+    behind: Option<Digest>,
+    copies: Vec<BlockCopy>,
+}
+
+impl Model for Question {
+    ghost use Rattle.asking.specs.Asking as asking;
+    ghost use Rattle.std.specs.Prelude.{◌≤◌};
+    ghost use Rattle.tuning.specs.declared.asking.TheConstants.{MOST_TIMES_ASKED};
+
+    ghost Value = { asking.Question };
+
+    ghost view = { λ q. record {
+      block = q.block;
+      payer = q.payer;
+      whom = q.whom;
+      times = q.times;
+      due = q.due;
+      behind = q.behind;
+      copies = q.copies.items;
+    } };
+
+    ghost invariant = { λ q. q.times ≤ MOST_TIMES_ASKED };
+}
+
+/// When so many milliseconds have passed.
+fn later(now: u64, millis: u64) -> u64
+    ensures { result ≡ later now millis }
+{
+    now.saturating_add(millis)
+}
+
+impl Question {
+    /// It wasn't asked yet, and may be at once.
+    pub(crate) fn new(
+        alloc: Global,
+        block: Digest,
+        payer: ReplicaId,
+        whom: Option<ReplicaId>,
+        now: u64,
+    ) -> Question
+        ensures { result ≡ new_question block payer whom now }
+    {
+        Question {
+            block,
+            payer,
+            whom,
+            times: 0,
+            due: now,
+            behind: None,
+            copies: Vec::new(alloc),
+        }
+    }
+
+    /// The block.
+    pub(crate) fn block(&self) -> Digest
+        ensures { result ≡ self.now.block }
+    {
+        self.block
+    }
+
+    /// Whether it is for this block.
+    pub(crate) fn is_for(&self, block: &Digest) -> bool
+        ensures { result ≡ is_for block.now self.now }
+    {
+        self.block == *block
+    }
+
+    /// On whose account it is.
+    pub(crate) fn payer(&self) -> ReplicaId
+        ensures { result ≡ self.now.payer }
+    {
+        self.payer
+    }
+
+    /// When it is due.
+    pub(crate) fn due(&self) -> u64
+        ensures { result ≡ self.now.due }
+    {
+        self.due
+    }
+
+    /// The copies that came.
+    pub(crate) fn copies(&self) -> &[BlockCopy]
+        ensures { result.now ≡ self.now.copies }
+    {
+        &self.copies
+    }
+
+    /// Whether it may be asked.
+    pub(crate) fn is_due(&self, now: u64) -> bool
+        ensures { result ≡ is_due now self.now }
+    {
+        self.due <= now && self.behind.is_none() && self.times < MOST_TIMES_ASKED
+    }
+
+    /// Whether it was asked in vain as often as may be.
+    pub(crate) fn is_vain(&self, now: u64) -> bool
+        ensures { result ≡ is_vain now self.now }
+    {
+        self.due <= now && self.behind.is_none() && self.times >= MOST_TIMES_ASKED
+    }
+
+    /// Asks.
+    pub(crate) fn ask(&mut self, now: u64) -> Ask
+        requires { self.old.times < MOST_TIMES_ASKED }
+        ensures ask { result ≡ record { block = self.old.block; to = self.old.whom } }
+        ensures asked { self.new ≡ asked_at now self.old }
+    {
+        let ask = Ask {
+            block: self.block,
+            to: self.whom,
+        };
+        self.whom = None;
+        self.times += 1;
+        self.due = later(now, QUESTION_PAUSE_MILLIS * u64::from(self.times.min(2)));
+        ask
+    }
+
+    /// All are to be asked at once, where it was asked once at most.
+    pub(crate) fn hasten(&mut self, now: u64)
+        ensures { self.new ≡ hastened now self.old }
+    {
+        if self.times <= 1 {
+            self.whom = None;
+            self.due = now;
+        }
+    }
+
+    /// The copies wait for a block.
+    pub(crate) fn wait_for(&mut self, parent: Digest)
+        ensures { self.new ≡ waiting_for parent self.old }
+    {
+        self.behind = Some(parent);
+    }
+
+    /// Whether the copies wait for this block.
+    pub(crate) fn waits_for(&self, parent: &Digest) -> bool
+        ensures { result ≡ waits_for parent.now self.now }
+    {
+        match &self.behind {
+            Some(block) => *block == *parent,
+            None => false,
+        }
+    }
+
+    /// They wait for this block no longer.
+    pub(crate) fn release(&mut self, parent: &Digest)
+        ensures { self.new ≡ released parent.now self.old }
+    {
+        if self.waits_for(parent) {
+            self.behind = None;
+        }
+    }
+
+    /// How many bytes the copies have, which are few.
+    pub(crate) fn size(&self) -> usize
+        requires { size_of self.now.copies ≤ MOST_COPY_BYTES }
+        ensures { result ≡ size_of self.now.copies }
+    {
+        let mut size = 0;
+        for copy in &self.copies {
+            size += copy.frame.len();
+        }
+        size
+    }
+
+    /// Keeps one more copy, in the place of its sender's. Where memory is refused, nothing changes.
+    pub(crate) fn keep(&mut self, sender: ReplicaId, frame: Bytes) -> Result<usize, AllocError>
+        ensures kept { OnOk result (self.new ≡ with_copy_of sender frame self.old) }
+        ensures count { IfOk result (λ count. count ≡ length self.new.copies) }
+        ensures unchanged { OnErr result (self.new ≡ self.old) }
+    {
+        self.copies.reserve(1)?;
+        self.copies.retain(
+            |copy: &BlockCopy| -> bool
+                ensures { result ≡ not (is_from sender copy.now) }
+            { copy.sender != sender },
+        );
+        self.copies.push_reserved(BlockCopy { sender, frame });
+        Ok(self.copies.len())
+    }
+}

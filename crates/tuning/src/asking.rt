@@ -1,0 +1,24 @@
+//! Blocks that a replica asks for. A frame's way between two replicas of one process is 10 milliseconds at most, mostly.
+
+/// Milliseconds after which a block is asked for again where nothing came, and half of what follows later: there and
+/// back, and a way to spare. Fewer: what is on its way is asked for twice. More: a lost question costs more.
+pub const QUESTION_PAUSE_MILLIS: u64 = 30;
+
+/// Times that a block is asked for on one frame's account, at most. Fewer: it is given up where many frames are lost.
+/// More: what doesn't exist is asked for longer.
+pub const MOST_TIMES_ASKED: u8 = 12;
+
+/// Milliseconds in which questions are counted: a frame's way.
+pub const QUESTION_PACE_MILLIS: u64 = 10;
+
+/// Blocks that are asked for in that time, at most. More: faulty replicas have correct ones answer more. Fewer: one that
+/// lacks many blocks is behind longer.
+pub const QUESTION_PACE: u64 = 8;
+
+/// Blocks that are asked for at once on one replica's account, at most: as many heights as a leader may climb in view 3.
+/// More: what faulty replicas name takes more memory, and each look more time.
+pub const MOST_ASKED_FOR: usize = 256;
+
+/// Bytes of copies that are kept on one replica's account, at most: three times what one block of the longest frames
+/// takes, of f + 1 among 31. More: faulty replicas fill more memory. Fewer: what waits for lower blocks is lost.
+pub const MOST_COPY_BYTES: usize = 4_194_304;
