@@ -10,9 +10,19 @@ use bytes::Bytes;
 use frames_view::{Frame, read};
 use ids::{Digest, Fault};
 use signed_frames::Out;
+use std::alloc::{AllocError, Global};
 use std::sync::Wait;
 use std::time::Clock;
 use turns::{Gate, Share, Steps, gather, offer, turn};
+
+/// The bytes of frames.
+fn slices<'b>(alloc: Global, frames: &'b [Bytes]) -> Result<Vec<&'b [u8]>, AllocError> {
+    let mut slices = Vec::new(alloc);
+    for frame in frames {
+        slices.push(frame.as_slice())?;
+    }
+    Ok(slices)
+}
 
 impl<'a, G: Gate, O: Outgoing + Questioned> Worker<'a, G, O> {
     /// The turn of one frame; where a tag isn't right, it is offered. What it sends goes out.
@@ -113,10 +123,7 @@ impl<'a, G: Gate, O: Outgoing + Questioned> Worker<'a, G, O> {
     ) -> Result<(), Fault>
         ensures { HasGrown share.old share.new }
     {
-        let mut frames: Vec<&[u8]> = Vec::with_capacity(self.alloc, copies.len())?;
-        for copy in &copies {
-            frames.push_reserved(copy.as_slice());
-        }
+        let frames = slices(self.alloc, &copies)?;
         let answer = gather(rt, steps, share, self.keyring.verifying(), &frames);
         self.finish(rt, answer)
     }
@@ -145,7 +152,7 @@ impl<'a, G: Gate, O: Outgoing + Questioned> Worker<'a, G, O> {
             let brought = self.bring(rt, steps, share, frame.number, frame.bytes.as_slice());
             if brought.is_ok() {
                 latest = frame.brings.block();
-                self.has_taken(rt, latest);
+                self.has_taken(rt, latest.as_ref());
             }
         }
     }
@@ -238,17 +245,17 @@ impl<'a, G: Gate, O: Outgoing + Questioned> Worker<'a, G, O> {
         }
         self.keep_request(rt, bytes);
         let block = Carried::by(&self.keyring.config(), bytes.as_slice()).block();
-        self.has_taken(rt, block);
+        self.has_taken(rt, block.as_ref());
         if let Some(block) = block {
             self.release(rt, steps, share, block);
         }
     }
 
     /// A frame was taken that brings this block, if any: it isn't asked for any more.
-    fn has_taken<R: Wait>(&self, rt: &R, block: Option<Digest>) {
+    fn has_taken<R: Wait>(&self, rt: &R, block: Option<&Digest>) {
         self.room.has_news();
         if let (true, Some(block)) = (self.out.in_trouble(), block) {
-            self.out.close(rt, &block);
+            self.out.close(rt, block);
         }
     }
 
