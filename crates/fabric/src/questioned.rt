@@ -13,13 +13,25 @@ pub trait Questioned {
     /// A block lacks, by a frame of this payer, on whose account all are to be asked.
     fn need<R: Wait + Clock>(&self, _rt: &R, _block: Digest, _payer: ReplicaId) {}
 
+    /// The parent of a block lacks, by this sender's frame, who is to be asked first: on the account that the block is on
+    /// where that was asked for, else on the sender's. The block isn't asked for meanwhile.
+    fn need_below<R: Wait + Clock>(
+        &self,
+        _rt: &R,
+        _block: &Digest,
+        _parent: Digest,
+        _sender: ReplicaId,
+    ) {
+    }
+
     /// The next question, if one is due.
     fn next<R: Wait + Clock>(&self, _rt: &R) -> Option<Ask> {
         None
     }
 
-    /// Keeps the copy that a sender sent of a block. All copies of it, once some are of more senders than may be faulty.
-    fn keep<R: Wait>(
+    /// Keeps the copy that a sender sent of a block. All copies of it, once they are of more senders than may be faulty;
+    /// before that all are to be asked at once.
+    fn keep<R: Wait + Clock>(
         &self,
         _rt: &R,
         _alloc: Global,

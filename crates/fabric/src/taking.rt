@@ -8,7 +8,7 @@ use crate::waiting::{Carried, Waiting};
 use crate::worker::{Outgoing, Worker};
 use bytes::Bytes;
 use frames_view::{Frame, read};
-use ids::{Digest, Fault};
+use ids::{Digest, Fault, ReplicaId};
 use signed_frames::Out;
 use std::alloc::{AllocError, Global};
 use std::sync::Wait;
@@ -157,6 +157,19 @@ impl<'a, G: Gate, O: Outgoing + Questioned> Worker<'a, G, O> {
         }
     }
 
+    /// In trouble the parent of a block is asked for, first of who sent the block, then of all.
+    fn ask_below<R: Wait + Clock>(
+        &self,
+        rt: &R,
+        block: &Digest,
+        parent: Digest,
+        sender: ReplicaId,
+    ) {
+        if self.out.in_trouble() {
+            self.out.need_below(rt, block, parent, sender);
+        }
+    }
+
     /// Takes a frame that was refused with `UnknownParent`. It waits, and who takes the block later finds it. Where
     /// the replica has another worker, that may have taken the block before the frame began to wait: so the frame
     /// is brought once more.
@@ -177,9 +190,12 @@ impl<'a, G: Gate, O: Outgoing + Questioned> Worker<'a, G, O> {
             return;
         };
         let brings = frame.brings.block();
-        if brings.is_none() {
+        match &brings {
+            Some(block) => self.ask_below(rt, block, frame.lacks, frame.sender),
             // Of an announcement the view counts at once.
-            let _vote = self.offer(rt, steps, share, number, bytes.as_slice());
+            None => {
+                let _vote = self.offer(rt, steps, share, number, bytes.as_slice());
+            }
         }
         self.room.wait(rt, frame);
         if !self.room.is_shared() {

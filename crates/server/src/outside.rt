@@ -3,15 +3,24 @@
 ghost use Rattle.std.specs.Prelude.{◌≡◌};
 
 use crate::stations::Station;
-use asking::Ask;
+use asking::{Ask, BlockCopy};
 use authenticators::VerifyingKeyring;
 use bytes::Bytes;
 use fabric::{Links, Outgoing, Questioned};
 use ids::{Digest, ReplicaId};
 use signed_frames::Sending;
-use std::alloc::Global;
+use std::alloc::{AllocError, Global};
 use std::sync::Wait;
 use std::time::{Clock, Instant};
+
+/// The frames of copies.
+fn copies_of(alloc: Global, copies: &[BlockCopy]) -> Result<Vec<Bytes>, AllocError> {
+    let mut frames = Vec::new(alloc);
+    for copy in copies {
+        frames.push(copy.frame.clone()?)?;
+    }
+    Ok(frames)
+}
 
 /// The links, and a replica's station: its sign of trouble, what it doubts, and its questions.
 #[derive(Drop)]
@@ -64,12 +73,26 @@ impl Questioned for Outside<'_, '_> {
         let _refused = self.station.lock(rt).questions.need(block, payer, None, now);
     }
 
+    fn need_below<R: Wait + Clock>(
+        &self,
+        rt: &R,
+        block: &Digest,
+        parent: Digest,
+        sender: ReplicaId,
+    ) {
+        let now = self.now(rt);
+        let questions = &mut self.station.lock(rt).questions;
+        let payer = questions.payer(block).unwrap_or(sender);
+        let _refused = questions.need(parent, payer, Some(sender), now);
+        questions.wait_for(block, parent);
+    }
+
     fn next<R: Wait + Clock>(&self, rt: &R) -> Option<Ask> {
         let now = self.now(rt);
         self.station.lock(rt).questions.next(now)
     }
 
-    fn keep<R: Wait>(
+    fn keep<R: Wait + Clock>(
         &self,
         rt: &R,
         alloc: Global,
@@ -77,17 +100,14 @@ impl Questioned for Outside<'_, '_> {
         sender: ReplicaId,
         copy: Bytes,
     ) -> Option<Vec<Bytes>> {
-        let faults = self.links.config().faults();
-        let mut guarded = self.station.lock(rt);
-        let senders = guarded.questions.keep(block, sender, copy).ok()?;
+        let (now, faults) = (self.now(rt), self.links.config().faults());
+        let questions = &mut self.station.lock(rt).questions;
+        let senders = questions.keep(block, sender, copy).ok()?;
         if senders <= usize::from(faults) {
+            questions.hasten(block, now);
             return None;
         }
-        let mut copies = Vec::new(alloc);
-        for copy in guarded.questions.copies(block) {
-            copies.push(copy.frame.clone().ok()?).ok()?;
-        }
-        Some(copies)
+        copies_of(alloc, questions.copies(block)).ok()
     }
 
     fn close<R: Wait>(&self, rt: &R, block: &Digest) {
