@@ -202,7 +202,7 @@ impl<'a> UnderLock for Guarded<'a> {
         if let Some(fault) = self.refusal(&input) {
             return Err(fault);
         }
-        match brings(&self.replica().config(), &input) {
+        match brings(&self.replica().config(), None, &input) {
             Some(block) => self.take(share, input, &block),
             None => self.note(share, input),
         }
