@@ -1,7 +1,6 @@
 -- How far leaders climb.
-use Rattle.std.proofs.Common.{◌≡◌, ◌+◌, ◌-◌, ◌*◌, ◌^◌, ◌<◌, ◌≤◌, ℕ, min, arith, false}
+use Rattle.std.proofs.Common.{◌+◌, ◌-◌, ◌^◌, ◌<◌, ◌≤◌, ℕ, arith}
 use Rattle.std.proofs.lemmas.Bool.{ltb-false, le-ltb}
-use Rattle.definitions.specs.Frames.{Core}
 use Rattle.doorkeeper.specs.Climbs.{most_climb, LeadersPass}
 
 -- a later view may climb by four more, or by as many as there are

@@ -29,7 +29,7 @@ use Rattle.definitions.specs.Rulings.{with_block, take_grounded, on_offer, on_re
 use Rattle.definitions.specs.Grounds.{are_replicas, may_lead_from}
 use Rattle.doorkeeper.specs.declared.brought.Brought.{Brought}
 use Rattle.doorkeeper.specs.Doors.{of_height, PassedAll, AreTakenIn, NoneCrowdedOut}
-use Rattle.doorkeeper.proofs.Senders.{count-cons, never-crowded}
+use Rattle.doorkeeper.proofs.Accounts.{count-cons, never-crowded}
 
 -- ---- heights
 

@@ -1,5 +1,5 @@
+pub mod Accounts
 pub mod Climbing
 pub mod Counted
 pub mod Crowds
 pub mod Remembering
-pub mod Senders

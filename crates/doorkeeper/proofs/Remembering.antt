@@ -5,41 +5,41 @@ use Rattle.std.proofs.lemmas.Bool.{cond_both, leb-true, leb-false, le-leb, lt-le
 use Rattle.std.proofs.lemmas.Bool.{ne_eqb, and_left, cond-true, cond-false}
 use Rattle.doorkeeper.specs.declared.brought.Brought.{Brought}
 use Rattle.doorkeeper.specs.Doors.{brought, most_of_each, remembered, PassedAll}
-use Rattle.doorkeeper.proofs.Senders.{is_from, count-cons, count-no}
+use Rattle.doorkeeper.proofs.Accounts.{is_from, count-cons, count-no}
 
 -- a block of another height counts for none of this one
-pub other-height : (height sender : ℕ) (b : Brought) (taken : List Brought) → (b.height ≡ height → ⊥)
-    → brought height sender (b ∷ taken) ≡ brought height sender taken
-other-height height sender b taken d =
-    count-no (is_from height sender) b taken (and_left _ _ (ne_eqb b.height height d))
+pub other-height : (height payer : ℕ) (b : Brought) (taken : List Brought) → (b.height ≡ height → ⊥)
+    → brought height payer (b ∷ taken) ≡ brought height payer taken
+other-height height payer b taken d =
+    count-no (is_from height payer) b taken (and_left _ _ (ne_eqb b.height height d))
 
 -- of a height that is remembered, all count
-pub brought-remembered : (base height sender : ℕ) (taken : List Brought) → base ≤ height
-    → brought height sender (remembered base taken) ≡ brought height sender taken
-brought-remembered base height sender [] l = refl
-brought-remembered base height sender (b ∷ taken) l =
-    let rest : brought height sender (remembered base taken) ≡ brought height sender taken =
-    brought-remembered base height sender taken l in
+pub brought-remembered : (base height payer : ℕ) (taken : List Brought) → base ≤ height
+    → brought height payer (remembered base taken) ≡ brought height payer taken
+brought-remembered base height payer [] l = refl
+brought-remembered base height payer (b ∷ taken) l =
+    let rest : brought height payer (remembered base taken) ≡ brought height payer taken =
+    brought-remembered base height payer taken l in
     cond_both (nat_le base b.height) (b ∷ remembered base taken) (remembered base taken)
-    (λ (xs : List Brought). brought height sender xs ≡ brought height sender (b ∷ taken))
-    (λ t. count-cons (is_from height sender) b (remembered base taken)
-    ∙ (ap (λ (k : ℕ). cond (is_from height sender b) 1 0 + k) rest
-    ∙ sym (count-cons (is_from height sender) b taken)))
-    (λ f. rest ∙ sym (other-height height sender b taken (lower (leb-false base b.height f))))
+    (λ (xs : List Brought). brought height payer xs ≡ brought height payer (b ∷ taken))
+    (λ t. count-cons (is_from height payer) b (remembered base taken)
+    ∙ (ap (λ (k : ℕ). cond (is_from height payer b) 1 0 + k) rest
+    ∙ sym (count-cons (is_from height payer) b taken)))
+    (λ f. rest ∙ sym (other-height height payer b taken (lower (leb-false base b.height f))))
   where
     lower : b.height < base → b.height ≡ height → ⊥
     lower k e = omega arith
 
 -- of a lower one none do
-pub brought-forgotten : (base height sender : ℕ) (taken : List Brought) → height < base
-    → brought height sender (remembered base taken) ≡ 0
-brought-forgotten base height sender [] l = refl
-brought-forgotten base height sender (b ∷ taken) l =
-    let rest : brought height sender (remembered base taken) ≡ 0 =
-    brought-forgotten base height sender taken l in
+pub brought-forgotten : (base height payer : ℕ) (taken : List Brought) → height < base
+    → brought height payer (remembered base taken) ≡ 0
+brought-forgotten base height payer [] l = refl
+brought-forgotten base height payer (b ∷ taken) l =
+    let rest : brought height payer (remembered base taken) ≡ 0 =
+    brought-forgotten base height payer taken l in
     cond_both (nat_le base b.height) (b ∷ remembered base taken) (remembered base taken)
-    (λ (xs : List Brought). brought height sender xs ≡ 0)
-    (λ t. other-height height sender b (remembered base taken) (higher (leb-true base b.height t)) ∙ rest)
+    (λ (xs : List Brought). brought height payer xs ≡ 0)
+    (λ t. other-height height payer b (remembered base taken) (higher (leb-true base b.height t)) ∙ rest)
     (λ f. rest)
   where
     higher : base ≤ b.height → b.height ≡ height → ⊥
@@ -54,8 +54,8 @@ passed-remembered n base (b ∷ taken) p =
     passed-remembered n base taken p.1 in
     cond_both (nat_le base b.height) (b ∷ remembered base taken) (remembered base taken) (PassedAll n)
     (λ t. (
-      ap (λ (k : ℕ). nat_lt b.sender n && nat_lt k (most_of_each n))
-          (brought-remembered base b.height b.sender taken (leb-true base b.height t)) ∙ p.0,
+      ap (λ (k : ℕ). nat_lt b.payer n && nat_lt k (most_of_each n))
+          (brought-remembered base b.height b.payer taken (leb-true base b.height t)) ∙ p.0,
       rest,
     ))
     (λ _. rest)

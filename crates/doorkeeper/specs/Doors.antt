@@ -1,6 +1,6 @@
 -- Which blocks a doorkeeper lets in to its replica. This is the project's own rule of the running server. No
 -- theorem rests on it: what it keeps out is lost, as on any network.
-use Rattle.std.specs.Prelude.{ℕ, ◌≡◌, ◌==◌, ◌*◌, ◌-◌, ◌/◌, ◌<◌, ◌≤◌, ◌&&◌, min, Bool, IsTrue, List, [], ◌∷◌, count_by}
+use Rattle.std.specs.Prelude.{ℕ, ◌≡◌, ◌==◌, ◌+◌, ◌*◌, ◌-◌, ◌/◌, ◌<◌, ◌≤◌, ◌&&◌, min, Bool, IsTrue, List, [], ◌∷◌, count_by}
 use Rattle.std.specs.Prelude.{filter, length, map}
 use Rattle.std.specs.Prelude.{nat_lt, nat_le, if◌then◌else◌, Option, Some, None, ⊤}
 use Rattle.ids.specs.Sizes.{Sizes, replicas, leader}
@@ -13,32 +13,42 @@ use Rattle.definitions.specs.Rulings.{Ruling.refusing, ruling}
 use Rattle.doorkeeper.specs.declared.brought.Brought.{Brought}
 use Rattle.tuning.specs.declared.links.TheConstants.{MOST_OF_SENDER}
 
--- the block that an input brings: a proposal's by the leader of its view, copies by the sender of the first, and another
--- by its sender
-abbrev pub brings : Sizes → Input → Option Brought
-brings sizes (proposal_in view core q found) =
-    Some (record { height = core.height; sender = leader sizes view })
-brings sizes (block_in sender core q found) = Some (record { height = core.height; sender = sender })
-brings sizes (offered_in view sender core q found) = Some (record { height = core.height; sender = sender })
-brings sizes (relayed_in (sender ∷ others) core q found) =
-    if nat_lt sender (replicas sizes) then Some (record { height = core.height; sender = sender }) else None
-brings sizes other = None
+-- on whose account a block comes in that was asked for on a replica's account, or else came from this sender unasked
+abbrev pub account : Sizes → (asked_by : Option ℕ) → (sender : ℕ) → ℕ
+account sizes None sender = sender
+account sizes (Some payer) sender = if nat_lt payer (replicas sizes) then payer else sender
 
--- how many of these taken blocks have this height and were brought by this sender
-abbrev pub brought : (height sender : ℕ) → List Brought → ℕ
-brought height sender taken = count_by (λ b. (b.height == height) && (b.sender == sender)) taken
+-- The block that an input brings, and on whose account: a proposal's on that of its view's leader; another one on that
+-- of the replica whose frame made this one ask for it, where that is known, and else of its sender, of several the first.
+abbrev pub brings : Sizes → (asked_by : Option ℕ) → Input → Option Brought
+brings sizes asked_by (proposal_in view core q found) =
+    Some (record { height = core.height; payer = leader sizes view })
+brings sizes asked_by (offered_in (Some view) sender core q found) =
+    Some (record { height = core.height; payer = sender })
+brings sizes asked_by (offered_in None sender core q found) =
+    Some (record { height = core.height; payer = account sizes asked_by sender })
+brings sizes asked_by (block_in sender core q found) =
+    Some (record { height = core.height; payer = account sizes asked_by sender })
+brings sizes asked_by (relayed_in (sender ∷ others) core q found) =
+    let payer = account sizes asked_by sender in
+    if nat_lt payer (replicas sizes) then Some (record { height = core.height; payer = payer }) else None
+brings sizes asked_by other = None
 
--- how many have this height, whoever brought them
+-- how many of these taken blocks have this height and came in on this account
+abbrev pub brought : (height payer : ℕ) → List Brought → ℕ
+brought height payer taken = count_by (λ b. (b.height == height) && (b.payer == payer)) taken
+
+-- how many have this height, on whatever account
 abbrev pub of_height : ℕ → List Brought → ℕ
 of_height height taken = count_by (λ b. b.height == height) taken
 
--- how many of a height each of n replicas may bring: `MOST_OF_SENDER`, or fewer where all of them could fill it
+-- how many of a height may come in on each of n accounts: `MOST_OF_SENDER`, or fewer where all of them could fill it
 abbrev pub most_of_each : ℕ → ℕ
 most_of_each n = min MOST_OF_SENDER ((MOST_OF_HEIGHT - 1) / n)
 
--- a block passes while its sender, which is one of n replicas, has brought fewer of its height
+-- a block passes while fewer of its height came in on its account, which is that of one of n replicas
 abbrev pub passes : (n : ℕ) → Brought → List Brought → Bool
-passes n b taken = nat_lt b.sender n && nat_lt (brought b.height b.sender taken) (most_of_each n)
+passes n b taken = nat_lt b.payer n && nat_lt (brought b.height b.payer taken) (most_of_each n)
 
 -- what is remembered where all below a height is forgotten
 abbrev pub remembered : ℕ → List Brought → List Brought
@@ -63,25 +73,34 @@ pub record DoorState : Type 0 where
 
 -- ---- what the rule is for
 
--- with at most fifteen replicas, one that has brought at most three blocks of a height may bring one more
+-- with at most fifteen replicas, where three blocks of a height came in on an account at most, one more may
 abbrev pub FewPass : Type 0
-FewPass = (n : ℕ) (b : Brought) (taken : List Brought) → n ≤ 15 → b.sender < n
-    → brought b.height b.sender taken ≤ 3 → IsTrue (passes n b taken)
+FewPass = (n : ℕ) (b : Brought) (taken : List Brought) → n ≤ 15 → b.payer < n
+    → brought b.height b.payer taken ≤ 3 → IsTrue (passes n b taken)
 
--- what another sender brings changes nothing
+-- what comes in on another account changes nothing
 abbrev pub OthersDontCount : Type 0
-OthersDontCount = (n : ℕ) (b other : Brought) (taken : List Brought) → (other.sender ≡ b.sender → ⊥)
+OthersDontCount = (n : ℕ) (b other : Brought) (taken : List Brought) → (other.payer ≡ b.payer → ⊥)
     → passes n b (other ∷ taken) ≡ passes n b taken
 
--- n replicas bring at most n times as many blocks of a height
+-- on n accounts n times as many blocks of a height come in at most
 abbrev pub FewOfHeight : Type 0
 FewOfHeight = (n height : ℕ) (taken : List Brought) → PassedAll n taken
     → of_height height taken ≤ n * most_of_each n
 
--- however many replicas there are, they bring fewer of a height than a tree takes
+-- however many replicas there are, fewer of a height come in than a tree takes, whoever asks whom, and whoever lies
 abbrev pub NeverCrowded : Type 0
 NeverCrowded = (n height : ℕ) (taken : List Brought) → PassedAll n taken
     → of_height height taken < MOST_OF_HEIGHT
+
+-- how many of a height come in at most, with f faulty replicas
+abbrev pub most_of_height : (f : ℕ) → ℕ
+most_of_height f = let n = 3 * f + 1 in n * most_of_each n
+
+-- so many for f = 1 to 10
+abbrev pub MostOfHeight : Type 0
+MostOfHeight = map most_of_height (1 ∷ 2 ∷ 3 ∷ 4 ∷ 5 ∷ 6 ∷ 7 ∷ 8 ∷ 9 ∷ 10 ∷ [])
+    ≡ 16 ∷ 28 ∷ 40 ∷ 52 ∷ 48 ∷ 57 ∷ 44 ∷ 50 ∷ 56 ∷ 62 ∷ []
 
 -- these are the blocks that a replica took: each with its height
 abbrev pub AreTakenIn : Chronicle → List Brought → Type 0

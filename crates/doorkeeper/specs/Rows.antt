@@ -12,13 +12,13 @@ use Rattle.doorkeeper.specs.Doors.{brought, PassedAll}
 abbrev pub Rows : Type 0
 Rows = HashMap ℕ (List ℕ) (BuildHasherDefault FoldHasher)
 
--- the count of a sender in a row, if there is one
+-- the count of a payer in a row, if there is one
 abbrev pub count_in : ℕ → Option (List ℕ) → ℕ
-count_in sender None = 0
-count_in sender (Some row) = get_or row sender 0
+count_in payer None = 0
+count_in payer (Some row) = get_or row payer 0
 
 -- The rows count the blocks that were taken, and each of these passed, of n replicas.
 pub record AreCounts (n : ℕ) (rows : Rows) (taken : List Brought) : Type 0 where
-  pub right : (height sender : ℕ) → sender < MOST_REPLICAS
-      → count_in sender (get nat_eq rows height) ≡ brought height sender taken
+  pub right : (height payer : ℕ) → payer < MOST_REPLICAS
+      → count_in payer (get nat_eq rows height) ≡ brought height payer taken
   pub passed : PassedAll n taken

@@ -1,4 +1,4 @@
-//! Who brings which block.
+//! Which block an input brings, and on whose account.
 
 ghost use Rattle.std.specs.Prelude.{◌≡◌, ◌<◌, IfSome};
 ghost use Rattle.ids.specs.declared.limits.TheConstants.{MOST_REPLICAS};
@@ -15,34 +15,57 @@ use ghost_list::Tells;
 use ids::{Config, Height, MOST_OF_HEIGHT, ReplicaId};
 use tuning::MOST_OF_SENDER;
 
-/// A block that comes to a replica, by its height, and who brings it: the leader of a proposal's view, the
-/// sender of a Block frame, or that of the first of several copies.
+/// A block that comes to a replica, by its height, and on whose account.
 #[derive(Clone, Copy, Debug, PartialEq, Eq)]
 pub struct Brought {
     pub height: Height,
-    pub sender: ReplicaId,
+    pub payer: ReplicaId,
 }
 
 impl Tells<Brought> for Brought {
     ghost tells = { λ b. b };
 }
 
-ghost use Rattle.doorkeeper.specs.Doors.{brings, most_of_each};
+ghost use Rattle.doorkeeper.specs.Doors.{account, brings, most_of_each};
 
-/// The block that an input brings, if it brings one.
-pub fn brings(config: &Config, input: &Input<'_>) -> Option<Brought>
-    ensures brings { result ≡ brings config.now (input_of input.now) }
-    ensures sender { IfSome result (λ b. b.sender < MOST_REPLICAS) }
+/// The block that an input brings, if it brings one. A proposal comes in on the account of its view's leader. Another
+/// block comes in on that of the replica whose frame made this one ask for it, so that who answers pays nothing; where
+/// nobody asked, on its sender's, or that of the first of several.
+pub fn brings(config: &Config, asked_by: Option<ReplicaId>, input: &Input<'_>) -> Option<Brought>
+    ensures brings { result ≡ brings config.now asked_by (input_of input.now) }
+    ensures payer { IfSome result (λ b. b.payer < MOST_REPLICAS) }
 {
     // For the proof: there are few replicas.
     let _replicas = config.n();
     match input {
         Input::Proposal(checked) => Some(proposed(config, checked.view())),
-        Input::Block(checked) => Some(sent(&checked.config(), checked.view())),
+        Input::Block(checked) => Some(charged(
+            config,
+            asked_by,
+            sent(&checked.config(), checked.view()),
+        )),
         Input::OfferedProposal(tagged) => Some(proposed(&tagged.config(), tagged.view())),
-        Input::OfferedBlock(tagged) => Some(sent(&tagged.config(), tagged.view())),
-        Input::Relayed(copies) => copied(config, copies),
+        Input::OfferedBlock(tagged) => Some(charged(
+            config,
+            asked_by,
+            sent(&tagged.config(), tagged.view()),
+        )),
+        Input::Relayed(copies) => copied(config, asked_by, copies),
         _ => None,
+    }
+}
+
+/// A block that its sender's account would bear, on the account on which it was asked for, if that is known.
+fn charged(config: &Config, asked_by: Option<ReplicaId>, block: Brought) -> Brought
+    ensures charged { result ≡ record block { payer = account config.now asked_by block.payer } }
+    ensures payer { block.payer < MOST_REPLICAS → result.payer < MOST_REPLICAS }
+{
+    match asked_by {
+        Some(payer) if payer.0 < config.n() => Brought {
+            height: block.height,
+            payer,
+        },
+        _ => block,
     }
 }
 
@@ -50,54 +73,53 @@ pub fn brings(config: &Config, input: &Input<'_>) -> Option<Brought>
 fn proposed(config: &Config, proposal: &ProposalView<'_>) -> Brought
     ensures brought { result ≡ record {
       height = (frame_core (proposal_of proposal.now)).height;
-      sender = leader config.now (frame_view (proposal_of proposal.now));
+      payer = leader config.now (frame_view (proposal_of proposal.now));
     } }
-    ensures sender { result.sender < MOST_REPLICAS }
+    ensures payer { result.payer < MOST_REPLICAS }
 {
     // For the proof: there are few replicas.
     let _replicas = config.n();
     Brought {
         height: proposal.core().height(),
-        sender: config.leader(proposal.view()),
+        payer: config.leader(proposal.view()),
     }
 }
 
-/// The block of a Block frame.
+/// The block of a Block frame, on its sender's account.
 fn sent(config: &Config, block: &BlockView<'_>) -> Brought
     requires { IsFrame config.now (block_of block.now) }
     ensures brought { result ≡ record {
       height = (frame_core (block_of block.now)).height;
-      sender = frame_replica (block_of block.now);
+      payer = frame_replica (block_of block.now);
     } }
-    ensures sender { result.sender < MOST_REPLICAS }
+    ensures payer { result.payer < MOST_REPLICAS }
 {
     // For the proof: there are few replicas.
     let _replicas = config.n();
     Brought {
         height: block.core().height(),
-        sender: block.sender(),
+        payer: block.sender(),
     }
 }
 
-/// The block of copies, where the first that is named is a replica.
-fn copied(config: &Config, copies: &Copies<'_>) -> Option<Brought>
-    ensures brought { result ≡ brings config.now (relayed_block copies.now) }
-    ensures sender { IfSome result (λ b. b.sender < MOST_REPLICAS) }
+/// The block of copies, where its account is a replica's.
+fn copied(config: &Config, asked_by: Option<ReplicaId>, copies: &Copies<'_>) -> Option<Brought>
+    ensures brought { result ≡ brings config.now asked_by (relayed_block copies.now) }
+    ensures payer { IfSome result (λ b. b.payer < MOST_REPLICAS) }
 {
     // For the proof: there are few replicas.
     let n = config.n();
     let (sender, _others) = copies.senders().split_first()?;
-    if sender.0 >= n {
-        return None;
-    }
-    Some(Brought {
+    let block = Brought {
         height: copies.first().view().core().height(),
-        sender: *sender,
-    })
+        payer: *sender,
+    };
+    let block = charged(config, asked_by, block);
+    if block.payer.0 < n { Some(block) } else { None }
 }
 
-/// How many blocks of one height are let in from each of so many replicas: `MOST_OF_SENDER`, or fewer where
-/// all together could bring as many as a tree takes.
+/// How many blocks of one height are let in on each of so many accounts: `MOST_OF_SENDER`, or fewer where all
+/// together could bring as many as a tree takes.
 pub(crate) fn most_of_each(replicas: u8) -> usize
     requires { 0 < replicas }
     ensures { result ≡ most_of_each replicas }

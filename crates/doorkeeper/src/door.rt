@@ -67,8 +67,8 @@ impl Doorkeeper {
 
     /// The counts of a height.
     fn row(&self, height: Height) -> Row
-        ensures { (sender : ℕ) → sender < MOST_REPLICAS
-            → get_or result sender 0 ≡ brought height sender self.now.taken }
+        ensures { (payer : ℕ) → payer < MOST_REPLICAS
+            → get_or result payer 0 ≡ brought height payer self.now.taken }
     {
         match self.rows.get(&height.0) {
             Some(row) => *row,
@@ -76,13 +76,13 @@ impl Doorkeeper {
         }
     }
 
-    /// Whether a block passes: its sender is one of the replicas, and has brought few of its height, fewer than
-    /// four where there are at most fifteen replicas.
+    /// Whether a block passes: its account is that of one of the replicas, and few of its height came in on it,
+    /// fewer than four where there are at most fifteen replicas.
     pub fn passes(&self, block: &Brought) -> bool
         ensures { result ≡ passes self.now.replicas block.now self.now.taken }
     {
-        block.sender.0 < self.replicas
-            && usize::from(self.row(block.height).of(block.sender)) < most_of_each(self.replicas)
+        block.payer.0 < self.replicas
+            && usize::from(self.row(block.height).of(block.payer)) < most_of_each(self.replicas)
     }
 
     /// Lets a block come to the replica, and takes the memory to count it.
@@ -112,12 +112,12 @@ impl Doorkeeper {
         ensures base { self.new.base ≡ self.old.base }
         ensures taken { self.new.taken ≡ with_block self.old.base block.now self.old.taken }
     {
-        let (height, sender) = (block.height, block.sender);
+        let (height, payer) = (block.height, block.payer);
         if height.0 < self.base.0 {
             return;
         }
         let mut row = self.row(height);
-        row.add_one(sender);
+        row.add_one(payer);
         // There is room for it.
         let inserted: Result<_, _> = self.rows.insert(height.0, row);
         let _before = inserted.unwrap();

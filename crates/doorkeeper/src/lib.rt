@@ -1,4 +1,4 @@
-//! Who comes in to a replica: of each height few blocks from each sender, so that a faulty replica
+//! Who comes in to a replica: of each height few blocks on each replica's account, so that faulty replicas
 //! can't fill a height, and end the service.
 #![tactic(auto)]
 
@@ -12,5 +12,6 @@ pub use brought::{Brought, brings};
 pub use climb::climbs_too_far;
 pub use door::Doorkeeper;
 pub use laws::{
-    few_of_a_height, few_pass, leaders_pass, never_crowded, none_crowded_out, others_do_not_count,
+    few_of_a_height, few_pass, leaders_pass, most_of_a_height, never_crowded, none_crowded_out,
+    others_do_not_count,
 };

@@ -24,7 +24,7 @@ impl Model for Row {
 impl Row {
     /// None.
     pub(crate) fn new() -> Row
-        ensures { (sender : ℕ) → get_or result sender 0 ≡ 0 }
+        ensures { (payer : ℕ) → get_or result payer 0 ≡ 0 }
     {
         Row {
             counts: [0; MOST_REPLICAS],
@@ -32,20 +32,20 @@ impl Row {
     }
 
     /// How many a replica brought.
-    pub(crate) fn of(&self, sender: ReplicaId) -> u8
-        requires { sender < MOST_REPLICAS }
-        ensures { result ≡ get_or self.now sender 0 }
+    pub(crate) fn of(&self, payer: ReplicaId) -> u8
+        requires { payer < MOST_REPLICAS }
+        ensures { result ≡ get_or self.now payer 0 }
     {
-        self.counts[usize::from(sender.0)]
+        self.counts[usize::from(payer.0)]
     }
 
     /// One more.
-    pub(crate) fn add_one(&mut self, sender: ReplicaId)
-        requires sender { sender < MOST_REPLICAS }
-        requires few { get_or self.old sender 0 < 255 }
+    pub(crate) fn add_one(&mut self, payer: ReplicaId)
+        requires payer { payer < MOST_REPLICAS }
+        requires few { get_or self.old payer 0 < 255 }
         ensures { (other : ℕ) → get_or self.new other 0
-            ≡ (if other == sender then get_or self.old other 0 + 1 else get_or self.old other 0) }
+            ≡ (if other == payer then get_or self.old other 0 + 1 else get_or self.old other 0) }
     {
-        self.counts[usize::from(sender.0)] += 1;
+        self.counts[usize::from(payer.0)] += 1;
     }
 }

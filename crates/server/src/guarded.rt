@@ -220,7 +220,7 @@ impl<'a> UnderLock for Guarded<'a> {
             return Err(fault);
         }
         let payer = self.payer(&input);
-        match brings(&self.replica().config(), &input, payer) {
+        match brings(&self.replica().config(), payer, &input) {
             Some(block) => self.take(share, input, &block),
             None => self.note(share, input),
         }

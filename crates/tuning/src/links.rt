@@ -33,8 +33,8 @@ pub const LOOKS: u32 = 100;
 /// Milliseconds that a client sleeps at most before it looks what waits, where fewer than f + 1 frames do.
 pub const CLIENT_SLEEP_MILLIS: u64 = 5;
 
-/// Blocks of one height that a replica takes from one sender, at most. In all runs that were tried a correct replica
-/// brought three. More: faulty senders bring more. Fewer: correct leaders are refused. Among many replicas the
+/// Blocks of one height that a replica takes on one replica's account, at most. In all runs that were tried a correct
+/// one needed three. More: faulty ones bring more. Fewer: correct leaders are refused. Among many replicas the
 /// doorkeeper lets in fewer, so that no height is ever full.
 pub const MOST_OF_SENDER: usize = 4;
 

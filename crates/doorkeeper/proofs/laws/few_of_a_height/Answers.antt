@@ -1,4 +1,4 @@
-use Rattle.doorkeeper.proofs.Senders.{few-of-height}
+use Rattle.doorkeeper.proofs.Accounts.{few-of-height}
 use Rattle.doorkeeper.proofs.laws.few_of_a_height.Goals as goal
 
 pub returns : goal.returns

@@ -1,4 +1,4 @@
-use Rattle.doorkeeper.proofs.Senders.{few-pass}
+use Rattle.doorkeeper.proofs.Accounts.{few-pass}
 use Rattle.doorkeeper.proofs.laws.few_pass.Goals as goal
 
 pub returns : goal.returns

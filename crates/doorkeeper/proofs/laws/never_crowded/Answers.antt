@@ -1,4 +1,4 @@
-use Rattle.doorkeeper.proofs.Senders.{never-crowded}
+use Rattle.doorkeeper.proofs.Accounts.{never-crowded}
 use Rattle.doorkeeper.proofs.laws.never_crowded.Goals as goal
 
 pub returns : goal.returns

@@ -5,20 +5,20 @@ use Rattle.doorkeeper.specs.Rows.{count_in}
 use Rattle.doorkeeper.proofs.door.Doorkeeper.row.Goals as goal
 
 pub returns-in-Some : goal.returns-in-Some
-returns-in-Some c = λ sender l.
+returns-in-Some c = λ payer l.
     let row : Option (List ℕ) = Some c.in-Some.row.now in
     let found : row ≡ get nat_eq c.self.inside.rows c.args.height =
     c.in-Some.ensures.value ∙ ap (get nat_eq c.self.inside.rows) c.height.view_is in
-    ap (count_in sender) found
-    ∙ (c.self.invariant.2.right c.args.height sender l
-    ∙ ap (λ (d : DoorState). brought c.args.height sender d.taken) c.self.view_is)
+    ap (count_in payer) found
+    ∙ (c.self.invariant.2.right c.args.height payer l
+    ∙ ap (λ (d : DoorState). brought c.args.height payer d.taken) c.self.view_is)
 
 pub returns-in-None : goal.returns-in-None
-returns-in-None c = λ sender l.
+returns-in-None c = λ payer l.
     let row : Option (List ℕ) = None in
     let found : row ≡ get nat_eq c.self.inside.rows c.args.height =
     c.in-None.ensures.value ∙ ap (get nat_eq c.self.inside.rows) c.height.view_is in
-    c.new.ensures sender
-    ∙ (ap (count_in sender) found
-    ∙ (c.self.invariant.2.right c.args.height sender l
-    ∙ ap (λ (d : DoorState). brought c.args.height sender d.taken) c.self.view_is))
+    c.new.ensures payer
+    ∙ (ap (count_in payer) found
+    ∙ (c.self.invariant.2.right c.args.height payer l
+    ∙ ap (λ (d : DoorState). brought c.args.height payer d.taken) c.self.view_is))

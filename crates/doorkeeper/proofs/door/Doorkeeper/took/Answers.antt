@@ -12,13 +12,13 @@ use Rattle.doorkeeper.proofs.door.Doorkeeper.took.Goals as goal
 pub add_one-requires-clause-few : goal.add_one-requires-clause-few
 add_one-requires-clause-few c =
     let passed = and_parts _ _ c.requires.passes in
-    let few : brought c.args.block.now.height c.args.block.now.sender c.args.self.now.taken
+    let few : brought c.args.block.now.height c.args.block.now.payer c.args.self.now.taken
     < most_of_each c.args.self.now.replicas = ltb-true _ _ passed.1 in
     let most : most_of_each c.args.self.now.replicas ≤ 4 = omega arith in
     let own = ap (λ (d : DoorState). d.replicas) c.self.view_is in
-    let known : c.args.block.now.sender < MOST_REPLICAS =
+    let known : c.args.block.now.payer < MOST_REPLICAS =
     omega (arith, ltb-true _ _ passed.0, own, c.self.invariant.1) in
-    omega (arith, c.row-row.ensures c.args.block.now.sender known, few, most)
+    omega (arith, c.row-row.ensures c.args.block.now.payer known, few, most)
 
 pub invariant_of-self : goal.invariant_of-self
 invariant_of-self c =
@@ -44,7 +44,7 @@ invariant_of-self c =
           (Some c.add_one.new.self))
           c.height-2.view_is (rw c.unwrap-before.ensures at c.insert-inserted.ensures.updates))
           (λ other l. c.add_one.ensures other
-          ∙ ap (λ (k : ℕ). cond (other == c.args.block.now.sender) (k + 1) k)
+          ∙ ap (λ (k : ℕ). cond (other == c.args.block.now.payer) (k + 1) k)
           (c.row-row.ensures other l
           ∙ sym (ap (λ (d : DoorState). brought b.height other d.taken) c.self.view_is)))),
     )

@@ -30,21 +30,21 @@ count-no p b taken e =
     count-cons p b taken ∙ (ap (λ (k : ℕ). k + count_by p taken) (cond-false (p b) 1 0 e)
     ∙ zero-add (count_by p taken))
 
--- whether a block has this height and came from this sender
-abbrev pub is_from : (height sender : ℕ) → Brought → Bool
-is_from height sender b = (b.height == height) && (b.sender == sender)
+-- whether a block has this height and came from this payer
+abbrev pub is_from : (height payer : ℕ) → Brought → Bool
+is_from height payer b = (b.height == height) && (b.payer == payer)
 
--- whether it has this height, and came from a sender below m
+-- whether it has this height, and came from a payer below m
 abbrev is_below : (height m : ℕ) → Brought → Bool
-is_below height m b = (b.height == height) && nat_lt b.sender m
+is_below height m b = (b.height == height) && nat_lt b.payer m
 
--- how many of this height came from the senders below m
+-- how many of this height came from the accounts below m
 abbrev of_first : (m height : ℕ) → List Brought → ℕ
 of_first m height taken = count_by (is_below height m) taken
 
--- ---- by senders
+-- ---- by accounts
 
--- a block counts among the senders up to m where it counts among those below, or came from m
+-- a block counts among the accounts up to m where it counts among those below, or came from m
 split : (x : Bool) (s m : ℕ)
     → cond (x && nat_lt s (suc m)) 1 0 ≡ cond (x && nat_lt s m) 1 0 + cond (x && (s == m)) 1 0
 split false s m = refl
@@ -79,7 +79,7 @@ of_first-suc m height [] = refl
 of_first-suc m height (b ∷ taken) =
     omega (
       arith,
-      split (b.height == height) b.sender m,
+      split (b.height == height) b.payer m,
       of_first-suc m height taken,
       count-cons (is_below height (suc m)) b taken,
       count-cons (is_below height m) b taken,
@@ -89,29 +89,29 @@ of_first-suc m height (b ∷ taken) =
 of_first-zero : (height : ℕ) (taken : List Brought) → of_first 0 height taken ≡ 0
 of_first-zero height [] = refl
 of_first-zero height (b ∷ taken) =
-    count-no (is_below height 0) b taken (and_right _ _ (le-ltb b.sender 0 (omega arith)))
+    count-no (is_below height 0) b taken (and_right _ _ (le-ltb b.payer 0 (omega arith)))
     ∙ of_first-zero height taken
 
 -- who brought as many of a height as each may brings no more
-pub brought-few : (n height sender : ℕ) (taken : List Brought) → PassedAll n taken
-    → brought height sender taken ≤ most_of_each n
-brought-few n height sender [] p = omega arith
-brought-few n height sender (b ∷ taken) p = elim (cases_Bool (is_from height sender b)) [
+pub brought-few : (n height payer : ℕ) (taken : List Brought) → PassedAll n taken
+    → brought height payer taken ≤ most_of_each n
+brought-few n height payer [] p = omega arith
+brought-few n height payer (b ∷ taken) p = elim (cases_Bool (is_from height payer b)) [
   | inl t ↦
-      (let parts = and_parts (b.height == height) (b.sender == sender) t in
-      let passed = and_parts (nat_lt b.sender n) _ p.0 in
-      let below : brought b.height b.sender taken < most_of_each n = ltb-true _ _ passed.1 in
-      let here : brought height sender taken < most_of_each n =
+      (let parts = and_parts (b.height == height) (b.payer == payer) t in
+      let passed = and_parts (nat_lt b.payer n) _ p.0 in
+      let below : brought b.height b.payer taken < most_of_each n = ltb-true _ _ passed.1 in
+      let here : brought height payer taken < most_of_each n =
       subst (λ (s : ℕ). brought height s taken < most_of_each n) (eqb-true _ _ parts.1)
-      (subst (λ (h : ℕ). brought h b.sender taken < most_of_each n) (eqb-true _ _ parts.0) below) in
-      omega (arith, count-yes (is_from height sender) b taken t, here))
+      (subst (λ (h : ℕ). brought h b.payer taken < most_of_each n) (eqb-true _ _ parts.0) below) in
+      omega (arith, count-yes (is_from height payer) b taken t, here))
   | inr f ↦
-      omega (arith, count-no (is_from height sender) b taken f, brought-few n height sender taken p.1)
+      omega (arith, count-no (is_from height payer) b taken f, brought-few n height payer taken p.1)
 ]
 
 -- so many from each of the first m
 of_first-few : (most m height : ℕ) (taken : List Brought)
-    → ((sender : ℕ) → brought height sender taken ≤ most) → of_first m height taken ≤ m * most
+    → ((payer : ℕ) → brought height payer taken ≤ most) → of_first m height taken ≤ m * most
 of_first-few most zero height taken few = omega (arith, of_first-zero height taken)
 of_first-few most (suc m) height taken few =
     let rest : of_first m height taken ≤ m * most = of_first-few most m height taken few in
@@ -122,7 +122,7 @@ of_height-first : (n height : ℕ) (taken : List Brought) → PassedAll n taken
     → of_height height taken ≡ of_first n height taken
 of_height-first n height [] p = refl
 of_height-first n height (b ∷ taken) p =
-    let l : nat_lt b.sender n ≡ true = (and_parts (nat_lt b.sender n) _ p.0).0 in
+    let l : nat_lt b.payer n ≡ true = (and_parts (nat_lt b.payer n) _ p.0).0 in
     let here : is_below height n b ≡ (b.height == height) = rw l (and_true (b.height == height)) in
     count-cons (λ x. x.height == height) b taken
     ∙ (ap (λ (t : Bool). cond t 1 0 + of_height height taken) (sym here)
@@ -138,7 +138,7 @@ of_height-first n height (b ∷ taken) p =
 pub few-of-height : FewOfHeight
 few-of-height n height taken p =
     let first : of_first n height taken ≤ n * most_of_each n =
-    of_first-few (most_of_each n) n height taken (λ sender. brought-few n height sender taken p) in
+    of_first-few (most_of_each n) n height taken (λ payer. brought-few n height payer taken p) in
     let same = of_height-first n height taken p in omega (arith, same, first)
 
 pub never-crowded : NeverCrowded
@@ -151,5 +151,5 @@ never-crowded n height taken p =
 pub few-pass : FewPass
 few-pass n b taken low here few =
     let share : 4 ≤ 63 / n = le-div 4 63 n (omega (arith, here)) (omega (arith, low)) in
-    let each : brought b.height b.sender taken < most_of_each n = omega (arith, few, share) in
-    and_from _ _ (lt-ltb b.sender n here) (lt-ltb _ _ each)
+    let each : brought b.height b.payer taken < most_of_each n = omega (arith, few, share) in
+    and_from _ _ (lt-ltb b.payer n here) (lt-ltb _ _ each)
