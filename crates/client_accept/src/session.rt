@@ -80,7 +80,13 @@ impl Session {
     ///
     /// The client may have given numbers up to this one, and none above. A replica that executed a request of
     /// a number answers another one of it with the old reply.
-    pub fn resume(alloc: Global, config: Config, client: ClientId, keyring: Keyring, behind: Seq) -> Session
+    pub fn resume(
+        alloc: Global,
+        config: Config,
+        client: ClientId,
+        keyring: Keyring,
+        behind: Seq,
+    ) -> Session
         requires sizes { config ≡ keyring.sizes }
         requires number { client_party client ≡ keyring.party }
         requires client { client < config.clients }

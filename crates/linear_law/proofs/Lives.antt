@@ -21,11 +21,14 @@ record Rises (s : Session) (sent : List Frame) (after : Session) : Type 0 where
 asked-rises : (me : Client) (payload : Bytes) (s : Session) (x : Session × Submitted) → IsAsked me payload s x
     → Rises s (sent_by x.1) x.0
 asked-rises me payload s x (kept n) = record { used = omega arith; above = λ c k. absurd k }
-asked-rises me payload s x given = record { used = omega arith; above = λ c k. elim k [
+asked-rises me payload s x given = record {
+  used = omega arith;
+  above = λ c k. elim k [
     | inl i ↦ (let e = ap (λ (a : Command). a.seq) (same-command c (asked me (suc s.used) payload) i) in
         (omega (arith, e), omega (arith, e)))
     | inr m ↦ absurd m
-] }
+  ];
+}
 
 doing-rises : (me : Client) (d : Doing) (s : Session) → Rises s (requests_in me d s) (session_after me d s)
 doing-rises me (submitting m payload) s = asked-rises me payload s _ (submission-asked me m payload s)
