@@ -5,7 +5,7 @@ from hashlib import sha256
 from .frames import respelled
 from .session import Session
 from .signing import reply_of
-from .sizes import Config, Refusal
+from .sizes import TOP, Config, Refusal
 from .stated_runs import GET_A, SET_A
 
 
@@ -32,7 +32,8 @@ def tell(line):
     if asked == "reply":
         client, seq, place, text = rest.split(" ")
         return reply_of(config, int(party), int(client), int(seq), int(place), bytes.fromhex(text)).hex()
-    session = Session(config, int(party))
+    behind, rest = rest.split(" ", 1) if asked == "resumed" else (0, rest)
+    session = Session(config, int(party), int(behind))
     return ", ".join(told(session, given) for given in rest.split(" "))
 
 
@@ -57,8 +58,26 @@ def first_bytes():
     return "1 2 1 session " + " ".join(["submit=" + SET_A.hex()] + [data.hex() for data in given])
 
 
+def went_on():
+    """A client that goes on behind 41 asks with 42; replies to 41 and to 1, as it may have asked before, come first."""
+    config, words = Config(1, 2), ["submit=" + SET_A.hex(), "submit=" + GET_A.hex(), "again"]
+    for seq in (41, 1, 43, 42):
+        words += [reply_of(config, replica, 1, seq, 7, b"OK\r\n").hex() for replica in (0, 2)]
+    return "1 2 1 resumed 41 %s again submit=%s again" % (" ".join(words), GET_A.hex())
+
+
+def last_numbers():
+    """Behind the last number but one there is one more; behind the last there is none."""
+    config, asks = Config(1, 2), "again submit=%s again" % SET_A.hex()
+    replies = [reply_of(config, replica, 0, TOP, 1, b"OK\r\n").hex() for replica in (3, 1)]
+    yield "1 2 0 resumed %d %s %s %s" % (TOP - 1, asks, " ".join(replies), asks)
+    yield "1 2 0 resumed %d %s %s" % (TOP, asks, replies[0])
+
+
 def all_stated():
     yield first_bytes()
+    yield went_on()
+    yield from last_numbers()
     for f in (1, 4, 5, 10):
         for version in (1, 2):
             yield accepted(f, version)

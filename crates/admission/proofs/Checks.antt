@@ -8,19 +8,13 @@ use Rattle.ids.specs.declared.fault.Fault.TheVariants as fault
 use Rattle.definitions.specs.Bytes.{Bytes}
 use Rattle.definitions.specs.Keyrings.{Keys}
 use Rattle.definitions.specs.Rulings as rulings
-use Rattle.definitions.specs.Checks.{identity_of}
+use Rattle.definitions.specs.Checks.{Identity, identity_of}
 use Rattle.definitions.specs.Admission.{Checked, passes, rejected, check, check_offer, when, is_passed}
 use Rattle.definitions.specs.Admission.{own_tag_verifies}
 use Rattle.certificates.specs.Outcomes.{CheckedView, IsGivenIf}
 use Rattle.certificates.proofs.Passing.{is_passed_when}
-use Rattle.frames_view.specs.declared.frame_views.ProposalView.{ProposalView}
-use Rattle.frames_view.specs.declared.frame_views.VoteFrameView.{VoteFrameView}
-use Rattle.frames_view.specs.declared.frame_views.NewViewView.{NewViewView}
-use Rattle.frames_view.specs.declared.frame_views.FetchView.{FetchView}
-use Rattle.frames_view.specs.declared.frame_views.BlockView.{BlockView}
 use Rattle.definitions.specs.Frames as frames
 use Rattle.definitions.specs.Frames.{head_len}
-use Rattle.frames_view.specs.declared.views.CommandView.{CommandView}
 use Rattle.frames_view.specs.declared.frame_views.ReplyView.{ReplyView}
 use Rattle.frames_view.specs.declared.frame_views.Frame.{Frame}
 use Rattle.frames_view.specs.declared.frame_views.Frame.TheVariants as frame
@@ -68,76 +62,72 @@ given {X} wrap keys bytes false i v (Err n) g e b = same g.refused
     same : ◌≡◌ {A = Result (CheckedView X) Fault} (Err n) (Err fault.BadTag) → n ≡ fault.BadTag
     same k = cc
 
--- the same of a frame, whose check that is
-of_frame : {X : Type 0} (wrap : CheckedView X → Input) (keys : Keys) (bytes : Bor Bytes) (f : Frame) (ok : Bool)
+-- the same of a frame, whose check by a rule that is
+of_frame : {X : Type 0} (rule : Identity → frames.Frame → Checked) (variant : X → Frame)
+    (wrap : CheckedView X → Input) (keys : Keys) (bytes : Bor Bytes) (f : Frame) (ok p : Bool)
     (i : rulings.Input) (v : X) (r : Result (CheckedView X) Fault) (out : Result Input Fault)
-    → check (identity_of keys) (frame_of f) ≡ when ok i → IsGivenIf (is_passed (when ok i)) keys v r
-    → input_of (wrap (record { keys = keys; view = v })) ≡ i
-    → Brings keys bytes (wrap (record { keys = keys; view = v })) → out ≡ taken wrap r
-    → Answers keys bytes (check (identity_of keys) (frame_of f)) out
-of_frame wrap keys bytes f ok i v r out is g e b same =
-    subst (λ x. Answers keys bytes x out) (sym is)
-    (subst (λ x. Answers keys bytes (when ok i) x) (sym same) (given wrap keys bytes ok i v r g e b))
+    → f ≡ variant v → rule (identity_of keys) (frame_of (variant v)) ≡ when ok i → p ≡ is_passed (when ok i)
+    → IsGivenIf p keys v r → input_of (wrap (record { keys = keys; view = v })) ≡ i
+    → (IsFrameAt bytes (head_len bytes.now) (variant v)
+    → Brings keys bytes (wrap (record { keys = keys; view = v })))
+    → IsFrameAt bytes (head_len bytes.now) f → out ≡ taken wrap r
+    → Answers keys bytes (rule (identity_of keys) (frame_of f)) out
+of_frame rule variant wrap keys bytes f ok p i v r out is passed exact g e brings lent same =
+    subst (λ x. Answers keys bytes x out) (sym (ap (λ x. rule (identity_of keys) (frame_of x)) is ∙ passed))
+    (subst (λ x. Answers keys bytes (when ok i) x) (sym same)
+    (given wrap keys bytes ok i v r (subst (λ x. IsGivenIf x keys v r) exact g) e
+    (brings (subst (IsFrameAt bytes (head_len bytes.now)) is lent))))
 
-pub proposal : (keys : Keys) (bytes : Bor Bytes) (f : Frame) (v : ProposalView)
-    (r : Result (CheckedView ProposalView) Fault) (out : Result Input Fault)
-    → f ≡ frame.Proposal v → IsGivenIf (is_passed (check (identity_of keys) (proposal_of v))) keys v r
-    → IsFrameAt bytes (head_len bytes.now) f → out ≡ taken Proposal r
-    → Answers keys bytes (check (identity_of keys) (frame_of f)) out
+-- what was found of a frame of this variant, where it passes, is what the rule says of it
+abbrev AreAnswered : {X : Type 0} → (Identity → frames.Frame → Checked) → (X → Frame)
+    → (CheckedView X → Input) → (Keys → X → Bool) → Type 0
+AreAnswered {X} rule variant wrap test =
+    (keys : Keys) (bytes : Bor Bytes) (f : Frame) (v : X) (r : Result (CheckedView X) Fault)
+    (out : Result Input Fault) → f ≡ variant v → IsGivenIf (test keys v) keys v r
+    → IsFrameAt bytes (head_len bytes.now) f → out ≡ taken wrap r
+    → Answers keys bytes (rule (identity_of keys) (frame_of f)) out
+
+pub proposal : AreAnswered check frame.Proposal Proposal
+    (λ keys v. is_passed (check (identity_of keys) (proposal_of v)))
 unfolding check
 proposal keys bytes f v r out is g lent same =
-    of_frame Proposal keys bytes f _ _ v r out (ap (λ x. check (identity_of keys) (frame_of x)) is) g refl
-    (record { addressed = own keys; lent = subst (IsFrameAt bytes (head_len bytes.now)) is lent }) same
+    of_frame check frame.Proposal Proposal keys bytes f _ _ _ v r out is refl refl g refl
+    (λ l. record { addressed = own keys; lent = l }) lent same
 
-pub block : (keys : Keys) (bytes : Bor Bytes) (f : Frame) (v : BlockView)
-    (r : Result (CheckedView BlockView) Fault) (out : Result Input Fault)
-    → f ≡ frame.Block v → IsGivenIf (is_passed (check (identity_of keys) (block_of v))) keys v r
-    → IsFrameAt bytes (head_len bytes.now) f → out ≡ taken Block r
-    → Answers keys bytes (check (identity_of keys) (frame_of f)) out
+pub block : AreAnswered check frame.Block Block
+    (λ keys v. is_passed (check (identity_of keys) (block_of v)))
 unfolding check
 block keys bytes f v r out is g lent same =
-    of_frame Block keys bytes f _ _ v r out (ap (λ x. check (identity_of keys) (frame_of x)) is) g refl
-    (record { addressed = own keys; lent = subst (IsFrameAt bytes (head_len bytes.now)) is lent }) same
+    of_frame check frame.Block Block keys bytes f _ _ _ v r out is refl refl g refl
+    (λ l. record { addressed = own keys; lent = l }) lent same
 
-pub vote : (keys : Keys) (bytes : Bor Bytes) (f : Frame) (v : VoteFrameView)
-    (r : Result (CheckedView VoteFrameView) Fault) (out : Result Input Fault)
-    → f ≡ frame.Vote v → IsGivenIf (is_passed (check (identity_of keys) (vote_frame_of v))) keys v r
-    → IsFrameAt bytes (head_len bytes.now) f → out ≡ taken AVote r
-    → Answers keys bytes (check (identity_of keys) (frame_of f)) out
+pub vote : AreAnswered check frame.Vote AVote
+    (λ keys v. is_passed (check (identity_of keys) (vote_frame_of v)))
 unfolding check
 vote keys bytes f v r out is g lent same =
-    of_frame AVote keys bytes f _ _ v r out (ap (λ x. check (identity_of keys) (frame_of x)) is) g refl
-    (record { addressed = own keys; lent = subst (IsFrameAt bytes (head_len bytes.now)) is lent }) same
+    of_frame check frame.Vote AVote keys bytes f _ _ _ v r out is refl refl g refl
+    (λ l. record { addressed = own keys; lent = l }) lent same
 
-pub new_view : (keys : Keys) (bytes : Bor Bytes) (f : Frame) (v : NewViewView)
-    (r : Result (CheckedView NewViewView) Fault) (out : Result Input Fault)
-    → f ≡ frame.NewView v → IsGivenIf (is_passed (check (identity_of keys) (new_view_of v))) keys v r
-    → IsFrameAt bytes (head_len bytes.now) f → out ≡ taken NewView r
-    → Answers keys bytes (check (identity_of keys) (frame_of f)) out
+pub new_view : AreAnswered check frame.NewView NewView
+    (λ keys v. is_passed (check (identity_of keys) (new_view_of v)))
 unfolding check
 new_view keys bytes f v r out is g lent same =
-    of_frame NewView keys bytes f _ _ v r out (ap (λ x. check (identity_of keys) (frame_of x)) is) g refl
-    (record { addressed = own keys; lent = subst (IsFrameAt bytes (head_len bytes.now)) is lent }) same
+    of_frame check frame.NewView NewView keys bytes f _ _ _ v r out is refl refl g refl
+    (λ l. record { addressed = own keys; lent = l }) lent same
 
-pub fetch : (keys : Keys) (bytes : Bor Bytes) (f : Frame) (v : FetchView)
-    (r : Result (CheckedView FetchView) Fault) (out : Result Input Fault)
-    → f ≡ frame.Fetch v → IsGivenIf (is_passed (check (identity_of keys) (fetch_of v))) keys v r
-    → IsFrameAt bytes (head_len bytes.now) f → out ≡ taken Fetch r
-    → Answers keys bytes (check (identity_of keys) (frame_of f)) out
+pub fetch : AreAnswered check frame.Fetch Fetch
+    (λ keys v. is_passed (check (identity_of keys) (fetch_of v)))
 unfolding check
 fetch keys bytes f v r out is g lent same =
-    of_frame Fetch keys bytes f _ _ v r out (ap (λ x. check (identity_of keys) (frame_of x)) is) g refl
-    (record { addressed = own keys; lent = subst (IsFrameAt bytes (head_len bytes.now)) is lent }) same
+    of_frame check frame.Fetch Fetch keys bytes f _ _ _ v r out is refl refl g refl
+    (λ l. record { addressed = own keys; lent = l }) lent same
 
-pub request : (keys : Keys) (bytes : Bor Bytes) (f : Frame) (v : CommandView)
-    (r : Result (CheckedView CommandView) Fault) (out : Result Input Fault)
-    → f ≡ frame.Request v → IsGivenIf (is_passed (check (identity_of keys) (frames.request (command_of v)))) keys v r
-    → IsFrameAt bytes (head_len bytes.now) f → out ≡ taken Request r
-    → Answers keys bytes (check (identity_of keys) (frame_of f)) out
+pub request : AreAnswered check frame.Request Request
+    (λ keys v. is_passed (check (identity_of keys) (frames.request (command_of v))))
 unfolding check
 request keys bytes f v r out is g lent same =
-    of_frame Request keys bytes f _ _ v r out (ap (λ x. check (identity_of keys) (frame_of x)) is) g refl
-    (record { addressed = own keys; lent = subst (IsFrameAt bytes (head_len bytes.now)) is lent }) same
+    of_frame check frame.Request Request keys bytes f _ _ _ v r out is refl refl g refl
+    (λ l. record { addressed = own keys; lent = l }) lent same
 
 pub reply : (keys : Keys) (bytes : Bor Bytes) (f : Frame) (v : ReplyView) → f ≡ frame.Reply v
     → Answers keys bytes (check (identity_of keys) (frame_of f)) (Err fault.NotMine)
@@ -145,50 +135,28 @@ unfolding check
 reply keys bytes f v is =
     subst (λ x. Answers keys bytes (check (identity_of keys) (frame_of x)) (Err fault.NotMine)) (sym is) refl
 
--- the same of a frame that is offered
-offered_frame : {X : Type 0} (wrap : CheckedView X → Input) (keys : Keys) (bytes : Bor Bytes) (f : Frame)
-    (ok : Bool) (i : rulings.Input) (v : X) (r : Result (CheckedView X) Fault) (out : Result Input Fault)
-    → check_offer (identity_of keys) (frame_of f) ≡ when ok i → IsGivenIf ok keys v r
-    → input_of (wrap (record { keys = keys; view = v })) ≡ i
-    → Brings keys bytes (wrap (record { keys = keys; view = v })) → out ≡ taken wrap r
-    → Answers keys bytes (check_offer (identity_of keys) (frame_of f)) out
-offered_frame wrap keys bytes f ok i v r out is g e b same =
-    subst (λ x. Answers keys bytes x out) (sym is)
-    (subst (λ x. Answers keys bytes (when ok i) x) (sym same)
-    (given wrap keys bytes ok i v r (subst (λ p. IsGivenIf p keys v r) (sym (is_passed_when ok i)) g) e b))
+-- the same of frames that are offered
 
-pub offered_proposal : (keys : Keys) (bytes : Bor Bytes) (f : Frame) (v : ProposalView)
-    (r : Result (CheckedView ProposalView) Fault) (out : Result Input Fault)
-    → f ≡ frame.Proposal v → IsGivenIf (own_tag_verifies (identity_of keys) (proposal_of v)) keys v r
-    → IsFrameAt bytes (head_len bytes.now) f → out ≡ taken OfferedProposal r
-    → Answers keys bytes (check_offer (identity_of keys) (frame_of f)) out
+pub offered_proposal : AreAnswered check_offer frame.Proposal OfferedProposal
+    (λ keys v. own_tag_verifies (identity_of keys) (proposal_of v))
 unfolding check_offer
 offered_proposal keys bytes f v r out is g lent same =
-    offered_frame OfferedProposal keys bytes f _ _ v r out
-    (ap (λ x. check_offer (identity_of keys) (frame_of x)) is) g refl
-    (record { addressed = own keys; lent = subst (IsFrameAt bytes (head_len bytes.now)) is lent }) same
+    of_frame check_offer frame.Proposal OfferedProposal keys bytes f _ _ _ v r out is refl (sym (is_passed_when _ _)) g refl
+    (λ l. record { addressed = own keys; lent = l }) lent same
 
-pub offered_block : (keys : Keys) (bytes : Bor Bytes) (f : Frame) (v : BlockView)
-    (r : Result (CheckedView BlockView) Fault) (out : Result Input Fault)
-    → f ≡ frame.Block v → IsGivenIf (own_tag_verifies (identity_of keys) (block_of v)) keys v r
-    → IsFrameAt bytes (head_len bytes.now) f → out ≡ taken OfferedBlock r
-    → Answers keys bytes (check_offer (identity_of keys) (frame_of f)) out
+pub offered_block : AreAnswered check_offer frame.Block OfferedBlock
+    (λ keys v. own_tag_verifies (identity_of keys) (block_of v))
 unfolding check_offer
 offered_block keys bytes f v r out is g lent same =
-    offered_frame OfferedBlock keys bytes f _ _ v r out
-    (ap (λ x. check_offer (identity_of keys) (frame_of x)) is) g refl
-    (record { addressed = own keys; lent = subst (IsFrameAt bytes (head_len bytes.now)) is lent }) same
+    of_frame check_offer frame.Block OfferedBlock keys bytes f _ _ _ v r out is refl (sym (is_passed_when _ _)) g refl
+    (λ l. record { addressed = own keys; lent = l }) lent same
 
-pub seen_view : (keys : Keys) (bytes : Bor Bytes) (f : Frame) (v : NewViewView)
-    (r : Result (CheckedView NewViewView) Fault) (out : Result Input Fault)
-    → f ≡ frame.NewView v → IsGivenIf (own_tag_verifies (identity_of keys) (new_view_of v)) keys v r
-    → IsFrameAt bytes (head_len bytes.now) f → out ≡ taken SeenView r
-    → Answers keys bytes (check_offer (identity_of keys) (frame_of f)) out
+pub seen_view : AreAnswered check_offer frame.NewView SeenView
+    (λ keys v. own_tag_verifies (identity_of keys) (new_view_of v))
 unfolding check_offer
 seen_view keys bytes f v r out is g lent same =
-    offered_frame SeenView keys bytes f _ _ v r out
-    (ap (λ x. check_offer (identity_of keys) (frame_of x)) is) g refl
-    (record { addressed = own keys; lent = subst (IsFrameAt bytes (head_len bytes.now)) is lent }) same
+    of_frame check_offer frame.NewView SeenView keys bytes f _ _ _ v r out is refl (sym (is_passed_when _ _)) g refl
+    (λ l. record { addressed = own keys; lent = l }) lent same
 
 -- what isn't offered
 pub unoffered : (keys : Keys) (bytes : Bor Bytes) (f g : Frame) → f ≡ g

@@ -1,6 +1,6 @@
 -- Frames that come together, one after the other.
-use Rattle.std.proofs.Common.{ℕ, ◌≡◌, ◌≤◌, ◌<◌, ◌+◌, ◌++◌, ◌&&◌, Bool, true, false, List, [], ◌∷◌, map, length, refl, sym}
-use Rattle.std.proofs.Common.{ap, subst, ◌∙◌, arith, nat_lt, nat_le, length-append, Option}
+use Rattle.std.proofs.Common.{ℕ, ◌≡◌, ◌≤◌, ◌<◌, ◌+◌, ◌++◌, ◌&&◌, Bool, true, false, List, [], ◌∷◌, map}
+use Rattle.std.proofs.Common.{length, refl, sym, ap, subst, ◌∙◌, arith, nat_lt, nat_le, length-append, Option}
 use Rattle.std.proofs.Common.{take, get_or, add-one}
 use Rattle.std.proofs.Common.{Result, Ok, Err}
 use Rattle.std.proofs.Math.Bool.{and-false, and-true}
@@ -98,7 +98,8 @@ same : (x : Bytes) → bytes_eq x x ≡ true
 same x = (bytes_eq-Decides x x).1 refl
 
 -- whether a block is a copy of itself hangs on its tag
-own_copy : (keys : Keys) (v : BlockView) → copies_of keys v (block_of v) ≡ own_tag_verifies (identity_of keys) (block_of v)
+own_copy : (keys : Keys) (v : BlockView)
+    → copies_of keys v (block_of v) ≡ own_tag_verifies (identity_of keys) (block_of v)
 unfolding is_copy
 own_copy keys v =
     ap (λ b. own_tag_verifies (identity_of keys) (block_of v) && b)

@@ -46,6 +46,17 @@ begun_lane ring label content u r me s key head state result er ek states em eh 
     let text : head ++ content ≡ tag_text label ring.party u content = ap (λ (l : Bytes). l ++ content) eh ∙ ap₂ (λ (x y : ℕ). tag_text label x y content) em er in
     e ∙ ap₂ after_first of_key text
 
+-- a lane that has begun with the key and the head of a sender
+pub begun_from : (ring : Keyring) (label : Kind) (content : Bytes) (u me : ℕ) (s : KeyStates)
+    (key head state result : List ℕ) → key ≡ ring.key u → AreStates key s → me ≡ ring.party
+    → head ≡ tag_text label u me [] → state ≡ s.inner → result ≡ after_first state (head ++ content)
+    → result ≡ after_first (after_key 0x36 (ring.key u)) (tag_text label u ring.party [] ++ content)
+begun_from ring label content u me s key head state result ek states em eh es e =
+    let of_key : state ≡ after_key 0x36 (ring.key u) = es ∙ states.inner ∙ ap (after_key 0x36) ek in
+    let text : head ++ content ≡ tag_text label u ring.party [] ++ content =
+    ap (λ (l : Bytes). l ++ content) (eh ∙ ap (λ (p : ℕ). tag_text label u p []) em) in
+    e ∙ ap₂ after_first of_key text
+
 -- a lane that is done
 pub finished_lane : (ring : Keyring) (text : Bytes) (u r : ℕ) (s : KeyStates) (key inner state result : List ℕ)
     → r ≡ u → key ≡ ring.key r → AreStates key s → state ≡ s.outer → inner ≡ after_text (after_key 0x36 (ring.key u)) text

@@ -5,7 +5,7 @@ use Rattle.sha2.specs.Sha256.{compress, initial_hash_256}
 use Rattle.definitions.specs.Bytes.{Bytes}
 use Rattle.ids.specs.declared.kind.Kind.{Kind}
 use Rattle.lanes.specs.Texts.{after_first}
-use Rattle.definitions.specs.Tags.{masked, tag_text}
+use Rattle.definitions.specs.Tags.{hmac, masked, tag_text}
 use Rattle.definitions.specs.Keyrings.{Keyring}
 use Rattle.authenticators.specs.declared.mac.KeyedHashers.{KeyedHashers}
 use Rattle.authenticators.specs.declared.mac.KeyStates.{KeyStates}
@@ -29,3 +29,7 @@ pub record AreStates (key : Bytes) (s : KeyStates) : Type 0 where
 abbrev pub begun_for : Keyring → Kind → ℕ → Bytes → List ℕ
 begun_for ring label u content =
     after_first (after_key 0x36 (ring.key u)) (tag_text label ring.party u content)
+
+-- the right tag of a content from a sender
+abbrev pub right_from : Keyring → Kind → ℕ → Bytes → Bytes
+right_from ring label u content = hmac (ring.key u) (tag_text label u ring.party content)

@@ -51,8 +51,8 @@ impl Keyring {
         }
     }
 
-    /// The same keys, with room to remember tags: one that was found to be right, or was made by the party for itself,
-    /// isn't hashed again until another of the same peer takes its place. It changes what calls cost, and not what
+    /// The same keys, with room to remember tags: one that was found to be right, was foreseen, or was made by the party
+    /// for itself isn't hashed again until another of the same peer takes its place. It changes what calls cost, and not what
     /// they answer.
     pub fn remembering(self, alloc: Global) -> Result<Keyring, AllocError>
         ensures { IfOk result (λ k. k ≡ self) }
@@ -138,6 +138,11 @@ impl Keyring {
         is_right
     }
 
+    /// Whether it remembers tags.
+    pub(crate) fn remembers(&self) -> bool {
+        self.known.is_some()
+    }
+
     /// Where a tag of a peer is remembered: votes stand by themselves, since other frames of their voters come between.
     fn row(&self, label: Kind, peer: PartyId) -> usize
         requires { IsTrue (is_peer self.now peer) }
@@ -149,7 +154,13 @@ impl Keyring {
     }
 
     /// The HMAC of what stands under a tag, under the key that is shared with a peer, where it is known.
-    fn known(&self, label: Kind, peer: PartyId, head: &[u8; 5], content: &[u8]) -> Option<[u8; 32]>
+    pub(crate) fn known(
+        &self,
+        label: Kind,
+        peer: PartyId,
+        head: &[u8; 5],
+        content: &[u8],
+    ) -> Option<[u8; 32]>
         requires { IsTrue (is_peer self.now peer) }
         ensures { IfSome result
             (λ tag. tag ≡ hmac ((keyring_of self.now).key peer) (head.now ++ content.now)) }
@@ -159,7 +170,14 @@ impl Keyring {
     }
 
     /// Remembers the HMAC of what stands under a tag.
-    fn remember(&self, label: Kind, peer: PartyId, head: &[u8; 5], content: &[u8], tag: &[u8; 32])
+    pub(crate) fn remember(
+        &self,
+        label: Kind,
+        peer: PartyId,
+        head: &[u8; 5],
+        content: &[u8],
+        tag: &[u8; 32],
+    )
         requires peer { IsTrue (is_peer self.now peer) }
         requires right { tag.now ≡ hmac ((keyring_of self.now).key peer) (head.now ++ content.now) }
     {

@@ -4,6 +4,7 @@
 //! two, of a label, the sender, the receiver and a content; a vector is one tag for each replica.
 #![tactic(auto)]
 
+mod foreseen;
 mod keyring;
 mod known_tags;
 mod mac;

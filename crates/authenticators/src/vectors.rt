@@ -26,7 +26,7 @@ const LANES: usize = 4;
 const MOST_GROUPS: usize = 8;
 
 /// The bytes before the content under a tag.
-const HEAD: usize = 5;
+pub(crate) const HEAD: usize = 5;
 
 impl Keyring {
     /// Appends a vector: one tag for each replica, in order. `Memory` comes only where the spare room was too

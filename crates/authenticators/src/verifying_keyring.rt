@@ -1,4 +1,5 @@
 ghost use Rattle.std.specs.Prelude.{◌≡◌, ◌<◌, ◌↔◌, IsSome, IsOk, IsTrue, IfSome, IfOk, OnErr};
+ghost use Rattle.std.specs.List.{All};
 ghost use Rattle.ids.specs.Sizes.{IsRoom, replicas};
 ghost use Rattle.definitions.specs.Keyrings.{is_peer, keyring_of, verify};
 
@@ -61,6 +62,14 @@ impl VerifyingKeyring {
         ensures { result ≡ verify (keyring_of self.now) label from content.now tag.now }
     {
         self.keyring.verify(label, from, content, tag)
+    }
+
+    /// Says that tags of a content from four senders are going to be verified. Where it remembers tags, those that
+    /// aren't known are hashed together, and `verify` finds them.
+    pub fn foresee(&self, label: Kind, from: &[PartyId; 4], content: &[u8])
+        requires { All (λ sender. IsTrue (is_peer self.now sender)) from.now }
+    {
+        self.keyring.foresee(label, from, content);
     }
 
     /// The keyring that it is, for who may make tags with it.

@@ -164,8 +164,9 @@ impl Forest {
     pub(crate) fn is_justified(&self, digest: &Digest, height: Height) -> bool
         ensures { result ≡ list_any (justifies_at digest.now height) (window self.now) }
     {
+        // What justifies it is mostly among the newest.
         let floor = self.floor();
-        self.entries.iter().any(|entry| {
+        self.entries.iter().rev().any(|entry| {
             entry.node.height().0 >= floor && entry.node.justifies(digest, height)
         })
     }

@@ -31,6 +31,22 @@ pub(crate) fn vote_verifies(keyring: &VerifyingKeyring, digest: &[u8; 32], vote:
     keyring.verify(Kind::Vote, PartyId::from(vote.voter()), digest, tag)
 }
 
+/// Has the tags of its votes hashed in fours, where they aren't known. What is left over is hashed vote by vote.
+fn foresee(keyring: &VerifyingKeyring, certificate: &CertificateView)
+    requires certificate { IsCertificate keyring.now.sizes (certificate_of certificate.now) }
+{
+    let mut four = [PartyId::from(keyring.replica()); 4];
+    let mut count = 0;
+    for vote in certificate.votes() {
+        four[count] = PartyId::from(vote.voter());
+        count += 1;
+        if count == 4 {
+            keyring.foresee(Kind::Vote, &four, certificate.digest());
+            count = 0;
+        }
+    }
+}
+
 /// The voters whose tags for the keyring's own replica verify. It takes no memory.
 pub fn counted_voters(keyring: &VerifyingKeyring, certificate: &CertificateView) -> ReplicaRow
     requires certificate { IsCertificate keyring.now.sizes (certificate_of certificate.now) }
@@ -38,6 +54,7 @@ pub fn counted_voters(keyring: &VerifyingKeyring, certificate: &CertificateView)
 {
     // For the proof: there are few replicas.
     let _n = keyring.config().n();
+    foresee(keyring, certificate);
     let mut voters = ReplicaRow::new();
     for vote in certificate.votes() {
         if vote_verifies(keyring, certificate.digest(), &vote) {

@@ -7,7 +7,8 @@ ghost use Rattle.ids.specs.Sizes.{client_party};
 ghost use Rattle.definitions.specs.Requests.{IsRequest, canonical};
 ghost use Rattle.definitions.specs.Frames.{spelling};
 ghost use Rattle.definitions.specs.FrameLimits.{IsFrame};
-ghost use Rattle.definitions.specs.Sessions.{new_session, request_frame, submission, on_reply};
+ghost use Rattle.definitions.specs.Sessions.{new_session, session_behind, request_frame, submission};
+ghost use Rattle.definitions.specs.Sessions.{on_reply};
 ghost use Rattle.definitions.specs.Keyrings.{client_at};
 ghost use Rattle.definitions.specs.Checks.{identity_of};
 ghost use Rattle.definitions.specs.Admission.{own_tag_verifies};
@@ -37,7 +38,7 @@ pub struct Session {
     config: Config,
     client: ClientId,
     keyring: Keyring,
-    /// The number of the last request, 0 where there was none.
+    /// The number of the last request, or the one that the client goes on behind.
     used: u64,
     /// Whether it is outstanding.
     waiting: bool,
@@ -71,12 +72,32 @@ impl Session {
         requires client { client < config.clients }
         ensures { result ≡ record { keys = keyring; session = new_session; frame = [] } }
     {
+        Session::resume(alloc, config, client, keyring, Seq(0))
+    }
+
+    /// The session of a client that goes on behind a number, say after a restart: its next request has the
+    /// number above. It takes no memory yet.
+    ///
+    /// The client may have given numbers up to this one, and none above. A replica that executed a request of
+    /// a number answers another one of it with the old reply.
+    pub fn resume(
+        alloc: Global,
+        config: Config,
+        client: ClientId,
+        keyring: Keyring,
+        behind: Seq,
+    ) -> Session
+        requires sizes { config ≡ keyring.sizes }
+        requires number { client_party client ≡ keyring.party }
+        requires client { client < config.clients }
+        ensures { result ≡ record { keys = keyring; session = session_behind behind; frame = [] } }
+    {
         Session {
             alloc,
             config,
             client,
             keyring,
-            used: 0,
+            used: behind.0,
             waiting: false,
             tally: Tally::new(alloc),
             frame: Vec::new(alloc),

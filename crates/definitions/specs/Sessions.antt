@@ -3,7 +3,7 @@ use Rattle.ids.specs.declared.kind.Kind.TheVariants as kind
 use Rattle.ids.specs.declared.fault.Fault.{Fault}
 use Rattle.ids.specs.declared.fault.Fault.TheVariants as fault
 use Rattle.std.specs.Prelude.{ℕ, suc, ◌-◌, ◌^◌, ◌==◌, ◌&&◌, not, Bool, true, false, List, [], ◌∷◌}
-use Rattle.std.specs.Prelude.{if◌then◌else◌, nat_lt}
+use Rattle.std.specs.Prelude.{if◌then◌else◌, nat_lt, ◌++◌}
 use Rattle.definitions.specs.Bytes.{Bytes}
 use Rattle.definitions.specs.Tally.{Told, is_counted, agreeing}
 use Rattle.ids.specs.Sizes.{Sizes}
@@ -25,9 +25,13 @@ pub record Session : Type 0 where
   pub waiting : Bool  -- it is outstanding
   pub tally : List Told  -- one a replica
 
+-- the session of a client that goes on behind this number: the next one is above it, and nothing is outstanding
+abbrev pub session_behind : ℕ → Session
+session_behind seq = record { used = seq; waiting = false; tally = [] }
+
 -- the session at the start
 abbrev pub new_session : Session
-new_session = record { used = 0; waiting = false; tally = [] }
+new_session = session_behind 0
 
 -- what a client accepted
 pub record Receipt : Type 0 where
@@ -93,3 +97,35 @@ on_reply me m (frame.reply replica client seq place text t) s =
     else (if not (is_ample m) then (s, not_counted fault.Memory)
     else count_reply me (record { replica = replica; place = place; text = text }) s))))
 on_reply me m f s = (s, not_counted fault.NotMine)
+
+-- ---- a client's life
+
+-- what a client does: it submits a payload, or hears a frame
+pub data Doing : Type 0 where
+  submitting : MemorySupply → Bytes → Doing
+  hearing : MemorySupply → Frame → Doing
+
+-- its session afterwards
+abbrev pub session_after : Client → Doing → Session → Session
+session_after me (submitting m payload) s = (submission me m payload s).0
+session_after me (hearing m f) s = (on_reply me m f s).0
+
+-- the frame that goes out, if any
+abbrev pub sent_by : Submitted → List Frame
+sent_by (sent_request f) = f ∷ []
+sent_by (not_sent n) = []
+
+-- the request that it sends, if any
+abbrev pub requests_in : Client → Doing → Session → List Frame
+requests_in me (submitting m payload) s = sent_by (submission me m payload s).1
+requests_in me (hearing m f) s = []
+
+-- its session after all that it does, the first thing first
+abbrev pub session_at_end : Client → List Doing → Session → Session
+session_at_end me [] s = s
+session_at_end me (d ∷ ds) s = session_at_end me ds (session_after me d s)
+
+-- the requests that it sends meanwhile
+abbrev pub requests_of : Client → List Doing → Session → List Frame
+requests_of me [] s = []
+requests_of me (d ∷ ds) s = requests_in me d s ++ requests_of me ds (session_after me d s)

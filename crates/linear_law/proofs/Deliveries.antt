@@ -1,50 +1,33 @@
--- Where recorded frames alone come, whatever stands in a replica's chronicle was sent by its maker.
-use Rattle.ids.specs.declared.limits.TheConstants.{MOST_BLOCKS}
+-- Where recorded frames alone come, no tag is forged.
 use Rattle.ids.specs.declared.fault.Fault.{Fault}
 use Rattle.ids.specs.declared.fault.Fault.TheVariants as fault
-use Rattle.std.proofs.Common.{ℕ, ◌≡◌, ◌&&◌, not, ◌==◌, Bool, true, false, List, [], ◌∷◌, ◌++◌, map}
-use Rattle.std.proofs.Common.{suc, filter, length, nat_lt, refl, sym, ap, subst, ◌∙◌, inl, inr, true≢false}
+use Rattle.std.proofs.Common.{ℕ, ◌≡◌, Bool, true, false, List, [], ◌∷◌, ◌++◌, map}
+use Rattle.std.proofs.Common.{filter, refl, sym, ap, subst, ◌∙◌, inl, inr}
 use Rattle.std.proofs.Common.{Option, Some, None, Ok, option_map, slice_get}
 use Rattle.std.specs.Bool.{⊤}
-use Rattle.std.specs.List.{list_any, AllByRecursion}
-use Rattle.std.proofs.lemmas.Bool.{cond_both, and_parts, and_from, eqb-true, not_from_false}
+use Rattle.std.specs.List.{AllByRecursion}
+use Rattle.std.proofs.lemmas.Bool.{cond_both, and_parts, and_from, not_from_false}
 use Rattle.definitions.specs.Lists.{Among}
 use Rattle.definitions.specs.Bytes.{Bytes}
-use Rattle.definitions.specs.Branches.{Branch, branch_eq, just1}
 use Rattle.definitions.specs.Frames.{Command, Core, Vote, Certificate, Frame, sender_of, content_of}
 use Rattle.definitions.specs.Frames.{kind_of, own_tag}
-use Rattle.ids.specs.Sizes.{Sizes, quorum, client_party}
-use Rattle.definitions.specs.Digests.{digest_of, core_of, core_over}
+use Rattle.ids.specs.Sizes.{Sizes, client_party}
 use Rattle.definitions.specs.Keyrings.{Keyring}
-use Rattle.definitions.specs.Chronicles.{Admitted, Step, Step.took_block, Step.noted, Note.got_vote}
-use Rattle.definitions.specs.Chronicles.{Note.got_new_view, Note.got_request, Note.got_fetch}
-use Rattle.definitions.specs.Chronicles.{Note.timed_out, Note.beat, Note.pruned, Chronicle, taken_blocks}
-use Rattle.definitions.specs.Chronicles.{history, horizon, window}
-use Rattle.definitions.specs.Checks.{Identity, Findings, vote_verifies, command_verifies, cut}
-use Rattle.definitions.specs.States.{view, Justified, me, leads, leaf, child, known_as, proposed, made_with}
-use Rattle.definitions.specs.States.{qc_high, pending, with_request, is_due}
-use Rattle.definitions.specs.States.{is_same_request, picks, find_block}
-use Rattle.definitions.specs.Trees.{Placing, Placing.stands, Placing.grows, Placing.lacks_parent}
-use Rattle.definitions.specs.Trees.{Placing.unfit, placing}
-use Rattle.definitions.specs.Rulings.{Input, Input.proposal_in, Input.block_in, Input.vote_in}
-use Rattle.definitions.specs.Rulings.{Input.new_view_in, Input.request_in, Input.fetch_in, Input.timeout_in}
-use Rattle.definitions.specs.Rulings.{Input.prune_in, Input.offered_in, Input.relayed_in, Input.lead_in}
-use Rattle.definitions.specs.Rulings.{Input.ask_in, Input.view_in, take_grounded, on_offer, on_relay, lead}
-use Rattle.definitions.specs.Grounds.{are_replicas, is_justified, own_counted, is_own_certified}
-use Rattle.definitions.specs.Grounds.{grounded, may_lead_from}
-use Rattle.definitions.specs.Chronicles.{Note.seen_view, Note.led_from}
-use Rattle.definitions.specs.Rulings.{Input.beat_in, Ruling, Ruling.due, Ruling.missing, Ruling.refusing}
-use Rattle.definitions.specs.Rulings.{admitted, on_placing, on_request, with_block, ruling, conflicts}
-use Rattle.definitions.specs.Sendings.{To, To.to_party, Sending, reply_to, vote_frame, block_frame}
-use Rattle.definitions.specs.Sendings.{new_view_frame, proposal_frame, fetch_frame}
-use Rattle.definitions.specs.Replicas.{MemorySupply, MemorySupply.ample, MemorySupply.refused_at_once}
-use Rattle.definitions.specs.Replicas.{MemorySupply.refused_after}
-use Rattle.definitions.specs.Replicas.{Replica, Reaction, Reaction.fails, Standing, Standing.running}
-use Rattle.definitions.specs.Replicas.{Standing.stopped, Standing.cut_short, executes, on_step, on_ruling}
+use Rattle.definitions.specs.Chronicles.{Note.beat}
+use Rattle.definitions.specs.Checks.{Identity, vote_verifies, command_verifies}
+use Rattle.definitions.specs.States.{me}
+use Rattle.definitions.specs.Rulings.{Input}
+use Rattle.definitions.specs.Rulings.{Input.timeout_in}
+use Rattle.definitions.specs.Rulings.{Input.prune_in, Input.lead_in}
+use Rattle.definitions.specs.Rulings.{Input.ask_in}
+use Rattle.definitions.specs.Rulings.{Input.beat_in}
+use Rattle.definitions.specs.Sendings.{To, To.to_party, Sending}
+use Rattle.definitions.specs.Replicas.{MemorySupply}
+use Rattle.definitions.specs.Replicas.{Replica, Reaction}
 use Rattle.definitions.specs.Replicas.{step}
-use Rattle.definitions.specs.Sessions.{Session, Submitted, is_ample}
+use Rattle.definitions.specs.Sessions.{Session, Submitted}
 use Rattle.definitions.specs.Admission.{Checked, Checked.passes, Checked.rejected, check, check_offer}
-use Rattle.definitions.specs.Admission.{check_copies, check_gathered}
+use Rattle.definitions.specs.Admission.{check_gathered}
 use Rattle.definitions.specs.Worlds.{World, Sent, Event, Event.submit, Event.relay, Event.inject}
 use Rattle.definitions.specs.Worlds.{Event.timeout, Event.beat, Event.prune, Event.offer, Event.gather}
 use Rattle.definitions.specs.Worlds.{Event.lead as leads_from, Event.ask, Source, Source.of_record}
@@ -52,7 +35,7 @@ use Rattle.definitions.specs.Worlds.{Source.of_bytes}
 use Rattle.definitions.specs.Worlds.{Happening, is_replica, self_of}
 use Rattle.definitions.specs.Worlds.{client_of}
 use Rattle.definitions.specs.Worlds.{new_world}
-use Rattle.definitions.specs.Events.{Effect, nothing, stepped, told, submitted, out_of, on_checked, hears}
+use Rattle.definitions.specs.Events.{Effect, nothing, stepped, told, submitted, on_checked, hears}
 use Rattle.definitions.specs.Events.{submits, comes, offers, recorded, listed, frame_of, frames_of, brought}
 use Rattle.definitions.specs.Events.{party_of, acts, effect, happens}
 use Rattle.definitions.specs.Runs.{refusal, run}
@@ -60,440 +43,29 @@ use Rattle.definitions.specs.Premises.{Claim, IsFor, IsTagOf, WasSent, own_claim
 use Rattle.definitions.specs.Premises.{command_claim, command_claims, accepted_tags, admits, admits_in}
 use Rattle.definitions.specs.Premises.{IsReadFrom, IsReadIn}
 use Rattle.definitions.specs.Premises.{AllRead, NoForgeryIn, NoForgery}
-use Rattle.definitions.proofs.Lists.{Among-either, Among-map, Among-before}
+use Rattle.definitions.proofs.Lists.{Among-either, Among-map}
 use Rattle.definitions.proofs.Certificates.{all-filter, all-implied}
-use Rattle.definitions.proofs.Cuts.{all-take, all-cut}
-use Rattle.definitions.proofs.Checks.{when-good}
-use Rattle.definitions.proofs.Chronicles.{taken-now}
-use Rattle.definitions.proofs.Sound.{found}
-use Rattle.definitions.proofs.Trees.{found-in, core-known, IsPlaced, placed}
-use Rattle.linear_law.proofs.Inputs.{all-among, not_mine, not_frame}
-use Rattle.linear_law.proofs.HeldVotes.{AllVotes, IsHolding, high-held}
+use Rattle.linear_law.proofs.Inputs.{all-among}
+use Rattle.linear_law.proofs.Offers.{IsOffered, offered}
+use Rattle.linear_law.proofs.Offers.{IsGathered, gathered}
 use Rattle.linear_law.proofs.Effects.{is_member, named}
-use Rattle.linear_law.proofs.Sends.{Sends, Sends.its_vote, Sends.new_reply, Sends.old_reply, Sends.its_view}
-use Rattle.linear_law.proofs.Sends.{Sends.its_block, Sends.its_proposal, sends}
 use Rattle.linear_law.proofs.Submissions.{IsAsked, IsAsked.kept, IsAsked.given, submission-asked}
 use Rattle.linear_law.proofs.Linear.{run-step}
-use Rattle.linear_law.proofs.Leaves.{all-after, none-some, child-is}
 use Rattle.linear_law.proofs.WholeRuns.{slice_get-among}
 use Rattle.linear_law.proofs.FramedRuns.{put-both}
 use Rattle.linear_law.specs.Law.{HaveOwnKeys, IsDeliveredFrom, IsDelivered, AllDelivered, DeliveriesForgeNothing}
 use Rattle.definitions.specs.Frames as frame
-
--- ---- what was sent by its maker
-
--- the voter sent this vote
-abbrev VoteSent : List Sent → Bytes → Vote → Type 0
-VoteSent sent d b = (s : Sent) × Among s sent × (s.sender ≡ b.voter) × (s.frame ≡ frame.vote d b)
-
--- the client sent this command
-abbrev CommandSent : List Sent → Command → Type 0
-CommandSent sent k =
-    (s : Sent) × Among s sent × (s.sender ≡ client_party k.client) × (s.frame ≡ frame.request k)
-
-abbrev VotesSent : List Sent → Certificate → Type 0
-VotesSent sent q = AllVotes (VoteSent sent) q
-
-abbrev CommandsSent : List Sent → List Command → Type 0
-CommandsSent sent ks = AllByRecursion (CommandSent sent) ks
-
--- what a frame passes on
-abbrev Passed : List Sent → Frame → Type 0
-Passed sent (frame.proposal v core q t) = CommandsSent sent core.commands × VotesSent sent q
-Passed sent (frame.block s core q t) = CommandsSent sent core.commands × VotesSent sent q
-Passed sent (frame.new_view v s q t) = VotesSent sent q
-Passed sent f = ⊤
-
--- what an input brings
-abbrev IsMadeInput : List Sent → Input → Type 0
-IsMadeInput sent (proposal_in w core q f) = CommandsSent sent core.commands × VotesSent sent q
-IsMadeInput sent (block_in s core q f) = CommandsSent sent core.commands × VotesSent sent q
-IsMadeInput sent (vote_in d b) = VoteSent sent d b
-IsMadeInput sent (new_view_in w s q) = VotesSent sent q
-IsMadeInput sent (request_in k) = CommandSent sent k
-IsMadeInput sent (offered_in w s core q f) = CommandsSent sent core.commands
-IsMadeInput sent (relayed_in ss core q f) = CommandsSent sent core.commands
-IsMadeInput sent i = ⊤
-
--- what a step stores
-abbrev IsMade : List Sent → Step → Type 0
-IsMade sent (took_block a) =
-    (a.new ≡ true → CommandsSent sent (core_of a.branch).commands) × VotesSent sent a.certificate
-IsMade sent (noted (got_vote voter v b)) = VoteSent sent (digest_of b) (record { voter = voter; vector = v })
-IsMade sent (noted (got_new_view w s q b)) = VotesSent sent q
-IsMade sent (noted (got_request k)) = CommandSent sent k
-IsMade sent st = ⊤
-
-abbrev AreMade : List Sent → Chronicle → Type 0
-AreMade sent c = AllByRecursion (IsMade sent) c
-
--- ---- the record grows
-
-module _ (sent more : List Sent) where
-  vote-later : (d : Bytes) (b : Vote) → VoteSent sent d b → VoteSent (sent ++ more) d b
-  vote-later d b r = (r.0, Among-before r.0 sent more r.1, r.2, r.3)
-
-  command-later : (k : Command) → CommandSent sent k → CommandSent (sent ++ more) k
-  command-later k r = (r.0, Among-before r.0 sent more r.1, r.2, r.3)
-
-  votes-later : (q : Certificate) → VotesSent sent q → VotesSent (sent ++ more) q
-  votes-later q h =
-      all-implied (VoteSent sent q.digest) (VoteSent (sent ++ more) q.digest) (vote-later q.digest) q.votes h
-
-  commands-later : (ks : List Command) → CommandsSent sent ks → CommandsSent (sent ++ more) ks
-  commands-later ks h = all-implied (CommandSent sent) (CommandSent (sent ++ more)) command-later ks h
-
-  passed-later : (f : Frame) → Passed sent f → Passed (sent ++ more) f
-  passed-later (frame.proposal v core q t) h = (commands-later core.commands h.0, votes-later q h.1)
-  passed-later (frame.block s core q t) h = (commands-later core.commands h.0, votes-later q h.1)
-  passed-later (frame.new_view v s q t) h = votes-later q h
-  passed-later (frame.request c) h = tt
-  passed-later (frame.vote d b) h = tt
-  passed-later (frame.reply r c s p t g) h = tt
-  passed-later (frame.fetch s d t) h = tt
-
-  step-later : (st : Step) → IsMade sent st → IsMade (sent ++ more) st
-  step-later (took_block a) h =
-      (λ n. commands-later (core_of a.branch).commands (h.0 n), votes-later a.certificate h.1)
-  step-later (noted (got_vote voter v b)) h =
-      vote-later (digest_of b) (record { voter = voter; vector = v }) h
-  step-later (noted (got_new_view w s q b)) h = votes-later q h
-  step-later (noted (got_request k)) h = command-later k h
-  step-later (noted (got_fetch to b)) h = tt
-  step-later (noted timed_out) h = tt
-  step-later (noted beat) h = tt
-  step-later (noted (pruned height)) h = tt
-  step-later (noted (seen_view w s)) h = tt
-  step-later (noted (led_from b)) h = tt
-
-  made-later : (c : Chronicle) → AreMade sent c → AreMade (sent ++ more) c
-  made-later c h = all-implied (IsMade sent) (IsMade (sent ++ more)) step-later c h
-
--- ---- what a chronicle keeps
-
-module _ (sent : List Sent) where
-  -- its votes are held
-  made-holding : (st : Step) → IsMade sent st → IsHolding (VoteSent sent) st
-  made-holding (took_block a) h = h.1
-  made-holding (noted (got_vote voter v b)) h = h
-  made-holding (noted (got_new_view w s q b)) h = h
-  made-holding (noted (got_request k)) h = tt
-  made-holding (noted (got_fetch to b)) h = tt
-  made-holding (noted timed_out) h = tt
-  made-holding (noted beat) h = tt
-  made-holding (noted (pruned height)) h = tt
-  made-holding (noted (seen_view w s)) h = tt
-  made-holding (noted (led_from b)) h = tt
-
-  high-made : (s : Sizes) (c : Chronicle) → AreMade sent c → VotesSent sent (qc_high s c).certificate
-  high-made s c h = high-held (VoteSent sent) s c
-      (all-implied (IsMade sent) (IsHolding (VoteSent sent)) made-holding c h)
-
-  with_request-made : (st : Step) (ps : List Command) → IsMade sent st → CommandsSent sent ps
-      → CommandsSent sent (with_request st ps)
-  with_request-made (noted (got_request r)) ps h all =
-      cond_both (list_any (is_same_request r) ps) ps (ps ++ r ∷ []) (CommandsSent sent) (λ e. all)
-      (λ e. all-after (CommandSent sent) ps r all h)
-  with_request-made (took_block a) ps h all = all
-  with_request-made (noted n) ps h all = all
-
-  pending-made : (c : Chronicle) → AreMade sent c → CommandsSent sent (pending c)
-  unfolding pending
-  pending-made [] h = tt
-  pending-made (noted (led_from b) ∷ c) h = tt
-  pending-made (st ∷ c) h = all-filter (CommandSent sent) (is_due (history (st ∷ c)))
-      (with_request st (pending c)) (with_request-made st (pending c) h.0 (pending-made c h.1))
-
-  picks-made : (c : Chronicle) (on : Branch) → AreMade sent c → CommandsSent sent (picks c on)
-  unfolding picks
-  picks-made c on h =
-      all-take (CommandSent sent) 16 _ (all-filter (CommandSent sent) _ (pending c) (pending-made c h))
-
-  abbrev IsMadeProposal : Justified → Type 0
-  IsMadeProposal j = CommandsSent sent (core_of j.block).commands × VotesSent sent j.certificate
-
-  proposed-made : (self : Identity) (c : Chronicle) (j : Justified) → AreMade sent c
-      → proposed self c ≡ Some j → IsMadeProposal j
-  unfolding proposed core_of core_over
-  proposed-made self [] j h e = absurd (none-some j e)
-  proposed-made self (noted beat ∷ c) j h e =
-      by (λ f. proposed-made self c j h.1 f) (child self c (leaf self c)) refl e
-    where
-      by : (proposed self c ≡ Some j → IsMadeProposal j) → (o : Option Branch)
-          → child self c (leaf self c) ≡ o
-          → made_with o (qc_high self.sizes c).certificate (proposed self c) ≡ Some j → IsMadeProposal j
-      by old None i f = old f
-      by old (Some b) i f =
-          let is : record { block = b; certificate = (qc_high self.sizes c).certificate } ≡ j = cc in
-          let k = (child-is self c (leaf self c) b i).is in
-          subst IsMadeProposal is (
-            subst (λ (x : Branch). CommandsSent sent (core_of x).commands) (sym k)
-                (picks-made c (known_as (leaf self c) c) h.1),
-            high-made self.sizes c h.1,
-          )
-  proposed-made self (took_block a ∷ c) j h e = proposed-made self c j h.1 e
-  proposed-made self (noted n ∷ c) j h e = proposed-made self c j h.1 e
-
-  taken-made : (c : Chronicle) (a : Admitted) → AreMade sent c → Among a (taken_blocks c)
-      → CommandsSent sent (core_of a.branch).commands × VotesSent sent a.certificate
-  unfolding taken_blocks
-  taken-made [] a h m = absurd m
-  taken-made (st ∷ c) a h m =
-      elim (taken-now st c a m) [
-        | inl now ↦ (let s = subst (IsMade sent) now.0 h.0 in (s.0 now.1, s.1))
-        | inr k ↦ taken-made c a h.1 k
-      ]
-
-  -- the votes of a certificate that is passed on are among its own
-  cut-made : (self : Identity) (q : Certificate) → VotesSent sent q → VotesSent sent (cut self q)
-  unfolding cut
-  cut-made self q h = all-cut (VoteSent sent q.digest) self q h
-
-  -- what a step sends is in its own name, and passes on what was sent
-  sends-made : (self : Identity) (st : Step) (c : Chronicle) (o : Sending) → AreMade sent (st ∷ c)
-      → Sends self st c o → (me self ≡ sender_of self.sizes o.1) × Passed sent o.1
-  unfolding vote_frame reply_to new_view_frame block_frame proposal_frame leads
-  sends-made self st c o h (its_vote a e v to) = (refl, tt)
-  sends-made self st c o h (new_reply a m) = (refl, tt)
-  sends-made self st c o h (old_reply a m) = (refl, tt)
-  sends-made self st c o h its_view =
-      (refl, cut-made self (qc_high self.sizes (st ∷ c)).certificate (high-made self.sizes (st ∷ c) h))
-  sends-made self st c o h (its_block to a m) =
-      let k = taken-made c a h.1 m in (refl, (k.0, cut-made self a.certificate k.1))
-  sends-made self st c o h (its_proposal j l e) =
-      let k = proposed-made self (st ∷ c) j h e in
-      (sym (eqb-true _ _ l), (k.0, cut-made self j.certificate k.1))
-
-  -- ---- rulings
-
-  AllMade : Ruling → Type 0
-  AllMade (due st) = IsMade sent st
-  AllMade (missing r d) = ⊤
-  AllMade (refusing n) = ⊤
-
-  placed-made : (self : Identity) (w : Option ℕ) (sender : ℕ) (core : Core) (q : Certificate) (f : Findings)
-      (c : Chronicle) → CommandsSent sent core.commands → VotesSent sent q → (p : Placing)
-      → IsPlaced (horizon c) MOST_BLOCKS core q (window c) p → AllMade (on_placing self w sender core q f c p)
-  unfolding on_placing admitted AllMade
-  placed-made self w sender core q f c hk hq (stands b) h = (λ n. absurd (true≢false (sym n)), hq)
-  placed-made self w sender core q f c hk hq (grows b) (parent, t) =
-      let ep = sym (found-in core.parent (window c) parent t.parent_found).1 in (
-        λ n. subst (λ (x : Core). CommandsSent sent x.commands)
-            (sym (ap core_of t.is ∙ core-known core parent ep t.height)) hk,
-        hq,
-      )
-  placed-made self w sender core q f c hk hq lacks_parent h = tt
-  placed-made self w sender core q f c hk hq (unfit n) h = tt
-
-  vote-made : (d : Bytes) (b : Vote) (c : Chronicle) → VoteSent sent d b → (o : Option Branch)
-      → find_block d c ≡ o
-      → AllMade (with_block o b.voter d (λ x. due (noted (got_vote b.voter b.vector x))))
-  unfolding AllMade
-  vote-made d b c h None e = tt
-  vote-made d b c h (Some x) e = subst (λ (y : Bytes). VoteSent sent y b) (sym (found d c x e).1) h
-
-  view-made : (w r : ℕ) (q : Certificate) (o : Option Branch) → VotesSent sent q
-      → AllMade (with_block o r q.digest (λ x. due (noted (got_new_view w r q x))))
-  unfolding AllMade
-  view-made w r q None h = tt
-  view-made w r q (Some x) h = h
-
-  request-made : (r : Command) (c : Chronicle) → CommandSent sent r → AllMade (on_request r c)
-  unfolding on_request AllMade
-  request-made r c h = cond_both (is_due (history c) r
-      && (not (list_any (is_same_request r) (pending c)) && not (nat_lt (length (pending c)) 4096))) _ _
-      AllMade (λ e. tt) (λ e. h)
-
-  grounded-made : (self : Identity) (w : Option ℕ) (core : Core) (q : Certificate) (f : Findings)
-      (c : Chronicle) → AreMade sent c → (b : Branch) → CommandsSent sent (core_of b).commands
-      → AllMade (take_grounded self w (grounded self (admitted b core q f true) c) c)
-  unfolding grounded is_own_certified admitted AllMade
-  grounded-made self w core q f c made b hk =
-      let P : Option Admitted → Type 0 = λ o. AllMade (take_grounded self w o c) in
-      cond_both (is_justified (just1 b) c) _ _ P (λ t. (λ n. hk, tt))
-      (λ t. cond_both (branch_eq (qc_high self.sizes c).block (just1 b)
-      && are_replicas self.sizes (quorum self.sizes) (own_counted self c)) _ _ P
-      (λ e. (λ n. hk, high-made self.sizes c made)) (λ e. tt))
-
-  offer-made : (self : Identity) (w : Option ℕ) (sender : ℕ) (core : Core) (q : Certificate) (f : Findings)
-      (c : Chronicle) → AreMade sent c → CommandsSent sent core.commands → (p : Placing)
-      → IsPlaced (horizon c) MOST_BLOCKS core q (window c) p → AllMade (on_offer self w sender core q f c p)
-  unfolding on_offer admitted AllMade
-  offer-made self w sender core q f c made hk (stands b) h = (λ n. absurd (true≢false (sym n)), tt)
-  offer-made self w sender core q f c made hk (grows b) (parent, t) =
-      let ep = sym (found-in core.parent (window c) parent t.parent_found).1 in
-      grounded-made self w core q f c made b (subst (λ (x : Core). CommandsSent sent x.commands)
-      (sym (ap core_of t.is ∙ core-known core parent ep t.height)) hk)
-  offer-made self w sender core q f c made hk lacks_parent h = tt
-  offer-made self w sender core q f c made hk (unfit n) h = tt
-
-  relay-made : (self : Identity) (senders : List ℕ) (core : Core) (q : Certificate) (f : Findings)
-      (c : Chronicle) → CommandsSent sent core.commands → (p : Placing)
-      → IsPlaced (horizon c) MOST_BLOCKS core q (window c) p → AllMade (on_relay self senders core q f c p)
-  unfolding on_relay admitted AllMade
-  relay-made self senders core q f c hk (stands b) h = (λ n. absurd (true≢false (sym n)), tt)
-  relay-made self senders core q f c hk (grows b) (parent, t) =
-      let ep = sym (found-in core.parent (window c) parent t.parent_found).1 in
-      cond_both (are_replicas self.sizes (suc self.sizes.faults) senders) _ _ AllMade
-      (λ e. (
-        λ n. subst (λ (x : Core). CommandsSent sent x.commands)
-            (sym (ap core_of t.is ∙ core-known core parent ep t.height)) hk,
-        tt,
-      ))
-      (λ e. tt)
-  relay-made self senders core q f c hk lacks_parent h = tt
-  relay-made self senders core q f c hk (unfit n) h = tt
-
-  lead-made : (self : Identity) (o : Option Branch) (c : Chronicle) → AllMade (lead self o c)
-  unfolding AllMade
-  lead-made self None c = tt
-  lead-made self (Some b) c = cond_both (may_lead_from self b c) _ _ AllMade (λ e. tt) (λ e. tt)
-
-  ruling-made : (self : Identity) (i : Input) (c : Chronicle) → AreMade sent c → IsMadeInput sent i
-      → AllMade (ruling self i c)
-  unfolding ruling AllMade
-  ruling-made self (proposal_in w core q f) c made h =
-      placed-made self _ _ core q f c h.0 h.1 (placing (horizon c) MOST_BLOCKS core q (window c))
-      (placed (horizon c) MOST_BLOCKS core q (window c))
-  ruling-made self (block_in sender core q f) c made h =
-      placed-made self _ _ core q f c h.0 h.1 (placing (horizon c) MOST_BLOCKS core q (window c))
-      (placed (horizon c) MOST_BLOCKS core q (window c))
-  ruling-made self (vote_in d b) c made h = vote-made d b c h _ refl
-  ruling-made self (new_view_in w r q) c made h = view-made w r q _ h
-  ruling-made self (request_in r) c made h = request-made r c h
-  ruling-made self (fetch_in r d) c made h = tt
-  ruling-made self timeout_in c made h = tt
-  ruling-made self beat_in c made h = tt
-  ruling-made self (prune_in height) c made h = tt
-  ruling-made self (offered_in w sender core q f) c made h =
-      offer-made self w sender core q f c made h (placing (horizon c) MOST_BLOCKS core q (window c))
-      (placed (horizon c) MOST_BLOCKS core q (window c))
-  ruling-made self (relayed_in senders core q f) c made h =
-      relay-made self senders core q f c h (placing (horizon c) MOST_BLOCKS core q (window c))
-      (placed (horizon c) MOST_BLOCKS core q (window c))
-  ruling-made self (lead_in d) c made h = lead-made self (find_block d c) c
-  ruling-made self (ask_in r d) c made h = tt
-  ruling-made self (view_in w r) c made h = tt
-
-  -- ---- a step
-
-  -- what a step leaves, and what it sends
-  record IsMadeAfter (self : Identity) (m : MemorySupply) (r : Replica × Reaction) : Type 0 where
-    chronicle : AreMade sent r.0.chronicle
-    out : (o : Sending) → Among o (out_of self m r.1) → (me self ≡ sender_of self.sizes o.1) × Passed sent o.1
-
-  on_step-made : (self : Identity) (m : MemorySupply) (st : Step) (c : Chronicle) → AreMade sent c
-      → IsMade sent st → IsMadeAfter self m (on_step self m st c)
-  unfolding on_step
-  on_step-made self ample st c h k =
-      cond_both (conflicts st c) _ _ (IsMadeAfter self ample)
-      (λ e. record { chronicle = h; out = λ o n. absurd n })
-      (λ e.
-      record { chronicle = (k, h); out = λ o n. sends-made self st c o (k, h) (sends self st c o n) })
-  on_step-made self refused_at_once st c h k = record { chronicle = h; out = λ o n. absurd n }
-  on_step-made self (refused_after j) st c h k =
-      cond_both (conflicts st c) _ _ (IsMadeAfter self (refused_after j))
-      (λ e. record { chronicle = h; out = λ o n. absurd n })
-      (λ e. cond_both (executes st c) _ _ (IsMadeAfter self (refused_after j))
-      (λ x. record { chronicle = (k, h); out = λ o n. absurd n })
-      (λ x. record { chronicle = h; out = λ o n. absurd n }))
-
-  fetch-made : (self : Identity) (to : ℕ) (d : Bytes) (o : Sending)
-      → Among o ((to_party to, fetch_frame self to d) ∷ [])
-      → (me self ≡ sender_of self.sizes o.1) × Passed sent o.1
-  unfolding fetch_frame
-  fetch-made self to d o (inl i) =
-      subst (λ (x : Sending). (me self ≡ sender_of self.sizes x.1) × Passed sent x.1) (sym i) (refl, tt)
-  fetch-made self to d o (inr n) = absurd n
-
-  on_ruling-made : (self : Identity) (m : MemorySupply) (v : Ruling) (c : Chronicle) → AreMade sent c
-      → AllMade v
-      → IsMadeAfter self m (on_ruling self m v c)
-  unfolding on_ruling AllMade
-  on_ruling-made self m (due st) c h k = on_step-made self m st c h k
-  on_ruling-made self m (missing to d) c h k = record {
-    chronicle = h;
-    out = λ o. cond_both (is_ample m && not (to == self.ring.party))
-        ((to_party to, fetch_frame self to d) ∷ []) []
-        (λ (l : List Sending). Among o l → (me self ≡ sender_of self.sizes o.1) × Passed sent o.1)
-        (λ e n. fetch-made self to d o n) (λ e n. absurd n);
-  }
-  on_ruling-made self m (refusing n) c h k = record { chronicle = h; out = λ o j. absurd j }
-
-  step-made : (self : Identity) (m : MemorySupply) (i : Input) (r : Replica) → AreMade sent r.chronicle
-      → IsMadeInput sent i → IsMadeAfter self m (step self m i r)
-  unfolding step
-  step-made self m i r h k = by r.standing
-    where
-      by : (s : Standing)
-          → IsMadeAfter self m (elim s as (λ x. Replica × Reaction) [
-            | running ↦ on_ruling self m (ruling self i r.chronicle) r.chronicle
-            | stopped ↦ (r, fails fault.Stopped)
-            | cut_short held ↦ (r, fails fault.Stopped)
-          ])
-      by running =
-          on_ruling-made self m (ruling self i r.chronicle) r.chronicle h (ruling-made self i r.chronicle h k)
-      by stopped = record { chronicle = h; out = λ o n. absurd n }
-      by (cut_short held) = record { chronicle = h; out = λ o n. absurd n }
-
-  -- ---- a recorded frame comes
-
-  -- it is in its sender's name, and passes on what was sent
-  abbrev IsOwn : Sizes → Sent → Type 0
-  IsOwn sizes s = (s.sender ≡ sender_of sizes s.frame) × Passed sent s.frame
-
-  check-made : (self : Identity) (s : Sent) (f : Frame) (i : Input) → Among s sent → s.frame ≡ f
-      → (s.sender ≡ sender_of self.sizes f) × Passed sent f → check self f ≡ passes i → IsMadeInput sent i
-  unfolding check
-  check-made self s (frame.proposal view core q v) i m j h e =
-      let g = when-good _ _ _ e in subst (IsMadeInput sent) g.1 h.1
-  check-made self s (frame.block sender core q t) i m j h e =
-      let g = when-good _ _ _ e in subst (IsMadeInput sent) g.1 h.1
-  check-made self s (frame.request c) i m j h e =
-      subst (IsMadeInput sent) (when-good _ _ _ e).1 (s, m, h.0, j)
-  check-made self s (frame.vote d b) i m j h e = subst (IsMadeInput sent) (when-good _ _ _ e).1 (s, m, h.0, j)
-  check-made self s (frame.new_view w r q v) i m j h e = subst (IsMadeInput sent) (when-good _ _ _ e).1 h.1
-  check-made self s (frame.fetch r d t) i m j h e = subst (IsMadeInput sent) (when-good _ _ _ e).1 tt
-  check-made self s (frame.reply r c q p t g) i m j h e = absurd (not_mine i e)
-
-  -- one that is offered
-  offer-sent : (self : Identity) (f : Frame) (i : Input) → Passed sent f → check_offer self f ≡ passes i
-      → IsMadeInput sent i
-  unfolding check_offer
-  offer-sent self (frame.proposal view core q v) i h e = subst (IsMadeInput sent) (when-good _ _ _ e).1 h.0
-  offer-sent self (frame.block sender core q t) i h e = subst (IsMadeInput sent) (when-good _ _ _ e).1 h.0
-  offer-sent self (frame.new_view w r q v) i h e = subst (IsMadeInput sent) (when-good _ _ _ e).1 tt
-  offer-sent self (frame.request c) i h e = absurd (not_mine i e)
-  offer-sent self (frame.vote d b) i h e = absurd (not_mine i e)
-  offer-sent self (frame.fetch r d t) i h e = absurd (not_mine i e)
-  offer-sent self (frame.reply r c q p t g) i h e = absurd (not_mine i e)
-
-  -- copies of a block
-  copies-made : (self : Identity) (f : Frame) (fs : List Frame) (i : Input) → Passed sent f
-      → check_copies self f fs ≡ passes i → IsMadeInput sent i
-  unfolding check_copies
-  copies-made self (frame.block sender core q t) fs i h e = subst (IsMadeInput sent) (when-good _ _ _ e).1 h.0
-  copies-made self (frame.proposal view core q v) fs i h e = absurd (not_mine i e)
-  copies-made self (frame.new_view w r q v) fs i h e = absurd (not_mine i e)
-  copies-made self (frame.request c) fs i h e = absurd (not_mine i e)
-  copies-made self (frame.vote d b) fs i h e = absurd (not_mine i e)
-  copies-made self (frame.fetch r d t) fs i h e = absurd (not_mine i e)
-  copies-made self (frame.reply r c q p t g) fs i h e = absurd (not_mine i e)
-
-  gathered-made : (self : Identity) (fs : List Frame) (i : Input) → ((f : Frame) → Among f fs → Passed sent f)
-      → check_gathered self fs ≡ passes i → IsMadeInput sent i
-  unfolding check_gathered
-  gathered-made self [] i h e = absurd (not_frame i e)
-  gathered-made self (f ∷ fs) i h e = copies-made self f (f ∷ fs) i (h f (inl refl)) e
+use Rattle.linear_law.proofs.Made.{VoteSent, CommandSent, VotesSent, CommandsSent, Passed, IsMadeInput, AreMade}
+use Rattle.linear_law.proofs.Made.{made-later, passed-later}
+use Rattle.linear_law.proofs.MadeSteps.{IsMadeAfter, step-made, check-made, offer-sent, gathered-made}
 
 -- ---- what an event does
 
 -- an input is of a recorded frame that comes or is offered, of several that come together, or of none
 data IsTaken (w : World) (e : Event) (i : Input) : Type 0 where
   by_check : (f : Frame) → Among f (brought w e) → check (self_of w (party_of e)) f ≡ passes i → IsTaken w e i
-  by_offer : (f : Frame) → Among f (brought w e) → check_offer (self_of w (party_of e)) f ≡ passes i
-      → IsTaken w e i
-  by_copies : check_gathered (self_of w (party_of e)) (brought w e) ≡ passes i → IsTaken w e i
+  by_offer : (f : Frame) → Among f (brought w e) → IsOffered (self_of w (party_of e)) f i → IsTaken w e i
+  by_copies : IsGathered (self_of w (party_of e)) (brought w e) i → IsTaken w e i
   by_none : ((sent : List Sent) → IsMadeInput sent i) → IsTaken w e i
 
 -- nothing to replicas, or a correct replica takes an input, or a client submits
@@ -538,7 +110,7 @@ offers-moves : (w : World) (e : Event) (m : MemorySupply) → is_member w (party
 unfolding offers
 offers-moves w e m me None b = nothing-moves w e m (Some fault.NotAFrame)
 offers-moves w e m me (Some f) b = checked-moves w e m (check_offer (self_of w (party_of e)) f) me
-    (λ i g. by_offer f (listed-there w e (Some f) f b refl) g)
+    (λ i g. by_offer f (listed-there w e (Some f) f b refl) (offered _ f i g))
 
 acts-moves : (w : World) (e : Event) (m : MemorySupply) → refusal w e ≡ None
     → w.is_faulty (party_of e) ≡ false
@@ -559,7 +131,7 @@ acts-moves w (offer to source) m n ok =
     (frame_of w source) refl
 acts-moves w (gather to ss) m n ok =
     checked-moves w (gather to ss) m (check_gathered (self_of w to) (frames_of w ss))
-    (and_from _ _ (named w (gather to ss) n) (not_from_false _ ok)) (λ i g. by_copies g)
+    (and_from _ _ (named w (gather to ss) n) (not_from_false _ ok)) (λ i g. by_copies (gathered _ _ i g))
 acts-moves w (leads_from r d) m n ok =
     taking (lead_in d) (and_from _ _ (named w (leads_from r d) n) (not_from_false _ ok)) (by_none (λ s. tt))
 acts-moves w (ask r to d) m n ok =

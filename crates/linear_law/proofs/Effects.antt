@@ -21,6 +21,7 @@ use Rattle.definitions.specs.Worlds.{Event.ask, is_replica, is_correct, is_party
 use Rattle.definitions.specs.Runs.{refusal, names_party}
 use Rattle.definitions.specs.Events.{Effect, nothing, stepped, on_checked, hears, submits, comes, recorded}
 use Rattle.definitions.specs.Events.{brought, listed, frame_of, frames_of, offers, party_of, acts, effect}
+use Rattle.linear_law.proofs.Offers.{IsOffered, offered, IsGathered, gathered}
 use Rattle.definitions.specs.Admission.{is_passed, Checked, Checked.passes, Checked.rejected, check, when}
 use Rattle.definitions.specs.Admission.{check_offer, check_copies, check_gathered}
 use Rattle.definitions.specs.Premises.{admits, admits_in}
@@ -40,10 +41,10 @@ pub record Brings (w : World) (e : Event) (f : Frame) : Type 0 where
 pub data Arises (w : World) (e : Event) : Input → Type 0 where
   of_checked : (f : Frame) (i : Input) → Brings w e f → check (self_of w (party_of e)) f ≡ passes i
       → Arises w e i
-  of_offer : (f : Frame) (i : Input) → Brings w e f → check_offer (self_of w (party_of e)) f ≡ passes i
+  of_offer : (f : Frame) (i : Input) → Brings w e f → IsOffered (self_of w (party_of e)) f i
       → (IsUsual e → ⊥) → Arises w e i
   of_gathered : (i : Input) → ((f : Frame) → Among f (brought w e) → Brings w e f)
-      → check_gathered (self_of w (party_of e)) (brought w e) ≡ passes i → (IsUsual e → ⊥) → Arises w e i
+      → IsGathered (self_of w (party_of e)) (brought w e) i → (IsUsual e → ⊥) → Arises w e i
   of_timeout : Arises w e timeout_in
   of_beat : Arises w e beat_in
   of_prune : (height : ℕ) → Arises w e (prune_in height)
@@ -235,7 +236,7 @@ offers-effects w to s m r ok rd (Some f) b = by (check_offer (self_of w to) f) r
       brings = there;
       is_frame = rd f there;
       admitted = and_from _ _ r (ap is_passed g);
-    }) g (λ u. u))
+    }) (offered _ f i g) (λ u. u))
     by (rejected n) g = idle (Some n) (offer-bad (self_of w to) f n g)
 
 -- frames come together
@@ -249,7 +250,7 @@ gather-effects w to ss m r ok rd (passes i) g = step_by i (and_from _ _ r (not_f
       brings = n;
       is_frame = rd f n;
       admitted = and_from _ _ r (ap is_passed g);
-    }) g (λ u. u))
+    }) (gathered _ _ i g) (λ u. u))
 gather-effects w to ss m r ok rd (rejected n) g =
     idle (Some n) (gathered-bad (self_of w to) (frames_of w ss) n g)
 

@@ -31,8 +31,7 @@ use Rattle.definitions.specs.Rulings.{Input.lead_in, Input.ask_in, Input.view_in
 use Rattle.definitions.specs.Rulings.{admitted, take_grounded}
 use Rattle.definitions.specs.Rulings.{on_placing, on_offer, on_relay, on_request, lead, with_block}
 use Rattle.definitions.specs.Rulings.{ruling}
-use Rattle.definitions.specs.Admission.{Checked.passes, check, check_offer, check_copies}
-use Rattle.definitions.specs.Admission.{check_gathered}
+use Rattle.definitions.specs.Admission.{Checked.passes, check}
 use Rattle.definitions.specs.Premises.{vote_claim, accepted_tags}
 use Rattle.definitions.specs.Frames as frame
 use Rattle.definitions.proofs.Lists.{Among-kept, Among-mapped, Among-before}
@@ -40,7 +39,9 @@ use Rattle.definitions.proofs.Certificates.{all-implied, all-by_voter}
 use Rattle.definitions.proofs.Checks.{when-good}
 use Rattle.definitions.proofs.Branches.{branch_eq-decides}
 use Rattle.definitions.proofs.Sound.{found}
-use Rattle.linear_law.proofs.Inputs.{AllStanding, not_mine, not_frame}
+use Rattle.linear_law.proofs.Inputs.{AllStanding}
+use Rattle.linear_law.proofs.Offers.{not_mine, IsOffered, IsOffered.by_proposal, IsOffered.by_block}
+use Rattle.linear_law.proofs.Offers.{IsOffered.by_view, IsGathered, IsGathered.copies}
 
 -- it is so of each vote of a certificate
 abbrev pub AllVotes : (Bytes → Vote → Type 0) → Certificate → Type 0
@@ -291,29 +292,11 @@ check-claimed self (frame.reply r c s p t g) i e = absurd (not_mine i e)
 
 -- an offer and copies bring none that are kept
 pub offer-bringing : (P : Bytes → Vote → Type 0) (self : Identity) (f : Frame) (i : Input)
-    → check_offer self f ≡ passes i → IsBringing P i
-unfolding check_offer
-offer-bringing P self (frame.proposal view core q v) i e = subst (IsBringing P) (when-good _ _ _ e).1 tt
-offer-bringing P self (frame.block sender core q t) i e = subst (IsBringing P) (when-good _ _ _ e).1 tt
-offer-bringing P self (frame.new_view w s q v) i e = subst (IsBringing P) (when-good _ _ _ e).1 tt
-offer-bringing P self (frame.request c) i e = absurd (not_mine i e)
-offer-bringing P self (frame.vote d b) i e = absurd (not_mine i e)
-offer-bringing P self (frame.fetch s d t) i e = absurd (not_mine i e)
-offer-bringing P self (frame.reply r c s p t g) i e = absurd (not_mine i e)
-
-copies-bringing : (P : Bytes → Vote → Type 0) (self : Identity) (f : Frame) (fs : List Frame) (i : Input)
-    → check_copies self f fs ≡ passes i → IsBringing P i
-unfolding check_copies
-copies-bringing P self (frame.block sender core q t) fs i e = subst (IsBringing P) (when-good _ _ _ e).1 tt
-copies-bringing P self (frame.proposal w c q v) fs i e = absurd (not_mine i e)
-copies-bringing P self (frame.new_view w s q v) fs i e = absurd (not_mine i e)
-copies-bringing P self (frame.request c) fs i e = absurd (not_mine i e)
-copies-bringing P self (frame.vote d b) fs i e = absurd (not_mine i e)
-copies-bringing P self (frame.fetch s d t) fs i e = absurd (not_mine i e)
-copies-bringing P self (frame.reply r c s p t g) fs i e = absurd (not_mine i e)
+    → IsOffered self f i → IsBringing P i
+offer-bringing P self f i (by_proposal view core q v) = tt
+offer-bringing P self f i (by_block sender core q t) = tt
+offer-bringing P self f i (by_view view sender q v) = tt
 
 pub gathered-bringing : (P : Bytes → Vote → Type 0) (self : Identity) (fs : List Frame) (i : Input)
-    → check_gathered self fs ≡ passes i → IsBringing P i
-unfolding check_gathered
-gathered-bringing P self [] i e = absurd (not_frame i e)
-gathered-bringing P self (f ∷ fs) i e = copies-bringing P self f (f ∷ fs) i e
+    → IsGathered self fs i → IsBringing P i
+gathered-bringing P self fs i (copies sender core q t more same) = tt

@@ -1,7 +1,6 @@
 -- What a step that stands has from the frame that came.
 use Rattle.ids.specs.declared.limits.TheConstants.{MOST_BLOCKS}
 use Rattle.ids.specs.declared.kind.Kind.TheVariants as kind
-use Rattle.ids.specs.declared.fault.Fault.TheVariants as fault
 use Rattle.std.proofs.Common.{ℕ, ◌≡◌, ◌&&◌, not, true, List, [], ◌∷◌, ◌++◌, length, refl, sym, subst, subst₂, inl}
 use Rattle.std.proofs.Common.{suc, Bool, false, inr, Option, Some, None, true≢false, nat_lt, ◌∙◌, ap}
 use Rattle.std.specs.Bool.{⊤}
@@ -10,6 +9,8 @@ use Rattle.std.proofs.lemmas.Bool.{and_parts, cond_both}
 use lib.Dec.{ltb}
 use Rattle.definitions.proofs.Lists.{Among-after, Among-before, Among-mapped, Among-kept, Among-map, all-passes}
 use Rattle.definitions.proofs.Checks.{when-good, block-checked}
+use Rattle.linear_law.proofs.Offers.{not_mine, IsOffered, IsOffered.by_proposal, IsOffered.by_block}
+use Rattle.linear_law.proofs.Offers.{IsOffered.by_view, IsGathered, IsGathered.copies}
 use Rattle.definitions.proofs.Sound.{IsCheckedInput}
 use Rattle.definitions.specs.Trees.{Placing, Placing.stands, Placing.grows, Placing.lacks_parent}
 use Rattle.definitions.specs.Trees.{Placing.unfit, placing}
@@ -40,8 +41,7 @@ use Rattle.definitions.specs.States.{qc_high, find_block}
 use Rattle.definitions.specs.Branches.{branch_eq}
 use Rattle.definitions.proofs.Branches.{branch_eq-decides}
 use Rattle.ids.specs.Sizes.{quorum}
-use Rattle.definitions.specs.Admission.{check, check_offer, check_copies, check_gathered, is_copy, when}
-use Rattle.definitions.specs.Admission.{Checked.passes, Checked.rejected}
+use Rattle.definitions.specs.Admission.{check, is_copy, when, Checked.passes}
 use Rattle.definitions.specs.Premises.{Claim, accepted_tags, vote_claims, command_claims, CoreOf}
 use Rattle.definitions.specs.Frames as frame
 
@@ -345,13 +345,6 @@ carried-as self f core q g h core' q' g' (ec, eq, eg) =
     subst (IsCarried self f core' q') eg
     (subst₂ (λ (x : Core) (y : Certificate). IsCarried self f x y g) ec eq h)
 
--- a frame that isn't for this replica is no input, nor is what is no frame
-pub not_mine : (i : Input) → rejected fault.NotMine ≡ passes i → ⊥
-not_mine i e = cc
-
-pub not_frame : (i : Input) → rejected fault.NotAFrame ≡ passes i → ⊥
-not_frame i e = cc
-
 pub check-carried : (self : Identity) (f : Frame) (i : Input) → IsFrame self.sizes f
     → check self f ≡ passes i → CarriedBy self f i
 unfolding check
@@ -374,43 +367,23 @@ check-carried self (frame.fetch s d t) i fr e =
 check-carried self (frame.reply r c s p t g) i fr e = absurd (not_mine i e)
 
 -- an offer carries the block of its frame
-pub offer-carried : (self : Identity) (f : Frame) (i : Input) → IsFrame self.sizes f
-    → check_offer self f ≡ passes i → CarriedBy self f i
-unfolding check_offer
-offer-carried self (frame.proposal view core q v) i fr e =
-    subst (CarriedBy self (frame.proposal view core q v)) (when-good _ _ _ e).1
-    (carried-as self _ core q (findings self core q) (proposal-carried self view core q v fr))
-offer-carried self (frame.block sender core q t) i fr e =
-    subst (CarriedBy self (frame.block sender core q t)) (when-good _ _ _ e).1
-    (carried-as self _ core q (findings self core q) (block-carried self sender core q t fr))
-offer-carried self (frame.new_view w s q v) i fr e =
-    subst (CarriedBy self (frame.new_view w s q v)) (when-good _ _ _ e).1 (λ c p g ca. absurd ca)
-offer-carried self (frame.request c) i fr e = absurd (not_mine i e)
-offer-carried self (frame.vote d b) i fr e = absurd (not_mine i e)
-offer-carried self (frame.fetch s d t) i fr e = absurd (not_mine i e)
-offer-carried self (frame.reply r c s p t g) i fr e = absurd (not_mine i e)
+pub offer-carried : (self : Identity) (f : Frame) (i : Input) → IsFrame self.sizes f → IsOffered self f i
+    → CarriedBy self f i
+offer-carried self f i fr (by_proposal view core q v) =
+    carried-as self _ core q (findings self core q) (proposal-carried self view core q v fr)
+offer-carried self f i fr (by_block sender core q t) =
+    carried-as self _ core q (findings self core q) (block-carried self sender core q t fr)
+offer-carried self f i fr (by_view view sender q v) = λ c p g ca. absurd ca
 
 -- copies carry the block of the first of them
-copies-carried : (self : Identity) (f : Frame) (fs : List Frame) (i : Input) → IsFrame self.sizes f
-    → check_copies self f fs ≡ passes i → CarriedBy self f i
-unfolding check_copies
-copies-carried self (frame.block sender core q t) fs i fr e =
-    subst (CarriedBy self (frame.block sender core q t)) (when-good _ _ _ e).1
-    (carried-as self _ core q (findings self core q) (block-carried self sender core q t fr))
-copies-carried self (frame.proposal w c q v) fs i fr e = absurd (not_mine i e)
-copies-carried self (frame.new_view w s q v) fs i fr e = absurd (not_mine i e)
-copies-carried self (frame.request c) fs i fr e = absurd (not_mine i e)
-copies-carried self (frame.vote d b) fs i fr e = absurd (not_mine i e)
-copies-carried self (frame.fetch s d t) fs i fr e = absurd (not_mine i e)
-copies-carried self (frame.reply r c s p t g) fs i fr e = absurd (not_mine i e)
-
 pub gathered-carried : (self : Identity) (fs : List Frame) (i : Input)
-    → ((f : Frame) → Among f fs → IsFrame self.sizes f) → check_gathered self fs ≡ passes i
+    → ((f : Frame) → Among f fs → IsFrame self.sizes f) → IsGathered self fs i
     → (f : Frame) × Among f fs × CarriedBy self f i
-unfolding check_gathered
-gathered-carried self [] i fr e = absurd (not_frame i e)
-gathered-carried self (f ∷ fs) i fr e =
-    (f, inl refl, copies-carried self f (f ∷ fs) i (fr f (inl refl)) e)
+gathered-carried self fs i fr (copies sender core q t more same) = (
+  frame.block sender core q t,
+  inl refl,
+  carried-as self _ core q (findings self core q) (block-carried self sender core q t (fr _ (inl refl))),
+)
 
 -- ---- what each way to an input says of it
 
@@ -436,37 +409,16 @@ check-checked self (frame.fetch s d t) i fr e = other-checked self.sizes _ _ i t
 check-checked self (frame.reply r c s p t g) i fr e = absurd (not_mine i e)
 
 -- of a frame that was offered
-pub offer-checked : (self : Identity) (f : Frame) (i : Input) → IsFrame self.sizes f
-    → check_offer self f ≡ passes i → IsCheckedInput self.sizes i
-unfolding check_offer
-offer-checked self (frame.proposal view core q v) i fr e =
-    other-checked self.sizes _ _ i fr.1.justify_height e
-offer-checked self (frame.block sender core q t) i fr e = other-checked self.sizes _ _ i fr.1.justify_height e
-offer-checked self (frame.new_view w s q v) i fr e = other-checked self.sizes _ _ i tt e
-offer-checked self (frame.request c) i fr e = absurd (not_mine i e)
-offer-checked self (frame.vote d b) i fr e = absurd (not_mine i e)
-offer-checked self (frame.fetch s d t) i fr e = absurd (not_mine i e)
-offer-checked self (frame.reply r c s p t g) i fr e = absurd (not_mine i e)
+pub offer-checked : (self : Identity) (f : Frame) (i : Input) → IsFrame self.sizes f → IsOffered self f i
+    → IsCheckedInput self.sizes i
+offer-checked self f i fr (by_proposal view core q v) = fr.1.justify_height
+offer-checked self f i fr (by_block sender core q t) = fr.1.justify_height
+offer-checked self f i fr (by_view view sender q v) = tt
 
 -- of copies
-copies-checked : (self : Identity) (f : Frame) (fs : List Frame) (i : Input) → IsFrame self.sizes f
-    → check_copies self f fs ≡ passes i → IsCheckedInput self.sizes i
-unfolding check_copies
-copies-checked self (frame.block sender core q t) fs i fr e =
-    other-checked self.sizes _ _ i fr.1.justify_height e
-copies-checked self (frame.proposal w c q v) fs i fr e = absurd (not_mine i e)
-copies-checked self (frame.new_view w s q v) fs i fr e = absurd (not_mine i e)
-copies-checked self (frame.request c) fs i fr e = absurd (not_mine i e)
-copies-checked self (frame.vote d b) fs i fr e = absurd (not_mine i e)
-copies-checked self (frame.fetch s d t) fs i fr e = absurd (not_mine i e)
-copies-checked self (frame.reply r c s p t g) fs i fr e = absurd (not_mine i e)
-
 pub gathered-checked : (self : Identity) (fs : List Frame) (i : Input)
-    → ((f : Frame) → Among f fs → IsFrame self.sizes f) → check_gathered self fs ≡ passes i
-    → IsCheckedInput self.sizes i
-unfolding check_gathered
-gathered-checked self [] i fr e = absurd (not_frame i e)
-gathered-checked self (f ∷ fs) i fr e = copies-checked self f (f ∷ fs) i (fr f (inl refl)) e
+    → ((f : Frame) → Among f fs → IsFrame self.sizes f) → IsGathered self fs i → IsCheckedInput self.sizes i
+gathered-checked self fs i fr (copies sender core q t more same) = (fr _ (inl refl)).1.justify_height
 
 -- ---- who sent a block
 
@@ -487,19 +439,11 @@ check-alone self (frame.fetch s d t) i vs e u =
 check-alone self (frame.reply r c s p t g) i vs e u = absurd (not_mine i e)
 
 -- nor is an offer
-pub offer-alone : (self : Identity) (f : Frame) (i : Input) (vs : List ℕ) → check_offer self f ≡ passes i
-    → SentBy i vs → ⊥
-unfolding check_offer
-offer-alone self (frame.proposal view core q v) i vs e u =
-    subst (λ (j : Input). SentBy j vs) (sym (when-good _ _ _ e).1) u
-offer-alone self (frame.block sender core q t) i vs e u =
-    subst (λ (j : Input). SentBy j vs) (sym (when-good _ _ _ e).1) u
-offer-alone self (frame.new_view w s q v) i vs e u =
-    subst (λ (j : Input). SentBy j vs) (sym (when-good _ _ _ e).1) u
-offer-alone self (frame.request c) i vs e u = absurd (not_mine i e)
-offer-alone self (frame.vote d b) i vs e u = absurd (not_mine i e)
-offer-alone self (frame.fetch s d t) i vs e u = absurd (not_mine i e)
-offer-alone self (frame.reply r c s p t g) i vs e u = absurd (not_mine i e)
+pub offer-alone : (self : Identity) (f : Frame) (i : Input) (vs : List ℕ) → IsOffered self f i → SentBy i vs
+    → ⊥
+offer-alone self f i vs (by_proposal view core q v) u = u
+offer-alone self f i vs (by_block sender core q t) u = u
+offer-alone self f i vs (by_view view sender q v) u = u
 
 -- a frame that a replica sent as its copy of a block
 pub record IsCopyBy (core : Core) (v : ℕ) (f : Frame) : Type 0 where
@@ -532,25 +476,11 @@ HaveCopies self fs i =
     (core : Core) (q : Certificate) (g : Findings) (vs : List ℕ) → Carries i core q g → SentBy i vs → (v : ℕ)
     → Among v vs → (f : Frame) × Among f fs × IsCopyBy core v f
 
-copies-sent : (self : Identity) (f : Frame) (fs : List Frame) (i : Input) → check_copies self f fs ≡ passes i
+pub gathered-sent : (self : Identity) (fs : List Frame) (i : Input) → IsGathered self fs i
     → HaveCopies self fs i
-unfolding check_copies
-copies-sent self (frame.block sender core q t) fs i e =
-    let g = when-good _ _ _ e in
-    subst (HaveCopies self fs) g.1 (λ core' q' g' vs ca by v m.
-    let r = Among-map (sender_of self.sizes) fs v (subst (Among v) (sym by) m) in
+gathered-sent self fs i (copies sender core q t more same) core' q' g' vs ca by v m =
+    let all : List Frame = frame.block sender core q t ∷ more in
+    let r = Among-map (sender_of self.sizes) all v (subst (Among v) (sym by) m) in
     let copy : IsCopyBy core (sender_of self.sizes r.0) r.0 =
-    copy-by self core q r.0 (all-passes (is_copy self core q) fs r.0 (and_parts _ _ g.0).1 r.1) in
-    (r.0, r.1, subst₂ (λ (c : Core) (u : ℕ). IsCopyBy c u r.0) ca.0 (sym r.2) copy))
-copies-sent self (frame.proposal w c q v) fs i e = absurd (not_mine i e)
-copies-sent self (frame.new_view w s q v) fs i e = absurd (not_mine i e)
-copies-sent self (frame.request c) fs i e = absurd (not_mine i e)
-copies-sent self (frame.vote d b) fs i e = absurd (not_mine i e)
-copies-sent self (frame.fetch s d t) fs i e = absurd (not_mine i e)
-copies-sent self (frame.reply r c s p t g) fs i e = absurd (not_mine i e)
-
-pub gathered-sent : (self : Identity) (fs : List Frame) (i : Input) → check_gathered self fs ≡ passes i
-    → HaveCopies self fs i
-unfolding check_gathered
-gathered-sent self [] i e = absurd (not_frame i e)
-gathered-sent self (f ∷ fs) i e = copies-sent self f (f ∷ fs) i e
+    copy-by self core q r.0 (all-passes (is_copy self core q) all r.0 same r.1) in
+    (r.0, r.1, subst₂ (λ (c : Core) (u : ℕ). IsCopyBy c u r.0) ca.0 (sym r.2) copy)

@@ -1,3 +1,4 @@
+pub mod Offers
 pub mod Inputs
 pub mod HeldVotes
 pub mod Sends
@@ -23,6 +24,9 @@ pub mod FramedRuns
 pub mod WholeRuns
 pub mod AnyRuns
 pub mod Submissions
+pub mod Lives
+pub mod Made
+pub mod MadeSteps
 pub mod Deliveries
 pub mod AsBefore
 pub mod UsualRuns

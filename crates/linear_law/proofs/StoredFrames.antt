@@ -31,7 +31,7 @@ use Rattle.definitions.specs.Rulings.{Input.new_view_in, Input.request_in, Input
 use Rattle.definitions.specs.Rulings.{Input.beat_in, Input.prune_in, Ruling, Ruling.due, Ruling.missing}
 use Rattle.definitions.specs.Rulings.{Ruling.refusing}
 use Rattle.definitions.specs.Rulings.{admitted, on_placing, on_block, on_request, with_block, ruling}
-use Rattle.definitions.specs.Admission.{check, check_offer, check_copies, check_gathered, Checked.passes}
+use Rattle.definitions.specs.Admission.{check, Checked.passes}
 use Rattle.definitions.specs.Worlds.{World, Event, self_of}
 use Rattle.definitions.specs.Events.{party_of, brought}
 use Rattle.definitions.proofs.Sound.{found, found-standing}
@@ -39,7 +39,8 @@ use Rattle.definitions.specs.Trees.{Placing, Placing.stands, Placing.grows, Plac
 use Rattle.definitions.specs.Trees.{Placing.unfit, placing, IsTree}
 use Rattle.definitions.proofs.Trees.{same_bytes, found-in, core-known, IsPlaced, placed}
 use Rattle.definitions.proofs.Checks.{when-good}
-use Rattle.linear_law.proofs.Inputs.{not_mine, not_frame}
+use Rattle.linear_law.proofs.Offers.{not_mine, IsOffered, IsOffered.by_proposal, IsOffered.by_block}
+use Rattle.linear_law.proofs.Offers.{IsOffered.by_view, IsGathered, IsGathered.copies}
 use Rattle.linear_law.proofs.Effects.{Arises, Arises.of_checked, Arises.of_offer, Arises.of_gathered}
 use Rattle.linear_law.proofs.Effects.{Arises.of_timeout, Arises.of_beat, Arises.of_prune, Arises.of_lead}
 use Rattle.linear_law.proofs.Effects.{Arises.of_ask}
@@ -128,38 +129,17 @@ check-read self (frame.fetch s d t) i fr e = subst (IsReadInput self) (when-good
 check-read self (frame.reply r c s p t g) i fr e = absurd (not_mine i e)
 
 -- so is one that was offered
-offer-read : (self : Identity) (f : Frame) (i : Input) → IsFrame self.sizes f → check_offer self f ≡ passes i
+offer-read : (self : Identity) (f : Frame) (i : Input) → IsFrame self.sizes f → IsOffered self f i
     → IsReadInput self i
-unfolding check_offer
-offer-read self (frame.proposal view core q v) i fr e =
-    subst (IsReadInput self) (when-good _ _ _ e).1 (fr.1, fr.2)
-offer-read self (frame.block sender core q t) i fr e =
-    subst (IsReadInput self) (when-good _ _ _ e).1 (fr.1, fr.2)
-offer-read self (frame.new_view w s q v) i fr e = subst (IsReadInput self) (when-good _ _ _ e).1 fr.0
-offer-read self (frame.request c) i fr e = absurd (not_mine i e)
-offer-read self (frame.vote d b) i fr e = absurd (not_mine i e)
-offer-read self (frame.fetch s d t) i fr e = absurd (not_mine i e)
-offer-read self (frame.reply r c s p t g) i fr e = absurd (not_mine i e)
+offer-read self f i fr (by_proposal view core q v) = (fr.1, fr.2)
+offer-read self f i fr (by_block sender core q t) = (fr.1, fr.2)
+offer-read self f i fr (by_view view sender q v) = fr.0
 
 -- and copies of a block
-copies-read : (self : Identity) (f : Frame) (fs : List Frame) (i : Input) → IsFrame self.sizes f
-    → check_copies self f fs ≡ passes i → IsReadInput self i
-unfolding check_copies
-copies-read self (frame.block sender core q t) fs i fr e =
-    subst (IsReadInput self) (when-good _ _ _ e).1 (fr.1, fr.2)
-copies-read self (frame.proposal w c q v) fs i fr e = absurd (not_mine i e)
-copies-read self (frame.new_view w s q v) fs i fr e = absurd (not_mine i e)
-copies-read self (frame.request c) fs i fr e = absurd (not_mine i e)
-copies-read self (frame.vote d b) fs i fr e = absurd (not_mine i e)
-copies-read self (frame.fetch s d t) fs i fr e = absurd (not_mine i e)
-copies-read self (frame.reply r c s p t g) fs i fr e = absurd (not_mine i e)
-
 gathered-read : (self : Identity) (fs : List Frame) (i : Input)
-    → ((f : Frame) → Among f fs → IsFrame self.sizes f) → check_gathered self fs ≡ passes i
-    → IsReadInput self i
-unfolding check_gathered
-gathered-read self [] i fr e = absurd (not_frame i e)
-gathered-read self (f ∷ fs) i fr e = copies-read self f (f ∷ fs) i (fr f (inl refl)) e
+    → ((f : Frame) → Among f fs → IsFrame self.sizes f) → IsGathered self fs i → IsReadInput self i
+gathered-read self fs i fr (copies sender core q t more same) =
+    let h = fr _ (inl refl) in (h.1, h.2)
 
 -- so is each input of an event
 pub arises-read : (w : World) (e : Event) (i : Input) → Arises w e i → IsReadInput (self_of w (party_of e)) i

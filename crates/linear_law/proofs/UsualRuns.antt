@@ -43,7 +43,8 @@ use Rattle.definitions.proofs.Digests.{digest_of-one, all_known-below}
 use Rattle.definitions.proofs.Sound.{Outcome, Outcome.unchanged, Outcome.refused, Outcome.lacks}
 use Rattle.definitions.proofs.Sound.{Outcome.conflict, Outcome.stood, Outcome.cut, step-outcome}
 use Rattle.definitions.proofs.Trees.{same_bytes}
-use Rattle.linear_law.proofs.Inputs.{AllStanding, not_mine}
+use Rattle.linear_law.proofs.Inputs.{AllStanding}
+use Rattle.linear_law.proofs.Offers.{not_mine}
 use Rattle.linear_law.proofs.Effects.{is_member, Arises, Arises.of_checked, Arises.of_offer}
 use Rattle.linear_law.proofs.Effects.{Arises.of_gathered, Arises.of_timeout, Arises.of_beat}
 use Rattle.linear_law.proofs.Effects.{Arises.of_prune, Arises.of_lead, Arises.of_ask, Effects, Effects.idle}

@@ -1,5 +1,5 @@
 -- The laws of every run, as clauses.
-use Rattle.std.specs.Prelude.{ℕ, ◌≡◌, ◌≢◌, ◌<◌, ◌^◌, Bool, true, List, [], ◌∷◌, length, Option, Some, Ok, ⊤}
+use Rattle.std.specs.Prelude.{ℕ, ◌≡◌, ◌≢◌, ◌<◌, ◌≤◌, ◌^◌, Bool, true, List, [], ◌∷◌, length, Option, Some, Ok, ⊤}
 use Rattle.std.specs.Prelude.{slice_get}
 use Rattle.std.specs.List.{AllByRecursion}
 use Rattle.ids.specs.declared.fault.Fault.TheVariants as fault
@@ -20,6 +20,7 @@ use Rattle.definitions.specs.Frames.{Command, Frame, spelling}
 use Rattle.definitions.specs.Frames as frame
 use Rattle.definitions.specs.Histories.{Entry}
 use Rattle.definitions.specs.Runs.{run}
+use Rattle.definitions.specs.Sessions.{Client, Doing, session_behind, session_at_end, requests_of}
 use Rattle.definitions.specs.Events.{happens}
 use Rattle.definitions.specs.Premises.{IsFor, AllRead, NoForgery, ArePremises}
 use Rattle.definitions.specs.Linearity.{WasSubmitted, IsLinear}
@@ -129,6 +130,14 @@ RequestsDiffer w =
 -- no two submissions of a client have one seq
 abbrev pub NoSeqIsGivenTwice : Type 0
 NoSeqIsGivenTwice = AfterAnyRun RequestsDiffer
+
+-- A client that goes on behind a number which its first life didn't pass gives numbers above all that it gave.
+abbrev pub NoSeqIsGivenAgain : Type 0
+NoSeqIsGivenAgain =
+    (me : Client) (first second : List Doing) (start behind : ℕ) (c d : Command)
+    → (session_at_end me first (session_behind start)).used ≤ behind
+    → Among (frame.request c) (requests_of me first (session_behind start))
+    → Among (frame.request d) (requests_of me second (session_behind behind)) → c.seq < d.seq
 
 -- The client of the receipt submitted a command of its seq before it was accepted, and no other one of that
 -- seq.

@@ -6,7 +6,8 @@
 ghost use Rattle.linear_law.specs.Law.{EveryRunIsLinear, ChroniclesAreLawful, ChroniclesAreAFamily};
 ghost use Rattle.linear_law.specs.Law.{NoEventConflicts, SentFramesAreFrames, AnySentFramesAreFrames};
 ghost use Rattle.linear_law.specs.Law.{SentFramesAreRead, MadeCertificatesAreCertificates};
-ghost use Rattle.linear_law.specs.Law.{NoSeqIsGivenTwice, ReceiptsNameCommands, DeliveriesForgeNothing};
+ghost use Rattle.linear_law.specs.Law.{NoSeqIsGivenTwice, NoSeqIsGivenAgain, ReceiptsNameCommands};
+ghost use Rattle.linear_law.specs.Law.{DeliveriesForgeNothing};
 ghost use Rattle.linear_law.specs.AsBefore.{UsualRunsAreJudgedAsBefore};
 
 /// Every run is linear.
@@ -56,6 +57,12 @@ pub fn made_certificates_are_certificates()
 /// of the same event, with the same payload. Nothing is assumed of the run.
 pub fn no_seq_is_given_twice()
     ensures { NoSeqIsGivenTwice }
+{}
+
+/// A client that goes on behind a number, say after a restart, gives none again of those that it gave before,
+/// if it had given none above that number. No run is spoken of: a world's clients live for its whole run.
+pub fn no_seq_is_given_again()
+    ensures { NoSeqIsGivenAgain }
 {}
 
 /// Each accepted receipt names one submitted command: its client submitted one of the receipt's seq

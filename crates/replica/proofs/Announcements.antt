@@ -36,7 +36,7 @@ use Rattle.replica.specs.Kept.{Variables, StateParts, high_of, variables_of, IsS
 use Rattle.replica.specs.Changes.{changed_variables, raise_of, IsStep}
 use Rattle.replica.specs.Announcements.{new_view_sent, timeout_change, IsTimeout, new_view_change}
 use Rattle.replica.specs.Announcements.{IsAnnounced, IsNewViewAt, IsNewView}
-use Rattle.replica.specs.Grounds.{seen_view_change, IsSeen}
+use Rattle.replica.specs.Announcements.{seen_view_change, IsSeen}
 use Rattle.replica.specs.StepsTo.{Follows, StepsTo, answer, after}
 use Rattle.replica.proofs.Steps.{collects, asks, refused, or-memory, decided}
 use Rattle.replica.proofs.Stays.{shown-if, qc-same, AreHigh, raise-is, variables-calm, variables-noted}

@@ -15,7 +15,8 @@ use Rattle.replica.specs.Offers.{Offered, again_change, IsGrown, IsDecidedAt, Is
 use Rattle.definitions.specs.Grounds.{without_votes}
 use Rattle.replica.specs.declared.stored.SeenView.{SeenView}
 use Rattle.replica.specs.Grounds.{bare, own_as, IsGroundedIf, IsOfferAt, IsOffer, IsRelayedIf, IsRelayAt, IsRelay}
-use Rattle.replica.specs.Grounds.{lead_change, IsLeadAt, IsLead, IsSeen}
+use Rattle.replica.specs.Grounds.{lead_change, IsLeadAt, IsLead}
+use Rattle.replica.specs.Announcements.{IsSeen}
 use Rattle.replica.specs.Announcements.{IsTimeout, IsNewViewAt, IsNewView}
 use Rattle.std.specs.Prelude.{nat_lt, length, MatchResult, Bool, true, false}
 use Rattle.ids.specs.Sizes.{quorum}

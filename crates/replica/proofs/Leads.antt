@@ -38,7 +38,8 @@ use Rattle.replica.specs.Kept.{Variables, StateParts, high_of, own_of, variables
 use Rattle.replica.specs.Changes.{changed, votes_after, left_above, IsStep}
 use Rattle.replica.specs.Grounds.{is_own, lead_change, IsLeadAt, IsLead}
 use Rattle.replica.specs.StepsTo.{Follows, StepsTo, answer, after}
-use Rattle.replica.proofs.OnGrounds.{window-block, justified-is, own-is}
+use Rattle.replica.proofs.OnGrounds.{justified-is, own-is}
+use Rattle.replica.proofs.Stays.{window-block}
 use Rattle.replica.proofs.Stays.{proposed-same}
 use Rattle.replica.proofs.Steps.{refuses, refused, stands, kept_at, where-kept}
 
@@ -78,7 +79,7 @@ module _ (keys : Keys) (c : Chronicle) (kept : StateParts) (is : IsStateOf keys 
   same-test : bytes_eq (digest_of (qc_high keys.sizes c).block) d ≡ branch_eq (qc_high keys.sizes c).block b
   same-test =
       ap (bytes_eq (digest_of (qc_high keys.sizes c).block)) (sym named)
-      ∙ window-block keys c is.sound (qc_high keys.sizes c).block b
+      ∙ window-block keys.sizes c is.sound (qc_high keys.sizes c).block b
       (high-window keys.sizes c is.sound.lawful (qc_high keys.sizes c).block
       (high-known keys.sizes c is.sound.lawful is.sound.known) (omega arith)) among
 

@@ -40,7 +40,7 @@ use Rattle.replica.specs.Grounds.{IsRelay}
 use Rattle.replica.specs.StepsTo.{Follows, answer, after}
 use Rattle.replica.proofs.Offers.{again-follows, grown-follows, unfit-stops}
 use Rattle.replica.proofs.Sized.{qc_high-sized}
-use Rattle.replica.proofs.Stays.{same-tests}
+use Rattle.replica.proofs.Stays.{window-block}
 use Rattle.replica.proofs.Steps.{asks, refuses, refused, kept_at, where-kept}
 
 -- a place hangs on the digest of a certificate alone
@@ -53,17 +53,7 @@ placing-digest h m core q r t e =
 -- ---- blocks of the window by their digests
 
 module _ (keys : Keys) (c : Chronicle) (so : IsSound keys.sizes c) where
-  -- they are told apart
-  pub window-block : (x y : Branch) → Among x (window c) → Among y (window c)
-      → bytes_eq (digest_of x) (digest_of y) ≡ branch_eq x y
-  window-block x y m n =
-      same-tests {A = x ≡ y} (bytes_eq (digest_of x) (digest_of y)) (branch_eq x y) (
-        λ t. so.is_tree.one x y m n ((bytes_eq-Decides (digest_of x) (digest_of y)).0 t),
-        λ is. (bytes_eq-Decides (digest_of x) (digest_of y)).1 (ap digest_of is),
-      )
-      (branch_eq-decides x y)
-
-  -- and found
+  -- they are found
   window-found : (d : Bytes) (x : Branch) → Among x (window c) → digest_of x ≡ d → find_in d (window c) ≡ Some x
   window-found d x m e = by (find_in d (window c)) refl
     where
@@ -89,7 +79,7 @@ module _ (keys : Keys) (c : Chronicle) (so : IsSound keys.sizes c) where
   unfolding is_own_certified own_counted
   own-is d x m e =
       ap (λ (t : Bool). t && are_replicas keys.sizes (quorum keys.sizes) (own_counted (identity_of keys) c))
-      (sym (window-block (qc_high keys.sizes c).block x high m)
+      (sym (window-block keys.sizes c so (qc_high keys.sizes c).block x high m)
       ∙ ap (bytes_eq (digest_of (qc_high keys.sizes c).block)) e)
     where
       high : Among (qc_high keys.sizes c).block (window c)
@@ -130,32 +120,40 @@ module _ (keys : Keys) (c : Chronicle) (kept : StateParts) (o : Offered) (counte
     named : digest_of (just1 b) ≡ o.certificate.digest
     named = ap (λ (x : Branch). digest_of (just1 x)) growth.1.is ∙ sym growth.1.justified
 
-    -- without votes
-    bare-comes : Keeps (identity_of keys) c
-        (take_block (identity_of keys) o.view
-        (record (came b) { certificate = without_votes o.certificate; counted = [] }) c)
-        → IsGrown keys s (bare o) result
-        → Comes (take_block (identity_of keys) o.view
-        (record (came b) { certificate = without_votes o.certificate; counted = [] }) c)
+    -- the block with this certificate and these counted votes
+    abbrev with_votes : Certificate → List ℕ → Admitted
+    with_votes q vs = record (came b) { certificate = q; counted = vs }
+
+    as-comes : (q : Certificate) (vs : List ℕ)
+        → placing (horizon c) MOST_BLOCKS o.core q (window c) ≡ grows b
+        → Keeps (identity_of keys) c (take_block (identity_of keys) o.view (with_votes q vs) c)
+        → IsGrown keys s (record o {
+          certificate = q;
+          found = record { counted = vs; clear = o.found.clear };
+        }) result
+        → Comes (take_block (identity_of keys) o.view (with_votes q vs) c)
     unfolding admitted
-    bare-comes so t = subst (λ (vs : List ℕ). Comes (due (took_block (as_sent vs)))) alone
-        (grown-follows keys c kept (bare o) is result b below grows-to
-        (subst (λ (vs : List ℕ). Keeps (identity_of keys) c (due (took_block (as_sent vs)))) (sym alone) so) t)
+    as-comes q vs at so t = subst (λ (from : List ℕ). Comes (due (took_block (as_sent from)))) alone
+        (grown-follows keys c kept (record o {
+          certificate = q;
+          found = record { counted = vs; clear = o.found.clear };
+        }) is result b below at
+        (subst (λ (from : List ℕ). Keeps (identity_of keys) c (due (took_block (as_sent from)))) (sym alone) so)
+        t)
       where
         as_sent : List ℕ → Admitted
-        as_sent vs =
-            let a = record (came b) { certificate = without_votes o.certificate; counted = []; senders = vs } in
+        as_sent from =
+            let a = record (with_votes q vs) { senders = from } in
             record a { voted = votes_for keys.sizes o.view a c }
 
     -- with the own highest certificate
     own-comes : bytes_eq (digest_of (qc_high keys.sizes c).block) o.certificate.digest ≡ true
-        → Keeps (identity_of keys) c
-        (take_block (identity_of keys) o.view
-        (record (came b) { certificate = (qc_high keys.sizes c).certificate; counted = own_counted (identity_of keys) c }) c)
+        → Keeps (identity_of keys) c (take_block (identity_of keys) o.view
+        (with_votes (qc_high keys.sizes c).certificate (own_counted (identity_of keys) c)) c)
         → IsDecided keys s (own_as keys v o) result
         → Comes (take_block (identity_of keys) o.view
-        (record (came b) { certificate = (qc_high keys.sizes c).certificate; counted = own_counted (identity_of keys) c }) c)
-    unfolding admitted own_counted window
+        (with_votes (qc_high keys.sizes c).certificate (own_counted (identity_of keys) c)) c)
+    unfolding own_counted window
     own-comes e so t =
         let same : (qc_high keys.sizes c).certificate.digest ≡ o.certificate.digest =
         (qc_high-sized keys.sizes c sized).1
@@ -163,19 +161,8 @@ module _ (keys : Keys) (c : Chronicle) (kept : StateParts) (o : Offered) (counte
         let at : placing (horizon c) MOST_BLOCKS o.core (qc_high keys.sizes c).certificate (window c) ≡ grows b =
         placing-digest (horizon c) MOST_BLOCKS o.core (qc_high keys.sizes c).certificate
         (without_votes o.certificate) (window c) same ∙ grows-to in
-        subst (λ (vs : List ℕ). Comes (due (took_block (as_sent vs)))) alone
-        (grown-follows keys c kept (own_as keys v o) is result b below at
-        (subst (λ (vs : List ℕ). Keeps (identity_of keys) c (due (took_block (as_sent vs)))) (sym alone) so)
-        (subst (IsDecidedAt keys s (own_as keys v o) result) at t))
-      where
-        as_sent : List ℕ → Admitted
-        as_sent vs =
-            let a = record (came b) {
-              certificate = (qc_high keys.sizes c).certificate;
-              counted = own_counted (identity_of keys) c;
-              senders = vs;
-            } in
-            record a { voted = votes_for keys.sizes o.view a c }
+        as-comes (qc_high keys.sizes c).certificate (own_counted (identity_of keys) c) at so
+        (subst (IsDecidedAt keys s (own_as keys v o) result) at t)
 
     -- by its grounds
     grounded-comes : Keeps (identity_of keys) c
@@ -189,20 +176,17 @@ module _ (keys : Keys) (c : Chronicle) (kept : StateParts) (o : Offered) (counte
         (own-is keys c is.sound o.certificate.digest (just1 b) justified-in named) refl so t
       where
         bare_one : Admitted
-        bare_one = record (came b) { certificate = without_votes o.certificate; counted = [] }
+        bare_one = with_votes (without_votes o.certificate) []
 
         own_one : Admitted
-        own_one = record (came b) {
-          certificate = (qc_high keys.sizes c).certificate;
-          counted = own_counted (identity_of keys) c;
-        }
+        own_one = with_votes (qc_high keys.sizes c).certificate (own_counted (identity_of keys) c)
 
         ruled : Bool → Bool → Ruling
         ruled j k = take_grounded (identity_of keys) o.view (cond j (Some bare_one) (cond k (Some own_one) None)) c
 
         case : (j k : Bool) → is_own keys v o.certificate.digest ≡ k → Keeps (identity_of keys) c (ruled j k)
             → IsGroundedIf keys s o result j k → Comes (ruled j k)
-        case true k e so t = bare-comes so t
+        case true k e so t = as-comes (without_votes o.certificate) [] grows-to so t
         case false true e so t = own-comes (and_parts _ _ e).0 so t
         case false false e so t =
             refused keys _ c fault.BadTag s result t (refuses keys c fault.BadTag s refl is)

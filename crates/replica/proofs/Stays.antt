@@ -13,7 +13,7 @@ use Rattle.definitions.specs.Digests.{digest_of}
 use Rattle.definitions.specs.Keyrings.{Keys}
 use Rattle.definitions.specs.Checks.{Identity, identity_of}
 use Rattle.definitions.specs.Chronicles.{Note, Step, Step.took_block, Step.noted}
-use Rattle.definitions.specs.Chronicles.{Note.beat, Note.led_from, Chronicle, tree, IsSound}
+use Rattle.definitions.specs.Chronicles.{Note.beat, Note.led_from, Chronicle, tree, window, IsSound}
 use Rattle.definitions.proofs.Branches.{branch_eq-decides}
 use Rattle.definitions.proofs.Chronicles.{tree-grows}
 use Rattle.definitions.proofs.Horizons.{is_pruning, horizon-noted, standing-noted, qc_high-cases, high-window}
@@ -88,18 +88,23 @@ same-tests true t f g = sym (g.1 (f.0 refl))
 same-tests false true f g = absurd (true≢false (sym (f.1 (g.0 refl))))
 same-tests false false f g = refl
 
--- known blocks as high as the highest certified one are told apart by their digests
+-- blocks of the window are told apart by their digests
+pub window-block : (s : Sizes) (c : Chronicle) → IsSound s c → (x y : Branch) → Among x (window c)
+    → Among y (window c) → bytes_eq (digest_of x) (digest_of y) ≡ branch_eq x y
+window-block s c so x y m k =
+    same-tests {A = x ≡ y} (bytes_eq (digest_of x) (digest_of y)) (branch_eq x y) (
+      λ t. so.is_tree.one x y m k ((bytes_eq-Decides (digest_of x) (digest_of y)).0 t),
+      λ is. (bytes_eq-Decides (digest_of x) (digest_of y)).1 (ap digest_of is),
+    )
+    (branch_eq-decides x y)
+
+-- so are known ones as high as the highest certified one
 pub same-block : (s : Sizes) (c : Chronicle) → IsSound s c → (x y : Branch) → Among x (tree c) → Among y (tree c)
     → length (qc_high s c).block ≤ length x → length x ≡ length y
     → bytes_eq (digest_of x) (digest_of y) ≡ branch_eq x y
 same-block s c so x y m k low e =
-    same-tests {A = x ≡ y} (bytes_eq (digest_of x) (digest_of y)) (branch_eq x y) (
-      λ t. so.is_tree.one x y (high-window s c so.lawful x m low)
-          (high-window s c so.lawful y k (omega (arith, low, e)))
-          ((bytes_eq-Decides (digest_of x) (digest_of y)).0 t),
-      λ is. (bytes_eq-Decides (digest_of x) (digest_of y)).1 (ap digest_of is),
-    )
-    (branch_eq-decides x y)
+    window-block s c so x y (high-window s c so.lawful x m low)
+    (high-window s c so.lawful y k (omega (arith, low, e)))
 
 -- ---- a certificate that is brought
 

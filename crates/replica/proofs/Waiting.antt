@@ -1,7 +1,7 @@
 -- What waits after a step: what was executed of its blocks waits no more.
 use Rattle.ids.specs.declared.limits.TheConstants.{MOST_COMMANDS}
-use Rattle.std.proofs.Common.{ℕ, suc, ◌≡◌, ◌<◌, ◌≤◌, Bool, true, false, true≢false, List, [], ◌∷◌, ◌++◌, length, filter, reverse}
-use Rattle.std.proofs.Common.{take, not, refl, sym, ap, subst, ◌∙◌, arith, ◌&&◌, ◌==◌, inl, inr}
+use Rattle.std.proofs.Common.{ℕ, suc, ◌≡◌, ◌<◌, ◌≤◌, Bool, true, false, true≢false, List, [], ◌∷◌, ◌++◌}
+use Rattle.std.proofs.Common.{length, filter, reverse, take, not, refl, sym, ap, subst, ◌∙◌, arith, ◌&&◌, ◌==◌, inl, inr}
 use Rattle.std.specs.List.{list_any}
 use Rattle.std.proofs.lemmas.Bool.{cond-true, cond-false, cases_lt, le-ltb, le-leb, lt-leb}
 use Rattle.std.proofs.lemmas.List.Sorted.{list_any-IsPermutation, IsPermutation-reverse}
@@ -16,7 +16,8 @@ use Rattle.definitions.specs.Replicas.{cut_short, held_executed, held_pending, w
 use Rattle.definitions.proofs.Lists.{beginning-begins, beginning-whole, length-added}
 use Rattle.definitions.proofs.Histories.{history_of-grows}
 use Rattle.mempool.specs.Pool.{is_up_to, left_after, first_beside, stands_among}
-use Rattle.mempool.proofs.Following.{filter-alike, due-left, pending-due}
+use Rattle.mempool.specs.Laws.{IsNoLead}
+use Rattle.mempool.proofs.Following.{filter-alike, due-left, pending-due, pending-next}
 use Rattle.replica.specs.Changes.{asked}
 
 -- ---- what is left after executed commands
@@ -43,12 +44,10 @@ asked-is (noted (led_from b)) c l = absurd (true≢false l)
 asked-is (took_block a) c l = refl
 asked-is (noted n) c l = refl
 
-pending-next : (st : Step) (c : Chronicle) → is_lead st ≡ false
-    → pending (st ∷ c) ≡ filter (is_due (history (st ∷ c))) (with_request st (pending c))
-unfolding pending
-pending-next (noted (led_from b)) c l = absurd (true≢false l)
-pending-next (took_block a) c l = refl
-pending-next (noted n) c l = refl
+not-led : (st : Step) → is_lead st ≡ false → IsNoLead st
+not-led (noted (led_from b)) l = true≢false l
+not-led (took_block a) l = tt
+not-led (noted n) l = tt
 
 none-left : (new : History) → left_after new [] ≡ []
 unfolding left_after
@@ -58,7 +57,7 @@ none-left (e ∷ new) = ap (filter (λ r. not (is_up_to e.client e.seq r))) (non
 waits-else : (st : Step) (c : Chronicle) (new : History) → is_lead st ≡ false → history (st ∷ c) ≡ new ++ history c
     → pending (st ∷ c) ≡ left_after new (asked st c)
 waits-else st c new l e =
-    pending-next st c l
+    pending-next st c (not-led st l)
     ∙ ap (λ (h : History). filter (is_due h) (with_request st (pending c))) e
     ∙ due-left new (history c) (with_request st (pending c)) ∙ ap (left_after new) (sym (asked-is st c l))
 

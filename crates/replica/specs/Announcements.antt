@@ -1,4 +1,4 @@
--- What a timeout and an announced view change.
+-- What a timeout, an announced view and one that was seen change.
 use Rattle.ids.specs.declared.fault.Fault.{Fault}
 use Rattle.ids.specs.declared.fault.Fault.TheVariants as fault
 use Rattle.ids.specs.declared.kind.Kind.TheVariants as kind
@@ -11,12 +11,15 @@ use Rattle.definitions.specs.Keyrings.{Keys, keyring_of, vector_for}
 use Rattle.definitions.specs.Checks.{identity_of, cut}
 use Rattle.definitions.specs.Branches.{Branch}
 use Rattle.definitions.specs.Chronicles.{Chronicle, Note, Step.noted, Note.got_new_view, Note.timed_out}
+use Rattle.definitions.specs.Chronicles.{Note.seen_view}
 use Rattle.definitions.specs.Sendings.{to_all}
 use Rattle.definitions.specs.Trees.{blocks, find_in}
 use Rattle.pacemaker.specs.Pacing.{Pace, IsPaceOf}
 use Rattle.replica_rules.specs.declared.block_ref.BlockRef.{BlockRef}
 use Rattle.replica.specs.declared.stored.GotNewView.{GotNewView}
+use Rattle.replica.specs.declared.stored.SeenView.{SeenView}
 use Rattle.replica.specs.declared.stored.StoredStep.TheVariants.{GotNewView as Announced, TimedOut}
+use Rattle.replica.specs.declared.stored.StoredStep.TheVariants.{SeenView as Seen}
 use Rattle.replica.specs.declared.change.Change.{Change}
 use Rattle.signed_frames.specs.Outs.{SentBytes}
 use Rattle.replica.specs.Kept.{StateParts}
@@ -77,3 +80,17 @@ IsNewViewAt keys s n result (Some b) =
 abbrev pub IsNewView : Keys → StateParts → GotNewView → Result Change Fault → Type 0
 IsNewView keys s n result =
     IsNewViewAt keys s n result (find_in n.certificate.digest (blocks s.variables.stored))
+
+-- ---- a view whose certificate isn't good for the replica
+
+abbrev pub seen_view_change : Keys → StateParts → SeenView → Pace → Change
+seen_view_change keys s n pace =
+    let v = s.variables in
+    let sent = new_view_sent keys pace.view v.high.certificate ∷ [] in
+    record (noting v (Seen n) (if nat_lt s.pace.view pace.view then sent else [])) { pace = Some pace }
+
+-- the view counts, and where the replica moves on to a greater one, it announces that
+pub record IsSeen (keys : Keys) (s : StateParts) (n : SeenView) (d : Change) : Type 0 where
+  pub pace : Pace
+  pub its_pace : IsPacedBy s.pace pace (λ x. x ≡ seen_view n.view n.sender)
+  pub change : d ≡ seen_view_change keys s n pace

@@ -7,22 +7,18 @@ use Rattle.std.specs.Str.{bytes_eq}
 use Rattle.ids.specs.Sizes.{quorum}
 use Rattle.definitions.specs.Bytes.{Bytes}
 use Rattle.definitions.specs.Branches.{Branch}
-use Rattle.definitions.specs.Chronicles.{Note.seen_view}
 use Rattle.definitions.specs.Checks.{identity_of, counted_voters}
 use Rattle.definitions.specs.Grounds.{are_replicas, without_votes}
 use Rattle.definitions.specs.Keyrings.{Keys}
 use Rattle.definitions.specs.Trees.{blocks, find_in, Placing, Placing.grows, placing}
 use Rattle.block_tree.specs.Finding.{is_justified_in}
-use Rattle.pacemaker.specs.Pacing.{Pace}
 use Rattle.replica_rules.specs.declared.block_ref.BlockRef.{BlockRef}
-use Rattle.replica.specs.declared.stored.SeenView.{SeenView}
-use Rattle.replica.specs.declared.stored.StoredStep.TheVariants.{SeenView as Seen, Led}
+use Rattle.replica.specs.declared.stored.StoredStep.TheVariants.{Led}
 use Rattle.replica.specs.declared.change.Change.{Change}
 use Rattle.replica.specs.declared.change.Growth.TheVariants.{Lead}
 use Rattle.replica.specs.Kept.{Variables, StateParts}
 use Rattle.replica.specs.Changes.{noting}
 use Rattle.replica.specs.Offers.{Offered, IsGrown, IsDecidedAt, IsDecided}
-use Rattle.replica.specs.Announcements.{IsPacedBy, new_view_sent}
 
 -- the block without the votes that came with it
 abbrev pub bare : Offered → Offered
@@ -104,17 +100,3 @@ IsLeadAt keys s d result (Some b) =
 
 abbrev pub IsLead : Keys → StateParts → Bytes → Result Change Fault → Type 0
 IsLead keys s d result = IsLeadAt keys s d result (find_in d (blocks s.variables.stored))
-
--- ---- a view that was seen
-
-abbrev pub seen_view_change : Keys → StateParts → SeenView → Pace → Change
-seen_view_change keys s n pace =
-    let v = s.variables in
-    let sent = new_view_sent keys pace.view v.high.certificate ∷ [] in
-    record (noting v (Seen n) (if nat_lt s.pace.view pace.view then sent else [])) { pace = Some pace }
-
--- the view counts, and where the replica moves on to a greater one, it announces that
-pub record IsSeen (keys : Keys) (s : StateParts) (n : SeenView) (d : Change) : Type 0 where
-  pub pace : Pace
-  pub its_pace : IsPacedBy s.pace pace (λ x. x ≡ seen_view n.view n.sender)
-  pub change : d ≡ seen_view_change keys s n pace

@@ -3,8 +3,7 @@
 ghost use Rattle.std.specs.Prelude.{◌≡◌, ◌<◌, [], ◌∷◌, if◌then◌else◌, IfOk, OnErr};
 ghost use Rattle.std.specs.Option.{unwrap_or};
 ghost use Rattle.ids.specs.Sizes.{replicas};
-ghost use Rattle.replica.specs.Announcements.{new_view_sent, IsTimeout, IsAnnounced, IsNewView};
-ghost use Rattle.replica.specs.Grounds.{IsSeen};
+ghost use Rattle.replica.specs.Announcements.{new_view_sent, IsTimeout, IsAnnounced, IsNewView, IsSeen};
 ghost use Rattle.replica.specs.Inputs.{announced_by, seen_in};
 ghost use Rattle.definitions.specs.FrameLimits.{IsCertificate};
 ghost use Rattle.replica.specs.Kept.{AreCertified};

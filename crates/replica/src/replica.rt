@@ -452,10 +452,10 @@ impl Replica {
     /// Takes an input: one step, which answers what goes out.
     ///
     /// After `UnknownParent`, `BadHeight`, `WrongJustify`, `Crowded`, `PoolFull`, `Pruned` and `BadTag`, which
-    /// a block without grounds meets, it is as before. After `Conflict` and `Memory` it is stopped, and after `Full` where its horizon is
-    /// 0: it can't prune then. Where memory is refused in
-    /// between, to execute what the step decided, the step stands, the history ends behind the last
-    /// command that was executed, and nothing goes out.
+    /// a block without grounds meets, it is as before. After `Conflict` and `Memory` it is stopped, and after
+    /// `Full` where its horizon is 0: it can't prune then. Where memory is refused in between, to execute what
+    /// the step decided, the step stands, the history ends behind the last command that was executed, and
+    /// nothing goes out.
     pub fn step(&mut self, input: Input<'_>) -> Result<Out, Fault>
         requires { IsTrue (is_addressed self.old.keys input) }
         ensures stepped { Stepped (identity_of self.old.keys) (input_of input.entry) self.old.replica result

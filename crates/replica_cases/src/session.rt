@@ -4,21 +4,23 @@
 //!
 //! - `FAULTS CLIENTS CLIENT session INPUT ..`: what a client's session says to one input after the
 //!   other, as `told` tells it.
+//! - `FAULTS CLIENTS CLIENT resumed BEHIND INPUT ..`: the same of a client that goes on behind a number.
 //! - `FAULTS CLIENTS REPLICA reply CLIENT SEQ PLACE TEXT`: a replica's reply, as bytes.
 
 mod replies;
 mod told;
 
 use crate::session::replies::reply;
-use crate::session::told::session;
+use crate::session::told::{resumed, session};
 use anyhow::{Result, bail};
-use ids::Config;
+use ids::{Config, Seq};
 use std::alloc::Global;
 
 /// What is asked of a party.
 fn answer(alloc: Global, config: Config, party: u8, ask: &str, rest: &str) -> Result<String> {
     match ask {
-        "session" => session(alloc, config, party, rest),
+        "session" => session(alloc, config, party, Seq(0), rest),
+        "resumed" => resumed(alloc, config, party, rest),
         "reply" => reply(alloc, config, party, rest),
         _ => bail!("no such case: {ask}"),
     }

@@ -11,7 +11,7 @@
 use anyhow::{Result, bail};
 use client_accept::{Receipt, Session};
 use frames_view::{Frame, read};
-use ids::{ClientId, Config, Fault, PartyId};
+use ids::{ClientId, Config, Fault, PartyId, Seq};
 use mc_lines::read_canonical;
 use sha2::{Digest, Sha256};
 use simulated_keys::keyring_of;
@@ -100,13 +100,27 @@ fn take_all(alloc: Global, session: &mut Session, inputs: &str) -> Result<String
     Ok(text)
 }
 
-/// What the session of a client says to one input after the other.
-pub(crate) fn session(alloc: Global, config: Config, client: u8, inputs: &str) -> Result<String> {
+/// What the session of a client that goes on behind this number says to one input after the other.
+pub(crate) fn session(
+    alloc: Global,
+    config: Config,
+    client: u8,
+    behind: Seq,
+    inputs: &str,
+) -> Result<String> {
     if client >= config.clients() {
         bail!("no such client: {client}");
     }
     let client = ClientId(client);
     let ring = keyring_of(alloc, config, PartyId::from(client))?;
-    let mut session = Session::new(alloc, config, client, ring);
+    let mut session = Session::resume(alloc, config, client, ring, behind);
     take_all(alloc, &mut session, inputs)
+}
+
+/// The same, where the number stands before the inputs.
+pub(crate) fn resumed(alloc: Global, config: Config, client: u8, rest: &str) -> Result<String> {
+    let Some((behind, inputs)) = rest.split_once(' ') else {
+        bail!("no number: {rest}");
+    };
+    session(alloc, config, client, Seq(behind.parse()?), inputs)
 }

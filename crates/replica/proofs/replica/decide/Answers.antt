@@ -15,7 +15,8 @@ use Rattle.replica.specs.Kept.{Variables, StateParts}
 use Rattle.admission.specs.Inputs.{input_of, same_replica}
 use Rattle.replica.specs.Inputs.{proposal_offered, block_offered, tagged_proposal, tagged_block, announced_by}
 use Rattle.replica.specs.Inputs.{seen_in, asked_by}
-use Rattle.replica.specs.Grounds.{IsOffer, IsRelay, IsSeen}
+use Rattle.replica.specs.Grounds.{IsOffer, IsRelay}
+use Rattle.replica.specs.Announcements.{IsSeen}
 use Rattle.replica.specs.Offers.{Offered, IsDecided}
 use Rattle.replica.specs.Announcements.{IsNewView}
 use Rattle.replica.specs.Fetches.{fetch_change}
