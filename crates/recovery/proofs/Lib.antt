@@ -1,0 +1,4 @@
+mod Families
+mod Correct
+mod Locks
+mod Grounds

@@ -1,0 +1,28 @@
+//! Laws of recovery, over the definitions alone; no code runs here. Each stands as the contract of a
+//! function with an empty body. They are steps to the statement that correct parties are never wedged,
+//! whatever faulty ones did before (`specs/NeverWedged`), which isn't proved as a whole.
+#![tactic(auto)]
+
+ghost use Rattle.recovery.specs.Law.{HighestLocksAreSafe, LocksMayBeLedFrom};
+ghost use Rattle.recovery.specs.Law.{JustifiedBlocksAreHeld, GroundsAreHeld};
+
+/// A correct replica of the highest lock: no correct lock is above it or beside it, so a block that justifies
+/// it is safe for all.
+pub fn highest_locks_are_safe()
+    ensures { HighestLocksAreSafe }
+{}
+
+/// A correct replica may lead from its lock, but where it never took a block.
+pub fn locks_may_be_led_from()
+    ensures { LocksMayBeLedFrom }
+{}
+
+/// Whatever a correct replica took: more than f correct ones took what it justifies, and all below that.
+pub fn justified_blocks_are_held()
+    ensures { JustifiedBlocksAreHeld }
+{}
+
+/// So more than f correct replicas took the block that justifies the highest lock.
+pub fn grounds_are_held()
+    ensures { GroundsAreHeld }
+{}
