@@ -2,3 +2,5 @@ mod Families
 mod Correct
 mod Locks
 mod Grounds
+mod Worlds
+mod Views

@@ -5,6 +5,7 @@
 
 ghost use Rattle.recovery.specs.Law.{HighestLocksAreSafe, LocksMayBeLedFrom};
 ghost use Rattle.recovery.specs.Law.{JustifiedBlocksAreHeld, GroundsAreHeld};
+ghost use Rattle.recovery.specs.Law.{TimeoutsBringTogether, ACorrectLeaderComes};
 
 /// A correct replica of the highest lock: no correct lock is above it or beside it, so a block that justifies
 /// it is safe for all.
@@ -25,4 +26,14 @@ pub fn justified_blocks_are_held()
 /// So more than f correct replicas took the block that justifies the highest lock.
 pub fn grounds_are_held()
     ensures { GroundsAreHeld }
+{}
+
+/// Timeouts alone bring all correct replicas into any view that none of them passed; nothing else changes.
+pub fn timeouts_bring_together()
+    ensures { TimeoutsBringTogether }
+{}
+
+/// So they come into a view that a correct replica leads, while views are left.
+pub fn a_correct_leader_comes()
+    ensures { ACorrectLeaderComes }
 {}
