@@ -4,3 +4,6 @@ mod Locks
 mod Grounds
 mod Worlds
 mod Views
+mod Wells
+mod Places
+mod Copies

@@ -1,17 +1,22 @@
 -- The laws that are proved: steps of the statement that nobody is wedged.
-use Rattle.std.specs.Prelude.{ℕ, ◌^◌, ◌≡◌, ◌<◌, ◌≤◌, ◌⊎◌, true, [], length, Ok}
+use Rattle.ids.specs.declared.limits.TheConstants.{MOST_BLOCKS, MOST_OF_HEIGHT, HEIGHT_LIMIT}
+use Rattle.std.specs.Prelude.{ℕ, suc, ◌^◌, ◌≡◌, ◌==◌, ◌<◌, ◌≤◌, ◌⊎◌, true, List, [], ◌∷◌, map, length, count_by, Ok}
+use Rattle.std.specs.List.{AllByRecursion}
 use Rattle.ids.specs.Sizes.{leader}
-use Rattle.definitions.specs.Lists.{Among}
-use Rattle.definitions.specs.Branches.{Branch, just1, Extends}
+use Rattle.definitions.specs.Lists.{Among, AreDistinct}
+use Rattle.definitions.specs.Admission.{Checked, passes, check_gathered}
+use Rattle.definitions.specs.Branches.{Block, Branch, just1, Extends}
 use Rattle.definitions.specs.Checks.{Identity}
 use Rattle.definitions.specs.Chronicles.{Admitted, Chronicle, voted_blocks, taken_blocks, tree, window, vheight}
-use Rattle.definitions.specs.Chronicles.{horizon, is_safe}
+use Rattle.definitions.specs.Chronicles.{Step.took_block, horizon, is_safe}
 use Rattle.definitions.specs.Grounds.{may_lead_from}
+use Rattle.definitions.specs.Rulings.{Input, ruling, due}
 use Rattle.definitions.specs.Runs.{run, after}
+use Rattle.definitions.specs.Sendings.{block_frame}
 use Rattle.definitions.specs.States.{votes, qc_high, leaf, pending}
 use Rattle.definitions.specs.Worlds.{World, is_correct, self_of}
 use Rattle.linear_law.specs.Law.{AfterEachRun}
-use Rattle.recovery.specs.Correct.{OfCorrect, AllGoOn, chronicle_of, lock_of, view_of, correct_with}
+use Rattle.recovery.specs.Correct.{OfCorrect, AllGoOn, ShareKeys, chronicle_of, lock_of, view_of, correct_with}
 use Rattle.recovery.specs.Healing.{view_to_come, come_to}
 use Rattle.recovery.specs.NeverWedged.{healer, ground_of, NobodyPruned, HasViews}
 
@@ -92,3 +97,35 @@ ACorrectLeaderComes =
     (w : World) (l : ℕ) → is_correct w l ≡ true → AllGoOn w → HasViews w
     → (leader w.sizes (view_to_come l w) ≡ l)
     × CameTo (view_to_come l w) w (after w (come_to (view_to_come l w) w))
+
+-- ---- blocks that are asked for
+
+-- There is a place for this block over this parent: the parent stands in the tree, what the block justifies isn't
+-- pruned, and no limit is met.
+pub record HasPlace (c : Chronicle) (b : Block) (parent : Branch) : Type 0 where
+  pub stands : Among parent (window c)
+  pub reach : horizon c ≤ b.justify
+  pub room : length (window c) < MOST_BLOCKS
+  pub uncrowded : count_by (λ x. length x == suc (length parent)) (window c) < MOST_OF_HEIGHT
+  pub low : suc (length parent) < HEIGHT_LIMIT
+
+-- a correct replica, and the block as it took it
+abbrev pub IsHolder : World → Branch → ℕ × Admitted → Type 0
+IsHolder w x h =
+    (is_correct w h.0 ≡ true) × Among h.1 (taken_blocks (chronicle_of w h.0)) × (h.1.branch ≡ x)
+
+-- what was checked passes, and comes to a step by which the replica takes this block, if it doesn't stand there
+abbrev pub IsTaken : World → ℕ → Checked → Branch → Type 0
+IsTaken w u checked x =
+    (i : Input) × (a : Admitted) × (checked ≡ passes i)
+    × (ruling (self_of w u) i (chronicle_of w u) ≡ due (took_block a)) × (a.branch ≡ x)
+
+-- A correct replica takes a block of which it gathers the copies of more than f other correct ones, whatever their
+-- certificates, where there is a place for it.
+abbrev pub CopiesAreTaken : Type 0
+CopiesAreTaken =
+    AfterEachRun (λ w. ShareKeys w → OfCorrect w (λ u. (b : Block) (parent : Branch) (holders : List (ℕ × Admitted))
+    → HasPlace (chronicle_of w u) b parent → AreDistinct (map (λ h. h.0) holders)
+    → AllByRecursion (IsHolder w (b ∷ parent)) holders → w.sizes.faults < length holders
+    → IsTaken w u
+    (check_gathered (self_of w u) (map (λ h. block_frame (self_of w h.0) u h.1) holders)) (b ∷ parent)))

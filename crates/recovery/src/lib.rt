@@ -5,7 +5,7 @@
 
 ghost use Rattle.recovery.specs.Law.{HighestLocksAreSafe, LocksMayBeLedFrom};
 ghost use Rattle.recovery.specs.Law.{JustifiedBlocksAreHeld, GroundsAreHeld};
-ghost use Rattle.recovery.specs.Law.{TimeoutsBringTogether, ACorrectLeaderComes};
+ghost use Rattle.recovery.specs.Law.{TimeoutsBringTogether, ACorrectLeaderComes, CopiesAreTaken};
 
 /// A correct replica of the highest lock: no correct lock is above it or beside it, so a block that justifies
 /// it is safe for all.
@@ -36,4 +36,9 @@ pub fn timeouts_bring_together()
 /// So they come into a view that a correct replica leads, while views are left.
 pub fn a_correct_leader_comes()
     ensures { ACorrectLeaderComes }
+{}
+
+/// A correct replica takes a block of which it gathers the copies of more than f correct ones.
+pub fn copies_are_taken()
+    ensures { CopiesAreTaken }
 {}

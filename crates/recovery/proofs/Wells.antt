@@ -1,0 +1,68 @@
+-- What holds of each world of a run whose premises hold, for the laws of one event.
+use Rattle.std.proofs.Common.{ℕ, ◌≡◌, true, List, [], ◌∷◌, refl, subst, Ok}
+use Rattle.ids.specs.Sizes.{Sizes}
+use Rattle.std.proofs.Common.{Bool}
+use Rattle.definitions.specs.Lists.{Among}
+use Rattle.definitions.specs.Branches.{Branch}
+use Rattle.definitions.specs.Chronicles.{Chronicle, IsSound, tree}
+use Rattle.definitions.specs.Digests.{NoCollision, AllKnown, digest_of}
+use Rattle.definitions.specs.Frames.{Core, genesis_core}
+use Rattle.definitions.specs.Keyrings.{Keyring}
+use Rattle.definitions.specs.Worlds.{World, Happening, is_correct, self_of, new_world}
+use Rattle.definitions.specs.Runs.{refusal, run}
+use Rattle.definitions.specs.Events.{happens}
+use Rattle.definitions.specs.Premises.{ArePremises}
+use Rattle.definitions.proofs.Digests.{digest_of-one}
+use Rattle.linear_law.proofs.Linear.{ground, run-step}
+use Rattle.linear_law.proofs.StoredFrames.{AreStored}
+use Rattle.linear_law.proofs.WholeRuns.{IsWell, AssumedAlong, well-happens, KnownIn, new-sizes, new-well}
+use Rattle.linear_law.proofs.WholeRuns.{known-apart, known-genesis, known-along}
+use Rattle.recovery.specs.Correct.{chronicle_of}
+
+-- a world of a run, among known cores that don't collide
+pub record IsReached (Known : Core → Type 0) (w : World) : Type 0 where
+  pub apart : NoCollision Known
+  pub genesis : Known genesis_core
+  pub well : IsWell Known w
+
+well-run : (Known : Core → Type 0) → NoCollision Known → Known genesis_core → (hs : List Happening) (w last : World)
+    → IsWell Known w → AssumedAlong Known w hs → run w hs ≡ Ok last → IsWell Known last
+unfolding run
+well-run Known apart genesis [] w last g a e = let k : w ≡ last = cc in subst (IsWell Known) k g
+well-run Known apart genesis (h ∷ hs) w last g a e =
+    let r = run-step (refusal w h.0) (run (happens w h) hs) last e in
+    well-run Known apart genesis hs (happens w h) last (well-happens Known apart genesis w h g a.0 r.0) a.1 r.1
+
+-- so is the last one
+pub reached :
+    (sizes : Sizes) (is_faulty : ℕ → Bool) (ring : ℕ → Keyring) (hs : List Happening) (last : World)
+    → ArePremises (new_world sizes is_faulty ring) hs → run (new_world sizes is_faulty ring) hs ≡ Ok last
+    → IsReached (KnownIn sizes (new_world sizes is_faulty ring) hs) last
+reached sizes is_faulty ring hs last met e =
+    let w : World = new_world sizes is_faulty ring in
+    let apart = known-apart sizes w hs met in
+    let genesis = known-genesis sizes w hs in
+    record {
+      apart = apart;
+      genesis = genesis;
+      well = well-run (KnownIn sizes w hs) apart genesis hs w last (new-well sizes is_faulty ring hs met)
+          (known-along sizes w hs (new-sizes sizes is_faulty ring) met) e;
+    }
+
+-- from here on: such a world
+module _ (Known : Core → Type 0) (w : World) (g : IsReached Known w) where
+  -- a correct replica's chronicle is kept well
+  pub sound-of : (r : ℕ) → is_correct w r ≡ true → IsSound w.sizes (chronicle_of w r)
+  sound-of r c = g.well.good.run.row.sound r c
+
+  -- the cores of each block that it took are known
+  pub known-of : (r : ℕ) → is_correct w r ≡ true → (x : Branch) → Among x (tree (chronicle_of w r))
+      → AllKnown Known x
+  known-of r c x m = g.well.good.run.row.known r c x m
+
+  pub stored-of : (r : ℕ) → is_correct w r ≡ true → AreStored (self_of w r) (chronicle_of w r)
+  stored-of r c = g.well.framed.stored r c
+
+  -- known branches of one digest are one
+  pub one-branch : (x y : Branch) → AllKnown Known x → AllKnown Known y → digest_of x ≡ digest_of y → x ≡ y
+  one-branch x y kx ky e = digest_of-one Known g.apart g.genesis ground x y kx ky e
