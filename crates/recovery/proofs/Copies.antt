@@ -16,8 +16,9 @@ use Rattle.definitions.specs.Chronicles.{Admitted, Chronicle, Step.took_block, A
 use Rattle.definitions.specs.Digests.{digest, digest_of, core_of, AllKnown}
 use Rattle.definitions.specs.Frames.{Core, Certificate, Frame, block_content, sender_of}
 use Rattle.definitions.specs.Frames as frame
-use Rattle.definitions.specs.Keyrings.{Keyring, is_client_of, verify, tag_for}
-use Rattle.definitions.specs.Tags.{tag}
+use Rattle.definitions.specs.Keyrings.{Keyring, is_client_of, verify, tag_for, vector_for}
+use Rattle.definitions.specs.Tags.{tag, tag_of}
+use Rattle.definitions.proofs.Vectors.{tag_of-tags_for}
 use Rattle.definitions.specs.Checks.{Identity, Findings, cut, findings}
 use Rattle.definitions.specs.Grounds.{are_distinct, are_replicas}
 use Rattle.definitions.specs.Rulings.{Input, Input.relayed_in, Ruling, Ruling.due, admitted, on_relay, ruling}
@@ -36,7 +37,7 @@ use Rattle.linear_law.proofs.StoredFrames.{AreStored, IsStored, IsStoredBlock}
 use Rattle.recovery.specs.Correct.{ShareKeys, chronicle_of}
 use Rattle.recovery.specs.Law.{HasPlace, IsHolder, IsTaken, CopiesAreTaken}
 use Rattle.recovery.proofs.Wells.{IsReached, reached, sound-of, known-of, stored-of, one-branch}
-use Rattle.recovery.proofs.Places.{placed}
+use Rattle.recovery.proofs.Places.{IsPlaced, placed}
 
 -- ---- tags
 
@@ -54,6 +55,20 @@ tag-verifies w keys label p u content party ok c =
     let key : (w.ring p).key u ≡ (w.ring u).key (w.ring p).party =
     sym (keys.keys u c p party ok) ∙ ap (w.ring u).key (sym own) in
     (bytes_decides _ _).1 (λ k. tag (key k) label (w.ring p).party (sym its k) content)
+
+-- so does its tag in a vector
+pub vector-verifies : (w : World) → ShareKeys w → (label : Kind) (p u : ℕ) (content : Bytes) → is_party w p ≡ true
+    → w.is_faulty p ≡ false → is_correct w u ≡ true
+    → verify (w.ring u) label p content (tag_of (vector_for w.sizes (w.ring p) label content) (w.ring u).party)
+    ≡ true
+vector-verifies w keys label p u content party ok c =
+    let low = ltb-true u (replicas w.sizes) (and_parts (is_replica w u) (not (w.is_faulty u)) c).0 in
+    let its = keys.numbers u (correct-party w u c) (member-faulty w u c) in
+    let tag = ap (tag_of (vector_for w.sizes (w.ring p) label content)) its
+    ∙ tag_of-tags_for (w.ring p) label content (replicas w.sizes) u low in
+    ap (λ (t : Bytes). verify (w.ring u) label p content t) tag
+    ∙ (ap (λ (n : ℕ). verify (w.ring u) label n content (tag_for (w.ring p) label u content))
+    (sym (keys.numbers p party ok)) ∙ tag-verifies w keys label p u content party ok c)
 
 -- ---- the steps of a chronicle
 
@@ -100,10 +115,10 @@ copies-of w u holders = map (λ h. block_frame (self_of w h.0) u h.1) holders
 -- a replica that gathers a block with a place takes it from enough senders
 relay-taken : (self : Identity) (c : Chronicle) (senders : List ℕ) (core : Core) (q : Certificate) (f : Findings)
     (x : Branch) → are_replicas self.sizes (suc self.sizes.faults) senders ≡ true → (place : Placing)
-    → (place ≡ stands x) ⊎ (place ≡ grows x)
+    → IsPlaced c x place
     → (a : Admitted) × (on_relay self senders core q f c place ≡ due (took_block a)) × (a.branch ≡ x)
 unfolding on_relay admitted
-relay-taken self c senders core q f x enough place (inl e) =
+relay-taken self c senders core q f x enough place (inl (e, m)) =
     subst (λ (p : Placing). (a : Admitted) × (on_relay self senders core q f c p ≡ due (took_block a))
     × (a.branch ≡ x)) (sym e) (_, refl, refl)
 relay-taken self c senders core q f x enough place (inr e) =

@@ -7,3 +7,4 @@ mod Views
 mod Wells
 mod Places
 mod Copies
+mod Proposals

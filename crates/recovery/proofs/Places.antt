@@ -50,12 +50,15 @@ digest-own : (b : Block) (parent : Branch) → digest_of (b ∷ parent) ≡ dige
 unfolding digest_of core_of
 digest-own b parent = refl
 
+-- the block stands there, or comes to
+abbrev pub IsPlaced : Chronicle → Branch → Placing → Type 0
+IsPlaced c x place = ((place ≡ stands x) × Among x (window c)) ⊎ (place ≡ grows x)
+
 -- A block that has a place stands there, or comes to stand there.
 pub placed : (c : Chronicle) (b : Block) (parent : Branch) (q : Certificate) → IsTree (horizon c) (window c)
     → HasPlace c b parent → q.digest ≡ digest_of (just1 (b ∷ parent))
     → ((y : Branch) → Among y (window c) → digest_of y ≡ digest_of (b ∷ parent) → y ≡ b ∷ parent)
-    → (placing (horizon c) MOST_BLOCKS (core_of (b ∷ parent)) q (window c) ≡ stands (b ∷ parent))
-    ⊎ (placing (horizon c) MOST_BLOCKS (core_of (b ∷ parent)) q (window c) ≡ grows (b ∷ parent))
+    → IsPlaced c (b ∷ parent) (placing (horizon c) MOST_BLOCKS (core_of (b ∷ parent)) q (window c))
 unfolding placing core_of core_over justify_height
 placed c b parent q tree p e one = known (find_in (digest (core_of (b ∷ parent))) (window c)) refl
   where
@@ -66,7 +69,7 @@ placed c b parent q tree p e one = known (find_in (digest (core_of (b ∷ parent
     t = window c
 
     Placed : Placing → Type 0
-    Placed x = (x ≡ stands (b ∷ parent)) ⊎ (x ≡ grows (b ∷ parent))
+    Placed x = IsPlaced c (b ∷ parent) x
 
     over : (o : Option Branch) → o ≡ Some parent
         → elim o [
@@ -91,6 +94,6 @@ placed c b parent q tree p e one = known (find_in (digest (core_of (b ∷ parent
         let f = found-in (digest (core_of (b ∷ parent))) t y i in
         let same : y ≡ b ∷ parent = one y f.0 (f.1 ∙ sym (digest-own b parent)) in
         subst (λ (z : Branch). Placed (placing_known h z q)) (sym same)
-        (inl (placed-known h (b ∷ parent) q p.reach e))
+        (inl (placed-known h (b ∷ parent) q p.reach e, subst (λ (z : Branch). Among z t) same f.0))
     known None i = inr (cond-false _ _ _ (not-below b.justify h p.reach)
         ∙ over (find_in (digest_of parent) t) (found-itself h t tree parent p.stands))

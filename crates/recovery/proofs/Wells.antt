@@ -1,5 +1,5 @@
 -- What holds of each world of a run whose premises hold, for the laws of one event.
-use Rattle.std.proofs.Common.{ℕ, ◌≡◌, true, List, [], ◌∷◌, refl, subst, Ok}
+use Rattle.std.proofs.Common.{ℕ, ◌≡◌, true, List, [], ◌∷◌, refl, sym, ap, subst, ◌∙◌, inl, inr, Ok}
 use Rattle.ids.specs.Sizes.{Sizes}
 use Rattle.std.proofs.Common.{Bool}
 use Rattle.definitions.specs.Lists.{Among}
@@ -8,22 +8,27 @@ use Rattle.definitions.specs.Chronicles.{Chronicle, IsSound, tree}
 use Rattle.definitions.specs.Digests.{NoCollision, AllKnown, digest_of}
 use Rattle.definitions.specs.Frames.{Core, genesis_core}
 use Rattle.definitions.specs.Keyrings.{Keyring}
-use Rattle.definitions.specs.Worlds.{World, Happening, is_correct, self_of, new_world}
-use Rattle.definitions.specs.Runs.{refusal, run}
+use Rattle.definitions.specs.Worlds.{World, Sent, Happening, is_correct, self_of, new_world}
+use Rattle.definitions.specs.Runs.{refusal, run, after}
 use Rattle.definitions.specs.Events.{happens}
-use Rattle.definitions.specs.Premises.{ArePremises}
+use Rattle.definitions.specs.Premises.{ArePremises, CoreOf, CoreOfRun}
 use Rattle.definitions.proofs.Digests.{digest_of-one}
+use Rattle.definitions.specs.FrameLimits.{IsCore}
+use Rattle.linear_law.proofs.Fits.{IsCoreOrGenesis, core-frame}
 use Rattle.linear_law.proofs.Linear.{ground, run-step}
 use Rattle.linear_law.proofs.StoredFrames.{AreStored}
 use Rattle.linear_law.proofs.WholeRuns.{IsWell, AssumedAlong, well-happens, KnownIn, new-sizes, new-well}
 use Rattle.linear_law.proofs.WholeRuns.{known-apart, known-genesis, known-along}
 use Rattle.recovery.specs.Correct.{chronicle_of}
+use Rattle.recovery.proofs.Worlds.{made-after}
 
 -- a world of a run, among known cores that don't collide
 pub record IsReached (Known : Core → Type 0) (w : World) : Type 0 where
   pub apart : NoCollision Known
   pub genesis : Known genesis_core
   pub well : IsWell Known w
+  -- the cores of what was sent are known
+  pub sent : (s : Sent) → Among s w.sent → (x : Core) → CoreOf x s.frame → Known x
 
 well-run : (Known : Core → Type 0) → NoCollision Known → Known genesis_core → (hs : List Happening) (w last : World)
     → IsWell Known w → AssumedAlong Known w hs → run w hs ≡ Ok last → IsWell Known last
@@ -32,6 +37,23 @@ well-run Known apart genesis [] w last g a e = let k : w ≡ last = cc in subst 
 well-run Known apart genesis (h ∷ hs) w last g a e =
     let r = run-step (refusal w h.0) (run (happens w h) hs) last e in
     well-run Known apart genesis hs (happens w h) last (well-happens Known apart genesis w h g a.0 r.0) a.1 r.1
+
+-- a run ends in the world after it
+run-after : (hs : List Happening) (w last : World) → run w hs ≡ Ok last → after w hs ≡ last
+unfolding run after
+run-after [] w last e = let k : w ≡ last = cc in k
+run-after (h ∷ hs) w last e =
+    let r = run-step (refusal w h.0) (run (happens w h) hs) last e in run-after hs (happens w h) last r.1
+
+-- the cores of what was sent in a run are among those of the run
+sent-known : (sizes : Sizes) (w : World) (hs : List Happening) (last : World) → after w hs ≡ last
+    → IsWell (KnownIn sizes w hs) last → (s : Sent) → Among s last.sent → (x : Core) → CoreOf x s.frame
+    → last.sizes ≡ sizes → KnownIn sizes w hs x
+unfolding KnownIn
+sent-known sizes w hs last e well s m x o z = (
+  inr (inl (s, subst (λ (y : World). Among s y.sent) (sym e) m, o)),
+  inr (subst (λ (y : Sizes). IsCore y x) z (core-frame last.sizes s.frame x (well.framed.sent s m).0 o)),
+)
 
 -- so is the last one
 pub reached :
@@ -42,11 +64,15 @@ reached sizes is_faulty ring hs last met e =
     let w : World = new_world sizes is_faulty ring in
     let apart = known-apart sizes w hs met in
     let genesis = known-genesis sizes w hs in
+    let well = well-run (KnownIn sizes w hs) apart genesis hs w last (new-well sizes is_faulty ring hs met)
+    (known-along sizes w hs (new-sizes sizes is_faulty ring) met) e in
+    let end = run-after hs w last e in
     record {
       apart = apart;
       genesis = genesis;
-      well = well-run (KnownIn sizes w hs) apart genesis hs w last (new-well sizes is_faulty ring hs met)
-          (known-along sizes w hs (new-sizes sizes is_faulty ring) met) e;
+      well = well;
+      sent = λ s m x o. sent-known sizes w hs last end well s m x o
+          (ap (λ (y : World). y.sizes) (sym end) ∙ ((made-after w hs).sizes ∙ new-sizes sizes is_faulty ring));
     }
 
 -- from here on: such a world

@@ -1,20 +1,24 @@
 -- The laws that are proved: steps of the statement that nobody is wedged.
 use Rattle.ids.specs.declared.limits.TheConstants.{MOST_BLOCKS, MOST_OF_HEIGHT, HEIGHT_LIMIT}
 use Rattle.std.specs.Prelude.{ℕ, suc, ◌^◌, ◌≡◌, ◌==◌, ◌<◌, ◌≤◌, ◌⊎◌, true, List, [], ◌∷◌, map, length, count_by, Ok}
-use Rattle.std.specs.List.{AllByRecursion}
+use Rattle.std.specs.List.{AllByRecursion, list_all}
+use Rattle.ids.specs.declared.fault.Fault.TheVariants as fault
 use Rattle.ids.specs.Sizes.{leader}
 use Rattle.definitions.specs.Lists.{Among, AreDistinct}
-use Rattle.definitions.specs.Admission.{Checked, passes, check_gathered}
+use Rattle.definitions.specs.Admission.{Checked, passes, rejected, check, check_offer, check_gathered}
 use Rattle.definitions.specs.Branches.{Block, Branch, just1, Extends}
-use Rattle.definitions.specs.Checks.{Identity}
+use Rattle.definitions.specs.Checks.{Identity, command_verifies}
 use Rattle.definitions.specs.Chronicles.{Admitted, Chronicle, voted_blocks, taken_blocks, tree, window, vheight}
-use Rattle.definitions.specs.Chronicles.{Step.took_block, horizon, is_safe}
-use Rattle.definitions.specs.Grounds.{may_lead_from}
+use Rattle.definitions.specs.Chronicles.{Step.took_block, horizon, standing_blocks, is_safe}
+use Rattle.definitions.specs.Digests.{digest_of}
+use Rattle.definitions.specs.Frames.{Frame}
+use Rattle.definitions.specs.Grounds.{is_justified, is_own_certified, may_lead_from}
 use Rattle.definitions.specs.Rulings.{Input, ruling, due}
 use Rattle.definitions.specs.Runs.{run, after}
-use Rattle.definitions.specs.Sendings.{block_frame}
-use Rattle.definitions.specs.States.{votes, qc_high, leaf, pending}
-use Rattle.definitions.specs.Worlds.{World, is_correct, self_of}
+use Rattle.definitions.specs.Sendings.{block_frame, proposal_frame}
+use Rattle.definitions.specs.States.{Justified, votes, qc_high, leaf, pending}
+use Rattle.definitions.specs.Trees.{is_clear, clear_above}
+use Rattle.definitions.specs.Worlds.{World, Sent, is_correct, self_of}
 use Rattle.linear_law.specs.Law.{AfterEachRun}
 use Rattle.recovery.specs.Correct.{OfCorrect, AllGoOn, ShareKeys, chronicle_of, lock_of, view_of, correct_with}
 use Rattle.recovery.specs.Healing.{view_to_come, come_to}
@@ -100,10 +104,11 @@ ACorrectLeaderComes =
 
 -- ---- blocks that are asked for
 
--- There is a place for this block over this parent: the parent stands in the tree, what the block justifies isn't
--- pruned, and no limit is met.
+-- There is a place for this block over this parent: the parent stands in the tree, the block justifies one below
+-- itself that isn't pruned, and no limit is met.
 pub record HasPlace (c : Chronicle) (b : Block) (parent : Branch) : Type 0 where
   pub stands : Among parent (window c)
+  pub below : b.justify < suc (length parent)
   pub reach : horizon c ≤ b.justify
   pub room : length (window c) < MOST_BLOCKS
   pub uncrowded : count_by (λ x. length x == suc (length parent)) (window c) < MOST_OF_HEIGHT
@@ -129,3 +134,45 @@ CopiesAreTaken =
     → AllByRecursion (IsHolder w (b ∷ parent)) holders → w.sizes.faults < length holders
     → IsTaken w u
     (check_gathered (self_of w u) (map (λ h. block_frame (self_of w h.0) u h.1) holders)) (b ∷ parent)))
+
+-- ---- blocks of a leader
+
+-- A replica may vote for this block over this parent in this view: it is in that view, the block is safe for it, and
+-- all is clear down to what the block justifies.
+pub record MayVoteFor (w : World) (u v : ℕ) (b : Block) (parent : Branch) : Type 0 where
+  pub in_view : view_of w u ≡ v
+  pub safe : is_safe (b ∷ parent) (chronicle_of w u) ≡ true
+  pub commands : list_all (command_verifies (self_of w u)) b.commands ≡ true
+  pub clear_below : clear_above b.justify parent (standing_blocks (chronicle_of w u)) ≡ true
+  pub clear_there : Among (b ∷ parent) (window (chronicle_of w u))
+      → is_clear (b ∷ parent) (standing_blocks (chronicle_of w u)) ≡ true
+
+-- what was checked passes, and comes to a step by which the replica takes this block, and votes for it where it may
+abbrev pub IsTakenIn : World → ℕ → ℕ → Checked → Block → Branch → Type 0
+IsTakenIn w u v checked b parent =
+    (i : Input) × (a : Admitted) × (checked ≡ passes i)
+    × (ruling (self_of w u) i (chronicle_of w u) ≡ due (took_block a)) × (a.branch ≡ b ∷ parent)
+    × (MayVoteFor w u v b parent → a.voted ≡ true)
+
+-- A frame is of this block: a proposal that a correct leader of this view made and sent.
+pub record IsProposalOf (w : World) (v : ℕ) (b : Block) (parent : Branch) (f : Frame) : Type 0 where
+  pub correct : is_correct w (leader w.sizes v) ≡ true
+  pub sent : Sent
+  pub recorded : Among sent w.sent
+  pub made : Justified
+  pub is : f ≡ proposal_frame (self_of w (leader w.sizes v)) v made
+  pub frame_is : f ≡ sent.frame
+  pub block_is : made.block ≡ b ∷ parent
+  pub justified : made.certificate.digest ≡ digest_of (just1 (b ∷ parent))
+
+-- A correct replica takes a correct leader's block, where there is a place for it and what it justifies has grounds:
+-- where the frame comes, or else where it is offered; and votes for it where it may.
+abbrev pub ProposalsAreTaken : Type 0
+ProposalsAreTaken =
+    AfterEachRun (λ w. ShareKeys w → (v : ℕ) (b : Block) (parent : Branch) (f : Frame) → IsProposalOf w v b parent f
+    → OfCorrect w (λ u. HasPlace (chronicle_of w u) b parent
+    → (is_justified (just1 (b ∷ parent)) (chronicle_of w u) ≡ true)
+    ⊎ (is_own_certified (self_of w u) (just1 (b ∷ parent)) (chronicle_of w u) ≡ true)
+    → ((check (self_of w u) f ≡ rejected fault.BadTag)
+    ⊎ IsTakenIn w u v (check (self_of w u) f) b parent)
+    × IsTakenIn w u v (check_offer (self_of w u) f) b parent))

@@ -5,7 +5,7 @@
 
 ghost use Rattle.recovery.specs.Law.{HighestLocksAreSafe, LocksMayBeLedFrom};
 ghost use Rattle.recovery.specs.Law.{JustifiedBlocksAreHeld, GroundsAreHeld};
-ghost use Rattle.recovery.specs.Law.{TimeoutsBringTogether, ACorrectLeaderComes, CopiesAreTaken};
+ghost use Rattle.recovery.specs.Law.{TimeoutsBringTogether, ACorrectLeaderComes, CopiesAreTaken, ProposalsAreTaken};
 
 /// A correct replica of the highest lock: no correct lock is above it or beside it, so a block that justifies
 /// it is safe for all.
@@ -41,4 +41,9 @@ pub fn a_correct_leader_comes()
 /// A correct replica takes a block of which it gathers the copies of more than f correct ones.
 pub fn copies_are_taken()
     ensures { CopiesAreTaken }
+{}
+
+/// A correct replica takes a correct leader's block on grounds, and votes for it where it may.
+pub fn proposals_are_taken()
+    ensures { ProposalsAreTaken }
 {}
