@@ -4,6 +4,7 @@ mod Locks
 mod Grounds
 mod Worlds
 mod Views
+mod Ruled
 mod Wells
 mod Places
 mod Copies

@@ -17,26 +17,41 @@ use Rattle.definitions.specs.FrameLimits.{IsCore}
 use Rattle.linear_law.proofs.Fits.{IsCoreOrGenesis, core-frame}
 use Rattle.linear_law.proofs.Linear.{ground, run-step}
 use Rattle.linear_law.proofs.StoredFrames.{AreStored}
-use Rattle.linear_law.proofs.WholeRuns.{IsWell, AssumedAlong, well-happens, KnownIn, new-sizes, new-well}
+use Rattle.linear_law.proofs.WholeRuns.{IsWell, AssumedAlong, comes-framed, well-happens, KnownIn, new-sizes, new-well}
 use Rattle.linear_law.proofs.WholeRuns.{known-apart, known-genesis, known-along}
 use Rattle.recovery.specs.Correct.{chronicle_of}
 use Rattle.recovery.proofs.Worlds.{made-after}
+use Rattle.recovery.proofs.Ruled.{AllRuled, happens-ruled}
 
 -- a world of a run, among known cores that don't collide
 pub record IsReached (Known : Core → Type 0) (w : World) : Type 0 where
   pub apart : NoCollision Known
   pub genesis : Known genesis_core
   pub well : IsWell Known w
+  -- each step of a correct replica was due
+  pub ruled : AllRuled w
   -- the cores of what was sent are known
   pub sent : (s : Sent) → Among s w.sent → (x : Core) → CoreOf x s.frame → Known x
 
+-- what is kept along a run
+record IsKeptWell (Known : Core → Type 0) (w : World) : Type 0 where
+  well : IsWell Known w
+  ruled : AllRuled w
+
 well-run : (Known : Core → Type 0) → NoCollision Known → Known genesis_core → (hs : List Happening) (w last : World)
-    → IsWell Known w → AssumedAlong Known w hs → run w hs ≡ Ok last → IsWell Known last
+    → IsKeptWell Known w → AssumedAlong Known w hs → run w hs ≡ Ok last → IsKeptWell Known last
 unfolding run
-well-run Known apart genesis [] w last g a e = let k : w ≡ last = cc in subst (IsWell Known) k g
+well-run Known apart genesis [] w last g a e = let k : w ≡ last = cc in subst (IsKeptWell Known) k g
 well-run Known apart genesis (h ∷ hs) w last g a e =
     let r = run-step (refusal w h.0) (run (happens w h) hs) last e in
-    well-run Known apart genesis hs (happens w h) last (well-happens Known apart genesis w h g a.0 r.0) a.1 r.1
+    well-run Known apart genesis hs (happens w h) last (record {
+      well = well-happens Known apart genesis w h g.well a.0 r.0;
+      ruled = happens-ruled Known w h g.well (comes-framed w h.0 a.0.read g.well.framed.sent) r.0 g.ruled;
+    }) a.1 r.1
+
+new-ruled : (sizes : Sizes) (is_faulty : ℕ → Bool) (ring : ℕ → Keyring) → AllRuled (new_world sizes is_faulty ring)
+unfolding new_world
+new-ruled sizes is_faulty ring = λ r c. tt
 
 -- a run ends in the world after it
 run-after : (hs : List Happening) (w last : World) → run w hs ≡ Ok last → after w hs ≡ last
@@ -64,14 +79,16 @@ reached sizes is_faulty ring hs last met e =
     let w : World = new_world sizes is_faulty ring in
     let apart = known-apart sizes w hs met in
     let genesis = known-genesis sizes w hs in
-    let well = well-run (KnownIn sizes w hs) apart genesis hs w last (new-well sizes is_faulty ring hs met)
+    let kept = well-run (KnownIn sizes w hs) apart genesis hs w last
+    (record { well = new-well sizes is_faulty ring hs met; ruled = new-ruled sizes is_faulty ring })
     (known-along sizes w hs (new-sizes sizes is_faulty ring) met) e in
     let end = run-after hs w last e in
     record {
       apart = apart;
       genesis = genesis;
-      well = well;
-      sent = λ s m x o. sent-known sizes w hs last end well s m x o
+      well = kept.well;
+      ruled = kept.ruled;
+      sent = λ s m x o. sent-known sizes w hs last end kept.well s m x o
           (ap (λ (y : World). y.sizes) (sym end) ∙ ((made-after w hs).sizes ∙ new-sizes sizes is_faulty ring));
     }
 
