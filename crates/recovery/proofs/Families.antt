@@ -25,7 +25,7 @@ module _ (fam : Family) (l : IsLawfulFamily fam) where
       subst (λ (f : ℕ → Bool). quorum fam.sizes ≤ count_below (replicas fam.sizes) f) (sym (same-supports b)) p
 
   -- and the other way
-  to-order : (b : Branch) → MayBeCertified fam b
+  pub to-order : (b : Branch) → MayBeCertified fam b
       → MayBeCertified (family_at fam.sizes fam.is_member l.orderly.order) b
   to-order b p =
       subst (λ (f : ℕ → Bool). quorum fam.sizes ≤ count_below (replicas fam.sizes) f) (same-supports b) p

@@ -9,3 +9,5 @@ mod Wells
 mod Places
 mod Copies
 mod Proposals
+mod Leads
+mod Highs

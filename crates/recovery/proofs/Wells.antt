@@ -15,6 +15,8 @@ use Rattle.definitions.specs.Premises.{ArePremises, CoreOf, CoreOfRun}
 use Rattle.definitions.proofs.Digests.{digest_of-one}
 use Rattle.definitions.specs.FrameLimits.{IsCore}
 use Rattle.linear_law.proofs.Fits.{IsCoreOrGenesis, core-frame}
+use Rattle.definitions.specs.Agreement.{IsLawfulFamily}
+use Rattle.linear_law.specs.Law.{correct_family}
 use Rattle.linear_law.proofs.Linear.{ground, run-step}
 use Rattle.linear_law.proofs.StoredFrames.{AreStored}
 use Rattle.linear_law.proofs.WholeRuns.{IsWell, AssumedAlong, comes-framed, well-happens, KnownIn, new-sizes, new-well}
@@ -109,3 +111,11 @@ module _ (Known : Core → Type 0) (w : World) (g : IsReached Known w) where
   -- known branches of one digest are one
   pub one-branch : (x y : Branch) → AllKnown Known x → AllKnown Known y → digest_of x ≡ digest_of y → x ≡ y
   one-branch x y kx ky e = digest_of-one Known g.apart g.genesis ground x y kx ky e
+
+  -- the correct replicas are a lawful family
+  pub family-of : IsLawfulFamily (correct_family w)
+  family-of = record {
+    enough = g.well.good.made.enough;
+    lawful = λ i c. (sound-of i c).lawful;
+    orderly = g.well.good.run.row.orderly;
+  }

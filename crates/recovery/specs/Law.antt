@@ -6,6 +6,7 @@ use Rattle.ids.specs.declared.fault.Fault.TheVariants as fault
 use Rattle.ids.specs.Sizes.{leader}
 use Rattle.definitions.specs.Lists.{Among, AreDistinct}
 use Rattle.definitions.specs.Admission.{Checked, passes, rejected, check, check_offer, check_gathered}
+use Rattle.definitions.specs.Agreement.{MayBeCertified}
 use Rattle.definitions.specs.Branches.{Block, Branch, just1, Extends}
 use Rattle.definitions.specs.Checks.{Identity, command_verifies}
 use Rattle.definitions.specs.Chronicles.{Admitted, Chronicle, voted_blocks, taken_blocks, tree, window, vheight}
@@ -19,9 +20,10 @@ use Rattle.definitions.specs.Sendings.{block_frame, proposal_frame}
 use Rattle.definitions.specs.States.{Justified, votes, qc_high, leaf, pending}
 use Rattle.definitions.specs.Trees.{is_clear, clear_above}
 use Rattle.definitions.specs.Worlds.{World, Sent, is_correct, self_of}
-use Rattle.linear_law.specs.Law.{AfterEachRun}
+use Rattle.linear_law.specs.Law.{AfterEachRun, correct_family}
 use Rattle.recovery.specs.Correct.{OfCorrect, AllGoOn, ShareKeys, chronicle_of, lock_of, view_of, correct_with}
-use Rattle.recovery.specs.Healing.{view_to_come, come_to}
+use Rattle.recovery.specs.Correct.{correct_replicas}
+use Rattle.recovery.specs.Healing.{view_to_come, come_to, highest_voted}
 use Rattle.recovery.specs.NeverWedged.{healer, ground_of, NobodyPruned, HasViews}
 
 -- ---- locks
@@ -101,6 +103,19 @@ ACorrectLeaderComes =
     (w : World) (l : ℕ) → is_correct w l ≡ true → AllGoOn w → HasViews w
     → (leader w.sizes (view_to_come l w) ≡ l)
     × CameTo (view_to_come l w) w (after w (come_to (view_to_come l w) w))
+
+-- ---- highest certificates
+
+-- what a correct replica's highest certificate is for
+abbrev pub high_of : World → ℕ → Branch
+high_of w r = (qc_high w.sizes (chronicle_of w r)).block
+
+-- It is genesis, or a quorum may have voted for it. So it is no higher than what some correct replica voted for.
+abbrev pub HighestAreCertified : Type 0
+HighestAreCertified =
+    AfterEachRun (λ w. OfCorrect w (λ r.
+    ((high_of w r ≡ []) ⊎ MayBeCertified (correct_family w) (high_of w r))
+    × (length (high_of w r) ≤ highest_voted w (correct_replicas w))))
 
 -- ---- blocks that are asked for
 

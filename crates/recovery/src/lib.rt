@@ -6,6 +6,7 @@
 ghost use Rattle.recovery.specs.Law.{HighestLocksAreSafe, LocksMayBeLedFrom};
 ghost use Rattle.recovery.specs.Law.{JustifiedBlocksAreHeld, GroundsAreHeld};
 ghost use Rattle.recovery.specs.Law.{TimeoutsBringTogether, ACorrectLeaderComes, CopiesAreTaken, ProposalsAreTaken};
+ghost use Rattle.recovery.specs.Law.{HighestAreCertified};
 
 /// A correct replica of the highest lock: no correct lock is above it or beside it, so a block that justifies
 /// it is safe for all.
@@ -46,4 +47,10 @@ pub fn copies_are_taken()
 /// A correct replica takes a correct leader's block on grounds, and votes for it where it may.
 pub fn proposals_are_taken()
     ensures { ProposalsAreTaken }
+{}
+
+/// A correct replica's highest certificate is for a block for which a quorum may have voted, or genesis; so it
+/// is no higher than what some correct replica voted for.
+pub fn highest_are_certified()
+    ensures { HighestAreCertified }
 {}
