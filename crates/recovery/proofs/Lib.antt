@@ -11,3 +11,5 @@ mod Copies
 mod Proposals
 mod Leads
 mod Highs
+mod Ways
+mod Steps

@@ -36,11 +36,11 @@ pub record IsReached (Known : Core → Type 0) (w : World) : Type 0 where
   pub sent : (s : Sent) → Among s w.sent → (x : Core) → CoreOf x s.frame → Known x
 
 -- what is kept along a run
-record IsKeptWell (Known : Core → Type 0) (w : World) : Type 0 where
-  well : IsWell Known w
-  ruled : AllRuled w
+pub record IsKeptWell (Known : Core → Type 0) (w : World) : Type 0 where
+  pub well : IsWell Known w
+  pub ruled : AllRuled w
 
-well-run : (Known : Core → Type 0) → NoCollision Known → Known genesis_core → (hs : List Happening) (w last : World)
+pub well-run : (Known : Core → Type 0) → NoCollision Known → Known genesis_core → (hs : List Happening) (w last : World)
     → IsKeptWell Known w → AssumedAlong Known w hs → run w hs ≡ Ok last → IsKeptWell Known last
 unfolding run
 well-run Known apart genesis [] w last g a e = let k : w ≡ last = cc in subst (IsKeptWell Known) k g
@@ -51,12 +51,12 @@ well-run Known apart genesis (h ∷ hs) w last g a e =
       ruled = happens-ruled Known w h g.well (comes-framed w h.0 a.0.read g.well.framed.sent) r.0 g.ruled;
     }) a.1 r.1
 
-new-ruled : (sizes : Sizes) (is_faulty : ℕ → Bool) (ring : ℕ → Keyring) → AllRuled (new_world sizes is_faulty ring)
+pub new-ruled : (sizes : Sizes) (is_faulty : ℕ → Bool) (ring : ℕ → Keyring) → AllRuled (new_world sizes is_faulty ring)
 unfolding new_world
 new-ruled sizes is_faulty ring = λ r c. tt
 
 -- a run ends in the world after it
-run-after : (hs : List Happening) (w last : World) → run w hs ≡ Ok last → after w hs ≡ last
+pub run-after : (hs : List Happening) (w last : World) → run w hs ≡ Ok last → after w hs ≡ last
 unfolding run after
 run-after [] w last e = let k : w ≡ last = cc in k
 run-after (h ∷ hs) w last e =

@@ -78,15 +78,10 @@ delivered p w k (s ∷ more) =
 abbrev pub delivered_since : ℕ → (Frame → Bool) → World → List Event
 delivered_since before p w = delivered p w before (drop before w.sent)
 
--- a frame comes to a replica, and is offered to it too, should its certificate not be good there
-unfoldable pub shown : ℕ → List ℕ → List Event
-shown r [] = []
-shown r (k ∷ frames) = relay k r ∷ offer r (of_record k) ∷ shown r frames
-
--- each of these frames is shown to each of these replicas
-unfoldable pub shown_to : List ℕ → List ℕ → List Event
-shown_to [] frames = []
-shown_to (r ∷ rs) frames = shown r frames ++ shown_to rs frames
+-- each of these frames is offered to each of these replicas, so that its certificate needn't be good there
+unfoldable pub offered_to : List ℕ → List ℕ → List Event
+offered_to [] frames = []
+offered_to (r ∷ rs) frames = map (λ k. offer r (of_record k)) frames ++ offered_to rs frames
 
 -- ---- views
 
@@ -126,11 +121,11 @@ highest_locked w (r ∷ s ∷ rs) =
     let best = highest_locked w (s ∷ rs) in
     if nat_lt (length (lock_of w r)) (length (lock_of w best)) then best else r
 
--- a leader makes a block, and is shown it
+-- a leader makes a block, and it is offered to itself
 unfoldable pub make_block : ℕ → Phase
 make_block l w =
     in_turn ((λ v. amply (beat l ∷ []))
-    ∷ (λ v. amply (shown l (sent_since (length w.sent) is_proposal v))) ∷ []) w
+    ∷ (λ v. amply (offered_to (l ∷ []) (sent_since (length w.sent) is_proposal v))) ∷ []) w
 
 -- so many blocks
 unfoldable pub make_blocks : ℕ → ℕ → Phase
@@ -142,9 +137,12 @@ unfoldable pub where_none : List Admitted → List Happening → List Happening
 where_none [] hs = hs
 where_none (a ∷ more) hs = []
 
--- A leader that never took a block takes one of its own: only then does genesis have grounds with it.
-abbrev pub make_first : ℕ → Phase
-make_first l w = where_none (taken_blocks (chronicle_of w l)) (make_block l w)
+-- A leader that never took a block makes one, which comes to itself: only then does genesis have grounds with it.
+unfoldable pub make_first : ℕ → Phase
+make_first l w =
+    where_none (taken_blocks (chronicle_of w l))
+    (in_turn ((λ v. amply (beat l ∷ []))
+    ∷ (λ v. amply (comes_to (l ∷ []) (sent_since (length w.sent) is_proposal v))) ∷ []) w)
 
 -- what a block justifies, where there is one
 abbrev pub justified_by : Option Admitted → Branch
@@ -162,14 +160,22 @@ unfoldable pub lowest_first : Branch → List Branch
 lowest_first [] = []
 lowest_first (b ∷ parent) = lowest_first parent ++ (b ∷ parent) ∷ []
 
--- A replica asks the others for a block, is shown what they answer, and then gathers it all.
+-- a replica asks another one for a block, and its question comes there
+unfoldable pub ask_one : Bytes → ℕ → ℕ → Phase
+ask_one d u r w =
+    in_turn ((λ v. amply (ask u r d ∷ []))
+    ∷ (λ v. amply (delivered_since (length w.sent) is_question v)) ∷ []) w
+
+-- it asks all correct ones
+unfoldable pub ask_each : Bytes → ℕ → List ℕ → Phase
+ask_each d u [] w = []
+ask_each d u (r ∷ rs) w = ask_one d u r w ++ ask_each d u rs (after w (ask_one d u r w))
+
+-- and gathers what they answered
 unfoldable pub fetch_block : Bytes → ℕ → Phase
 fetch_block d u w =
-    let before = length w.sent in
-    in_turn ((λ v. amply (map (λ r. ask u r d) (correct_replicas v)))
-    ∷ (λ v. amply (delivered_since before is_question v))
-    ∷ (λ v. amply (shown u (sent_since before is_copy v)))
-    ∷ (λ v. amply (gather u (map of_record (sent_since before is_copy v)) ∷ [])) ∷ []) w
+    in_turn (ask_each d u (correct_replicas w)
+    ∷ (λ v. amply (gather u (map of_record (sent_since (length w.sent) is_copy v)) ∷ [])) ∷ []) w
 
 -- these replicas lack the block
 abbrev pub lacking : Bytes → World → List ℕ
@@ -192,13 +198,13 @@ highest_voted w (r ∷ rs) = max (vheight (chronicle_of w r)) (highest_voted w r
 abbrev pub to_climb : ℕ → World → ℕ
 to_climb l w = suc (highest_voted w (correct_replicas w) - length (leaf (self_of w l) (chronicle_of w l)))
 
--- A leader makes so many blocks, before anybody else is shown one or any vote is counted. Then all are shown all, and
--- all votes come to all.
+-- A leader makes so many blocks, before anybody else is offered one or any vote is counted. Then all are offered all,
+-- and all votes come to all.
 unfoldable pub round : ℕ → ℕ → Phase
 round n l w =
     let before = length w.sent in
     in_turn (make_blocks n l
-    ∷ (λ v. amply (shown_to (correct_replicas v) (sent_since before is_proposal v)))
+    ∷ (λ v. amply (offered_to (correct_replicas v) (sent_since before is_proposal v)))
     ∷ (λ v. amply (comes_to (correct_replicas v) (sent_since before is_vote v))) ∷ []) w
 
 -- ---- the client
