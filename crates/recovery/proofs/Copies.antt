@@ -109,21 +109,26 @@ replicas-to s least vs h =
 
 -- ---- copies
 
-abbrev copies-of : World → ℕ → List (ℕ × Admitted) → List Frame
+abbrev pub copies-of : World → ℕ → List (ℕ × Admitted) → List Frame
 copies-of w u holders = map (λ h. block_frame (self_of w h.0) u h.1) holders
+
+-- a ruling by which a replica takes the block without a vote, whether it is new or stands there
+abbrev pub TakesOnly : Chronicle → Branch → Ruling → Type 0
+TakesOnly c x r =
+    (a : Admitted) × (r ≡ due (took_block a)) × (a.branch ≡ x) × (a.voted ≡ false)
+    × ((a.new ≡ true) ⊎ ((a.new ≡ false) × Among x (window c)))
 
 -- a replica that gathers a block with a place takes it from enough senders
 relay-taken : (self : Identity) (c : Chronicle) (senders : List ℕ) (core : Core) (q : Certificate) (f : Findings)
     (x : Branch) → are_replicas self.sizes (suc self.sizes.faults) senders ≡ true → (place : Placing)
-    → IsPlaced c x place
-    → (a : Admitted) × (on_relay self senders core q f c place ≡ due (took_block a)) × (a.branch ≡ x)
-unfolding on_relay admitted
+    → IsPlaced c x place → TakesOnly c x (on_relay self senders core q f c place)
+unfolding on_relay admitted votes_for
 relay-taken self c senders core q f x enough place (inl (e, m)) =
-    subst (λ (p : Placing). (a : Admitted) × (on_relay self senders core q f c p ≡ due (took_block a))
-    × (a.branch ≡ x)) (sym e) (_, refl, refl)
+    subst (λ (p : Placing). TakesOnly c x (on_relay self senders core q f c p)) (sym e)
+    (_, refl, refl, refl, inr (refl, m))
 relay-taken self c senders core q f x enough place (inr e) =
-    subst (λ (p : Placing). (a : Admitted) × (on_relay self senders core q f c p ≡ due (took_block a))
-    × (a.branch ≡ x)) (sym e) (_, cond-true _ _ _ enough, refl)
+    subst (λ (p : Placing). TakesOnly c x (on_relay self senders core q f c p)) (sym e)
+    (_, cond-true _ _ _ enough, refl, refl, inl refl)
 
 -- a copy of the block x, by a correct replica, with a certificate of this digest, is one
 copy-passes : (w : World) → ShareKeys w → (u : ℕ) → is_correct w u ≡ true → (x : Branch) (q : Certificate)
@@ -205,12 +210,18 @@ copies-checked Known w g keys u c x h hs held distinct =
     (cond-true _ _ _ (and_from _ _ (le-leb _ (replicas w.sizes) (omega (arith, few, long, same)))
     (copies-pass Known w g keys u c x q (holder-certificate Known w g x h held.0) (h ∷ hs) held)))
 
+-- the copies pass, and come to such a ruling
+pub record IsGathered (w : World) (u : ℕ) (fs : List Frame) (x : Branch) : Type 0 where
+  pub input : Input
+  pub passing : check_gathered (self_of w u) fs ≡ passes input
+  pub takes : TakesOnly (chronicle_of w u) x (ruling (self_of w u) input (chronicle_of w u))
+
 -- so the block is taken
-gathered-taken : (Known : Core → Type 0) (w : World) → IsReached Known w → ShareKeys w → (u : ℕ)
+pub gathered-taken : (Known : Core → Type 0) (w : World) → IsReached Known w → ShareKeys w → (u : ℕ)
     → is_correct w u ≡ true → (b : Block) (parent : Branch) (hs : List (ℕ × Admitted))
     → HasPlace (chronicle_of w u) b parent → AreDistinct (map (λ h. h.0) hs)
     → AllByRecursion (IsHolder w (b ∷ parent)) hs → w.sizes.faults < length hs
-    → IsTaken w u (check_gathered (self_of w u) (copies-of w u hs)) (b ∷ parent)
+    → IsGathered w u (copies-of w u hs) (b ∷ parent)
 unfolding ruling gathered-input cut
 gathered-taken Known w g keys u c b parent [] place distinct held more = absurd (omega (arith, more))
 gathered-taken Known w g keys u c b parent (h ∷ hs) place distinct held more =
@@ -230,9 +241,14 @@ gathered-taken Known w g keys u c b parent (h ∷ hs) place distinct held more =
     (λ y m e. one-branch Known w g y x (known-of Known w g u c y (window-tree (chronicle_of w u) y m)) known e) in
     let r = relay-taken (self_of w u) (chronicle_of w u) senders (core_of x) q (findings (self_of w u) (core_of x) q) x
     (replicas-to w.sizes (suc w.sizes.faults) senders enough) _ place_of in
-    (gathered-input w u x q (h ∷ hs), r.0, copies-checked Known w g keys u c x h hs held distinct, r.1, r.2)
+    record {
+      input = gathered-input w u x q (h ∷ hs);
+      passing = copies-checked Known w g keys u c x h hs held distinct;
+      takes = r;
+    }
 
 pub copies-taken : CopiesAreTaken
 copies-taken sizes is_faulty ring hs last met e =
     λ keys u c b parent holders place distinct held more.
-    gathered-taken _ last (reached sizes is_faulty ring hs last met e) keys u c b parent holders place distinct held more
+    let r = gathered-taken _ last (reached sizes is_faulty ring hs last met e) keys u c b parent holders place distinct held more in
+    (r.input, r.takes.0, r.passing, r.takes.1, r.takes.2)

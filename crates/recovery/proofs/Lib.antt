@@ -13,3 +13,5 @@ mod Leads
 mod Highs
 mod Ways
 mod Steps
+mod Asked
+mod Fetched

@@ -43,7 +43,7 @@ due-step : (st : Step) (c : Chronicle)
 due-step st c = filter-twice (is_due (history (st ∷ c))) (with_request st (pending c))
 
 -- what waits is due
-pending-due : (c : Chronicle) → filter (is_due (history c)) (pending c) ≡ pending c
+pub pending-due : (c : Chronicle) → filter (is_due (history c)) (pending c) ≡ pending c
 unfolding pending
 pending-due [] = refl
 pending-due (noted (led_from b) ∷ c) = refl
@@ -57,6 +57,9 @@ pending-due (noted (pruned height) ∷ c) = due-step (noted (pruned height)) c
 pending-due (noted (seen_view w sender) ∷ c) = due-step (noted (seen_view w sender)) c
 pending-due (took_block a ∷ c) = due-step (took_block a) c
 
+pub not-less : (n : ℕ) → nat_lt n n ≡ false
+not-less n = grind arith
+
 -- a timeout moves the view alone
 timed-out : (self : Identity) (c : Chronicle) → OnlyViewMoved self c (noted timed_out ∷ c)
 unfolding taken_blocks voted_blocks horizon votes qc_high leaf pending raised history executed decided
@@ -66,15 +69,12 @@ timed-out self c = record {
   forgotten = refl;
   kept = λ b. refl;
   certified = refl;
-  leaf_is = cond-false _ _ _ (none (length (qc_high self.sizes c).block));
+  leaf_is = cond-false _ _ _ (not-less (length (qc_high self.sizes c).block));
   waiting = pending-due c;
 }
-  where
-    none : (n : ℕ) → nat_lt n n ≡ false
-    none n = grind arith
 
 -- another one moves nothing else either
-moved-trans : (self : Identity) (a b c : Chronicle) → OnlyViewMoved self a b → OnlyViewMoved self b c
+pub moved-trans : (self : Identity) (a b c : Chronicle) → OnlyViewMoved self a b → OnlyViewMoved self b c
     → OnlyViewMoved self a c
 moved-trans self a b c h k = record {
   taken = k.taken ∙ h.taken;
@@ -86,7 +86,7 @@ moved-trans self a b c h k = record {
   waiting = k.waiting ∙ h.waiting;
 }
 
-not-moved : (self : Identity) (c : Chronicle) → OnlyViewMoved self c c
+pub not-moved : (self : Identity) (c : Chronicle) → OnlyViewMoved self c c
 not-moved self c = record {
   taken = refl;
   voted = refl;

@@ -4,11 +4,12 @@ use Rattle.std.proofs.Common.{ℕ, ◌≡◌, ◌&&◌, not, Bool, true, false, 
 use Rattle.std.proofs.Common.{◌∙◌, Option, Some, None, Result, Ok, Err}
 use Rattle.std.proofs.lemmas.Bool.{cond-false}
 use Rattle.definitions.specs.Checks.{Identity}
-use Rattle.definitions.specs.Keyrings.{is_replica_of}
+use Rattle.definitions.specs.Keyrings.{Keyring, is_replica_of, is_party_of}
 use Rattle.definitions.specs.Rulings.{Input, ruling}
 use Rattle.definitions.specs.Replicas.{MemorySupply, Replica, Reaction, Standing, Standing.running, on_ruling, step}
 use Rattle.definitions.specs.Replicas.{Standing.stopped, Standing.cut_short, Reaction.fails}
-use Rattle.definitions.specs.Worlds.{World, Event, Happening, is_correct, self_of}
+use Rattle.definitions.specs.Worlds.{World, Event, Happening, is_correct, is_party, self_of}
+use Rattle.recovery.specs.Correct.{ShareKeys}
 use Rattle.definitions.specs.Runs.{names_party, names_frame, names_request, refusal, run, after}
 use Rattle.definitions.specs.Events.{party_of, acts, effect, happens}
 use Rattle.ids.specs.declared.fault.Fault.TheVariants as fault
@@ -33,6 +34,26 @@ same-correct w last m r = λ k. is_replica_of (m.sizes k) r && not (m.faulty k r
 
 pub same-self : (w last : World) → IsMadeAs w last → (r : ℕ) → self_of last r ≡ self_of w r
 same-self w last m r = λ k. record { sizes = m.sizes k; ring = m.ring k r }
+
+pub made-both : (w mid last : World) → IsMadeAs w mid → IsMadeAs mid last → IsMadeAs w last
+made-both w mid last h k =
+    record { sizes = k.sizes ∙ h.sizes; faulty = k.faulty ∙ h.faulty; ring = k.ring ∙ h.ring }
+
+-- and the same keys
+pub keys-in : (w last : World) → IsMadeAs w last → ShareKeys w → ShareKeys last
+keys-in w last m keys = record {
+  numbers = λ p party ok.
+      ap (λ (ring : ℕ → Keyring). (ring p).party) m.ring
+      ∙ keys.numbers p (sym (same-party p) ∙ party) (sym (ap (λ (f : ℕ → Bool). f p) m.faulty) ∙ ok);
+  keys = λ r c p party ok.
+      ap (λ (ring : ℕ → Keyring). (ring r).key p) m.ring
+      ∙ (keys.keys r (sym (same-correct w last m r) ∙ c) p (sym (same-party p) ∙ party)
+      (sym (ap (λ (f : ℕ → Bool). f p) m.faulty) ∙ ok)
+      ∙ sym (ap (λ (ring : ℕ → Keyring). (ring p).key r) m.ring));
+}
+  where
+    same-party : (p : ℕ) → is_party last p ≡ is_party w p
+    same-party p = λ k. is_party_of (m.sizes k) p
 
 -- ---- runs in pieces
 

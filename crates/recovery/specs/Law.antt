@@ -1,9 +1,11 @@
 -- The laws that are proved: steps of the statement that nobody is wedged.
 use Rattle.ids.specs.declared.limits.TheConstants.{MOST_BLOCKS, MOST_OF_HEIGHT, HEIGHT_LIMIT}
-use Rattle.std.specs.Prelude.{ℕ, suc, ◌^◌, ◌≡◌, ◌==◌, ◌<◌, ◌≤◌, ◌⊎◌, true, List, [], ◌∷◌, map, length, count_by, Ok}
+use Rattle.std.specs.Prelude.{ℕ, suc, ◌^◌, ◌≡◌, ◌==◌, ◌<◌, ◌≤◌, ◌⊎◌, Bool, true, false, List, [], ◌∷◌, ◌++◌, map, length, count_by, Ok}
 use Rattle.std.specs.List.{AllByRecursion, list_all}
 use Rattle.ids.specs.declared.fault.Fault.TheVariants as fault
-use Rattle.ids.specs.Sizes.{leader}
+use Rattle.ids.specs.Sizes.{Sizes, leader}
+use Rattle.definitions.specs.Keyrings.{Keyring}
+use Rattle.definitions.specs.Premises.{ArePremises}
 use Rattle.definitions.specs.Lists.{Among, AreDistinct}
 use Rattle.definitions.specs.Admission.{Checked, passes, rejected, check, check_offer, check_gathered}
 use Rattle.definitions.specs.Agreement.{MayBeCertified}
@@ -17,13 +19,13 @@ use Rattle.definitions.specs.Grounds.{is_justified, is_own_certified, may_lead_f
 use Rattle.definitions.specs.Rulings.{Input, ruling, due}
 use Rattle.definitions.specs.Runs.{run, after}
 use Rattle.definitions.specs.Sendings.{block_frame, proposal_frame}
-use Rattle.definitions.specs.States.{Justified, votes, qc_high, leaf, pending}
+use Rattle.definitions.specs.States.{Justified, view, votes, qc_high, leaf, pending}
 use Rattle.definitions.specs.Trees.{is_clear, clear_above}
-use Rattle.definitions.specs.Worlds.{World, Sent, is_correct, self_of}
+use Rattle.definitions.specs.Worlds.{World, Sent, Happening, new_world, is_correct, self_of}
 use Rattle.linear_law.specs.Law.{AfterEachRun, correct_family}
 use Rattle.recovery.specs.Correct.{OfCorrect, AllGoOn, ShareKeys, chronicle_of, lock_of, view_of, correct_with}
 use Rattle.recovery.specs.Correct.{correct_replicas}
-use Rattle.recovery.specs.Healing.{view_to_come, come_to, highest_voted}
+use Rattle.recovery.specs.Healing.{view_to_come, come_to, highest_voted, fetch_block}
 use Rattle.recovery.specs.NeverWedged.{healer, ground_of, NobodyPruned, HasViews}
 
 -- ---- locks
@@ -149,6 +151,43 @@ CopiesAreTaken =
     → AllByRecursion (IsHolder w (b ∷ parent)) holders → w.sizes.faults < length holders
     → IsTaken w u
     (check_gathered (self_of w u) (map (λ h. block_frame (self_of w h.0) u h.1) holders)) (b ∷ parent)))
+
+-- a replica was only asked for blocks: it is as it was
+abbrev pub OnlyAsked : Identity → Chronicle → Chronicle → Type 0
+OnlyAsked self before now =
+    OnlyViewMoved self before now × (view self.sizes now ≡ view self.sizes before)
+
+-- a replica was only asked, and then took this block, without a vote
+pub record OnlyTook (self : Identity) (x : Branch) (before now : Chronicle) : Type 0 where
+  pub asked : Chronicle
+  pub only : OnlyAsked self before asked
+  pub taken : Admitted
+  pub is : now ≡ took_block taken ∷ asked
+  pub block_is : taken.branch ≡ x
+  pub no_vote : taken.voted ≡ false
+  pub new_or_there : (taken.new ≡ true) ⊎ ((taken.new ≡ false) × Among x (window asked))
+
+-- A replica fetched a block: no event was refused by the run, all go on, the block stands with it, and the others were
+-- only asked.
+pub record IsFetched (w last : World) (u : ℕ) (x : Branch) : Type 0 where
+  pub ran : run w (fetch_block (digest_of x) u w) ≡ Ok last
+  pub going_on : AllGoOn last
+  pub stands : Among x (window (chronicle_of last u))
+  pub own : OnlyTook (self_of w u) x (chronicle_of w u) (chronicle_of last u)
+  pub others : OfCorrect w (λ r. (r ≡ u → ⊥) → OnlyAsked (self_of w r) (chronicle_of w r) (chronicle_of last r))
+  pub session : last.session ≡ w.session
+
+-- A correct replica that lacks a block, and has a place for it, gets it by asking, where more than f correct replicas
+-- have it: after any run whose premises hold, and hold of these events.
+abbrev pub MissingBlocksAreFetched : Type 0
+MissingBlocksAreFetched =
+    (sizes : Sizes) (is_faulty : ℕ → Bool) (ring : ℕ → Keyring) (hs : List Happening) (w : World)
+    (u : ℕ) (b : Block) (parent : Branch) → ShareKeys (new_world sizes is_faulty ring)
+    → ArePremises (new_world sizes is_faulty ring) (hs ++ fetch_block (digest_of (b ∷ parent)) u w)
+    → run (new_world sizes is_faulty ring) hs ≡ Ok w → AllGoOn w → is_correct w u ≡ true
+    → HasPlace (chronicle_of w u) b parent → (Among (b ∷ parent) (window (chronicle_of w u)) → ⊥)
+    → w.sizes.faults < correct_with w window (b ∷ parent)
+    → IsFetched w (after w (fetch_block (digest_of (b ∷ parent)) u w)) u (b ∷ parent)
 
 -- ---- blocks of a leader
 

@@ -6,7 +6,7 @@
 ghost use Rattle.recovery.specs.Law.{HighestLocksAreSafe, LocksMayBeLedFrom};
 ghost use Rattle.recovery.specs.Law.{JustifiedBlocksAreHeld, GroundsAreHeld};
 ghost use Rattle.recovery.specs.Law.{TimeoutsBringTogether, ACorrectLeaderComes, CopiesAreTaken, ProposalsAreTaken};
-ghost use Rattle.recovery.specs.Law.{HighestAreCertified};
+ghost use Rattle.recovery.specs.Law.{HighestAreCertified, MissingBlocksAreFetched};
 
 /// A correct replica of the highest lock: no correct lock is above it or beside it, so a block that justifies
 /// it is safe for all.
@@ -53,4 +53,9 @@ pub fn proposals_are_taken()
 /// is no higher than what some correct replica voted for.
 pub fn highest_are_certified()
     ensures { HighestAreCertified }
+{}
+
+/// A correct replica gets a block that it lacks by asking, where more than f correct replicas have it.
+pub fn missing_blocks_are_fetched()
+    ensures { MissingBlocksAreFetched }
 {}

@@ -1,0 +1,4 @@
+use Rattle.recovery.specs.Law.{MissingBlocksAreFetched}
+
+pub blocks-fetched : MissingBlocksAreFetched
+blocks-fetched = ?
