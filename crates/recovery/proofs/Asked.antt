@@ -106,7 +106,7 @@ asked-none self c = (not-moved self c, refl)
 -- ---- who answers
 
 -- the copy that a replica has, where it isn't who asks
-abbrev with-copy : ℕ → Option Admitted → List (ℕ × Admitted)
+abbrev pub with-copy : ℕ → Option Admitted → List (ℕ × Admitted)
 with-copy r None = []
 with-copy r (Some a) = (r, a) ∷ []
 
@@ -171,7 +171,7 @@ ask-own-is w u r d e =
     (delivered-new w (happens w (ask u r d, ample)) [] e)
 
 -- a digest's length
-abbrev IsLong : Bytes → Type 0
+abbrev pub IsLong : Bytes → Type 0
 IsLong d = length d ≡ 32
 
 ask-named : (w : World) (u r : ℕ) (d : Bytes) → is_correct w u ≡ true → is_correct w r ≡ true → IsLong d
@@ -343,7 +343,7 @@ same-holders w v u d only (r ∷ rs) c =
     λ k. cond (r == u) [] (with-copy r (same-copy w v d r (self_of w r) (only r (c r (inl refl))) k))
     ++ same-holders w v u d only rs (λ j m. c j (inr m)) k
 
-same-copies : (w v : World) (u : ℕ) → IsMadeAs w v → (hs : List (ℕ × Admitted)) → copies-of v u hs ≡ copies-of w u hs
+pub same-copies : (w v : World) (u : ℕ) → IsMadeAs w v → (hs : List (ℕ × Admitted)) → copies-of v u hs ≡ copies-of w u hs
 same-copies w v u m [] = refl
 same-copies w v u m (h ∷ hs) = λ k. block_frame (same-self w v m h.0 k) u h.1 ∷ same-copies w v u m hs k
 

@@ -103,7 +103,7 @@ votes-new w u v a b parent e new clear place may =
     (clear-more b.justify parent (stored_block a) (standing_blocks c) may.clear_below)))
 
 -- a block that stands already leaves what stands
-standing-old : (a : Admitted) (c : Chronicle) → a.new ≡ false
+pub standing-old : (a : Admitted) (c : Chronicle) → a.new ≡ false
     → standing_blocks (took_block a ∷ c) ≡ standing_blocks c
 unfolding standing_blocks stored_blocks taken_blocks horizon
 standing-old a c old =
