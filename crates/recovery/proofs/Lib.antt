@@ -15,3 +15,4 @@ mod Ways
 mod Steps
 mod Asked
 mod Fetched
+mod Decided

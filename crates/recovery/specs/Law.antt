@@ -12,7 +12,7 @@ use Rattle.definitions.specs.Agreement.{MayBeCertified}
 use Rattle.definitions.specs.Branches.{Block, Branch, just1, Extends}
 use Rattle.definitions.specs.Checks.{Identity, command_verifies}
 use Rattle.definitions.specs.Chronicles.{Admitted, Chronicle, voted_blocks, taken_blocks, tree, window, vheight}
-use Rattle.definitions.specs.Chronicles.{Step.took_block, horizon, standing_blocks, is_safe}
+use Rattle.definitions.specs.Chronicles.{Step.took_block, horizon, standing_blocks, executed, is_safe}
 use Rattle.definitions.specs.Digests.{digest_of}
 use Rattle.definitions.specs.Frames.{Frame}
 use Rattle.definitions.specs.Grounds.{is_justified, is_own_certified, may_lead_from}
@@ -230,3 +230,16 @@ ProposalsAreTaken =
     → ((check (self_of w u) f ≡ rejected fault.BadTag)
     ⊎ IsTakenIn w u v (check (self_of w u) f) b parent)
     × IsTakenIn w u v (check_offer (self_of w u) f) b parent))
+
+-- ---- decisions
+
+-- this block stands on that one, and justifies it
+abbrev pub IsNext : Branch → Branch → Type 0
+IsNext x y = (b : Block) × (y ≡ b ∷ x) × (b.justify ≡ length x)
+
+-- Who took three more blocks over a block, each on the one before and justifying that, executed the block: its last
+-- executed branch goes through it.
+abbrev pub ThreeMoreDecide : Type 0
+ThreeMoreDecide =
+    AfterEachRun (λ w. OfCorrect w (λ r. (x y z : Branch) (a : Admitted) → IsNext x y → IsNext y z → IsNext z a.branch
+    → Among a (taken_blocks (chronicle_of w r)) → Extends (executed (chronicle_of w r)) x))

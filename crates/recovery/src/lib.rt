@@ -6,7 +6,7 @@
 ghost use Rattle.recovery.specs.Law.{HighestLocksAreSafe, LocksMayBeLedFrom};
 ghost use Rattle.recovery.specs.Law.{JustifiedBlocksAreHeld, GroundsAreHeld};
 ghost use Rattle.recovery.specs.Law.{TimeoutsBringTogether, ACorrectLeaderComes, CopiesAreTaken, ProposalsAreTaken};
-ghost use Rattle.recovery.specs.Law.{HighestAreCertified, MissingBlocksAreFetched};
+ghost use Rattle.recovery.specs.Law.{HighestAreCertified, MissingBlocksAreFetched, ThreeMoreDecide};
 
 /// A correct replica of the highest lock: no correct lock is above it or beside it, so a block that justifies
 /// it is safe for all.
@@ -58,4 +58,9 @@ pub fn highest_are_certified()
 /// A correct replica gets a block that it lacks by asking, where more than f correct replicas have it.
 pub fn missing_blocks_are_fetched()
     ensures { MissingBlocksAreFetched }
+{}
+
+/// Who took three more blocks over a block, each certified by the next, executed that block.
+pub fn three_more_decide()
+    ensures { ThreeMoreDecide }
 {}
