@@ -112,7 +112,7 @@ ground-among w l those has x e =
           (subst (λ (b : Branch). Extends b x) z.0 e)
     ]
 
-just1-genesis : just1 [] ≡ []
+pub just1-genesis : just1 [] ≡ []
 unfolding just1 justify_height beginning
 just1-genesis = refl
 

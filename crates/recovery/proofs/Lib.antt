@@ -16,3 +16,5 @@ mod Steps
 mod Asked
 mod Fetched
 mod Decided
+mod Climbing
+mod Marks

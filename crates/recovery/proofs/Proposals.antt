@@ -42,7 +42,7 @@ use Rattle.recovery.proofs.Places.{IsPlaced, placed}
 -- ---- votes
 
 -- more blocks leave what is clear so
-clear-more : (height : ℕ) (b : Branch) (s : Stored) (stored : List Stored) → clear_above height b stored ≡ true
+pub clear-more : (height : ℕ) (b : Branch) (s : Stored) (stored : List Stored) → clear_above height b stored ≡ true
     → clear_above height b (s ∷ stored) ≡ true
 unfolding clear_above is_clear
 clear-more height [] s stored h = refl
@@ -58,7 +58,7 @@ clear-more height (b ∷ parent) s stored h = by (nat_lt height (suc (length par
     by false e rest = refl
 
 -- a clear block over a parent that is clear down to what the block justifies
-clear-over : (height : ℕ) (b : Block) (parent : Branch) (stored : List Stored) → is_clear (b ∷ parent) stored ≡ true
+pub clear-over : (height : ℕ) (b : Block) (parent : Branch) (stored : List Stored) → is_clear (b ∷ parent) stored ≡ true
     → clear_above height parent stored ≡ true → clear_above height (b ∷ parent) stored ≡ true
 unfolding clear_above
 clear-over height b parent stored h k =
@@ -67,7 +67,7 @@ clear-over height b parent stored h k =
     (λ e. and_from _ _ h k) (λ e. refl)
 
 -- a block that was just taken as a clear one
-clear-first : (a : Admitted) (x : Branch) (stored : List Stored) → a.branch ≡ x → a.clear ≡ true
+pub clear-first : (a : Admitted) (x : Branch) (stored : List Stored) → a.branch ≡ x → a.clear ≡ true
     → is_clear x (stored_block a ∷ stored) ≡ true
 unfolding is_clear
 clear-first a x stored e h =
@@ -122,23 +122,29 @@ votes-old w u v a b parent e old there may =
 
 -- ---- rulings
 
+-- the block is new, and clear as its commands are; or it stands there
+abbrev pub IsFresh : World → ℕ → Block → Branch → Admitted → Type 0
+IsFresh w u b parent a =
+    ((a.new ≡ true) × (a.clear ≡ list_all (command_verifies (self_of w u)) b.commands))
+    ⊎ ((a.new ≡ false) × Among (b ∷ parent) (window (chronicle_of w u)))
+
 -- a ruling by which the replica takes the block, and votes for it where it may
-abbrev Takes : World → ℕ → ℕ → Block → Branch → Ruling → Type 0
+abbrev pub Takes : World → ℕ → ℕ → Block → Branch → Ruling → Type 0
 Takes w u v b parent r =
     (a : Admitted) × (r ≡ due (took_block a)) × (a.branch ≡ b ∷ parent)
-    × (MayVoteFor w u v b parent → a.voted ≡ true)
+    × (MayVoteFor w u v b parent → a.voted ≡ true) × IsFresh w u b parent a
 
 takes-new : (w : World) (u v : ℕ) (b : Block) (parent : Branch) (a : Admitted)
     → HasPlace (chronicle_of w u) b parent → a.branch ≡ b ∷ parent → a.new ≡ true
     → a.clear ≡ list_all (command_verifies (self_of w u)) b.commands
     → Takes w u v b parent (take_block (self_of w u) (Some v) a (chronicle_of w u))
 takes-new w u v b parent a place e new clear =
-    (_, refl, e, λ may. votes-new w u v a b parent e new clear place may)
+    (_, refl, e, λ may. votes-new w u v a b parent e new clear place may, inl (new, clear))
 
 takes-old : (w : World) (u v : ℕ) (b : Block) (parent : Branch) (a : Admitted)
     → Among (b ∷ parent) (window (chronicle_of w u)) → a.branch ≡ b ∷ parent → a.new ≡ false
     → Takes w u v b parent (take_block (self_of w u) (Some v) a (chronicle_of w u))
-takes-old w u v b parent a there e old = (_, refl, e, λ may. votes-old w u v a b parent e old there may)
+takes-old w u v b parent a there e old = (_, refl, e, λ may. votes-old w u v a b parent e old there may, inr (old, there))
 
 -- what it finds of the block's commands
 clear-core : (self : Identity) (b : Block) (parent : Branch)
@@ -205,9 +211,11 @@ offer-takes w u v sender b parent q place has (inr e) grounds =
 -- ---- the frame
 
 -- what a proposal's parts come to at a replica for which its own tag verifies
-record IsShown (w : World) (u v : ℕ) (b : Block) (parent : Branch) (f : Frame) : Type 0 where
-  come : (check (self_of w u) f ≡ rejected fault.BadTag) ⊎ IsTakenIn w u v (check (self_of w u) f) b parent
-  offered : IsTakenIn w u v (check_offer (self_of w u) f) b parent
+pub record IsShown (w : World) (u v : ℕ) (b : Block) (parent : Branch) (f : Frame) : Type 0 where
+  pub come : (check (self_of w u) f ≡ rejected fault.BadTag) ⊎ IsTakenIn w u v (check (self_of w u) f) b parent
+  pub input : Input
+  pub offered : check_offer (self_of w u) f ≡ passes input
+  pub takes : Takes w u v b parent (ruling (self_of w u) input (chronicle_of w u))
 
 proposal-shown : (w : World) (u v : ℕ) (b : Block) (parent : Branch) (q : Certificate) (vec : Bytes)
     → own_tag_verifies (self_of w u) (frame.proposal v (core_of (b ∷ parent)) q vec) ≡ true
@@ -229,12 +237,13 @@ proposal-shown w u v b parent q vec tag has place grounds =
             cond-true _ _ _ (and_from _ _ tag t), p.1, p.2, p.3)
         | inr n ↦ inl (cond-false _ _ _ (ap (λ (t : Bool). t && is_good self q) tag ∙ n))
       ];
-      offered = (offered_in (Some v) (leader w.sizes v) core q (findings self core q), o.0,
-          cond-true _ _ _ tag, o.1, o.2, o.3);
+      input = offered_in (Some v) (leader w.sizes v) core q (findings self core q);
+      offered = cond-true _ _ _ tag;
+      takes = o;
     }
 
 -- a correct leader's proposal of this block
-proposal-known : (Known : Core → Type 0) (w : World) → IsReached Known w → ShareKeys w → (u v : ℕ)
+pub proposal-known : (Known : Core → Type 0) (w : World) → IsReached Known w → ShareKeys w → (u v : ℕ)
     → is_correct w u ≡ true → (b : Block) (parent : Branch) (f : Frame) → IsProposalOf w v b parent f
     → HasPlace (chronicle_of w u) b parent
     → (is_justified (just1 (b ∷ parent)) (chronicle_of w u) ≡ true)
@@ -264,4 +273,4 @@ proposal-known Known w g keys u v c b parent f made has grounds =
 pub proposals-taken : ProposalsAreTaken
 proposals-taken sizes is_faulty ring hs last met e = λ keys v b parent f made u c has grounds.
     let s = proposal-known _ last (reached sizes is_faulty ring hs last met e) keys u v c b parent f made has grounds in
-    (s.come, s.offered)
+    (s.come, (s.input, s.takes.0, s.offered, s.takes.1, s.takes.2, s.takes.3))

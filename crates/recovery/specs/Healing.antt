@@ -1,6 +1,6 @@
 -- Healing: events of correct parties alone, computed from a world, that bring a waiting client its receipt. Nobody has
 -- to know who lies, nor why nothing went on: the correct replica of the highest lock leads from that lock.
-use Rattle.std.specs.Prelude.{ℕ, zero, suc, ◌+◌, ◌-◌, ◌%◌, not, Bool, true, false, List, [], ◌∷◌, ◌++◌, map, filter}
+use Rattle.std.specs.Prelude.{ℕ, zero, suc, ◌+◌, ◌-◌, ◌%◌, ◌==◌, not, Bool, true, false, List, [], ◌∷◌, ◌++◌, map, filter}
 use Rattle.std.specs.Prelude.{find, reverse, length, drop, if◌then◌else◌, nat_lt, max, Option, Some, None}
 use Rattle.ids.specs.Sizes.{replicas}
 use Rattle.definitions.specs.Bytes.{Bytes}
@@ -198,13 +198,17 @@ highest_voted w (r ∷ rs) = max (vheight (chronicle_of w r)) (highest_voted w r
 abbrev pub to_climb : ℕ → World → ℕ
 to_climb l w = suc (highest_voted w (correct_replicas w) - length (leaf (self_of w l) (chronicle_of w l)))
 
--- A leader makes so many blocks, before anybody else is offered one or any vote is counted. Then all are offered all,
--- and all votes come to all.
+-- the correct replicas but this one
+abbrev pub others : ℕ → World → List ℕ
+others l w = filter (λ r. not (r == l)) (correct_replicas w)
+
+-- A leader makes so many blocks, before anybody else is offered one or any vote is counted. Then the others are offered
+-- all, and all votes come to all.
 unfoldable pub round : ℕ → ℕ → Phase
 round n l w =
     let before = length w.sent in
     in_turn (make_blocks n l
-    ∷ (λ v. amply (offered_to (correct_replicas v) (sent_since before is_proposal v)))
+    ∷ (λ v. amply (offered_to (others l v) (sent_since before is_proposal v)))
     ∷ (λ v. amply (comes_to (correct_replicas v) (sent_since before is_vote v))) ∷ []) w
 
 -- ---- the client
