@@ -140,7 +140,7 @@ abbrev who : List (ℕ × Admitted) → List ℕ
 who hs = map (λ h. h.0) hs
 
 -- a list with one more number at its end
-distinct-last : (xs : List ℕ) (n : ℕ) → AreDistinct xs → ((x : ℕ) → Among x xs → x < n) → AreDistinct (xs ++ n ∷ [])
+pub distinct-last : (xs : List ℕ) (n : ℕ) → AreDistinct xs → ((x : ℕ) → Among x xs → x < n) → AreDistinct (xs ++ n ∷ [])
 distinct-last [] n d b = ((λ m. m), tt)
 distinct-last (x ∷ xs) n d b = (
   λ m. elim (Among-either x xs (n ∷ []) m) [

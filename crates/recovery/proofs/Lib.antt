@@ -18,3 +18,4 @@ mod Fetched
 mod Decided
 mod Climbing
 mod Marks
+mod Offers

@@ -38,6 +38,23 @@ use Rattle.recovery.specs.Law.{HasPlace, MayVoteFor, IsTakenIn, IsProposalOf, Pr
 use Rattle.recovery.proofs.Copies.{vector-verifies, correct-party}
 use Rattle.recovery.proofs.Wells.{IsReached, reached, sound-of, known-of, one-branch}
 use Rattle.recovery.proofs.Places.{IsPlaced, placed}
+use Rattle.recovery.proofs.Marks.{stands-clear}
+
+-- a replica may vote for the block, and finds it clear where it stands
+pub record MayVote (w : World) (u v : ℕ) (b : Block) (parent : Branch) : Type 0 where
+  pub in_view : view_of w u ≡ v
+  pub safe : is_safe (b ∷ parent) (chronicle_of w u) ≡ true
+  pub commands : list_all (command_verifies (self_of w u)) b.commands ≡ true
+  pub clear_below : clear_above b.justify parent (standing_blocks (chronicle_of w u)) ≡ true
+  pub clear_there : Among (b ∷ parent) (window (chronicle_of w u))
+      → is_clear (b ∷ parent) (standing_blocks (chronicle_of w u)) ≡ true
+
+-- what was checked passes, and comes to a step by which the replica takes the block
+abbrev pub TakenIn : World → ℕ → ℕ → Checked → Block → Branch → Type 0
+TakenIn w u v checked b parent =
+    (i : Input) × (a : Admitted) × (checked ≡ passes i)
+    × (ruling (self_of w u) i (chronicle_of w u) ≡ due (took_block a)) × (a.branch ≡ b ∷ parent)
+    × (MayVote w u v b parent → a.voted ≡ true)
 
 -- ---- votes
 
@@ -88,7 +105,7 @@ votes-true s v a c b parent e w safe clear =
 -- so it is for a new block
 votes-new : (w : World) (u v : ℕ) (a : Admitted) (b : Block) (parent : Branch) → a.branch ≡ b ∷ parent
     → a.new ≡ true → a.clear ≡ list_all (command_verifies (self_of w u)) b.commands
-    → HasPlace (chronicle_of w u) b parent → MayVoteFor w u v b parent
+    → HasPlace (chronicle_of w u) b parent → MayVote w u v b parent
     → votes_for w.sizes (Some v) a (chronicle_of w u) ≡ true
 votes-new w u v a b parent e new clear place may =
     let c : Chronicle = chronicle_of w u in
@@ -112,7 +129,7 @@ standing-old a c old =
 
 -- and it is for one that stands
 votes-old : (w : World) (u v : ℕ) (a : Admitted) (b : Block) (parent : Branch) → a.branch ≡ b ∷ parent
-    → a.new ≡ false → Among (b ∷ parent) (window (chronicle_of w u)) → MayVoteFor w u v b parent
+    → a.new ≡ false → Among (b ∷ parent) (window (chronicle_of w u)) → MayVote w u v b parent
     → votes_for w.sizes (Some v) a (chronicle_of w u) ≡ true
 votes-old w u v a b parent e old there may =
     let c : Chronicle = chronicle_of w u in
@@ -132,7 +149,7 @@ IsFresh w u b parent a =
 abbrev pub Takes : World → ℕ → ℕ → Block → Branch → Ruling → Type 0
 Takes w u v b parent r =
     (a : Admitted) × (r ≡ due (took_block a)) × (a.branch ≡ b ∷ parent)
-    × (MayVoteFor w u v b parent → a.voted ≡ true) × IsFresh w u b parent a
+    × (MayVote w u v b parent → a.voted ≡ true) × IsFresh w u b parent a
 
 takes-new : (w : World) (u v : ℕ) (b : Block) (parent : Branch) (a : Admitted)
     → HasPlace (chronicle_of w u) b parent → a.branch ≡ b ∷ parent → a.new ≡ true
@@ -212,7 +229,7 @@ offer-takes w u v sender b parent q place has (inr e) grounds =
 
 -- what a proposal's parts come to at a replica for which its own tag verifies
 pub record IsShown (w : World) (u v : ℕ) (b : Block) (parent : Branch) (f : Frame) : Type 0 where
-  pub come : (check (self_of w u) f ≡ rejected fault.BadTag) ⊎ IsTakenIn w u v (check (self_of w u) f) b parent
+  pub come : (check (self_of w u) f ≡ rejected fault.BadTag) ⊎ TakenIn w u v (check (self_of w u) f) b parent
   pub input : Input
   pub offered : check_offer (self_of w u) f ≡ passes input
   pub takes : Takes w u v b parent (ruling (self_of w u) input (chronicle_of w u))
@@ -270,7 +287,22 @@ proposal-known Known w g keys u v c b parent f made has grounds =
     (vector-verifies w keys kind.Proposal l u (proposal_content v (core_of x) q) (correct-party w l made.correct)
     (member-faulty w l made.correct) c) has place grounds)
 
+-- what it finds clear where it stands needn't be asked for
+pub may-vote : (Known : Core → Type 0) (w : World) → IsReached Known w → (u v : ℕ) → is_correct w u ≡ true
+    → (b : Block) (parent : Branch) → MayVoteFor w u v b parent → MayVote w u v b parent
+may-vote Known w g u v c b parent may = record {
+  in_view = may.in_view;
+  safe = may.safe;
+  commands = may.commands;
+  clear_below = may.clear_below;
+  clear_there = stands-clear (self_of w u) (chronicle_of w u) (g.ruled u c) b parent may.commands;
+}
+
 pub proposals-taken : ProposalsAreTaken
 proposals-taken sizes is_faulty ring hs last met e = λ keys v b parent f made u c has grounds.
-    let s = proposal-known _ last (reached sizes is_faulty ring hs last met e) keys u v c b parent f made has grounds in
-    (s.come, (s.input, s.takes.0, s.offered, s.takes.1, s.takes.2, s.takes.3))
+    let g = reached sizes is_faulty ring hs last met e in
+    let s = proposal-known _ last g keys u v c b parent f made has grounds in
+    let may = may-vote _ last g u v c b parent in (
+      elim s.come [ inl n ↦ inl n | inr t ↦ inr (t.0, t.1, t.2, t.3, t.4, λ k. t.5 (may k)) ],
+      (s.input, s.takes.0, s.offered, s.takes.1, s.takes.2, λ k. s.takes.3 (may k)),
+    )

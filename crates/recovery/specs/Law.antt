@@ -20,7 +20,7 @@ use Rattle.definitions.specs.Rulings.{Input, ruling, due}
 use Rattle.definitions.specs.Runs.{run, after}
 use Rattle.definitions.specs.Sendings.{block_frame, proposal_frame}
 use Rattle.definitions.specs.States.{Justified, view, votes, qc_high, leaf, pending}
-use Rattle.definitions.specs.Trees.{is_clear, clear_above}
+use Rattle.definitions.specs.Trees.{clear_above}
 use Rattle.definitions.specs.Worlds.{World, Sent, Happening, new_world, is_correct, self_of}
 use Rattle.linear_law.specs.Law.{AfterEachRun, correct_family}
 use Rattle.recovery.specs.Correct.{OfCorrect, AllGoOn, ShareKeys, chronicle_of, lock_of, view_of, correct_with}
@@ -198,8 +198,6 @@ pub record MayVoteFor (w : World) (u v : ℕ) (b : Block) (parent : Branch) : Ty
   pub safe : is_safe (b ∷ parent) (chronicle_of w u) ≡ true
   pub commands : list_all (command_verifies (self_of w u)) b.commands ≡ true
   pub clear_below : clear_above b.justify parent (standing_blocks (chronicle_of w u)) ≡ true
-  pub clear_there : Among (b ∷ parent) (window (chronicle_of w u))
-      → is_clear (b ∷ parent) (standing_blocks (chronicle_of w u)) ≡ true
 
 -- what was checked passes, and comes to a step by which the replica takes this block, and votes for it where it may
 abbrev pub IsTakenIn : World → ℕ → ℕ → Checked → Block → Branch → Type 0
