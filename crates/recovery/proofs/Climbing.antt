@@ -19,29 +19,12 @@ use Rattle.definitions.specs.Worlds.{World, self_of}
 use Rattle.definitions.proofs.Branches.{just1-below, just2-is, branch_eq-decides, Extends-trans, length-extends}
 use Rattle.definitions.proofs.Horizons.{window-grown}
 use Rattle.recovery.specs.Correct.{chronicle_of}
-use Rattle.recovery.specs.Law.{HasPlace}
+use Rattle.recovery.specs.Law.{HasPlace, Climbs}
 use Rattle.recovery.proofs.Decided.{justifies-below}
 use Rattle.recovery.proofs.Grounds.{just1-genesis}
 use Rattle.recovery.proofs.Fetched.{took-stands}
 use Rattle.recovery.proofs.Locks.{nil}
 use Rattle.recovery.proofs.Proposals.{standing-old, clear-more, clear-over, clear-first, IsFresh}
-
--- it is in this view, knows y, which stands on m, and may vote for a block over y that justifies m; there is room for
--- so many blocks more
-pub record Climbs (self : Identity) (v : ℕ) (m y : Branch) (room : ℕ) (c : Chronicle) : Type 0 where
-  pub in_view : view self.sizes c ≡ v
-  pub stands : Among y (window c)
-  pub over : Extends y m
-  pub ground : is_justified m c ≡ true
-  pub reach : horizon c ≤ length m
-  pub safe : (lock c ≡ m) ⊎ (length (lock c) < length m)
-  pub clear : clear_above (length m) y (standing_blocks c) ≡ true
-  pub trees : length (window c) + room ≤ MOST_BLOCKS
-  pub heights : (h : ℕ) → length y < h → count_by (λ x. length x == h) (window c) < MOST_OF_HEIGHT
-
--- what is known of a block that it takes over y
-abbrev pub IsNextOver : Branch → Branch → Block → Type 0
-IsNextOver m y b = b.justify ≡ length m
 
 -- a place for the next block
 pub next-place : (self : Identity) (v : ℕ) (m y : Branch) (room : ℕ) (c : Chronicle) (b : Block)

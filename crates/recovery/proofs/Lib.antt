@@ -19,3 +19,5 @@ mod Decided
 mod Climbing
 mod Marks
 mod Offers
+mod Making
+mod Bursts

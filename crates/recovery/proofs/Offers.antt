@@ -5,13 +5,13 @@ use Rattle.std.proofs.Common.{◌++◌, map, length, refl, sym, ap, subst, ◌�
 use Rattle.std.proofs.Common.{option_map, slice_get}
 use Rattle.std.specs.Bool.{⊤}
 use Rattle.std.specs.List.{list_all}
-use Rattle.std.proofs.lemmas.Bool.{cond-true, cond-false, and_parts, eq-eqb, ne_eqb, lt-ltb}
+use Rattle.std.proofs.lemmas.Bool.{cond-true, cond-false, and_parts, eq-eqb, ne_eqb, lt-ltb, cases_lt}
 use Rattle.std.proofs.lemmas.List.{append-nil, append_assoc}
 use Rattle.ids.specs.Sizes.{Sizes, leader}
 use Rattle.definitions.specs.Lists.{Among}
 use Rattle.definitions.specs.Branches.{Block, Branch, just1, IsBranch}
 use Rattle.definitions.specs.Checks.{Identity, command_verifies}
-use Rattle.definitions.specs.Chronicles.{Admitted, Chronicle, Step.took_block, voted_blocks, vheight, standing_blocks}
+use Rattle.definitions.specs.Chronicles.{Admitted, Chronicle, Step, Step.took_block, voted_blocks, vheight, standing_blocks}
 use Rattle.definitions.specs.Frames.{Core, Frame}
 use Rattle.definitions.specs.Grounds.{is_justified}
 use Rattle.definitions.specs.Sendings.{sendings, proposal_frame}
@@ -23,10 +23,11 @@ use Rattle.definitions.specs.Worlds.{self_of, put}
 use Rattle.definitions.specs.Runs.{refusal, after}
 use Rattle.definitions.specs.Events.{happens, recorded}
 use Rattle.definitions.proofs.Lists.{Among-before}
+use Rattle.definitions.proofs.Chronicles.{voted-grows}
 use Rattle.recovery.specs.Correct.{OfCorrect, ShareKeys, chronicle_of, amply}
-use Rattle.recovery.specs.Law.{IsProposalOf}
+use Rattle.recovery.specs.Law.{IsProposalOf, Climbs}
 use Rattle.recovery.proofs.Asked.{offer-hands}
-use Rattle.recovery.proofs.Climbing.{Climbs, next-place, climb-more, voted-low, voted-now}
+use Rattle.recovery.proofs.Climbing.{next-place, climb-more, voted-low, voted-now}
 use Rattle.recovery.proofs.Decided.{justifies-below}
 use Rattle.recovery.proofs.Locks.{safe-over}
 use Rattle.recovery.proofs.Marks.{stands-clear}
@@ -141,6 +142,13 @@ unfolding Chain
 chain-up w v m y [] last h = let k = ap (λ (x : Branch). length x) h in omega (arith, k)
 chain-up w v m y (k ∷ ks) last (b, f, e, i, h) = let r = chain-up w v m (b ∷ y) ks last h in omega (arith, r)
 
+-- an empty one ends where it begins
+pub chain-end : (w : World) (v : ℕ) (m y : Branch) (ks : List ℕ) (last : Branch) → Chain w v m y ks last
+    → length ks ≡ 0 → y ≡ last
+unfolding Chain
+chain-end w v m y [] last h z = h
+chain-end w v m y (k ∷ ks) last h z = absurd (omega (arith, z))
+
 -- ---- one offer
 
 -- what a block that is offered leaves
@@ -188,5 +196,102 @@ module _ (sizes : Sizes) (start : World) (all : List Happening) where
           branch = t.2;
           climbs = climb-more self v m y room ch b t.0 climbs br made.justify t.2 t.4 good there;
           votes = λ h. t.3 (may h);
+        },
+      )
+
+-- ---- all offers to one replica
+
+-- room for the blocks of a list, and so many more
+unfoldable pub grown : List ℕ → ℕ → ℕ
+grown [] room = room
+grown (k ∷ ks) room = suc (grown ks room)
+
+pub record OfferedAll (w next : World) (r v : ℕ) (m last : Branch) (room : ℕ) (ks : List ℕ) : Type 0 where
+  pub goes : GoesOn w next
+  pub others : (j : ℕ) → (j ≡ r → ⊥) → next.replica j ≡ w.replica j
+  pub going_on : (next.replica r).standing ≡ running
+  pub climbs : Climbs (self_of w r) v m last room (chronicle_of next r)
+  pub voted : vheight (chronicle_of w r) < length last → 0 < length ks
+      → Among last (voted_blocks (chronicle_of next r))
+  pub kept : (x : Branch) → Among x (voted_blocks (chronicle_of w r)) → Among x (voted_blocks (chronicle_of next r))
+
+-- the events
+pub offers-of : ℕ → List ℕ → List Happening
+offers-of r ks = amply (map (λ k. offer r (of_record k)) ks)
+
+-- the world after an offer that was taken
+offer-goes : (w next : World) (r : ℕ) (st : Step) → TookStep w next r st → GoesOn w next
+offer-goes w next r st t = record {
+  made = t.made;
+  more = outs w r (sendings (self_of w r) st (chronicle_of w r));
+  sent = t.sent;
+  session = t.session;
+}
+
+pub row-own : (w next : World) (r : ℕ) (st : Step) → TookStep w next r st
+    → next.replica r ≡ going (st ∷ chronicle_of w r)
+row-own w next r st t =
+    ap (λ (row : ℕ → Replica). row r) t.row
+    ∙ cond-true (r == r) (going (st ∷ chronicle_of w r)) (w.replica r) (eq-eqb r r refl)
+
+pub row-other : (w next : World) (r : ℕ) (st : Step) → TookStep w next r st → (j : ℕ) → (j ≡ r → ⊥)
+    → next.replica j ≡ w.replica j
+row-other w next r st t j n =
+    ap (λ (row : ℕ → Replica). row j) t.row
+    ∙ cond-false (j == r) (going (st ∷ chronicle_of w r)) (w.replica j) (ne_eqb j r n)
+
+module _ (sizes : Sizes) (start : World) (all : List Happening) (r v : ℕ) (m last : Branch) (br : IsBranch m)
+    (top : length last < HEIGHT_LIMIT) where
+  pub offers-all : (ks : List ℕ) (w : World) (rest : List Happening) (y : Branch) (room : ℕ)
+      → IsOnWay sizes start all w (offers-of r ks ++ rest) → ShareKeys w → is_correct w r ≡ true
+      → (w.replica r).standing ≡ running → Chain w v m y ks last
+      → Climbs (self_of w r) v m y (grown ks room) (chronicle_of w r)
+      → Passes w (offers-of r ks) × OfferedAll w (after w (offers-of r ks)) r v m last room ks
+  unfolding offers-of Chain grown after
+  offers-all [] w rest y room on keys c s chain climbs = (passes-none w, record {
+    goes = goes-none w;
+    others = λ j n. refl;
+    going_on = s;
+    climbs = subst (λ (z : Branch). Climbs (self_of w r) v m z room (chronicle_of w r)) chain climbs;
+    voted = λ h n. absurd (omega (arith, n));
+    kept = λ x n. n;
+  })
+  offers-all (k ∷ ks) w rest y room on keys c s (b, f, rec, made, chain) climbs =
+      let next : World = happens w (offer r (of_record k), ample) in
+      let up = chain-up w v m (b ∷ y) ks last chain in
+      let one = offer-one sizes start all w (offers-of r ks ++ rest) r k v m y (grown ks room) b f on keys c s rec made
+      climbs br (omega (arith, up, top)) in
+      let o = one.1 in
+      let goes = offer-goes w next r (took_block o.taken) o.step in
+      let own = row-own w next r (took_block o.taken) o.step in
+      let ownc = ap (λ (x : Replica). x.chronicle) own in
+      let self1 = same-self w next goes.made r in
+      let onn = way-on sizes start all w (offer r (of_record k), ample) (offers-of r ks ++ rest) on one.0 in
+      let climbs1 : Climbs (self_of next r) v m (b ∷ y) (grown ks room) (chronicle_of next r) =
+      (subst (λ (z : Chronicle). Climbs (self_of next r) v m (b ∷ y) (grown ks room) z) (sym ownc)
+      (subst (λ (s : Identity). Climbs s v m (b ∷ y) (grown ks room) (took_block o.taken ∷ chronicle_of w r))
+      (sym self1) o.climbs)) in
+      let more = offers-all ks next rest (b ∷ y) room onn (keys-in w next goes.made keys)
+      (same-correct w next goes.made r ∙ c) (ap (λ (x : Replica). x.standing) own)
+      (chain-later w next goes v m (b ∷ y) ks last chain) climbs1 in
+      let end : World = after next (offers-of r ks) in (
+        passes-one w (offer r (of_record k), ample) (offers-of r ks) one.0 more.0,
+        record {
+          goes = goes-both w next end goes more.1.goes;
+          others = λ j n. more.1.others j n ∙ row-other w next r (took_block o.taken) o.step j n;
+          going_on = more.1.going_on;
+          climbs = subst (λ (s : Identity). Climbs s v m last room (chronicle_of end r)) self1 more.1.climbs;
+          voted = λ h n. elim (cases_lt 0 (length ks)) [
+            | inl p ↦ more.1.voted (subst (λ (z : Chronicle). vheight z < length last) (sym ownc)
+                (voted-low (chronicle_of w r) o.taken (length last) h
+                (let e = ap (λ (z : Branch). length z) o.branch in omega (arith, e, up, p)))) p
+            | inr z ↦
+                let e = chain-end w v m (b ∷ y) ks last chain (omega (arith, z)) in
+                more.1.kept last (subst (λ (x : Chronicle). Among last (voted_blocks x)) (sym ownc)
+                (voted-now (chronicle_of w r) o.taken last (o.branch ∙ e)
+                (o.votes (let i = ap (λ (x : Branch). length x) e in omega (arith, h, i)))))
+          ];
+          kept = λ x n. more.1.kept x (subst (λ (z : Chronicle). Among x (voted_blocks z)) (sym ownc)
+              (voted-grows (took_block o.taken) (chronicle_of w r) x n));
         },
       )

@@ -202,14 +202,17 @@ to_climb l w = suc (highest_voted w (correct_replicas w) - length (leaf (self_of
 abbrev pub others : ℕ → World → List ℕ
 others l w = filter (λ r. not (r == l)) (correct_replicas w)
 
--- A leader makes so many blocks, before anybody else is offered one or any vote is counted. Then the others are offered
--- all, and all votes come to all.
+-- A leader makes so many blocks, before anybody else is offered one. Then the others are offered all.
+unfoldable pub burst : ℕ → ℕ → Phase
+burst n l w =
+    in_turn (make_blocks n l
+    ∷ (λ v. amply (offered_to (others l v) (sent_since (length w.sent) is_proposal v))) ∷ []) w
+
+-- A burst, and only then all votes on it come to all.
 unfoldable pub round : ℕ → ℕ → Phase
 round n l w =
-    let before = length w.sent in
-    in_turn (make_blocks n l
-    ∷ (λ v. amply (offered_to (others l v) (sent_since before is_proposal v)))
-    ∷ (λ v. amply (comes_to (correct_replicas v) (sent_since before is_vote v))) ∷ []) w
+    in_turn (burst n l
+    ∷ (λ v. amply (comes_to (correct_replicas v) (sent_since (length w.sent) is_vote v))) ∷ []) w
 
 -- ---- the client
 

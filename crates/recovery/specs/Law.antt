@@ -1,6 +1,6 @@
 -- The laws that are proved: steps of the statement that nobody is wedged.
 use Rattle.ids.specs.declared.limits.TheConstants.{MOST_BLOCKS, MOST_OF_HEIGHT, HEIGHT_LIMIT}
-use Rattle.std.specs.Prelude.{ℕ, suc, ◌^◌, ◌≡◌, ◌==◌, ◌<◌, ◌≤◌, ◌⊎◌, Bool, true, false, List, [], ◌∷◌, ◌++◌, map, length, count_by, Ok}
+use Rattle.std.specs.Prelude.{ℕ, suc, ◌^◌, ◌≡◌, ◌==◌, ◌<◌, ◌≤◌, ◌+◌, ◌⊎◌, Bool, true, false, List, [], ◌∷◌, ◌++◌, map, length, count_by, Ok}
 use Rattle.std.specs.List.{AllByRecursion, list_all}
 use Rattle.ids.specs.declared.fault.Fault.TheVariants as fault
 use Rattle.ids.specs.Sizes.{Sizes, leader}
@@ -12,9 +12,9 @@ use Rattle.definitions.specs.Agreement.{MayBeCertified}
 use Rattle.definitions.specs.Branches.{Block, Branch, just1, Extends}
 use Rattle.definitions.specs.Checks.{Identity, command_verifies}
 use Rattle.definitions.specs.Chronicles.{Admitted, Chronicle, voted_blocks, taken_blocks, tree, window, vheight}
-use Rattle.definitions.specs.Chronicles.{Step.took_block, horizon, standing_blocks, executed, is_safe}
+use Rattle.definitions.specs.Chronicles.{Step.took_block, horizon, standing_blocks, executed, is_safe, lock}
 use Rattle.definitions.specs.Digests.{digest_of}
-use Rattle.definitions.specs.Frames.{Frame}
+use Rattle.definitions.specs.Frames.{Command, Frame}
 use Rattle.definitions.specs.Grounds.{is_justified, is_own_certified, may_lead_from}
 use Rattle.definitions.specs.Rulings.{Input, ruling, due}
 use Rattle.definitions.specs.Runs.{run, after}
@@ -25,7 +25,7 @@ use Rattle.definitions.specs.Worlds.{World, Sent, Happening, new_world, is_corre
 use Rattle.linear_law.specs.Law.{AfterEachRun, correct_family}
 use Rattle.recovery.specs.Correct.{OfCorrect, AllGoOn, ShareKeys, chronicle_of, lock_of, view_of, correct_with}
 use Rattle.recovery.specs.Correct.{correct_replicas}
-use Rattle.recovery.specs.Healing.{view_to_come, come_to, highest_voted, fetch_block}
+use Rattle.recovery.specs.Healing.{view_to_come, come_to, highest_voted, fetch_block, burst}
 use Rattle.recovery.specs.NeverWedged.{healer, ground_of, NobodyPruned, HasViews}
 
 -- ---- locks
@@ -228,6 +228,53 @@ ProposalsAreTaken =
     → ((check (self_of w u) f ≡ rejected fault.BadTag)
     ⊎ IsTakenIn w u v (check (self_of w u) f) b parent)
     × IsTakenIn w u v (check_offer (self_of w u) f) b parent))
+
+-- A replica is in this view, knows y, which goes through m, and may vote for a block over y that justifies m: m has
+-- grounds, the lock is m or lower, and all is clear down to m. There is room for so many blocks more.
+pub record Climbs (self : Identity) (v : ℕ) (m y : Branch) (room : ℕ) (c : Chronicle) : Type 0 where
+  pub in_view : view self.sizes c ≡ v
+  pub stands : Among y (window c)
+  pub over : Extends y m
+  pub ground : is_justified m c ≡ true
+  pub reach : horizon c ≤ length m
+  pub safe : (lock c ≡ m) ⊎ (length (lock c) < length m)
+  pub clear : clear_above (length m) y (standing_blocks c) ≡ true
+  pub trees : length (window c) + room ≤ MOST_BLOCKS
+  pub heights : (h : ℕ) → length y < h → count_by (λ x. length x == h) (window c) < MOST_OF_HEIGHT
+
+-- A leader of this view makes blocks that justify m: its highest certificate is for m, and each command that waits with it
+-- verifies for all.
+pub record Leads (w : World) (l v : ℕ) (m : Branch) (room : ℕ) : Type 0 where
+  pub leader_is : leader w.sizes v ≡ l
+  pub high : high_of w l ≡ m
+  pub climbs : Climbs (self_of w l) v m (leaf (self_of w l) (chronicle_of w l)) room (chronicle_of w l)
+  pub waiting : (c : Command) → Among c (pending (chronicle_of w l))
+      → OfCorrect w (λ r. command_verifies (self_of w r) c ≡ true)
+
+-- No event of a burst was refused by the run, and all correct replicas go on. Each voted for the last block, which is n
+-- higher than m and goes through it, and which is the leader's leaf.
+pub record IsVotedForByAll (w last : World) (l n : ℕ) (m x : Branch) : Type 0 where
+  pub ran : run w (burst n l w) ≡ Ok last
+  pub going_on : AllGoOn last
+  pub high : length x ≡ length m + n
+  pub over : Extends x m
+  pub leaf_is : leaf (self_of w l) (chronicle_of last l) ≡ x
+  pub voted : OfCorrect last (λ r. Among x (voted_blocks (chronicle_of last r)))
+  pub stands : OfCorrect last (λ r. Among x (window (chronicle_of last r)))
+  pub session : last.session ≡ w.session
+
+-- A burst from a block m with which all may climb is voted for by all, where it ends above all that they voted for.
+abbrev pub BurstsAreVotedFor : Type 0
+BurstsAreVotedFor =
+    (sizes : Sizes) (is_faulty : ℕ → Bool) (ring : ℕ → Keyring) (hs : List Happening) (w : World)
+    (l v n : ℕ) (m : Branch) → ShareKeys (new_world sizes is_faulty ring)
+    → ArePremises (new_world sizes is_faulty ring) (hs ++ burst n l w)
+    → run (new_world sizes is_faulty ring) hs ≡ Ok w → AllGoOn w → is_correct w l ≡ true
+    → Leads w l v m n → leaf (self_of w l) (chronicle_of w l) ≡ m
+    → OfCorrect w (λ r. Climbs (self_of w r) v m m n (chronicle_of w r))
+    → OfCorrect w (λ r. vheight (chronicle_of w r) < length m + n) → 0 < n → length m + n < HEIGHT_LIMIT
+    → IsVotedForByAll w (after w (burst n l w)) l n m
+    (leaf (self_of w l) (chronicle_of (after w (burst n l w)) l))
 
 -- ---- decisions
 

@@ -7,6 +7,7 @@ ghost use Rattle.recovery.specs.Law.{HighestLocksAreSafe, LocksMayBeLedFrom};
 ghost use Rattle.recovery.specs.Law.{JustifiedBlocksAreHeld, GroundsAreHeld};
 ghost use Rattle.recovery.specs.Law.{TimeoutsBringTogether, ACorrectLeaderComes, CopiesAreTaken, ProposalsAreTaken};
 ghost use Rattle.recovery.specs.Law.{HighestAreCertified, MissingBlocksAreFetched, ThreeMoreDecide};
+ghost use Rattle.recovery.specs.Law.{BurstsAreVotedFor};
 
 /// A correct replica of the highest lock: no correct lock is above it or beside it, so a block that justifies
 /// it is safe for all.
@@ -63,4 +64,9 @@ pub fn missing_blocks_are_fetched()
 /// Who took three more blocks over a block, each certified by the next, executed that block.
 pub fn three_more_decide()
     ensures { ThreeMoreDecide }
+{}
+
+/// A leader's burst, from a block from which all may climb, ends with a block for which all vote.
+pub fn bursts_are_voted_for()
+    ensures { BurstsAreVotedFor }
 {}
