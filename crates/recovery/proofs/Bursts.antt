@@ -1,0 +1,4 @@
+use Rattle.recovery.specs.Law.{BurstsAreVotedFor}
+
+pub bursts-voted : BurstsAreVotedFor
+bursts-voted = ?

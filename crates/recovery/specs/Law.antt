@@ -1,0 +1,290 @@
+-- The laws that are proved: steps of the statement that nobody is wedged.
+use Rattle.ids.specs.declared.limits.TheConstants.{MOST_BLOCKS, MOST_OF_HEIGHT, HEIGHT_LIMIT}
+use Rattle.std.specs.Prelude.{ℕ, suc, ◌^◌, ◌≡◌, ◌==◌, ◌<◌, ◌≤◌, ◌+◌, ◌⊎◌, Bool, true, false, List, [], ◌∷◌, ◌++◌, map, length, count_by, Ok}
+use Rattle.std.specs.List.{AllByRecursion, list_all}
+use Rattle.ids.specs.declared.fault.Fault.TheVariants as fault
+use Rattle.ids.specs.Sizes.{Sizes, leader}
+use Rattle.definitions.specs.Keyrings.{Keyring}
+use Rattle.definitions.specs.Premises.{ArePremises}
+use Rattle.definitions.specs.Lists.{Among, AreDistinct}
+use Rattle.definitions.specs.Admission.{Checked, passes, rejected, check, check_offer, check_gathered}
+use Rattle.definitions.specs.Agreement.{MayBeCertified}
+use Rattle.definitions.specs.Branches.{Block, Branch, just1, Extends}
+use Rattle.definitions.specs.Checks.{Identity, command_verifies}
+use Rattle.definitions.specs.Chronicles.{Admitted, Chronicle, voted_blocks, taken_blocks, tree, window, vheight}
+use Rattle.definitions.specs.Chronicles.{Step.took_block, horizon, standing_blocks, executed, is_safe, lock}
+use Rattle.definitions.specs.Digests.{digest_of}
+use Rattle.definitions.specs.Frames.{Command, Frame}
+use Rattle.definitions.specs.Grounds.{is_justified, is_own_certified, may_lead_from}
+use Rattle.definitions.specs.Rulings.{Input, ruling, due}
+use Rattle.definitions.specs.Runs.{run, after}
+use Rattle.definitions.specs.Sendings.{block_frame, proposal_frame}
+use Rattle.definitions.specs.States.{Justified, view, votes, qc_high, leaf, pending}
+use Rattle.definitions.specs.Trees.{clear_above}
+use Rattle.definitions.specs.Worlds.{World, Sent, Happening, new_world, is_correct, self_of}
+use Rattle.linear_law.specs.Law.{AfterEachRun, correct_family}
+use Rattle.recovery.specs.Correct.{OfCorrect, AllGoOn, ShareKeys, chronicle_of, lock_of, view_of, correct_with}
+use Rattle.recovery.specs.Correct.{correct_replicas}
+use Rattle.recovery.specs.Healing.{view_to_come, come_to, highest_voted, fetch_block, burst}
+use Rattle.recovery.specs.NeverWedged.{healer, ground_of, NobodyPruned, HasViews}
+
+-- ---- locks
+
+-- No correct replica's lock is above this block, nor beside it. So each may vote for any block that justifies it,
+-- higher than what it voted for.
+pub record IsSafeForAll (w : World) (m : Branch) : Type 0 where
+  pub locks : OfCorrect w (λ r. (lock_of w r ≡ m) ⊎ (length (lock_of w r) < length m))
+  pub votes : OfCorrect w (λ r. (x : Branch) → just1 x ≡ m → vheight (chronicle_of w r) < length x
+      → is_safe x (chronicle_of w r) ≡ true)
+
+-- who leads a healing is correct, and its lock is safe for all
+abbrev pub HighestLocksAreSafe : Type 0
+HighestLocksAreSafe =
+    AfterEachRun (λ w. (is_correct w (healer w) ≡ true) × IsSafeForAll w (lock_of w (healer w)))
+
+-- a correct replica that took any block may lead from its lock
+abbrev pub LocksMayBeLedFrom : Type 0
+LocksMayBeLedFrom =
+    AfterEachRun (λ w. OfCorrect w (λ r. (taken_blocks (chronicle_of w r) ≡ [] → ⊥)
+    → may_lead_from (self_of w r) (lock_of w r) (chronicle_of w r) ≡ true))
+
+-- ---- what a lock stands on
+
+-- more than f correct replicas took this block and each one below it
+abbrev pub IsHeld : World → Branch → Type 0
+IsHeld w b = (x : Branch) → Extends b x → w.sizes.faults < correct_with w tree x
+
+-- so is what each block justifies that a correct replica took
+abbrev pub JustifiedBlocksAreHeld : Type 0
+JustifiedBlocksAreHeld =
+    AfterEachRun (λ w. OfCorrect w (λ r. (a : Admitted) → Among a (taken_blocks (chronicle_of w r))
+    → IsHeld w (just1 a.branch)))
+
+-- What a healing brings to all justifies the lock from which it leads. More than f correct replicas took it, and
+-- still have it where nobody pruned.
+pub record IsGround (w : World) (b : Branch) : Type 0 where
+  pub over : just1 b ≡ lock_of w (healer w)
+  pub own : Among b (tree (chronicle_of w (healer w)))
+  pub held : IsHeld w b
+  pub kept : NobodyPruned w → (x : Branch) → Extends b x → w.sizes.faults < correct_with w window x
+
+-- so it is after each run
+abbrev pub GroundsAreHeld : Type 0
+GroundsAreHeld = AfterEachRun (λ w. IsGround w (ground_of w))
+
+-- ---- views
+
+-- a replica is as it was, but for its view
+pub record OnlyViewMoved (self : Identity) (before now : Chronicle) : Type 0 where
+  pub taken : taken_blocks now ≡ taken_blocks before
+  pub voted : voted_blocks now ≡ voted_blocks before
+  pub forgotten : horizon now ≡ horizon before
+  pub kept : (b : Branch) → votes self.sizes b now ≡ votes self.sizes b before
+  pub certified : qc_high self.sizes now ≡ qc_high self.sizes before
+  pub leaf_is : leaf self now ≡ leaf self before
+  pub waiting : pending now ≡ pending before
+
+-- Timeouts were refused nowhere. All correct replicas go on, in this view, and nothing else of them or of a client
+-- changed.
+pub record CameTo (v : ℕ) (w last : World) : Type 0 where
+  pub ran : run w (come_to v w) ≡ Ok last
+  pub going_on : AllGoOn last
+  pub views : OfCorrect last (λ r. view_of last r ≡ v)
+  pub rest : OfCorrect last (λ r. OnlyViewMoved (self_of w r) (chronicle_of w r) (chronicle_of last r))
+  pub session : last.session ≡ w.session
+
+-- timeouts alone bring all correct replicas of any world into any view that none of them passed
+abbrev pub TimeoutsBringTogether : Type 0
+TimeoutsBringTogether =
+    (w : World) (v : ℕ) → AllGoOn w → v < 2 ^ 64 → OfCorrect w (λ r. view_of w r ≤ v)
+    → CameTo v w (after w (come_to v w))
+
+-- so they come into one that a correct replica leads, while views are left
+abbrev pub ACorrectLeaderComes : Type 0
+ACorrectLeaderComes =
+    (w : World) (l : ℕ) → is_correct w l ≡ true → AllGoOn w → HasViews w
+    → (leader w.sizes (view_to_come l w) ≡ l)
+    × CameTo (view_to_come l w) w (after w (come_to (view_to_come l w) w))
+
+-- ---- highest certificates
+
+-- what a correct replica's highest certificate is for
+abbrev pub high_of : World → ℕ → Branch
+high_of w r = (qc_high w.sizes (chronicle_of w r)).block
+
+-- It is genesis, or a quorum may have voted for it. So it is no higher than what some correct replica voted for.
+abbrev pub HighestAreCertified : Type 0
+HighestAreCertified =
+    AfterEachRun (λ w. OfCorrect w (λ r.
+    ((high_of w r ≡ []) ⊎ MayBeCertified (correct_family w) (high_of w r))
+    × (length (high_of w r) ≤ highest_voted w (correct_replicas w))))
+
+-- ---- blocks that are asked for
+
+-- There is a place for this block over this parent: the parent stands in the tree, the block justifies one below
+-- itself that isn't pruned, and no limit is met.
+pub record HasPlace (c : Chronicle) (b : Block) (parent : Branch) : Type 0 where
+  pub stands : Among parent (window c)
+  pub below : b.justify < suc (length parent)
+  pub reach : horizon c ≤ b.justify
+  pub room : length (window c) < MOST_BLOCKS
+  pub uncrowded : count_by (λ x. length x == suc (length parent)) (window c) < MOST_OF_HEIGHT
+  pub low : suc (length parent) < HEIGHT_LIMIT
+
+-- a correct replica, and the block as it took it
+abbrev pub IsHolder : World → Branch → ℕ × Admitted → Type 0
+IsHolder w x h =
+    (is_correct w h.0 ≡ true) × Among h.1 (taken_blocks (chronicle_of w h.0)) × (h.1.branch ≡ x)
+
+-- what was checked passes, and comes to a step by which the replica takes this block, if it doesn't stand there
+abbrev pub IsTaken : World → ℕ → Checked → Branch → Type 0
+IsTaken w u checked x =
+    (i : Input) × (a : Admitted) × (checked ≡ passes i)
+    × (ruling (self_of w u) i (chronicle_of w u) ≡ due (took_block a)) × (a.branch ≡ x)
+
+-- A correct replica takes a block of which it gathers the copies of more than f other correct ones, whatever their
+-- certificates, where there is a place for it.
+abbrev pub CopiesAreTaken : Type 0
+CopiesAreTaken =
+    AfterEachRun (λ w. ShareKeys w → OfCorrect w (λ u. (b : Block) (parent : Branch) (holders : List (ℕ × Admitted))
+    → HasPlace (chronicle_of w u) b parent → AreDistinct (map (λ h. h.0) holders)
+    → AllByRecursion (IsHolder w (b ∷ parent)) holders → w.sizes.faults < length holders
+    → IsTaken w u
+    (check_gathered (self_of w u) (map (λ h. block_frame (self_of w h.0) u h.1) holders)) (b ∷ parent)))
+
+-- a replica was only asked for blocks: it is as it was
+abbrev pub OnlyAsked : Identity → Chronicle → Chronicle → Type 0
+OnlyAsked self before now =
+    OnlyViewMoved self before now × (view self.sizes now ≡ view self.sizes before)
+
+-- a replica was only asked, and then took this block, without a vote
+pub record OnlyTook (self : Identity) (x : Branch) (before now : Chronicle) : Type 0 where
+  pub asked : Chronicle
+  pub only : OnlyAsked self before asked
+  pub taken : Admitted
+  pub is : now ≡ took_block taken ∷ asked
+  pub block_is : taken.branch ≡ x
+  pub no_vote : taken.voted ≡ false
+  pub new_or_there : (taken.new ≡ true) ⊎ ((taken.new ≡ false) × Among x (window asked))
+
+-- A replica fetched a block: no event was refused by the run, all go on, the block stands with it, and the others were
+-- only asked.
+pub record IsFetched (w last : World) (u : ℕ) (x : Branch) : Type 0 where
+  pub ran : run w (fetch_block (digest_of x) u w) ≡ Ok last
+  pub going_on : AllGoOn last
+  pub stands : Among x (window (chronicle_of last u))
+  pub own : OnlyTook (self_of w u) x (chronicle_of w u) (chronicle_of last u)
+  pub others : OfCorrect w (λ r. (r ≡ u → ⊥) → OnlyAsked (self_of w r) (chronicle_of w r) (chronicle_of last r))
+  pub session : last.session ≡ w.session
+
+-- A correct replica that lacks a block, and has a place for it, gets it by asking, where more than f correct replicas
+-- have it: after any run whose premises hold, and hold of these events.
+abbrev pub MissingBlocksAreFetched : Type 0
+MissingBlocksAreFetched =
+    (sizes : Sizes) (is_faulty : ℕ → Bool) (ring : ℕ → Keyring) (hs : List Happening) (w : World)
+    (u : ℕ) (b : Block) (parent : Branch) → ShareKeys (new_world sizes is_faulty ring)
+    → ArePremises (new_world sizes is_faulty ring) (hs ++ fetch_block (digest_of (b ∷ parent)) u w)
+    → run (new_world sizes is_faulty ring) hs ≡ Ok w → AllGoOn w → is_correct w u ≡ true
+    → HasPlace (chronicle_of w u) b parent → (Among (b ∷ parent) (window (chronicle_of w u)) → ⊥)
+    → w.sizes.faults < correct_with w window (b ∷ parent)
+    → IsFetched w (after w (fetch_block (digest_of (b ∷ parent)) u w)) u (b ∷ parent)
+
+-- ---- blocks of a leader
+
+-- A replica may vote for this block over this parent in this view: it is in that view, the block is safe for it, and
+-- all is clear down to what the block justifies.
+pub record MayVoteFor (w : World) (u v : ℕ) (b : Block) (parent : Branch) : Type 0 where
+  pub in_view : view_of w u ≡ v
+  pub safe : is_safe (b ∷ parent) (chronicle_of w u) ≡ true
+  pub commands : list_all (command_verifies (self_of w u)) b.commands ≡ true
+  pub clear_below : clear_above b.justify parent (standing_blocks (chronicle_of w u)) ≡ true
+
+-- what was checked passes, and comes to a step by which the replica takes this block, and votes for it where it may
+abbrev pub IsTakenIn : World → ℕ → ℕ → Checked → Block → Branch → Type 0
+IsTakenIn w u v checked b parent =
+    (i : Input) × (a : Admitted) × (checked ≡ passes i)
+    × (ruling (self_of w u) i (chronicle_of w u) ≡ due (took_block a)) × (a.branch ≡ b ∷ parent)
+    × (MayVoteFor w u v b parent → a.voted ≡ true)
+
+-- A frame is of this block: a proposal that a correct leader of this view made and sent.
+pub record IsProposalOf (w : World) (v : ℕ) (b : Block) (parent : Branch) (f : Frame) : Type 0 where
+  pub correct : is_correct w (leader w.sizes v) ≡ true
+  pub sent : Sent
+  pub recorded : Among sent w.sent
+  pub made : Justified
+  pub is : f ≡ proposal_frame (self_of w (leader w.sizes v)) v made
+  pub frame_is : f ≡ sent.frame
+  pub block_is : made.block ≡ b ∷ parent
+  pub justified : made.certificate.digest ≡ digest_of (just1 (b ∷ parent))
+
+-- A correct replica takes a correct leader's block, where there is a place for it and what it justifies has grounds:
+-- where the frame comes, or else where it is offered; and votes for it where it may.
+abbrev pub ProposalsAreTaken : Type 0
+ProposalsAreTaken =
+    AfterEachRun (λ w. ShareKeys w → (v : ℕ) (b : Block) (parent : Branch) (f : Frame) → IsProposalOf w v b parent f
+    → OfCorrect w (λ u. HasPlace (chronicle_of w u) b parent
+    → (is_justified (just1 (b ∷ parent)) (chronicle_of w u) ≡ true)
+    ⊎ (is_own_certified (self_of w u) (just1 (b ∷ parent)) (chronicle_of w u) ≡ true)
+    → ((check (self_of w u) f ≡ rejected fault.BadTag)
+    ⊎ IsTakenIn w u v (check (self_of w u) f) b parent)
+    × IsTakenIn w u v (check_offer (self_of w u) f) b parent))
+
+-- A replica is in this view, knows y, which goes through m, and may vote for a block over y that justifies m: m has
+-- grounds, the lock is m or lower, and all is clear down to m. There is room for so many blocks more.
+pub record Climbs (self : Identity) (v : ℕ) (m y : Branch) (room : ℕ) (c : Chronicle) : Type 0 where
+  pub in_view : view self.sizes c ≡ v
+  pub stands : Among y (window c)
+  pub over : Extends y m
+  pub ground : is_justified m c ≡ true
+  pub reach : horizon c ≤ length m
+  pub safe : (lock c ≡ m) ⊎ (length (lock c) < length m)
+  pub clear : clear_above (length m) y (standing_blocks c) ≡ true
+  pub trees : length (window c) + room ≤ MOST_BLOCKS
+  pub heights : (h : ℕ) → length y < h → count_by (λ x. length x == h) (window c) < MOST_OF_HEIGHT
+
+-- A leader of this view makes blocks that justify m: its highest certificate is for m, and each command that waits with it
+-- verifies for all.
+pub record Leads (w : World) (l v : ℕ) (m : Branch) (room : ℕ) : Type 0 where
+  pub leader_is : leader w.sizes v ≡ l
+  pub high : high_of w l ≡ m
+  pub climbs : Climbs (self_of w l) v m (leaf (self_of w l) (chronicle_of w l)) room (chronicle_of w l)
+  pub waiting : (c : Command) → Among c (pending (chronicle_of w l))
+      → OfCorrect w (λ r. command_verifies (self_of w r) c ≡ true)
+
+-- No event of a burst was refused by the run, and all correct replicas go on. Each voted for the last block, which is n
+-- higher than m and goes through it, and which is the leader's leaf.
+pub record IsVotedForByAll (w last : World) (l n : ℕ) (m x : Branch) : Type 0 where
+  pub ran : run w (burst n l w) ≡ Ok last
+  pub going_on : AllGoOn last
+  pub high : length x ≡ length m + n
+  pub over : Extends x m
+  pub leaf_is : leaf (self_of w l) (chronicle_of last l) ≡ x
+  pub voted : OfCorrect last (λ r. Among x (voted_blocks (chronicle_of last r)))
+  pub stands : OfCorrect last (λ r. Among x (window (chronicle_of last r)))
+  pub session : last.session ≡ w.session
+
+-- A burst from a block m with which all may climb is voted for by all, where it ends above all that they voted for.
+abbrev pub BurstsAreVotedFor : Type 0
+BurstsAreVotedFor =
+    (sizes : Sizes) (is_faulty : ℕ → Bool) (ring : ℕ → Keyring) (hs : List Happening) (w : World)
+    (l v n : ℕ) (m : Branch) → ShareKeys (new_world sizes is_faulty ring)
+    → ArePremises (new_world sizes is_faulty ring) (hs ++ burst n l w)
+    → run (new_world sizes is_faulty ring) hs ≡ Ok w → AllGoOn w → is_correct w l ≡ true
+    → Leads w l v m n → leaf (self_of w l) (chronicle_of w l) ≡ m
+    → OfCorrect w (λ r. Climbs (self_of w r) v m m n (chronicle_of w r))
+    → OfCorrect w (λ r. vheight (chronicle_of w r) < length m + n) → 0 < n → length m + n < HEIGHT_LIMIT
+    → IsVotedForByAll w (after w (burst n l w)) l n m
+    (leaf (self_of w l) (chronicle_of (after w (burst n l w)) l))
+
+-- ---- decisions
+
+-- this block stands on that one, and justifies it
+abbrev pub IsNext : Branch → Branch → Type 0
+IsNext x y = (b : Block) × (y ≡ b ∷ x) × (b.justify ≡ length x)
+
+-- Who took three more blocks over a block, each on the one before and justifying that, executed the block: its last
+-- executed branch goes through it.
+abbrev pub ThreeMoreDecide : Type 0
+ThreeMoreDecide =
+    AfterEachRun (λ w. OfCorrect w (λ r. (x y z : Branch) (a : Admitted) → IsNext x y → IsNext y z → IsNext z a.branch
+    → Among a (taken_blocks (chronicle_of w r)) → Extends (executed (chronicle_of w r)) x))

@@ -1,0 +1,4 @@
+pub mod Correct
+pub mod Healing
+pub mod NeverWedged
+pub mod Law

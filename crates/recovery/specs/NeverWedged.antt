@@ -1,0 +1,84 @@
+-- Never wedged: whatever at most f faulty replicas and any clients did in a run, healing brings a waiting correct
+-- client its receipt. It says nothing of time: that such events come about isn't claimed.
+use Rattle.ids.specs.declared.limits.TheConstants.{MOST_BLOCKS, MOST_OF_HEIGHT, HEIGHT_LIMIT, BELOW_HORIZON}
+use Rattle.std.specs.Prelude.{ℕ, ◌+◌, ◌-◌, ◌^◌, ◌≡◌, ◌<◌, ◌≤◌, ◌==◌, ◌⊎◌, true, false, Bool, List, ◌++◌, length}
+use Rattle.std.specs.Prelude.{count_by, Some, slice_get, Ok}
+use Rattle.ids.specs.Sizes.{Sizes, AreSizes, replicas, client_party}
+use Rattle.definitions.specs.Lists.{Among}
+use Rattle.definitions.specs.Branches.{Branch, Extends}
+use Rattle.definitions.specs.Careful.{AreCareful}
+use Rattle.definitions.specs.Chronicles.{window, horizon}
+use Rattle.definitions.specs.Frames.{Command}
+use Rattle.definitions.specs.Frames as frame
+use Rattle.definitions.specs.Keyrings.{Keyring}
+use Rattle.definitions.specs.Premises.{ArePremises}
+use Rattle.definitions.specs.Runs.{run}
+use Rattle.definitions.specs.Worlds.{World, Sent, AcceptedBy, Happening, new_world}
+use Rattle.recovery.specs.Correct.{OfCorrect, AllGoOn, ShareKeys, chronicle_of, lock_of, view_of, correct_replicas}
+use Rattle.recovery.specs.Correct.{correct_with}
+use Rattle.recovery.specs.Healing.{highest_locked, highest_voted, over_lock, heal}
+
+-- the leader of a world's healing
+abbrev pub healer : World → ℕ
+healer w = highest_locked w (correct_replicas w)
+
+-- what justifies its lock
+abbrev pub ground_of : World → Branch
+ground_of w = over_lock (healer w) w
+
+-- a correct replica's views aren't spent: there are so many more as there are replicas
+abbrev pub HasViews : World → Type 0
+HasViews w = OfCorrect w (λ r. view_of w r + replicas w.sizes < 2 ^ 64)
+
+-- how many blocks healing makes, at most
+abbrev pub blocks_made : World → ℕ
+blocks_made w = (highest_voted w (correct_replicas w) - length (lock_of w (healer w))) + 6
+
+-- There is room in each correct replica's tree for the blocks that healing brings and makes: two of each height, and
+-- none too high.
+pub record HasRoom (w : World) : Type 0 where
+  pub trees : OfCorrect w (λ r.
+      length (window (chronicle_of w r)) + (length (ground_of w) + blocks_made w) ≤ MOST_BLOCKS)
+  pub heights : OfCorrect w (λ r. (h : ℕ)
+      → count_by (λ x. length x == h) (window (chronicle_of w r)) + 2 ≤ MOST_OF_HEIGHT)
+  pub low : length (lock_of w (healer w)) + blocks_made w < HEIGHT_LIMIT
+
+-- no correct replica has forgotten any block
+abbrev pub NobodyPruned : World → Type 0
+NobodyPruned w = OfCorrect w (λ r. horizon (chronicle_of w r) ≡ 0)
+
+-- Each correct replica voted carefully, and none is left behind: what it lacks below the leader's lock, in its own
+-- reach, more than f correct ones still have.
+pub record PrunedWell (w : World) : Type 0 where
+  pub careful : OfCorrect w (λ r. AreCareful (chronicle_of w r))
+  pub held : OfCorrect w (λ r. (x : Branch) → Extends (ground_of w) x
+      → horizon (chronicle_of w r) ≤ length x + BELOW_HORIZON
+      → Among x (window (chronicle_of w r)) ⊎ (w.sizes.faults < correct_with w window x))
+
+-- A correct client waits, and frame k of the record is its request.
+pub record IsAsked (w : World) (k client : ℕ) : Type 0 where
+  pub client_is : client < w.sizes.clients
+  pub correct : w.is_faulty (client_party client) ≡ false
+  pub waits : (w.session client).waiting ≡ true
+  pub sent : Sent
+  pub command : Command
+  pub recorded : slice_get w.sent k ≡ Some sent
+  pub sender : sent.sender ≡ client_party client
+  pub request : sent.frame ≡ frame.request command
+  pub seq : command.seq ≡ (w.session client).used
+
+-- the client has a receipt for its request of this number
+abbrev pub IsAnswered : World → ℕ → ℕ → Type 0
+IsAnswered w client seq =
+    (r : AcceptedBy) × Among r w.receipts × (r.client ≡ client) × (r.receipt.seq ≡ seq)
+
+-- After any run whose premises hold, and hold of what heals it: where each correct replica goes on, views and room
+-- are left, and nobody pruned what others lack, healing is refused no event, and the client has its receipt.
+abbrev pub NeverWedged : Type 0
+NeverWedged =
+    (sizes : Sizes) (is_faulty : ℕ → Bool) (ring : ℕ → Keyring) (hs : List Happening) (w : World)
+    (k client : ℕ) → AreSizes sizes → ShareKeys (new_world sizes is_faulty ring)
+    → ArePremises (new_world sizes is_faulty ring) (hs ++ heal k w)
+    → run (new_world sizes is_faulty ring) hs ≡ Ok w → AllGoOn w → HasViews w → HasRoom w
+    → NobodyPruned w ⊎ PrunedWell w → IsAsked w k client
+    → (last : World) × (run w (heal k w) ≡ Ok last) × IsAnswered last client (w.session client).used

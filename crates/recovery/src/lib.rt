@@ -1,0 +1,72 @@
+//! Laws of recovery, over the definitions alone; no code runs here. Each stands as the contract of a
+//! function with an empty body. They are steps to the statement that correct parties are never wedged,
+//! whatever faulty ones did before (`specs/NeverWedged`), which isn't proved as a whole.
+#![tactic(auto)]
+
+ghost use Rattle.recovery.specs.Law.{HighestLocksAreSafe, LocksMayBeLedFrom};
+ghost use Rattle.recovery.specs.Law.{JustifiedBlocksAreHeld, GroundsAreHeld};
+ghost use Rattle.recovery.specs.Law.{TimeoutsBringTogether, ACorrectLeaderComes, CopiesAreTaken, ProposalsAreTaken};
+ghost use Rattle.recovery.specs.Law.{HighestAreCertified, MissingBlocksAreFetched, ThreeMoreDecide};
+ghost use Rattle.recovery.specs.Law.{BurstsAreVotedFor};
+
+/// A correct replica of the highest lock: no correct lock is above it or beside it, so a block that justifies
+/// it is safe for all.
+pub fn highest_locks_are_safe()
+    ensures { HighestLocksAreSafe }
+{}
+
+/// A correct replica may lead from its lock, but where it never took a block.
+pub fn locks_may_be_led_from()
+    ensures { LocksMayBeLedFrom }
+{}
+
+/// Whatever a correct replica took: more than f correct ones took what it justifies, and all below that.
+pub fn justified_blocks_are_held()
+    ensures { JustifiedBlocksAreHeld }
+{}
+
+/// So more than f correct replicas took the block that justifies the highest lock.
+pub fn grounds_are_held()
+    ensures { GroundsAreHeld }
+{}
+
+/// Timeouts alone bring all correct replicas into any view that none of them passed; nothing else changes.
+pub fn timeouts_bring_together()
+    ensures { TimeoutsBringTogether }
+{}
+
+/// So they come into a view that a correct replica leads, while views are left.
+pub fn a_correct_leader_comes()
+    ensures { ACorrectLeaderComes }
+{}
+
+/// A correct replica takes a block of which it gathers the copies of more than f correct ones.
+pub fn copies_are_taken()
+    ensures { CopiesAreTaken }
+{}
+
+/// A correct replica takes a correct leader's block on grounds, and votes for it where it may.
+pub fn proposals_are_taken()
+    ensures { ProposalsAreTaken }
+{}
+
+/// A correct replica's highest certificate is for a block for which a quorum may have voted, or genesis; so it
+/// is no higher than what some correct replica voted for.
+pub fn highest_are_certified()
+    ensures { HighestAreCertified }
+{}
+
+/// A correct replica gets a block that it lacks by asking, where more than f correct replicas have it.
+pub fn missing_blocks_are_fetched()
+    ensures { MissingBlocksAreFetched }
+{}
+
+/// Who took three more blocks over a block, each certified by the next, executed that block.
+pub fn three_more_decide()
+    ensures { ThreeMoreDecide }
+{}
+
+/// A leader's burst, from a block from which all may climb, ends with a block for which all vote.
+pub fn bursts_are_voted_for()
+    ensures { BurstsAreVotedFor }
+{}
