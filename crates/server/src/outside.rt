@@ -12,6 +12,7 @@ use signed_frames::Sending;
 use std::alloc::{AllocError, Global};
 use std::sync::Wait;
 use std::time::{Clock, Instant};
+use tuning::QUESTION_PAUSE_MILLIS;
 
 /// The frames of copies.
 fn copies_of(alloc: Global, copies: &[BlockCopy]) -> Result<Vec<Bytes>, AllocError> {
@@ -68,9 +69,10 @@ impl Outgoing for Outside<'_, '_> {
 
 /// The questions stand under the replica's lock, where its doorkeeper learns on whose account a block comes.
 impl Questioned for Outside<'_, '_> {
+    /// The first question goes out after a pause: votes that give grounds are mostly on their way.
     fn need<R: Wait + Clock>(&self, rt: &R, block: Digest, payer: ReplicaId) {
-        let now = self.now(rt);
-        let _refused = self.station.lock(rt).questions.need(block, payer, None, now);
+        let due = self.now(rt).saturating_add(QUESTION_PAUSE_MILLIS);
+        let _refused = self.station.lock(rt).questions.need(block, payer, None, due);
     }
 
     fn need_below<R: Wait + Clock>(
