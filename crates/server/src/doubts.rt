@@ -1,4 +1,4 @@
-//! Frames that a replica refuses though their sender made them: their certificate isn't right for it.
+//! Frames that a replica doubts: their sender made them, and their certificate isn't right for it.
 
 ghost use Rattle.std.specs.Prelude.{◌≡◌, IfNone, IfSome, false, true};
 ghost use Rattle.definitions.specs.Admission.{own_tag_verifies};
@@ -240,7 +240,7 @@ fn ask<R: Wait + Log>(rt: &R, station: &Station<'_>, again: u64, second: u64) ->
         return again;
     };
     let (number, sender) = (station.number().0, doubt.sender.0);
-    warn!(rt; "replica {number} refuses frames of replica {sender}: in their certificates votes aren't right for it, of \
+    warn!(rt; "replica {number} doubts certificates of replica {sender}: votes in them aren't right for it, of \
         replicas{doubt}");
     second.saturating_add(WARNING_PAUSE_SECONDS)
 }
