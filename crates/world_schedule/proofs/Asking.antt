@@ -47,6 +47,9 @@ use Rattle.admission.specs.declared.input.Input as entering
 use Rattle.admission.specs.declared.input.Input.TheVariants as entry
 use Rattle.replica.specs.Steps.{Shows, Stepped}
 use Rattle.signed_frames.specs.Outs.{SentBytes, sent_of}
+use Rattle.world_schedule.specs.declared.way.Way.{Way}
+use Rattle.world_schedule.specs.declared.way.Way.TheVariants.{Brought, Offered}
+use Rattle.world_schedule.specs.Asking.{checks_of}
 use Rattle.world_schedule.specs.declared.effect.Effect.{Effect}
 use Rattle.world_schedule.specs.Turns.{admits, checked, TellsReaction, Takes, TakesBytes, TakesCopies}
 use Rattle.world_schedule.specs.Turns.{IsMove, asked_by}
@@ -183,7 +186,7 @@ when-right : (lack : Option (ℕ × Bytes)) (self : Identity) (ok : Bool) (i : I
 when-right lack self true i c h = h
 when-right lack self false i c h = λ k. cc
 
-pub check-right : (self : Identity) (read : Option Frame) (c : Chronicle)
+check-right : (self : Identity) (read : Option Frame) (c : Chronicle)
     → IsRight (lacked_by self.sizes read) self (checked check self read) c
 unfolding check ruling
 check-right self None c = λ k. cc
@@ -201,7 +204,7 @@ check-right self (Some (frame.block sender core q t)) c =
     when-right _ self _ _ c (block-right self _ _ core q _ c)
 check-right self (Some (frame.reply r k s p t g)) c = λ k. cc
 
-pub offer-right : (self : Identity) (read : Option Frame) (c : Chronicle)
+offer-right : (self : Identity) (read : Option Frame) (c : Chronicle)
     → IsRight (lacked_by self.sizes read) self (checked check_offer self read) c
 unfolding check_offer ruling
 offer-right self None c = λ k. cc
@@ -214,6 +217,12 @@ offer-right self (Some (frame.request r)) c = λ k. cc
 offer-right self (Some (frame.vote d b)) c = λ k. cc
 offer-right self (Some (frame.fetch sender d t)) c = λ k. cc
 offer-right self (Some (frame.reply r k s p t g)) c = λ k. cc
+
+-- whichever way it comes
+pub way-right : (way : Way) (self : Identity) (read : Option Frame) (c : Chronicle)
+    → IsRight (lacked_by self.sizes read) self (checked (checks_of way) self read) c
+way-right Brought self read c = check-right self read c
+way-right Offered self read c = offer-right self read c
 
 pub gathered-right : (self : Identity) (fs : List Frame) (c : Chronicle)
     → IsRight None self (check_gathered self fs) c

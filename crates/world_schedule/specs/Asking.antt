@@ -8,7 +8,7 @@ use Rattle.definitions.specs.Bytes.{Bytes}
 use Rattle.definitions.specs.Frames.{Frame}
 use Rattle.definitions.specs.FrameLimits.{IsReadAs}
 use Rattle.definitions.specs.Checks.{Identity}
-use Rattle.definitions.specs.Admission.{Checked, check_gathered}
+use Rattle.definitions.specs.Admission.{Checked, check, check_offer, check_gathered}
 use Rattle.definitions.specs.Events.{listed}
 use Rattle.definitions.specs.Replicas.{MemorySupply, Replica, asks_for}
 use Rattle.admission.specs.Gathering.{AreReadAs}
@@ -16,6 +16,13 @@ use Rattle.signed_frames.specs.Outs.{SentBytes, sent_of}
 use Rattle.replica.specs.Steps.{Shows}
 use Rattle.world_schedule.specs.Turns.{admits, checked, TellsReaction}
 use Rattle.world_schedule.specs.declared.effect.Effect.{Effect}
+use Rattle.world_schedule.specs.declared.way.Way.{Way}
+use Rattle.world_schedule.specs.declared.way.Way.TheVariants.{Brought, Offered}
+
+-- the checks that bytes meet that come this way
+abbrev pub checks_of : Way → Identity → Frame → Checked
+checks_of Brought = check
+checks_of Offered = check_offer
 
 -- what a replica answers to what was checked
 pub record AnswersTo (self : Identity) (x : Checked) (old new : Replica)

@@ -11,6 +11,7 @@ mod replica_party;
 mod replica_turn;
 mod running;
 mod sources;
+mod way;
 mod world;
 
 pub use event::{Event, Source};

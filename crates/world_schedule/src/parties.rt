@@ -24,6 +24,7 @@ use crate::event::{Event, Source};
 use crate::outcome::{History, SentFrame};
 use crate::replica_party::ReplicaParty;
 use crate::sources::bytes_of;
+use crate::way::Way;
 use crate::world::World;
 use crate::{client, replica_turn};
 use client_accept::Session;
@@ -134,7 +135,7 @@ impl Parties {
         ensures memory { OnErr result (result ≡ Err Fault.Memory) }
     {
         let replica = &mut self.replicas[usize::from(to.0)];
-        replica_turn::receive(world.alloc(), replica, bytes)
+        replica_turn::receive(world.alloc(), replica, Way::Brought, bytes)
     }
 
     /// Brings bytes to a client, which is the party of this number.
@@ -207,7 +208,7 @@ impl Parties {
         ensures memory { OnErr result (result ≡ Err Fault.Memory) }
     {
         let replica = &mut self.replicas[usize::from(to.0)];
-        replica_turn::offer(world.alloc(), replica, bytes)
+        replica_turn::receive(world.alloc(), replica, Way::Offered, bytes)
     }
 
     /// Brings the frames of these sources to a replica together.

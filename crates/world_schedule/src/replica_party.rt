@@ -4,11 +4,11 @@ ghost use Rattle.std.specs.Prelude.{◌≡◌, ◌<◌, List, length, IsTrue, If
 ghost use Rattle.ids.specs.Sizes.{replicas};
 ghost use Rattle.definitions.specs.Checks.{identity_of};
 ghost use Rattle.admission.specs.Inputs.{input_of, is_addressed};
-ghost use Rattle.definitions.specs.Admission.{passes, check, check_offer};
+ghost use Rattle.definitions.specs.Admission.{passes};
 ghost use Rattle.std.specs.Borrow.{Bor};
 ghost use Rattle.std.specs.List.{list_all};
 ghost use Rattle.definitions.specs.Bytes.{Bytes};
-ghost use Rattle.world_schedule.specs.Asking.{AnswersTo, Answers};
+ghost use Rattle.world_schedule.specs.Asking.{AnswersTo, Answers, checks_of};
 ghost use Rattle.world_schedule.specs.Schedules.{has_source};
 ghost use Rattle.world_schedule.specs.Sources.{AreBytesOf};
 ghost use Rattle.world_schedule.specs.Turns.{TakesCopies};
@@ -18,8 +18,9 @@ use crate::effect::Effect;
 use crate::event::Source;
 use crate::outcome::SentFrame;
 use crate::sources::frames_of;
+use crate::way::{Way, admit_by};
 use crate::world::World;
-use admission::{admit, admit_copies, admit_offer};
+use admission::admit_copies;
 use authenticators::ReplicaKeyring;
 use ids::{Fault, ReplicaId};
 use replica::{Archived, Input, Out, Replica};
@@ -82,25 +83,13 @@ impl ReplicaParty {
         self.replica.step(input)
     }
 
-    /// Takes bytes, checked with the replica's keys.
-    pub(crate) fn take(&mut self, bytes: &[u8]) -> Result<Out, Fault>
+    /// Takes bytes that come this way, checked with the replica's keys.
+    pub(crate) fn take(&mut self, way: Way, bytes: &[u8]) -> Result<Out, Fault>
         ensures keys { self.new.keys ≡ self.old.keys }
-        ensures taken { Answers check (identity_of self.old.keys) bytes.now self.old.replica self.new.replica
-            result }
-    {
-        match admit(self.keyring.verifying(), bytes) {
-            Ok(input) => self.replica.step(input),
-            Err(fault) => Err(fault),
-        }
-    }
-
-    /// Takes bytes that are offered.
-    pub(crate) fn take_offer(&mut self, bytes: &[u8]) -> Result<Out, Fault>
-        ensures keys { self.new.keys ≡ self.old.keys }
-        ensures taken { Answers check_offer (identity_of self.old.keys) bytes.now self.old.replica
+        ensures taken { Answers (checks_of way) (identity_of self.old.keys) bytes.now self.old.replica
             self.new.replica result }
     {
-        match admit_offer(self.keyring.verifying(), bytes) {
+        match admit_by(self.keyring.verifying(), way, bytes) {
             Ok(input) => self.replica.step(input),
             Err(fault) => Err(fault),
         }

@@ -2,14 +2,15 @@
 
 ghost use Rattle.std.specs.Prelude.{◌≡◌, ◌<◌, IfSome, IfOk, OnErr};
 ghost use Rattle.ids.specs.Sizes.{replicas};
-ghost use Rattle.definitions.specs.Admission.{passes, check, check_offer};
+ghost use Rattle.definitions.specs.Admission.{passes};
 ghost use Rattle.definitions.specs.Checks.{identity_of};
 ghost use Rattle.admission.specs.Inputs.{input_of};
 ghost use Rattle.world_schedule.specs.Turns.{Takes, TakesBytes, IsMove, asked_by};
-ghost use Rattle.world_schedule.specs.Asking.{Asks, is_lack, Refuses, TellsAnswer};
+ghost use Rattle.world_schedule.specs.Asking.{Asks, is_lack, Refuses, TellsAnswer, checks_of};
 
 use crate::effect::Effect;
 use crate::replica_party::ReplicaParty;
+use crate::way::Way;
 use admission::missing;
 use ids::{Digest, Fault, Kind, ReplicaId};
 use replica::{Input, Out, Replica, Sending, To};
@@ -84,39 +85,22 @@ fn tell(
     }
 }
 
-/// Brings bytes to a replica.
+/// Brings bytes to a replica, this way.
 pub(crate) fn receive(
     alloc: Global,
     replica: &mut ReplicaParty,
+    way: Way,
     bytes: &[u8],
 ) -> Result<Effect, Fault>
     ensures keys { replica.new.keys ≡ replica.old.keys }
-    ensures taken { IfOk result (λ e. TakesBytes check (identity_of replica.old.keys) bytes.now
+    ensures taken { IfOk result (λ e. TakesBytes (checks_of way) (identity_of replica.old.keys) bytes.now
         replica.old.replica replica.new.replica e) }
     ensures memory { OnErr result (result ≡ Err Fault.Memory) }
 {
     // For the proof: there are few replicas.
     replica.replica().config().holds();
     let lack = missing(&replica.replica().config(), bytes);
-    let answer = replica.take(bytes);
-    tell(alloc, replica.replica(), lack, answer)
-}
-
-/// Offers bytes to a replica.
-pub(crate) fn offer(
-    alloc: Global,
-    replica: &mut ReplicaParty,
-    bytes: &[u8],
-) -> Result<Effect, Fault>
-    ensures keys { replica.new.keys ≡ replica.old.keys }
-    ensures taken { IfOk result (λ e. TakesBytes check_offer (identity_of replica.old.keys) bytes.now
-        replica.old.replica replica.new.replica e) }
-    ensures memory { OnErr result (result ≡ Err Fault.Memory) }
-{
-    // For the proof: there are few replicas.
-    replica.replica().config().holds();
-    let lack = missing(&replica.replica().config(), bytes);
-    let answer = replica.take_offer(bytes);
+    let answer = replica.take(way, bytes);
     tell(alloc, replica.replica(), lack, answer)
 }
 
