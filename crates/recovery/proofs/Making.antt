@@ -43,7 +43,9 @@ use Rattle.recovery.specs.Law.{Climbs, Leads, IsProposalOf, high_of}
 use Rattle.recovery.proofs.Copies.{correct-party}
 use Rattle.recovery.proofs.Decided.{justifies-below}
 use Rattle.recovery.proofs.Offers.{GoesOn, goes-none, goes-both, IsMade, Chain, chain-later, IsOffered, offer-one}
-use Rattle.recovery.proofs.Offers.{row-own, row-other, recorded-later, made-later}
+use Rattle.recovery.proofs.Offers.{row-own, row-other, recorded-later, made-later, offer-goes}
+use Rattle.recovery.proofs.Climbing.{voted-low, voted-now}
+use Rattle.definitions.proofs.Chronicles.{voted-grows}
 use Rattle.recovery.proofs.Steps.{going, outs, TookStep, HandsIn, step-stood, frame-behind}
 use Rattle.recovery.proofs.Ways.{IsOnWay, KnownAt, on-way, way-on, way-past}
 use Rattle.recovery.proofs.Wells.{IsReached, sound-of, stored-of}
@@ -151,6 +153,11 @@ took-leaf self a c e =
     not-higher : (n k : ℕ) → k ≡ n → nat_lt n k ≡ false
     not-higher n k h = grind (arith, h)
 
+-- a beat votes for nothing
+beat-low : (c : Chronicle) (n : ℕ) → vheight c < n → vheight (noted beat ∷ c) < n
+unfolding vheight voted_blocks
+beat-low c n l = l
+
 -- ---- no proposal goes out with a block
 
 numbers-none : (p : Frame → Bool) (w : World) (r : ℕ) (os : List Sending)
@@ -160,11 +167,11 @@ numbers-none p w r [] h k = refl
 numbers-none p w r (o ∷ os) h k =
     cond-false (p o.1) _ _ (h o (inl refl)) ∙ numbers-none p w r os (λ x m. h x (inr m)) (suc k)
 
-reply-no : (self : Identity) (as : List Answer) (o : Sending) → Among o (map (reply_to self) as) → is_proposal o.1 ≡ false
+reply-no : (self : Identity) (told : List Answer) (o : Sending) → Among o (map (reply_to self) told) → is_proposal o.1 ≡ false
 unfolding reply_to is_proposal
 reply-no self [] o m = absurd m
-reply-no self (a ∷ as) o (inl e) = ap (λ (x : Sending). is_proposal x.1) e
-reply-no self (a ∷ as) o (inr m) = reply-no self as o m
+reply-no self (a ∷ told) o (inl e) = ap (λ (x : Sending). is_proposal x.1) e
+reply-no self (a ∷ told) o (inr m) = reply-no self told o m
 
 took-no : (self : Identity) (a : Admitted) (c : Chronicle) (o : Sending) → Among o (sendings self (took_block a) c)
     → is_proposal o.1 ≡ false
@@ -197,3 +204,202 @@ numbers-both p (x ∷ xs) ys k = by (p x.frame) (numbers-both p xs ys (suc k))
         ≡ cond t (k ∷ numbers_of p (suc k) xs) (numbers_of p (suc k) xs) ++ numbers_of p (k + suc (length xs)) ys
     by true e = ap (λ (l : List ℕ). k ∷ l) (e ∙ ap (λ (l : List ℕ). numbers_of p (suc k) xs ++ l) next)
     by false e = e ∙ ap (λ (l : List ℕ). numbers_of p (suc k) xs ++ l) next
+
+-- ---- one block
+
+beat-hands : (w : World) (l : ℕ) → is_correct w l ≡ true → (w.replica l).standing ≡ running → HandsIn w (beat l) l beat_in
+unfolding acts party_of
+beat-hands w l c s = record { party = refl; correct = c; goes_on = s; acting = refl }
+
+-- what making one block leaves
+pub record MadeOne (w next : World) (l v : ℕ) (m : Branch) (room : ℕ) (b : Block) : Type 0 where
+  pub goes : GoesOn w next
+  pub others : (j : ℕ) → (j ≡ l → ⊥) → next.replica j ≡ w.replica j
+  pub going_on : (next.replica l).standing ≡ running
+  pub leads_on : Leads next l v m room
+  pub leaf_is : leaf (self_of next l) (chronicle_of next l) ≡ b ∷ leaf (self_of w l) (chronicle_of w l)
+  pub numbers : numbers_of is_proposal (length w.sent) goes.more ≡ length w.sent ∷ []
+  pub chain : Chain next v m (leaf (self_of w l) (chronicle_of w l)) (length w.sent ∷ [])
+      (b ∷ leaf (self_of w l) (chronicle_of w l))
+  pub voted : vheight (chronicle_of w l) < suc (length (leaf (self_of w l) (chronicle_of w l)))
+      → Among (b ∷ leaf (self_of w l) (chronicle_of w l)) (voted_blocks (chronicle_of next l))
+  pub kept : (x : Branch) → Among x (voted_blocks (chronicle_of w l)) → Among x (voted_blocks (chronicle_of next l))
+  pub low : (n : ℕ) → vheight (chronicle_of w l) < n → suc (length (leaf (self_of w l) (chronicle_of w l))) < n
+      → vheight (chronicle_of next l) < n
+
+module _ (sizes : Sizes) (start : World) (all : List Happening) (l v : ℕ) (m : Branch) (br : IsBranch m) where
+  -- after the beat
+  record HasBeaten (w : World) (b : Block) (f : Frame) (room : ℕ) : Type 0 where
+    passes : refusal w (beat l) ≡ None
+    step : TookStep w (happens w (beat l, ample)) l (noted beat)
+    sent : (happens w (beat l, ample)).sent
+        ≡ w.sent ++ record { event = w.now; sender = l; to = to_all; frame = f } ∷ []
+    made : IsMade (happens w (beat l, ample)) v m (leaf (self_of w l) (chronicle_of w l)) b f
+    leaf_is : leaf (self_of w l) (noted beat ∷ chronicle_of w l) ≡ b ∷ leaf (self_of w l) (chronicle_of w l)
+
+  beaten : (w : World) (rest : List Happening) (room : ℕ) → IsOnWay sizes start all w ((beat l, ample) ∷ rest)
+      → ShareKeys w → is_correct w l ≡ true → (w.replica l).standing ≡ running → Leads w l v m room
+      → HasBeaten w (made-block (self_of w l) (chronicle_of w l))
+      (proposal_frame (self_of w l) v (made-justified (self_of w l) (chronicle_of w l))) room
+  unfolding ruling made-block made-justified leads is_known find_block
+  beaten w rest room on keys c s lead =
+      let self : Identity = self_of w l in
+      let ch : Chronicle = chronicle_of w l in
+      let z : Branch = leaf self ch in
+      let one : World = happens w (beat l, ample) in
+      let g = on-way sizes start all w ((beat l, ample) ∷ rest) on in
+      let number = keys.numbers l (correct-party w l c) (member-faulty w l c) in
+      let climbs = lead.climbs in
+      let leading : leads self ch ≡ true =
+      eq-eqb (leader w.sizes (view w.sizes ch)) (me self)
+      (ap (leader w.sizes) climbs.in_view ∙ (lead.leader_is ∙ sym number)) in
+      let known : is_known (digest_of z) ch ≡ true =
+      ap is_some (found-itself _ (window ch) (sound-of (KnownAt sizes start all) w g l c).is_tree z climbs.stands) in
+      let ok : refusal w (beat l) ≡ None =
+      named w (beat l) (and_parts (is_replica w l) (not (w.is_faulty l)) c).0 refl refl in
+      let on1 = way-on sizes start all w (beat l, ample) rest on ok in
+      let st = step-stood w (beat l) l beat_in (noted beat) (beat-hands w l c s) refl on1.well.good.answers in
+      let p : Justified = made-justified self ch in
+      let f : Frame = proposal_frame self v p in
+      let sends : one.sent ≡ w.sent ++ record { event = w.now; sender = l; to = to_all; frame = f } ∷ [] =
+      st.sent ∙ (ap (λ (o : List Sending). w.sent ++ outs w l o) (beat-sends self ch leading known)
+      ∙ ap (λ (n : ℕ). w.sent ++ outs w l ((to_all, proposal_frame self n p) ∷ [])) climbs.in_view) in
+      let lead1 : leader one.sizes v ≡ l = ap (λ (y : Sizes). leader y v) st.made.sizes ∙ lead.leader_is in
+      let high : length (qc_high w.sizes ch).block ≡ length m = ap (λ (y : Branch). length y) lead.high in
+      record {
+        passes = ok;
+        step = st;
+        sent = sends;
+        made = record {
+          proposal = record {
+            correct = ap (is_correct one) lead1 ∙ (same-correct w one st.made l ∙ c);
+            sent = record { event = w.now; sender = l; to = to_all; frame = f };
+            recorded = subst (λ (r : List Sent). Among (record { event = w.now; sender = l; to = to_all; frame = f }) r)
+                (sym sends) (Among-after _ w.sent _ (inl refl));
+            made = p;
+            is = (λ k. proposal_frame (sym (same-self w one st.made l) k) v p)
+                ∙ ap (λ (i : ℕ). proposal_frame (self_of one i) v p) (sym lead1);
+            frame_is = refl;
+            block_is = refl;
+            justified = (qc_high-is self ch (stored-of (KnownAt sizes start all) w g l c)).justified
+                ∙ ap digest_of (lead.high ∙ sym (justifies-below (made-block self ch) z m climbs.over high));
+          };
+          justify = high;
+          good = λ r d. all-from (command_verifies (self_of one r)) (made-block self ch).commands (λ k n.
+              ap (λ (i : Identity). command_verifies i k) (same-self w one st.made r)
+              ∙ lead.waiting k (made-waits self ch k n) r (sym (same-correct w one st.made r) ∙ d));
+        };
+        leaf_is = beat-leaf self ch leading known;
+      }
+
+  -- the events of one block
+  make-is : (w : World) (f : Frame)
+      → (happens w (beat l, ample)).sent ≡ w.sent ++ record { event = w.now; sender = l; to = to_all; frame = f } ∷ []
+      → is_proposal f ≡ true
+      → make_block l w ≡ (beat l, ample) ∷ (offer l (of_record (length w.sent)), ample) ∷ []
+  unfolding make_block in_turn after offered_to numbers_of
+  make-is w f e p =
+      let one : World = happens w (beat l, ample) in
+      let s : Sent = record { event = w.now; sender = l; to = to_all; frame = f } in
+      let drops : drop (length w.sent) one.sent ≡ s ∷ [] =
+      ap (λ (x : List Sent). drop (length w.sent) x) e ∙ drop-append_seam w.sent (s ∷ []) in
+      let numbers : sent_since (length w.sent) is_proposal one ≡ length w.sent ∷ [] =
+      ap (λ (x : List Sent). numbers_of is_proposal (length w.sent) x) drops
+      ∙ cond-true (is_proposal f) (length w.sent ∷ []) [] p in
+      ap (λ (ks : List ℕ). (beat l, ample) ∷ (amply (offered_to (l ∷ []) ks) ++ [])) numbers
+
+  pub made-one : (w : World) (rest : List Happening) (room : ℕ) → IsOnWay sizes start all w (make_block l w ++ rest)
+      → ShareKeys w → is_correct w l ≡ true → (w.replica l).standing ≡ running → Leads w l v m (suc room)
+      → suc (length (leaf (self_of w l) (chronicle_of w l))) < HEIGHT_LIMIT
+      → Passes w (make_block l w)
+      × MadeOne w (after w (make_block l w)) l v m room (made-block (self_of w l) (chronicle_of w l))
+  unfolding make_block in_turn after numbers_of is_proposal proposal_frame Chain
+  made-one w rest room on keys c s lead top =
+      let self : Identity = self_of w l in
+      let ch : Chronicle = chronicle_of w l in
+      let z : Branch = leaf self ch in
+      let b : Block = made-block self ch in
+      let f : Frame = proposal_frame self v (made-justified self ch) in
+      let k : ℕ = length w.sent in
+      let one : World = happens w (beat l, ample) in
+      let h = beaten w _ (suc room) on keys c s lead in
+      let msg : Sent = record { event = w.now; sender = l; to = to_all; frame = f } in
+      let is = make-is w f h.sent refl in
+      let on0 = subst (λ (x : List Happening). IsOnWay sizes start all w (x ++ rest)) is on in
+      let goes1 : GoesOn w one =
+      record { made = h.step.made; more = msg ∷ []; sent = h.sent; session = h.step.session } in
+      let on1 = way-on sizes start all w (beat l, ample) ((offer l (of_record k), ample) ∷ rest) on0 h.passes in
+      let own1 = row-own w one l (noted beat) h.step in
+      let own1c = ap (λ (x : Replica). x.chronicle) own1 in
+      let self1 = same-self w one h.step.made l in
+      let told = climbs-told self v m z (suc room) ch lead.climbs in
+      let climbs1 : Climbs (self_of one l) v m z (suc room) (chronicle_of one l) =
+      subst (λ (x : Chronicle). Climbs (self_of one l) v m z (suc room) x) (sym own1c)
+      (subst (λ (x : Identity). Climbs x v m z (suc room) (noted beat ∷ ch)) (sym self1) told) in
+      let rec : recorded one k ≡ Some f =
+      ap (λ (x : List Sent). option_map (λ y. y.frame) (slice_get x k)) h.sent ∙ frame-behind w.sent msg [] in
+      let two : World = happens one (offer l (of_record k), ample) in
+      let got = offer-one sizes start all one rest l k v m z room b f on1 (keys-in w one h.step.made keys)
+      (same-correct w one h.step.made l ∙ c) (ap (λ (x : Replica). x.standing) own1) rec h.made climbs1 br top in
+      let o = got.1 in
+      let a : Admitted = o.taken in
+      let goes2 = offer-goes one two l (took_block a) o.step in
+      let own2 = row-own one two l (took_block a) o.step in
+      let c2 : Chronicle = took_block a ∷ noted beat ∷ ch in
+      let own : chronicle_of two l ≡ c2 =
+      ap (λ (x : Replica). x.chronicle) own2 ∙ ap (λ (x : Chronicle). took_block a ∷ x) own1c in
+      let out : List Sent = outs one l (sendings (self_of one l) (took_block a) (chronicle_of one l)) in
+      let goes : GoesOn w two = record {
+        made = made-both w one two h.step.made o.step.made;
+        more = msg ∷ out;
+        sent = o.step.sent ∙ (ap (λ (x : List Sent). x ++ out) h.sent ∙ append_assoc w.sent (msg ∷ []) out);
+        session = o.step.session ∙ h.step.session;
+      } in
+      let self2 = same-self w two goes.made l in
+      let over = lead.climbs.over in
+      let just : just1 a.branch ≡ (qc_high w.sizes (noted beat ∷ ch)).block =
+      ap just1 o.branch ∙ (justifies-below b z m over h.made.justify ∙ (sym lead.high
+      ∙ ap (λ (j : Justified). j.block) (sym (beat-high w.sizes ch)))) in
+      let leaf2 : leaf (self_of two l) (chronicle_of two l) ≡ b ∷ z =
+      (λ i. leaf (self2 i) (own i)) ∙ (took-leaf self a (noted beat ∷ ch) just ∙ h.leaf_is) in
+      let high2 : high_of two l ≡ m =
+      (λ i. (qc_high (goes.made.sizes i) (own i)).block)
+      ∙ (took-high w.sizes a (noted beat ∷ ch) just
+      ∙ (ap (λ (j : Justified). j.block) (beat-high w.sizes ch) ∙ lead.high)) in
+      let climbs2 : Climbs (self_of two l) v m (leaf (self_of two l) (chronicle_of two l)) room (chronicle_of two l) =
+      subst (λ (x : Branch). Climbs (self_of two l) v m x room (chronicle_of two l)) (sym leaf2)
+      (subst (λ (x : Identity). Climbs x v m (b ∷ z) room (chronicle_of two l)) (self1 ∙ sym self2)
+      (subst (λ (x : Chronicle). Climbs (self_of one l) v m (b ∷ z) room x)
+      (sym (ap (λ (x : Replica). x.chronicle) own2)) o.climbs)) in (
+        subst (Passes w) (sym is)
+        (passes-one w (beat l, ample) ((offer l (of_record k), ample) ∷ []) h.passes
+        (passes-one one (offer l (of_record k), ample) [] got.0 (passes-none two))),
+        subst (λ (x : List Happening). MadeOne w (after w x) l v m room b) (sym is) (record {
+          goes = goes;
+          others = λ j n. row-other one two l (took_block a) o.step j n ∙ row-other w one l (noted beat) h.step j n;
+          going_on = ap (λ (x : Replica). x.standing) own2;
+          leads_on = record {
+            leader_is = ap (λ (y : Sizes). leader y v) goes.made.sizes ∙ lead.leader_is;
+            high = high2;
+            climbs = climbs2;
+            waiting = λ q n r d.
+                ap (λ (i : Identity). command_verifies i q) (same-self w two goes.made r)
+                ∙ lead.waiting q (beat-pending ch q (took-pending a (noted beat ∷ ch) q
+                (subst (λ (x : Chronicle). Among q (pending x)) own n))) r (sym (same-correct w two goes.made r) ∙ d);
+          };
+          leaf_is = leaf2;
+          numbers = ap (λ (x : List ℕ). k ∷ x)
+              (numbers-none is_proposal one l (sendings (self_of one l) (took_block a) (chronicle_of one l))
+              (took-no (self_of one l) a (chronicle_of one l)) (suc k));
+          chain = (b, f, recorded-later one two goes2 k f rec, made-later one two goes2 v m z b f h.made, refl);
+          voted = λ low. subst (λ (x : Chronicle). Among (b ∷ z) (voted_blocks x)) (sym own)
+              (voted-now (noted beat ∷ ch) a (b ∷ z) o.branch
+              (o.votes (subst (λ (x : Chronicle). vheight x < suc (length z)) (sym own1c)
+              (beat-low ch (suc (length z)) low))));
+          kept = λ x n. subst (λ (y : Chronicle). Among x (voted_blocks y)) (sym own)
+              (voted-grows (took_block a) (noted beat ∷ ch) x (voted-grows (noted beat) ch x n));
+          low = λ n low top. subst (λ (y : Chronicle). vheight y < n) (sym own)
+              (voted-low (noted beat ∷ ch) a n (beat-low ch n low)
+              (let e = ap (λ (x : Branch). length x) o.branch in omega (arith, e, top)));
+        }),
+      )

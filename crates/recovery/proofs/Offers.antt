@@ -220,7 +220,7 @@ pub offers-of : ℕ → List ℕ → List Happening
 offers-of r ks = amply (map (λ k. offer r (of_record k)) ks)
 
 -- the world after an offer that was taken
-offer-goes : (w next : World) (r : ℕ) (st : Step) → TookStep w next r st → GoesOn w next
+pub offer-goes : (w next : World) (r : ℕ) (st : Step) → TookStep w next r st → GoesOn w next
 offer-goes w next r st t = record {
   made = t.made;
   more = outs w r (sendings (self_of w r) st (chronicle_of w r));
