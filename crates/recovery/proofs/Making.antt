@@ -42,7 +42,7 @@ use Rattle.recovery.specs.Healing.{in_turn, numbers_of, sent_since, is_proposal,
 use Rattle.recovery.specs.Law.{Climbs, Leads, IsProposalOf, high_of}
 use Rattle.recovery.proofs.Copies.{correct-party}
 use Rattle.recovery.proofs.Decided.{justifies-below}
-use Rattle.recovery.proofs.Offers.{GoesOn, goes-none, goes-both, IsMade, Chain, chain-later, IsOffered, offer-one}
+use Rattle.recovery.proofs.Offers.{GoesOn, IsMade, Chain, chain-later, chain-up, chain-end, IsOffered, offer-one}
 use Rattle.recovery.proofs.Offers.{row-own, row-other, recorded-later, made-later, offer-goes}
 use Rattle.recovery.proofs.Climbing.{voted-low, voted-now}
 use Rattle.definitions.proofs.Chronicles.{voted-grows}
@@ -204,6 +204,16 @@ numbers-both p (x ∷ xs) ys k = by (p x.frame) (numbers-both p xs ys (suc k))
         ≡ cond t (k ∷ numbers_of p (suc k) xs) (numbers_of p (suc k) xs) ++ numbers_of p (k + suc (length xs)) ys
     by true e = ap (λ (l : List ℕ). k ∷ l) (e ∙ ap (λ (l : List ℕ). numbers_of p (suc k) xs ++ l) next)
     by false e = e ∙ ap (λ (l : List ℕ). numbers_of p (suc k) xs ++ l) next
+
+-- room for n blocks, and so many more
+unfoldable pub up : ℕ → ℕ → ℕ
+up zero room = room
+up (suc n) room = suc (up n room)
+
+pub up-none : (n : ℕ) → up n 0 ≡ n
+unfolding up
+up-none zero = refl
+up-none (suc n) = let h = up-none n in omega (arith, h)
 
 -- ---- one block
 
@@ -402,4 +412,109 @@ module _ (sizes : Sizes) (start : World) (all : List Happening) (l v : ℕ) (m :
               (voted-low (noted beat ∷ ch) a n (beat-low ch n low)
               (let e = ap (λ (x : Branch). length x) o.branch in omega (arith, e, top)));
         }),
+      )
+
+  -- ---- all blocks
+
+  -- the leader's leaf
+  abbrev leaf-at : World → Branch
+  leaf-at w = leaf (self_of w l) (chronicle_of w l)
+
+  pub record MadeAll (w next : World) (room n : ℕ) : Type 0 where
+    pub goes : GoesOn w next
+    pub others : (j : ℕ) → (j ≡ l → ⊥) → next.replica j ≡ w.replica j
+    pub going_on : (next.replica l).standing ≡ running
+    pub leads_on : Leads next l v m room
+    pub ks : List ℕ
+    pub count : length ks ≡ n
+    pub numbers : numbers_of is_proposal (length w.sent) goes.more ≡ ks
+    pub chain : Chain next v m (leaf (self_of w l) (chronicle_of w l)) ks (leaf (self_of next l) (chronicle_of next l))
+    pub voted : 0 < n → vheight (chronicle_of w l) < length (leaf (self_of next l) (chronicle_of next l))
+        → Among (leaf (self_of next l) (chronicle_of next l)) (voted_blocks (chronicle_of next l))
+    pub kept : (x : Branch) → Among x (voted_blocks (chronicle_of w l)) → Among x (voted_blocks (chronicle_of next l))
+
+  -- a first block, and then the others
+  made-more : (w mid next : World) (room room2 n : ℕ) (b : Block) → MadeOne w mid l v m room b → MadeAll mid next room2 n
+      → MadeAll w next room2 (suc n)
+  unfolding Chain
+  made-more w mid next room room2 n b one rest =
+      let z : Branch = leaf-at w in
+      let last : Branch = leaf-at next in
+      let k : ℕ = length w.sent in
+      let first = chain-later mid next rest.goes v m z (k ∷ []) (b ∷ z) one.chain in
+      let long : length mid.sent ≡ k + length one.goes.more =
+      ap (λ (x : List Sent). length x) one.goes.sent ∙ length-append w.sent one.goes.more in
+      let up = chain-up next v m (leaf-at mid) rest.ks last rest.chain in
+      let mids = ap (λ (x : Branch). length x) one.leaf_is in
+      let count = rest.count in
+      record {
+        goes = record {
+          made = made-both w mid next one.goes.made rest.goes.made;
+          more = one.goes.more ++ rest.goes.more;
+          sent = rest.goes.sent ∙ (ap (λ (x : List Sent). x ++ rest.goes.more) one.goes.sent
+              ∙ append_assoc w.sent one.goes.more rest.goes.more);
+          session = rest.goes.session ∙ one.goes.session;
+        };
+        others = λ j m. rest.others j m ∙ one.others j m;
+        going_on = rest.going_on;
+        leads_on = rest.leads_on;
+        ks = k ∷ rest.ks;
+        count = omega (arith, count);
+        numbers = numbers-both is_proposal one.goes.more rest.goes.more k
+            ∙ ((λ i. one.numbers i ++ numbers_of is_proposal (sym long i) rest.goes.more)
+            ∙ ap (λ (x : List ℕ). k ∷ x) rest.numbers);
+        chain = (first.0, first.1, first.2, first.3, subst (λ (x : Branch). Chain next v m x rest.ks last)
+            (one.leaf_is ∙ sym first.4) rest.chain);
+        voted = λ p h. elim (cases_lt 0 n) [
+          | inl q ↦ rest.voted q (one.low (length last) h (omega (arith, up, mids, count, q)))
+          | inr y ↦
+              let e : leaf-at mid ≡ last =
+              chain-end next v m (leaf-at mid) rest.ks last rest.chain (omega (arith, count, y)) in
+              let le = ap (λ (x : Branch). length x) e in
+              rest.kept last (subst (λ (x : Branch). Among x (voted_blocks (chronicle_of mid l)))
+              (sym one.leaf_is ∙ e) (one.voted (omega (arith, h, le, mids))))
+        ];
+        kept = λ x q. rest.kept x (one.kept x q);
+      }
+
+  pub made-all : (n : ℕ) (w : World) (rest : List Happening) (room : ℕ)
+      → IsOnWay sizes start all w (make_blocks n l w ++ rest) → ShareKeys w → is_correct w l ≡ true
+      → (w.replica l).standing ≡ running → Leads w l v m (up n room)
+      → length (leaf (self_of w l) (chronicle_of w l)) + n < HEIGHT_LIMIT
+      → Passes w (make_blocks n l w) × MadeAll w (after w (make_blocks n l w)) room n
+  unfolding make_blocks in_turn Chain numbers_of up after
+  made-all zero w rest room on keys c s lead top = (passes-none w, record {
+    goes = record {
+      made = record { sizes = refl; faulty = refl; ring = refl };
+      more = [];
+      sent = sym (append-nil w.sent);
+      session = refl;
+    };
+    others = λ j n. refl;
+    going_on = s;
+    leads_on = lead;
+    ks = [];
+    count = refl;
+    numbers = refl;
+    chain = refl;
+    voted = λ p h. absurd (omega (arith, p));
+    kept = λ x q. q;
+  })
+  made-all (suc n) w rest room on keys c s lead top =
+      let here : List Happening = make_block l w in
+      let mid : World = after w here in
+      let later : List Happening = make_blocks n l mid in
+      let is : make_blocks (suc n) l w ≡ here ++ later =
+      ap (λ (x : List Happening). here ++ x) (append-nil later) in
+      let on0 = subst (IsOnWay sizes start all w) (append_assoc here later rest)
+      (subst (λ (x : List Happening). IsOnWay sizes start all w (x ++ rest)) is on) in
+      let one = made-one w (later ++ rest) (up n room) on0 keys c s lead (omega (arith, top)) in
+      let onm = way-past sizes start all here (later ++ rest) w on0 one.0 in
+      let o = one.1 in
+      let e = ap (λ (x : Branch). length x) o.leaf_is in
+      let more = made-all n mid rest room onm (keys-in w mid o.goes.made keys) (same-correct w mid o.goes.made l ∙ c)
+      o.going_on o.leads_on (omega (arith, top, e)) in (
+        subst (Passes w) (sym is) (passes-append w here later one.0 more.0),
+        subst (λ (z : World). MadeAll w z room (suc n)) (sym (ap (after w) is ∙ after-append w here later))
+        (made-more w mid (after mid later) (up n room) room n _ o more.1),
       )

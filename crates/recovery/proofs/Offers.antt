@@ -206,6 +206,11 @@ unfoldable pub grown : List ℕ → ℕ → ℕ
 grown [] room = room
 grown (k ∷ ks) room = suc (grown ks room)
 
+pub grown-none : (ks : List ℕ) → grown ks 0 ≡ length ks
+unfolding grown
+grown-none [] = refl
+grown-none (k ∷ ks) = let h = grown-none ks in omega (arith, h)
+
 pub record OfferedAll (w next : World) (r v : ℕ) (m last : Branch) (room : ℕ) (ks : List ℕ) : Type 0 where
   pub goes : GoesOn w next
   pub others : (j : ℕ) → (j ≡ r → ⊥) → next.replica j ≡ w.replica j
@@ -216,7 +221,7 @@ pub record OfferedAll (w next : World) (r v : ℕ) (m last : Branch) (room : ℕ
   pub kept : (x : Branch) → Among x (voted_blocks (chronicle_of w r)) → Among x (voted_blocks (chronicle_of next r))
 
 -- the events
-pub offers-of : ℕ → List ℕ → List Happening
+unfoldable pub offers-of : ℕ → List ℕ → List Happening
 offers-of r ks = amply (map (λ k. offer r (of_record k)) ks)
 
 -- the world after an offer that was taken
