@@ -5,15 +5,15 @@ use Rattle.std.proofs.Common.{◌++◌, map, filter, length, drop, refl, sym, ap
 use Rattle.std.proofs.lemmas.Bool.{cases_eq, eqb-true, eq-eqb, ne_eqb, cases_Bool, not-true}
 use Rattle.std.proofs.lemmas.List.{append-nil, append_assoc, map-append}
 use Rattle.std.proofs.Math.Seq.{drop-append_seam}
-use Rattle.ids.specs.Sizes.{Sizes, replicas}
+use Rattle.ids.specs.Sizes.{Sizes, replicas, leader}
 use Rattle.definitions.specs.Lists.{Among, AreDistinct}
 use Rattle.definitions.specs.Branches.{Branch, IsBranch, Extends}
-use Rattle.definitions.specs.Checks.{Identity}
+use Rattle.definitions.specs.Checks.{Identity, command_verifies}
 use Rattle.definitions.specs.Chronicles.{Chronicle, voted_blocks, vheight, window}
 use Rattle.definitions.specs.Keyrings.{Keyring}
 use Rattle.definitions.specs.Premises.{ArePremises}
 use Rattle.definitions.specs.Replicas.{MemorySupply.ample, Replica, Standing.running}
-use Rattle.definitions.specs.States.{leaf}
+use Rattle.definitions.specs.States.{leaf, qc_high, pending}
 use Rattle.definitions.specs.Worlds.{World, Sent, Event, Event.offer, Happening, Source.of_record, new_world, is_correct, self_of}
 use Rattle.definitions.specs.Runs.{run, after}
 use Rattle.definitions.proofs.Lists.{Among-either, Among-filter, Among-kept}
@@ -22,8 +22,8 @@ use Rattle.recovery.specs.Healing.{in_turn, sent_since, numbers_of, is_proposal,
 use Rattle.recovery.specs.Law.{Climbs, Leads, IsVotedForByAll, BurstsAreVotedFor}
 use Rattle.recovery.proofs.Correct.{among-correct, correct-listed}
 use Rattle.recovery.proofs.Fetched.{distinct-last}
-use Rattle.recovery.proofs.Making.{MadeAll, made-all, up, up-none}
-use Rattle.recovery.proofs.Offers.{GoesOn, goes-none, goes-both, Chain, chain-later, chain-up, grown, grown-none, OfferedAll}
+use Rattle.recovery.proofs.Making.{MadeAll, made-all, up, up-is}
+use Rattle.recovery.proofs.Offers.{GoesOn, goes-none, goes-both, Chain, chain-later, chain-up, grown, grown-is, OfferedAll}
 use Rattle.recovery.proofs.Offers.{offers-of, offers-all}
 use Rattle.recovery.proofs.Ways.{IsOnWay, KnownAt, on-way-from, on-way, way-past}
 use Rattle.recovery.proofs.Wells.{sound-of, run-after}
@@ -66,39 +66,39 @@ distinct-kept p (x ∷ xs) d = by (p x) (distinct-kept p xs d.1)
 -- ---- offers to several
 
 -- a replica to which the blocks may be offered
-record IsReady (w : World) (v : ℕ) (m last : Branch) (ks : List ℕ) (r : ℕ) : Type 0 where
+record IsReady (w : World) (v room : ℕ) (m last : Branch) (ks : List ℕ) (r : ℕ) : Type 0 where
   correct : is_correct w r ≡ true
   goes : (w.replica r).standing ≡ running
-  climbs : Climbs (self_of w r) v m m (grown ks 0) (chronicle_of w r)
+  climbs : Climbs (self_of w r) v m m (grown ks room) (chronicle_of w r)
   low : vheight (chronicle_of w r) < length last
 
-ready-later : (w mid : World) (v : ℕ) (m last : Branch) (ks : List ℕ) (r : ℕ) → IsMadeAs w mid
-    → mid.replica r ≡ w.replica r → IsReady w v m last ks r → IsReady mid v m last ks r
-ready-later w mid v m last ks r made e h = record {
+ready-later : (w mid : World) (v room : ℕ) (m last : Branch) (ks : List ℕ) (r : ℕ) → IsMadeAs w mid
+    → mid.replica r ≡ w.replica r → IsReady w v room m last ks r → IsReady mid v room m last ks r
+ready-later w mid v room m last ks r made e h = record {
   correct = same-correct w mid made r ∙ h.correct;
   goes = ap (λ (x : Replica). x.standing) e ∙ h.goes;
-  climbs = subst (λ (x : Replica). Climbs (self_of mid r) v m m (grown ks 0) x.chronicle) (sym e)
-      (subst (λ (s : Identity). Climbs s v m m (grown ks 0) (chronicle_of w r)) (sym (same-self w mid made r)) h.climbs);
+  climbs = subst (λ (x : Replica). Climbs (self_of mid r) v m m (grown ks room) x.chronicle) (sym e)
+      (subst (λ (s : Identity). Climbs s v m m (grown ks room) (chronicle_of w r)) (sym (same-self w mid made r)) h.climbs);
   low = subst (λ (x : Replica). vheight x.chronicle < length last) (sym e) h.low;
 }
 
 -- what offers leave of one
-record HasVoted (self : Identity) (v : ℕ) (m last : Branch) (r : Replica) : Type 0 where
+record HasVoted (self : Identity) (v room : ℕ) (m last : Branch) (r : Replica) : Type 0 where
   going_on : r.standing ≡ running
-  climbs : Climbs self v m last 0 r.chronicle
+  climbs : Climbs self v m last room r.chronicle
   voted : Among last (voted_blocks r.chronicle)
 
-record OfferedEach (w next : World) (v : ℕ) (m last : Branch) (rs : List ℕ) : Type 0 where
+record OfferedEach (w next : World) (v room : ℕ) (m last : Branch) (rs : List ℕ) : Type 0 where
   goes : GoesOn w next
   others_are : (j : ℕ) → (Among j rs → ⊥) → next.replica j ≡ w.replica j
-  each : (r : ℕ) → Among r rs → HasVoted (self_of w r) v m last (next.replica r)
+  each : (r : ℕ) → Among r rs → HasVoted (self_of w r) v room m last (next.replica r)
 
-module _ (sizes : Sizes) (start : World) (all : List Happening) (v : ℕ) (m last : Branch) (br : IsBranch m)
+module _ (sizes : Sizes) (start : World) (all : List Happening) (v room : ℕ) (m last : Branch) (br : IsBranch m)
     (top : length last < HEIGHT_LIMIT) (ks : List ℕ) (some : 0 < length ks) where
   offered-each : (rs : List ℕ) (w : World) (rest : List Happening)
       → IsOnWay sizes start all w (amply (offered_to rs ks) ++ rest) → ShareKeys w → AreDistinct rs
-      → Chain w v m m ks last → ((r : ℕ) → Among r rs → IsReady w v m last ks r)
-      → Passes w (amply (offered_to rs ks)) × OfferedEach w (after w (amply (offered_to rs ks))) v m last rs
+      → Chain w v m m ks last → ((r : ℕ) → Among r rs → IsReady w v room m last ks r)
+      → Passes w (amply (offered_to rs ks)) × OfferedEach w (after w (amply (offered_to rs ks))) v room m last rs
   unfolding offered_to offers-of after
   offered-each [] w rest on keys d chain ready = (passes-none w, record {
     goes = goes-none w;
@@ -113,7 +113,7 @@ module _ (sizes : Sizes) (start : World) (all : List Happening) (v : ℕ) (m las
       let on0 = subst (IsOnWay sizes start all w) (append_assoc here later rest)
       (subst (λ (x : List Happening). IsOnWay sizes start all w (x ++ rest)) is on) in
       let own = ready r (inl refl) in
-      let one = offers-all sizes start all r v m last br top ks w (later ++ rest) m 0 on0 keys own.correct own.goes chain
+      let one = offers-all sizes start all r v m last br top ks w (later ++ rest) m room on0 keys own.correct own.goes chain
       own.climbs in
       let o = one.1 in
       let mid : World = after w here in
@@ -121,21 +121,21 @@ module _ (sizes : Sizes) (start : World) (all : List Happening) (v : ℕ) (m las
       let apart : (j : ℕ) → Among j rs → (j ≡ r → ⊥) = λ j n e. d.0 (subst (λ (i : ℕ). Among i rs) e n) in
       let more = offered-each rs mid rest onm (keys-in w mid o.goes.made keys) d.1
       (chain-later w mid o.goes v m m ks last chain)
-      (λ j n. ready-later w mid v m last ks j o.goes.made (o.others j (apart j n)) (ready j (inr n))) in
+      (λ j n. ready-later w mid v room m last ks j o.goes.made (o.others j (apart j n)) (ready j (inr n))) in
       let end : World = after mid later in
-      let each : (j : ℕ) → Among j (r ∷ rs) → HasVoted (self_of w j) v m last (end.replica j) =
+      let each : (j : ℕ) → Among j (r ∷ rs) → HasVoted (self_of w j) v room m last (end.replica j) =
       λ j n. elim n [
-        | inl e ↦ subst (λ (i : ℕ). HasVoted (self_of w i) v m last (end.replica i)) (sym e)
-            (subst (λ (x : Replica). HasVoted (self_of w r) v m last x) (sym (more.1.others_are r d.0)) (record {
+        | inl e ↦ subst (λ (i : ℕ). HasVoted (self_of w i) v room m last (end.replica i)) (sym e)
+            (subst (λ (x : Replica). HasVoted (self_of w r) v room m last x) (sym (more.1.others_are r d.0)) (record {
               going_on = o.going_on;
               climbs = o.climbs;
               voted = o.voted own.low some;
             }))
-        | inr k ↦ subst (λ (s : Identity). HasVoted s v m last (end.replica j)) (same-self w mid o.goes.made j)
+        | inr k ↦ subst (λ (s : Identity). HasVoted s v room m last (end.replica j)) (same-self w mid o.goes.made j)
             (more.1.each j k)
       ] in (
         subst (Passes w) (sym is) (passes-append w here later one.0 more.0),
-        subst (λ (z : World). OfferedEach w z v m last (r ∷ rs))
+        subst (λ (z : World). OfferedEach w z v room m last (r ∷ rs))
         (sym (ap (after w) is ∙ after-append w here later)) (record {
           goes = goes-both w mid end o.goes more.1.goes;
           others_are = λ j n. more.1.others_are j (λ k. n (inr k)) ∙ o.others j (λ e. n (inl e));
@@ -154,23 +154,23 @@ unfolding burst in_turn
 burst-is n l w = ap (λ (x : List Happening). make_blocks n l w ++ x) (append-nil _)
 
 -- what is known where a leader bursts
-pub record MayBurst (w : World) (l v n : ℕ) (m : Branch) : Type 0 where
+pub record MayBurst (w : World) (l v n room : ℕ) (m : Branch) : Type 0 where
   pub keys : ShareKeys w
   pub goes : AllGoOn w
   pub correct : is_correct w l ≡ true
-  pub leads_it : Leads w l v m n
+  pub leads_it : Leads w l v m (n + room)
   pub leaf_is : leaf (self_of w l) (chronicle_of w l) ≡ m
-  pub climbs : OfCorrect w (λ r. Climbs (self_of w r) v m m n (chronicle_of w r))
+  pub climbs : OfCorrect w (λ r. Climbs (self_of w r) v m m (n + room) (chronicle_of w r))
   pub low : OfCorrect w (λ r. vheight (chronicle_of w r) < length m + n)
   pub some : 0 < n
   pub top : length m + n < HEIGHT_LIMIT
 
 module _ (sizes : Sizes) (start : World) (all : List Happening) where
-  pub burst-voted : (w : World) (rest : List Happening) (l v n : ℕ) (m : Branch)
-      → IsOnWay sizes start all w (burst n l w ++ rest) → MayBurst w l v n m
-      → IsVotedForByAll w (after w (burst n l w)) l n m (leaf (self_of w l) (chronicle_of (after w (burst n l w)) l))
+  pub burst-voted : (w : World) (rest : List Happening) (l v n room : ℕ) (m : Branch)
+      → IsOnWay sizes start all w (burst n l w ++ rest) → MayBurst w l v n room m
+      → IsVotedForByAll w (after w (burst n l w)) l v n room m (leaf (self_of w l) (chronicle_of (after w (burst n l w)) l))
   unfolding after
-  burst-voted w rest l v n m on may =
+  burst-voted w rest l v n room m on may =
       let mk : List Happening = make_blocks n l w in
       let mid : World = after w mk in
       let rs : List ℕ = others l mid in
@@ -183,8 +183,8 @@ module _ (sizes : Sizes) (start : World) (all : List Happening) where
       (sound-of (KnownAt sizes start all) w gw l cl).is_tree.branches m (may.climbs l cl).stands in
       let leafw = ap (λ (x : Branch). length x) may.leaf_is in
       let top = may.top in
-      let made = made-all sizes start all l v m br n w _ 0 on1 may.keys cl (may.goes l cl)
-      (subst (Leads w l v m) (sym (up-none n)) may.leads_it) (omega (arith, leafw, top)) in
+      let made = made-all sizes start all l v m br n w _ room on1 may.keys cl (may.goes l cl)
+      (subst (Leads w l v m) (sym (up-is n room)) may.leads_it) (omega (arith, leafw, top)) in
       let a = made.1 in
       let ks : List ℕ = a.ks in
       let last : Branch = leaf (self_of mid l) (chronicle_of mid l) in
@@ -201,24 +201,25 @@ module _ (sizes : Sizes) (start : World) (all : List Happening) where
       let count = a.count in
       let high = chain-up mid v m m ks last chain in
       let some = may.some in
-      let grow : grown ks 0 ≡ n = grown-none ks ∙ count in
+      let g0 = grown-is ks room in
+      let grow : grown ks room ≡ n + room = omega (arith, g0, count) in
       let other : (r : ℕ) → Among r rs → (is_correct mid r ≡ true) × (r ≡ l → ⊥) =
       λ r k. (let f = Among-filter (λ (i : ℕ). not (i == l)) (correct_replicas mid) r k in (
         among-correct mid (replicas mid.sizes) r f.0,
         λ e. true≢false (sym (eq-eqb r l e) ∙ not-true (r == l) f.1),
       )) in
-      let ready : (r : ℕ) → Among r rs → IsReady mid v m last ks r =
+      let ready : (r : ℕ) → Among r rs → IsReady mid v room m last ks r =
       λ r k. (let o = other r k in
       let cr = sym (same-correct w mid a.goes.made r) ∙ o.0 in
       let low = may.low r cr in
-      ready-later w mid v m last ks r a.goes.made (a.others r o.1) (record {
+      ready-later w mid v room m last ks r a.goes.made (a.others r o.1) (record {
         correct = cr;
         goes = may.goes r cr;
         climbs = subst (λ (x : ℕ). Climbs (self_of w r) v m m x (chronicle_of w r)) (sym grow) (may.climbs r cr);
         low = omega (arith, low, high, count);
       })) in
       let distinct = distinct-kept (λ r. not (r == l)) (correct_replicas mid) (distinct-correct mid (replicas mid.sizes)) in
-      let b = offered-each sizes start all v m last br (omega (arith, high, count, top)) ks (omega (arith, count, some))
+      let b = offered-each sizes start all v room m last br (omega (arith, high, count, top)) ks (omega (arith, count, some))
       rs mid rest onm (keys-in w mid a.goes.made may.keys) distinct chain ready in
       let o = b.1 in
       let end : World = after mid later in
@@ -231,16 +232,14 @@ module _ (sizes : Sizes) (start : World) (all : List Happening) where
       let x : Branch = leaf (self_of w l) (chronicle_of end l) in
       let long = ap (λ (z : Branch). length z) leaf2 in
       let lowl = may.low l cl in
-      let their : (r : ℕ) → is_correct end r ≡ true → (r ≡ l → ⊥) → HasVoted (self_of mid r) v m last (end.replica r) =
+      let their : (r : ℕ) → is_correct end r ≡ true → (r ≡ l → ⊥) → HasVoted (self_of mid r) v room m last (end.replica r) =
       λ r c k. (let cm = sym (same-correct mid end o.goes.made r) ∙ c in
       o.each r (Among-kept (λ (i : ℕ). not (i == l)) (correct_replicas mid) r (correct-listed mid r cm)
       (ap not (ne_eqb r l k)))) in
       let votedl : Among last (voted_blocks (chronicle_of end l)) =
       subst (λ (z : Chronicle). Among last (voted_blocks z)) (sym minec)
       (a.voted some (omega (arith, lowl, high, count))) in
-      let standsl : Among last (window (chronicle_of end l)) =
-      subst (λ (z : Chronicle). Among last (window z)) (sym minec) a.leads_on.climbs.stands in
-      subst (λ (z : World). IsVotedForByAll w z l n m (leaf (self_of w l) (chronicle_of z l))) (sym ends) (record {
+      subst (λ (z : World). IsVotedForByAll w z l v n room m (leaf (self_of w l) (chronicle_of z l))) (sym ends) (record {
         ran = ap (run w) is ∙ (passes-append w mk later made.0 b.0 ∙ ap (λ (z : World). Ok z) (after-append w mk later));
         going_on = λ r c. elim (cases_eq r l) [
           | inl e ↦ subst (λ (i : ℕ). (end.replica i).standing ≡ running) (sym e)
@@ -255,20 +254,35 @@ module _ (sizes : Sizes) (start : World) (all : List Happening) where
               | inl e ↦ subst (λ (i : ℕ). Among last (voted_blocks (chronicle_of end i))) (sym e) votedl
               | inr k ↦ (their r c k).voted
             ]);
-        stands = λ r c. subst (λ (z : Branch). Among z (window (chronicle_of end r))) (sym leaf2)
+        leads_on = record {
+          leader_is = ap (λ (y : Sizes). leader y v) o.goes.made.sizes ∙ a.leads_on.leader_is;
+          high = (λ i. (qc_high (o.goes.made.sizes i) (minec i)).block) ∙ a.leads_on.high;
+          climbs = subst (λ (s : Identity). Climbs s v m (leaf s (chronicle_of end l)) room (chronicle_of end l))
+              (sym (same-self mid end o.goes.made l))
+              (subst (λ (z : Chronicle). Climbs (self_of mid l) v m (leaf (self_of mid l) z) room z) (sym minec)
+              a.leads_on.climbs);
+          waiting = λ q k r c.
+              ap (λ (i : Identity). command_verifies i q) (same-self mid end o.goes.made r)
+              ∙ a.leads_on.waiting q (subst (λ (z : Chronicle). Among q (pending z)) minec k) r
+              (sym (same-correct mid end o.goes.made r) ∙ c);
+        };
+        climbs = λ r c. subst (λ (z : Branch). Climbs (self_of w r) v m z room (chronicle_of end r)) (sym leaf2)
             (elim (cases_eq r l) [
-              | inl e ↦ subst (λ (i : ℕ). Among last (window (chronicle_of end i))) (sym e) standsl
-              | inr k ↦ (their r c k).climbs.stands
+              | inl e ↦ subst (λ (i : ℕ). Climbs (self_of w i) v m last room (chronicle_of end i)) (sym e)
+                  (subst (λ (z : Chronicle). Climbs (self_of w l) v m last room z) (sym minec)
+                  (subst (λ (s : Identity). Climbs s v m last room (chronicle_of mid l)) selfm a.leads_on.climbs))
+              | inr k ↦ subst (λ (s : Identity). Climbs s v m last room (chronicle_of end r))
+                  (same-self w mid a.goes.made r) (their r c k).climbs
             ]);
         session = goes.session;
       })
 
 pub bursts-voted : BurstsAreVotedFor
-bursts-voted sizes is_faulty ring hs w l v n m keys met e goes cl lead is climbs low some top =
+bursts-voted sizes is_faulty ring hs w l v n room m keys met e goes cl lead is climbs low some top =
     let start : World = new_world sizes is_faulty ring in
     let on = on-way-from sizes is_faulty ring hs (burst n l w) w met e in
     let made = subst (IsMadeAs start) (run-after hs start w e) (made-after start hs) in
-    burst-voted sizes start (hs ++ burst n l w) w [] l v n m
+    burst-voted sizes start (hs ++ burst n l w) w [] l v n room m
     (subst (IsOnWay sizes start (hs ++ burst n l w) w) (sym (append-nil (burst n l w))) on) (record {
       keys = keys-in start w made keys;
       goes = goes;

@@ -19,7 +19,7 @@ use Rattle.definitions.specs.Chronicles.{standing_blocks, stored_blocks}
 use Rattle.definitions.specs.Digests.{digest_of}
 use Rattle.definitions.specs.Frames.{Command, Core, Frame}
 use Rattle.definitions.specs.Frames as frame
-use Rattle.definitions.specs.Grounds.{is_justified}
+use Rattle.definitions.specs.Grounds.{is_justified, is_own_certified, own_counted}
 use Rattle.definitions.specs.Histories.{Answer, history_of, answers}
 use Rattle.definitions.specs.Replicas.{MemorySupply.ample, Replica, Standing.running}
 use Rattle.definitions.specs.Rulings.{Input.beat_in, ruling}
@@ -102,7 +102,7 @@ made-waits self c k m = (Among-filter _ (pending c) k (Among-take MOST_COMMANDS 
 -- a climber whose taken blocks, horizon, votes and view are the same
 climbs-told : (self : Identity) (v : ℕ) (m y : Branch) (room : ℕ) (c : Chronicle) → Climbs self v m y room c
     → Climbs self v m y room (noted beat ∷ c)
-unfolding view window horizon standing_blocks stored_blocks taken_blocks lock is_justified
+unfolding view window horizon standing_blocks stored_blocks taken_blocks lock is_justified is_own_certified own_counted qc_high raised
 climbs-told self v m y room c k = record {
   in_view = k.in_view;
   stands = k.stands;
@@ -210,10 +210,10 @@ unfoldable pub up : ℕ → ℕ → ℕ
 up zero room = room
 up (suc n) room = suc (up n room)
 
-pub up-none : (n : ℕ) → up n 0 ≡ n
+pub up-is : (n room : ℕ) → up n room ≡ n + room
 unfolding up
-up-none zero = refl
-up-none (suc n) = let h = up-none n in omega (arith, h)
+up-is zero room = omega arith
+up-is (suc n) room = let h = up-is n room in omega (arith, h)
 
 -- ---- one block
 

@@ -13,7 +13,7 @@ use Rattle.definitions.specs.Branches.{Block, Branch, just1, IsBranch}
 use Rattle.definitions.specs.Checks.{Identity, command_verifies}
 use Rattle.definitions.specs.Chronicles.{Admitted, Chronicle, Step, Step.took_block, voted_blocks, vheight, standing_blocks}
 use Rattle.definitions.specs.Frames.{Core, Frame}
-use Rattle.definitions.specs.Grounds.{is_justified}
+use Rattle.definitions.specs.Grounds.{is_justified, is_own_certified}
 use Rattle.definitions.specs.Sendings.{sendings, proposal_frame}
 use Rattle.definitions.specs.Trees.{clear_above}
 use Rattle.definitions.specs.Replicas.{MemorySupply.ample, Replica, Standing.running}
@@ -178,7 +178,10 @@ module _ (sizes : Sizes) (start : World) (all : List Happening) where
       let there = stands-clear self ch (g.ruled r c) b y good in
       let shown = proposal-known (KnownAt sizes start all) w g keys r v c b y f made.proposal
       (next-place self v m y room ch b climbs made.justify low)
-      (inl (ap (λ (x : Branch). is_justified x ch) over ∙ climbs.ground)) in
+      (elim climbs.ground [
+        | inl j ↦ inl (ap (λ (x : Branch). is_justified x ch) over ∙ j)
+        | inr o ↦ inr (ap (λ (x : Branch). is_own_certified self x ch) over ∙ o)
+      ]) in
       let t = shown.takes in
       let onn = way-on sizes start all w (offer r (of_record k), ample) rest on ok in
       let may : vheight ch < suc (length y) → MayVote w r v b y = λ h. record {
@@ -206,10 +209,10 @@ unfoldable pub grown : List ℕ → ℕ → ℕ
 grown [] room = room
 grown (k ∷ ks) room = suc (grown ks room)
 
-pub grown-none : (ks : List ℕ) → grown ks 0 ≡ length ks
+pub grown-is : (ks : List ℕ) (room : ℕ) → grown ks room ≡ length ks + room
 unfolding grown
-grown-none [] = refl
-grown-none (k ∷ ks) = let h = grown-none ks in omega (arith, h)
+grown-is [] room = omega arith
+grown-is (k ∷ ks) room = let h = grown-is ks room in omega (arith, h)
 
 pub record OfferedAll (w next : World) (r v : ℕ) (m last : Branch) (room : ℕ) (ks : List ℕ) : Type 0 where
   pub goes : GoesOn w next
