@@ -21,3 +21,4 @@ mod Marks
 mod Offers
 mod Making
 mod Bursts
+mod SentVotes
