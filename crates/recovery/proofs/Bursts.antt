@@ -24,7 +24,7 @@ use Rattle.recovery.proofs.Correct.{among-correct, correct-listed}
 use Rattle.recovery.proofs.Fetched.{distinct-last}
 use Rattle.recovery.proofs.Making.{MadeAll, made-all, up, up-is}
 use Rattle.recovery.proofs.Offers.{GoesOn, goes-none, goes-both, Chain, chain-later, chain-up, grown, grown-is, OfferedAll}
-use Rattle.recovery.proofs.Offers.{offers-of, offers-all}
+use Rattle.recovery.proofs.Offers.{offers-of, offers-all, IsStill}
 use Rattle.recovery.proofs.Ways.{IsOnWay, KnownAt, on-way-from, on-way, way-past}
 use Rattle.recovery.proofs.Wells.{sound-of, run-after}
 use Rattle.recovery.proofs.Worlds.{IsMadeAs, made-after, keys-in, same-correct, same-self, Passes, passes-none, passes-append}
@@ -92,6 +92,7 @@ record OfferedEach (w next : World) (v room : ℕ) (m last : Branch) (rs : List 
   goes : GoesOn w next
   others_are : (j : ℕ) → (Among j rs → ⊥) → next.replica j ≡ w.replica j
   each : (r : ℕ) → Among r rs → HasVoted (self_of w r) v room m last (next.replica r)
+  still : (r : ℕ) → Among r rs → IsStill w.sizes m (chronicle_of w r) (chronicle_of next r)
 
 module _ (sizes : Sizes) (start : World) (all : List Happening) (v room : ℕ) (m last : Branch) (br : IsBranch m)
     (top : length last < HEIGHT_LIMIT) (ks : List ℕ) (some : 0 < length ks) where
@@ -104,6 +105,7 @@ module _ (sizes : Sizes) (start : World) (all : List Happening) (v room : ℕ) (
     goes = goes-none w;
     others_are = λ j n. refl;
     each = λ r n. absurd n;
+    still = λ r n. absurd n;
   })
   offered-each (r ∷ rs) w rest on keys d chain ready =
       let here : List Happening = offers-of r ks in
@@ -140,6 +142,15 @@ module _ (sizes : Sizes) (start : World) (all : List Happening) (v room : ℕ) (
           goes = goes-both w mid end o.goes more.1.goes;
           others_are = λ j n. more.1.others_are j (λ k. n (inr k)) ∙ o.others j (λ e. n (inl e));
           each = each;
+          still = λ j n. elim n [
+            | inl e ↦ subst (λ (i : ℕ). IsStill w.sizes m (chronicle_of w i) (chronicle_of end i)) (sym e)
+                (subst (λ (x : Replica). IsStill w.sizes m (chronicle_of w r) x.chronicle)
+                (sym (more.1.others_are r d.0)) o.still)
+            | inr k ↦ subst (λ (x : Replica). IsStill w.sizes m x.chronicle (chronicle_of end j))
+                (o.others j (apart j k))
+                (subst (λ (s : Sizes). IsStill s m (chronicle_of mid j) (chronicle_of end j)) o.goes.made.sizes
+                (more.1.still j k))
+          ];
         }),
       )
 

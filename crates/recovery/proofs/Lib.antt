@@ -22,3 +22,5 @@ mod Offers
 mod Making
 mod Bursts
 mod SentVotes
+mod Counting
+mod Voting
