@@ -176,10 +176,16 @@ pub record MayBurst (w : World) (l v n room : ℕ) (m : Branch) : Type 0 where
   pub some : 0 < n
   pub top : length m + n < HEIGHT_LIMIT
 
+-- what a burst leaves
+pub record HasBurst (w end : World) (l v n room : ℕ) (m : Branch) : Type 0 where
+  pub voted_for : IsVotedForByAll w end l v n room m (leaf (self_of w l) (chronicle_of end l))
+  pub goes : GoesOn w end
+  pub still : OfCorrect w (λ r. IsStill w.sizes m (chronicle_of w r) (chronicle_of end r))
+
 module _ (sizes : Sizes) (start : World) (all : List Happening) where
   pub burst-voted : (w : World) (rest : List Happening) (l v n room : ℕ) (m : Branch)
       → IsOnWay sizes start all w (burst n l w ++ rest) → MayBurst w l v n room m
-      → IsVotedForByAll w (after w (burst n l w)) l v n room m (leaf (self_of w l) (chronicle_of (after w (burst n l w)) l))
+      → HasBurst w (after w (burst n l w)) l v n room m
   unfolding after
   burst-voted w rest l v n room m on may =
       let mk : List Happening = make_blocks n l w in
@@ -250,7 +256,7 @@ module _ (sizes : Sizes) (start : World) (all : List Happening) where
       let votedl : Among last (voted_blocks (chronicle_of end l)) =
       subst (λ (z : Chronicle). Among last (voted_blocks z)) (sym minec)
       (a.voted some (omega (arith, lowl, high, count))) in
-      subst (λ (z : World). IsVotedForByAll w z l v n room m (leaf (self_of w l) (chronicle_of z l))) (sym ends) (record {
+      let voted : IsVotedForByAll w end l v n room m x = record {
         ran = ap (run w) is ∙ (passes-append w mk later made.0 b.0 ∙ ap (λ (z : World). Ok z) (after-append w mk later));
         going_on = λ r c. elim (cases_eq r l) [
           | inl e ↦ subst (λ (i : ℕ). (end.replica i).standing ≡ running) (sym e)
@@ -286,6 +292,21 @@ module _ (sizes : Sizes) (start : World) (all : List Happening) where
                   (same-self w mid a.goes.made r) (their r c k).climbs
             ]);
         session = goes.session;
+      } in
+      subst (λ (z : World). HasBurst w z l v n room m) (sym ends) (record {
+        voted_for = voted;
+        goes = goes;
+        still = λ r c. elim (cases_eq r l) [
+          | inl e ↦ subst (λ (i : ℕ). IsStill w.sizes m (chronicle_of w i) (chronicle_of end i)) (sym e)
+              (subst (λ (z : Chronicle). IsStill w.sizes m (chronicle_of w l) z) (sym minec) a.still)
+          | inr k ↦
+              let cm = same-correct w mid a.goes.made r ∙ c in
+              let there = Among-kept (λ (i : ℕ). not (i == l)) (correct_replicas mid) r (correct-listed mid r cm)
+              (ap not (ne_eqb r l k)) in
+              subst (λ (z : Replica). IsStill w.sizes m z.chronicle (chronicle_of end r)) (a.others r k)
+              (subst (λ (s : Sizes). IsStill s m (chronicle_of mid r) (chronicle_of end r)) a.goes.made.sizes
+              (o.still r there))
+        ];
       })
 
 pub bursts-voted : BurstsAreVotedFor
@@ -293,7 +314,7 @@ bursts-voted sizes is_faulty ring hs w l v n room m keys met e goes cl lead is c
     let start : World = new_world sizes is_faulty ring in
     let on = on-way-from sizes is_faulty ring hs (burst n l w) w met e in
     let made = subst (IsMadeAs start) (run-after hs start w e) (made-after start hs) in
-    burst-voted sizes start (hs ++ burst n l w) w [] l v n room m
+    (burst-voted sizes start (hs ++ burst n l w) w [] l v n room m
     (subst (IsOnWay sizes start (hs ++ burst n l w) w) (sym (append-nil (burst n l w))) on) (record {
       keys = keys-in start w made keys;
       goes = goes;
@@ -304,4 +325,4 @@ bursts-voted sizes is_faulty ring hs w l v n room m keys met e goes cl lead is c
       low = low;
       some = some;
       top = top;
-    })
+    })).voted_for

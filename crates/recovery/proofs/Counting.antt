@@ -21,7 +21,7 @@ use Rattle.definitions.proofs.Certificates.{length-by_voter}
 use Rattle.definitions.proofs.Horizons.{higher-of, higher-rises}
 
 -- a vote was counted for this voter, or there are enough without it
-pub IsCountedFor : Sizes → Branch → ℕ → Chronicle → Type 0
+unfoldable pub IsCountedFor : Sizes → Branch → ℕ → Chronicle → Type 0
 IsCountedFor s x r c =
     (list_any (λ z. z.voter == r) (votes s x c) ≡ true) ⊎ (quorum s ≤ length (votes s x c))
 

@@ -33,6 +33,8 @@ use Rattle.linear_law.proofs.Runs.{member-faulty}
 use Rattle.recovery.specs.Correct.{OfCorrect, AllGoOn, ShareKeys, chronicle_of, amply}
 use Rattle.recovery.specs.Healing.{is_vote}
 use Rattle.recovery.proofs.Asked.{relay-hands}
+use Rattle.recovery.proofs.Counting.{IsCounting, IsCountedFor, counting-on, counted-on, counted-now}
+use Rattle.recovery.proofs.Fetched.{window-told}
 use Rattle.recovery.proofs.Copies.{vector-verifies, correct-party}
 use Rattle.recovery.proofs.Offers.{GoesOn, goes-none, goes-both, recorded-later, row-own, row-other, slice-there}
 use Rattle.recovery.proofs.Steps.{going, outs, TookStep, OnlySent, HandsIn, step-stood, asked}
@@ -162,3 +164,113 @@ module _ (sizes : Sizes) (start : World) (all : List Happening) where
       (λ y. due (noted (got_vote (w.ring r).party v y)))) there) onn.well.good.answers in
       (v, row-own w (happens w (relay k u, ample)) u (noted (got_vote (w.ring r).party v x)) st
       ∙ ap (λ (n : ℕ). going (noted (got_vote n v x) ∷ ch)) number)
+
+-- ---- all votes come to one
+
+-- of these frames all are votes
+unfoldable pub AreVotes : World → List ℕ → Type 0
+AreVotes w ks = (k : ℕ) → Among k ks → (f : Frame) × (recorded w k ≡ Some f) × (is_vote f ≡ true)
+
+-- one is the vote of this replica
+unfoldable pub HasVote : World → List ℕ → ℕ → Branch → Type 0
+HasVote w ks r x = (k : ℕ) × Among k ks × (recorded w k ≡ Some (vote_frame (self_of w r) x))
+
+votes-later : (w next : World) → GoesOn w next → (ks : List ℕ) → AreVotes w ks → AreVotes next ks
+unfolding AreVotes
+votes-later w next g ks h = λ k m. (let r = h k m in (r.0, recorded-later w next g k r.0 r.1, r.2))
+
+vote-later : (w next : World) → GoesOn w next → (ks : List ℕ) (r : ℕ) (x : Branch) → HasVote w ks r x
+    → HasVote next ks r x
+unfolding HasVote
+vote-later w next g ks r x h =
+    (h.0, h.1, recorded-later w next g h.0 (vote_frame (self_of w r) x) h.2
+    ∙ ap (λ (s : Identity). Some (vote_frame s x)) (sym (same-self w next g.made r)))
+
+-- what votes leave of one
+pub record VotedOne (w next : World) (u : ℕ) (x : Branch) (before : Chronicle) : Type 0 where
+  pub goes : GoesOn w next
+  pub others : (j : ℕ) → (j ≡ u → ⊥) → next.replica j ≡ w.replica j
+  pub going_on : (next.replica u).standing ≡ running
+  pub counting : IsCounting (self_of w u) x before (chronicle_of next u)
+  pub counted : OfCorrect w (λ r. IsCountedFor w.sizes x r (chronicle_of next u))
+
+unfoldable pub relays-of : ℕ → List ℕ → List Happening
+relays-of u ks = amply (map (λ k. relay k u) ks)
+
+-- what one vote leaves of the count
+count-one : (self : Identity) (x : Branch) (before : Chronicle) (y z : Replica) → IsCounting self x before y.chronicle
+    → (z ≡ y) ⊎ ((voter : ℕ) × (v : Bytes) × (b : Branch) × (z ≡ going (noted (got_vote voter v b) ∷ y.chronicle)))
+    → IsCounting self x before z.chronicle
+count-one self x before y z h (inl e) = subst (λ (r : Replica). IsCounting self x before r.chronicle) (sym e) h
+count-one self x before y z h (inr g) =
+    subst (λ (r : Replica). IsCounting self x before r.chronicle) (sym g.3)
+    (counting-on self x g.2 g.0 g.1 before y.chronicle h)
+
+counted-one : (s : Sizes) (x : Branch) (r : ℕ) (y z : Replica) → IsCountedFor s x r y.chronicle
+    → (z ≡ y) ⊎ ((voter : ℕ) × (v : Bytes) × (b : Branch) × (z ≡ going (noted (got_vote voter v b) ∷ y.chronicle)))
+    → IsCountedFor s x r z.chronicle
+counted-one s x r y z h (inl e) = subst (λ (q : Replica). IsCountedFor s x r q.chronicle) (sym e) h
+counted-one s x r y z h (inr g) =
+    subst (λ (q : Replica). IsCountedFor s x r q.chronicle) (sym g.3)
+    (counted-on s x g.2 r g.0 g.1 y.chronicle h)
+
+stands-one : (y z : Replica) → y.standing ≡ running
+    → (z ≡ y) ⊎ ((voter : ℕ) × (v : Bytes) × (b : Branch) × (z ≡ going (noted (got_vote voter v b) ∷ y.chronicle)))
+    → z.standing ≡ running
+stands-one y z s (inl e) = ap (λ (q : Replica). q.standing) e ∙ s
+stands-one y z s (inr g) = ap (λ (q : Replica). q.standing) g.3
+
+module _ (sizes : Sizes) (start : World) (all : List Happening) (u : ℕ) (x : Branch) (before : Chronicle)
+    (stands : Among x (window before)) where
+  pub votes-to-one : (ks : List ℕ) (w : World) (rest : List Happening)
+      → IsOnWay sizes start all w (relays-of u ks ++ rest) → ShareKeys w → is_correct w u ≡ true
+      → (w.replica u).standing ≡ running → AreVotes w ks → IsCounting (self_of w u) x before (chronicle_of w u)
+      → OfCorrect w (λ r. IsCountedFor w.sizes x r (chronicle_of w u) ⊎ HasVote w ks r x)
+      → Passes w (relays-of u ks) × VotedOne w (after w (relays-of u ks)) u x before
+  unfolding relays-of after HasVote AreVotes
+  votes-to-one [] w rest on keys c s are counting counted = (passes-none w, record {
+    goes = goes-none w;
+    others = λ j n. refl;
+    going_on = s;
+    counting = counting;
+    counted = λ r d. elim (counted r d) [ inl h ↦ h | inr h ↦ absurd h.1 ];
+  })
+  votes-to-one (k ∷ ks) w rest on keys c s are counting counted =
+      let next : World = happens w (relay k u, ample) in
+      let later : List Happening = relays-of u ks in
+      let f = are k (inl refl) in
+      let one = vote-comes sizes start all w (later ++ rest) k u f.0 on c s f.1 f.2 in
+      let ok = relay-named sizes start all w k u f.0 c f.1 in
+      let onn = way-on sizes start all w (relay k u, ample) (later ++ rest) on ok in
+      let self1 = same-self w next one.goes.made u in
+      let there : Among x (window (chronicle_of w u)) =
+      subst (λ (l : List Branch). Among x l)
+      (sym (window-told before (chronicle_of w u) counting.taken counting.forgotten)) stands in
+      let counted1 : OfCorrect next (λ r. IsCountedFor next.sizes x r (chronicle_of next u) ⊎ HasVote next ks r x) =
+      λ r d. (let d0 = sym (same-correct w next one.goes.made r) ∙ d in
+      subst (λ (z : Sizes). IsCountedFor z x r (chronicle_of next u) ⊎ HasVote next ks r x) (sym one.goes.made.sizes)
+      (elim (counted r d0) [
+        | inl h ↦ inl (counted-one w.sizes x r (w.replica u) (next.replica u) h one.own)
+        | inr (i, inl e, rec) ↦ inl (
+            let mine = own-comes sizes start all w (later ++ rest) k u r x on keys c d0 s
+            (subst (λ (j : ℕ). recorded w j ≡ Some (vote_frame (self_of w r) x)) e rec) there in
+            subst (λ (q : Replica). IsCountedFor w.sizes x r q.chronicle) (sym mine.1)
+            (counted-now w.sizes x r mine.0 (chronicle_of w u)))
+        | inr (i, inr n, rec) ↦ inr (vote-later w next one.goes ks r x (i, n, rec))
+      ])) in
+      let more = votes-to-one ks next rest onn (keys-in w next one.goes.made keys)
+      (same-correct w next one.goes.made u ∙ c) (stands-one (w.replica u) (next.replica u) s one.own)
+      (votes-later w next one.goes ks (λ j n. are j (inr n)))
+      (subst (λ (i : Identity). IsCounting i x before (chronicle_of next u)) (sym self1)
+      (count-one (self_of w u) x before (w.replica u) (next.replica u) counting one.own)) counted1 in
+      let end : World = after next later in (
+        passes-one w (relay k u, ample) later ok more.0,
+        record {
+          goes = goes-both w next end one.goes more.1.goes;
+          others = λ j n. more.1.others j n ∙ one.others j n;
+          going_on = more.1.going_on;
+          counting = subst (λ (i : Identity). IsCounting i x before (chronicle_of end u)) self1 more.1.counting;
+          counted = λ r d. subst (λ (z : Sizes). IsCountedFor z x r (chronicle_of end u)) one.goes.made.sizes
+              (more.1.counted r (same-correct w next one.goes.made r ∙ d));
+        },
+      )
