@@ -18,6 +18,8 @@ use Rattle.definitions.specs.Trees.{Stored, blocks, clear_above, is_clear}
 use Rattle.definitions.specs.Worlds.{World, self_of}
 use Rattle.definitions.proofs.Branches.{just1-below, just2-is, branch_eq-decides, Extends-trans, length-extends}
 use Rattle.definitions.proofs.Horizons.{window-grown}
+use Rattle.definitions.proofs.Windows.{block-stored}
+use Rattle.definitions.proofs.Lists.{any-from}
 use Rattle.recovery.specs.Correct.{chronicle_of}
 use Rattle.recovery.specs.Law.{HasPlace, Climbs}
 use Rattle.recovery.proofs.Decided.{justifies-below}
@@ -45,15 +47,22 @@ IsAdded self b y c a =
     ((a.new ≡ true) × (a.clear ≡ list_all (command_verifies self) b.commands))
     ⊎ ((a.new ≡ false) × Among (b ∷ y) (window c))
 
--- what justified m still does
-ground-more : (m : Branch) (c : Chronicle) (a : Admitted) → is_justified m c ≡ true
-    → horizon c ≤ length a.branch + 2 → (a.new ≡ true) ⊎ (a.new ≡ false) → is_justified m (took_block a ∷ c) ≡ true
-unfolding is_justified
-ground-more m c a h l (inl n) =
+-- a block that was taken justifies what it justifies
+ground-itself : (m : Branch) (c : Chronicle) (a : Admitted) (b : Block) (y : Branch) → a.branch ≡ b ∷ y
+    → just1 a.branch ≡ m → horizon c ≤ length a.branch + 2
+    → (a.new ≡ true) ⊎ ((a.new ≡ false) × Among (b ∷ y) (window c)) → is_justified m (took_block a ∷ c) ≡ true
+unfolding is_justified window
+ground-itself m c a b y e j l (inl n) =
     subst (λ (s : List Stored). list_any (λ x. branch_eq (just1 x.branch) m) s ≡ true) (sym (window-grown a c n l))
-    (or_right (branch_eq (just1 a.branch) m) (list_any (λ x. branch_eq (just1 x.branch) m) (standing_blocks c)) h)
-ground-more m c a h l (inr o) =
-    subst (λ (s : List Stored). list_any (λ x. branch_eq (just1 x.branch) m) s ≡ true) (sym (standing-old a c o)) h
+    (or_left (branch_eq (just1 a.branch) m) (list_any (λ x. branch_eq (just1 x.branch) m) (standing_blocks c))
+    ((branch_eq-decides (just1 a.branch) m).1 j))
+ground-itself m c a b y e j l (inr o) =
+    subst (λ (s : List Stored). list_any (λ x. branch_eq (just1 x.branch) m) s ≡ true) (sym (standing-old a c o.0))
+    (elim (block-stored (standing_blocks c) (b ∷ y) o.1) [
+      | inl z ↦ absurd (let k = ap (λ (x : Branch). length x) z in omega (arith, k))
+      | inr s ↦ any-from (λ (x : Stored). branch_eq (just1 x.branch) m) (standing_blocks c) s.0 s.1
+          ((branch_eq-decides (just1 s.0.branch) m).1 (ap just1 (sym s.2) ∙ (ap just1 (sym e) ∙ j)))
+    ])
 
 -- the lock is still safe
 lock-more : (m : Branch) (c : Chronicle) (a : Admitted) → IsBranch m → just1 a.branch ≡ m
@@ -162,7 +171,8 @@ climb-more self v m y room c b a k br j e add good there =
       in_view = k.in_view;
       stands = took-stands c a (b ∷ y) e (omega (arith, low, long)) (is-there self b y c a add);
       over = (b ∷ k.over.0, ap (λ (l : Branch). b ∷ l) k.over.1);
-      ground = ground-more m c a k.ground low n;
+      ground = inl (ground-itself m c a b y e (ap just1 e ∙ justifies-below b y m k.over j) low
+          (is-there self b y c a add));
       reach = k.reach;
       safe = lock-more m c a br (ap just1 e ∙ justifies-below b y m k.over j) k.safe;
       clear = clear-all self m y c b a e low add good there k.clear;

@@ -273,7 +273,7 @@ took-stands c a x e l (inr old) =
     subst (λ (s : List Stored). Among x (blocks s)) (sym (standing-old a c old.0)) old.1
 
 -- what stands is told by what was taken and forgotten
-window-told : (c d : Chronicle) → taken_blocks d ≡ taken_blocks c → horizon d ≡ horizon c → window d ≡ window c
+pub window-told : (c d : Chronicle) → taken_blocks d ≡ taken_blocks c → horizon d ≡ horizon c → window d ≡ window c
 unfolding window standing_blocks stored_blocks
 window-told c d t h = λ k. blocks (standing (h k) (map stored_block (t k)))
 

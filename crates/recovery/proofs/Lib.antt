@@ -21,3 +21,6 @@ mod Marks
 mod Offers
 mod Making
 mod Bursts
+mod SentVotes
+mod Counting
+mod Voting

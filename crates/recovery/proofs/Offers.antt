@@ -1,11 +1,11 @@
 -- A leader's blocks are offered to a replica, one after the other.
 use Rattle.ids.specs.declared.limits.TheConstants.{HEIGHT_LIMIT}
-use Rattle.std.proofs.Common.{ℕ, zero, suc, ◌≡◌, ◌<◌, ◌≤◌, ◌+◌, ◌⊎◌, ◌==◌, ◌&&◌, not, Bool, true, false, cond, List, [], ◌∷◌}
+use Rattle.std.proofs.Common.{ℕ, zero, suc, ◌≡◌, ◌<◌, ◌≤◌, ◌+◌, ◌⊎◌, ◌==◌, ◌&&◌, ◌||◌, not, Bool, true, false, cond, List, [], ◌∷◌}
 use Rattle.std.proofs.Common.{◌++◌, map, length, refl, sym, ap, subst, ◌∙◌, arith, inl, inr, nat_lt, Option, Some, None}
 use Rattle.std.proofs.Common.{option_map, slice_get}
 use Rattle.std.specs.Bool.{⊤}
 use Rattle.std.specs.List.{list_all}
-use Rattle.std.proofs.lemmas.Bool.{cond-true, cond-false, and_parts, eq-eqb, ne_eqb, lt-ltb, cases_lt}
+use Rattle.std.proofs.lemmas.Bool.{cond-true, cond-false, cond_both, and_parts, eq-eqb, ne_eqb, lt-ltb, cases_lt}
 use Rattle.std.proofs.lemmas.List.{append-nil, append_assoc}
 use Rattle.ids.specs.Sizes.{Sizes, leader}
 use Rattle.definitions.specs.Lists.{Among}
@@ -13,8 +13,9 @@ use Rattle.definitions.specs.Branches.{Block, Branch, just1, IsBranch}
 use Rattle.definitions.specs.Checks.{Identity, command_verifies}
 use Rattle.definitions.specs.Chronicles.{Admitted, Chronicle, Step, Step.took_block, voted_blocks, vheight, standing_blocks}
 use Rattle.definitions.specs.Frames.{Core, Frame}
-use Rattle.definitions.specs.Grounds.{is_justified}
+use Rattle.definitions.specs.Grounds.{is_justified, is_own_certified}
 use Rattle.definitions.specs.Sendings.{sendings, proposal_frame}
+use Rattle.definitions.specs.States.{Justified, votes, raised, fills, higher, qc_high}
 use Rattle.definitions.specs.Trees.{clear_above}
 use Rattle.definitions.specs.Replicas.{MemorySupply.ample, Replica, Standing.running}
 use Rattle.definitions.specs.Rulings.{ruling}
@@ -78,7 +79,7 @@ recorded-later w next g k f e =
     ap (λ (l : List Sent). option_map (λ s. s.frame) (slice_get l k)) g.sent ∙ slice-later w.sent g.more k f e
 
 -- and stands below the record's length
-slice-there : (xs : List Sent) (k : ℕ) (f : Frame) → option_map (λ s. s.frame) (slice_get xs k) ≡ Some f → k < length xs
+pub slice-there : (xs : List Sent) (k : ℕ) (f : Frame) → option_map (λ s. s.frame) (slice_get xs k) ≡ Some f → k < length xs
 slice-there [] k f e = absurd (none e)
   where
     none : None ≡ Some f → ⊥
@@ -178,7 +179,10 @@ module _ (sizes : Sizes) (start : World) (all : List Happening) where
       let there = stands-clear self ch (g.ruled r c) b y good in
       let shown = proposal-known (KnownAt sizes start all) w g keys r v c b y f made.proposal
       (next-place self v m y room ch b climbs made.justify low)
-      (inl (ap (λ (x : Branch). is_justified x ch) over ∙ climbs.ground)) in
+      (elim climbs.ground [
+        | inl j ↦ inl (ap (λ (x : Branch). is_justified x ch) over ∙ j)
+        | inr o ↦ inr (ap (λ (x : Branch). is_own_certified self x ch) over ∙ o)
+      ]) in
       let t = shown.takes in
       let onn = way-on sizes start all w (offer r (of_record k), ample) rest on ok in
       let may : vheight ch < suc (length y) → MayVote w r v b y = λ h. record {
@@ -199,12 +203,46 @@ module _ (sizes : Sizes) (start : World) (all : List Happening) where
         },
       )
 
+-- ---- what is still
+
+-- the kept votes are the same, and the highest certificate is no higher than it was, or than m
+pub record IsStill (s : Sizes) (m : Branch) (before now : Chronicle) : Type 0 where
+  pub votes_are : (x : Branch) → votes s x now ≡ votes s x before
+  pub low : (n : ℕ) → length m < n → length (qc_high s before).block < n → length (qc_high s now).block < n
+
+pub still-none : (s : Sizes) (m : Branch) (c : Chronicle) → IsStill s m c c
+still-none s m c = record { votes_are = λ x. refl; low = λ n h k. k }
+
+pub still-both : (s : Sizes) (m : Branch) (a b c : Chronicle) → IsStill s m a b → IsStill s m b c → IsStill s m a c
+still-both s m a b c h k =
+    record { votes_are = λ x. k.votes_are x ∙ h.votes_are x; low = λ n l i. k.low n l (h.low n l i) }
+
+pub still-took : (s : Sizes) (m : Branch) (c : Chronicle) (a : Admitted) → just1 a.branch ≡ m
+    → IsStill s m c (took_block a ∷ c)
+unfolding votes qc_high raised
+still-took s m c a e = record { votes_are = λ x. refl; low = λ n h k. by a.new n h k }
+  where
+    p : Justified
+    p = record { block = just1 a.branch; certificate = a.certificate }
+
+    by : (t : Bool) (n : ℕ) → length m < n → length (qc_high s c).block < n
+        → length (higher true (cond t (Some p) None) (qc_high s c)).block < n
+    by true n h k = cond_both (nat_lt (length (qc_high s c).block) (length p.block) || (true && fills p (qc_high s c)))
+        p (qc_high s c) (λ (j : Justified). length j.block < n)
+        (λ t. let l = ap (λ (z : Branch). length z) e in omega (arith, h, l)) (λ t. k)
+    by false n h k = k
+
 -- ---- all offers to one replica
 
 -- room for the blocks of a list, and so many more
 unfoldable pub grown : List ℕ → ℕ → ℕ
 grown [] room = room
 grown (k ∷ ks) room = suc (grown ks room)
+
+pub grown-is : (ks : List ℕ) (room : ℕ) → grown ks room ≡ length ks + room
+unfolding grown
+grown-is [] room = omega arith
+grown-is (k ∷ ks) room = let h = grown-is ks room in omega (arith, h)
 
 pub record OfferedAll (w next : World) (r v : ℕ) (m last : Branch) (room : ℕ) (ks : List ℕ) : Type 0 where
   pub goes : GoesOn w next
@@ -214,13 +252,14 @@ pub record OfferedAll (w next : World) (r v : ℕ) (m last : Branch) (room : ℕ
   pub voted : vheight (chronicle_of w r) < length last → 0 < length ks
       → Among last (voted_blocks (chronicle_of next r))
   pub kept : (x : Branch) → Among x (voted_blocks (chronicle_of w r)) → Among x (voted_blocks (chronicle_of next r))
+  pub still : IsStill w.sizes m (chronicle_of w r) (chronicle_of next r)
 
 -- the events
-pub offers-of : ℕ → List ℕ → List Happening
+unfoldable pub offers-of : ℕ → List ℕ → List Happening
 offers-of r ks = amply (map (λ k. offer r (of_record k)) ks)
 
 -- the world after an offer that was taken
-offer-goes : (w next : World) (r : ℕ) (st : Step) → TookStep w next r st → GoesOn w next
+pub offer-goes : (w next : World) (r : ℕ) (st : Step) → TookStep w next r st → GoesOn w next
 offer-goes w next r st t = record {
   made = t.made;
   more = outs w r (sendings (self_of w r) st (chronicle_of w r));
@@ -255,6 +294,7 @@ module _ (sizes : Sizes) (start : World) (all : List Happening) (r v : ℕ) (m l
     climbs = subst (λ (z : Branch). Climbs (self_of w r) v m z room (chronicle_of w r)) chain climbs;
     voted = λ h n. absurd (omega (arith, n));
     kept = λ x n. n;
+    still = still-none w.sizes m (chronicle_of w r);
   })
   offers-all (k ∷ ks) w rest y room on keys c s (b, f, rec, made, chain) climbs =
       let next : World = happens w (offer r (of_record k), ample) in
@@ -293,5 +333,11 @@ module _ (sizes : Sizes) (start : World) (all : List Happening) (r v : ℕ) (m l
           ];
           kept = λ x n. more.1.kept x (subst (λ (z : Chronicle). Among x (voted_blocks z)) (sym ownc)
               (voted-grows (took_block o.taken) (chronicle_of w r) x n));
+          still = still-both w.sizes m (chronicle_of w r) (chronicle_of next r) (chronicle_of end r)
+              (subst (IsStill w.sizes m (chronicle_of w r)) (sym ownc)
+              (still-took w.sizes m (chronicle_of w r) o.taken
+              (ap just1 o.branch ∙ justifies-below b y m climbs.over made.justify)))
+              (subst (λ (z : Sizes). IsStill z m (chronicle_of next r) (chronicle_of end r)) goes.made.sizes
+              more.1.still);
         },
       )

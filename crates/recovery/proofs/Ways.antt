@@ -17,7 +17,8 @@ use Rattle.linear_law.proofs.WholeRuns.{IsWell, AssumedAlong, well-happens, come
 use Rattle.linear_law.proofs.WholeRuns.{known-apart, known-genesis, known-along}
 use Rattle.recovery.proofs.Worlds.{made-after, after-append, Passes}
 use Rattle.recovery.proofs.Ruled.{AllRuled, happens-ruled}
-use Rattle.recovery.proofs.Wells.{IsReached, run-after, well-run, IsKeptWell, new-ruled}
+use Rattle.recovery.proofs.SentVotes.{VotesSent, happens-votes}
+use Rattle.recovery.proofs.Wells.{IsReached, run-after, well-run, IsKeptWell, new-ruled, new-votes}
 
 -- the cores of a whole run
 abbrev pub KnownAt : (sizes : Sizes) → World → List Happening → Core → Type 0
@@ -30,6 +31,7 @@ pub record IsOnWay (sizes : Sizes) (start : World) (all : List Happening) (w : W
   pub starts : start.sizes ≡ sizes
   pub well : IsWell (KnownAt sizes start all) w
   pub ruled : AllRuled w
+  pub votes : VotesSent w
   pub assumed : AssumedAlong (KnownAt sizes start all) w ahead
   pub ends : after w ahead ≡ after start all
 
@@ -62,12 +64,13 @@ on-way-from sizes is_faulty ring hs ahead w met e =
     let assumed = assumed-both Known start hs ahead (known-along sizes start all (new-sizes sizes is_faulty ring) met) in
     let end : after start hs ≡ w = run-after hs start w e in
     let kept = well-run Known (known-apart sizes start all met) (known-genesis sizes start all) hs start w
-    (record { well = new-well sizes is_faulty ring all met; ruled = new-ruled sizes is_faulty ring }) assumed.0 e in
+    (record { well = new-well sizes is_faulty ring all met; ruled = new-ruled sizes is_faulty ring; votes = new-votes sizes is_faulty ring }) assumed.0 e in
     record {
       premises = met;
       starts = new-sizes sizes is_faulty ring;
       well = kept.well;
       ruled = kept.ruled;
+      votes = kept.votes;
       assumed = subst (λ (z : World). AssumedAlong Known z ahead) end assumed.1;
       ends = ap (λ (z : World). after z ahead) (sym end) ∙ sym (after-append start hs ahead);
     }
@@ -105,6 +108,8 @@ module _ (sizes : Sizes) (start : World) (all : List Happening) where
         (known-genesis sizes start all) w h on.well on.assumed.0 ok;
     ruled = happens-ruled (KnownAt sizes start all) w h on.well
         (comes-framed w h.0 on.assumed.0.read on.well.framed.sent) ok on.ruled;
+    votes = happens-votes (KnownAt sizes start all) w h on.well
+        (comes-framed w h.0 on.assumed.0.read on.well.framed.sent) ok on.votes;
     assumed = on.assumed.1;
     ends = on.ends;
   }

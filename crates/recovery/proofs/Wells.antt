@@ -4,7 +4,7 @@ use Rattle.ids.specs.Sizes.{Sizes}
 use Rattle.std.proofs.Common.{Bool}
 use Rattle.definitions.specs.Lists.{Among}
 use Rattle.definitions.specs.Branches.{Branch}
-use Rattle.definitions.specs.Chronicles.{Chronicle, IsSound, tree}
+use Rattle.definitions.specs.Chronicles.{Chronicle, IsSound, tree, voted_blocks}
 use Rattle.definitions.specs.Digests.{NoCollision, AllKnown, digest_of}
 use Rattle.definitions.specs.Frames.{Core, genesis_core}
 use Rattle.definitions.specs.Keyrings.{Keyring}
@@ -24,6 +24,7 @@ use Rattle.linear_law.proofs.WholeRuns.{known-apart, known-genesis, known-along}
 use Rattle.recovery.specs.Correct.{chronicle_of}
 use Rattle.recovery.proofs.Worlds.{made-after}
 use Rattle.recovery.proofs.Ruled.{AllRuled, happens-ruled}
+use Rattle.recovery.proofs.SentVotes.{VotesSent, happens-votes}
 
 -- a world of a run, among known cores that don't collide
 pub record IsReached (Known : Core → Type 0) (w : World) : Type 0 where
@@ -39,6 +40,7 @@ pub record IsReached (Known : Core → Type 0) (w : World) : Type 0 where
 pub record IsKeptWell (Known : Core → Type 0) (w : World) : Type 0 where
   pub well : IsWell Known w
   pub ruled : AllRuled w
+  pub votes : VotesSent w
 
 pub well-run : (Known : Core → Type 0) → NoCollision Known → Known genesis_core → (hs : List Happening) (w last : World)
     → IsKeptWell Known w → AssumedAlong Known w hs → run w hs ≡ Ok last → IsKeptWell Known last
@@ -49,11 +51,17 @@ well-run Known apart genesis (h ∷ hs) w last g a e =
     well-run Known apart genesis hs (happens w h) last (record {
       well = well-happens Known apart genesis w h g.well a.0 r.0;
       ruled = happens-ruled Known w h g.well (comes-framed w h.0 a.0.read g.well.framed.sent) r.0 g.ruled;
+      votes = happens-votes Known w h g.well (comes-framed w h.0 a.0.read g.well.framed.sent) r.0 g.votes;
     }) a.1 r.1
 
 pub new-ruled : (sizes : Sizes) (is_faulty : ℕ → Bool) (ring : ℕ → Keyring) → AllRuled (new_world sizes is_faulty ring)
 unfolding new_world
 new-ruled sizes is_faulty ring = λ r c. tt
+
+pub new-votes : (sizes : Sizes) (is_faulty : ℕ → Bool) (ring : ℕ → Keyring)
+    → VotesSent (new_world sizes is_faulty ring)
+unfolding new_world voted_blocks
+new-votes sizes is_faulty ring = λ r c s x m. absurd m
 
 -- a run ends in the world after it
 pub run-after : (hs : List Happening) (w last : World) → run w hs ≡ Ok last → after w hs ≡ last
@@ -82,7 +90,7 @@ reached sizes is_faulty ring hs last met e =
     let apart = known-apart sizes w hs met in
     let genesis = known-genesis sizes w hs in
     let kept = well-run (KnownIn sizes w hs) apart genesis hs w last
-    (record { well = new-well sizes is_faulty ring hs met; ruled = new-ruled sizes is_faulty ring })
+    (record { well = new-well sizes is_faulty ring hs met; ruled = new-ruled sizes is_faulty ring; votes = new-votes sizes is_faulty ring })
     (known-along sizes w hs (new-sizes sizes is_faulty ring) met) e in
     let end = run-after hs w last e in
     record {

@@ -235,7 +235,7 @@ pub record Climbs (self : Identity) (v : ℕ) (m y : Branch) (room : ℕ) (c : C
   pub in_view : view self.sizes c ≡ v
   pub stands : Among y (window c)
   pub over : Extends y m
-  pub ground : is_justified m c ≡ true
+  pub ground : (is_justified m c ≡ true) ⊎ (is_own_certified self m c ≡ true)
   pub reach : horizon c ≤ length m
   pub safe : (lock c ≡ m) ⊎ (length (lock c) < length m)
   pub clear : clear_above (length m) y (standing_blocks c) ≡ true
@@ -252,28 +252,29 @@ pub record Leads (w : World) (l v : ℕ) (m : Branch) (room : ℕ) : Type 0 wher
       → OfCorrect w (λ r. command_verifies (self_of w r) c ≡ true)
 
 -- No event of a burst was refused by the run, and all correct replicas go on. Each voted for the last block, which is n
--- higher than m and goes through it, and which is the leader's leaf.
-pub record IsVotedForByAll (w last : World) (l n : ℕ) (m x : Branch) : Type 0 where
+-- higher than m and goes through it, and which is the leader's leaf; and each could climb on, with so much room.
+pub record IsVotedForByAll (w last : World) (l v n room : ℕ) (m x : Branch) : Type 0 where
   pub ran : run w (burst n l w) ≡ Ok last
   pub going_on : AllGoOn last
   pub high : length x ≡ length m + n
   pub over : Extends x m
   pub leaf_is : leaf (self_of w l) (chronicle_of last l) ≡ x
+  pub leads_on : Leads last l v m room
+  pub climbs : OfCorrect last (λ r. Climbs (self_of w r) v m x room (chronicle_of last r))
   pub voted : OfCorrect last (λ r. Among x (voted_blocks (chronicle_of last r)))
-  pub stands : OfCorrect last (λ r. Among x (window (chronicle_of last r)))
   pub session : last.session ≡ w.session
 
 -- A burst from a block m with which all may climb is voted for by all, where it ends above all that they voted for.
 abbrev pub BurstsAreVotedFor : Type 0
 BurstsAreVotedFor =
     (sizes : Sizes) (is_faulty : ℕ → Bool) (ring : ℕ → Keyring) (hs : List Happening) (w : World)
-    (l v n : ℕ) (m : Branch) → ShareKeys (new_world sizes is_faulty ring)
+    (l v n room : ℕ) (m : Branch) → ShareKeys (new_world sizes is_faulty ring)
     → ArePremises (new_world sizes is_faulty ring) (hs ++ burst n l w)
     → run (new_world sizes is_faulty ring) hs ≡ Ok w → AllGoOn w → is_correct w l ≡ true
-    → Leads w l v m n → leaf (self_of w l) (chronicle_of w l) ≡ m
-    → OfCorrect w (λ r. Climbs (self_of w r) v m m n (chronicle_of w r))
+    → Leads w l v m (n + room) → leaf (self_of w l) (chronicle_of w l) ≡ m
+    → OfCorrect w (λ r. Climbs (self_of w r) v m m (n + room) (chronicle_of w r))
     → OfCorrect w (λ r. vheight (chronicle_of w r) < length m + n) → 0 < n → length m + n < HEIGHT_LIMIT
-    → IsVotedForByAll w (after w (burst n l w)) l n m
+    → IsVotedForByAll w (after w (burst n l w)) l v n room m
     (leaf (self_of w l) (chronicle_of (after w (burst n l w)) l))
 
 -- ---- decisions
