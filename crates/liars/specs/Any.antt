@@ -1,6 +1,8 @@
 -- Lies that are drawn.
 use Rattle.std.specs.Prelude.{ℕ, ◌+◌, ◌-◌, ◌*◌, ◌/◌, ◌%◌, ◌^◌, ◌==◌, ◌++◌, List, [], ◌∷◌, Bool, true, false, length}
-use Rattle.std.specs.Prelude.{take, drop, replicate, Option, None, Some, option_to_list, unwrap_or, if◌then◌else◌}
+use Rattle.std.specs.Prelude.{take, drop, replicate, Option, Some, option_to_list, unwrap_or, if◌then◌else◌}
+use Rattle.std.specs.Prelude.{map}
+use Rattle.std.specs.List.{range_with_len}
 use Rattle.ids.specs.declared.kind.Kind.{Kind}
 use Rattle.ids.specs.declared.kind.Kind.TheVariants as kind
 use Rattle.ids.specs.Sizes.{Sizes, replicas}
@@ -53,12 +55,19 @@ untagged len frame = take (length frame - len) frame
 abbrev pub tags_in : ℕ → Bytes → Bytes
 tags_in len frame = drop (length frame - len) frame
 
+-- a frame that ends with a tag for each replica, of which this one's alone is left
+abbrev pub for_one_alone : Sizes → Bytes → ℕ → Bytes
+for_one_alone sizes frame r =
+    let len = tag_len * replicas sizes in untagged len frame ++ lone sizes r (tag_of (tags_in len frame) r)
+
+-- such a frame for each replica
+abbrev pub for_each_alone : Sizes → Bytes → List Bytes
+for_each_alone sizes frame = map (for_one_alone sizes frame) (range_with_len 0 (replicas sizes))
+
 -- a frame of whose tags one replica's alone is left; what has one tag alone is as it was
 abbrev pub half_of : Sizes → ℕ → SentBytes → SentBytes
 half_of sizes word sent =
-    let len = tag_len * replicas sizes in
-    let r = lone_receiver sizes word sent in
-    if has_vector sent.1 then (sent.0, sent.1, untagged len sent.2 ++ lone sizes r (tag_of (tags_in len sent.2) r))
+    if has_vector sent.1 then (sent.0, sent.1, for_one_alone sizes sent.2 (lone_receiver sizes word sent))
     else sent
 
 -- a frame with zero bytes for tags

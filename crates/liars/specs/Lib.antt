@@ -1,4 +1,5 @@
 pub mod Any
+pub mod Claims
 pub mod Kept
 pub mod Lies
 pub mod Low

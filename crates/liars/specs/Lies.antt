@@ -23,6 +23,7 @@ use Rattle.liars.specs.declared.plain.TheConstants.{REPEATS}
 use Rattle.liars.specs.declared.plain.Lie.{Lie}
 use Rattle.liars.specs.declared.plain.Lie.TheVariants.{Mute, TwoFaced, BadReply, Crowder, Flooder}
 use Rattle.liars.specs.declared.plain.Lie.TheVariants.{HalfVoter, LateHalfVoter, HalfVotes, Climber, Spoiler}
+use Rattle.liars.specs.declared.plain.Lie.TheVariants.{WrongAnswers}
 
 -- the proposal of a block that has no commands, with a replica's tags
 abbrev pub empty_proposal : Keys → ℕ → Core → Certificate → Frame
@@ -193,6 +194,40 @@ abbrev pub spoilt : Keys → SentBytes → Option Frame → List SentBytes
 spoilt ring sent (Some (proposal view core q vector)) = spoilt_requests ring.sizes core ++ sent ∷ []
 spoilt ring sent read = sent ∷ []
 
+-- an empty block on the one of a core
+abbrev pub other_core : Core → Core
+other_core core = record {
+  parent = digest core;
+  height = core.height;
+  justify_height = core.justify_height;
+  commands = [];
+}
+
+-- a certificate without votes, for the block of a core
+abbrev pub own_certificate : Core → Certificate
+own_certificate core = record { digest = digest core; votes = [] }
+
+-- a Block frame for a replica, with the right tag
+abbrev pub answer_to : Keys → ℕ → Core → Certificate → SentBytes
+answer_to ring r core q = (
+  to_party r,
+  kind.Block,
+  spelling (block ring.party core q (tag_for (keyring_of ring) kind.Block r (block_content ring.party core q))),
+)
+
+-- in place of an answer to a replica one with another block, and one whose certificate isn't for the block that its
+-- block justifies
+abbrev pub wrong_answers : Keys → SentBytes → Core → Certificate → Option ℕ → List SentBytes
+wrong_answers ring sent core q (Some r) =
+    answer_to ring r (other_core core) q ∷ answer_to ring r core (own_certificate core) ∷ []
+wrong_answers ring sent core q None = sent ∷ []
+
+-- what a replica of wrong answers sends in place of a frame
+abbrev pub wrongly_answered : Keys → SentBytes → Option Frame → List SentBytes
+wrongly_answered ring sent (Some (block sender core q tag)) =
+    wrong_answers ring sent core q (replica_in ring.sizes sent.0)
+wrongly_answered ring sent read = sent ∷ []
+
 -- it is sent in place of a frame, by what the frame's bytes are read as
 abbrev pub IsTold : (SentBytes → Option Frame → List SentBytes) → Sizes → SentBytes → List SentBytes → Type 0
 IsTold told sizes sent out = (read : Option Frame) × IsReadAs sizes sent.2 read × (out ≡ told sent read)
@@ -209,3 +244,4 @@ IsLie ring LateHalfVoter sent out = IsTold (half_led LATE ring) ring.sizes sent 
 IsLie ring HalfVotes sent out = IsTold (half_voted ring) ring.sizes sent out
 IsLie ring Climber sent out = IsTold (climbed ring) ring.sizes sent out
 IsLie ring Spoiler sent out = IsTold (spoilt ring) ring.sizes sent out
+IsLie ring WrongAnswers sent out = IsTold (wrongly_answered ring) ring.sizes sent out

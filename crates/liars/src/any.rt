@@ -4,7 +4,8 @@ ghost use Rattle.std.specs.Prelude.{◌≡◌, ◌<◌, ◌++◌, None, Some, If
 ghost use Rattle.ids.specs.Sizes.{replicas};
 ghost use Rattle.signed_frames.specs.Outs.{sent_of};
 ghost use Rattle.liars.specs.Any.{any_step, half_of, has_vector, lone_receiver, manner_of, next_word, spoilt_of};
-ghost use Rattle.liars.specs.Any.{tags_in, tags_len, untagged};
+ghost use Rattle.liars.specs.Any.{for_each_alone, for_one_alone, tags_in, tags_len, untagged};
+ghost use Rattle.liars.specs.Told.{bytes_of};
 
 use crate::half::replica_of;
 use crate::lone::{behind, first, lone, tag_of};
@@ -103,6 +104,41 @@ fn retagged(alloc: Global, frame: &[u8], tags: &[u8]) -> Result<Vec<u8>, AllocEr
     Ok(made)
 }
 
+/// A frame that ends with a tag for each replica, of which this one's alone is left.
+fn for_one_alone(
+    alloc: Global,
+    config: Config,
+    frame: &[u8],
+    replica: ReplicaId,
+) -> Result<Vec<u8>, AllocError>
+    requires { replica < replicas config }
+    ensures { IfOk result (λ made. made.items ≡ for_one_alone config frame.now replica) }
+{
+    let len = 32 * usize::from(config.n());
+    let tags = behind(frame, frame.len().saturating_sub(len));
+    let vector = lone(alloc, config, replica, tag_of(tags, replica))?;
+    let body = first(frame, frame.len().saturating_sub(len));
+    let mut made = Vec::from_slice(alloc, body)?;
+    made.extend_from_slice(&vector)?;
+    Ok(made)
+}
+
+/// What a client sends that lies: to each replica its request, with the tag for that one alone. So what a leader
+/// finds clear no other replica does.
+pub fn for_each_alone(
+    alloc: Global,
+    config: Config,
+    frame: &[u8],
+) -> Result<Vec<Vec<u8>>, AllocError>
+    ensures { IfOk result (λ out. map bytes_of out.items ≡ for_each_alone config frame.now) }
+{
+    let mut out = Vec::new(alloc);
+    for number in 0..config.n() {
+        out.push(for_one_alone(alloc, config, frame, ReplicaId(number))?)?;
+    }
+    Ok(out)
+}
+
 /// A frame of whose tags one replica's alone is left.
 fn half(alloc: Global, config: Config, word: u64, sending: Sending) -> Result<Sending, AllocError>
     ensures { IfOk result (λ half. sent_of half ≡ half_of config word (sent_of sending)) }
@@ -111,12 +147,7 @@ fn half(alloc: Global, config: Config, word: u64, sending: Sending) -> Result<Se
         return Ok(sending);
     }
     let replica = lone_receiver(config, word, &sending);
-    let len = 32 * usize::from(config.n());
-    let tags = behind(&sending.frame, sending.frame.len().saturating_sub(len));
-    let vector = lone(alloc, config, replica, tag_of(tags, replica))?;
-    let body = first(&sending.frame, sending.frame.len().saturating_sub(len));
-    let mut frame = Vec::from_slice(alloc, body)?;
-    frame.extend_from_slice(&vector)?;
+    let frame = for_one_alone(alloc, config, &sending.frame, replica)?;
     let (to, kind) = (sending.to, sending.kind);
     Ok(Sending { to, kind, frame })
 }

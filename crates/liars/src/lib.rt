@@ -2,7 +2,9 @@
 //! demonstrations and tests.
 #![tactic(auto)]
 
+mod answers;
 mod any;
+mod claims;
 mod climb;
 mod crowd;
 mod half;
@@ -13,6 +15,7 @@ mod lying;
 mod plain;
 mod spoil;
 
+pub use any::for_each_alone;
 pub use lies::Lies;
 pub use lying::{Liar, Lying};
 pub use plain::Lie;

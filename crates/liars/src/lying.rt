@@ -6,6 +6,7 @@ ghost use Rattle.liars.specs.Lying.{IsStep, new_lying, seed_of};
 ghost use Rattle.liars.specs.Told.{told_by};
 
 use crate::any::Whims;
+use crate::claims::Claims;
 use crate::lies::Lies;
 use crate::low::{Certificates, with_low_block};
 use crate::plain::{Lie, plain_lie};
@@ -23,6 +24,9 @@ pub enum Liar {
     /// It leads rightly. But at each 512th height it proposes, in place of its block, an empty one that justifies a block
     /// 64 to 513 heights lower, by a certificate that it sent before, and votes for it.
     LowJustifier,
+    /// Behind each frame it announces its view with a certificate for a block that nobody has, each time another one. Its
+    /// own announcements it keeps back.
+    FalseClaims,
     /// It draws from this seed what it does with each frame: it sends it as it is, with one receiver's tag alone, or with
     /// no right tag, or puts it by and sends the one that it put by before, or sends nothing.
     Any(u64),
@@ -35,7 +39,7 @@ impl Liar {
     {
         match self {
             Liar::Any(seed) => seed,
-            Liar::Plain(_) | Liar::LowJustifier => 0,
+            Liar::Plain(_) | Liar::LowJustifier | Liar::FalseClaims => 0,
         }
     }
 }
@@ -47,6 +51,7 @@ pub struct Lying {
     keyring: ReplicaKeyring,
     kept: Certificates,
     whims: Whims,
+    claims: Claims,
 }
 
 impl Model for Lying {
@@ -59,6 +64,7 @@ impl Model for Lying {
       keys = l.keyring;
       kept = l.kept;
       whims = l.whims;
+      claims = l.claims;
     } };
 }
 
@@ -72,6 +78,7 @@ impl Lying {
             keyring,
             kept: Certificates::new(alloc),
             whims: Whims::new(liar.seed()),
+            claims: Claims::new(),
         }
     }
 
@@ -89,6 +96,10 @@ impl Lying {
                 Ok(Lies::sent(alloc, out))
             }
             Liar::LowJustifier => with_low_block(alloc, &self.keyring, &mut self.kept, sending),
+            Liar::FalseClaims => {
+                let out = self.claims.tell(alloc, &self.keyring, sending)?;
+                Ok(Lies::sent(alloc, out))
+            }
             Liar::Any(_) => {
                 let out = self.whims.tell(alloc, self.keyring.config(), sending)?;
                 Ok(Lies::sent(alloc, out))

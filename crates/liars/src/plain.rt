@@ -9,6 +9,7 @@ ghost use Rattle.frames_view.specs.Views.{reply_of, proposal_of, core_of, certif
 ghost use Rattle.signed_frames.specs.Outs.{sent_of};
 ghost use Rattle.liars.specs.Lies.{IsLie, IsTold, bad_reply, crowded, empty_proposal, faces, flooded, two_faced};
 
+use crate::answers::with_wrong_answers;
 use crate::climb::with_climb;
 use crate::crowd::crowd;
 use crate::half::{LATE, SOON, with_half_certificates, with_half_votes};
@@ -51,6 +52,9 @@ pub enum Lie {
     /// Before each proposal it sends each replica the requests in it once more, each with the client's tag for that
     /// replica alone.
     Spoiler,
+    /// In place of each answer to a question it sends another block, and then the block with a certificate for that
+    /// one itself.
+    WrongAnswers,
 }
 
 /// How many times more a flooder sends each frame.
@@ -78,6 +82,7 @@ pub(crate) fn plain_lie(
         Lie::HalfVotes => with_half_votes(alloc, keyring, sending),
         Lie::Climber => with_climb(alloc, keyring, sending),
         Lie::Spoiler => with_spoilt_requests(alloc, keyring, sending),
+        Lie::WrongAnswers => with_wrong_answers(alloc, keyring, sending),
     }
 }
 

@@ -13,7 +13,7 @@ Example: bin/make-keys 1 8 > keys; mcbft --keys keys --port 11211
 docs/OPERATING.md tells its limits, and what to do at each message.";
 
 /// The names of the lies.
-const LIARS: [&str; 12] = [
+const LIARS: [&str; 14] = [
     "mute",
     "two-faced",
     "bad-reply",
@@ -25,6 +25,8 @@ const LIARS: [&str; 12] = [
     "climber",
     "low-justifier",
     "spoiler",
+    "wrong-answers",
+    "false-claims",
     "any",
 ];
 
@@ -54,7 +56,7 @@ enum Word {
 }
 
 /// All options, in the order in which help has them.
-const WORDS: [Word; 16] = [
+const WORDS: [Word; 17] = [
     Word::Keys,
     Word::Number(Number {
         name: "faults",
@@ -104,6 +106,14 @@ const WORDS: [Word; 16] = [
         most: u64::MAX,
         default: "0",
         help: "From what any draws its lies",
+    }),
+    Word::Number(Number {
+        name: "liar-client",
+        value: "COUNT",
+        least: 0,
+        most: 255,
+        default: "0",
+        help: "Clients that lie, of the first seats",
     }),
     Word::Number(Number {
         name: "serve",
@@ -254,6 +264,7 @@ impl<'a> Options<'a> {
             liars,
             terms: Terms {
                 liars: liars_of(matches, liars),
+                liar_clients: matches.get_one("liar-client")?,
                 most: if most == 0 { u64::MAX } else { most },
                 blocks: if blocks == 0 {
                     None
@@ -305,6 +316,7 @@ fn lie_of(name: &str) -> Option<Lie> {
         "half-votes" => Some(Lie::HalfVotes),
         "climber" => Some(Lie::Climber),
         "spoiler" => Some(Lie::Spoiler),
+        "wrong-answers" => Some(Lie::WrongAnswers),
         _ => None,
     }
 }
@@ -313,6 +325,7 @@ fn lie_of(name: &str) -> Option<Lie> {
 fn liar_of(name: &str, seed: u64) -> Option<Liar> {
     match name {
         "low-justifier" => Some(Liar::LowJustifier),
+        "false-claims" => Some(Liar::FalseClaims),
         "any" => Some(Liar::Any(seed)),
         _ => lie_of(name).map(Liar::Plain),
     }

@@ -17,7 +17,7 @@ use tcp_front::Seats;
 /// What serves at a client's seat: its service, over the links of the process.
 pub(crate) type ClientSeat<R> = ClientService<ClientLink<R>>;
 
-/// The seat of a client, at the end where its replies come out.
+/// The seat of a client, at the end where its replies come out. It lies, or doesn't.
 fn seat<R: Wait + Clock + AllocGlobal + Clone + Drop>(
     rt: &R,
     links: &Arc<Links>,
@@ -25,24 +25,26 @@ fn seat<R: Wait + Clock + AllocGlobal + Clone + Drop>(
     keys: &PairKeys,
     client: ClientId,
     frames: ClientEnd,
+    lies: bool,
 ) -> Result<ClientSeat<R>, Fault>
     ensures refused { OnErr result ((result ≡ Err Memory) ⊎ (result ≡ Err NoSuchParty)) }
 {
     let (alloc, config) = (rt.alloc(), keys.config());
     let (links, roll) = (Arc::try_clone(links)?, Arc::try_clone(roll)?);
-    let link = ClientLink::new(rt.clone()?, links, roll, frames);
+    let link = ClientLink::new(rt.clone()?, links, roll, frames, lies);
     let keyring = keys.keyring(alloc, client.into())?;
     let session = Session::new(alloc, config, client, keyring);
     Ok(ClientService::new(alloc, session, link))
 }
 
-/// A seat for each client, at the ends where their replies come out.
+/// A seat for each client, at the ends where their replies come out. So many of the lowest numbers lie.
 pub(crate) fn seats<R: Wait + Clock + AllocGlobal + Clone + Drop>(
     rt: &R,
     links: &Arc<Links>,
     roll: &Arc<Roll>,
     keys: &PairKeys,
     ends: Vec<ClientEnd>,
+    liars: u8,
 ) -> Result<Seats<ClientSeat<R>>, Fault>
     ensures refused { OnErr result ((result ≡ Err Memory) ⊎ (result ≡ Err NoSuchParty)) }
 {
@@ -54,7 +56,8 @@ pub(crate) fn seats<R: Wait + Clock + AllocGlobal + Clone + Drop>(
             return Err(Fault::NoSuchParty);
         };
         seats.reserve(1)?;
-        seats.push_reserved(seat(rt, links, roll, keys, ClientId(number), frames)?);
+        let client = ClientId(number);
+        seats.push_reserved(seat(rt, links, roll, keys, client, frames, number < liars)?);
     }
     Seats::new(alloc, seats)
 }

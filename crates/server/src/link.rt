@@ -6,6 +6,8 @@ use crate::roll::Roll;
 use bytes::Bytes;
 use client_service::Link;
 use fabric::{ClientEnd, Links};
+use ids::ReplicaId;
+use liars::for_each_alone;
 use std::sync::{Arc, Wait};
 use std::thread;
 use std::time::{Clock, Duration, Instant};
@@ -18,23 +20,27 @@ pub(crate) struct ClientLink<R: Wait + Clock + AllocGlobal> {
     links: Arc<Links>,
     roll: Arc<Roll>,
     frames: ClientEnd,
+    /// Whether it sends each replica what is right for that one alone.
+    lies: bool,
     /// Until when the client waits. None before its first request, and where the clock can't be read.
     until: Option<Instant>,
 }
 
 impl<R: Wait + Clock + AllocGlobal> ClientLink<R> {
-    /// A link on which nothing was sent.
+    /// A link on which nothing was sent, of a client that lies or doesn't.
     pub(crate) fn new(
         rt: R,
         links: Arc<Links>,
         roll: Arc<Roll>,
         frames: ClientEnd,
+        lies: bool,
     ) -> ClientLink<R> {
         ClientLink {
             rt,
             links,
             roll,
             frames,
+            lies,
             until: None,
         }
     }
@@ -51,6 +57,29 @@ impl<R: Wait + Clock + AllocGlobal> ClientLink<R> {
     }
 }
 
+impl<R: Wait + Clock + AllocGlobal> ClientLink<R> {
+    /// Hands in a frame for all replicas.
+    fn tell_all(&self, frame: &[u8]) {
+        if let Ok(bytes) = Bytes::copy_from_slice(self.rt.alloc(), frame) {
+            let _ = self.links.to_all(&self.rt, bytes);
+        }
+    }
+
+    /// Hands in a frame for each replica, of whose tags that one's alone is left.
+    fn tell_each_alone(&self, frame: &[u8]) {
+        let Ok(frames) = for_each_alone(self.rt.alloc(), self.links.config(), frame) else {
+            return;
+        };
+        for (number, frame) in frames.into_iter().enumerate() {
+            if let Ok(bytes) = Bytes::from_vec(frame) {
+                let _ = self
+                    .links
+                    .to_replica(&self.rt, ReplicaId(number as u8), bytes);
+            }
+        }
+    }
+}
+
 impl<R: Wait + Clock + AllocGlobal> Link for ClientLink<R> {
     // threads and channels tell nothing of what went over them
     ghost carries = { λ before traffic after. ⊤ };
@@ -61,8 +90,10 @@ impl<R: Wait + Clock + AllocGlobal> Link for ClientLink<R> {
 
     fn send(&mut self, frame: &[u8]) {
         self.hold_back();
-        if let Ok(bytes) = Bytes::copy_from_slice(self.rt.alloc(), frame) {
-            let _ = self.links.to_all(&self.rt, bytes);
+        if self.lies {
+            self.tell_each_alone(frame);
+        } else {
+            self.tell_all(frame);
         }
         self.until = match Instant::now(&self.rt) {
             Ok(now) => now.checked_add(Duration::from_millis(REPLY_WAIT_MILLIS)),

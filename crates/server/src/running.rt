@@ -56,13 +56,15 @@ struct Deployment<'a, S> {
 }
 
 impl<'a, R: Wait + Clock + AllocGlobal + Clone + Drop> Deployment<'a, ClientSeat<R>> {
-    /// A deployment over these links, with a seat for each client at the end where its replies come out.
+    /// A deployment over these links, with a seat for each client at the end where its replies come out. So many clients
+    /// lie.
     fn new(
         rt: &R,
         keys: &PairKeys,
         listener: &'a TcpListener,
         links: Links,
         clients: Vec<ClientEnd>,
+        liar_clients: u8,
     ) -> Result<Deployment<'a, ClientSeat<R>>, Fault>
         ensures { OnErr result
             ((result ≡ Err AcceptFailed) ⊎ (result ≡ Err Memory) ⊎ (result ≡ Err NoSuchParty)) }
@@ -71,7 +73,7 @@ impl<'a, R: Wait + Clock + AllocGlobal + Clone + Drop> Deployment<'a, ClientSeat
         let closer = Closer::new(listener)?;
         let links = Arc::new(alloc, links)?;
         let roll = Arc::new(alloc, Roll::new(keys.config()))?;
-        let seats = seats(rt, &links, &roll, keys, clients)?;
+        let seats = seats(rt, &links, &roll, keys, clients, liar_clients)?;
         Ok(Deployment {
             listener,
             closer,
@@ -234,6 +236,6 @@ pub fn run<R: Threads + Wait + Clock + Sync + Send + AllocGlobal + Log + Clone +
     let (marks, eyes) = Marks::new(alloc, config.n())?;
     let (links, ends) = Links::new(alloc, config)?;
     let Ends { replicas, clients } = ends;
-    let deployment = Deployment::new(rt, keys, listener, links, clients)?;
+    let deployment = Deployment::new(rt, keys, listener, links, clients, terms.liar_clients)?;
     serve_and_judge(rt, keys, &deployment, &marks, eyes, replicas, terms)
 }

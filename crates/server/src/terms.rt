@@ -45,6 +45,9 @@ pub struct Liars {
 pub struct Terms {
     /// The replicas that lie, if some are to.
     pub liars: Option<Liars>,
+    /// So many clients lie: the seats of the lowest numbers. To each replica they send their requests with the tag for
+    /// that one alone.
+    pub liar_clients: u8,
     /// How many connections are served.
     pub most: u64,
     /// How many blocks a replica may hold, genesis included: one that holds so many stops with `Full`. None

@@ -83,6 +83,7 @@ where
     let told = Logged::new(rt.clone()?, Level::Warn, stops);
     let terms = Terms {
         liars: None,
+        liar_clients: 0,
         most: u64::MAX,
         blocks: Some(BLOCKS),
         window: None,

@@ -167,6 +167,7 @@ impl Trial {
     fn terms(self, hasher: RandomState) -> Terms {
         let usual = Terms {
             liars: None,
+            liar_clients: 0,
             most: CONNECTIONS,
             blocks: None,
             window: None,
