@@ -67,14 +67,13 @@ impl<R: Wait + Clock + AllocGlobal> ClientLink<R> {
 
     /// Hands in a frame for each replica, of whose tags that one's alone is left.
     fn tell_each_alone(&self, frame: &[u8]) {
-        let Ok(frames) = for_each_alone(self.rt.alloc(), self.links.config(), frame) else {
+        let config = self.links.config();
+        let Ok(frames) = for_each_alone(self.rt.alloc(), config, frame) else {
             return;
         };
-        for (number, frame) in frames.into_iter().enumerate() {
+        for (number, frame) in (0..config.n()).zip(frames) {
             if let Ok(bytes) = Bytes::from_vec(frame) {
-                let _ = self
-                    .links
-                    .to_replica(&self.rt, ReplicaId(number as u8), bytes);
+                let _ = self.links.to_replica(&self.rt, ReplicaId(number), bytes);
             }
         }
     }
