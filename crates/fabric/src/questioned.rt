@@ -21,8 +21,7 @@ pub trait Questioned {
         _block: &Digest,
         _parent: Digest,
         _sender: ReplicaId,
-    ) {
-    }
+    ) {}
 
     /// The next question, if one is due.
     fn next<R: Wait + Clock>(&self, _rt: &R) -> Option<Ask> {

@@ -79,7 +79,16 @@ impl<'a, G: Gate, O: Outgoing + Questioned> Worker<'a, G, O> {
         match self.finish(rt, answer) {
             Err(Fault::BadTag) => {
                 let frame = Bytes::copy_from_slice(self.alloc, bytes)?;
-                self.seek_grounds(rt, steps, share, Unfounded { number, bytes: frame, tried_at })
+                self.seek_grounds(
+                    rt,
+                    steps,
+                    share,
+                    Unfounded {
+                        number,
+                        bytes: frame,
+                        tried_at,
+                    },
+                )
             }
             brought => brought,
         }
@@ -96,7 +105,8 @@ impl<'a, G: Gate, O: Outgoing + Questioned> Worker<'a, G, O> {
     ) -> Result<(), Fault>
         ensures { HasGrown share.old share.new }
     {
-        let Some((carried, sender)) = Carried::from(&self.keyring.config(), frame.bytes.as_slice()) else {
+        let Some((carried, sender)) = Carried::from(&self.keyring.config(), frame.bytes.as_slice())
+        else {
             return Err(Fault::BadTag);
         };
         match carried {
@@ -105,7 +115,10 @@ impl<'a, G: Gate, O: Outgoing + Questioned> Worker<'a, G, O> {
                 self.room.wait_for_grounds(rt, frame);
                 Err(Fault::BadTag)
             }
-            Carried::Block(block) => match self.out.keep(rt, self.alloc, &block, sender, frame.bytes) {
+            Carried::Block(block) => match self
+                .out
+                .keep(rt, self.alloc, &block, sender, frame.bytes)
+            {
                 Some(copies) => self.gather(rt, steps, share, copies),
                 None => Err(Fault::BadTag),
             },

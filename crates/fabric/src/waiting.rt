@@ -10,10 +10,9 @@ use std::alloc::Global;
 use std::collections::BTreeMap;
 use std::sync::atomic::AtomicU64;
 use std::sync::atomic::Ordering::SeqCst;
-use std::mem;
 use std::sync::{Mutex, Wait};
-use std::thread;
 use std::time::{Clock, Duration};
+use std::{mem, thread};
 use tuning::{WORKER_CROWD, WORKER_HELD_MILLIS};
 
 /// What a frame carries to its receiver's tree.

@@ -34,7 +34,11 @@ pub(crate) struct Outside<'s, 'a> {
 
 impl<'s, 'a> Outside<'s, 'a> {
     /// What lies around a worker that begins now.
-    pub(crate) fn new<R: Clock>(rt: &R, links: &'s Links, station: &'s Station<'a>) -> Outside<'s, 'a> {
+    pub(crate) fn new<R: Clock>(
+        rt: &R,
+        links: &'s Links,
+        station: &'s Station<'a>,
+    ) -> Outside<'s, 'a> {
         Outside {
             links,
             station,
@@ -72,7 +76,11 @@ impl Questioned for Outside<'_, '_> {
     /// The first question goes out after a pause: votes that give grounds are mostly on their way.
     fn need<R: Wait + Clock>(&self, rt: &R, block: Digest, payer: ReplicaId) {
         let due = self.now(rt).saturating_add(QUESTION_PAUSE_MILLIS);
-        let _refused = self.station.lock(rt).questions.need(block, payer, None, due);
+        let _refused = self
+            .station
+            .lock(rt)
+            .questions
+            .need(block, payer, None, due);
     }
 
     fn need_below<R: Wait + Clock>(

@@ -30,7 +30,7 @@ pub fn offer<R: Wait, S: Steps>(
         × AdmitsBy check_offer keyring.now bytes.entry admitted
         × MatchResult admitted
         (λ input. MatchOption result ⊥
-            (λ answer. S.moved steps.old share.old input answer steps.new share.new))
+        (λ answer. S.moved steps.old share.old input answer steps.new share.new))
         (λ n. (result ≡ None) × (steps.new ≡ steps.old) × (share.new ≡ share.old)) }
     ensures counts { IfSome result (λ answer. Counts share.old answer share.new) }
 {
