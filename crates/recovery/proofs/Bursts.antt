@@ -92,7 +92,7 @@ record OfferedEach (w next : World) (v room : ℕ) (m last : Branch) (rs : List 
   goes : GoesOn w next
   others_are : (j : ℕ) → (Among j rs → ⊥) → next.replica j ≡ w.replica j
   each : (r : ℕ) → Among r rs → HasVoted (self_of w r) v room m last (next.replica r)
-  still : (r : ℕ) → Among r rs → IsStill w.sizes m (chronicle_of w r) (chronicle_of next r)
+  still : (r : ℕ) → Among r rs → IsStill w.sizes m (length last) (chronicle_of w r) (chronicle_of next r)
 
 module _ (sizes : Sizes) (start : World) (all : List Happening) (v room : ℕ) (m last : Branch) (br : IsBranch m)
     (top : length last < HEIGHT_LIMIT) (ks : List ℕ) (some : 0 < length ks) where
@@ -143,12 +143,13 @@ module _ (sizes : Sizes) (start : World) (all : List Happening) (v room : ℕ) (
           others_are = λ j n. more.1.others_are j (λ k. n (inr k)) ∙ o.others j (λ e. n (inl e));
           each = each;
           still = λ j n. elim n [
-            | inl e ↦ subst (λ (i : ℕ). IsStill w.sizes m (chronicle_of w i) (chronicle_of end i)) (sym e)
-                (subst (λ (x : Replica). IsStill w.sizes m (chronicle_of w r) x.chronicle)
+            | inl e ↦ subst (λ (i : ℕ). IsStill w.sizes m (length last) (chronicle_of w i) (chronicle_of end i)) (sym e)
+                (subst (λ (x : Replica). IsStill w.sizes m (length last) (chronicle_of w r) x.chronicle)
                 (sym (more.1.others_are r d.0)) o.still)
-            | inr k ↦ subst (λ (x : Replica). IsStill w.sizes m x.chronicle (chronicle_of end j))
+            | inr k ↦ subst (λ (x : Replica). IsStill w.sizes m (length last) x.chronicle (chronicle_of end j))
                 (o.others j (apart j k))
-                (subst (λ (s : Sizes). IsStill s m (chronicle_of mid j) (chronicle_of end j)) o.goes.made.sizes
+                (subst (λ (s : Sizes). IsStill s m (length last) (chronicle_of mid j) (chronicle_of end j))
+                o.goes.made.sizes
                 (more.1.still j k))
           ];
         }),
@@ -180,7 +181,8 @@ pub record MayBurst (w : World) (l v n room : ℕ) (m : Branch) : Type 0 where
 pub record HasBurst (w end : World) (l v n room : ℕ) (m : Branch) : Type 0 where
   pub voted_for : IsVotedForByAll w end l v n room m (leaf (self_of w l) (chronicle_of end l))
   pub goes : GoesOn w end
-  pub still : OfCorrect w (λ r. IsStill w.sizes m (chronicle_of w r) (chronicle_of end r))
+  pub still : OfCorrect w (λ r. IsStill w.sizes m (length (leaf (self_of w l) (chronicle_of end l))) (chronicle_of w r)
+      (chronicle_of end r))
 
 module _ (sizes : Sizes) (start : World) (all : List Happening) where
   pub burst-voted : (w : World) (rest : List Happening) (l v n room : ℕ) (m : Branch)
@@ -296,17 +298,18 @@ module _ (sizes : Sizes) (start : World) (all : List Happening) where
       subst (λ (z : World). HasBurst w z l v n room m) (sym ends) (record {
         voted_for = voted;
         goes = goes;
-        still = λ r c. elim (cases_eq r l) [
-          | inl e ↦ subst (λ (i : ℕ). IsStill w.sizes m (chronicle_of w i) (chronicle_of end i)) (sym e)
-              (subst (λ (z : Chronicle). IsStill w.sizes m (chronicle_of w l) z) (sym minec) a.still)
+        still = λ r c. subst (λ (h : ℕ). IsStill w.sizes m h (chronicle_of w r) (chronicle_of end r)) (sym long)
+            (elim (cases_eq r l) [
+          | inl e ↦ subst (λ (i : ℕ). IsStill w.sizes m (length last) (chronicle_of w i) (chronicle_of end i)) (sym e)
+              (subst (λ (z : Chronicle). IsStill w.sizes m (length last) (chronicle_of w l) z) (sym minec) a.still)
           | inr k ↦
               let cm = same-correct w mid a.goes.made r ∙ c in
               let there = Among-kept (λ (i : ℕ). not (i == l)) (correct_replicas mid) r (correct-listed mid r cm)
               (ap not (ne_eqb r l k)) in
-              subst (λ (z : Replica). IsStill w.sizes m z.chronicle (chronicle_of end r)) (a.others r k)
-              (subst (λ (s : Sizes). IsStill s m (chronicle_of mid r) (chronicle_of end r)) a.goes.made.sizes
-              (o.still r there))
-        ];
+              subst (λ (z : Replica). IsStill w.sizes m (length last) z.chronicle (chronicle_of end r)) (a.others r k)
+              (subst (λ (s : Sizes). IsStill s m (length last) (chronicle_of mid r) (chronicle_of end r))
+              a.goes.made.sizes (o.still r there))
+        ]);
       })
 
 pub bursts-voted : BurstsAreVotedFor

@@ -44,7 +44,7 @@ use Rattle.recovery.proofs.Copies.{correct-party}
 use Rattle.recovery.proofs.Decided.{justifies-below}
 use Rattle.recovery.proofs.Offers.{GoesOn, IsMade, Chain, chain-later, chain-up, chain-end, IsOffered, offer-one}
 use Rattle.recovery.proofs.Offers.{row-own, row-other, recorded-later, made-later, offer-goes}
-use Rattle.recovery.proofs.Offers.{IsStill, still-none, still-both, still-took}
+use Rattle.recovery.proofs.Offers.{IsStill, still-none, still-both, still-wider, still-took}
 use Rattle.recovery.proofs.Climbing.{voted-low, voted-now}
 use Rattle.definitions.proofs.Chronicles.{voted-grows}
 use Rattle.recovery.proofs.Steps.{going, outs, TookStep, HandsIn, step-stood, frame-behind}
@@ -155,9 +155,9 @@ took-leaf self a c e =
     not-higher n k h = grind (arith, h)
 
 -- nor does it raise anything
-still-beat : (s : Sizes) (m : Branch) (c : Chronicle) → IsStill s m c (noted beat ∷ c)
-unfolding votes qc_high raised
-still-beat s m c = record { votes_are = λ x. refl; low = λ n h k. k }
+still-beat : (s : Sizes) (m : Branch) (top : ℕ) (c : Chronicle) → IsStill s m top c (noted beat ∷ c)
+unfolding votes qc_high raised vheight voted_blocks
+still-beat s m top c = record { votes_are = λ x. refl; low = λ n h k. k; voted_low = λ n h k. k }
 
 -- a beat votes for nothing
 beat-low : (c : Chronicle) (n : ℕ) → vheight c < n → vheight (noted beat ∷ c) < n
@@ -242,7 +242,8 @@ pub record MadeOne (w next : World) (l v : ℕ) (m : Branch) (room : ℕ) (b : B
   pub kept : (x : Branch) → Among x (voted_blocks (chronicle_of w l)) → Among x (voted_blocks (chronicle_of next l))
   pub low : (n : ℕ) → vheight (chronicle_of w l) < n → suc (length (leaf (self_of w l) (chronicle_of w l))) < n
       → vheight (chronicle_of next l) < n
-  pub still : IsStill w.sizes m (chronicle_of w l) (chronicle_of next l)
+  pub still : IsStill w.sizes m (suc (length (leaf (self_of w l) (chronicle_of w l)))) (chronicle_of w l)
+      (chronicle_of next l)
 
 module _ (sizes : Sizes) (start : World) (all : List Happening) (l v : ℕ) (m : Branch) (br : IsBranch m) where
   -- after the beat
@@ -418,10 +419,11 @@ module _ (sizes : Sizes) (start : World) (all : List Happening) (l v : ℕ) (m :
           low = λ n low top. subst (λ (y : Chronicle). vheight y < n) (sym own)
               (voted-low (noted beat ∷ ch) a n (beat-low ch n low)
               (let e = ap (λ (x : Branch). length x) o.branch in omega (arith, e, top)));
-          still = subst (IsStill w.sizes m ch) (sym own)
-              (still-both w.sizes m ch (noted beat ∷ ch) c2 (still-beat w.sizes m ch)
-              (still-took w.sizes m (noted beat ∷ ch) a
-              (ap just1 o.branch ∙ justifies-below b z m over h.made.justify)));
+          still = subst (IsStill w.sizes m (suc (length z)) ch) (sym own)
+              (still-both w.sizes m (suc (length z)) ch (noted beat ∷ ch) c2 (still-beat w.sizes m (suc (length z)) ch)
+              (still-took w.sizes m (suc (length z)) (noted beat ∷ ch) a
+              (ap just1 o.branch ∙ justifies-below b z m over h.made.justify)
+              (let e = ap (λ (x : Branch). length x) o.branch in omega (arith, e))));
         }),
       )
 
@@ -443,7 +445,8 @@ module _ (sizes : Sizes) (start : World) (all : List Happening) (l v : ℕ) (m :
     pub voted : 0 < n → vheight (chronicle_of w l) < length (leaf (self_of next l) (chronicle_of next l))
         → Among (leaf (self_of next l) (chronicle_of next l)) (voted_blocks (chronicle_of next l))
     pub kept : (x : Branch) → Among x (voted_blocks (chronicle_of w l)) → Among x (voted_blocks (chronicle_of next l))
-    pub still : IsStill w.sizes m (chronicle_of w l) (chronicle_of next l)
+    pub still : IsStill w.sizes m (length (leaf (self_of next l) (chronicle_of next l))) (chronicle_of w l)
+        (chronicle_of next l)
 
   -- a first block, and then the others
   made-more : (w mid next : World) (room room2 n : ℕ) (b : Block) → MadeOne w mid l v m room b → MadeAll mid next room2 n
@@ -487,8 +490,11 @@ module _ (sizes : Sizes) (start : World) (all : List Happening) (l v : ℕ) (m :
               (sym one.leaf_is ∙ e) (one.voted (omega (arith, h, le, mids))))
         ];
         kept = λ x q. rest.kept x (one.kept x q);
-        still = still-both w.sizes m (chronicle_of w l) (chronicle_of mid l) (chronicle_of next l) one.still
-            (subst (λ (s : Sizes). IsStill s m (chronicle_of mid l) (chronicle_of next l)) one.goes.made.sizes rest.still);
+        still = still-both w.sizes m (length last) (chronicle_of w l) (chronicle_of mid l) (chronicle_of next l)
+            (still-wider w.sizes m (suc (length z)) (length last) (chronicle_of w l) (chronicle_of mid l)
+            (omega (arith, up, mids)) one.still)
+            (subst (λ (s : Sizes). IsStill s m (length last) (chronicle_of mid l) (chronicle_of next l))
+            one.goes.made.sizes rest.still);
       }
 
   pub made-all : (n : ℕ) (w : World) (rest : List Happening) (room : ℕ)
@@ -513,7 +519,7 @@ module _ (sizes : Sizes) (start : World) (all : List Happening) (l v : ℕ) (m :
     chain = refl;
     voted = λ p h. absurd (omega (arith, p));
     kept = λ x q. q;
-    still = still-none w.sizes m (chronicle_of w l);
+    still = still-none w.sizes m (length (leaf (self_of w l) (chronicle_of w l))) (chronicle_of w l);
   })
   made-all (suc n) w rest room on keys c s lead top =
       let here : List Happening = make_block l w in

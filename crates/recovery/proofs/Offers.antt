@@ -205,22 +205,40 @@ module _ (sizes : Sizes) (start : World) (all : List Happening) where
 
 -- ---- what is still
 
--- the kept votes are the same, and the highest certificate is no higher than it was, or than m
-pub record IsStill (s : Sizes) (m : Branch) (before now : Chronicle) : Type 0 where
+-- the kept votes are the same; the highest certificate is no higher than it was, or than m; and what was voted for is no
+-- higher than before, or than this
+pub record IsStill (s : Sizes) (m : Branch) (top : ℕ) (before now : Chronicle) : Type 0 where
   pub votes_are : (x : Branch) → votes s x now ≡ votes s x before
   pub low : (n : ℕ) → length m < n → length (qc_high s before).block < n → length (qc_high s now).block < n
+  pub voted_low : (n : ℕ) → top < n → vheight before < n → vheight now < n
 
-pub still-none : (s : Sizes) (m : Branch) (c : Chronicle) → IsStill s m c c
-still-none s m c = record { votes_are = λ x. refl; low = λ n h k. k }
+pub still-none : (s : Sizes) (m : Branch) (top : ℕ) (c : Chronicle) → IsStill s m top c c
+still-none s m top c = record { votes_are = λ x. refl; low = λ n h k. k; voted_low = λ n h k. k }
 
-pub still-both : (s : Sizes) (m : Branch) (a b c : Chronicle) → IsStill s m a b → IsStill s m b c → IsStill s m a c
-still-both s m a b c h k =
-    record { votes_are = λ x. k.votes_are x ∙ h.votes_are x; low = λ n l i. k.low n l (h.low n l i) }
+pub still-both : (s : Sizes) (m : Branch) (top : ℕ) (a b c : Chronicle) → IsStill s m top a b → IsStill s m top b c
+    → IsStill s m top a c
+still-both s m top a b c h k = record {
+  votes_are = λ x. k.votes_are x ∙ h.votes_are x;
+  low = λ n l i. k.low n l (h.low n l i);
+  voted_low = λ n l i. k.voted_low n l (h.voted_low n l i);
+}
 
-pub still-took : (s : Sizes) (m : Branch) (c : Chronicle) (a : Admitted) → just1 a.branch ≡ m
-    → IsStill s m c (took_block a ∷ c)
+pub still-wider : (s : Sizes) (m : Branch) (top more : ℕ) (a b : Chronicle) → top ≤ more → IsStill s m top a b
+    → IsStill s m more a b
+still-wider s m top more a b l h = record {
+  votes_are = h.votes_are;
+  low = h.low;
+  voted_low = λ n k i. h.voted_low n (omega (arith, l, k)) i;
+}
+
+pub still-took : (s : Sizes) (m : Branch) (top : ℕ) (c : Chronicle) (a : Admitted) → just1 a.branch ≡ m
+    → length a.branch ≤ top → IsStill s m top c (took_block a ∷ c)
 unfolding votes qc_high raised
-still-took s m c a e = record { votes_are = λ x. refl; low = λ n h k. by a.new n h k }
+still-took s m top c a e t = record {
+  votes_are = λ x. refl;
+  low = λ n h k. by a.new n h k;
+  voted_low = λ n h k. voted-low c a n k (omega (arith, h, t));
+}
   where
     p : Justified
     p = record { block = just1 a.branch; certificate = a.certificate }
@@ -252,7 +270,7 @@ pub record OfferedAll (w next : World) (r v : ℕ) (m last : Branch) (room : ℕ
   pub voted : vheight (chronicle_of w r) < length last → 0 < length ks
       → Among last (voted_blocks (chronicle_of next r))
   pub kept : (x : Branch) → Among x (voted_blocks (chronicle_of w r)) → Among x (voted_blocks (chronicle_of next r))
-  pub still : IsStill w.sizes m (chronicle_of w r) (chronicle_of next r)
+  pub still : IsStill w.sizes m (length last) (chronicle_of w r) (chronicle_of next r)
 
 -- the events
 unfoldable pub offers-of : ℕ → List ℕ → List Happening
@@ -294,7 +312,7 @@ module _ (sizes : Sizes) (start : World) (all : List Happening) (r v : ℕ) (m l
     climbs = subst (λ (z : Branch). Climbs (self_of w r) v m z room (chronicle_of w r)) chain climbs;
     voted = λ h n. absurd (omega (arith, n));
     kept = λ x n. n;
-    still = still-none w.sizes m (chronicle_of w r);
+    still = still-none w.sizes m (length last) (chronicle_of w r);
   })
   offers-all (k ∷ ks) w rest y room on keys c s (b, f, rec, made, chain) climbs =
       let next : World = happens w (offer r (of_record k), ample) in
@@ -333,11 +351,12 @@ module _ (sizes : Sizes) (start : World) (all : List Happening) (r v : ℕ) (m l
           ];
           kept = λ x n. more.1.kept x (subst (λ (z : Chronicle). Among x (voted_blocks z)) (sym ownc)
               (voted-grows (took_block o.taken) (chronicle_of w r) x n));
-          still = still-both w.sizes m (chronicle_of w r) (chronicle_of next r) (chronicle_of end r)
-              (subst (IsStill w.sizes m (chronicle_of w r)) (sym ownc)
-              (still-took w.sizes m (chronicle_of w r) o.taken
-              (ap just1 o.branch ∙ justifies-below b y m climbs.over made.justify)))
-              (subst (λ (z : Sizes). IsStill z m (chronicle_of next r) (chronicle_of end r)) goes.made.sizes
+          still = still-both w.sizes m (length last) (chronicle_of w r) (chronicle_of next r) (chronicle_of end r)
+              (subst (IsStill w.sizes m (length last) (chronicle_of w r)) (sym ownc)
+              (still-took w.sizes m (length last) (chronicle_of w r) o.taken
+              (ap just1 o.branch ∙ justifies-below b y m climbs.over made.justify)
+              (let e = ap (λ (z : Branch). length z) o.branch in omega (arith, e, up))))
+              (subst (λ (z : Sizes). IsStill z m (length last) (chronicle_of next r) (chronicle_of end r)) goes.made.sizes
               more.1.still);
         },
       )
