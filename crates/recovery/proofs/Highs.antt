@@ -90,7 +90,7 @@ abbrev pub IsCertifiedIn : World → Branch → Type 0
 IsCertifiedIn w b = (b ≡ []) ⊎ MayBeCertified (correct_family w) b
 
 -- who voted for a block supports it
-voter-supports : (w : World) (b : Branch) (v : ℕ)
+pub voter-supports : (w : World) (b : Branch) (v : ℕ)
     → (is_correct w v ≡ true → Among b (voted_blocks (chronicle_of w v)))
     → supports (correct_family w) b v ≡ true
 unfolding supports
@@ -99,10 +99,10 @@ voter-supports w b v h =
     (λ (t : Bool). t ≡ true) (λ e. among-any b (voted_blocks (chronicle_of w v)) (h e)) (λ e. refl)
 
 -- a core, for laws that speak of one
-some-core : Core
+pub some-core : Core
 some-core = record { parent = digest genesis_core; height = 1; justify_height = 0; commands = [] }
 
-some-core-is : (s : Sizes) → IsCore s some-core
+pub some-core-is : (s : Sizes) → IsCore s some-core
 unfolding some-core
 some-core-is s = record {
   parent = IsDigest-digest genesis_core;

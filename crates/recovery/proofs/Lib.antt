@@ -24,3 +24,5 @@ mod Bursts
 mod SentVotes
 mod Counting
 mod Voting
+mod Tallied
+mod Rounds

@@ -175,11 +175,11 @@ AreVotes w ks = (k : ℕ) → Among k ks → (f : Frame) × (recorded w k ≡ So
 unfoldable pub HasVote : World → List ℕ → ℕ → Branch → Type 0
 HasVote w ks r x = (k : ℕ) × Among k ks × (recorded w k ≡ Some (vote_frame (self_of w r) x))
 
-votes-later : (w next : World) → GoesOn w next → (ks : List ℕ) → AreVotes w ks → AreVotes next ks
+pub votes-later : (w next : World) → GoesOn w next → (ks : List ℕ) → AreVotes w ks → AreVotes next ks
 unfolding AreVotes
 votes-later w next g ks h = λ k m. (let r = h k m in (r.0, recorded-later w next g k r.0 r.1, r.2))
 
-vote-later : (w next : World) → GoesOn w next → (ks : List ℕ) (r : ℕ) (x : Branch) → HasVote w ks r x
+pub vote-later : (w next : World) → GoesOn w next → (ks : List ℕ) (r : ℕ) (x : Branch) → HasVote w ks r x
     → HasVote next ks r x
 unfolding HasVote
 vote-later w next g ks r x h =

@@ -25,7 +25,7 @@ use Rattle.definitions.specs.Worlds.{World, Sent, Happening, new_world, is_corre
 use Rattle.linear_law.specs.Law.{AfterEachRun, correct_family}
 use Rattle.recovery.specs.Correct.{OfCorrect, AllGoOn, ShareKeys, chronicle_of, lock_of, view_of, correct_with}
 use Rattle.recovery.specs.Correct.{correct_replicas}
-use Rattle.recovery.specs.Healing.{view_to_come, come_to, highest_voted, fetch_block, burst}
+use Rattle.recovery.specs.Healing.{view_to_come, come_to, highest_voted, fetch_block, burst, round}
 use Rattle.recovery.specs.NeverWedged.{healer, ground_of, NobodyPruned, HasViews}
 
 -- ---- locks
@@ -276,6 +276,31 @@ BurstsAreVotedFor =
     → OfCorrect w (λ r. vheight (chronicle_of w r) < length m + n) → 0 < n → length m + n < HEIGHT_LIMIT
     → IsVotedForByAll w (after w (burst n l w)) l v n room m
     (leaf (self_of w l) (chronicle_of (after w (burst n l w)) l))
+
+-- No event of a round was refused by the run, and all correct replicas go on. Each has a certificate of its own for the
+-- last block, which is n higher than m and goes through it, and which is the leader's leaf.
+pub record IsCertifiedByAll (w last : World) (l n : ℕ) (m x : Branch) : Type 0 where
+  pub ran : run w (round n l w) ≡ Ok last
+  pub going_on : AllGoOn last
+  pub height : length x ≡ length m + n
+  pub over : Extends x m
+  pub leaf_is : leaf (self_of last l) (chronicle_of last l) ≡ x
+  pub high : OfCorrect last (λ r. high_of last r ≡ x)
+  pub own : OfCorrect last (λ r. is_own_certified (self_of last r) x (chronicle_of last r) ≡ true)
+  pub stands : OfCorrect last (λ r. Among x (window (chronicle_of last r)))
+  pub session : last.session ≡ w.session
+
+-- A round, of a burst as above and all votes on it, leaves all with certificates of their own for its last block.
+abbrev pub RoundsCertify : Type 0
+RoundsCertify =
+    (sizes : Sizes) (is_faulty : ℕ → Bool) (ring : ℕ → Keyring) (hs : List Happening) (w : World)
+    (l v n room : ℕ) (m : Branch) → ShareKeys (new_world sizes is_faulty ring)
+    → ArePremises (new_world sizes is_faulty ring) (hs ++ round n l w)
+    → run (new_world sizes is_faulty ring) hs ≡ Ok w → AllGoOn w → is_correct w l ≡ true
+    → Leads w l v m (n + room) → leaf (self_of w l) (chronicle_of w l) ≡ m
+    → OfCorrect w (λ r. Climbs (self_of w r) v m m (n + room) (chronicle_of w r))
+    → OfCorrect w (λ r. vheight (chronicle_of w r) < length m + n) → 0 < n → length m + n < HEIGHT_LIMIT
+    → (x : Branch) × IsCertifiedByAll w (after w (round n l w)) l n m x
 
 -- ---- decisions
 

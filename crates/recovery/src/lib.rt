@@ -7,7 +7,7 @@ ghost use Rattle.recovery.specs.Law.{HighestLocksAreSafe, LocksMayBeLedFrom};
 ghost use Rattle.recovery.specs.Law.{JustifiedBlocksAreHeld, GroundsAreHeld};
 ghost use Rattle.recovery.specs.Law.{TimeoutsBringTogether, ACorrectLeaderComes, CopiesAreTaken, ProposalsAreTaken};
 ghost use Rattle.recovery.specs.Law.{HighestAreCertified, MissingBlocksAreFetched, ThreeMoreDecide};
-ghost use Rattle.recovery.specs.Law.{BurstsAreVotedFor};
+ghost use Rattle.recovery.specs.Law.{BurstsAreVotedFor, RoundsCertify};
 
 /// A correct replica of the highest lock: no correct lock is above it or beside it, so a block that justifies
 /// it is safe for all.
@@ -69,4 +69,9 @@ pub fn three_more_decide()
 /// A leader's burst, from a block from which all may climb, ends with a block for which all vote.
 pub fn bursts_are_voted_for()
     ensures { BurstsAreVotedFor }
+{}
+
+/// A leader's round leaves all correct replicas with certificates of their own for its last block.
+pub fn rounds_certify()
+    ensures { RoundsCertify }
 {}

@@ -1,0 +1,4 @@
+use Rattle.recovery.specs.Law.{RoundsCertify}
+
+pub rounds-certify : RoundsCertify
+rounds-certify = ?
