@@ -11,7 +11,7 @@ use Rattle.ids.specs.declared.limits.TheConstants.{HEIGHT_LIMIT}
 use Rattle.ids.specs.Sizes.{Sizes, replicas, quorum}
 use Rattle.definitions.specs.Bytes.{Bytes}
 use Rattle.definitions.specs.Lists.{Among, AreDistinct, count_below, greatest}
-use Rattle.definitions.specs.Branches.{Branch, branch_eq}
+use Rattle.definitions.specs.Branches.{Branch, Extends, branch_eq}
 use Rattle.definitions.specs.Agreement.{MayBeCertified, supports}
 use Rattle.definitions.specs.Checks.{Identity, vote_verifies}
 use Rattle.definitions.specs.Chronicles.{Chronicle, Step.took_block, Step.noted, Note.got_vote, Note.led_from, voted_blocks}
@@ -185,5 +185,266 @@ module _ (Known : Core → Type 0) (w : World) (g : IsReached Known w) (x : Bran
       let enough = (family-of Known w g).enough in
       omega (arith, n, long, enough)
 
+-- a correct replica's vote for it wasn't sent before
+sent-before : (Known : Core → Type 0) (w : World) (g : IsReached Known w) (x : Branch) (kx : AllKnown Known x)
+    → OfCorrect w (λ r. vheight (chronicle_of w r) < length x) → (mid : World) (r : ℕ) → is_correct w r ≡ true
+    → (s : Sent) → Among s w.sent → s.sender ≡ r → s.frame ≡ vote_frame (self_of mid r) x → ⊥
+unfolding vote_frame
+sent-before Known w g x kx low mid r c s m e f =
+    let st : Stands (chronicle_of w s.sender) s.frame =
+    g.well.good.run.stands s m (ap (is_correct w) e ∙ c) in
+    let v = st.votes (digest_of x) _ f in
+    not-voted Known w g x kx low r c v.0
+    (subst (λ (i : ℕ). Among v.0 (voted_blocks (chronicle_of w i))) e v.1) v.2
+
+-- the numbers of votes in the record
+are-votes : (mid : World) (xs ys : List Sent) (ks : List ℕ) (k : ℕ) → mid.sent ≡ xs ++ ys → length xs ≡ k
+    → ks ≡ numbers_of is_vote k ys → AreVotes mid ks
+unfolding AreVotes
+are-votes mid xs ys ks k e l n = λ i m.
+    numbered-pass is_vote mid ys xs k e l i (subst (λ (z : List ℕ). Among i z) n m)
+
+have-vote : (mid : World) (xs ys : List Sent) (ks : List ℕ) (k : ℕ) → mid.sent ≡ xs ++ ys → length xs ≡ k
+    → ks ≡ numbers_of is_vote k ys → (r : ℕ) (x : Branch) (s : Sent) → Among s ys
+    → s.frame ≡ vote_frame (self_of mid r) x → HasVote mid ks r x
+unfolding HasVote is_vote vote_frame
+have-vote mid xs ys ks k e l n r x s m f =
+    let i = pass-numbered is_vote mid ys xs k e l s m (ap is_vote f) in
+    (i.0, subst (λ (z : List ℕ). Among i.0 z) (sym n) i.1, i.2 ∙ ap (λ (z : Frame). Some z) f)
+
+-- ---- the round
+
+round-is : (n l : ℕ) (w : World)
+    → round n l w
+    ≡ burst n l w
+    ++ amply (comes_to (correct_replicas (after w (burst n l w)))
+    (sent_since (length w.sent) is_vote (after w (burst n l w))))
+unfolding round in_turn
+round-is n l w = ap (λ (x : List Happening). burst n l w ++ x) (append-nil _)
+
+-- a certificate of votes for the block, at its holder
+own-certified : (Known : Core → Type 0) (w : World) → IsReached Known w → (u : ℕ) → is_correct w u ≡ true
+    → (x : Branch) → AllKnown Known x → 0 < length x → high_of w u ≡ x
+    → 0 < length (qc_high w.sizes (chronicle_of w u)).certificate.votes
+    → is_own_certified (self_of w u) x (chronicle_of w u) ≡ true
+unfolding is_own_certified own_counted digest_of
+own-certified Known w g u c x kx up high some =
+    let self : Identity = self_of w u in
+    let q = qc_high w.sizes (chronicle_of w u) in
+    let is = qc_high-is self (chronicle_of w u) (stored-of Known w g u c) in
+    let block = (branch_eq-decides q.block x).1 high in
+    elim is.kept [
+      | inr none ↦ absurd (let k = ap (λ (l : List Vote). length l) none in omega (arith, k, some))
+      | inl good ↦ (
+          let ch = block-checked self some-core q.certificate (some-core-is w.sizes) is.certificate_is good in
+          elim ch.good [
+            | inl z ↦ absurd (
+                let e = one-branch Known w g x [] kx tt (sym (ap digest_of high) ∙ (sym is.justified
+                ∙ (bytes_decides q.certificate.digest (digest genesis_core)).0 z)) in
+                let n = ap (λ (b : Branch). length b) e in omega (arith, n, up))
+            | inr many ↦ and_from _ _ block
+                (replicas-to w.sizes (quorum w.sizes) _ (ch.distinct, ch.voters, many))
+          ])
+    ]
+
+-- what all voted for is certified
+all-certify : (w : World) (x : Branch) → quorum w.sizes ≤ count_below (replicas w.sizes) (is_correct w)
+    → OfCorrect w (λ r. Among x (voted_blocks (chronicle_of w r))) → MayBeCertified (correct_family w) x
+all-certify w x enough voted =
+    let n = count-mono (replicas w.sizes) (is_correct w) (supports (correct_family w) x)
+    (λ i l t. voter-supports w x i (λ c. voted i c)) in
+    omega (arith, n, enough)
+
+module _ (sizes : Sizes) (start : World) (all : List Happening) where
+  abbrev Known : Core → Type 0
+  Known = KnownAt sizes start all
+
+  -- who leads, what all voted for, and what was counted
+  record HasRound (w mid end : World) (l n : ℕ) (m x : Branch) : Type 0 where
+    on_w : IsReached Known w
+    on_end : IsReached Known end
+    burst_is : GoesOn w mid
+    votes_are : GoesOn mid end
+    going_on : AllGoOn mid
+    height : length x ≡ length m + n
+    over : Extends x m
+    leaf_is : leaf (self_of w l) (chronicle_of mid l) ≡ x
+    voted : OfCorrect mid (λ r. Among x (voted_blocks (chronicle_of mid r)))
+    stands : OfCorrect mid (λ r. Among x (window (chronicle_of mid r)))
+    low : OfCorrect mid (λ r. vheight (chronicle_of mid r) < suc (length x))
+    counted : OfCorrect mid (λ u. HasCounted mid x u (end.replica u))
+
+  -- so all are certified
+  round-done : (w mid end : World) (l n : ℕ) (m x : Branch) → HasRound w mid end l n m x → 0 < n
+      → is_correct w l ≡ true → run w (round n l w) ≡ Ok end → IsCertifiedByAll w end l n m x
+  round-done w mid end l n m x h some cl ran =
+      let g = h.on_end in
+      let fam = family-of Known end g in
+      let was : (r : ℕ) → is_correct end r ≡ true → is_correct mid r ≡ true =
+      λ r c. sym (same-correct mid end h.votes_are.made r) ∙ c in
+      let made = h.votes_are.made in
+      let enough : quorum mid.sizes ≤ count_below (replicas mid.sizes) (is_correct mid) =
+      subst (λ (p : ℕ → Bool). quorum mid.sizes ≤ count_below (replicas mid.sizes) p)
+      (λ i r. same-correct mid end made r i)
+      (subst (λ (s : Sizes). quorum s ≤ count_below (replicas s) (is_correct end)) made.sizes fam.enough) in
+      let voted : OfCorrect end (λ r. Among x (voted_blocks (chronicle_of end r))) =
+      λ r c. subst (λ (b : List Branch). Among x b) (sym (h.counted r (was r c)).counting.voted) (h.voted r (was r c)) in
+      let certified = all-certify end x fam.enough voted in
+      let top : highest_voted end (correct_replicas end) < suc (length x) =
+      highest-voted-below end (correct_replicas end) (suc (length x)) (omega arith) (λ r k.
+      let c = among-correct end (replicas end.sizes) r k in
+      let e = vheight-told (chronicle_of end r) (chronicle_of mid r) (h.counted r (was r c)).counting.voted in
+      let b = h.low r (was r c) in
+      omega (arith, e, b)) in
+      let up : 0 < length x = (let k = h.height in omega (arith, k, some)) in
+      let high : OfCorrect end (λ r. high_of end r ≡ x) = λ u c.
+      (let cm = was u c in
+      let k = (h.counted u cm).counting in
+      let full = counted-all mid x (chronicle_of end u) enough (h.counted u cm).counted in
+      let sz = made.sizes in
+      let reach : length x ≤ length (qc_high mid.sizes (chronicle_of end u)).block = elim k.enough [
+        | inl l ↦ absurd (omega (arith, l, full))
+        | inr b ↦ b
+      ] in
+      let reach2 = ap (λ (s : Sizes). length (qc_high s (chronicle_of end u)).block) sz in
+      let cert = high-certified Known end g u c in
+      let below = certified-low end fam (high_of end u) cert in
+      let e : length (high_of end u) ≡ length x = omega (arith, reach, reach2, below, top) in
+      elim cert [
+        | inl z ↦ absurd (let i = ap (λ (b : Branch). length b) z in omega (arith, i, e, up))
+        | inr p ↦ one-of-height (correct_family end) fam (high_of end u) x p certified e
+      ]) in
+      let stands : OfCorrect end (λ r. Among x (window (chronicle_of end r))) = λ r c.
+      (let k = (h.counted r (was r c)).counting in
+      subst (λ (b : List Branch). Among x b)
+      (sym (window-told (chronicle_of mid r) (chronicle_of end r) k.taken k.forgotten)) (h.stands r (was r c))) in
+      let cle = same-correct w end (goes-both w mid end h.burst_is h.votes_are).made l ∙ cl in
+      let selfe = same-self w end (goes-both w mid end h.burst_is h.votes_are).made l in
+      let selfm = same-self w mid h.burst_is.made l in
+      record {
+        ran = ran;
+        going_on = λ r c. (h.counted r (was r c)).going_on;
+        height = h.height;
+        over = h.over;
+        leaf_is =
+            let k = (h.counted l (was l cle)).counting.leaf_is in
+            let here = ap (λ (s : Identity). leaf s (chronicle_of end l)) (selfe ∙ sym selfm) in
+            here ∙ (elim k [
+              | inl e ↦ e ∙ (ap (λ (s : Identity). leaf s (chronicle_of mid l)) selfm ∙ h.leaf_is)
+              | inr e ↦ e ∙ (ap (λ (s : Sizes). (qc_high s (chronicle_of end l)).block) (sym made.sizes) ∙ high l cle)
+            ]);
+        high = high;
+        own = λ u c.
+            let cm = was u c in
+            let kx = known-of Known end g u c x (window-tree (chronicle_of end u) x (stands u c)) in
+            let e = ap (λ (b : Branch). length b) (high u c) in
+            let sz = ap (λ (s : Sizes). length (qc_high s (chronicle_of end u)).block) made.sizes in
+            own-certified Known end g u c x kx up (high u c)
+            (subst (λ (s : Sizes). 0 < length (qc_high s (chronicle_of end u)).certificate.votes) (sym made.sizes)
+            (elim (h.counted u cm).counting.made [
+              | inl l ↦ absurd (omega (arith, l, e, sz))
+              | inr k ↦ k
+            ]));
+        stands = stands;
+        session = h.votes_are.session ∙ h.burst_is.session;
+      }
+
+  round-certified : (w : World) (rest : List Happening) (l v n room : ℕ) (m : Branch)
+      → IsOnWay sizes start all w (round n l w ++ rest) → MayBurst w l v n room m
+      → (x : Branch) × IsCertifiedByAll w (after w (round n l w)) l n m x
+  round-certified w rest l v n room m on may =
+      let bs : List Happening = burst n l w in
+      let mid : World = after w bs in
+      let cs : List ℕ = correct_replicas mid in
+      let ks : List ℕ = sent_since (length w.sent) is_vote mid in
+      let later : List Happening = amply (comes_to cs ks) in
+      let is = round-is n l w in
+      let on0 = subst (IsOnWay sizes start all w) (append_assoc bs later rest)
+      (subst (λ (z : List Happening). IsOnWay sizes start all w (z ++ rest)) is on) in
+      let gw = on-way sizes start all w (bs ++ (later ++ rest)) on0 in
+      let b = burst-voted sizes start all w (later ++ rest) l v n room m on0 may in
+      let voted = b.voted_for in
+      let x : Branch = leaf (self_of w l) (chronicle_of mid l) in
+      let onm = way-past sizes start all bs (later ++ rest) w on0 voted.ran in
+      let gm = on-way sizes start all mid (later ++ rest) onm in
+      let made = b.goes.made in
+      let was : (r : ℕ) → is_correct mid r ≡ true → is_correct w r ≡ true = λ r c. sym (same-correct w mid made r) ∙ c in
+      let high = voted.high in
+      let some = may.some in
+      let lowx : OfCorrect w (λ r. vheight (chronicle_of w r) < length x) =
+      λ r c. (let k = may.low r c in omega (arith, k, high)) in
+      let stands : OfCorrect mid (λ r. Among x (window (chronicle_of mid r))) = λ r c. (voted.climbs r c).stands in
+      let cl = same-correct w mid made l ∙ may.correct in
+      let kx = known-of Known mid gm l cl x (window-tree (chronicle_of mid l) x (stands l cl)) in
+      let famw = family-of Known w gw in
+      let topw = highest-voted-below w (correct_replicas w) (length x) (omega (arith, high, some))
+      (λ r k. lowx r (among-correct w (replicas w.sizes) r k)) in
+      let drops : drop (length w.sent) mid.sent ≡ b.goes.more =
+      ap (λ (z : List Sent). drop (length w.sent) z) b.goes.sent ∙ drop-append_seam w.sent b.goes.more in
+      let numbers : ks ≡ numbers_of is_vote (length w.sent) b.goes.more =
+      ap (λ (z : List Sent). numbers_of is_vote (length w.sent) z) drops in
+      let are : AreVotes mid ks = are-votes mid w.sent b.goes.more ks (length w.sent) b.goes.sent refl numbers in
+      let have : OfCorrect mid (λ r. HasVote mid ks r x) = λ r c.
+      (let s = onm.votes r c (voted.going_on r c) x (voted.voted r c) in
+      elim (Among-either s.0 w.sent b.goes.more (subst (λ (z : List Sent). Among s.0 z) b.goes.sent s.1)) [
+        | inl old ↦ absurd (sent-before Known w gw x kx lowx mid r (was r c) s.0 old s.2 s.3)
+        | inr new ↦ have-vote mid w.sent b.goes.more ks (length w.sent) b.goes.sent refl numbers r x s.0 new s.3
+      ]) in
+      let mays : (u : ℕ) → Among u cs → MayCount mid x u = λ u k.
+      (let c = among-correct mid (replicas mid.sizes) u k in
+      let cw = was u c in
+      let still = b.still u cw in
+      let cert = high-certified Known w gw u cw in
+      let below = certified-low w famw (high_of w u) cert in
+      record {
+        correct = c;
+        goes = voted.going_on u c;
+        stands = stands u c;
+        low = subst (λ (s : Sizes). length (qc_high s (chronicle_of mid u)).block < length x) (sym made.sizes)
+            (still.low (length x) (omega (arith, high, some)) (omega (arith, below, topw)));
+        lacks = subst (λ (s : Sizes). length (votes s x (chronicle_of mid u)) < quorum s) (sym made.sizes)
+            (let e = ap (λ (z : List Vote). length z) (still.votes_are x) in
+            let k = votes-lack Known w gw x kx lowx u cw in omega (arith, e, k));
+      }) in
+      let keysm = keys-in w mid made may.keys in
+      let t = votes-to-all sizes start all x ks cs mid rest onm keysm (distinct-correct mid (replicas mid.sizes)) are have mays in
+      let end : World = after mid later in
+      let one = way-past sizes start all later rest mid onm t.0 in
+      let ge = on-way sizes start all end rest one in
+      let ends : after w (round n l w) ≡ end = ap (after w) is ∙ after-append w bs later in
+      let ran : run w (round n l w) ≡ Ok end =
+      ap (run w) is ∙ (passes-append w bs later voted.ran t.0 ∙ ap (λ (z : World). Ok z) (after-append w bs later)) in
+      (x, subst (λ (z : World). IsCertifiedByAll w z l n m x) (sym ends)
+      (round-done w mid end l n m x (record {
+        on_w = gw;
+        on_end = ge;
+        burst_is = b.goes;
+        votes_are = t.1.goes;
+        going_on = voted.going_on;
+        height = high;
+        over = voted.over;
+        leaf_is = refl;
+        voted = voted.voted;
+        stands = stands;
+        low = λ r c. (b.still r (was r c)).voted_low (suc (length x)) (omega arith)
+            (let k = lowx r (was r c) in omega (arith, k));
+        counted = λ u c. t.1.each u (correct-listed mid u c);
+      }) some may.correct ran))
+
 pub rounds-certify : RoundsCertify
-rounds-certify = ?
+rounds-certify sizes is_faulty ring hs w l v n room m keys met e goes cl lead is climbs low some top =
+    let start : World = new_world sizes is_faulty ring in
+    let on = on-way-from sizes is_faulty ring hs (round n l w) w met e in
+    let made = subst (IsMadeAs start) (run-after hs start w e) (made-after start hs) in
+    round-certified sizes start (hs ++ round n l w) w [] l v n room m
+    (subst (IsOnWay sizes start (hs ++ round n l w) w) (sym (append-nil (round n l w))) on) (record {
+      keys = keys-in start w made keys;
+      goes = goes;
+      correct = cl;
+      leads_it = lead;
+      leaf_is = is;
+      climbs = climbs;
+      low = low;
+      some = some;
+      top = top;
+    })
