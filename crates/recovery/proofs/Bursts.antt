@@ -1,17 +1,15 @@
 -- A burst: a leader makes blocks, and then the others are offered all.
 use Rattle.ids.specs.declared.limits.TheConstants.{HEIGHT_LIMIT}
-use Rattle.std.proofs.Common.{ℕ, zero, suc, ◌≡◌, ◌<◌, ◌≤◌, ◌+◌, ◌⊎◌, ◌==◌, not, Bool, true, false, cond, List, [], ◌∷◌}
+use Rattle.std.proofs.Common.{ℕ, zero, suc, ◌≡◌, ◌<◌, ◌+◌, ◌==◌, not, Bool, true, false, cond, List, [], ◌∷◌}
 use Rattle.std.proofs.Common.{◌++◌, map, filter, length, drop, refl, sym, ap, subst, ◌∙◌, arith, inl, inr, Ok, true≢false}
-use Rattle.std.proofs.lemmas.Bool.{cases_eq, eqb-true, eq-eqb, ne_eqb, cases_Bool, not-true}
+use Rattle.std.proofs.lemmas.Bool.{cases_eq, eq-eqb, ne_eqb, not-true}
 use Rattle.std.proofs.lemmas.List.{append-nil, append_assoc, map-append}
 use Rattle.std.proofs.Math.Seq.{drop-append_seam}
 use Rattle.ids.specs.Sizes.{Sizes, replicas, leader}
 use Rattle.definitions.specs.Lists.{Among, AreDistinct}
 use Rattle.definitions.specs.Branches.{Branch, IsBranch, Extends}
 use Rattle.definitions.specs.Checks.{Identity, command_verifies}
-use Rattle.definitions.specs.Chronicles.{Chronicle, voted_blocks, vheight, window}
-use Rattle.definitions.specs.Keyrings.{Keyring}
-use Rattle.definitions.specs.Premises.{ArePremises}
+use Rattle.definitions.specs.Chronicles.{Chronicle, voted_blocks, vheight}
 use Rattle.definitions.specs.Replicas.{MemorySupply.ample, Replica, Standing.running}
 use Rattle.definitions.specs.States.{leaf, qc_high, pending}
 use Rattle.definitions.specs.Worlds.{World, Sent, Event, Event.offer, Happening, Source.of_record, new_world, is_correct, self_of}
@@ -22,8 +20,8 @@ use Rattle.recovery.specs.Healing.{in_turn, sent_since, numbers_of, is_proposal,
 use Rattle.recovery.specs.Law.{Climbs, Leads, IsVotedForByAll, BurstsAreVotedFor}
 use Rattle.recovery.proofs.Correct.{among-correct, correct-listed}
 use Rattle.recovery.proofs.Fetched.{distinct-last}
-use Rattle.recovery.proofs.Making.{MadeAll, made-all, up, up-is}
-use Rattle.recovery.proofs.Offers.{GoesOn, goes-none, goes-both, Chain, chain-later, chain-up, grown, grown-is, OfferedAll}
+use Rattle.recovery.proofs.Making.{made-all, up-is}
+use Rattle.recovery.proofs.Offers.{GoesOn, goes-none, goes-both, Chain, chain-later, chain-up, grown, grown-is}
 use Rattle.recovery.proofs.Offers.{offers-of, offers-all, IsStill}
 use Rattle.recovery.proofs.Ways.{IsOnWay, KnownAt, on-way-from, on-way, way-past}
 use Rattle.recovery.proofs.Wells.{sound-of, run-after}
@@ -101,12 +99,15 @@ module _ (sizes : Sizes) (start : World) (all : List Happening) (v room : ℕ) (
       → Chain w v m m ks last → ((r : ℕ) → Among r rs → IsReady w v room m last ks r)
       → Passes w (amply (offered_to rs ks)) × OfferedEach w (after w (amply (offered_to rs ks))) v room m last rs
   unfolding offered_to offers-of after
-  offered-each [] w rest on keys d chain ready = (passes-none w, record {
-    goes = goes-none w;
-    others_are = λ j n. refl;
-    each = λ r n. absurd n;
-    still = λ r n. absurd n;
-  })
+  offered-each [] w rest on keys d chain ready = (
+    passes-none w,
+    record {
+      goes = goes-none w;
+      others_are = λ j n. refl;
+      each = λ r n. absurd n;
+      still = λ r n. absurd n;
+    },
+  )
   offered-each (r ∷ rs) w rest on keys d chain ready =
       let here : List Happening = offers-of r ks in
       let later : List Happening = amply (offered_to rs ks) in
@@ -138,21 +139,21 @@ module _ (sizes : Sizes) (start : World) (all : List Happening) (v room : ℕ) (
       ] in (
         subst (Passes w) (sym is) (passes-append w here later one.0 more.0),
         subst (λ (z : World). OfferedEach w z v room m last (r ∷ rs))
-        (sym (ap (after w) is ∙ after-append w here later)) (record {
-          goes = goes-both w mid end o.goes more.1.goes;
-          others_are = λ j n. more.1.others_are j (λ k. n (inr k)) ∙ o.others j (λ e. n (inl e));
-          each = each;
-          still = λ j n. elim n [
-            | inl e ↦ subst (λ (i : ℕ). IsStill w.sizes m (length last) (chronicle_of w i) (chronicle_of end i)) (sym e)
-                (subst (λ (x : Replica). IsStill w.sizes m (length last) (chronicle_of w r) x.chronicle)
-                (sym (more.1.others_are r d.0)) o.still)
-            | inr k ↦ subst (λ (x : Replica). IsStill w.sizes m (length last) x.chronicle (chronicle_of end j))
-                (o.others j (apart j k))
-                (subst (λ (s : Sizes). IsStill s m (length last) (chronicle_of mid j) (chronicle_of end j))
-                o.goes.made.sizes
-                (more.1.still j k))
-          ];
-        }),
+            (sym (ap (after w) is ∙ after-append w here later)) (record {
+              goes = goes-both w mid end o.goes more.1.goes;
+              others_are = λ j n. more.1.others_are j (λ k. n (inr k)) ∙ o.others j (λ e. n (inl e));
+              each = each;
+              still = λ j n. elim n [
+                | inl e ↦ subst (λ (i : ℕ). IsStill w.sizes m (length last) (chronicle_of w i) (chronicle_of end i)) (sym e)
+                    (subst (λ (x : Replica). IsStill w.sizes m (length last) (chronicle_of w r) x.chronicle)
+                    (sym (more.1.others_are r d.0)) o.still)
+                | inr k ↦ subst (λ (x : Replica). IsStill w.sizes m (length last) x.chronicle (chronicle_of end j))
+                    (o.others j (apart j k))
+                    (subst (λ (s : Sizes). IsStill s m (length last) (chronicle_of mid j) (chronicle_of end j))
+                    o.goes.made.sizes
+                    (more.1.still j k))
+              ];
+            }),
       )
 
 -- ---- the burst
@@ -300,16 +301,16 @@ module _ (sizes : Sizes) (start : World) (all : List Happening) where
         goes = goes;
         still = λ r c. subst (λ (h : ℕ). IsStill w.sizes m h (chronicle_of w r) (chronicle_of end r)) (sym long)
             (elim (cases_eq r l) [
-          | inl e ↦ subst (λ (i : ℕ). IsStill w.sizes m (length last) (chronicle_of w i) (chronicle_of end i)) (sym e)
-              (subst (λ (z : Chronicle). IsStill w.sizes m (length last) (chronicle_of w l) z) (sym minec) a.still)
-          | inr k ↦
-              let cm = same-correct w mid a.goes.made r ∙ c in
-              let there = Among-kept (λ (i : ℕ). not (i == l)) (correct_replicas mid) r (correct-listed mid r cm)
-              (ap not (ne_eqb r l k)) in
-              subst (λ (z : Replica). IsStill w.sizes m (length last) z.chronicle (chronicle_of end r)) (a.others r k)
-              (subst (λ (s : Sizes). IsStill s m (length last) (chronicle_of mid r) (chronicle_of end r))
-              a.goes.made.sizes (o.still r there))
-        ]);
+              | inl e ↦ subst (λ (i : ℕ). IsStill w.sizes m (length last) (chronicle_of w i) (chronicle_of end i)) (sym e)
+                  (subst (λ (z : Chronicle). IsStill w.sizes m (length last) (chronicle_of w l) z) (sym minec) a.still)
+              | inr k ↦
+                  let cm = same-correct w mid a.goes.made r ∙ c in
+                  let there = Among-kept (λ (i : ℕ). not (i == l)) (correct_replicas mid) r (correct-listed mid r cm)
+                  (ap not (ne_eqb r l k)) in
+                  subst (λ (z : Replica). IsStill w.sizes m (length last) z.chronicle (chronicle_of end r)) (a.others r k)
+                  (subst (λ (s : Sizes). IsStill s m (length last) (chronicle_of mid r) (chronicle_of end r))
+                  a.goes.made.sizes (o.still r there))
+            ]);
       })
 
 pub bursts-voted : BurstsAreVotedFor

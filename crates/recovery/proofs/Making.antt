@@ -1,56 +1,53 @@
 -- A leader makes blocks, and takes each.
 use Rattle.ids.specs.declared.limits.TheConstants.{HEIGHT_LIMIT, MOST_COMMANDS}
-use Rattle.std.proofs.Common.{ℕ, zero, suc, ◌≡◌, ◌<◌, ◌≤◌, ◌+◌, ◌⊎◌, ◌==◌, ◌&&◌, ◌||◌, not, Bool, true, false, cond}
-use Rattle.std.proofs.Common.{List, [], ◌∷◌, ◌++◌, map, filter, take, reverse, length, drop, refl, sym, ap, subst, ◌∙◌}
+use Rattle.std.proofs.Common.{ℕ, zero, suc, ◌≡◌, ◌<◌, ◌+◌, ◌&&◌, ◌||◌, not, Bool, true, false, cond}
+use Rattle.std.proofs.Common.{List, [], ◌∷◌, ◌++◌, map, length, drop, refl, sym, ap, subst, ◌∙◌}
 use Rattle.std.proofs.Common.{arith, inl, inr, nat_lt, Option, Some, None, option_map, slice_get}
 use Rattle.std.specs.Prelude.{is_some}
-use Rattle.std.specs.List.{list_all, list_any}
-use Rattle.std.proofs.lemmas.Bool.{cond-true, cond-false, cond_both, and_from, and_parts, eq-eqb, ne_eqb, cases_eq, cases_lt}
-use Rattle.std.proofs.lemmas.Bool.{or_cases, ltb-true}
+use Rattle.std.specs.List.{list_all}
+use Rattle.std.proofs.lemmas.Bool.{cond-true, cond-false, cond_both, and_from, and_parts, eq-eqb, cases_lt}
 use Rattle.std.proofs.lemmas.List.{append-nil, append_assoc, length-append}
 use Rattle.std.proofs.Math.Seq.{drop-append_seam}
 use Rattle.ids.specs.Sizes.{Sizes, leader}
 use Rattle.definitions.specs.Lists.{Among}
-use Rattle.definitions.specs.Branches.{Block, Branch, branch_eq, just1, IsBranch}
-use Rattle.definitions.specs.Checks.{Identity, command_verifies, cut}
-use Rattle.definitions.specs.Chronicles.{Admitted, Chronicle, Step, Step.took_block, Step.noted, Note.beat, taken_blocks}
-use Rattle.definitions.specs.Chronicles.{voted_blocks, vheight, horizon, history, executed, decided, window, lock}
+use Rattle.definitions.specs.Branches.{Block, Branch, just1, IsBranch}
+use Rattle.definitions.specs.Checks.{Identity, command_verifies}
+use Rattle.definitions.specs.Chronicles.{Admitted, Chronicle, Step.took_block, Step.noted, Note.beat, taken_blocks}
+use Rattle.definitions.specs.Chronicles.{voted_blocks, vheight, horizon, history, window, lock}
 use Rattle.definitions.specs.Chronicles.{standing_blocks, stored_blocks}
 use Rattle.definitions.specs.Digests.{digest_of}
-use Rattle.definitions.specs.Frames.{Command, Core, Frame}
-use Rattle.definitions.specs.Frames as frame
+use Rattle.definitions.specs.Frames.{Command, Frame}
 use Rattle.definitions.specs.Grounds.{is_justified, is_own_certified, own_counted}
-use Rattle.definitions.specs.Histories.{Answer, history_of, answers}
+use Rattle.definitions.specs.Histories.{Answer}
 use Rattle.definitions.specs.Replicas.{MemorySupply.ample, Replica, Standing.running}
 use Rattle.definitions.specs.Rulings.{Input.beat_in, ruling}
-use Rattle.definitions.specs.Sendings.{Sending, To, To.to_all, To.to_party, sendings, proposal_frame, proposes, vote_frame}
+use Rattle.definitions.specs.Sendings.{Sending, To.to_all, To.to_party, sendings, proposal_frame, proposes, vote_frame}
 use Rattle.definitions.specs.Sendings.{reply_to, new_replies}
-use Rattle.definitions.specs.States.{Justified, me, view, leads, votes, raised, fills, comes_whole, higher, qc_high, pending}
-use Rattle.definitions.specs.States.{is_due, with_request, picks, find_block, is_known, known_as, child, or_else, leaf}
+use Rattle.definitions.specs.States.{Justified, me, view, leads, votes, raised, fills, higher, qc_high, pending}
+use Rattle.definitions.specs.States.{is_due, picks, find_block, is_known, known_as, child, or_else, leaf}
 use Rattle.definitions.specs.States.{proposed, made_with}
 use Rattle.definitions.specs.Worlds.{World, Sent, Event.beat, Event.offer, Happening, Source.of_record, is_correct, is_replica}
-use Rattle.definitions.specs.Worlds.{self_of, put}
+use Rattle.definitions.specs.Worlds.{self_of}
 use Rattle.definitions.specs.Runs.{refusal, after}
-use Rattle.definitions.specs.Events.{happens, recorded, acts, party_of, steps}
-use Rattle.definitions.proofs.Lists.{Among-take, Among-filter, Among-after, Among-before}
-use Rattle.definitions.proofs.Branches.{branch_eq-decides}
+use Rattle.definitions.specs.Events.{happens, recorded, acts, party_of}
+use Rattle.definitions.proofs.Lists.{Among-take, Among-filter, Among-after}
 use Rattle.definitions.proofs.Trees.{found-itself}
 use Rattle.linear_law.proofs.Runs.{member-faulty}
 use Rattle.linear_law.proofs.MadeCertificates.{qc_high-is}
-use Rattle.recovery.specs.Correct.{OfCorrect, AllGoOn, ShareKeys, chronicle_of, view_of, amply}
+use Rattle.recovery.specs.Correct.{ShareKeys, chronicle_of, amply}
 use Rattle.recovery.specs.Healing.{in_turn, numbers_of, sent_since, is_proposal, offered_to, make_block, make_blocks}
-use Rattle.recovery.specs.Law.{Climbs, Leads, IsProposalOf, high_of}
+use Rattle.recovery.specs.Law.{Climbs, Leads, high_of}
 use Rattle.recovery.proofs.Copies.{correct-party}
 use Rattle.recovery.proofs.Decided.{justifies-below}
-use Rattle.recovery.proofs.Offers.{GoesOn, IsMade, Chain, chain-later, chain-up, chain-end, IsOffered, offer-one}
+use Rattle.recovery.proofs.Offers.{GoesOn, IsMade, Chain, chain-later, chain-up, chain-end, offer-one}
 use Rattle.recovery.proofs.Offers.{row-own, row-other, recorded-later, made-later, offer-goes}
 use Rattle.recovery.proofs.Offers.{IsStill, still-none, still-both, still-wider, still-took}
 use Rattle.recovery.proofs.Climbing.{voted-low, voted-now}
 use Rattle.definitions.proofs.Chronicles.{voted-grows}
-use Rattle.recovery.proofs.Steps.{going, outs, TookStep, HandsIn, step-stood, frame-behind}
+use Rattle.recovery.proofs.Steps.{outs, TookStep, HandsIn, step-stood, frame-behind}
 use Rattle.recovery.proofs.Ways.{IsOnWay, KnownAt, on-way, way-on, way-past}
-use Rattle.recovery.proofs.Wells.{IsReached, sound-of, stored-of}
-use Rattle.recovery.proofs.Worlds.{IsMadeAs, made-both, keys-in, same-correct, same-self, Passes, passes-none, passes-one}
+use Rattle.recovery.proofs.Wells.{sound-of, stored-of}
+use Rattle.recovery.proofs.Worlds.{made-both, keys-in, same-correct, same-self, Passes, passes-none, passes-one}
 use Rattle.recovery.proofs.Worlds.{named, passes-append, after-append}
 
 -- ---- the block that a beat makes
@@ -390,8 +387,8 @@ module _ (sizes : Sizes) (start : World) (all : List Happening) (l v : ℕ) (m :
       (subst (λ (x : Chronicle). Climbs (self_of one l) v m (b ∷ z) room x)
       (sym (ap (λ (x : Replica). x.chronicle) own2)) o.climbs)) in (
         subst (Passes w) (sym is)
-        (passes-one w (beat l, ample) ((offer l (of_record k), ample) ∷ []) h.passes
-        (passes-one one (offer l (of_record k), ample) [] got.0 (passes-none two))),
+            (passes-one w (beat l, ample) ((offer l (of_record k), ample) ∷ []) h.passes
+            (passes-one one (offer l (of_record k), ample) [] got.0 (passes-none two))),
         subst (λ (x : List Happening). MadeOne w (after w x) l v m room b) (sym is) (record {
           goes = goes;
           others = λ j n. row-other one two l (took_block a) o.step j n ∙ row-other w one l (noted beat) h.step j n;
@@ -478,8 +475,14 @@ module _ (sizes : Sizes) (start : World) (all : List Happening) (l v : ℕ) (m :
         numbers = numbers-both is_proposal one.goes.more rest.goes.more k
             ∙ ((λ i. one.numbers i ++ numbers_of is_proposal (sym long i) rest.goes.more)
             ∙ ap (λ (x : List ℕ). k ∷ x) rest.numbers);
-        chain = (first.0, first.1, first.2, first.3, subst (λ (x : Branch). Chain next v m x rest.ks last)
-            (one.leaf_is ∙ sym first.4) rest.chain);
+        chain = (
+          first.0,
+          first.1,
+          first.2,
+          first.3,
+          subst (λ (x : Branch). Chain next v m x rest.ks last)
+              (one.leaf_is ∙ sym first.4) rest.chain,
+        );
         voted = λ p h. elim (cases_lt 0 n) [
           | inl q ↦ rest.voted q (one.low (length last) h (omega (arith, up, mids, count, q)))
           | inr y ↦
@@ -503,24 +506,27 @@ module _ (sizes : Sizes) (start : World) (all : List Happening) (l v : ℕ) (m :
       → length (leaf (self_of w l) (chronicle_of w l)) + n < HEIGHT_LIMIT
       → Passes w (make_blocks n l w) × MadeAll w (after w (make_blocks n l w)) room n
   unfolding make_blocks in_turn Chain numbers_of up after
-  made-all zero w rest room on keys c s lead top = (passes-none w, record {
-    goes = record {
-      made = record { sizes = refl; faulty = refl; ring = refl };
-      more = [];
-      sent = sym (append-nil w.sent);
-      session = refl;
-    };
-    others = λ j n. refl;
-    going_on = s;
-    leads_on = lead;
-    ks = [];
-    count = refl;
-    numbers = refl;
-    chain = refl;
-    voted = λ p h. absurd (omega (arith, p));
-    kept = λ x q. q;
-    still = still-none w.sizes m (length (leaf (self_of w l) (chronicle_of w l))) (chronicle_of w l);
-  })
+  made-all zero w rest room on keys c s lead top = (
+    passes-none w,
+    record {
+      goes = record {
+        made = record { sizes = refl; faulty = refl; ring = refl };
+        more = [];
+        sent = sym (append-nil w.sent);
+        session = refl;
+      };
+      others = λ j n. refl;
+      going_on = s;
+      leads_on = lead;
+      ks = [];
+      count = refl;
+      numbers = refl;
+      chain = refl;
+      voted = λ p h. absurd (omega (arith, p));
+      kept = λ x q. q;
+      still = still-none w.sizes m (length (leaf (self_of w l) (chronicle_of w l))) (chronicle_of w l);
+    },
+  )
   made-all (suc n) w rest room on keys c s lead top =
       let here : List Happening = make_block l w in
       let mid : World = after w here in
@@ -537,5 +543,5 @@ module _ (sizes : Sizes) (start : World) (all : List Happening) (l v : ℕ) (m :
       o.going_on o.leads_on (omega (arith, top, e)) in (
         subst (Passes w) (sym is) (passes-append w here later one.0 more.0),
         subst (λ (z : World). MadeAll w z room (suc n)) (sym (ap (after w) is ∙ after-append w here later))
-        (made-more w mid (after mid later) (up n room) room n _ o more.1),
+            (made-more w mid (after mid later) (up n room) room n _ o more.1),
       )

@@ -1,9 +1,8 @@
 -- A leader's blocks are offered to a replica, one after the other.
 use Rattle.ids.specs.declared.limits.TheConstants.{HEIGHT_LIMIT}
-use Rattle.std.proofs.Common.{ℕ, zero, suc, ◌≡◌, ◌<◌, ◌≤◌, ◌+◌, ◌⊎◌, ◌==◌, ◌&&◌, ◌||◌, not, Bool, true, false, cond, List, [], ◌∷◌}
-use Rattle.std.proofs.Common.{◌++◌, map, length, refl, sym, ap, subst, ◌∙◌, arith, inl, inr, nat_lt, Option, Some, None}
+use Rattle.std.proofs.Common.{ℕ, zero, suc, ◌≡◌, ◌<◌, ◌≤◌, ◌+◌, ◌==◌, ◌&&◌, ◌||◌, not, Bool, true, false, cond, List, [], ◌∷◌}
+use Rattle.std.proofs.Common.{◌++◌, map, length, refl, sym, ap, subst, ◌∙◌, arith, inl, inr, nat_lt, Some, None}
 use Rattle.std.proofs.Common.{option_map, slice_get}
-use Rattle.std.specs.Bool.{⊤}
 use Rattle.std.specs.List.{list_all}
 use Rattle.std.proofs.lemmas.Bool.{cond-true, cond-false, cond_both, and_parts, eq-eqb, ne_eqb, lt-ltb, cases_lt}
 use Rattle.std.proofs.lemmas.List.{append-nil, append_assoc}
@@ -12,15 +11,14 @@ use Rattle.definitions.specs.Lists.{Among}
 use Rattle.definitions.specs.Branches.{Block, Branch, just1, IsBranch}
 use Rattle.definitions.specs.Checks.{Identity, command_verifies}
 use Rattle.definitions.specs.Chronicles.{Admitted, Chronicle, Step, Step.took_block, voted_blocks, vheight, standing_blocks}
-use Rattle.definitions.specs.Frames.{Core, Frame}
+use Rattle.definitions.specs.Frames.{Frame}
 use Rattle.definitions.specs.Grounds.{is_justified, is_own_certified}
 use Rattle.definitions.specs.Sendings.{sendings, proposal_frame}
 use Rattle.definitions.specs.States.{Justified, votes, raised, fills, higher, qc_high}
 use Rattle.definitions.specs.Trees.{clear_above}
 use Rattle.definitions.specs.Replicas.{MemorySupply.ample, Replica, Standing.running}
-use Rattle.definitions.specs.Rulings.{ruling}
-use Rattle.definitions.specs.Worlds.{World, Sent, Event, Event.offer, Happening, Source.of_record, is_correct, is_replica}
-use Rattle.definitions.specs.Worlds.{self_of, put}
+use Rattle.definitions.specs.Worlds.{World, Sent, Event.offer, Happening, Source.of_record, is_correct, is_replica}
+use Rattle.definitions.specs.Worlds.{self_of}
 use Rattle.definitions.specs.Runs.{refusal, after}
 use Rattle.definitions.specs.Events.{happens, recorded}
 use Rattle.definitions.proofs.Lists.{Among-before}
@@ -305,15 +303,18 @@ module _ (sizes : Sizes) (start : World) (all : List Happening) (r v : ℕ) (m l
       → Climbs (self_of w r) v m y (grown ks room) (chronicle_of w r)
       → Passes w (offers-of r ks) × OfferedAll w (after w (offers-of r ks)) r v m last room ks
   unfolding offers-of Chain grown after
-  offers-all [] w rest y room on keys c s chain climbs = (passes-none w, record {
-    goes = goes-none w;
-    others = λ j n. refl;
-    going_on = s;
-    climbs = subst (λ (z : Branch). Climbs (self_of w r) v m z room (chronicle_of w r)) chain climbs;
-    voted = λ h n. absurd (omega (arith, n));
-    kept = λ x n. n;
-    still = still-none w.sizes m (length last) (chronicle_of w r);
-  })
+  offers-all [] w rest y room on keys c s chain climbs = (
+    passes-none w,
+    record {
+      goes = goes-none w;
+      others = λ j n. refl;
+      going_on = s;
+      climbs = subst (λ (z : Branch). Climbs (self_of w r) v m z room (chronicle_of w r)) chain climbs;
+      voted = λ h n. absurd (omega (arith, n));
+      kept = λ x n. n;
+      still = still-none w.sizes m (length last) (chronicle_of w r);
+    },
+  )
   offers-all (k ∷ ks) w rest y room on keys c s (b, f, rec, made, chain) climbs =
       let next : World = happens w (offer r (of_record k), ample) in
       let up = chain-up w v m (b ∷ y) ks last chain in

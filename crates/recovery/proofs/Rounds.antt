@@ -1,28 +1,23 @@
 -- A round: a burst, and all votes on it, leave all with certificates of their own.
-use Rattle.std.proofs.Common.{ℕ, zero, suc, ◌≡◌, ◌<◌, ◌≤◌, ◌+◌, ◌⊎◌, ◌==◌, ◌&&◌, not, Bool, true, false, cond, List, [], ◌∷◌}
-use Rattle.std.proofs.Common.{◌++◌, map, max, length, drop, refl, sym, ap, subst, ◌∙◌, arith, inl, inr, nat_lt, Some, None, Ok}
-use Rattle.std.proofs.Common.{true≢false, option_map, slice_get}
+use Rattle.std.proofs.Common.{ℕ, suc, ◌≡◌, ◌<◌, ◌≤◌, ◌+◌, ◌==◌, ◌&&◌, not, Bool, true, false, cond, List, [], ◌∷◌}
+use Rattle.std.proofs.Common.{◌++◌, map, length, drop, refl, sym, ap, subst, ◌∙◌, arith, inl, inr, nat_lt, Some, Ok}
+use Rattle.std.proofs.Common.{option_map, slice_get}
 use Rattle.std.specs.List.{list_any, AllByRecursion}
 use Rattle.std.specs.Cmp.Lexicographic.{bytes_decides}
-use Rattle.std.proofs.lemmas.Bool.{cond-true, cond_both, and_from, and_parts, cases_Bool, cases_lt}
+use Rattle.std.proofs.lemmas.Bool.{cond-true, cond_both, and_from, and_parts, cases_Bool}
 use Rattle.std.proofs.lemmas.List.{append-nil, append_assoc, length-append, length-map}
 use Rattle.std.proofs.Math.Seq.{drop-append_seam}
-use Rattle.ids.specs.declared.limits.TheConstants.{HEIGHT_LIMIT}
 use Rattle.ids.specs.Sizes.{Sizes, replicas, quorum}
 use Rattle.definitions.specs.Bytes.{Bytes}
 use Rattle.definitions.specs.Lists.{Among, AreDistinct, count_below, greatest}
 use Rattle.definitions.specs.Branches.{Branch, Extends, branch_eq}
 use Rattle.definitions.specs.Agreement.{MayBeCertified, supports}
-use Rattle.definitions.specs.Checks.{Identity, vote_verifies}
+use Rattle.definitions.specs.Checks.{Identity}
 use Rattle.definitions.specs.Chronicles.{Chronicle, Step.took_block, Step.noted, Note.got_vote, Note.led_from, voted_blocks}
 use Rattle.definitions.specs.Chronicles.{vheight, window}
 use Rattle.definitions.specs.Digests.{digest, digest_of, AllKnown}
 use Rattle.definitions.specs.Frames.{Core, Vote, Frame, genesis_core}
-use Rattle.definitions.specs.Frames as frame
 use Rattle.definitions.specs.Grounds.{is_own_certified, own_counted}
-use Rattle.definitions.specs.Keyrings.{Keyring}
-use Rattle.definitions.specs.Premises.{ArePremises}
-use Rattle.definitions.specs.Replicas.{MemorySupply.ample, Replica, Standing.running}
 use Rattle.definitions.specs.Sendings.{vote_frame}
 use Rattle.definitions.specs.States.{votes, qc_high, leaf}
 use Rattle.definitions.specs.Worlds.{World, Sent, Happening, new_world, is_correct, self_of}
@@ -39,23 +34,22 @@ use Rattle.linear_law.specs.Law.{correct_family}
 use Rattle.linear_law.proofs.HeldVotes.{AreHolding}
 use Rattle.linear_law.proofs.MadeCertificates.{qc_high-is, votes-each, votes-count, Counts}
 use Rattle.linear_law.proofs.Runs.{IsGiven, Stands}
-use Rattle.recovery.specs.Correct.{OfCorrect, AllGoOn, ShareKeys, chronicle_of, correct_replicas, amply}
+use Rattle.recovery.specs.Correct.{OfCorrect, AllGoOn, chronicle_of, correct_replicas, amply}
 use Rattle.recovery.specs.Healing.{in_turn, sent_since, numbers_of, is_vote, comes_to, burst, round, highest_voted}
-use Rattle.recovery.specs.Law.{Climbs, Leads, IsVotedForByAll, IsCertifiedByAll, RoundsCertify, high_of}
-use Rattle.recovery.proofs.Bursts.{MayBurst, HasBurst, burst-voted, distinct-correct}
+use Rattle.recovery.specs.Law.{IsCertifiedByAll, RoundsCertify, high_of}
+use Rattle.recovery.proofs.Bursts.{MayBurst, burst-voted, distinct-correct}
 use Rattle.recovery.proofs.Copies.{replicas-to}
 use Rattle.recovery.proofs.Correct.{among-correct, correct-listed}
-use Rattle.recovery.proofs.Counting.{IsCounting, IsCountedFor}
 use Rattle.recovery.proofs.Families.{one-of-height}
 use Rattle.recovery.proofs.Fetched.{window-told}
 use Rattle.recovery.proofs.Highs.{high-certified, certified-low, voter-supports, some-core, some-core-is}
-use Rattle.recovery.proofs.Offers.{GoesOn, goes-both, IsStill}
+use Rattle.recovery.proofs.Offers.{GoesOn, goes-both}
 use Rattle.recovery.proofs.Steps.{frame-behind}
-use Rattle.recovery.proofs.Tallied.{MayCount, HasCounted, CountedEach, votes-to-all, counted-all}
+use Rattle.recovery.proofs.Tallied.{MayCount, HasCounted, votes-to-all, counted-all}
 use Rattle.recovery.proofs.Voting.{AreVotes, HasVote}
 use Rattle.recovery.proofs.Ways.{IsOnWay, KnownAt, on-way-from, on-way, way-past}
 use Rattle.recovery.proofs.Wells.{IsReached, sound-of, known-of, stored-of, family-of, one-branch, run-after}
-use Rattle.recovery.proofs.Worlds.{IsMadeAs, made-after, keys-in, same-correct, same-self, Passes, passes-append}
+use Rattle.recovery.proofs.Worlds.{IsMadeAs, made-after, keys-in, same-correct, same-self, passes-append}
 use Rattle.recovery.proofs.Worlds.{after-append}
 
 -- ---- numbers of frames
@@ -88,14 +82,20 @@ unfolding numbers_of
 pass-numbered p v [] xs k e l s m t = absurd m
 pass-numbered p v (y ∷ ys) xs k e l s (inl q) t =
     let here : recorded v k ≡ Some y.frame =
-    (λ j. option_map (λ z. z.frame) (slice_get (e j) (sym l j))) ∙ frame-behind xs y ys in
-    (k, subst (λ (n : List ℕ). Among k n) (sym (cond-true (p y.frame) (k ∷ numbers_of p (suc k) ys) (numbers_of p (suc k) ys)
-    (ap (λ (z : Sent). p z.frame) (sym q) ∙ t))) (inl refl), here ∙ ap (λ (z : Sent). Some z.frame) (sym q))
+    (λ j. option_map (λ z. z.frame) (slice_get (e j) (sym l j))) ∙ frame-behind xs y ys in (
+      k,
+      subst (λ (n : List ℕ). Among k n) (sym (cond-true (p y.frame) (k ∷ numbers_of p (suc k) ys) (numbers_of p (suc k) ys)
+          (ap (λ (z : Sent). p z.frame) (sym q) ∙ t))) (inl refl),
+      here ∙ ap (λ (z : Sent). Some z.frame) (sym q),
+    )
 pass-numbered p v (y ∷ ys) xs k e l s (inr q) t =
     let r = pass-numbered p v ys (xs ++ y ∷ []) (suc k) (e ∙ sym (append_assoc xs (y ∷ []) ys))
-    (let n = length-append xs (y ∷ []) in omega (arith, n, l)) s q t in
-    (r.0, cond_both (p y.frame) (k ∷ numbers_of p (suc k) ys) (numbers_of p (suc k) ys) (λ (n : List ℕ). Among r.0 n)
-    (λ h. inr r.1) (λ h. r.1), r.2)
+    (let n = length-append xs (y ∷ []) in omega (arith, n, l)) s q t in (
+      r.0,
+      cond_both (p y.frame) (k ∷ numbers_of p (suc k) ys) (numbers_of p (suc k) ys) (λ (n : List ℕ). Among r.0 n)
+          (λ h. inr r.1) (λ h. r.1),
+      r.2,
+    )
 
 -- ---- heights that were voted for
 
@@ -413,23 +413,25 @@ module _ (sizes : Sizes) (start : World) (all : List Happening) where
       let ge = on-way sizes start all end rest one in
       let ends : after w (round n l w) ≡ end = ap (after w) is ∙ after-append w bs later in
       let ran : run w (round n l w) ≡ Ok end =
-      ap (run w) is ∙ (passes-append w bs later voted.ran t.0 ∙ ap (λ (z : World). Ok z) (after-append w bs later)) in
-      (x, subst (λ (z : World). IsCertifiedByAll w z l n m x) (sym ends)
-      (round-done w mid end l n m x (record {
-        on_w = gw;
-        on_end = ge;
-        burst_is = b.goes;
-        votes_are = t.1.goes;
-        going_on = voted.going_on;
-        height = high;
-        over = voted.over;
-        leaf_is = refl;
-        voted = voted.voted;
-        stands = stands;
-        low = λ r c. (b.still r (was r c)).voted_low (suc (length x)) (omega arith)
-            (let k = lowx r (was r c) in omega (arith, k));
-        counted = λ u c. t.1.each u (correct-listed mid u c);
-      }) some may.correct ran))
+      ap (run w) is ∙ (passes-append w bs later voted.ran t.0 ∙ ap (λ (z : World). Ok z) (after-append w bs later)) in (
+        x,
+        subst (λ (z : World). IsCertifiedByAll w z l n m x) (sym ends)
+            (round-done w mid end l n m x (record {
+              on_w = gw;
+              on_end = ge;
+              burst_is = b.goes;
+              votes_are = t.1.goes;
+              going_on = voted.going_on;
+              height = high;
+              over = voted.over;
+              leaf_is = refl;
+              voted = voted.voted;
+              stands = stands;
+              low = λ r c. (b.still r (was r c)).voted_low (suc (length x)) (omega arith)
+                  (let k = lowx r (was r c) in omega (arith, k));
+              counted = λ u c. t.1.each u (correct-listed mid u c);
+            }) some may.correct ran),
+      )
 
 pub rounds-certify : RoundsCertify
 rounds-certify sizes is_faulty ring hs w l v n room m keys met e goes cl lead is climbs low some top =

@@ -1,17 +1,16 @@
 -- Each step of a correct replica was due by an input whose tags were found right.
-use Rattle.ids.specs.declared.fault.Fault.{Fault}
-use Rattle.std.proofs.Common.{ℕ, ◌≡◌, ◌==◌, Bool, true, false, cond, List, [], ◌∷◌, refl, sym, ap, subst, ◌∙◌, None}
+use Rattle.std.proofs.Common.{ℕ, ◌≡◌, ◌==◌, List, [], ◌∷◌, refl, sym, subst, None}
 use Rattle.std.specs.Bool.{⊤}
 use Rattle.std.proofs.lemmas.Bool.{cond_both, eqb-true}
 use Rattle.definitions.specs.Chronicles.{Chronicle, Step}
-use Rattle.definitions.specs.Checks.{Identity, Findings, findings}
+use Rattle.definitions.specs.Checks.{Identity, findings}
 use Rattle.definitions.specs.Frames.{Core, Frame}
 use Rattle.definitions.specs.Frames as frame
-use Rattle.definitions.specs.Rulings.{Input, Ruling, Ruling.due, ruling, Input.proposal_in, Input.block_in}
+use Rattle.definitions.specs.Rulings.{Input, Ruling.due, ruling, Input.proposal_in, Input.block_in}
 use Rattle.definitions.specs.Rulings.{Input.offered_in, Input.relayed_in}
 use Rattle.definitions.specs.Replicas.{MemorySupply, Replica, Reaction, step}
-use Rattle.definitions.specs.Admission.{Checked, Checked.passes, check, check_offer, check_copies, check_gathered}
-use Rattle.definitions.specs.Worlds.{World, Event, Happening, self_of, put}
+use Rattle.definitions.specs.Admission.{Checked.passes, check, check_offer, check_copies, check_gathered}
+use Rattle.definitions.specs.Worlds.{World, Event, Happening, self_of}
 use Rattle.definitions.specs.Runs.{refusal}
 use Rattle.definitions.specs.Events.{Effect, party_of, effect, happens, brought, nothing, stepped, told, submitted}
 use Rattle.definitions.proofs.Checks.{when-good}

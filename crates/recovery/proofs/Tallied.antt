@@ -1,8 +1,8 @@
 -- All votes come to all.
-use Rattle.std.proofs.Common.{ℕ, zero, suc, ◌≡◌, ◌<◌, ◌≤◌, ◌+◌, ◌⊎◌, ◌==◌, ◌&&◌, not, Bool, true, false, cond, List, [], ◌∷◌}
+use Rattle.std.proofs.Common.{ℕ, zero, suc, ◌≡◌, ◌<◌, ◌≤◌, ◌==◌, ◌&&◌, not, Bool, true, false, cond, List, [], ◌∷◌}
 use Rattle.std.proofs.Common.{◌++◌, map, length, refl, sym, ap, subst, ◌∙◌, arith, inl, inr, true≢false}
 use Rattle.std.specs.List.{list_any}
-use Rattle.std.proofs.lemmas.Bool.{cond-true, cond-false, cond_both, cases_Bool, cases_eq, cases_lt, and_from, and_parts, or_cases}
+use Rattle.std.proofs.lemmas.Bool.{cases_eq, cases_lt, and_from, and_parts, or_cases}
 use Rattle.std.proofs.lemmas.Bool.{eqb-true, eq-eqb, ne_eqb, not-true}
 use Rattle.std.proofs.lemmas.List.{append_assoc, map-append}
 use Rattle.ids.specs.Sizes.{Sizes, replicas, quorum}
@@ -137,11 +137,14 @@ module _ (sizes : Sizes) (start : World) (all : List Happening) (x : Branch) (ks
       → OfCorrect w (λ r. HasVote w ks r x) → ((u : ℕ) → Among u rs → MayCount w x u)
       → Passes w (amply (comes_to rs ks)) × CountedEach w (after w (amply (comes_to rs ks))) x rs
   unfolding comes_to relays-of after
-  votes-to-all [] w rest on keys d are have may = (passes-none w, record {
-    goes = goes-none w;
-    others_are = λ j n. refl;
-    each = λ u n. absurd n;
-  })
+  votes-to-all [] w rest on keys d are have may = (
+    passes-none w,
+    record {
+      goes = goes-none w;
+      others_are = λ j n. refl;
+      each = λ u n. absurd n;
+    },
+  )
   votes-to-all (u ∷ rs) w rest on keys d are have may =
       let here : List Happening = relays-of u ks in
       let later : List Happening = amply (comes_to rs ks) in

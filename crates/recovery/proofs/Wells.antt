@@ -1,20 +1,20 @@
 -- What holds of each world of a run whose premises hold, for the laws of one event.
-use Rattle.std.proofs.Common.{ℕ, ◌≡◌, true, List, [], ◌∷◌, refl, sym, ap, subst, ◌∙◌, inl, inr, Ok}
+use Rattle.std.proofs.Common.{ℕ, ◌≡◌, true, List, [], ◌∷◌, sym, ap, subst, ◌∙◌, inl, inr, Ok}
 use Rattle.ids.specs.Sizes.{Sizes}
 use Rattle.std.proofs.Common.{Bool}
 use Rattle.definitions.specs.Lists.{Among}
 use Rattle.definitions.specs.Branches.{Branch}
-use Rattle.definitions.specs.Chronicles.{Chronicle, IsSound, tree, voted_blocks}
+use Rattle.definitions.specs.Chronicles.{IsSound, tree, voted_blocks}
 use Rattle.definitions.specs.Digests.{NoCollision, AllKnown, digest_of}
 use Rattle.definitions.specs.Frames.{Core, genesis_core}
 use Rattle.definitions.specs.Keyrings.{Keyring}
 use Rattle.definitions.specs.Worlds.{World, Sent, Happening, is_correct, self_of, new_world}
 use Rattle.definitions.specs.Runs.{refusal, run, after}
 use Rattle.definitions.specs.Events.{happens}
-use Rattle.definitions.specs.Premises.{ArePremises, CoreOf, CoreOfRun}
+use Rattle.definitions.specs.Premises.{ArePremises, CoreOf}
 use Rattle.definitions.proofs.Digests.{digest_of-one}
 use Rattle.definitions.specs.FrameLimits.{IsCore}
-use Rattle.linear_law.proofs.Fits.{IsCoreOrGenesis, core-frame}
+use Rattle.linear_law.proofs.Fits.{core-frame}
 use Rattle.definitions.specs.Agreement.{IsLawfulFamily}
 use Rattle.linear_law.specs.Law.{correct_family}
 use Rattle.linear_law.proofs.Linear.{ground, run-step}
