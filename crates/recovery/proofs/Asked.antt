@@ -1,7 +1,8 @@
 -- One replica asks another one for a block, and its question comes there.
 use Rattle.ids.specs.declared.kind.Kind.TheVariants as kind
 use Rattle.std.proofs.Common.{ℕ, ◌≡◌, ◌==◌, not, Bool, true, false, cond, List, [], ◌∷◌, ◌++◌, map, filter, find}
-use Rattle.std.proofs.Common.{length, drop, arith, refl, sym, ap, subst, ◌∙◌, inl, inr, Option, Some, None, option_map, slice_get}
+use Rattle.std.proofs.Common.{length, drop, arith, refl, sym, ap, subst, ◌∙◌, inl, inr, Option, Some, None}
+use Rattle.std.proofs.Common.{option_map, slice_get}
 use Rattle.std.proofs.lemmas.Bool.{cond-true, cond-false, cond_both, eq-eqb, ne_eqb, eqb-true, cases_eq, and_parts}
 use Rattle.std.proofs.lemmas.Bool.{and_from, lt-ltb}
 use Rattle.std.proofs.lemmas.List.{append-nil, append_assoc, map-append, length-append}
@@ -14,7 +15,8 @@ use Rattle.definitions.specs.Trees.{blocks, standing, find_in}
 use Rattle.definitions.specs.Frames.{Frame, fetch_content}
 use Rattle.definitions.specs.Checks.{Identity}
 use Rattle.definitions.specs.Chronicles.{Admitted, Chronicle, Step.noted, Note.got_fetch, taken_blocks, voted_blocks}
-use Rattle.definitions.specs.Chronicles.{horizon, history, executed, decided, window, standing_blocks, stored_blocks, stored_block}
+use Rattle.definitions.specs.Chronicles.{horizon, history, executed, decided, window, standing_blocks}
+use Rattle.definitions.specs.Chronicles.{stored_blocks, stored_block}
 use Rattle.definitions.specs.States.{me, view, votes, raised, qc_high, leaf, pending, find_block}
 use Rattle.definitions.specs.Rulings.{Input, Input.ask_in, Input.fetch_in, ruling}
 use Rattle.definitions.specs.Sendings.{Sending, To.to_party, sendings, fetch_frame, block_frame, as_taken, supplies}
@@ -29,7 +31,8 @@ use Rattle.recovery.specs.Correct.{OfCorrect, AllGoOn, ShareKeys, chronicle_of, 
 use Rattle.recovery.specs.Healing.{in_turn, is_question, is_copy, receivers, comes_to, delivered, delivered_since}
 use Rattle.recovery.specs.Healing.{ask_one, ask_each}
 use Rattle.recovery.specs.Law.{OnlyAsked}
-use Rattle.recovery.proofs.Worlds.{IsMadeAs, made-both, keys-in, after-append, passes-append, same-self, same-correct, Passes, passes-none, passes-one, named}
+use Rattle.recovery.proofs.Worlds.{IsMadeAs, made-both, keys-in, after-append, passes-append, same-self}
+use Rattle.recovery.proofs.Worlds.{same-correct, Passes, passes-none, passes-one, named}
 use Rattle.recovery.proofs.Copies.{tag-verifies, correct-party, copies-of}
 use Rattle.recovery.proofs.Steps.{going, outs, HandsIn, step-stood, asked, frame-behind}
 use Rattle.recovery.proofs.Views.{moved-trans, not-moved, pending-due, not-less}
@@ -261,7 +264,8 @@ module _ (sizes : Sizes) (start : World) (all : List Happening) (w : World) (key
               (λ t. subst (λ (x : Replica). OnlyAsked (self_of w j) (chronicle_of w j) x.chronicle) (sym (s1.row j))
               (asked-none (self_of w j) (chronicle_of w j))));
           more = q ∷ outs one r out;
-          sent = st.sent ∙ (ap (λ (l : List Sent). l ++ outs one r out) e1 ∙ append_assoc w.sent (q ∷ []) (outs one r out));
+          sent = st.sent ∙ (ap (λ (l : List Sent). l ++ outs one r out) e1 ∙ append_assoc w.sent (q ∷ [])
+              (outs one r out));
           copies = copy-sent w one u r (me (self_of w u)) (as_taken (find_block d c1) c1) self1 number-u
               ∙ (ap (λ (c : Chronicle). copies-of w u (with-copy r (as_taken (find_block d c) c))) was
               ∙ ap (copies-of w u) (sym (cond-false (r == u) [] (with-copy r (copy-at w d r)) (ne_eqb r u n))
@@ -342,7 +346,8 @@ same-holders w v u d only (r ∷ rs) c =
     λ k. cond (r == u) [] (with-copy r (same-copy w v d r (self_of w r) (only r (c r (inl refl))) k))
     ++ same-holders w v u d only rs (λ j m. c j (inr m)) k
 
-pub same-copies : (w v : World) (u : ℕ) → IsMadeAs w v → (hs : List (ℕ × Admitted)) → copies-of v u hs ≡ copies-of w u hs
+pub same-copies : (w v : World) (u : ℕ) → IsMadeAs w v → (hs : List (ℕ × Admitted)) → copies-of v u hs
+    ≡ copies-of w u hs
 same-copies w v u m [] = refl
 same-copies w v u m (h ∷ hs) = λ k. block_frame (same-self w v m h.0 k) u h.1 ∷ same-copies w v u m hs k
 

@@ -64,7 +64,8 @@ ground-itself m c a b y e j l (inr o) =
 
 -- the lock is still safe
 lock-more : (m : Branch) (c : Chronicle) (a : Admitted) → IsBranch m → just1 a.branch ≡ m
-    → (lock c ≡ m) ⊎ (length (lock c) < length m) → (lock (took_block a ∷ c) ≡ m) ⊎ (length (lock (took_block a ∷ c)) < length m)
+    → (lock c ≡ m) ⊎ (length (lock c) < length m) → (lock (took_block a ∷ c) ≡ m) ⊎ (length (lock
+    (took_block a ∷ c)) < length m)
 unfolding lock taken_blocks highest
 lock-more m c a br j h = by a.new
   where
@@ -79,9 +80,11 @@ lock-more m c a br j h = by a.new
       | inr z ↦ inl (nil m (omega (arith, z)))
     ]
 
-    safe : (length (highest rest) < length (just2 a.branch)) → (just2 a.branch ≡ m) ⊎ (length (just2 a.branch) < length m)
+    safe : (length (highest rest) < length (just2 a.branch)) → (just2 a.branch ≡ m) ⊎ (length
+        (just2 a.branch) < length m)
     safe l = elim lower [
-      | inl e ↦ absurd (let i = ap (λ (x : Branch). length x) (sym (just2-is a.branch) ∙ ap just1 (j ∙ e) ∙ just1-genesis) in
+      | inl e ↦ absurd (let i = ap (λ (x : Branch). length x) (sym (just2-is a.branch) ∙ ap just1 (j ∙ e)
+          ∙ just1-genesis) in
           omega (arith, i, l))
       | inr k ↦ inr k
     ]

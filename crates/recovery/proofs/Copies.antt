@@ -6,7 +6,8 @@ use Rattle.std.proofs.Common.{refl, sym, ap, subst, ◌∙◌, arith, inl, inr, 
 use Rattle.std.specs.List.{AllByRecursion, list_all, list_any}
 use Rattle.std.specs.Cmp.Lexicographic.{bytes_decides}
 use Rattle.std.proofs.lemmas.List.{length-map}
-use Rattle.std.proofs.lemmas.Bool.{and_from, or_left, cond-true, lt-ltb, le-leb, ltb-true, and_parts, eqb-true, not_from_false}
+use Rattle.std.proofs.lemmas.Bool.{and_from, or_left, cond-true, lt-ltb, le-leb, ltb-true, and_parts}
+use Rattle.std.proofs.lemmas.Bool.{eqb-true, not_from_false}
 use Rattle.std.proofs.lemmas.Bool.{cases_Bool}
 use Rattle.ids.specs.Sizes.{Sizes, replicas}
 use Rattle.definitions.specs.Bytes.{Bytes}
@@ -41,7 +42,8 @@ use Rattle.recovery.proofs.Places.{IsPlaced, placed}
 -- ---- tags
 
 pub correct-party : (w : World) (r : ℕ) → is_correct w r ≡ true → is_party w r ≡ true
-correct-party w r c = or_left (is_replica w r) (is_client_of w.sizes r) (and_parts (is_replica w r) (not (w.is_faulty r)) c).0
+correct-party w r c = or_left (is_replica w r) (is_client_of w.sizes r) (and_parts (is_replica w r) (not
+    (w.is_faulty r)) c).0
 
 -- what a correct party tags for a correct replica verifies there
 pub tag-verifies : (w : World) → ShareKeys w → (label : Kind) (p u : ℕ) (content : Bytes) → is_party w p ≡ true
@@ -140,7 +142,8 @@ copy-passes w keys u c x q h held e =
     and_from _ _
     (tag-verifies w keys kind.Block h.0 u (block_content (me (self_of w h.0)) core k)
     (correct-party w h.0 held.0) (member-faulty w h.0 held.0) c)
-    (and_from _ _ ((bytes_decides (digest core) (digest (core_of x))).1 (ap (λ (z : Branch). digest (core_of z)) held.2))
+    (and_from _ _ ((bytes_decides (digest core) (digest (core_of x))).1 (ap (λ (z : Branch). digest
+    (core_of z)) held.2))
     ((bytes_decides k.digest q.digest).1 e))
 
 -- what a correct replica took has a certificate for what it justifies
@@ -250,5 +253,6 @@ gathered-taken Known w g keys u c b parent (h ∷ hs) place distinct held more =
 pub copies-taken : CopiesAreTaken
 copies-taken sizes is_faulty ring hs last met e =
     λ keys u c b parent holders place distinct held more.
-    let r = gathered-taken _ last (reached sizes is_faulty ring hs last met e) keys u c b parent holders place distinct held more in
+    let r = gathered-taken _ last
+    (reached sizes is_faulty ring hs last met e) keys u c b parent holders place distinct held more in
     (r.input, r.takes.0, r.passing, r.takes.1, r.takes.2)

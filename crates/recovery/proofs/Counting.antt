@@ -1,5 +1,6 @@
 -- Votes that come to a replica, and the certificate that they complete.
-use Rattle.std.proofs.Common.{ℕ, suc, ◌≡◌, ◌<◌, ◌≤◌, ◌⊎◌, ◌==◌, ◌&&◌, ◌||◌, not, Bool, true, false, cond, List, [], ◌∷◌}
+use Rattle.std.proofs.Common.{ℕ, suc, ◌≡◌, ◌<◌, ◌≤◌, ◌⊎◌, ◌==◌, ◌&&◌, ◌||◌, not, Bool, true, false, cond}
+use Rattle.std.proofs.Common.{List, [], ◌∷◌}
 use Rattle.std.proofs.Common.{length, refl, sym, ap, subst, ◌∙◌, arith, inl, inr, nat_lt, Option, Some, None}
 use Rattle.std.specs.List.{list_any}
 use Rattle.std.proofs.lemmas.Bool.{cond-true, cond_both, cases_lt, and_parts, and_from, or_left, or_right, or_cases}
@@ -9,7 +10,8 @@ use Rattle.definitions.specs.Bytes.{Bytes}
 use Rattle.definitions.specs.Lists.{Among}
 use Rattle.definitions.specs.Branches.{Branch, branch_eq}
 use Rattle.definitions.specs.Checks.{Identity}
-use Rattle.definitions.specs.Chronicles.{Chronicle, Step.noted, Step.took_block, Note.got_vote, Note.led_from, taken_blocks, voted_blocks, horizon, history}
+use Rattle.definitions.specs.Chronicles.{Chronicle, Step.noted, Step.took_block, Note.got_vote, Note.led_from}
+use Rattle.definitions.specs.Chronicles.{taken_blocks, voted_blocks, horizon, history}
 use Rattle.definitions.specs.Digests.{digest_of}
 use Rattle.definitions.specs.Frames.{Command, Vote}
 use Rattle.definitions.specs.States.{Justified, view, votes, raised, by_voter, fills, higher, qc_high, leaf}
@@ -225,12 +227,14 @@ counting-on self x y voter v before c h =
     s : Sizes
     s = self.sizes
 
-    by : (t : Bool) → nat_lt (length (qc_high s c).block) (length (qc_high s (noted (got_vote voter v y) ∷ c)).block) ≡ t
+    by : (t : Bool) → nat_lt (length (qc_high s c).block) (length (qc_high s (noted
+        (got_vote voter v y) ∷ c)).block) ≡ t
         → ((higher false (raised s (noted (got_vote voter v y)) c) (qc_high s c) ≡ qc_high s c)
         ⊎ ((p : Justified) × (raised s (noted (got_vote voter v y)) c ≡ Some p)
         × (higher false (raised s (noted (got_vote voter v y)) c) (qc_high s c) ≡ p)
         × (length (qc_high s c).block < length p.block)))
-        → qc_high s (noted (got_vote voter v y) ∷ c) ≡ higher false (raised s (noted (got_vote voter v y)) c) (qc_high s c)
+        → qc_high s (noted (got_vote voter v y) ∷ c) ≡ higher false (raised s (noted (got_vote voter v y)) c)
+        (qc_high s c)
         → (leaf self c ≡ leaf self before) ⊎ (leaf self c ≡ (qc_high s c).block)
         → (cond t (qc_high s (noted (got_vote voter v y) ∷ c)).block (leaf self c) ≡ leaf self before)
         ⊎ (cond t (qc_high s (noted (got_vote voter v y) ∷ c)).block (leaf self c)

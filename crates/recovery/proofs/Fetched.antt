@@ -2,11 +2,14 @@
 use Rattle.ids.specs.declared.limits.TheConstants.{MOST_OF_HEIGHT}
 use Rattle.std.specs.Prelude.{count_by}
 use Rattle.definitions.specs.Rulings.{ruling}
-use Rattle.std.proofs.Common.{ℕ, zero, suc, ◌≡◌, ◌<◌, ◌≤◌, ◌+◌, ◌⊎◌, ◌==◌, not, Bool, true, false, cond, List, [], ◌∷◌}
-use Rattle.std.proofs.Common.{◌++◌, map, filter, find, length, drop, refl, sym, ap, subst, ◌∙◌, arith, inl, inr, nat_lt}
+use Rattle.std.proofs.Common.{ℕ, zero, suc, ◌≡◌, ◌<◌, ◌≤◌, ◌+◌, ◌⊎◌, ◌==◌, not, Bool, true, false, cond, List}
+use Rattle.std.proofs.Common.{[], ◌∷◌}
+use Rattle.std.proofs.Common.{◌++◌, map, filter, find, length, drop, refl, sym, ap, subst, ◌∙◌, arith, inl}
+use Rattle.std.proofs.Common.{inr, nat_lt}
 use Rattle.std.proofs.Common.{true≢false, Option, Some, None, option_map, slice_get, Ok}
 use Rattle.std.specs.List.{AllByRecursion, list_any, list_all}
-use Rattle.std.proofs.lemmas.Bool.{cond-true, cond-false, cond_both, cases_Bool, cases_eq, and_parts, and_from, lt-ltb, eq-eqb, ne_eqb}
+use Rattle.std.proofs.lemmas.Bool.{cond-true, cond-false, cond_both, cases_Bool, cases_eq, and_parts}
+use Rattle.std.proofs.lemmas.Bool.{and_from, lt-ltb, eq-eqb, ne_eqb}
 use Rattle.std.proofs.lemmas.List.{append-nil, append_assoc, map-append, length-append}
 use Rattle.std.proofs.Math.Seq.{drop-append_seam}
 use Rattle.ids.specs.Sizes.{Sizes, replicas}
@@ -35,7 +38,8 @@ use Rattle.definitions.proofs.Sound.{found-standing}
 use Rattle.definitions.proofs.Trees.{found-itself}
 use Rattle.agreement.proofs.Certified.{any-among}
 use Rattle.definitions.proofs.Certificates.{IsDigest-digest_of}
-use Rattle.recovery.specs.Correct.{OfCorrect, AllGoOn, ShareKeys, chronicle_of, correct_below, correct_replicas, correct_with}
+use Rattle.recovery.specs.Correct.{OfCorrect, AllGoOn, ShareKeys, chronicle_of, correct_below}
+use Rattle.recovery.specs.Correct.{correct_replicas, correct_with}
 use Rattle.recovery.specs.Healing.{in_turn, numbers_of, sent_since, is_copy, ask_each, fetch_block}
 use Rattle.recovery.specs.Law.{OnlyAsked, IsHolder, HasPlace, IsFetched, MissingBlocksAreFetched}
 use Rattle.recovery.proofs.Asked.{asked-each, holders-of, answer-of, copy-at, with-copy, same-copies, gather-hands}
@@ -362,7 +366,8 @@ module _ (sizes : Sizes) (start : World) (all : List Happening) (w : World) (u :
         let end : List Happening = (gather u sources, ample) ∷ [] in
         let on0 = subst (IsOnWay sizes start all w) (append_assoc asks end rest)
         (subst (λ (l : List Happening). IsOnWay sizes start all w (l ++ rest)) (fetch-is d u w) on) in
-        let each = asked-each sizes start all u d (IsDigest-digest_of x) cs (end ++ rest) w may.keys may.goes may.correct
+        let each = asked-each sizes start all u d (IsDigest-digest_of x) cs
+        (end ++ rest) w may.keys may.goes may.correct
         (among-correct w (replicas w.sizes)) on0 in
         let a = each.1 in
         let g0 = on-way sizes start all w (asks ++ (end ++ rest)) on0 in

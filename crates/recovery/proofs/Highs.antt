@@ -168,7 +168,8 @@ module _ (Known : Core → Type 0) (w : World) (g : IsReached Known w) (r : ℕ)
       by true n i =
           let k : record { block = just1 a.branch; certificate = a.certificate } ≡ p = cc in
           subst (λ (j : Justified). IsCertifiedIn w j.block) k
-          (taken a (subst (λ (l : List Admitted). Among a l) (sym (cond-true a.new (a ∷ taken_blocks d) (taken_blocks d) n))
+          (taken a (subst (λ (l : List Admitted). Among a l) (sym (cond-true a.new (a ∷ taken_blocks d)
+          (taken_blocks d) n))
           (inl refl)))
       by false n i = absurd (none-some p i)
 

@@ -19,7 +19,8 @@ use Rattle.definitions.specs.Rulings.{Input.beat_in, Input.prune_in, Input.offer
 use Rattle.definitions.specs.Rulings.{Input.lead_in, Input.ask_in, Input.view_in, admitted, on_placing, on_offer}
 use Rattle.definitions.specs.Rulings.{on_relay, on_request, take_grounded, lead, with_block, ruling}
 use Rattle.definitions.specs.States.{find_block, is_due, is_same_request, pending}
-use Rattle.definitions.specs.Trees.{Placing, Placing.stands, Placing.grows, Placing.lacks_parent, Placing.unfit, placing}
+use Rattle.definitions.specs.Trees.{Placing, Placing.stands, Placing.grows, Placing.lacks_parent}
+use Rattle.definitions.specs.Trees.{Placing.unfit, placing}
 use Rattle.linear_law.proofs.Inputs.{AllStanding}
 use Rattle.recovery.proofs.Ruled.{WasDue}
 

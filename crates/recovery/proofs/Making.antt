@@ -21,12 +21,14 @@ use Rattle.definitions.specs.Grounds.{is_justified, is_own_certified, own_counte
 use Rattle.definitions.specs.Histories.{Answer}
 use Rattle.definitions.specs.Replicas.{MemorySupply.ample, Replica, Standing.running}
 use Rattle.definitions.specs.Rulings.{Input.beat_in, ruling}
-use Rattle.definitions.specs.Sendings.{Sending, To.to_all, To.to_party, sendings, proposal_frame, proposes, vote_frame}
+use Rattle.definitions.specs.Sendings.{Sending, To.to_all, To.to_party, sendings, proposal_frame, proposes}
+use Rattle.definitions.specs.Sendings.{vote_frame}
 use Rattle.definitions.specs.Sendings.{reply_to, new_replies}
 use Rattle.definitions.specs.States.{Justified, me, view, leads, votes, raised, fills, higher, qc_high, pending}
 use Rattle.definitions.specs.States.{is_due, picks, find_block, is_known, known_as, child, or_else, leaf}
 use Rattle.definitions.specs.States.{proposed, made_with}
-use Rattle.definitions.specs.Worlds.{World, Sent, Event.beat, Event.offer, Happening, Source.of_record, is_correct, is_replica}
+use Rattle.definitions.specs.Worlds.{World, Sent, Event.beat, Event.offer, Happening, Source.of_record}
+use Rattle.definitions.specs.Worlds.{is_correct, is_replica}
 use Rattle.definitions.specs.Worlds.{self_of}
 use Rattle.definitions.specs.Runs.{refusal, after}
 use Rattle.definitions.specs.Events.{happens, recorded, acts, party_of}
@@ -91,7 +93,8 @@ all-from : {A : Type 0} (p : A → Bool) (xs : List A) → ((x : A) → Among x 
 all-from p [] h = refl
 all-from p (x ∷ xs) h = and_from _ _ (h x (inl refl)) (all-from p xs (λ y m. h y (inr m)))
 
-made-waits : (self : Identity) (c : Chronicle) (k : Command) → Among k (made-block self c).commands → Among k (pending c)
+made-waits : (self : Identity) (c : Chronicle) (k : Command) → Among k (made-block self c).commands → Among k
+    (pending c)
 unfolding made-block picks
 made-waits self c k m = (Among-filter _ (pending c) k (Among-take MOST_COMMANDS _ k m)).0
 
@@ -100,7 +103,8 @@ made-waits self c k m = (Among-filter _ (pending c) k (Among-take MOST_COMMANDS 
 -- a climber whose taken blocks, horizon, votes and view are the same
 climbs-told : (self : Identity) (v : ℕ) (m y : Branch) (room : ℕ) (c : Chronicle) → Climbs self v m y room c
     → Climbs self v m y room (noted beat ∷ c)
-unfolding view window horizon standing_blocks stored_blocks taken_blocks lock is_justified is_own_certified own_counted qc_high raised
+unfolding view window horizon standing_blocks stored_blocks taken_blocks lock is_justified is_own_certified
+    own_counted qc_high raised
 climbs-told self v m y room c k = record {
   in_view = k.in_view;
   stands = k.stands;
@@ -170,7 +174,8 @@ numbers-none p w r [] h k = refl
 numbers-none p w r (o ∷ os) h k =
     cond-false (p o.1) _ _ (h o (inl refl)) ∙ numbers-none p w r os (λ x m. h x (inr m)) (suc k)
 
-reply-no : (self : Identity) (told : List Answer) (o : Sending) → Among o (map (reply_to self) told) → is_proposal o.1 ≡ false
+reply-no : (self : Identity) (told : List Answer) (o : Sending) → Among o (map (reply_to self) told)
+    → is_proposal o.1 ≡ false
 unfolding reply_to is_proposal
 reply-no self [] o m = absurd m
 reply-no self (a ∷ told) o (inl e) = ap (λ (x : Sending). is_proposal x.1) e
@@ -220,7 +225,8 @@ up-is (suc n) room = let h = up-is n room in omega (arith, h)
 
 -- ---- one block
 
-beat-hands : (w : World) (l : ℕ) → is_correct w l ≡ true → (w.replica l).standing ≡ running → HandsIn w (beat l) l beat_in
+beat-hands : (w : World) (l : ℕ) → is_correct w l ≡ true → (w.replica l).standing ≡ running → HandsIn w
+    (beat l) l beat_in
 unfolding acts party_of
 beat-hands w l c s = record { party = refl; correct = c; goes_on = s; acting = refl }
 
@@ -446,7 +452,8 @@ module _ (sizes : Sizes) (start : World) (all : List Happening) (l v : ℕ) (m :
         (chronicle_of next l)
 
   -- a first block, and then the others
-  made-more : (w mid next : World) (room room2 n : ℕ) (b : Block) → MadeOne w mid l v m room b → MadeAll mid next room2 n
+  made-more : (w mid next : World) (room room2 n : ℕ) (b : Block) → MadeOne w mid l v m room b
+      → MadeAll mid next room2 n
       → MadeAll w next room2 (suc n)
   unfolding Chain
   made-more w mid next room room2 n b one rest =

@@ -43,7 +43,8 @@ carried-found self (view_in w s) core q f h e = absurd h
 due-mark : (self : Identity) (a : Admitted) (c : Chronicle) → WasDue self (took_block a) c → a.new ≡ true
     → a.clear ≡ is_clear_core self (core_of a.branch)
 due-mark self a c d n =
-    let r : FromInput self c d.0 (took_block a) = subst (AllStanding (FromInput self c d.0)) d.2 (ruling-from self d.0 c) in
+    let r : FromInput self c d.0 (took_block a) = subst (AllStanding (FromInput self c d.0)) d.2
+    (ruling-from self d.0 c) in
     let t = r.4 in
     t.clear_is
     ∙ (ap (λ (f : Findings). f.clear) (carried-found self d.0 r.0 r.1 r.2 r.3 d.1)

@@ -1,6 +1,7 @@
 -- A leader's blocks are offered to a replica, one after the other.
 use Rattle.ids.specs.declared.limits.TheConstants.{HEIGHT_LIMIT}
-use Rattle.std.proofs.Common.{ℕ, zero, suc, ◌≡◌, ◌<◌, ◌≤◌, ◌+◌, ◌==◌, ◌&&◌, ◌||◌, not, Bool, true, false, cond, List, [], ◌∷◌}
+use Rattle.std.proofs.Common.{ℕ, zero, suc, ◌≡◌, ◌<◌, ◌≤◌, ◌+◌, ◌==◌, ◌&&◌, ◌||◌, not, Bool, true, false}
+use Rattle.std.proofs.Common.{cond, List, [], ◌∷◌}
 use Rattle.std.proofs.Common.{◌++◌, map, length, refl, sym, ap, subst, ◌∙◌, arith, inl, inr, nat_lt, Some, None}
 use Rattle.std.proofs.Common.{option_map, slice_get}
 use Rattle.std.specs.List.{list_all}
@@ -10,7 +11,8 @@ use Rattle.ids.specs.Sizes.{Sizes, leader}
 use Rattle.definitions.specs.Lists.{Among}
 use Rattle.definitions.specs.Branches.{Block, Branch, just1, IsBranch}
 use Rattle.definitions.specs.Checks.{Identity, command_verifies}
-use Rattle.definitions.specs.Chronicles.{Admitted, Chronicle, Step, Step.took_block, voted_blocks, vheight, standing_blocks}
+use Rattle.definitions.specs.Chronicles.{Admitted, Chronicle, Step, Step.took_block, voted_blocks, vheight}
+use Rattle.definitions.specs.Chronicles.{standing_blocks}
 use Rattle.definitions.specs.Frames.{Frame}
 use Rattle.definitions.specs.Grounds.{is_justified, is_own_certified}
 use Rattle.definitions.specs.Sendings.{sendings, proposal_frame}
@@ -33,7 +35,8 @@ use Rattle.recovery.proofs.Marks.{stands-clear}
 use Rattle.recovery.proofs.Proposals.{MayVote, proposal-known}
 use Rattle.recovery.proofs.Steps.{going, outs, TookStep, step-stood}
 use Rattle.recovery.proofs.Ways.{IsOnWay, KnownAt, on-way, way-on}
-use Rattle.recovery.proofs.Worlds.{IsMadeAs, made-both, keys-in, same-correct, same-self, Passes, passes-none, passes-one}
+use Rattle.recovery.proofs.Worlds.{IsMadeAs, made-both, keys-in, same-correct, same-self, Passes, passes-none}
+use Rattle.recovery.proofs.Worlds.{passes-one}
 use Rattle.recovery.proofs.Worlds.{named}
 
 -- ---- worlds that go on
@@ -77,7 +80,8 @@ recorded-later w next g k f e =
     ap (λ (l : List Sent). option_map (λ s. s.frame) (slice_get l k)) g.sent ∙ slice-later w.sent g.more k f e
 
 -- and stands below the record's length
-pub slice-there : (xs : List Sent) (k : ℕ) (f : Frame) → option_map (λ s. s.frame) (slice_get xs k) ≡ Some f → k < length xs
+pub slice-there : (xs : List Sent) (k : ℕ) (f : Frame) → option_map (λ s. s.frame) (slice_get xs k) ≡ Some f
+    → k < length xs
 slice-there [] k f e = absurd (none e)
   where
     none : None ≡ Some f → ⊥
@@ -103,7 +107,8 @@ made-later w next g v m y b f h =
       proposal = record {
         correct = ap (is_correct next) l ∙ (same-correct w next g.made (leader w.sizes v) ∙ p.correct);
         sent = p.sent;
-        recorded = subst (λ (r : List Sent). Among p.sent r) (sym g.sent) (Among-before p.sent w.sent g.more p.recorded);
+        recorded = subst (λ (r : List Sent). Among p.sent r) (sym g.sent)
+            (Among-before p.sent w.sent g.more p.recorded);
         made = p.made;
         is = p.is ∙ ((λ k. proposal_frame (sym (same-self w next g.made (leader w.sizes v)) k) v p.made)
             ∙ ap (λ (i : ℕ). proposal_frame (self_of next i) v p.made) (sym l));
@@ -203,8 +208,8 @@ module _ (sizes : Sizes) (start : World) (all : List Happening) where
 
 -- ---- what is still
 
--- the kept votes are the same; the highest certificate is no higher than it was, or than m; and what was voted for is no
--- higher than before, or than this
+-- the kept votes are the same; the highest certificate is no higher than it was, or than m; and what was voted for is
+-- no higher than before, or than this
 pub record IsStill (s : Sizes) (m : Branch) (top : ℕ) (before now : Chronicle) : Type 0 where
   pub votes_are : (x : Branch) → votes s x now ≡ votes s x before
   pub low : (n : ℕ) → length m < n → length (qc_high s before).block < n → length (qc_high s now).block < n
@@ -357,7 +362,8 @@ module _ (sizes : Sizes) (start : World) (all : List Happening) (r v : ℕ) (m l
               (still-took w.sizes m (length last) (chronicle_of w r) o.taken
               (ap just1 o.branch ∙ justifies-below b y m climbs.over made.justify)
               (let e = ap (λ (z : Branch). length z) o.branch in omega (arith, e, up))))
-              (subst (λ (z : Sizes). IsStill z m (length last) (chronicle_of next r) (chronicle_of end r)) goes.made.sizes
+              (subst (λ (z : Sizes). IsStill z m (length last) (chronicle_of next r)
+              (chronicle_of end r)) goes.made.sizes
               more.1.still);
         },
       )

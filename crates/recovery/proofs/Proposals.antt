@@ -3,7 +3,8 @@ use Rattle.ids.specs.declared.fault.Fault.TheVariants as fault
 use Rattle.ids.specs.declared.limits.TheConstants.{MOST_BLOCKS}
 use Rattle.ids.specs.declared.kind.Kind.TheVariants as kind
 use Rattle.std.proofs.Common.{ℕ, suc, ◌≡◌, ◌⊎◌, ◌&&◌, ◌==◌, Bool, true, false, cond, List, [], ◌∷◌}
-use Rattle.std.proofs.Common.{length, map, true≢false, refl, sym, ap, subst, ◌∙◌, arith, inl, inr, nat_lt, Option, Some}
+use Rattle.std.proofs.Common.{length, map, true≢false, refl, sym, ap, subst, ◌∙◌, arith, inl, inr, nat_lt}
+use Rattle.std.proofs.Common.{Option, Some}
 use Rattle.std.specs.List.{list_all}
 use Rattle.std.proofs.lemmas.Bool.{and_from, or_left, or_right, cond-true, cond-false, cond_both, eq-eqb, and_parts}
 use Rattle.std.proofs.lemmas.Bool.{cases_Bool}
@@ -19,7 +20,8 @@ use Rattle.definitions.specs.Frames as frame
 use Rattle.definitions.specs.Keyrings.{vector_for}
 use Rattle.definitions.specs.Checks.{Identity, command_verifies, cut, findings, is_good, is_clear_core}
 use Rattle.definitions.specs.Grounds.{is_justified, is_own_certified, grounded}
-use Rattle.definitions.specs.Rulings.{Input, Input.proposal_in, Input.offered_in, Ruling, Ruling.due, admitted, on_placing}
+use Rattle.definitions.specs.Rulings.{Input, Input.proposal_in, Input.offered_in, Ruling, Ruling.due}
+use Rattle.definitions.specs.Rulings.{admitted, on_placing}
 use Rattle.definitions.specs.Rulings.{on_offer, take_block, take_grounded, ruling, votes_for}
 use Rattle.definitions.specs.Sendings.{proposal_frame}
 use Rattle.definitions.specs.States.{view}
@@ -61,7 +63,8 @@ pub clear-more : (height : ℕ) (b : Branch) (s : Stored) (stored : List Stored)
     → clear_above height b (s ∷ stored) ≡ true
 unfolding clear_above is_clear
 clear-more height [] s stored h = refl
-clear-more height (b ∷ parent) s stored h = by (nat_lt height (suc (length parent))) h (clear-more height parent s stored)
+clear-more height (b ∷ parent) s stored h = by (nat_lt height (suc (length parent))) h
+    (clear-more height parent s stored)
   where
     by : (t : Bool)
         → cond t (is_clear (b ∷ parent) stored && clear_above height parent stored) true ≡ true
@@ -69,7 +72,8 @@ clear-more height (b ∷ parent) s stored h = by (nat_lt height (suc (length par
         → cond t (is_clear (b ∷ parent) (s ∷ stored) && clear_above height parent (s ∷ stored)) true ≡ true
     by true e rest =
         let p = and_parts (is_clear (b ∷ parent) stored) (clear_above height parent stored) e in
-        and_from _ _ (or_right (s.clear && branch_eq s.branch (b ∷ parent)) (is_clear (b ∷ parent) stored) p.0) (rest p.1)
+        and_from _ _ (or_right (s.clear && branch_eq s.branch (b ∷ parent)) (is_clear (b ∷ parent) stored) p.0)
+        (rest p.1)
     by false e rest = refl
 
 -- a clear block over a parent that is clear down to what the block justifies
@@ -159,7 +163,14 @@ takes-new w u v b parent a place e new clear =
 takes-old : (w : World) (u v : ℕ) (b : Block) (parent : Branch) (a : Admitted)
     → Among (b ∷ parent) (window (chronicle_of w u)) → a.branch ≡ b ∷ parent → a.new ≡ false
     → Takes w u v b parent (take_block (self_of w u) (Some v) a (chronicle_of w u))
-takes-old w u v b parent a there e old = (_, refl, e, λ may. votes-old w u v a b parent e old there may, inr (old, there))
+takes-old w u v b parent a there e old = (
+  _,
+  refl,
+  e,
+  λ may. votes-old w u v a b parent e old there may,
+  inr
+      (old, there),
+)
 
 -- what it finds of the block's commands
 clear-core : (self : Identity) (b : Block) (parent : Branch)

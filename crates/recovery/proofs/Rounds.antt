@@ -13,7 +13,8 @@ use Rattle.definitions.specs.Lists.{Among, AreDistinct, count_below, greatest}
 use Rattle.definitions.specs.Branches.{Branch, Extends, branch_eq}
 use Rattle.definitions.specs.Agreement.{MayBeCertified, supports}
 use Rattle.definitions.specs.Checks.{Identity}
-use Rattle.definitions.specs.Chronicles.{Chronicle, Step.took_block, Step.noted, Note.got_vote, Note.led_from, voted_blocks}
+use Rattle.definitions.specs.Chronicles.{Chronicle, Step.took_block, Step.noted, Note.got_vote, Note.led_from}
+use Rattle.definitions.specs.Chronicles.{voted_blocks}
 use Rattle.definitions.specs.Chronicles.{vheight, window}
 use Rattle.definitions.specs.Digests.{digest, digest_of, AllKnown}
 use Rattle.definitions.specs.Frames.{Core, Vote, Frame, genesis_core}
@@ -84,7 +85,8 @@ pass-numbered p v (y ∷ ys) xs k e l s (inl q) t =
     let here : recorded v k ≡ Some y.frame =
     (λ j. option_map (λ z. z.frame) (slice_get (e j) (sym l j))) ∙ frame-behind xs y ys in (
       k,
-      subst (λ (n : List ℕ). Among k n) (sym (cond-true (p y.frame) (k ∷ numbers_of p (suc k) ys) (numbers_of p (suc k) ys)
+      subst (λ (n : List ℕ). Among k n) (sym (cond-true (p y.frame) (k ∷ numbers_of p (suc k) ys) (numbers_of p
+          (suc k) ys)
           (ap (λ (z : Sent). p z.frame) (sym q) ∙ t))) (inl refl),
       here ∙ ap (λ (z : Sent). Some z.frame) (sym q),
     )
@@ -158,7 +160,8 @@ module _ (Known : Core → Type 0) (w : World) (g : IsReached Known w) (x : Bran
       → digest_of y ≡ digest_of x → ⊥
   not-voted r c y m e =
       let so = sound-of Known w g r c in
-      let same = one-branch Known w g y x (known-of Known w g r c y (voted-tree w.sizes (chronicle_of w r) so.lawful y m)) kx e in
+      let same = one-branch Known w g y x (known-of Known w g r c y (voted-tree w.sizes
+      (chronicle_of w r) so.lawful y m)) kx e in
       let h = voted-height (chronicle_of w r) y m in
       let l = low r c in
       let n = ap (λ (z : Branch). length z) same in
@@ -288,7 +291,8 @@ module _ (sizes : Sizes) (start : World) (all : List Happening) where
       (λ i r. same-correct mid end made r i)
       (subst (λ (s : Sizes). quorum s ≤ count_below (replicas s) (is_correct end)) made.sizes fam.enough) in
       let voted : OfCorrect end (λ r. Among x (voted_blocks (chronicle_of end r))) =
-      λ r c. subst (λ (b : List Branch). Among x b) (sym (h.counted r (was r c)).counting.voted) (h.voted r (was r c)) in
+      λ r c. subst (λ (b : List Branch). Among x b) (sym (h.counted r (was r c)).counting.voted) (h.voted r
+      (was r c)) in
       let certified = all-certify end x fam.enough voted in
       let top : highest_voted end (correct_replicas end) < suc (length x) =
       highest-voted-below end (correct_replicas end) (suc (length x)) (omega arith) (λ r k.
@@ -368,7 +372,8 @@ module _ (sizes : Sizes) (start : World) (all : List Happening) where
       let onm = way-past sizes start all bs (later ++ rest) w on0 voted.ran in
       let gm = on-way sizes start all mid (later ++ rest) onm in
       let made = b.goes.made in
-      let was : (r : ℕ) → is_correct mid r ≡ true → is_correct w r ≡ true = λ r c. sym (same-correct w mid made r) ∙ c in
+      let was : (r : ℕ) → is_correct mid r ≡ true → is_correct w r ≡ true = λ r c. sym
+      (same-correct w mid made r) ∙ c in
       let high = voted.high in
       let some = may.some in
       let lowx : OfCorrect w (λ r. vheight (chronicle_of w r) < length x) =
@@ -407,7 +412,8 @@ module _ (sizes : Sizes) (start : World) (all : List Happening) where
             let k = votes-lack Known w gw x kx lowx u cw in omega (arith, e, k));
       }) in
       let keysm = keys-in w mid made may.keys in
-      let t = votes-to-all sizes start all x ks cs mid rest onm keysm (distinct-correct mid (replicas mid.sizes)) are have mays in
+      let t = votes-to-all sizes start all x ks cs mid rest onm keysm (distinct-correct mid
+      (replicas mid.sizes)) are have mays in
       let end : World = after mid later in
       let one = way-past sizes start all later rest mid onm t.0 in
       let ge = on-way sizes start all end rest one in

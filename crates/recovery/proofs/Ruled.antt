@@ -114,7 +114,8 @@ effect-ruled Known w e m f g h (step_by i c ar) = λ r d.
     let p : ℕ = party_of e in
     let self : Identity = self_of w p in
     let out = step-outcome self m i (w.replica p) (arises-checked w e i ar) (g.good.run.row.sound p c) in
-    cond_both (r == p) (step self m i (w.replica p)).0 (w.replica r) (λ (x : Replica). AreRuled (self_of w r) x.chronicle)
+    cond_both (r == p) (step self m i (w.replica p)).0 (w.replica r) (λ (x : Replica). AreRuled
+    (self_of w r) x.chronicle)
     (λ t. subst (λ (j : ℕ). AreRuled (self_of w j) (step self m i (w.replica p)).0.chronicle) (sym (eqb-true r p t))
     (outcome-ruled self i (w.replica p) _ (arises-found w e i ar) (h p c) out))
     (λ t. h r d)

@@ -30,7 +30,8 @@ abbrev pub SentVote : List Sent → Identity → ℕ → Branch → Type 0
 SentVote sent self r x = (s : Sent) × Among s sent × (s.sender ≡ r) × (s.frame ≡ vote_frame self x)
 
 abbrev pub HasSent : List Sent → Identity → ℕ → Replica → Type 0
-HasSent sent self r y = y.standing ≡ running → (x : Branch) → Among x (voted_blocks y.chronicle) → SentVote sent self r x
+HasSent sent self r y = y.standing ≡ running → (x : Branch) → Among x (voted_blocks y.chronicle)
+    → SentVote sent self r x
 
 abbrev pub VotesSent : World → Type 0
 VotesSent w = OfCorrect w (λ r. HasSent w.sent (self_of w r) r (w.replica r))

@@ -49,7 +49,8 @@ pub record HandsIn (w : World) (e : Event) (p : ℕ) (i : Input) : Type 0 where
   pub acting : acts w e ample ≡ steps p ample i w
 
 handed : (w : World) (e : Event) (p : ℕ) (i : Input) → HandsIn w e p i
-    → effect w (e, ample) ≡ stepped w p ample (on_ruling (self_of w p) ample (ruling (self_of w p) i (chronicle_of w p)) (chronicle_of w p))
+    → effect w (e, ample) ≡ stepped w p ample (on_ruling (self_of w p) ample (ruling (self_of w p) i
+    (chronicle_of w p)) (chronicle_of w p))
 handed w e p i h =
     effect-correct w (e, ample) (member-faulty w (party_of e) (ap (is_correct w) h.party ∙ h.correct))
     ∙ (h.acting

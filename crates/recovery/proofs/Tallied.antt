@@ -22,7 +22,8 @@ use Rattle.recovery.proofs.Counting.{IsCounting, IsCountedFor, counting-first}
 use Rattle.recovery.proofs.Offers.{GoesOn, goes-none, goes-both}
 use Rattle.recovery.proofs.Voting.{AreVotes, HasVote, votes-later, vote-later, relays-of, votes-to-one}
 use Rattle.recovery.proofs.Ways.{IsOnWay, way-past}
-use Rattle.recovery.proofs.Worlds.{IsMadeAs, keys-in, same-correct, same-self, Passes, passes-none, passes-append, after-append}
+use Rattle.recovery.proofs.Worlds.{IsMadeAs, keys-in, same-correct, same-self, Passes, passes-none}
+use Rattle.recovery.proofs.Worlds.{passes-append, after-append}
 
 -- ---- how many were counted
 

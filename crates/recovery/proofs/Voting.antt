@@ -154,7 +154,8 @@ module _ (sizes : Sizes) (start : World) (all : List Happening) where
       let verifies = ap (λ (n : ℕ). verify (w.ring u) kind.Vote n (digest_of x) (tag_of v (w.ring u).party)) number
       ∙ vector-verifies w keys kind.Vote r u (digest_of x) (correct-party w r cr) (member-faulty w r cr) cu in
       let there = found-itself _ (window ch) (sound-of (KnownAt sizes start all) w g u cu).is_tree x m in
-      let onn = way-on sizes start all w (relay k u, ample) rest on (relay-named w k u (frame.vote (digest_of x) b) cu e) in
+      let onn = way-on sizes start all w (relay k u, ample) rest on (relay-named w k u (frame.vote
+      (digest_of x) b) cu e) in
       let st = step-stood w (relay k u) u (vote_in (digest_of x) b) (noted (got_vote (w.ring r).party v x))
       (relay-hands w k u (frame.vote (digest_of x) b) (vote_in (digest_of x) b) cu s e (cond-true _ _ _ verifies))
       (ap (λ (o : Option Branch). with_block o (w.ring r).party (digest_of x)

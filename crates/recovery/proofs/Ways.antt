@@ -12,7 +12,8 @@ use Rattle.definitions.specs.Premises.{ArePremises}
 use Rattle.definitions.proofs.Lists.{Among-before}
 use Rattle.linear_law.proofs.Fits.{core-frame}
 use Rattle.linear_law.proofs.Linear.{run-step}
-use Rattle.linear_law.proofs.WholeRuns.{IsWell, AssumedAlong, well-happens, comes-framed, KnownIn, new-sizes, new-well}
+use Rattle.linear_law.proofs.WholeRuns.{IsWell, AssumedAlong, well-happens, comes-framed, KnownIn, new-sizes}
+use Rattle.linear_law.proofs.WholeRuns.{new-well}
 use Rattle.linear_law.proofs.WholeRuns.{known-apart, known-genesis, known-along}
 use Rattle.recovery.proofs.Worlds.{made-after, after-append, Passes}
 use Rattle.recovery.proofs.Ruled.{AllRuled, happens-ruled}
@@ -60,10 +61,15 @@ on-way-from sizes is_faulty ring hs ahead w met e =
     let start : World = new_world sizes is_faulty ring in
     let all : List Happening = hs ++ ahead in
     let Known : Core → Type 0 = KnownAt sizes start all in
-    let assumed = assumed-both Known start hs ahead (known-along sizes start all (new-sizes sizes is_faulty ring) met) in
+    let assumed = assumed-both Known start hs ahead (known-along sizes start all
+    (new-sizes sizes is_faulty ring) met) in
     let end : after start hs ≡ w = run-after hs start w e in
     let kept = well-run Known (known-apart sizes start all met) (known-genesis sizes start all) hs start w
-    (record { well = new-well sizes is_faulty ring all met; ruled = new-ruled sizes is_faulty ring; votes = new-votes sizes is_faulty ring }) assumed.0 e in
+    (record {
+      well = new-well sizes is_faulty ring all met;
+      ruled = new-ruled sizes is_faulty ring;
+      votes = new-votes sizes is_faulty ring;
+    }) assumed.0 e in
     record {
       premises = met;
       starts = new-sizes sizes is_faulty ring;
@@ -78,7 +84,8 @@ module _ (sizes : Sizes) (start : World) (all : List Happening) where
   -- its sizes
   pub way-sizes : (w : World) (ahead : List Happening) → IsOnWay sizes start all w ahead → w.sizes ≡ sizes
   way-sizes w ahead on =
-      sym (made-after w ahead).sizes ∙ (ap (λ (z : World). z.sizes) on.ends ∙ ((made-after start all).sizes ∙ on.starts))
+      sym (made-after w ahead).sizes ∙ (ap (λ (z : World). z.sizes) on.ends ∙ ((made-after start all).sizes
+      ∙ on.starts))
 
   -- it is reached
   pub on-way : (w : World) (ahead : List Happening) → IsOnWay sizes start all w ahead

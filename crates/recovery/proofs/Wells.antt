@@ -19,7 +19,8 @@ use Rattle.definitions.specs.Agreement.{IsLawfulFamily}
 use Rattle.linear_law.specs.Law.{correct_family}
 use Rattle.linear_law.proofs.Linear.{ground, run-step}
 use Rattle.linear_law.proofs.StoredFrames.{AreStored}
-use Rattle.linear_law.proofs.WholeRuns.{IsWell, AssumedAlong, comes-framed, well-happens, KnownIn, new-sizes, new-well}
+use Rattle.linear_law.proofs.WholeRuns.{IsWell, AssumedAlong, comes-framed, well-happens, KnownIn, new-sizes}
+use Rattle.linear_law.proofs.WholeRuns.{new-well}
 use Rattle.linear_law.proofs.WholeRuns.{known-apart, known-genesis, known-along}
 use Rattle.recovery.specs.Correct.{chronicle_of}
 use Rattle.recovery.proofs.Worlds.{made-after}
@@ -90,7 +91,11 @@ reached sizes is_faulty ring hs last met e =
     let apart = known-apart sizes w hs met in
     let genesis = known-genesis sizes w hs in
     let kept = well-run (KnownIn sizes w hs) apart genesis hs w last
-    (record { well = new-well sizes is_faulty ring hs met; ruled = new-ruled sizes is_faulty ring; votes = new-votes sizes is_faulty ring })
+    (record {
+      well = new-well sizes is_faulty ring hs met;
+      ruled = new-ruled sizes is_faulty ring;
+      votes = new-votes sizes is_faulty ring;
+    })
     (known-along sizes w hs (new-sizes sizes is_faulty ring) met) e in
     let end = run-after hs w last e in
     record {

@@ -1,6 +1,7 @@
 -- The laws that are proved: steps of the statement that nobody is wedged.
 use Rattle.ids.specs.declared.limits.TheConstants.{MOST_BLOCKS, MOST_OF_HEIGHT, HEIGHT_LIMIT}
-use Rattle.std.specs.Prelude.{ℕ, suc, ◌^◌, ◌≡◌, ◌==◌, ◌<◌, ◌≤◌, ◌+◌, ◌⊎◌, Bool, true, false, List, [], ◌∷◌, ◌++◌, map, length, count_by, Ok}
+use Rattle.std.specs.Prelude.{ℕ, suc, ◌^◌, ◌≡◌, ◌==◌, ◌<◌, ◌≤◌, ◌+◌, ◌⊎◌, Bool, true, false, List, [], ◌∷◌}
+use Rattle.std.specs.Prelude.{◌++◌, map, length, count_by, Ok}
 use Rattle.std.specs.List.{AllByRecursion, list_all}
 use Rattle.ids.specs.declared.fault.Fault.TheVariants as fault
 use Rattle.ids.specs.Sizes.{Sizes, leader}
@@ -242,8 +243,8 @@ pub record Climbs (self : Identity) (v : ℕ) (m y : Branch) (room : ℕ) (c : C
   pub trees : length (window c) + room ≤ MOST_BLOCKS
   pub heights : (h : ℕ) → length y < h → count_by (λ x. length x == h) (window c) < MOST_OF_HEIGHT
 
--- A leader of this view makes blocks that justify m: its highest certificate is for m, and each command that waits with it
--- verifies for all.
+-- A leader of this view makes blocks that justify m: its highest certificate is for m, and each command that waits
+-- with it verifies for all.
 pub record Leads (w : World) (l v : ℕ) (m : Branch) (room : ℕ) : Type 0 where
   pub leader_is : leader w.sizes v ≡ l
   pub high : high_of w l ≡ m
