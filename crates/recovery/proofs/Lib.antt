@@ -26,3 +26,4 @@ mod Counting
 mod Voting
 mod Tallied
 mod Rounds
+mod Beginnings

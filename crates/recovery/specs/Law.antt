@@ -17,15 +17,16 @@ use Rattle.definitions.specs.Chronicles.{Step.took_block, horizon, standing_bloc
 use Rattle.definitions.specs.Digests.{digest_of}
 use Rattle.definitions.specs.Frames.{Command, Frame}
 use Rattle.definitions.specs.Grounds.{is_justified, is_own_certified, may_lead_from}
+use Rattle.definitions.specs.Replicas.{Standing.running}
 use Rattle.definitions.specs.Rulings.{Input, ruling, due}
 use Rattle.definitions.specs.Runs.{run, after}
 use Rattle.definitions.specs.Sendings.{block_frame, proposal_frame}
 use Rattle.definitions.specs.States.{Justified, view, votes, qc_high, leaf, pending}
 use Rattle.definitions.specs.Trees.{clear_above}
-use Rattle.definitions.specs.Worlds.{World, Sent, Happening, new_world, is_correct, self_of}
+use Rattle.definitions.specs.Worlds.{World, Sent, Event.lead, Happening, new_world, is_correct, self_of}
 use Rattle.linear_law.specs.Law.{AfterEachRun, correct_family}
 use Rattle.recovery.specs.Correct.{OfCorrect, AllGoOn, ShareKeys, chronicle_of, lock_of, view_of, correct_with}
-use Rattle.recovery.specs.Correct.{correct_replicas}
+use Rattle.recovery.specs.Correct.{correct_replicas, amply}
 use Rattle.recovery.specs.Healing.{view_to_come, come_to, highest_voted, fetch_block, burst, round}
 use Rattle.recovery.specs.NeverWedged.{healer, ground_of, NobodyPruned, HasViews}
 
@@ -48,6 +49,29 @@ abbrev pub LocksMayBeLedFrom : Type 0
 LocksMayBeLedFrom =
     AfterEachRun (λ w. OfCorrect w (λ r. (taken_blocks (chronicle_of w r) ≡ [] → ⊥)
     → may_lead_from (self_of w r) (lock_of w r) (chronicle_of w r) ≡ true))
+
+-- a replica is told to lead from its lock
+abbrev pub lead_events : ℕ → World → List Happening
+lead_events l w = amply (lead l (digest_of (lock_of w l)) ∷ [])
+
+-- It leads from there: its leaf and its highest certificate are on its lock, and no request waits with it.
+pub record LeadsFrom (w last : World) (l : ℕ) (m : Branch) : Type 0 where
+  pub ran : run w (lead_events l w) ≡ Ok last
+  pub goes_on : (last.replica l).standing ≡ running
+  pub leaf_is : leaf (self_of w l) (chronicle_of last l) ≡ m
+  pub high : (qc_high w.sizes (chronicle_of last l)).block ≡ m
+  pub none_waits : pending (chronicle_of last l) ≡ []
+  pub taken : taken_blocks (chronicle_of last l) ≡ taken_blocks (chronicle_of w l)
+  pub voted : voted_blocks (chronicle_of last l) ≡ voted_blocks (chronicle_of w l)
+  pub others : (j : ℕ) → (j ≡ l → ⊥) → last.replica j ≡ w.replica j
+
+-- so does a correct replica that goes on and took any block, after any run whose premises hold, and hold of the lead
+abbrev pub LeadsBegin : Type 0
+LeadsBegin =
+    (sizes : Sizes) (is_faulty : ℕ → Bool) (ring : ℕ → Keyring) (hs : List Happening) (w : World) (l : ℕ)
+    → ArePremises (new_world sizes is_faulty ring) (hs ++ lead_events l w)
+    → run (new_world sizes is_faulty ring) hs ≡ Ok w → is_correct w l ≡ true → (w.replica l).standing ≡ running
+    → (taken_blocks (chronicle_of w l) ≡ [] → ⊥) → LeadsFrom w (after w (lead_events l w)) l (lock_of w l)
 
 -- ---- what a lock stands on
 
