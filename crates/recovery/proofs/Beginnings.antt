@@ -1,12 +1,12 @@
 -- A replica leads from its lock.
-use Rattle.std.proofs.Common.{ℕ, ◌≡◌, ◌&&◌, not, true, List, [], ◌∷◌, ◌++◌, refl, sym, ap, subst, ◌∙◌, Option, Some, None}
+use Rattle.std.proofs.Common.{ℕ, ◌≡◌, not, true, List, [], ◌∷◌, ◌++◌, refl, ap, ◌∙◌, Option, Some, None}
 use Rattle.std.proofs.lemmas.Bool.{cond-true, and_parts}
 use Rattle.definitions.specs.Branches.{Branch}
 use Rattle.definitions.specs.Checks.{Identity}
 use Rattle.definitions.specs.Chronicles.{Chronicle, Step.noted, Note.led_from, taken_blocks, voted_blocks, window, lock}
 use Rattle.definitions.specs.Digests.{digest_of}
 use Rattle.definitions.specs.Replicas.{MemorySupply.ample, Replica, Standing.running}
-use Rattle.definitions.specs.Rulings.{Input.lead_in, Ruling.due, lead, ruling}
+use Rattle.definitions.specs.Rulings.{Input.lead_in, lead, ruling}
 use Rattle.definitions.specs.States.{leaf, pending, qc_high, find_block}
 use Rattle.definitions.specs.Worlds.{World, Happening, new_world, is_correct, is_replica, self_of}
 use Rattle.definitions.specs.Worlds as worlds
@@ -15,13 +15,13 @@ use Rattle.definitions.specs.Events.{acts, happens, party_of}
 use Rattle.definitions.proofs.Horizons.{lock-window, led-high}
 use Rattle.definitions.proofs.Trees.{found-itself}
 use Rattle.recovery.specs.Correct.{chronicle_of, lock_of}
-use Rattle.recovery.specs.Law.{lead_events, LeadsFrom, LeadsBegin}
+use Rattle.recovery.specs.Law.{lead_events, LeadsBegin}
 use Rattle.recovery.proofs.Locks.{led-from-lock}
 use Rattle.recovery.proofs.Offers.{row-own, row-other}
-use Rattle.recovery.proofs.Steps.{TookStep, HandsIn, step-stood}
-use Rattle.recovery.proofs.Ways.{IsOnWay, KnownAt, on-way-from, on-way, way-on}
+use Rattle.recovery.proofs.Steps.{HandsIn, step-stood}
+use Rattle.recovery.proofs.Ways.{KnownAt, on-way-from, on-way, way-on}
 use Rattle.recovery.proofs.Wells.{sound-of}
-use Rattle.recovery.proofs.Worlds.{Passes, passes-none, passes-one, named}
+use Rattle.recovery.proofs.Worlds.{passes-none, passes-one, named}
 
 lead-leaf : (self : Identity) (m : Branch) (c : Chronicle) → leaf self (noted (led_from m) ∷ c) ≡ m
 unfolding leaf
