@@ -48,10 +48,6 @@ unfolding after
 assumed-both Known w [] ys a = (tt, a)
 assumed-both Known w (x ∷ xs) ys a = let r = assumed-both Known (happens w x) xs ys a.1 in ((a.0, r.0), r.1)
 
--- the world in which a run of given sizes begins
-abbrev pub beginning_of : Sizes → (ℕ → Bool) → (ℕ → Keyring) → World
-beginning_of sizes is_faulty ring = new_world sizes is_faulty ring
-
 -- a world after the first part of a run
 pub on-way-from :
     (sizes : Sizes) (is_faulty : ℕ → Bool) (ring : ℕ → Keyring) (hs ahead : List Happening) (w : World)
