@@ -1,8 +1,9 @@
 -- One replica asks another one for a block, and its question comes there.
 use Rattle.ids.specs.declared.kind.Kind.TheVariants as kind
-use Rattle.std.proofs.Common.{ℕ, suc, ◌≡◌, ◌==◌, ◌&&◌, not, Bool, true, false, cond, List, [], ◌∷◌, ◌++◌, map, filter, find}
-use Rattle.std.proofs.Common.{length, drop, arith, refl, sym, ap, subst, ◌∙◌, inl, inr, Option, Some, None, option_map, slice_get}
-use Rattle.std.proofs.lemmas.Bool.{cond-true, cond-false, cond_both, eq-eqb, ne_eqb, eqb-true, cases_eq, cases_Bool, and_parts}
+use Rattle.std.proofs.Common.{ℕ, ◌≡◌, ◌==◌, not, Bool, true, false, cond, List, [], ◌∷◌, ◌++◌, map, filter, find}
+use Rattle.std.proofs.Common.{length, drop, arith, refl, sym, ap, subst, ◌∙◌, inl, inr, Option, Some, None}
+use Rattle.std.proofs.Common.{option_map, slice_get}
+use Rattle.std.proofs.lemmas.Bool.{cond-true, cond-false, cond_both, eq-eqb, ne_eqb, eqb-true, cases_eq, and_parts}
 use Rattle.std.proofs.lemmas.Bool.{and_from, lt-ltb}
 use Rattle.std.proofs.lemmas.List.{append-nil, append_assoc, map-append, length-append}
 use Rattle.std.proofs.Math.Seq.{drop-append_seam}
@@ -12,27 +13,28 @@ use Rattle.definitions.specs.Lists.{Among}
 use Rattle.definitions.specs.Branches.{Branch, branch_eq}
 use Rattle.definitions.specs.Trees.{blocks, standing, find_in}
 use Rattle.definitions.specs.Frames.{Frame, fetch_content}
-use Rattle.definitions.specs.Frames as frame
 use Rattle.definitions.specs.Checks.{Identity}
 use Rattle.definitions.specs.Chronicles.{Admitted, Chronicle, Step.noted, Note.got_fetch, taken_blocks, voted_blocks}
-use Rattle.definitions.specs.Chronicles.{horizon, history, executed, decided, window, standing_blocks, stored_blocks, stored_block}
+use Rattle.definitions.specs.Chronicles.{horizon, history, executed, decided, window, standing_blocks}
+use Rattle.definitions.specs.Chronicles.{stored_blocks, stored_block}
 use Rattle.definitions.specs.States.{me, view, votes, raised, qc_high, leaf, pending, find_block}
 use Rattle.definitions.specs.Rulings.{Input, Input.ask_in, Input.fetch_in, ruling}
 use Rattle.definitions.specs.Sendings.{Sending, To.to_party, sendings, fetch_frame, block_frame, as_taken, supplies}
 use Rattle.definitions.specs.Replicas.{MemorySupply.ample, Replica, Reaction.asks_for, Standing.running}
 use Rattle.definitions.specs.Worlds.{World, Sent, Event, Event.ask, Event.relay, Event.offer, Event.gather, Happening}
-use Rattle.definitions.specs.Worlds.{Source, Source.of_record, is_correct, is_replica, self_of, put}
+use Rattle.definitions.specs.Worlds.{Source, Source.of_record, is_correct, is_replica, self_of}
 use Rattle.definitions.specs.Runs.{refusal, after}
-use Rattle.definitions.specs.Events.{acts, happens, party_of, steps, comes, offers, on_checked, recorded, out_of, frames_of}
+use Rattle.definitions.specs.Events.{acts, happens, party_of, comes, offers, on_checked, recorded, out_of, frames_of}
 use Rattle.definitions.specs.Admission.{Checked, Checked.passes, check, check_offer, check_gathered}
 use Rattle.linear_law.proofs.Runs.{member-faulty}
 use Rattle.recovery.specs.Correct.{OfCorrect, AllGoOn, ShareKeys, chronicle_of, amply}
-use Rattle.recovery.specs.Healing.{Phase, in_turn, is_question, is_copy, receivers, comes_to, delivered, delivered_since}
+use Rattle.recovery.specs.Healing.{in_turn, is_question, is_copy, receivers, comes_to, delivered, delivered_since}
 use Rattle.recovery.specs.Healing.{ask_one, ask_each}
-use Rattle.recovery.specs.Law.{OnlyViewMoved, OnlyAsked}
-use Rattle.recovery.proofs.Worlds.{IsMadeAs, made-both, keys-in, after-append, passes-append, same-self, same-correct, Passes, passes-none, passes-one, named}
+use Rattle.recovery.specs.Law.{OnlyAsked}
+use Rattle.recovery.proofs.Worlds.{IsMadeAs, made-both, keys-in, after-append, passes-append, same-self}
+use Rattle.recovery.proofs.Worlds.{same-correct, Passes, passes-none, passes-one, named}
 use Rattle.recovery.proofs.Copies.{tag-verifies, correct-party, copies-of}
-use Rattle.recovery.proofs.Steps.{going, outs, TookStep, OnlySent, HandsIn, step-stood, asked, frame-behind}
+use Rattle.recovery.proofs.Steps.{going, outs, HandsIn, step-stood, asked, frame-behind}
 use Rattle.recovery.proofs.Views.{moved-trans, not-moved, pending-due, not-less}
 use Rattle.recovery.proofs.Ways.{IsOnWay, way-on, way-past}
 
@@ -240,8 +242,8 @@ module _ (sizes : Sizes) (start : World) (all : List Happening) (w : World) (key
       let was : c1 ≡ chronicle_of w r = ap (λ (x : Replica). x.chronicle) (s1.row r) in
       let self1 = same-self w one s1.made r in (
         subst (Passes w) (sym is)
-        (passes-one w (ask u r d, ample) ((relay k r, ample) ∷ []) ok1
-        (passes-one one (relay k r, ample) [] ok2 (passes-none two))),
+            (passes-one w (ask u r d, ample) ((relay k r, ample) ∷ []) ok1
+            (passes-one one (relay k r, ample) [] ok2 (passes-none two))),
         subst (λ (l : List Happening). Asked w (after w l) u d (r ∷ [])) (sym is) (record {
           made = made-both w one two s1.made st.made;
           session = st.session ∙ s1.session;
@@ -262,7 +264,8 @@ module _ (sizes : Sizes) (start : World) (all : List Happening) (w : World) (key
               (λ t. subst (λ (x : Replica). OnlyAsked (self_of w j) (chronicle_of w j) x.chronicle) (sym (s1.row j))
               (asked-none (self_of w j) (chronicle_of w j))));
           more = q ∷ outs one r out;
-          sent = st.sent ∙ (ap (λ (l : List Sent). l ++ outs one r out) e1 ∙ append_assoc w.sent (q ∷ []) (outs one r out));
+          sent = st.sent ∙ (ap (λ (l : List Sent). l ++ outs one r out) e1 ∙ append_assoc w.sent (q ∷ [])
+              (outs one r out));
           copies = copy-sent w one u r (me (self_of w u)) (as_taken (find_block d c1) c1) self1 number-u
               ∙ (ap (λ (c : Chronicle). copies-of w u (with-copy r (as_taken (find_block d c) c))) was
               ∙ ap (copies-of w u) (sym (cond-false (r == u) [] (with-copy r (copy-at w d r)) (ne_eqb r u n))
@@ -281,7 +284,7 @@ module _ (sizes : Sizes) (start : World) (all : List Happening) (w : World) (key
       s1.sent ∙ ap (λ (o : List Sending). w.sent ++ outs w u o) (out-none w u u d number-u refl) in
       let is = ask-own-is w u u d e1 in (
         subst (Passes w) (sym is)
-        (passes-one w (ask u u d, ample) [] (ask-named w u u d cu cu long) (passes-none one)),
+            (passes-one w (ask u u d, ample) [] (ask-named w u u d cu cu long) (passes-none one)),
         subst (λ (l : List Happening). Asked w (after w l) u d (u ∷ [])) (sym is) (record {
           made = s1.made;
           session = s1.session;
@@ -343,7 +346,8 @@ same-holders w v u d only (r ∷ rs) c =
     λ k. cond (r == u) [] (with-copy r (same-copy w v d r (self_of w r) (only r (c r (inl refl))) k))
     ++ same-holders w v u d only rs (λ j m. c j (inr m)) k
 
-pub same-copies : (w v : World) (u : ℕ) → IsMadeAs w v → (hs : List (ℕ × Admitted)) → copies-of v u hs ≡ copies-of w u hs
+pub same-copies : (w v : World) (u : ℕ) → IsMadeAs w v → (hs : List (ℕ × Admitted)) → copies-of v u hs
+    ≡ copies-of w u hs
 same-copies w v u m [] = refl
 same-copies w v u m (h ∷ hs) = λ k. block_frame (same-self w v m h.0 k) u h.1 ∷ same-copies w v u m hs k
 
@@ -387,15 +391,18 @@ pub asked-each : (sizes : Sizes) (start : World) (all : List Happening) (u : ℕ
     → IsOnWay sizes start all w (ask_each d u rs w ++ rest)
     → Passes w (ask_each d u rs w) × Asked w (after w (ask_each d u rs w)) u d rs
 unfolding ask_each holders-of after
-asked-each sizes start all u d long [] rest w keys goes cu c on = (passes-none w, record {
-  made = record { sizes = refl; faulty = refl; ring = refl };
-  session = refl;
-  going_on = goes;
-  only = λ j cj. asked-none (self_of w j) (chronicle_of w j);
-  more = [];
-  sent = sym (append-nil w.sent);
-  copies = refl;
-})
+asked-each sizes start all u d long [] rest w keys goes cu c on = (
+  passes-none w,
+  record {
+    made = record { sizes = refl; faulty = refl; ring = refl };
+    session = refl;
+    going_on = goes;
+    only = λ j cj. asked-none (self_of w j) (chronicle_of w j);
+    more = [];
+    sent = sym (append-nil w.sent);
+    copies = refl;
+  },
+)
 asked-each sizes start all u d long (r ∷ rs) rest w keys goes cu c on =
     let here : List Happening = ask_one d u r w in
     let v : World = after w here in
@@ -407,5 +414,5 @@ asked-each sizes start all u d long (r ∷ rs) rest w keys goes cu c on =
     (same-correct w v one.1.made u ∙ cu) (λ j m. same-correct w v one.1.made j ∙ c j (inr m)) on1 in (
       passes-append w here later one.0 more.0,
       subst (λ (z : World). Asked w z u d (r ∷ rs)) (sym (after-append w here later))
-      (asked-both w v (after v later) u d r rs (c r (inl refl)) (λ j m. c j (inr m)) one.1 more.1),
+          (asked-both w v (after v later) u d r rs (c r (inl refl)) (λ j m. c j (inr m)) one.1 more.1),
     )

@@ -1,33 +1,36 @@
 -- A burst: a leader makes blocks, and then the others are offered all.
 use Rattle.ids.specs.declared.limits.TheConstants.{HEIGHT_LIMIT}
-use Rattle.std.proofs.Common.{ℕ, zero, suc, ◌≡◌, ◌<◌, ◌≤◌, ◌+◌, ◌⊎◌, ◌==◌, not, Bool, true, false, cond, List, [], ◌∷◌}
-use Rattle.std.proofs.Common.{◌++◌, map, filter, length, drop, refl, sym, ap, subst, ◌∙◌, arith, inl, inr, Ok, true≢false}
-use Rattle.std.proofs.lemmas.Bool.{cases_eq, eqb-true, eq-eqb, ne_eqb, cases_Bool, not-true}
+use Rattle.std.proofs.Common.{ℕ, zero, suc, ◌≡◌, ◌<◌, ◌+◌, ◌==◌, not, Bool, true, false, cond, List, [], ◌∷◌}
+use Rattle.std.proofs.Common.{◌++◌, map, filter, length, drop, refl, sym, ap, subst, ◌∙◌, arith, inl, inr, Ok}
+use Rattle.std.proofs.Common.{true≢false}
+use Rattle.std.proofs.lemmas.Bool.{cases_eq, eq-eqb, ne_eqb, not-true}
 use Rattle.std.proofs.lemmas.List.{append-nil, append_assoc, map-append}
 use Rattle.std.proofs.Math.Seq.{drop-append_seam}
 use Rattle.ids.specs.Sizes.{Sizes, replicas, leader}
 use Rattle.definitions.specs.Lists.{Among, AreDistinct}
 use Rattle.definitions.specs.Branches.{Branch, IsBranch, Extends}
 use Rattle.definitions.specs.Checks.{Identity, command_verifies}
-use Rattle.definitions.specs.Chronicles.{Chronicle, voted_blocks, vheight, window}
-use Rattle.definitions.specs.Keyrings.{Keyring}
-use Rattle.definitions.specs.Premises.{ArePremises}
+use Rattle.definitions.specs.Chronicles.{Chronicle, voted_blocks, vheight}
 use Rattle.definitions.specs.Replicas.{MemorySupply.ample, Replica, Standing.running}
 use Rattle.definitions.specs.States.{leaf, qc_high, pending}
-use Rattle.definitions.specs.Worlds.{World, Sent, Event, Event.offer, Happening, Source.of_record, new_world, is_correct, self_of}
+use Rattle.definitions.specs.Worlds.{World, Sent, Event, Event.offer, Happening, Source.of_record, new_world}
+use Rattle.definitions.specs.Worlds.{is_correct, self_of}
 use Rattle.definitions.specs.Runs.{run, after}
 use Rattle.definitions.proofs.Lists.{Among-either, Among-filter, Among-kept}
-use Rattle.recovery.specs.Correct.{OfCorrect, AllGoOn, ShareKeys, chronicle_of, correct_below, correct_replicas, amply}
-use Rattle.recovery.specs.Healing.{in_turn, sent_since, numbers_of, is_proposal, offered_to, make_blocks, others, burst}
+use Rattle.recovery.specs.Correct.{OfCorrect, AllGoOn, ShareKeys, chronicle_of, correct_below}
+use Rattle.recovery.specs.Correct.{correct_replicas, amply}
+use Rattle.recovery.specs.Healing.{in_turn, sent_since, numbers_of, is_proposal, offered_to, make_blocks}
+use Rattle.recovery.specs.Healing.{others, burst}
 use Rattle.recovery.specs.Law.{Climbs, Leads, IsVotedForByAll, BurstsAreVotedFor}
 use Rattle.recovery.proofs.Correct.{among-correct, correct-listed}
 use Rattle.recovery.proofs.Fetched.{distinct-last}
-use Rattle.recovery.proofs.Making.{MadeAll, made-all, up, up-is}
-use Rattle.recovery.proofs.Offers.{GoesOn, goes-none, goes-both, Chain, chain-later, chain-up, grown, grown-is, OfferedAll}
+use Rattle.recovery.proofs.Making.{made-all, up-is}
+use Rattle.recovery.proofs.Offers.{GoesOn, goes-none, goes-both, Chain, chain-later, chain-up, grown, grown-is}
 use Rattle.recovery.proofs.Offers.{offers-of, offers-all, IsStill}
 use Rattle.recovery.proofs.Ways.{IsOnWay, KnownAt, on-way-from, on-way, way-past}
 use Rattle.recovery.proofs.Wells.{sound-of, run-after}
-use Rattle.recovery.proofs.Worlds.{IsMadeAs, made-after, keys-in, same-correct, same-self, Passes, passes-none, passes-append}
+use Rattle.recovery.proofs.Worlds.{IsMadeAs, made-after, keys-in, same-correct, same-self, Passes}
+use Rattle.recovery.proofs.Worlds.{passes-none, passes-append}
 use Rattle.recovery.proofs.Worlds.{after-append}
 
 -- ---- the correct replicas are distinct
@@ -78,7 +81,8 @@ ready-later w mid v room m last ks r made e h = record {
   correct = same-correct w mid made r ∙ h.correct;
   goes = ap (λ (x : Replica). x.standing) e ∙ h.goes;
   climbs = subst (λ (x : Replica). Climbs (self_of mid r) v m m (grown ks room) x.chronicle) (sym e)
-      (subst (λ (s : Identity). Climbs s v m m (grown ks room) (chronicle_of w r)) (sym (same-self w mid made r)) h.climbs);
+      (subst (λ (s : Identity). Climbs s v m m (grown ks room) (chronicle_of w r)) (sym
+      (same-self w mid made r)) h.climbs);
   low = subst (λ (x : Replica). vheight x.chronicle < length last) (sym e) h.low;
 }
 
@@ -92,7 +96,7 @@ record OfferedEach (w next : World) (v room : ℕ) (m last : Branch) (rs : List 
   goes : GoesOn w next
   others_are : (j : ℕ) → (Among j rs → ⊥) → next.replica j ≡ w.replica j
   each : (r : ℕ) → Among r rs → HasVoted (self_of w r) v room m last (next.replica r)
-  still : (r : ℕ) → Among r rs → IsStill w.sizes m (chronicle_of w r) (chronicle_of next r)
+  still : (r : ℕ) → Among r rs → IsStill w.sizes m (length last) (chronicle_of w r) (chronicle_of next r)
 
 module _ (sizes : Sizes) (start : World) (all : List Happening) (v room : ℕ) (m last : Branch) (br : IsBranch m)
     (top : length last < HEIGHT_LIMIT) (ks : List ℕ) (some : 0 < length ks) where
@@ -101,12 +105,15 @@ module _ (sizes : Sizes) (start : World) (all : List Happening) (v room : ℕ) (
       → Chain w v m m ks last → ((r : ℕ) → Among r rs → IsReady w v room m last ks r)
       → Passes w (amply (offered_to rs ks)) × OfferedEach w (after w (amply (offered_to rs ks))) v room m last rs
   unfolding offered_to offers-of after
-  offered-each [] w rest on keys d chain ready = (passes-none w, record {
-    goes = goes-none w;
-    others_are = λ j n. refl;
-    each = λ r n. absurd n;
-    still = λ r n. absurd n;
-  })
+  offered-each [] w rest on keys d chain ready = (
+    passes-none w,
+    record {
+      goes = goes-none w;
+      others_are = λ j n. refl;
+      each = λ r n. absurd n;
+      still = λ r n. absurd n;
+    },
+  )
   offered-each (r ∷ rs) w rest on keys d chain ready =
       let here : List Happening = offers-of r ks in
       let later : List Happening = amply (offered_to rs ks) in
@@ -115,7 +122,8 @@ module _ (sizes : Sizes) (start : World) (all : List Happening) (v room : ℕ) (
       let on0 = subst (IsOnWay sizes start all w) (append_assoc here later rest)
       (subst (λ (x : List Happening). IsOnWay sizes start all w (x ++ rest)) is on) in
       let own = ready r (inl refl) in
-      let one = offers-all sizes start all r v m last br top ks w (later ++ rest) m room on0 keys own.correct own.goes chain
+      let one = offers-all sizes start all r v m last br top ks w
+      (later ++ rest) m room on0 keys own.correct own.goes chain
       own.climbs in
       let o = one.1 in
       let mid : World = after w here in
@@ -138,20 +146,22 @@ module _ (sizes : Sizes) (start : World) (all : List Happening) (v room : ℕ) (
       ] in (
         subst (Passes w) (sym is) (passes-append w here later one.0 more.0),
         subst (λ (z : World). OfferedEach w z v room m last (r ∷ rs))
-        (sym (ap (after w) is ∙ after-append w here later)) (record {
-          goes = goes-both w mid end o.goes more.1.goes;
-          others_are = λ j n. more.1.others_are j (λ k. n (inr k)) ∙ o.others j (λ e. n (inl e));
-          each = each;
-          still = λ j n. elim n [
-            | inl e ↦ subst (λ (i : ℕ). IsStill w.sizes m (chronicle_of w i) (chronicle_of end i)) (sym e)
-                (subst (λ (x : Replica). IsStill w.sizes m (chronicle_of w r) x.chronicle)
-                (sym (more.1.others_are r d.0)) o.still)
-            | inr k ↦ subst (λ (x : Replica). IsStill w.sizes m x.chronicle (chronicle_of end j))
-                (o.others j (apart j k))
-                (subst (λ (s : Sizes). IsStill s m (chronicle_of mid j) (chronicle_of end j)) o.goes.made.sizes
-                (more.1.still j k))
-          ];
-        }),
+            (sym (ap (after w) is ∙ after-append w here later)) (record {
+              goes = goes-both w mid end o.goes more.1.goes;
+              others_are = λ j n. more.1.others_are j (λ k. n (inr k)) ∙ o.others j (λ e. n (inl e));
+              each = each;
+              still = λ j n. elim n [
+                | inl e ↦ subst (λ (i : ℕ). IsStill w.sizes m (length last) (chronicle_of w i)
+                    (chronicle_of end i)) (sym e)
+                    (subst (λ (x : Replica). IsStill w.sizes m (length last) (chronicle_of w r) x.chronicle)
+                    (sym (more.1.others_are r d.0)) o.still)
+                | inr k ↦ subst (λ (x : Replica). IsStill w.sizes m (length last) x.chronicle (chronicle_of end j))
+                    (o.others j (apart j k))
+                    (subst (λ (s : Sizes). IsStill s m (length last) (chronicle_of mid j) (chronicle_of end j))
+                    o.goes.made.sizes
+                    (more.1.still j k))
+              ];
+            }),
       )
 
 -- ---- the burst
@@ -180,7 +190,8 @@ pub record MayBurst (w : World) (l v n room : ℕ) (m : Branch) : Type 0 where
 pub record HasBurst (w end : World) (l v n room : ℕ) (m : Branch) : Type 0 where
   pub voted_for : IsVotedForByAll w end l v n room m (leaf (self_of w l) (chronicle_of end l))
   pub goes : GoesOn w end
-  pub still : OfCorrect w (λ r. IsStill w.sizes m (chronicle_of w r) (chronicle_of end r))
+  pub still : OfCorrect w (λ r. IsStill w.sizes m (length (leaf (self_of w l) (chronicle_of end l))) (chronicle_of w r)
+      (chronicle_of end r))
 
 module _ (sizes : Sizes) (start : World) (all : List Happening) where
   pub burst-voted : (w : World) (rest : List Happening) (l v n room : ℕ) (m : Branch)
@@ -235,8 +246,10 @@ module _ (sizes : Sizes) (start : World) (all : List Happening) where
         climbs = subst (λ (x : ℕ). Climbs (self_of w r) v m m x (chronicle_of w r)) (sym grow) (may.climbs r cr);
         low = omega (arith, low, high, count);
       })) in
-      let distinct = distinct-kept (λ r. not (r == l)) (correct_replicas mid) (distinct-correct mid (replicas mid.sizes)) in
-      let b = offered-each sizes start all v room m last br (omega (arith, high, count, top)) ks (omega (arith, count, some))
+      let distinct = distinct-kept (λ r. not (r == l)) (correct_replicas mid) (distinct-correct mid
+      (replicas mid.sizes)) in
+      let b = offered-each sizes start all v room m last br (omega (arith, high, count, top)) ks (omega
+      (arith, count, some))
       rs mid rest onm (keys-in w mid a.goes.made may.keys) distinct chain ready in
       let o = b.1 in
       let end : World = after mid later in
@@ -249,7 +262,8 @@ module _ (sizes : Sizes) (start : World) (all : List Happening) where
       let x : Branch = leaf (self_of w l) (chronicle_of end l) in
       let long = ap (λ (z : Branch). length z) leaf2 in
       let lowl = may.low l cl in
-      let their : (r : ℕ) → is_correct end r ≡ true → (r ≡ l → ⊥) → HasVoted (self_of mid r) v room m last (end.replica r) =
+      let their : (r : ℕ) → is_correct end r ≡ true → (r ≡ l → ⊥) → HasVoted (self_of mid r) v room m last
+      (end.replica r) =
       λ r c k. (let cm = sym (same-correct mid end o.goes.made r) ∙ c in
       o.each r (Among-kept (λ (i : ℕ). not (i == l)) (correct_replicas mid) r (correct-listed mid r cm)
       (ap not (ne_eqb r l k)))) in
@@ -257,7 +271,8 @@ module _ (sizes : Sizes) (start : World) (all : List Happening) where
       subst (λ (z : Chronicle). Among last (voted_blocks z)) (sym minec)
       (a.voted some (omega (arith, lowl, high, count))) in
       let voted : IsVotedForByAll w end l v n room m x = record {
-        ran = ap (run w) is ∙ (passes-append w mk later made.0 b.0 ∙ ap (λ (z : World). Ok z) (after-append w mk later));
+        ran = ap (run w) is ∙ (passes-append w mk later made.0 b.0 ∙ ap (λ (z : World). Ok z)
+            (after-append w mk later));
         going_on = λ r c. elim (cases_eq r l) [
           | inl e ↦ subst (λ (i : ℕ). (end.replica i).standing ≡ running) (sym e)
               (ap (λ (z : Replica). z.standing) mine ∙ a.going_on)
@@ -296,17 +311,20 @@ module _ (sizes : Sizes) (start : World) (all : List Happening) where
       subst (λ (z : World). HasBurst w z l v n room m) (sym ends) (record {
         voted_for = voted;
         goes = goes;
-        still = λ r c. elim (cases_eq r l) [
-          | inl e ↦ subst (λ (i : ℕ). IsStill w.sizes m (chronicle_of w i) (chronicle_of end i)) (sym e)
-              (subst (λ (z : Chronicle). IsStill w.sizes m (chronicle_of w l) z) (sym minec) a.still)
-          | inr k ↦
-              let cm = same-correct w mid a.goes.made r ∙ c in
-              let there = Among-kept (λ (i : ℕ). not (i == l)) (correct_replicas mid) r (correct-listed mid r cm)
-              (ap not (ne_eqb r l k)) in
-              subst (λ (z : Replica). IsStill w.sizes m z.chronicle (chronicle_of end r)) (a.others r k)
-              (subst (λ (s : Sizes). IsStill s m (chronicle_of mid r) (chronicle_of end r)) a.goes.made.sizes
-              (o.still r there))
-        ];
+        still = λ r c. subst (λ (h : ℕ). IsStill w.sizes m h (chronicle_of w r) (chronicle_of end r)) (sym long)
+            (elim (cases_eq r l) [
+              | inl e ↦ subst (λ (i : ℕ). IsStill w.sizes m (length last) (chronicle_of w i)
+                  (chronicle_of end i)) (sym e)
+                  (subst (λ (z : Chronicle). IsStill w.sizes m (length last) (chronicle_of w l) z) (sym minec) a.still)
+              | inr k ↦
+                  let cm = same-correct w mid a.goes.made r ∙ c in
+                  let there = Among-kept (λ (i : ℕ). not (i == l)) (correct_replicas mid) r (correct-listed mid r cm)
+                  (ap not (ne_eqb r l k)) in
+                  subst (λ (z : Replica). IsStill w.sizes m (length last) z.chronicle (chronicle_of end r))
+                  (a.others r k)
+                  (subst (λ (s : Sizes). IsStill s m (length last) (chronicle_of mid r) (chronicle_of end r))
+                  a.goes.made.sizes (o.still r there))
+            ]);
       })
 
 pub bursts-voted : BurstsAreVotedFor

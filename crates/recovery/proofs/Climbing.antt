@@ -1,32 +1,30 @@
 -- A replica that takes a leader's blocks over a certified one, each justifying that.
-use Rattle.ids.specs.declared.limits.TheConstants.{MOST_BLOCKS, MOST_OF_HEIGHT, HEIGHT_LIMIT}
+use Rattle.ids.specs.declared.limits.TheConstants.{HEIGHT_LIMIT}
 use Rattle.std.specs.Prelude.{count_by}
 use Rattle.std.proofs.lemmas.List.Sums.{sum_by-cons}
-use Rattle.std.proofs.Common.{ℕ, zero, suc, ◌≡◌, ◌<◌, ◌≤◌, ◌+◌, ◌⊎◌, ◌==◌, ◌&&◌, ◌||◌, not, Bool, true, false, cond}
-use Rattle.std.proofs.Common.{List, [], ◌∷◌, ◌++◌, map, length, max, refl, sym, ap, subst, ◌∙◌, arith, inl, inr, nat_lt}
+use Rattle.std.proofs.Common.{ℕ, suc, ◌≡◌, ◌<◌, ◌≤◌, ◌+◌, ◌⊎◌, ◌==◌, Bool, true, false, cond}
+use Rattle.std.proofs.Common.{List, [], ◌∷◌, map, length, max, sym, ap, subst, ◌∙◌, arith, inl, inr, nat_lt}
 use Rattle.std.specs.List.{list_any, list_all}
-use Rattle.std.proofs.lemmas.Bool.{cond-true, cond-false, cond_both, cases_Bool, cases_lt, and_from, or_left, or_right}
-use Rattle.std.proofs.lemmas.Bool.{lt-ltb, ltb-true, ne_eqb, le-leb}
+use Rattle.std.proofs.lemmas.Bool.{cond-true, cond-false, cond_both, cases_lt, or_left}
+use Rattle.std.proofs.lemmas.Bool.{ltb-true, ne_eqb}
 use Rattle.definitions.specs.Lists.{Among, greatest}
-use Rattle.definitions.specs.Branches.{Block, Branch, just1, just2, Extends, IsBranch, branch_eq, highest}
+use Rattle.definitions.specs.Branches.{Block, Branch, just1, just2, IsBranch, branch_eq, highest}
 use Rattle.definitions.specs.Checks.{Identity, command_verifies}
 use Rattle.definitions.specs.Chronicles.{Admitted, Chronicle, Step.took_block, taken_blocks, voted_blocks, window}
-use Rattle.definitions.specs.Chronicles.{horizon, standing_blocks, stored_block, lock, vheight, is_safe}
+use Rattle.definitions.specs.Chronicles.{horizon, standing_blocks, stored_block, lock, vheight}
 use Rattle.definitions.specs.Grounds.{is_justified}
 use Rattle.definitions.specs.States.{view}
 use Rattle.definitions.specs.Trees.{Stored, blocks, clear_above, is_clear}
-use Rattle.definitions.specs.Worlds.{World, self_of}
-use Rattle.definitions.proofs.Branches.{just1-below, just2-is, branch_eq-decides, Extends-trans, length-extends}
+use Rattle.definitions.proofs.Branches.{just1-below, just2-is, branch_eq-decides, length-extends}
 use Rattle.definitions.proofs.Horizons.{window-grown}
 use Rattle.definitions.proofs.Windows.{block-stored}
 use Rattle.definitions.proofs.Lists.{any-from}
-use Rattle.recovery.specs.Correct.{chronicle_of}
 use Rattle.recovery.specs.Law.{HasPlace, Climbs}
 use Rattle.recovery.proofs.Decided.{justifies-below}
 use Rattle.recovery.proofs.Grounds.{just1-genesis}
 use Rattle.recovery.proofs.Fetched.{took-stands}
 use Rattle.recovery.proofs.Locks.{nil}
-use Rattle.recovery.proofs.Proposals.{standing-old, clear-more, clear-over, clear-first, IsFresh}
+use Rattle.recovery.proofs.Proposals.{standing-old, clear-more, clear-over, clear-first}
 
 -- a place for the next block
 pub next-place : (self : Identity) (v : ℕ) (m y : Branch) (room : ℕ) (c : Chronicle) (b : Block)
@@ -66,7 +64,8 @@ ground-itself m c a b y e j l (inr o) =
 
 -- the lock is still safe
 lock-more : (m : Branch) (c : Chronicle) (a : Admitted) → IsBranch m → just1 a.branch ≡ m
-    → (lock c ≡ m) ⊎ (length (lock c) < length m) → (lock (took_block a ∷ c) ≡ m) ⊎ (length (lock (took_block a ∷ c)) < length m)
+    → (lock c ≡ m) ⊎ (length (lock c) < length m) → (lock (took_block a ∷ c) ≡ m) ⊎ (length (lock
+    (took_block a ∷ c)) < length m)
 unfolding lock taken_blocks highest
 lock-more m c a br j h = by a.new
   where
@@ -81,9 +80,11 @@ lock-more m c a br j h = by a.new
       | inr z ↦ inl (nil m (omega (arith, z)))
     ]
 
-    safe : (length (highest rest) < length (just2 a.branch)) → (just2 a.branch ≡ m) ⊎ (length (just2 a.branch) < length m)
+    safe : (length (highest rest) < length (just2 a.branch)) → (just2 a.branch ≡ m) ⊎ (length
+        (just2 a.branch) < length m)
     safe l = elim lower [
-      | inl e ↦ absurd (let i = ap (λ (x : Branch). length x) (sym (just2-is a.branch) ∙ ap just1 (j ∙ e) ∙ just1-genesis) in
+      | inl e ↦ absurd (let i = ap (λ (x : Branch). length x) (sym (just2-is a.branch) ∙ ap just1 (j ∙ e)
+          ∙ just1-genesis) in
           omega (arith, i, l))
       | inr k ↦ inr k
     ]

@@ -1,12 +1,13 @@
 -- Copies of a block that more than f correct replicas took, brought together, are taken.
 use Rattle.ids.specs.declared.kind.Kind.{Kind}
 use Rattle.ids.specs.declared.kind.Kind.TheVariants as kind
-use Rattle.std.proofs.Common.{ℕ, suc, ◌≡◌, ◌<◌, ◌≤◌, ◌⊎◌, ◌&&◌, ◌==◌, not, Bool, true, false, List, [], ◌∷◌, map, length}
-use Rattle.std.proofs.Common.{refl, sym, ap, subst, ◌∙◌, arith, inl, inr, nat_lt, nat_le, bytes_eq}
+use Rattle.std.proofs.Common.{ℕ, suc, ◌≡◌, ◌<◌, ◌≤◌, ◌⊎◌, ◌&&◌, ◌==◌, not, true, false, List, [], ◌∷◌, map, length}
+use Rattle.std.proofs.Common.{refl, sym, ap, subst, ◌∙◌, arith, inl, inr, nat_lt, nat_le}
 use Rattle.std.specs.List.{AllByRecursion, list_all, list_any}
 use Rattle.std.specs.Cmp.Lexicographic.{bytes_decides}
 use Rattle.std.proofs.lemmas.List.{length-map}
-use Rattle.std.proofs.lemmas.Bool.{and_from, or_left, cond-true, lt-ltb, le-leb, ltb-true, and_parts, eqb-true, not_from_false}
+use Rattle.std.proofs.lemmas.Bool.{and_from, or_left, cond-true, lt-ltb, le-leb, ltb-true, and_parts}
+use Rattle.std.proofs.lemmas.Bool.{eqb-true, not_from_false}
 use Rattle.std.proofs.lemmas.Bool.{cases_Bool}
 use Rattle.ids.specs.Sizes.{Sizes, replicas}
 use Rattle.definitions.specs.Bytes.{Bytes}
@@ -15,8 +16,7 @@ use Rattle.definitions.specs.Branches.{Block, Branch, just1}
 use Rattle.definitions.specs.Chronicles.{Admitted, Chronicle, Step.took_block, AreReplicas, taken_blocks, window}
 use Rattle.definitions.specs.Digests.{digest, digest_of, core_of, AllKnown}
 use Rattle.definitions.specs.Frames.{Core, Certificate, Frame, block_content, sender_of}
-use Rattle.definitions.specs.Frames as frame
-use Rattle.definitions.specs.Keyrings.{Keyring, is_client_of, verify, tag_for, vector_for}
+use Rattle.definitions.specs.Keyrings.{is_client_of, verify, tag_for, vector_for}
 use Rattle.definitions.specs.Tags.{tag, tag_of}
 use Rattle.definitions.proofs.Vectors.{tag_of-tags_for}
 use Rattle.definitions.specs.Checks.{Identity, Findings, cut, findings}
@@ -25,9 +25,9 @@ use Rattle.definitions.specs.Rulings.{Input, Input.relayed_in, Ruling, Ruling.du
 use Rattle.definitions.specs.Rulings.{votes_for}
 use Rattle.definitions.specs.Sendings.{block_frame}
 use Rattle.definitions.specs.States.{me}
-use Rattle.definitions.specs.Trees.{Placing, Placing.stands, Placing.grows}
+use Rattle.definitions.specs.Trees.{Placing}
 use Rattle.definitions.specs.Worlds.{World, is_replica, is_correct, is_party, self_of}
-use Rattle.definitions.specs.Admission.{Checked.passes, own_tag_verifies, when, is_copy, check_copies, check_gathered}
+use Rattle.definitions.specs.Admission.{Checked.passes, when, is_copy, check_copies, check_gathered}
 use Rattle.definitions.proofs.Lists.{any-found}
 use Rattle.definitions.proofs.Chronicles.{taken-tree, taken-now}
 use Rattle.definitions.proofs.Counts.{count-listed, count-within}
@@ -35,14 +35,15 @@ use Rattle.definitions.proofs.Horizons.{window-tree}
 use Rattle.linear_law.proofs.Runs.{member-faulty}
 use Rattle.linear_law.proofs.StoredFrames.{AreStored, IsStored, IsStoredBlock}
 use Rattle.recovery.specs.Correct.{ShareKeys, chronicle_of}
-use Rattle.recovery.specs.Law.{HasPlace, IsHolder, IsTaken, CopiesAreTaken}
+use Rattle.recovery.specs.Law.{HasPlace, IsHolder, CopiesAreTaken}
 use Rattle.recovery.proofs.Wells.{IsReached, reached, sound-of, known-of, stored-of, one-branch}
 use Rattle.recovery.proofs.Places.{IsPlaced, placed}
 
 -- ---- tags
 
 pub correct-party : (w : World) (r : ℕ) → is_correct w r ≡ true → is_party w r ≡ true
-correct-party w r c = or_left (is_replica w r) (is_client_of w.sizes r) (and_parts (is_replica w r) (not (w.is_faulty r)) c).0
+correct-party w r c = or_left (is_replica w r) (is_client_of w.sizes r) (and_parts (is_replica w r) (not
+    (w.is_faulty r)) c).0
 
 -- what a correct party tags for a correct replica verifies there
 pub tag-verifies : (w : World) → ShareKeys w → (label : Kind) (p u : ℕ) (content : Bytes) → is_party w p ≡ true
@@ -141,7 +142,8 @@ copy-passes w keys u c x q h held e =
     and_from _ _
     (tag-verifies w keys kind.Block h.0 u (block_content (me (self_of w h.0)) core k)
     (correct-party w h.0 held.0) (member-faulty w h.0 held.0) c)
-    (and_from _ _ ((bytes_decides (digest core) (digest (core_of x))).1 (ap (λ (z : Branch). digest (core_of z)) held.2))
+    (and_from _ _ ((bytes_decides (digest core) (digest (core_of x))).1 (ap (λ (z : Branch). digest
+    (core_of z)) held.2))
     ((bytes_decides k.digest q.digest).1 e))
 
 -- what a correct replica took has a certificate for what it justifies
@@ -173,9 +175,10 @@ senders-are w keys u x (h ∷ hs) held =
 holders-below : (w : World) (x : Branch) (hs : List (ℕ × Admitted)) → AllByRecursion (IsHolder w x) hs
     → AllByRecursion (λ v. v < replicas w.sizes) (map (λ h. h.0) hs)
 holders-below w x [] held = tt
-holders-below w x (h ∷ hs) held =
-    (ltb-true h.0 (replicas w.sizes) (and_parts (is_replica w h.0) (not (w.is_faulty h.0)) held.0.0).0,
-    holders-below w x hs held.1)
+holders-below w x (h ∷ hs) held = (
+  ltb-true h.0 (replicas w.sizes) (and_parts (is_replica w h.0) (not (w.is_faulty h.0)) held.0.0).0,
+  holders-below w x hs held.1,
+)
 
 -- distinct replicas are no more than there are
 few-replicas : (n : ℕ) (xs : List ℕ) → AreDistinct xs → AllByRecursion (λ v. v < n) xs → length xs ≤ n
@@ -250,5 +253,6 @@ gathered-taken Known w g keys u c b parent (h ∷ hs) place distinct held more =
 pub copies-taken : CopiesAreTaken
 copies-taken sizes is_faulty ring hs last met e =
     λ keys u c b parent holders place distinct held more.
-    let r = gathered-taken _ last (reached sizes is_faulty ring hs last met e) keys u c b parent holders place distinct held more in
+    let r = gathered-taken _ last
+    (reached sizes is_faulty ring hs last met e) keys u c b parent holders place distinct held more in
     (r.input, r.takes.0, r.passing, r.takes.1, r.takes.2)

@@ -1,20 +1,21 @@
 -- Votes that come to a replica, and the certificate that they complete.
-use Rattle.std.proofs.Common.{ℕ, zero, suc, ◌≡◌, ◌<◌, ◌≤◌, ◌⊎◌, ◌==◌, ◌&&◌, ◌||◌, not, Bool, true, false, cond, List, [], ◌∷◌}
-use Rattle.std.proofs.Common.{length, filter, map, refl, sym, ap, subst, ◌∙◌, arith, inl, inr, nat_lt, Option, Some, None}
+use Rattle.std.proofs.Common.{ℕ, suc, ◌≡◌, ◌<◌, ◌≤◌, ◌⊎◌, ◌==◌, ◌&&◌, ◌||◌, not, Bool, true, false, cond}
+use Rattle.std.proofs.Common.{List, [], ◌∷◌}
+use Rattle.std.proofs.Common.{length, refl, sym, ap, subst, ◌∙◌, arith, inl, inr, nat_lt, Option, Some, None}
 use Rattle.std.specs.List.{list_any}
-use Rattle.std.proofs.lemmas.Bool.{cond-true, cond-false, cond_both, cases_Bool, cases_lt, and_parts, and_from, or_left, or_right, or_cases}
-use Rattle.std.proofs.lemmas.Bool.{eqb-true, eq-eqb, ltb-true, ltb-false, lt-ltb, not_from_false, not-true, true≢false}
+use Rattle.std.proofs.lemmas.Bool.{cond-true, cond_both, cases_lt, and_parts, and_from, or_left, or_right, or_cases}
+use Rattle.std.proofs.lemmas.Bool.{eqb-true, eq-eqb, ltb-true, ltb-false, lt-ltb, true≢false}
 use Rattle.ids.specs.Sizes.{Sizes, quorum}
 use Rattle.definitions.specs.Bytes.{Bytes}
 use Rattle.definitions.specs.Lists.{Among}
 use Rattle.definitions.specs.Branches.{Branch, branch_eq}
 use Rattle.definitions.specs.Checks.{Identity}
-use Rattle.definitions.specs.Chronicles.{Chronicle, Step.noted, Step.took_block, Note.got_vote, Note.led_from, taken_blocks, voted_blocks, horizon, history}
-use Rattle.definitions.specs.Chronicles.{executed, decided}
+use Rattle.definitions.specs.Chronicles.{Chronicle, Step.noted, Step.took_block, Note.got_vote, Note.led_from}
+use Rattle.definitions.specs.Chronicles.{taken_blocks, voted_blocks, horizon, history}
 use Rattle.definitions.specs.Digests.{digest_of}
 use Rattle.definitions.specs.Frames.{Command, Vote}
-use Rattle.definitions.specs.States.{Justified, view, votes, raised, by_voter, comes_whole, fills, higher, qc_high, leaf}
-use Rattle.definitions.specs.States.{pending, is_due, with_request}
+use Rattle.definitions.specs.States.{Justified, view, votes, raised, by_voter, fills, higher, qc_high, leaf}
+use Rattle.definitions.specs.States.{pending, is_due}
 use Rattle.definitions.proofs.Lists.{Among-filter}
 use Rattle.definitions.proofs.Branches.{branch_eq-decides}
 use Rattle.definitions.proofs.Certificates.{length-by_voter}
@@ -101,11 +102,11 @@ raised-votes s voter v y c p e =
     (Some (record { block = y; certificate = record { digest = digest_of y; votes = by_voter bs } })) None
     (λ (o : Option Justified). o ≡ Some p → 0 < length p.certificate.votes)
     (λ t i.
-      let k : record { block = y; certificate = record { digest = digest_of y; votes = by_voter bs } } ≡ p = cc in
-      let n : length bs ≡ quorum s = eqb-true (length bs) (quorum s) (and_parts _ _ t).1 in
-      let l = length-by_voter bs in
-      let m = ap (λ (j : Justified). length j.certificate.votes) k in
-      omega (arith, n, l, m))
+    let k : record { block = y; certificate = record { digest = digest_of y; votes = by_voter bs } } ≡ p = cc in
+    let n : length bs ≡ quorum s = eqb-true (length bs) (quorum s) (and_parts _ _ t).1 in
+    let l = length-by_voter bs in
+    let m = ap (λ (j : Justified). length j.certificate.votes) k in
+    omega (arith, n, l, m))
     (λ t i. absurd (none i)) e
   where
     none : None ≡ Some p → ⊥
@@ -116,9 +117,12 @@ raised-full : (s : Sizes) (voter : ℕ) (v : Bytes) (y : Branch) (c : Chronicle)
     → length (votes s y c) < quorum s → length (votes s y (noted (got_vote voter v y) ∷ c)) ≡ quorum s
     → (p : Justified) × (raised s (noted (got_vote voter v y)) c ≡ Some p) × (p.block ≡ y)
 unfolding raised
-raised-full s voter v y c l e =
-    (_, cond-true _ _ _ (and_from _ _ (lt-ltb (length (votes s y c)) (quorum s) l)
-    (eq-eqb (length (votes s y (noted (got_vote voter v y) ∷ c))) (quorum s) e)), refl)
+raised-full s voter v y c l e = (
+  _,
+  cond-true _ _ _ (and_from _ _ (lt-ltb (length (votes s y c)) (quorum s) l)
+      (eq-eqb (length (votes s y (noted (got_vote voter v y) ∷ c))) (quorum s) e)),
+  refl,
+)
 
 -- the higher of two, where votes alone come
 pick-cases : (o : Option Justified) (q : Justified)
@@ -129,10 +133,15 @@ pick-cases (Some p) q =
     cond_both (nat_lt (length q.block) (length p.block) || (false && fills p q)) p q
     (λ (j : Justified). (j ≡ q)
     ⊎ ((k : Justified) × (Some p ≡ Some k) × (j ≡ k) × (length q.block < length k.block)))
-    (λ t. inr (p, refl, refl, elim (or_cases _ _ t) [
-      | inl l ↦ ltb-true (length q.block) (length p.block) l
-      | inr f ↦ absurd (true≢false (sym f))
-    ]))
+    (λ t. inr (
+      p,
+      refl,
+      refl,
+      elim (or_cases _ _ t) [
+        | inl l ↦ ltb-true (length q.block) (length p.block) l
+        | inr f ↦ absurd (true≢false (sym f))
+      ],
+    ))
     (λ t. inl refl)
 
 vote-high : (s : Sizes) (voter : ℕ) (v : Bytes) (y : Branch) (c : Chronicle)
@@ -218,12 +227,14 @@ counting-on self x y voter v before c h =
     s : Sizes
     s = self.sizes
 
-    by : (t : Bool) → nat_lt (length (qc_high s c).block) (length (qc_high s (noted (got_vote voter v y) ∷ c)).block) ≡ t
+    by : (t : Bool) → nat_lt (length (qc_high s c).block) (length (qc_high s (noted
+        (got_vote voter v y) ∷ c)).block) ≡ t
         → ((higher false (raised s (noted (got_vote voter v y)) c) (qc_high s c) ≡ qc_high s c)
         ⊎ ((p : Justified) × (raised s (noted (got_vote voter v y)) c ≡ Some p)
         × (higher false (raised s (noted (got_vote voter v y)) c) (qc_high s c) ≡ p)
         × (length (qc_high s c).block < length p.block)))
-        → qc_high s (noted (got_vote voter v y) ∷ c) ≡ higher false (raised s (noted (got_vote voter v y)) c) (qc_high s c)
+        → qc_high s (noted (got_vote voter v y) ∷ c) ≡ higher false (raised s (noted (got_vote voter v y)) c)
+        (qc_high s c)
         → (leaf self c ≡ leaf self before) ⊎ (leaf self c ≡ (qc_high s c).block)
         → (cond t (qc_high s (noted (got_vote voter v y) ∷ c)).block (leaf self c) ≡ leaf self before)
         ⊎ (cond t (qc_high s (noted (got_vote voter v y) ∷ c)).block (leaf self c)

@@ -1,13 +1,13 @@
 -- Three more blocks decide.
-use Rattle.std.proofs.Common.{ℕ, suc, ◌≡◌, ◌<◌, ◌≤◌, ◌⊎◌, ◌==◌, ◌&&◌, Bool, true, List, [], ◌∷◌, ◌++◌, length, refl, sym}
+use Rattle.std.proofs.Common.{ℕ, suc, ◌≡◌, true, List, [], ◌∷◌, length, refl, sym}
 use Rattle.std.proofs.Common.{ap, subst, ◌∙◌, arith, inl, inr}
 use Rattle.std.proofs.lemmas.Bool.{and_from, eq-eqb, cond-true, cond_both}
 use Rattle.definitions.specs.Lists.{Among, beginning}
-use Rattle.definitions.specs.Branches.{Block, Branch, justify_height, just1, just2, just3, Extends, highest}
-use Rattle.definitions.specs.Chronicles.{Admitted, Chronicle, taken_blocks, decided, decided_by, decides, executed}
+use Rattle.definitions.specs.Branches.{Block, Branch, justify_height, just1, just2, just3, Extends}
+use Rattle.definitions.specs.Chronicles.{Admitted, taken_blocks, decided, decided_by, decides, executed}
 use Rattle.definitions.specs.Agreement.{IsLawfulFamily}
 use Rattle.definitions.specs.Worlds.{World, is_correct}
-use Rattle.definitions.proofs.Lists.{Among-before, beginning-append, IsBeginning-beginning}
+use Rattle.definitions.proofs.Lists.{Among-before, IsBeginning-beginning}
 use Rattle.definitions.proofs.Branches.{highest-above, just2-is, just3-is, extends-between}
 use Rattle.definitions.proofs.Chronicles.{executed-decided}
 use Rattle.agreement.proofs.Agreement.{one-extends}
@@ -59,7 +59,7 @@ third-decides x y z a n1 n2 n3 =
     let h1 = next-higher x y n1 in
     let h2 = next-higher y z n2 in (
       and_from _ _ (eq-eqb (length (just2 a.branch)) (suc (length (just3 a.branch))) (omega (arith, l2, l3, h1)))
-      (eq-eqb (length (just1 a.branch)) (suc (length (just2 a.branch))) (omega (arith, l1, l2, h2))),
+          (eq-eqb (length (just1 a.branch)) (suc (length (just2 a.branch))) (omega (arith, l1, l2, h2))),
       j3,
     )
 

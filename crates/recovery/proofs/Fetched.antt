@@ -2,30 +2,31 @@
 use Rattle.ids.specs.declared.limits.TheConstants.{MOST_OF_HEIGHT}
 use Rattle.std.specs.Prelude.{count_by}
 use Rattle.definitions.specs.Rulings.{ruling}
-use Rattle.std.proofs.Common.{ℕ, zero, suc, ◌≡◌, ◌<◌, ◌≤◌, ◌+◌, ◌⊎◌, ◌==◌, ◌&&◌, not, Bool, true, false, cond, List, [], ◌∷◌}
-use Rattle.std.proofs.Common.{◌++◌, map, filter, find, length, drop, refl, sym, ap, subst, ◌∙◌, arith, inl, inr, nat_lt}
+use Rattle.std.proofs.Common.{ℕ, zero, suc, ◌≡◌, ◌<◌, ◌≤◌, ◌+◌, ◌⊎◌, ◌==◌, not, Bool, true, false, cond, List}
+use Rattle.std.proofs.Common.{[], ◌∷◌}
+use Rattle.std.proofs.Common.{◌++◌, map, filter, find, length, drop, refl, sym, ap, subst, ◌∙◌, arith, inl}
+use Rattle.std.proofs.Common.{inr, nat_lt}
 use Rattle.std.proofs.Common.{true≢false, Option, Some, None, option_map, slice_get, Ok}
 use Rattle.std.specs.List.{AllByRecursion, list_any, list_all}
-use Rattle.std.proofs.lemmas.Bool.{cond-true, cond-false, cond_both, cases_Bool, cases_eq, and_parts, and_from, lt-ltb, eqb-true, eq-eqb, ne_eqb}
+use Rattle.std.proofs.lemmas.Bool.{cond-true, cond-false, cond_both, cases_Bool, cases_eq, and_parts}
+use Rattle.std.proofs.lemmas.Bool.{and_from, lt-ltb, eq-eqb, ne_eqb}
 use Rattle.std.proofs.lemmas.List.{append-nil, append_assoc, map-append, length-append}
 use Rattle.std.proofs.Math.Seq.{drop-append_seam}
 use Rattle.ids.specs.Sizes.{Sizes, replicas}
 use Rattle.definitions.specs.Bytes.{Bytes}
 use Rattle.definitions.specs.Lists.{Among, AreDistinct, count_below}
 use Rattle.definitions.specs.Branches.{Block, Branch, branch_eq}
-use Rattle.definitions.specs.Chronicles.{Admitted, Chronicle, Step.took_block, taken_blocks, window, horizon, tree}
+use Rattle.definitions.specs.Chronicles.{Admitted, Chronicle, Step.took_block, taken_blocks, window, horizon}
 use Rattle.definitions.specs.Chronicles.{standing_blocks, stored_blocks, stored_block}
-use Rattle.definitions.specs.Digests.{digest, digest_of, AllKnown}
+use Rattle.definitions.specs.Digests.{digest_of, AllKnown}
 use Rattle.definitions.specs.Frames.{Core, Frame}
-use Rattle.definitions.specs.Keyrings.{Keyring}
-use Rattle.definitions.specs.Premises.{ArePremises}
 use Rattle.definitions.specs.Checks.{Identity}
 use Rattle.definitions.specs.States.{find_block}
 use Rattle.definitions.specs.Sendings.{as_taken}
 use Rattle.definitions.specs.Trees.{Stored, blocks, standing}
 use Rattle.definitions.specs.Replicas.{MemorySupply.ample, Replica, Standing.running}
 use Rattle.definitions.specs.Worlds.{World, Sent, Event.gather, Happening, Source, Source.of_record, new_world}
-use Rattle.definitions.specs.Worlds.{is_correct, is_replica, self_of, put}
+use Rattle.definitions.specs.Worlds.{is_correct, is_replica, self_of}
 use Rattle.definitions.specs.Runs.{refusal, run, after, is_there}
 use Rattle.definitions.specs.Events.{happens, recorded, listed, frames_of}
 use Rattle.definitions.proofs.Lists.{find_some, find_none, Among-either}
@@ -35,20 +36,20 @@ use Rattle.definitions.proofs.Counts.{found}
 use Rattle.definitions.proofs.Horizons.{window-tree, window-grown}
 use Rattle.definitions.proofs.Sound.{found-standing}
 use Rattle.definitions.proofs.Trees.{found-itself}
-use Rattle.agreement.proofs.Certified.{any-among, among-any}
+use Rattle.agreement.proofs.Certified.{any-among}
 use Rattle.definitions.proofs.Certificates.{IsDigest-digest_of}
-use Rattle.recovery.specs.Correct.{OfCorrect, AllGoOn, ShareKeys, chronicle_of, correct_below, correct_replicas, correct_with}
-use Rattle.recovery.specs.Correct.{amply}
+use Rattle.recovery.specs.Correct.{OfCorrect, AllGoOn, ShareKeys, chronicle_of, correct_below}
+use Rattle.recovery.specs.Correct.{correct_replicas, correct_with}
 use Rattle.recovery.specs.Healing.{in_turn, numbers_of, sent_since, is_copy, ask_each, fetch_block}
-use Rattle.recovery.specs.Law.{OnlyAsked, OnlyTook, IsHolder, HasPlace, IsFetched, MissingBlocksAreFetched}
-use Rattle.recovery.proofs.Asked.{Asked, asked-each, holders-of, answer-of, copy-at, with-copy, same-copies, gather-hands}
-use Rattle.recovery.proofs.Copies.{IsGathered, gathered-taken, copies-of}
+use Rattle.recovery.specs.Law.{OnlyAsked, IsHolder, HasPlace, IsFetched, MissingBlocksAreFetched}
+use Rattle.recovery.proofs.Asked.{asked-each, holders-of, answer-of, copy-at, with-copy, same-copies, gather-hands}
+use Rattle.recovery.proofs.Copies.{gathered-taken, copies-of}
 use Rattle.recovery.proofs.Correct.{among-correct}
 use Rattle.recovery.proofs.Proposals.{standing-old}
-use Rattle.recovery.proofs.Steps.{going, TookStep, step-stood, frame-behind}
+use Rattle.recovery.proofs.Steps.{going, step-stood, frame-behind}
 use Rattle.recovery.proofs.Ways.{IsOnWay, on-way-from, on-way, way-on, way-past, KnownAt}
 use Rattle.recovery.proofs.Wells.{IsReached, sound-of, known-of, one-branch, run-after}
-use Rattle.recovery.proofs.Worlds.{IsMadeAs, made-after, made-both, keys-in, same-correct, same-self, Passes, passes-none}
+use Rattle.recovery.proofs.Worlds.{IsMadeAs, made-after, keys-in, same-correct, passes-none}
 use Rattle.recovery.proofs.Worlds.{passes-one, passes-append, after-append, named}
 
 -- ---- frames of the record
@@ -184,10 +185,13 @@ who-answers w u d (suc n) =
     wider h = subst P (sym (append-nil front)) (h.0, λ r m. (let k = h.1 r m in omega (arith, k)))
 
     longer : AreDistinct front × ((r : ℕ) → Among r front → r < n) → P (front ++ n ∷ [])
-    longer h = (distinct-last front n h.0 h.1, λ r m. elim (Among-either r front (n ∷ []) m) [
-      | inl k ↦ (let l = h.1 r k in omega (arith, l))
-      | inr k ↦ (elim k [ inl e ↦ omega (arith, e) | inr z ↦ absurd z ])
-    ])
+    longer h = (
+      distinct-last front n h.0 h.1,
+      λ r m. elim (Among-either r front (n ∷ []) m) [
+        | inl k ↦ (let l = h.1 r k in omega (arith, l))
+        | inr k ↦ (elim k [ inl e ↦ omega (arith, e) | inr z ↦ absurd z ])
+      ],
+    )
 
     by : (t : Bool) → AreDistinct front × ((r : ℕ) → Among r front → r < n)
         → P (front ++ who (holders-of w u d (cond t (n ∷ []) [])))
@@ -337,101 +341,104 @@ fetch-known Known w g u b parent may =
 fetch-is : (d : Bytes) (u : ℕ) (w : World)
     → fetch_block d u w
     ≡ ask_each d u (correct_replicas w) w
-    ++ (gather u (map of_record (sent_since (length w.sent) is_copy (after w (ask_each d u (correct_replicas w) w)))),
-    ample) ∷ []
+    ++ (
+      gather u (map of_record (sent_since (length w.sent) is_copy (after w (ask_each d u (correct_replicas w) w)))),
+      ample,
+    ) ∷ []
 unfolding fetch_block in_turn
 fetch-is d u w = refl
 
 module _ (sizes : Sizes) (start : World) (all : List Happening) (w : World) (u : ℕ) (b : Block) (parent : Branch)
-    where
-  pub fetched : (rest : List Happening)
-      → IsOnWay sizes start all w (fetch_block (digest_of (b ∷ parent)) u w ++ rest)
-      → MayFetch (KnownAt sizes start all) w u b parent
-      → IsFetched w (after w (fetch_block (digest_of (b ∷ parent)) u w)) u (b ∷ parent)
-  unfolding after ruling
-  fetched rest on may =
-      let x : Branch = b ∷ parent in
-      let d : Bytes = digest_of x in
-      let Known : Core → Type 0 = KnownAt sizes start all in
-      let cs : List ℕ = correct_replicas w in
-      let asks : List Happening = ask_each d u cs w in
-      let v : World = after w asks in
-      let sources : List Source = map of_record (sent_since (length w.sent) is_copy v) in
-      let end : List Happening = (gather u sources, ample) ∷ [] in
-      let on0 = subst (IsOnWay sizes start all w) (append_assoc asks end rest)
-      (subst (λ (l : List Happening). IsOnWay sizes start all w (l ++ rest)) (fetch-is d u w) on) in
-      let each = asked-each sizes start all u d (IsDigest-digest_of x) cs (end ++ rest) w may.keys may.goes may.correct
-      (among-correct w (replicas w.sizes)) on0 in
-      let a = each.1 in
-      let g0 = on-way sizes start all w (asks ++ (end ++ rest)) on0 in
-      let onv = way-past sizes start all asks (end ++ rest) w on0 each.0 in
-      let g = on-way sizes start all v (end ++ rest) onv in
-      let hs : List (ℕ × Admitted) = holders-of w u d cs in
-      let known = fetch-known Known w g0 u b parent may in
-      let cu = same-correct w v a.made u ∙ may.correct in
-      let more : v.sizes.faults < length hs =
-      (let k = may.many in let m = many-answer Known w g0 b parent u (replicas w.sizes) may.lacks in
-      let s = ap (λ (z : Sizes). z.faults) a.made.sizes in omega (arith, k, m, s)) in
-      let drops : drop (length w.sent) v.sent ≡ a.more =
-      ap (λ (l : List Sent). drop (length w.sent) l) a.sent ∙ drop-append_seam w.sent a.more in
-      let frames : frames_of v sources ≡ copies-of v u hs =
-      ap (λ (l : List Sent). frames_of v (map of_record (numbers_of is_copy (length w.sent) l))) drops
-      ∙ (frames-behind is_copy v a.more w.sent (length w.sent) a.sent refl
-      ∙ (a.copies ∙ sym (same-copies w v u a.made hs))) in
-      let r = gathered-taken Known v g (keys-in w v a.made may.keys) u cu b parent hs
-      (place-told (self_of w u) (chronicle_of w u) (chronicle_of v u) b parent (a.only u may.correct) may.place)
-      (who-answers w u d (replicas w.sizes)).0
-      (holders-told w v x a.made a.only hs
-      (holders-hold Known w g0 x known u cs (among-correct w (replicas w.sizes)))) more in
-      let there : list_all (is_there v) sources ≡ true =
-      ap (λ (l : List Sent). list_all (is_there v) (map of_record (numbers_of is_copy (length w.sent) l))) drops
-      ∙ numbers-there is_copy v a.more (length w.sent)
-      (let n = ap (λ (l : List Sent). length l) a.sent in let m = length-append w.sent a.more in
-      omega (arith, n, m)) in
-      let ok : refusal v (gather u sources) ≡ None =
-      named v (gather u sources) (and_parts (is_replica v u) (not (v.is_faulty u)) cu).0 there refl in
-      let last : World = happens v (gather u sources, ample) in
-      let onl = way-on sizes start all v (gather u sources, ample) rest onv ok in
-      let t = r.takes in
-      let st = step-stood v (gather u sources) u r.input (took_block t.0)
-      (gather-hands v u sources (copies-of v u hs) r.input cu (a.going_on u cu) frames r.passing) t.1
-      onl.well.good.answers in
-      let own : last.replica u ≡ going (took_block t.0 ∷ chronicle_of v u) =
-      ap (λ (row : ℕ → Replica). row u) st.row
-      ∙ cond-true (u == u) (going (took_block t.0 ∷ chronicle_of v u)) (v.replica u) (eq-eqb u u refl) in
-      let ownc = ap (λ (y : Replica). y.chronicle) own in
-      let same : (j : ℕ) → (j ≡ u → ⊥) → last.replica j ≡ v.replica j =
-      λ j n. ap (λ (row : ℕ → Replica). row j) st.row
-      ∙ cond-false (j == u) (going (took_block t.0 ∷ chronicle_of v u)) (v.replica j) (ne_eqb j u n) in
-      let reach = may.place.reach in
-      let below = may.place.below in
-      let h = (a.only u may.correct).0.forgotten in
-      subst (λ (z : World). IsFetched w z u x)
-      (sym (ap (after w) (fetch-is d u w) ∙ after-append w asks end)) (record {
-        ran = subst (λ (l : List Happening). run w l ≡ Ok last) (sym (fetch-is d u w))
-            (passes-append w asks end each.0 (passes-one v (gather u sources, ample) [] ok (passes-none last))
-            ∙ ap (λ (z : World). Ok z) (after-append w asks end));
-        going_on = λ j c. elim (cases_eq j u) [
-          | inl e ↦ subst (λ (i : ℕ). (last.replica i).standing ≡ running) (sym e)
-              (ap (λ (y : Replica). y.standing) own)
-          | inr n ↦ ap (λ (y : Replica). y.standing) (same j n)
-              ∙ a.going_on j (sym (same-correct v last st.made j) ∙ c)
-        ];
-        stands = subst (λ (c : Chronicle). Among x (window c)) (sym ownc)
-            (took-stands (chronicle_of v u) t.0 x t.2 (omega (arith, reach, below, h)) t.4);
-        own = record {
-          asked = chronicle_of v u;
-          only = a.only u may.correct;
-          taken = t.0;
-          is = ownc;
-          block_is = t.2;
-          no_vote = t.3;
-          new_or_there = t.4;
-        };
-        others = λ j c n. subst (λ (y : Replica). OnlyAsked (self_of w j) (chronicle_of w j) y.chronicle)
-            (sym (same j n)) (a.only j c);
-        session = st.session ∙ a.session;
-      })
+  where
+    pub fetched : (rest : List Happening)
+        → IsOnWay sizes start all w (fetch_block (digest_of (b ∷ parent)) u w ++ rest)
+        → MayFetch (KnownAt sizes start all) w u b parent
+        → IsFetched w (after w (fetch_block (digest_of (b ∷ parent)) u w)) u (b ∷ parent)
+    unfolding after ruling
+    fetched rest on may =
+        let x : Branch = b ∷ parent in
+        let d : Bytes = digest_of x in
+        let Known : Core → Type 0 = KnownAt sizes start all in
+        let cs : List ℕ = correct_replicas w in
+        let asks : List Happening = ask_each d u cs w in
+        let v : World = after w asks in
+        let sources : List Source = map of_record (sent_since (length w.sent) is_copy v) in
+        let end : List Happening = (gather u sources, ample) ∷ [] in
+        let on0 = subst (IsOnWay sizes start all w) (append_assoc asks end rest)
+        (subst (λ (l : List Happening). IsOnWay sizes start all w (l ++ rest)) (fetch-is d u w) on) in
+        let each = asked-each sizes start all u d (IsDigest-digest_of x) cs
+        (end ++ rest) w may.keys may.goes may.correct
+        (among-correct w (replicas w.sizes)) on0 in
+        let a = each.1 in
+        let g0 = on-way sizes start all w (asks ++ (end ++ rest)) on0 in
+        let onv = way-past sizes start all asks (end ++ rest) w on0 each.0 in
+        let g = on-way sizes start all v (end ++ rest) onv in
+        let hs : List (ℕ × Admitted) = holders-of w u d cs in
+        let known = fetch-known Known w g0 u b parent may in
+        let cu = same-correct w v a.made u ∙ may.correct in
+        let more : v.sizes.faults < length hs =
+        (let k = may.many in let m = many-answer Known w g0 b parent u (replicas w.sizes) may.lacks in
+        let s = ap (λ (z : Sizes). z.faults) a.made.sizes in omega (arith, k, m, s)) in
+        let drops : drop (length w.sent) v.sent ≡ a.more =
+        ap (λ (l : List Sent). drop (length w.sent) l) a.sent ∙ drop-append_seam w.sent a.more in
+        let frames : frames_of v sources ≡ copies-of v u hs =
+        ap (λ (l : List Sent). frames_of v (map of_record (numbers_of is_copy (length w.sent) l))) drops
+        ∙ (frames-behind is_copy v a.more w.sent (length w.sent) a.sent refl
+        ∙ (a.copies ∙ sym (same-copies w v u a.made hs))) in
+        let r = gathered-taken Known v g (keys-in w v a.made may.keys) u cu b parent hs
+        (place-told (self_of w u) (chronicle_of w u) (chronicle_of v u) b parent (a.only u may.correct) may.place)
+        (who-answers w u d (replicas w.sizes)).0
+        (holders-told w v x a.made a.only hs
+        (holders-hold Known w g0 x known u cs (among-correct w (replicas w.sizes)))) more in
+        let there : list_all (is_there v) sources ≡ true =
+        ap (λ (l : List Sent). list_all (is_there v) (map of_record (numbers_of is_copy (length w.sent) l))) drops
+        ∙ numbers-there is_copy v a.more (length w.sent)
+        (let n = ap (λ (l : List Sent). length l) a.sent in let m = length-append w.sent a.more in
+        omega (arith, n, m)) in
+        let ok : refusal v (gather u sources) ≡ None =
+        named v (gather u sources) (and_parts (is_replica v u) (not (v.is_faulty u)) cu).0 there refl in
+        let last : World = happens v (gather u sources, ample) in
+        let onl = way-on sizes start all v (gather u sources, ample) rest onv ok in
+        let t = r.takes in
+        let st = step-stood v (gather u sources) u r.input (took_block t.0)
+        (gather-hands v u sources (copies-of v u hs) r.input cu (a.going_on u cu) frames r.passing) t.1
+        onl.well.good.answers in
+        let own : last.replica u ≡ going (took_block t.0 ∷ chronicle_of v u) =
+        ap (λ (row : ℕ → Replica). row u) st.row
+        ∙ cond-true (u == u) (going (took_block t.0 ∷ chronicle_of v u)) (v.replica u) (eq-eqb u u refl) in
+        let ownc = ap (λ (y : Replica). y.chronicle) own in
+        let same : (j : ℕ) → (j ≡ u → ⊥) → last.replica j ≡ v.replica j =
+        λ j n. ap (λ (row : ℕ → Replica). row j) st.row
+        ∙ cond-false (j == u) (going (took_block t.0 ∷ chronicle_of v u)) (v.replica j) (ne_eqb j u n) in
+        let reach = may.place.reach in
+        let below = may.place.below in
+        let h = (a.only u may.correct).0.forgotten in
+        subst (λ (z : World). IsFetched w z u x)
+        (sym (ap (after w) (fetch-is d u w) ∙ after-append w asks end)) (record {
+          ran = subst (λ (l : List Happening). run w l ≡ Ok last) (sym (fetch-is d u w))
+              (passes-append w asks end each.0 (passes-one v (gather u sources, ample) [] ok (passes-none last))
+              ∙ ap (λ (z : World). Ok z) (after-append w asks end));
+          going_on = λ j c. elim (cases_eq j u) [
+            | inl e ↦ subst (λ (i : ℕ). (last.replica i).standing ≡ running) (sym e)
+                (ap (λ (y : Replica). y.standing) own)
+            | inr n ↦ ap (λ (y : Replica). y.standing) (same j n)
+                ∙ a.going_on j (sym (same-correct v last st.made j) ∙ c)
+          ];
+          stands = subst (λ (c : Chronicle). Among x (window c)) (sym ownc)
+              (took-stands (chronicle_of v u) t.0 x t.2 (omega (arith, reach, below, h)) t.4);
+          own = record {
+            asked = chronicle_of v u;
+            only = a.only u may.correct;
+            taken = t.0;
+            is = ownc;
+            block_is = t.2;
+            no_vote = t.3;
+            new_or_there = t.4;
+          };
+          others = λ j c n. subst (λ (y : Replica). OnlyAsked (self_of w j) (chronicle_of w j) y.chronicle)
+              (sym (same j n)) (a.only j c);
+          session = st.session ∙ a.session;
+        })
 
 pub blocks-fetched : MissingBlocksAreFetched
 blocks-fetched sizes is_faulty ring hs w u b parent keys met e goes cu place lacks many =

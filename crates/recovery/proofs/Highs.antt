@@ -1,49 +1,45 @@
 -- Highest certificates of correct replicas are of certified blocks.
-use Rattle.ids.specs.declared.limits.TheConstants.{MOST_COMMANDS}
-use Rattle.std.proofs.Common.{ℕ, zero, suc, ◌≡◌, ◌<◌, ◌≤◌, ◌⊎◌, ◌&&◌, ◌||◌, ◌==◌, Bool, true, false, cond, List, [], ◌∷◌}
-use Rattle.std.proofs.Common.{length, max, refl, sym, ap, subst, ◌∙◌, arith, inl, inr, map, filter, nat_lt}
+use Rattle.std.proofs.Common.{ℕ, ◌≡◌, ◌<◌, ◌≤◌, ◌⊎◌, ◌&&◌, ◌||◌, ◌==◌, Bool, true, false, cond, List, [], ◌∷◌}
+use Rattle.std.proofs.Common.{length, refl, sym, ap, subst, ◌∙◌, arith, inl, inr, filter, nat_lt}
 use Rattle.std.proofs.Common.{Option, Some, None}
-use Rattle.std.specs.Bool.{⊤}
-use Rattle.std.specs.List.{AllByRecursion, list_any}
-use Rattle.std.proofs.lemmas.Bool.{cond_both, cond-true, cond-false, cases_Bool, cases_lt, and_parts, or_cases, ltb-true}
+use Rattle.std.specs.List.{list_any}
+use Rattle.std.proofs.lemmas.Bool.{cond_both, cond-true, cases_lt, and_parts, or_cases}
 use Rattle.std.proofs.lemmas.Bool.{eqb-true}
 use Rattle.std.specs.Cmp.Lexicographic.{bytes_decides}
 use Rattle.ids.specs.Sizes.{Sizes, replicas, quorum}
 use Rattle.definitions.specs.Bytes.{Bytes}
-use Rattle.definitions.specs.Lists.{Among, AreDistinct, count_below}
+use Rattle.definitions.specs.Lists.{Among}
 use Rattle.definitions.specs.Branches.{Branch, just1, branch_eq}
 use Rattle.definitions.specs.Chronicles.{Admitted, Chronicle, Step, Step.took_block, Step.noted, voted_blocks}
 use Rattle.definitions.specs.Chronicles.{Note.got_vote, Note.got_new_view, Note.led_from, taken_blocks, tree, vheight}
-use Rattle.definitions.specs.Chronicles.{IsLawful, AreKnown, standing_blocks, stored_blocks, stored_block, horizon}
+use Rattle.definitions.specs.Chronicles.{AreKnown, standing_blocks, stored_blocks, stored_block, horizon}
 use Rattle.definitions.specs.Chronicles.{Note.got_request, Note.got_fetch, Note.timed_out, Note.beat, Note.pruned}
 use Rattle.definitions.specs.Chronicles.{Note.seen_view}
 use Rattle.definitions.specs.Trees.{Stored, is_in_reach}
-use Rattle.definitions.specs.Checks.{Identity, counted_voters, is_genesis, is_good, vote_verifies}
+use Rattle.definitions.specs.Checks.{Identity, counted_voters, is_good, vote_verifies}
 use Rattle.definitions.specs.Digests.{digest, digest_of, AllKnown}
 use Rattle.definitions.specs.Frames.{Core, Vote, Certificate, genesis_core}
 use Rattle.definitions.specs.Frames as frame
 use Rattle.definitions.specs.FrameLimits.{IsCore, IsCertificate}
-use Rattle.definitions.specs.Grounds.{may_lead_from, is_justified, is_own_certified, IsKept}
+use Rattle.definitions.specs.Grounds.{may_lead_from, is_justified, is_own_certified}
 use Rattle.definitions.specs.Agreement.{IsLawfulFamily, MayBeCertified, supports}
 use Rattle.definitions.specs.States.{Justified, votes, raised, fills, comes_whole, higher, qc_high, by_voter}
 use Rattle.definitions.specs.Worlds.{World, is_correct, self_of}
 use Rattle.definitions.proofs.Lists.{Among-map, Among-filter, any-found}
 use Rattle.definitions.proofs.Branches.{branch_eq-decides}
-use Rattle.definitions.proofs.Chronicles.{voted-height, taken-grows, tree-grows, tree-genesis, voted-tree}
-use Rattle.definitions.proofs.Counts.{count-listed, found, overlap}
+use Rattle.definitions.proofs.Chronicles.{voted-height, taken-grows, tree-grows, voted-tree}
+use Rattle.definitions.proofs.Counts.{count-listed}
 use Rattle.definitions.proofs.Certificates.{IsDigest-digest, length-by_voter}
 use Rattle.definitions.proofs.Checks.{block-checked}
-use Rattle.definitions.proofs.Sound.{IsChecked}
 use Rattle.definitions.proofs.Horizons.{qc_high-cases, led-high}
-use Rattle.agreement.proofs.Certified.{any-among, among-any, voted-both}
+use Rattle.agreement.proofs.Certified.{among-any, voted-both}
 use Rattle.linear_law.specs.Law.{correct_family}
 use Rattle.linear_law.proofs.HeldVotes.{AllVotes, AreHolding, high-held}
 use Rattle.linear_law.proofs.Inputs.{all-among}
-use Rattle.linear_law.proofs.MadeCertificates.{IsRaised, raised-is}
-use Rattle.linear_law.proofs.Runs.{IsGiven, AreGiven, Stands}
+use Rattle.linear_law.proofs.MadeCertificates.{raised-is}
+use Rattle.linear_law.proofs.Runs.{IsGiven, Stands}
 use Rattle.linear_law.proofs.StoredFrames.{AreStored, IsStoredView}
-use Rattle.linear_law.proofs.WholeRuns.{chronicles-family}
-use Rattle.recovery.specs.Correct.{OfCorrect, chronicle_of, correct_replicas}
+use Rattle.recovery.specs.Correct.{chronicle_of, correct_replicas}
 use Rattle.recovery.specs.Healing.{highest_voted}
 use Rattle.recovery.specs.Law.{high_of, HighestAreCertified}
 use Rattle.recovery.proofs.Correct.{correct-listed}
@@ -90,7 +86,7 @@ abbrev pub IsCertifiedIn : World → Branch → Type 0
 IsCertifiedIn w b = (b ≡ []) ⊎ MayBeCertified (correct_family w) b
 
 -- who voted for a block supports it
-voter-supports : (w : World) (b : Branch) (v : ℕ)
+pub voter-supports : (w : World) (b : Branch) (v : ℕ)
     → (is_correct w v ≡ true → Among b (voted_blocks (chronicle_of w v)))
     → supports (correct_family w) b v ≡ true
 unfolding supports
@@ -99,10 +95,10 @@ voter-supports w b v h =
     (λ (t : Bool). t ≡ true) (λ e. among-any b (voted_blocks (chronicle_of w v)) (h e)) (λ e. refl)
 
 -- a core, for laws that speak of one
-some-core : Core
+pub some-core : Core
 some-core = record { parent = digest genesis_core; height = 1; justify_height = 0; commands = [] }
 
-some-core-is : (s : Sizes) → IsCore s some-core
+pub some-core-is : (s : Sizes) → IsCore s some-core
 unfolding some-core
 some-core-is s = record {
   parent = IsDigest-digest genesis_core;
@@ -172,7 +168,8 @@ module _ (Known : Core → Type 0) (w : World) (g : IsReached Known w) (r : ℕ)
       by true n i =
           let k : record { block = just1 a.branch; certificate = a.certificate } ≡ p = cc in
           subst (λ (j : Justified). IsCertifiedIn w j.block) k
-          (taken a (subst (λ (l : List Admitted). Among a l) (sym (cond-true a.new (a ∷ taken_blocks d) (taken_blocks d) n))
+          (taken a (subst (λ (l : List Admitted). Among a l) (sym (cond-true a.new (a ∷ taken_blocks d)
+          (taken_blocks d) n))
           (inl refl)))
       by false n i = absurd (none-some p i)
 
@@ -188,19 +185,19 @@ module _ (Known : Core → Type 0) (w : World) (g : IsReached Known w) (r : ℕ)
       (Some (record { block = b; certificate = record { digest = digest_of b; votes = by_voter bs } })) None
       (λ (o : Option Justified). o ≡ Some p → IsCertifiedIn w p.block)
       (λ t i.
-        let k : record { block = b; certificate = record { digest = digest_of b; votes = by_voter bs } } ≡ p = cc in
-        let block : b ≡ p.block = ap (λ (j : Justified). j.block) k in
-        let many = eqb-true (length bs) (quorum w.sizes) (and_parts _ _ t).1 in
-        let long = length-by_voter bs in
-        elim (cases_lt 0 (length p.block)) [
-          | inl h ↦ (elim (is.kept h) [
-            | inl good ↦ good-certifies p.certificate p.block is.certificate_is good is.justified
-                (subst (λ (z : Branch). Among z (tree (chronicle_of w r))) block (grown b there)) all
-            | inr none ↦ absurd (let m = ap (λ (l : List Vote). length l) none in
-                let n = ap (λ (j : Justified). length j.certificate.votes) k in omega (arith, m, n, many, long))
-          ])
-          | inr z ↦ inl (nil p.block (omega (arith, z)))
+      let k : record { block = b; certificate = record { digest = digest_of b; votes = by_voter bs } } ≡ p = cc in
+      let block : b ≡ p.block = ap (λ (j : Justified). j.block) k in
+      let many = eqb-true (length bs) (quorum w.sizes) (and_parts _ _ t).1 in
+      let long = length-by_voter bs in
+      elim (cases_lt 0 (length p.block)) [
+        | inl h ↦ (elim (is.kept h) [
+          | inl good ↦ good-certifies p.certificate p.block is.certificate_is good is.justified
+              (subst (λ (z : Branch). Among z (tree (chronicle_of w r))) block (grown b there)) all
+          | inr none ↦ absurd (let m = ap (λ (l : List Vote). length l) none in
+              let n = ap (λ (j : Justified). length j.certificate.votes) k in omega (arith, m, n, many, long))
         ])
+        | inr z ↦ inl (nil p.block (omega (arith, z)))
+      ])
       (λ n i. absurd (none-some p i)) e
 
   view-certified : (v sender : ℕ) (q : Certificate) (b : Branch) (d : Chronicle) (p : Justified)

@@ -1,26 +1,26 @@
 -- A step that leads was due to what may be led from.
 use Rattle.ids.specs.declared.limits.TheConstants.{MOST_BLOCKS}
-use Rattle.std.proofs.Common.{ℕ, ◌≡◌, ◌&&◌, not, Bool, true, false, List, [], ◌∷◌, refl, sym, subst, length, nat_lt}
-use Rattle.std.proofs.Common.{Option, Some, None, suc, ◌==◌}
+use Rattle.std.proofs.Common.{ℕ, ◌≡◌, ◌&&◌, not, true, List, subst, length, nat_lt}
+use Rattle.std.proofs.Common.{Option, Some, None, suc}
 use Rattle.std.specs.Bool.{⊤}
 use Rattle.std.specs.List.{list_any}
 use Rattle.std.proofs.lemmas.Bool.{cond_both}
-use Rattle.ids.specs.Sizes.{quorum}
 use Rattle.definitions.specs.Bytes.{Bytes}
-use Rattle.definitions.specs.Branches.{Branch, just1, branch_eq}
-use Rattle.definitions.specs.Chronicles.{Admitted, Chronicle, Step, Step.took_block, Step.noted, Note.led_from}
+use Rattle.definitions.specs.Branches.{Branch}
+use Rattle.definitions.specs.Chronicles.{Admitted, Chronicle, Step, Step.noted, Note.led_from}
 use Rattle.definitions.specs.Chronicles.{Note.got_vote, Note.got_new_view}
 use Rattle.definitions.specs.Chronicles.{history, horizon, window}
 use Rattle.definitions.specs.Checks.{Identity, Findings}
 use Rattle.definitions.specs.Frames.{Core, Certificate, Command, Vote}
-use Rattle.definitions.specs.Grounds.{may_lead_from, are_replicas, is_justified, is_own_certified, grounded, own_counted}
+use Rattle.definitions.specs.Grounds.{may_lead_from, are_replicas, grounded}
 use Rattle.definitions.specs.Rulings.{Input, Ruling, Ruling.due, Input.proposal_in, Input.block_in, Input.vote_in}
 use Rattle.definitions.specs.Rulings.{Input.new_view_in, Input.request_in, Input.fetch_in, Input.timeout_in}
 use Rattle.definitions.specs.Rulings.{Input.beat_in, Input.prune_in, Input.offered_in, Input.relayed_in}
 use Rattle.definitions.specs.Rulings.{Input.lead_in, Input.ask_in, Input.view_in, admitted, on_placing, on_offer}
 use Rattle.definitions.specs.Rulings.{on_relay, on_request, take_grounded, lead, with_block, ruling}
-use Rattle.definitions.specs.States.{find_block, is_due, is_same_request, pending, qc_high}
-use Rattle.definitions.specs.Trees.{Placing, Placing.stands, Placing.grows, Placing.lacks_parent, Placing.unfit, placing}
+use Rattle.definitions.specs.States.{find_block, is_due, is_same_request, pending}
+use Rattle.definitions.specs.Trees.{Placing, Placing.stands, Placing.grows, Placing.lacks_parent}
+use Rattle.definitions.specs.Trees.{Placing.unfit, placing}
 use Rattle.linear_law.proofs.Inputs.{AllStanding}
 use Rattle.recovery.proofs.Ruled.{WasDue}
 

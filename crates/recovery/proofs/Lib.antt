@@ -24,3 +24,6 @@ mod Bursts
 mod SentVotes
 mod Counting
 mod Voting
+mod Tallied
+mod Rounds
+mod Beginnings

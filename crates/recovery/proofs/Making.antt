@@ -1,56 +1,55 @@
 -- A leader makes blocks, and takes each.
 use Rattle.ids.specs.declared.limits.TheConstants.{HEIGHT_LIMIT, MOST_COMMANDS}
-use Rattle.std.proofs.Common.{ℕ, zero, suc, ◌≡◌, ◌<◌, ◌≤◌, ◌+◌, ◌⊎◌, ◌==◌, ◌&&◌, ◌||◌, not, Bool, true, false, cond}
-use Rattle.std.proofs.Common.{List, [], ◌∷◌, ◌++◌, map, filter, take, reverse, length, drop, refl, sym, ap, subst, ◌∙◌}
+use Rattle.std.proofs.Common.{ℕ, zero, suc, ◌≡◌, ◌<◌, ◌+◌, ◌&&◌, ◌||◌, not, Bool, true, false, cond}
+use Rattle.std.proofs.Common.{List, [], ◌∷◌, ◌++◌, map, length, drop, refl, sym, ap, subst, ◌∙◌}
 use Rattle.std.proofs.Common.{arith, inl, inr, nat_lt, Option, Some, None, option_map, slice_get}
 use Rattle.std.specs.Prelude.{is_some}
-use Rattle.std.specs.List.{list_all, list_any}
-use Rattle.std.proofs.lemmas.Bool.{cond-true, cond-false, cond_both, and_from, and_parts, eq-eqb, ne_eqb, cases_eq, cases_lt}
-use Rattle.std.proofs.lemmas.Bool.{or_cases, ltb-true}
+use Rattle.std.specs.List.{list_all}
+use Rattle.std.proofs.lemmas.Bool.{cond-true, cond-false, cond_both, and_from, and_parts, eq-eqb, cases_lt}
 use Rattle.std.proofs.lemmas.List.{append-nil, append_assoc, length-append}
 use Rattle.std.proofs.Math.Seq.{drop-append_seam}
 use Rattle.ids.specs.Sizes.{Sizes, leader}
 use Rattle.definitions.specs.Lists.{Among}
-use Rattle.definitions.specs.Branches.{Block, Branch, branch_eq, just1, IsBranch}
-use Rattle.definitions.specs.Checks.{Identity, command_verifies, cut}
-use Rattle.definitions.specs.Chronicles.{Admitted, Chronicle, Step, Step.took_block, Step.noted, Note.beat, taken_blocks}
-use Rattle.definitions.specs.Chronicles.{voted_blocks, vheight, horizon, history, executed, decided, window, lock}
+use Rattle.definitions.specs.Branches.{Block, Branch, just1, IsBranch}
+use Rattle.definitions.specs.Checks.{Identity, command_verifies}
+use Rattle.definitions.specs.Chronicles.{Admitted, Chronicle, Step.took_block, Step.noted, Note.beat, taken_blocks}
+use Rattle.definitions.specs.Chronicles.{voted_blocks, vheight, horizon, history, window, lock}
 use Rattle.definitions.specs.Chronicles.{standing_blocks, stored_blocks}
 use Rattle.definitions.specs.Digests.{digest_of}
-use Rattle.definitions.specs.Frames.{Command, Core, Frame}
-use Rattle.definitions.specs.Frames as frame
+use Rattle.definitions.specs.Frames.{Command, Frame}
 use Rattle.definitions.specs.Grounds.{is_justified, is_own_certified, own_counted}
-use Rattle.definitions.specs.Histories.{Answer, history_of, answers}
+use Rattle.definitions.specs.Histories.{Answer}
 use Rattle.definitions.specs.Replicas.{MemorySupply.ample, Replica, Standing.running}
 use Rattle.definitions.specs.Rulings.{Input.beat_in, ruling}
-use Rattle.definitions.specs.Sendings.{Sending, To, To.to_all, To.to_party, sendings, proposal_frame, proposes, vote_frame}
+use Rattle.definitions.specs.Sendings.{Sending, To.to_all, To.to_party, sendings, proposal_frame, proposes}
+use Rattle.definitions.specs.Sendings.{vote_frame}
 use Rattle.definitions.specs.Sendings.{reply_to, new_replies}
-use Rattle.definitions.specs.States.{Justified, me, view, leads, votes, raised, fills, comes_whole, higher, qc_high, pending}
-use Rattle.definitions.specs.States.{is_due, with_request, picks, find_block, is_known, known_as, child, or_else, leaf}
+use Rattle.definitions.specs.States.{Justified, me, view, leads, votes, raised, fills, higher, qc_high, pending}
+use Rattle.definitions.specs.States.{is_due, picks, find_block, is_known, known_as, child, or_else, leaf}
 use Rattle.definitions.specs.States.{proposed, made_with}
-use Rattle.definitions.specs.Worlds.{World, Sent, Event.beat, Event.offer, Happening, Source.of_record, is_correct, is_replica}
-use Rattle.definitions.specs.Worlds.{self_of, put}
+use Rattle.definitions.specs.Worlds.{World, Sent, Event.beat, Event.offer, Happening, Source.of_record}
+use Rattle.definitions.specs.Worlds.{is_correct, is_replica}
+use Rattle.definitions.specs.Worlds.{self_of}
 use Rattle.definitions.specs.Runs.{refusal, after}
-use Rattle.definitions.specs.Events.{happens, recorded, acts, party_of, steps}
-use Rattle.definitions.proofs.Lists.{Among-take, Among-filter, Among-after, Among-before}
-use Rattle.definitions.proofs.Branches.{branch_eq-decides}
+use Rattle.definitions.specs.Events.{happens, recorded, acts, party_of}
+use Rattle.definitions.proofs.Lists.{Among-take, Among-filter, Among-after}
 use Rattle.definitions.proofs.Trees.{found-itself}
 use Rattle.linear_law.proofs.Runs.{member-faulty}
 use Rattle.linear_law.proofs.MadeCertificates.{qc_high-is}
-use Rattle.recovery.specs.Correct.{OfCorrect, AllGoOn, ShareKeys, chronicle_of, view_of, amply}
+use Rattle.recovery.specs.Correct.{ShareKeys, chronicle_of, amply}
 use Rattle.recovery.specs.Healing.{in_turn, numbers_of, sent_since, is_proposal, offered_to, make_block, make_blocks}
-use Rattle.recovery.specs.Law.{Climbs, Leads, IsProposalOf, high_of}
+use Rattle.recovery.specs.Law.{Climbs, Leads, high_of}
 use Rattle.recovery.proofs.Copies.{correct-party}
 use Rattle.recovery.proofs.Decided.{justifies-below}
-use Rattle.recovery.proofs.Offers.{GoesOn, IsMade, Chain, chain-later, chain-up, chain-end, IsOffered, offer-one}
+use Rattle.recovery.proofs.Offers.{GoesOn, IsMade, Chain, chain-later, chain-up, chain-end, offer-one}
 use Rattle.recovery.proofs.Offers.{row-own, row-other, recorded-later, made-later, offer-goes}
-use Rattle.recovery.proofs.Offers.{IsStill, still-none, still-both, still-took}
+use Rattle.recovery.proofs.Offers.{IsStill, still-none, still-both, still-wider, still-took}
 use Rattle.recovery.proofs.Climbing.{voted-low, voted-now}
 use Rattle.definitions.proofs.Chronicles.{voted-grows}
-use Rattle.recovery.proofs.Steps.{going, outs, TookStep, HandsIn, step-stood, frame-behind}
+use Rattle.recovery.proofs.Steps.{outs, TookStep, HandsIn, step-stood, frame-behind}
 use Rattle.recovery.proofs.Ways.{IsOnWay, KnownAt, on-way, way-on, way-past}
-use Rattle.recovery.proofs.Wells.{IsReached, sound-of, stored-of}
-use Rattle.recovery.proofs.Worlds.{IsMadeAs, made-both, keys-in, same-correct, same-self, Passes, passes-none, passes-one}
+use Rattle.recovery.proofs.Wells.{sound-of, stored-of}
+use Rattle.recovery.proofs.Worlds.{made-both, keys-in, same-correct, same-self, Passes, passes-none, passes-one}
 use Rattle.recovery.proofs.Worlds.{named, passes-append, after-append}
 
 -- ---- the block that a beat makes
@@ -94,7 +93,8 @@ all-from : {A : Type 0} (p : A → Bool) (xs : List A) → ((x : A) → Among x 
 all-from p [] h = refl
 all-from p (x ∷ xs) h = and_from _ _ (h x (inl refl)) (all-from p xs (λ y m. h y (inr m)))
 
-made-waits : (self : Identity) (c : Chronicle) (k : Command) → Among k (made-block self c).commands → Among k (pending c)
+made-waits : (self : Identity) (c : Chronicle) (k : Command) → Among k (made-block self c).commands → Among k
+    (pending c)
 unfolding made-block picks
 made-waits self c k m = (Among-filter _ (pending c) k (Among-take MOST_COMMANDS _ k m)).0
 
@@ -103,7 +103,8 @@ made-waits self c k m = (Among-filter _ (pending c) k (Among-take MOST_COMMANDS 
 -- a climber whose taken blocks, horizon, votes and view are the same
 climbs-told : (self : Identity) (v : ℕ) (m y : Branch) (room : ℕ) (c : Chronicle) → Climbs self v m y room c
     → Climbs self v m y room (noted beat ∷ c)
-unfolding view window horizon standing_blocks stored_blocks taken_blocks lock is_justified is_own_certified own_counted qc_high raised
+unfolding view window horizon standing_blocks stored_blocks taken_blocks lock is_justified is_own_certified
+    own_counted qc_high raised
 climbs-told self v m y room c k = record {
   in_view = k.in_view;
   stands = k.stands;
@@ -155,9 +156,9 @@ took-leaf self a c e =
     not-higher n k h = grind (arith, h)
 
 -- nor does it raise anything
-still-beat : (s : Sizes) (m : Branch) (c : Chronicle) → IsStill s m c (noted beat ∷ c)
-unfolding votes qc_high raised
-still-beat s m c = record { votes_are = λ x. refl; low = λ n h k. k }
+still-beat : (s : Sizes) (m : Branch) (top : ℕ) (c : Chronicle) → IsStill s m top c (noted beat ∷ c)
+unfolding votes qc_high raised vheight voted_blocks
+still-beat s m top c = record { votes_are = λ x. refl; low = λ n h k. k; voted_low = λ n h k. k }
 
 -- a beat votes for nothing
 beat-low : (c : Chronicle) (n : ℕ) → vheight c < n → vheight (noted beat ∷ c) < n
@@ -173,7 +174,8 @@ numbers-none p w r [] h k = refl
 numbers-none p w r (o ∷ os) h k =
     cond-false (p o.1) _ _ (h o (inl refl)) ∙ numbers-none p w r os (λ x m. h x (inr m)) (suc k)
 
-reply-no : (self : Identity) (told : List Answer) (o : Sending) → Among o (map (reply_to self) told) → is_proposal o.1 ≡ false
+reply-no : (self : Identity) (told : List Answer) (o : Sending) → Among o (map (reply_to self) told)
+    → is_proposal o.1 ≡ false
 unfolding reply_to is_proposal
 reply-no self [] o m = absurd m
 reply-no self (a ∷ told) o (inl e) = ap (λ (x : Sending). is_proposal x.1) e
@@ -223,7 +225,8 @@ up-is (suc n) room = let h = up-is n room in omega (arith, h)
 
 -- ---- one block
 
-beat-hands : (w : World) (l : ℕ) → is_correct w l ≡ true → (w.replica l).standing ≡ running → HandsIn w (beat l) l beat_in
+beat-hands : (w : World) (l : ℕ) → is_correct w l ≡ true → (w.replica l).standing ≡ running → HandsIn w
+    (beat l) l beat_in
 unfolding acts party_of
 beat-hands w l c s = record { party = refl; correct = c; goes_on = s; acting = refl }
 
@@ -242,7 +245,8 @@ pub record MadeOne (w next : World) (l v : ℕ) (m : Branch) (room : ℕ) (b : B
   pub kept : (x : Branch) → Among x (voted_blocks (chronicle_of w l)) → Among x (voted_blocks (chronicle_of next l))
   pub low : (n : ℕ) → vheight (chronicle_of w l) < n → suc (length (leaf (self_of w l) (chronicle_of w l))) < n
       → vheight (chronicle_of next l) < n
-  pub still : IsStill w.sizes m (chronicle_of w l) (chronicle_of next l)
+  pub still : IsStill w.sizes m (suc (length (leaf (self_of w l) (chronicle_of w l)))) (chronicle_of w l)
+      (chronicle_of next l)
 
 module _ (sizes : Sizes) (start : World) (all : List Happening) (l v : ℕ) (m : Branch) (br : IsBranch m) where
   -- after the beat
@@ -389,8 +393,8 @@ module _ (sizes : Sizes) (start : World) (all : List Happening) (l v : ℕ) (m :
       (subst (λ (x : Chronicle). Climbs (self_of one l) v m (b ∷ z) room x)
       (sym (ap (λ (x : Replica). x.chronicle) own2)) o.climbs)) in (
         subst (Passes w) (sym is)
-        (passes-one w (beat l, ample) ((offer l (of_record k), ample) ∷ []) h.passes
-        (passes-one one (offer l (of_record k), ample) [] got.0 (passes-none two))),
+            (passes-one w (beat l, ample) ((offer l (of_record k), ample) ∷ []) h.passes
+            (passes-one one (offer l (of_record k), ample) [] got.0 (passes-none two))),
         subst (λ (x : List Happening). MadeOne w (after w x) l v m room b) (sym is) (record {
           goes = goes;
           others = λ j n. row-other one two l (took_block a) o.step j n ∙ row-other w one l (noted beat) h.step j n;
@@ -418,10 +422,11 @@ module _ (sizes : Sizes) (start : World) (all : List Happening) (l v : ℕ) (m :
           low = λ n low top. subst (λ (y : Chronicle). vheight y < n) (sym own)
               (voted-low (noted beat ∷ ch) a n (beat-low ch n low)
               (let e = ap (λ (x : Branch). length x) o.branch in omega (arith, e, top)));
-          still = subst (IsStill w.sizes m ch) (sym own)
-              (still-both w.sizes m ch (noted beat ∷ ch) c2 (still-beat w.sizes m ch)
-              (still-took w.sizes m (noted beat ∷ ch) a
-              (ap just1 o.branch ∙ justifies-below b z m over h.made.justify)));
+          still = subst (IsStill w.sizes m (suc (length z)) ch) (sym own)
+              (still-both w.sizes m (suc (length z)) ch (noted beat ∷ ch) c2 (still-beat w.sizes m (suc (length z)) ch)
+              (still-took w.sizes m (suc (length z)) (noted beat ∷ ch) a
+              (ap just1 o.branch ∙ justifies-below b z m over h.made.justify)
+              (let e = ap (λ (x : Branch). length x) o.branch in omega (arith, e))));
         }),
       )
 
@@ -443,10 +448,12 @@ module _ (sizes : Sizes) (start : World) (all : List Happening) (l v : ℕ) (m :
     pub voted : 0 < n → vheight (chronicle_of w l) < length (leaf (self_of next l) (chronicle_of next l))
         → Among (leaf (self_of next l) (chronicle_of next l)) (voted_blocks (chronicle_of next l))
     pub kept : (x : Branch) → Among x (voted_blocks (chronicle_of w l)) → Among x (voted_blocks (chronicle_of next l))
-    pub still : IsStill w.sizes m (chronicle_of w l) (chronicle_of next l)
+    pub still : IsStill w.sizes m (length (leaf (self_of next l) (chronicle_of next l))) (chronicle_of w l)
+        (chronicle_of next l)
 
   -- a first block, and then the others
-  made-more : (w mid next : World) (room room2 n : ℕ) (b : Block) → MadeOne w mid l v m room b → MadeAll mid next room2 n
+  made-more : (w mid next : World) (room room2 n : ℕ) (b : Block) → MadeOne w mid l v m room b
+      → MadeAll mid next room2 n
       → MadeAll w next room2 (suc n)
   unfolding Chain
   made-more w mid next room room2 n b one rest =
@@ -475,8 +482,14 @@ module _ (sizes : Sizes) (start : World) (all : List Happening) (l v : ℕ) (m :
         numbers = numbers-both is_proposal one.goes.more rest.goes.more k
             ∙ ((λ i. one.numbers i ++ numbers_of is_proposal (sym long i) rest.goes.more)
             ∙ ap (λ (x : List ℕ). k ∷ x) rest.numbers);
-        chain = (first.0, first.1, first.2, first.3, subst (λ (x : Branch). Chain next v m x rest.ks last)
-            (one.leaf_is ∙ sym first.4) rest.chain);
+        chain = (
+          first.0,
+          first.1,
+          first.2,
+          first.3,
+          subst (λ (x : Branch). Chain next v m x rest.ks last)
+              (one.leaf_is ∙ sym first.4) rest.chain,
+        );
         voted = λ p h. elim (cases_lt 0 n) [
           | inl q ↦ rest.voted q (one.low (length last) h (omega (arith, up, mids, count, q)))
           | inr y ↦
@@ -487,8 +500,11 @@ module _ (sizes : Sizes) (start : World) (all : List Happening) (l v : ℕ) (m :
               (sym one.leaf_is ∙ e) (one.voted (omega (arith, h, le, mids))))
         ];
         kept = λ x q. rest.kept x (one.kept x q);
-        still = still-both w.sizes m (chronicle_of w l) (chronicle_of mid l) (chronicle_of next l) one.still
-            (subst (λ (s : Sizes). IsStill s m (chronicle_of mid l) (chronicle_of next l)) one.goes.made.sizes rest.still);
+        still = still-both w.sizes m (length last) (chronicle_of w l) (chronicle_of mid l) (chronicle_of next l)
+            (still-wider w.sizes m (suc (length z)) (length last) (chronicle_of w l) (chronicle_of mid l)
+            (omega (arith, up, mids)) one.still)
+            (subst (λ (s : Sizes). IsStill s m (length last) (chronicle_of mid l) (chronicle_of next l))
+            one.goes.made.sizes rest.still);
       }
 
   pub made-all : (n : ℕ) (w : World) (rest : List Happening) (room : ℕ)
@@ -497,24 +513,27 @@ module _ (sizes : Sizes) (start : World) (all : List Happening) (l v : ℕ) (m :
       → length (leaf (self_of w l) (chronicle_of w l)) + n < HEIGHT_LIMIT
       → Passes w (make_blocks n l w) × MadeAll w (after w (make_blocks n l w)) room n
   unfolding make_blocks in_turn Chain numbers_of up after
-  made-all zero w rest room on keys c s lead top = (passes-none w, record {
-    goes = record {
-      made = record { sizes = refl; faulty = refl; ring = refl };
-      more = [];
-      sent = sym (append-nil w.sent);
-      session = refl;
-    };
-    others = λ j n. refl;
-    going_on = s;
-    leads_on = lead;
-    ks = [];
-    count = refl;
-    numbers = refl;
-    chain = refl;
-    voted = λ p h. absurd (omega (arith, p));
-    kept = λ x q. q;
-    still = still-none w.sizes m (chronicle_of w l);
-  })
+  made-all zero w rest room on keys c s lead top = (
+    passes-none w,
+    record {
+      goes = record {
+        made = record { sizes = refl; faulty = refl; ring = refl };
+        more = [];
+        sent = sym (append-nil w.sent);
+        session = refl;
+      };
+      others = λ j n. refl;
+      going_on = s;
+      leads_on = lead;
+      ks = [];
+      count = refl;
+      numbers = refl;
+      chain = refl;
+      voted = λ p h. absurd (omega (arith, p));
+      kept = λ x q. q;
+      still = still-none w.sizes m (length (leaf (self_of w l) (chronicle_of w l))) (chronicle_of w l);
+    },
+  )
   made-all (suc n) w rest room on keys c s lead top =
       let here : List Happening = make_block l w in
       let mid : World = after w here in
@@ -531,5 +550,5 @@ module _ (sizes : Sizes) (start : World) (all : List Happening) (l v : ℕ) (m :
       o.going_on o.leads_on (omega (arith, top, e)) in (
         subst (Passes w) (sym is) (passes-append w here later one.0 more.0),
         subst (λ (z : World). MadeAll w z room (suc n)) (sym (ap (after w) is ∙ after-append w here later))
-        (made-more w mid (after mid later) (up n room) room n _ o more.1),
+            (made-more w mid (after mid later) (up n room) room n _ o more.1),
       )

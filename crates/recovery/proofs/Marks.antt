@@ -1,7 +1,6 @@
 -- A block stands as a clear one exactly where its commands verify.
-use Rattle.std.proofs.Common.{ℕ, ◌≡◌, ◌&&◌, Bool, true, false, List, [], ◌∷◌, refl, sym, ap, subst, ◌∙◌, inl, inr, arith}
-use Rattle.std.proofs.Common.{length, map}
-use Rattle.std.specs.List.{list_all, list_any}
+use Rattle.std.proofs.Common.{◌≡◌, ◌&&◌, true, [], ◌∷◌, sym, ap, subst, ◌∙◌, inl, inr}
+use Rattle.std.specs.List.{list_all}
 use Rattle.std.proofs.lemmas.Bool.{and_from}
 use Rattle.definitions.specs.Lists.{Among}
 use Rattle.definitions.specs.Branches.{Block, Branch, branch_eq}
@@ -10,20 +9,17 @@ use Rattle.definitions.specs.Chronicles.{standing_blocks, stored_blocks, stored_
 use Rattle.definitions.specs.Checks.{Identity, Findings, findings, is_clear_core, command_verifies}
 use Rattle.definitions.specs.Digests.{core_of, core_over}
 use Rattle.definitions.specs.Frames.{Core, Certificate}
-use Rattle.definitions.specs.Rulings.{Input, Ruling, Ruling.due, ruling, Input.proposal_in, Input.block_in, Input.vote_in}
+use Rattle.definitions.specs.Rulings.{Input, Input.proposal_in, Input.block_in, Input.vote_in}
 use Rattle.definitions.specs.Rulings.{Input.new_view_in, Input.request_in, Input.fetch_in, Input.timeout_in}
 use Rattle.definitions.specs.Rulings.{Input.beat_in, Input.prune_in, Input.offered_in, Input.relayed_in}
 use Rattle.definitions.specs.Rulings.{Input.lead_in, Input.ask_in, Input.view_in}
 use Rattle.definitions.specs.Trees.{Stored, is_clear, is_in_reach}
-use Rattle.definitions.specs.Worlds.{World, is_correct, self_of}
 use Rattle.definitions.proofs.Lists.{Among-map, Among-filter, any-from}
 use Rattle.definitions.proofs.Branches.{branch_eq-decides}
 use Rattle.definitions.proofs.Chronicles.{taken-now}
 use Rattle.definitions.proofs.Windows.{block-stored}
 use Rattle.linear_law.proofs.Inputs.{Carries, FromInput, AllStanding, ruling-from}
-use Rattle.recovery.specs.Correct.{chronicle_of}
 use Rattle.recovery.proofs.Ruled.{IsFound, WasDue, AreRuled}
-use Rattle.recovery.proofs.Wells.{IsReached}
 
 -- what an input carries is what was found
 carried-found : (self : Identity) (i : Input) (core : Core) (q : Certificate) (f : Findings) → Carries i core q f
@@ -47,7 +43,8 @@ carried-found self (view_in w s) core q f h e = absurd h
 due-mark : (self : Identity) (a : Admitted) (c : Chronicle) → WasDue self (took_block a) c → a.new ≡ true
     → a.clear ≡ is_clear_core self (core_of a.branch)
 due-mark self a c d n =
-    let r : FromInput self c d.0 (took_block a) = subst (AllStanding (FromInput self c d.0)) d.2 (ruling-from self d.0 c) in
+    let r : FromInput self c d.0 (took_block a) = subst (AllStanding (FromInput self c d.0)) d.2
+    (ruling-from self d.0 c) in
     let t = r.4 in
     t.clear_is
     ∙ (ap (λ (f : Findings). f.clear) (carried-found self d.0 r.0 r.1 r.2 r.3 d.1)

@@ -1,9 +1,9 @@
 -- A leader's blocks are offered to a replica, one after the other.
 use Rattle.ids.specs.declared.limits.TheConstants.{HEIGHT_LIMIT}
-use Rattle.std.proofs.Common.{ℕ, zero, suc, ◌≡◌, ◌<◌, ◌≤◌, ◌+◌, ◌⊎◌, ◌==◌, ◌&&◌, ◌||◌, not, Bool, true, false, cond, List, [], ◌∷◌}
-use Rattle.std.proofs.Common.{◌++◌, map, length, refl, sym, ap, subst, ◌∙◌, arith, inl, inr, nat_lt, Option, Some, None}
+use Rattle.std.proofs.Common.{ℕ, zero, suc, ◌≡◌, ◌<◌, ◌≤◌, ◌+◌, ◌==◌, ◌&&◌, ◌||◌, not, Bool, true, false}
+use Rattle.std.proofs.Common.{cond, List, [], ◌∷◌}
+use Rattle.std.proofs.Common.{◌++◌, map, length, refl, sym, ap, subst, ◌∙◌, arith, inl, inr, nat_lt, Some, None}
 use Rattle.std.proofs.Common.{option_map, slice_get}
-use Rattle.std.specs.Bool.{⊤}
 use Rattle.std.specs.List.{list_all}
 use Rattle.std.proofs.lemmas.Bool.{cond-true, cond-false, cond_both, and_parts, eq-eqb, ne_eqb, lt-ltb, cases_lt}
 use Rattle.std.proofs.lemmas.List.{append-nil, append_assoc}
@@ -11,16 +11,16 @@ use Rattle.ids.specs.Sizes.{Sizes, leader}
 use Rattle.definitions.specs.Lists.{Among}
 use Rattle.definitions.specs.Branches.{Block, Branch, just1, IsBranch}
 use Rattle.definitions.specs.Checks.{Identity, command_verifies}
-use Rattle.definitions.specs.Chronicles.{Admitted, Chronicle, Step, Step.took_block, voted_blocks, vheight, standing_blocks}
-use Rattle.definitions.specs.Frames.{Core, Frame}
+use Rattle.definitions.specs.Chronicles.{Admitted, Chronicle, Step, Step.took_block, voted_blocks, vheight}
+use Rattle.definitions.specs.Chronicles.{standing_blocks}
+use Rattle.definitions.specs.Frames.{Frame}
 use Rattle.definitions.specs.Grounds.{is_justified, is_own_certified}
 use Rattle.definitions.specs.Sendings.{sendings, proposal_frame}
 use Rattle.definitions.specs.States.{Justified, votes, raised, fills, higher, qc_high}
 use Rattle.definitions.specs.Trees.{clear_above}
 use Rattle.definitions.specs.Replicas.{MemorySupply.ample, Replica, Standing.running}
-use Rattle.definitions.specs.Rulings.{ruling}
-use Rattle.definitions.specs.Worlds.{World, Sent, Event, Event.offer, Happening, Source.of_record, is_correct, is_replica}
-use Rattle.definitions.specs.Worlds.{self_of, put}
+use Rattle.definitions.specs.Worlds.{World, Sent, Event.offer, Happening, Source.of_record, is_correct, is_replica}
+use Rattle.definitions.specs.Worlds.{self_of}
 use Rattle.definitions.specs.Runs.{refusal, after}
 use Rattle.definitions.specs.Events.{happens, recorded}
 use Rattle.definitions.proofs.Lists.{Among-before}
@@ -35,7 +35,8 @@ use Rattle.recovery.proofs.Marks.{stands-clear}
 use Rattle.recovery.proofs.Proposals.{MayVote, proposal-known}
 use Rattle.recovery.proofs.Steps.{going, outs, TookStep, step-stood}
 use Rattle.recovery.proofs.Ways.{IsOnWay, KnownAt, on-way, way-on}
-use Rattle.recovery.proofs.Worlds.{IsMadeAs, made-both, keys-in, same-correct, same-self, Passes, passes-none, passes-one}
+use Rattle.recovery.proofs.Worlds.{IsMadeAs, made-both, keys-in, same-correct, same-self, Passes, passes-none}
+use Rattle.recovery.proofs.Worlds.{passes-one}
 use Rattle.recovery.proofs.Worlds.{named}
 
 -- ---- worlds that go on
@@ -79,7 +80,8 @@ recorded-later w next g k f e =
     ap (λ (l : List Sent). option_map (λ s. s.frame) (slice_get l k)) g.sent ∙ slice-later w.sent g.more k f e
 
 -- and stands below the record's length
-pub slice-there : (xs : List Sent) (k : ℕ) (f : Frame) → option_map (λ s. s.frame) (slice_get xs k) ≡ Some f → k < length xs
+pub slice-there : (xs : List Sent) (k : ℕ) (f : Frame) → option_map (λ s. s.frame) (slice_get xs k) ≡ Some f
+    → k < length xs
 slice-there [] k f e = absurd (none e)
   where
     none : None ≡ Some f → ⊥
@@ -105,7 +107,8 @@ made-later w next g v m y b f h =
       proposal = record {
         correct = ap (is_correct next) l ∙ (same-correct w next g.made (leader w.sizes v) ∙ p.correct);
         sent = p.sent;
-        recorded = subst (λ (r : List Sent). Among p.sent r) (sym g.sent) (Among-before p.sent w.sent g.more p.recorded);
+        recorded = subst (λ (r : List Sent). Among p.sent r) (sym g.sent)
+            (Among-before p.sent w.sent g.more p.recorded);
         made = p.made;
         is = p.is ∙ ((λ k. proposal_frame (sym (same-self w next g.made (leader w.sizes v)) k) v p.made)
             ∙ ap (λ (i : ℕ). proposal_frame (self_of next i) v p.made) (sym l));
@@ -205,22 +208,40 @@ module _ (sizes : Sizes) (start : World) (all : List Happening) where
 
 -- ---- what is still
 
--- the kept votes are the same, and the highest certificate is no higher than it was, or than m
-pub record IsStill (s : Sizes) (m : Branch) (before now : Chronicle) : Type 0 where
+-- the kept votes are the same; the highest certificate is no higher than it was, or than m; and what was voted for is
+-- no higher than before, or than this
+pub record IsStill (s : Sizes) (m : Branch) (top : ℕ) (before now : Chronicle) : Type 0 where
   pub votes_are : (x : Branch) → votes s x now ≡ votes s x before
   pub low : (n : ℕ) → length m < n → length (qc_high s before).block < n → length (qc_high s now).block < n
+  pub voted_low : (n : ℕ) → top < n → vheight before < n → vheight now < n
 
-pub still-none : (s : Sizes) (m : Branch) (c : Chronicle) → IsStill s m c c
-still-none s m c = record { votes_are = λ x. refl; low = λ n h k. k }
+pub still-none : (s : Sizes) (m : Branch) (top : ℕ) (c : Chronicle) → IsStill s m top c c
+still-none s m top c = record { votes_are = λ x. refl; low = λ n h k. k; voted_low = λ n h k. k }
 
-pub still-both : (s : Sizes) (m : Branch) (a b c : Chronicle) → IsStill s m a b → IsStill s m b c → IsStill s m a c
-still-both s m a b c h k =
-    record { votes_are = λ x. k.votes_are x ∙ h.votes_are x; low = λ n l i. k.low n l (h.low n l i) }
+pub still-both : (s : Sizes) (m : Branch) (top : ℕ) (a b c : Chronicle) → IsStill s m top a b → IsStill s m top b c
+    → IsStill s m top a c
+still-both s m top a b c h k = record {
+  votes_are = λ x. k.votes_are x ∙ h.votes_are x;
+  low = λ n l i. k.low n l (h.low n l i);
+  voted_low = λ n l i. k.voted_low n l (h.voted_low n l i);
+}
 
-pub still-took : (s : Sizes) (m : Branch) (c : Chronicle) (a : Admitted) → just1 a.branch ≡ m
-    → IsStill s m c (took_block a ∷ c)
+pub still-wider : (s : Sizes) (m : Branch) (top more : ℕ) (a b : Chronicle) → top ≤ more → IsStill s m top a b
+    → IsStill s m more a b
+still-wider s m top more a b l h = record {
+  votes_are = h.votes_are;
+  low = h.low;
+  voted_low = λ n k i. h.voted_low n (omega (arith, l, k)) i;
+}
+
+pub still-took : (s : Sizes) (m : Branch) (top : ℕ) (c : Chronicle) (a : Admitted) → just1 a.branch ≡ m
+    → length a.branch ≤ top → IsStill s m top c (took_block a ∷ c)
 unfolding votes qc_high raised
-still-took s m c a e = record { votes_are = λ x. refl; low = λ n h k. by a.new n h k }
+still-took s m top c a e t = record {
+  votes_are = λ x. refl;
+  low = λ n h k. by a.new n h k;
+  voted_low = λ n h k. voted-low c a n k (omega (arith, h, t));
+}
   where
     p : Justified
     p = record { block = just1 a.branch; certificate = a.certificate }
@@ -252,7 +273,7 @@ pub record OfferedAll (w next : World) (r v : ℕ) (m last : Branch) (room : ℕ
   pub voted : vheight (chronicle_of w r) < length last → 0 < length ks
       → Among last (voted_blocks (chronicle_of next r))
   pub kept : (x : Branch) → Among x (voted_blocks (chronicle_of w r)) → Among x (voted_blocks (chronicle_of next r))
-  pub still : IsStill w.sizes m (chronicle_of w r) (chronicle_of next r)
+  pub still : IsStill w.sizes m (length last) (chronicle_of w r) (chronicle_of next r)
 
 -- the events
 unfoldable pub offers-of : ℕ → List ℕ → List Happening
@@ -287,15 +308,18 @@ module _ (sizes : Sizes) (start : World) (all : List Happening) (r v : ℕ) (m l
       → Climbs (self_of w r) v m y (grown ks room) (chronicle_of w r)
       → Passes w (offers-of r ks) × OfferedAll w (after w (offers-of r ks)) r v m last room ks
   unfolding offers-of Chain grown after
-  offers-all [] w rest y room on keys c s chain climbs = (passes-none w, record {
-    goes = goes-none w;
-    others = λ j n. refl;
-    going_on = s;
-    climbs = subst (λ (z : Branch). Climbs (self_of w r) v m z room (chronicle_of w r)) chain climbs;
-    voted = λ h n. absurd (omega (arith, n));
-    kept = λ x n. n;
-    still = still-none w.sizes m (chronicle_of w r);
-  })
+  offers-all [] w rest y room on keys c s chain climbs = (
+    passes-none w,
+    record {
+      goes = goes-none w;
+      others = λ j n. refl;
+      going_on = s;
+      climbs = subst (λ (z : Branch). Climbs (self_of w r) v m z room (chronicle_of w r)) chain climbs;
+      voted = λ h n. absurd (omega (arith, n));
+      kept = λ x n. n;
+      still = still-none w.sizes m (length last) (chronicle_of w r);
+    },
+  )
   offers-all (k ∷ ks) w rest y room on keys c s (b, f, rec, made, chain) climbs =
       let next : World = happens w (offer r (of_record k), ample) in
       let up = chain-up w v m (b ∷ y) ks last chain in
@@ -333,11 +357,13 @@ module _ (sizes : Sizes) (start : World) (all : List Happening) (r v : ℕ) (m l
           ];
           kept = λ x n. more.1.kept x (subst (λ (z : Chronicle). Among x (voted_blocks z)) (sym ownc)
               (voted-grows (took_block o.taken) (chronicle_of w r) x n));
-          still = still-both w.sizes m (chronicle_of w r) (chronicle_of next r) (chronicle_of end r)
-              (subst (IsStill w.sizes m (chronicle_of w r)) (sym ownc)
-              (still-took w.sizes m (chronicle_of w r) o.taken
-              (ap just1 o.branch ∙ justifies-below b y m climbs.over made.justify)))
-              (subst (λ (z : Sizes). IsStill z m (chronicle_of next r) (chronicle_of end r)) goes.made.sizes
+          still = still-both w.sizes m (length last) (chronicle_of w r) (chronicle_of next r) (chronicle_of end r)
+              (subst (IsStill w.sizes m (length last) (chronicle_of w r)) (sym ownc)
+              (still-took w.sizes m (length last) (chronicle_of w r) o.taken
+              (ap just1 o.branch ∙ justifies-below b y m climbs.over made.justify)
+              (let e = ap (λ (z : Branch). length z) o.branch in omega (arith, e, up))))
+              (subst (λ (z : Sizes). IsStill z m (length last) (chronicle_of next r)
+              (chronicle_of end r)) goes.made.sizes
               more.1.still);
         },
       )

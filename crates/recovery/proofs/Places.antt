@@ -1,19 +1,17 @@
 -- Where a block comes to stand that has a place.
-use Rattle.ids.specs.declared.fault.Fault.TheVariants as fault
 use Rattle.ids.specs.declared.limits.TheConstants.{MOST_BLOCKS, MOST_OF_HEIGHT, HEIGHT_LIMIT}
-use Rattle.std.proofs.Common.{ℕ, suc, ◌≡◌, ◌<◌, ◌≤◌, ◌⊎◌, ◌==◌, ◌&&◌, not, Bool, true, false, cond, List, [], ◌∷◌}
+use Rattle.std.proofs.Common.{ℕ, suc, ◌≡◌, ◌<◌, ◌≤◌, ◌⊎◌, ◌==◌, not, true, false, List, ◌∷◌}
 use Rattle.std.proofs.Common.{length, refl, sym, ap, subst, ◌∙◌, inl, inr, nat_lt, arith, Option, Some, None}
 use Rattle.std.proofs.lemmas.Bool.{cond-true, cond-false, and_from, lt-ltb, eq-eqb}
 use Rattle.std.specs.Cmp.Lexicographic.{bytes_decides}
 use Rattle.std.specs.Prelude.{count_by}
 use Rattle.definitions.specs.Lists.{Among}
-use Rattle.definitions.specs.Bytes.{Bytes}
 use Rattle.definitions.specs.Branches.{Block, Branch, just1, justify_height}
-use Rattle.definitions.specs.Chronicles.{Chronicle, IsSound, window, horizon}
+use Rattle.definitions.specs.Chronicles.{Chronicle, window, horizon}
 use Rattle.definitions.specs.Digests.{digest, digest_of, core_of, core_over}
-use Rattle.definitions.specs.Frames.{Core, Certificate}
-use Rattle.definitions.specs.Trees.{Placing, Placing.stands, Placing.grows, Placing.lacks_parent, Placing.unfit}
-use Rattle.definitions.specs.Trees.{placing, placing_known, placing_over, placing_new, find_in, justifies, block_of}
+use Rattle.definitions.specs.Frames.{Certificate}
+use Rattle.definitions.specs.Trees.{Placing, Placing.stands, Placing.grows, Placing.lacks_parent}
+use Rattle.definitions.specs.Trees.{placing, placing_known, placing_over, placing_new, find_in, justifies}
 use Rattle.definitions.specs.Trees.{IsTree}
 use Rattle.definitions.proofs.Trees.{found-in, found-itself}
 use Rattle.recovery.specs.Law.{HasPlace}

@@ -2,39 +2,39 @@
 use Rattle.ids.specs.declared.fault.Fault.TheVariants as fault
 use Rattle.ids.specs.declared.limits.TheConstants.{MOST_BLOCKS}
 use Rattle.ids.specs.declared.kind.Kind.TheVariants as kind
-use Rattle.std.proofs.Common.{ℕ, suc, ◌≡◌, ◌<◌, ◌≤◌, ◌+◌, ◌⊎◌, ◌&&◌, ◌==◌, not, Bool, true, false, cond, List, [], ◌∷◌}
-use Rattle.std.proofs.Common.{length, map, true≢false, refl, sym, ap, subst, ◌∙◌, arith, inl, inr, nat_lt, Option, Some, None}
-use Rattle.std.specs.List.{list_all, list_any}
-use Rattle.std.proofs.lemmas.Bool.{and_from, or_left, or_right, cond-true, cond-false, cond_both, eq-eqb, ltb-true, and_parts}
+use Rattle.std.proofs.Common.{ℕ, suc, ◌≡◌, ◌⊎◌, ◌&&◌, ◌==◌, Bool, true, false, cond, List, [], ◌∷◌}
+use Rattle.std.proofs.Common.{length, map, true≢false, refl, sym, ap, subst, ◌∙◌, arith, inl, inr, nat_lt}
+use Rattle.std.proofs.Common.{Option, Some}
+use Rattle.std.specs.List.{list_all}
+use Rattle.std.proofs.lemmas.Bool.{and_from, or_left, or_right, cond-true, cond-false, cond_both, eq-eqb, and_parts}
 use Rattle.std.proofs.lemmas.Bool.{cases_Bool}
-use Rattle.ids.specs.Sizes.{Sizes, replicas, leader}
+use Rattle.ids.specs.Sizes.{Sizes, leader}
 use Rattle.definitions.specs.Bytes.{Bytes}
 use Rattle.definitions.specs.Lists.{Among}
 use Rattle.definitions.specs.Branches.{Block, Branch, just1, justify_height, branch_eq}
 use Rattle.definitions.specs.Chronicles.{Admitted, Chronicle, Step.took_block, window, horizon, standing_blocks}
 use Rattle.definitions.specs.Chronicles.{stored_blocks, stored_block, taken_blocks, is_safe}
-use Rattle.definitions.specs.Digests.{digest, digest_of, core_of, core_over, AllKnown}
+use Rattle.definitions.specs.Digests.{core_of, core_over, AllKnown}
 use Rattle.definitions.specs.Frames.{Core, Certificate, Frame, proposal_content}
 use Rattle.definitions.specs.Frames as frame
-use Rattle.definitions.specs.Keyrings.{verify, vector_for}
-use Rattle.definitions.specs.Tags.{tag_of}
-use Rattle.definitions.specs.Checks.{Identity, Findings, command_verifies, cut, findings, is_good, is_clear_core}
-use Rattle.definitions.specs.Grounds.{is_justified, is_own_certified, grounded, without_votes}
-use Rattle.definitions.specs.Rulings.{Input, Input.proposal_in, Input.offered_in, Ruling, Ruling.due, admitted, on_placing}
+use Rattle.definitions.specs.Keyrings.{vector_for}
+use Rattle.definitions.specs.Checks.{Identity, command_verifies, cut, findings, is_good, is_clear_core}
+use Rattle.definitions.specs.Grounds.{is_justified, is_own_certified, grounded}
+use Rattle.definitions.specs.Rulings.{Input, Input.proposal_in, Input.offered_in, Ruling, Ruling.due}
+use Rattle.definitions.specs.Rulings.{admitted, on_placing}
 use Rattle.definitions.specs.Rulings.{on_offer, take_block, take_grounded, ruling, votes_for}
 use Rattle.definitions.specs.Sendings.{proposal_frame}
-use Rattle.definitions.specs.States.{Justified, view}
-use Rattle.definitions.specs.Trees.{Stored, Placing, Placing.stands, Placing.grows, is_clear, clear_above, standing, placing}
-use Rattle.definitions.specs.Worlds.{World, Sent, is_correct, self_of, is_replica}
-use Rattle.definitions.specs.Admission.{Checked, Checked.passes, Checked.rejected, own_tag_verifies, when, check}
+use Rattle.definitions.specs.States.{view}
+use Rattle.definitions.specs.Trees.{Stored, Placing, is_clear, clear_above, standing, placing}
+use Rattle.definitions.specs.Worlds.{World, is_correct, self_of}
+use Rattle.definitions.specs.Admission.{Checked, Checked.passes, Checked.rejected, own_tag_verifies, check}
 use Rattle.definitions.specs.Admission.{check_offer}
 use Rattle.definitions.specs.Premises.{CoreOf}
 use Rattle.definitions.proofs.Branches.{branch_eq-decides}
 use Rattle.definitions.proofs.Horizons.{window-grown, window-tree}
-use Rattle.definitions.proofs.Vectors.{tag_of-tags_for}
 use Rattle.linear_law.proofs.Runs.{member-faulty}
 use Rattle.recovery.specs.Correct.{ShareKeys, chronicle_of, view_of}
-use Rattle.recovery.specs.Law.{HasPlace, MayVoteFor, IsTakenIn, IsProposalOf, ProposalsAreTaken}
+use Rattle.recovery.specs.Law.{HasPlace, MayVoteFor, IsProposalOf, ProposalsAreTaken}
 use Rattle.recovery.proofs.Copies.{vector-verifies, correct-party}
 use Rattle.recovery.proofs.Wells.{IsReached, reached, sound-of, known-of, one-branch}
 use Rattle.recovery.proofs.Places.{IsPlaced, placed}
@@ -63,7 +63,8 @@ pub clear-more : (height : ℕ) (b : Branch) (s : Stored) (stored : List Stored)
     → clear_above height b (s ∷ stored) ≡ true
 unfolding clear_above is_clear
 clear-more height [] s stored h = refl
-clear-more height (b ∷ parent) s stored h = by (nat_lt height (suc (length parent))) h (clear-more height parent s stored)
+clear-more height (b ∷ parent) s stored h = by (nat_lt height (suc (length parent))) h
+    (clear-more height parent s stored)
   where
     by : (t : Bool)
         → cond t (is_clear (b ∷ parent) stored && clear_above height parent stored) true ≡ true
@@ -71,7 +72,8 @@ clear-more height (b ∷ parent) s stored h = by (nat_lt height (suc (length par
         → cond t (is_clear (b ∷ parent) (s ∷ stored) && clear_above height parent (s ∷ stored)) true ≡ true
     by true e rest =
         let p = and_parts (is_clear (b ∷ parent) stored) (clear_above height parent stored) e in
-        and_from _ _ (or_right (s.clear && branch_eq s.branch (b ∷ parent)) (is_clear (b ∷ parent) stored) p.0) (rest p.1)
+        and_from _ _ (or_right (s.clear && branch_eq s.branch (b ∷ parent)) (is_clear (b ∷ parent) stored) p.0)
+        (rest p.1)
     by false e rest = refl
 
 -- a clear block over a parent that is clear down to what the block justifies
@@ -161,7 +163,14 @@ takes-new w u v b parent a place e new clear =
 takes-old : (w : World) (u v : ℕ) (b : Block) (parent : Branch) (a : Admitted)
     → Among (b ∷ parent) (window (chronicle_of w u)) → a.branch ≡ b ∷ parent → a.new ≡ false
     → Takes w u v b parent (take_block (self_of w u) (Some v) a (chronicle_of w u))
-takes-old w u v b parent a there e old = (_, refl, e, λ may. votes-old w u v a b parent e old there may, inr (old, there))
+takes-old w u v b parent a there e old = (
+  _,
+  refl,
+  e,
+  λ may. votes-old w u v a b parent e old there may,
+  inr
+      (old, there),
+)
 
 -- what it finds of the block's commands
 clear-core : (self : Identity) (b : Block) (parent : Branch)
@@ -250,8 +259,14 @@ proposal-shown w u v b parent q vec tag has place grounds =
     let o = offer-takes w u v (leader w.sizes v) b parent q _ has place grounds in
     record {
       come = elim (cases_Bool (is_good self q)) [
-        | inl t ↦ inr (proposal_in v core q (findings self core q), p.0,
-            cond-true _ _ _ (and_from _ _ tag t), p.1, p.2, p.3)
+        | inl t ↦ inr (
+          proposal_in v core q (findings self core q),
+          p.0,
+          cond-true _ _ _ (and_from _ _ tag t),
+          p.1,
+          p.2,
+          p.3,
+        )
         | inr n ↦ inl (cond-false _ _ _ (ap (λ (t : Bool). t && is_good self q) tag ∙ n))
       ];
       input = offered_in (Some v) (leader w.sizes v) core q (findings self core q);

@@ -1,17 +1,16 @@
 -- Each step of a correct replica was due by an input whose tags were found right.
-use Rattle.ids.specs.declared.fault.Fault.{Fault}
-use Rattle.std.proofs.Common.{ℕ, ◌≡◌, ◌==◌, Bool, true, false, cond, List, [], ◌∷◌, refl, sym, ap, subst, ◌∙◌, None}
+use Rattle.std.proofs.Common.{ℕ, ◌≡◌, ◌==◌, List, [], ◌∷◌, refl, sym, subst, None}
 use Rattle.std.specs.Bool.{⊤}
 use Rattle.std.proofs.lemmas.Bool.{cond_both, eqb-true}
 use Rattle.definitions.specs.Chronicles.{Chronicle, Step}
-use Rattle.definitions.specs.Checks.{Identity, Findings, findings}
+use Rattle.definitions.specs.Checks.{Identity, findings}
 use Rattle.definitions.specs.Frames.{Core, Frame}
 use Rattle.definitions.specs.Frames as frame
-use Rattle.definitions.specs.Rulings.{Input, Ruling, Ruling.due, ruling, Input.proposal_in, Input.block_in}
+use Rattle.definitions.specs.Rulings.{Input, Ruling.due, ruling, Input.proposal_in, Input.block_in}
 use Rattle.definitions.specs.Rulings.{Input.offered_in, Input.relayed_in}
 use Rattle.definitions.specs.Replicas.{MemorySupply, Replica, Reaction, step}
-use Rattle.definitions.specs.Admission.{Checked, Checked.passes, check, check_offer, check_copies, check_gathered}
-use Rattle.definitions.specs.Worlds.{World, Event, Happening, self_of, put}
+use Rattle.definitions.specs.Admission.{Checked.passes, check, check_offer, check_copies, check_gathered}
+use Rattle.definitions.specs.Worlds.{World, Event, Happening, self_of}
 use Rattle.definitions.specs.Runs.{refusal}
 use Rattle.definitions.specs.Events.{Effect, party_of, effect, happens, brought, nothing, stepped, told, submitted}
 use Rattle.definitions.proofs.Checks.{when-good}
@@ -115,7 +114,8 @@ effect-ruled Known w e m f g h (step_by i c ar) = λ r d.
     let p : ℕ = party_of e in
     let self : Identity = self_of w p in
     let out = step-outcome self m i (w.replica p) (arises-checked w e i ar) (g.good.run.row.sound p c) in
-    cond_both (r == p) (step self m i (w.replica p)).0 (w.replica r) (λ (x : Replica). AreRuled (self_of w r) x.chronicle)
+    cond_both (r == p) (step self m i (w.replica p)).0 (w.replica r) (λ (x : Replica). AreRuled
+    (self_of w r) x.chronicle)
     (λ t. subst (λ (j : ℕ). AreRuled (self_of w j) (step self m i (w.replica p)).0.chronicle) (sym (eqb-true r p t))
     (outcome-ruled self i (w.replica p) _ (arises-found w e i ar) (h p c) out))
     (λ t. h r d)

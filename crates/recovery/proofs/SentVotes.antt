@@ -1,37 +1,37 @@
 -- A correct replica that goes on has sent each of its votes.
-use Rattle.std.proofs.Common.{ℕ, ◌≡◌, ◌==◌, Bool, true, false, cond, List, [], ◌∷◌, ◌++◌, map, refl, sym, ap, subst, ◌∙◌}
+use Rattle.std.proofs.Common.{ℕ, ◌≡◌, ◌==◌, Bool, true, false, cond, List, [], ◌∷◌, ◌++◌, map, refl, sym, ap, subst}
 use Rattle.std.proofs.Common.{inl, inr, None}
 use Rattle.std.proofs.lemmas.Bool.{cond_both, eqb-true, true≢false}
 use Rattle.definitions.specs.Lists.{Among}
 use Rattle.definitions.specs.Branches.{Branch}
-use Rattle.definitions.specs.Chronicles.{Admitted, Chronicle, Step, Step.took_block, Step.noted, voted_blocks}
+use Rattle.definitions.specs.Chronicles.{Chronicle, Step, Step.took_block, Step.noted, voted_blocks}
 use Rattle.definitions.specs.Checks.{Identity}
-use Rattle.definitions.specs.Frames.{Frame}
-use Rattle.definitions.specs.Rulings.{Input, Ruling, ruling}
-use Rattle.definitions.specs.Replicas.{MemorySupply, Replica, Reaction, step, Standing, Standing.running, Standing.stopped}
+use Rattle.definitions.specs.Rulings.{Ruling, ruling}
+use Rattle.definitions.specs.Replicas.{MemorySupply, Replica, Reaction, step, Standing.running, Standing.stopped}
 use Rattle.definitions.specs.Replicas.{Standing.cut_short}
 use Rattle.definitions.specs.Sendings.{Sending, sendings, vote_frame, new_replies, To.to_party}
 use Rattle.definitions.specs.Frames.{Core}
 use Rattle.definitions.specs.States.{view}
 use Rattle.ids.specs.Sizes.{leader}
-use Rattle.definitions.specs.Worlds.{World, Sent, Event, Happening, self_of, put}
+use Rattle.definitions.specs.Worlds.{World, Sent, Event, Happening, self_of}
 use Rattle.definitions.specs.Runs.{refusal}
 use Rattle.definitions.specs.Events.{Effect, party_of, effect, happens, nothing, stepped, told, submitted, out_of}
-use Rattle.definitions.proofs.Lists.{Among-before, Among-after, Among-mapped}
+use Rattle.definitions.proofs.Lists.{Among-before, Among-after}
 use Rattle.definitions.proofs.Sound.{Outcome, Outcome.unchanged, Outcome.refused, Outcome.lacks}
 use Rattle.definitions.proofs.Sound.{Outcome.conflict, Outcome.stood, Outcome.cut, step-outcome}
 use Rattle.linear_law.proofs.Effects.{ComesFramed, Effects, Effects.idle, Effects.step_by, Effects.hearing}
 use Rattle.linear_law.proofs.Effects.{Effects.submitting, effects}
 use Rattle.linear_law.proofs.Runs.{arises-checked}
 use Rattle.linear_law.proofs.WholeRuns.{IsWell}
-use Rattle.recovery.specs.Correct.{OfCorrect, chronicle_of}
+use Rattle.recovery.specs.Correct.{OfCorrect}
 
 -- its vote for the block stands in the record
 abbrev pub SentVote : List Sent → Identity → ℕ → Branch → Type 0
 SentVote sent self r x = (s : Sent) × Among s sent × (s.sender ≡ r) × (s.frame ≡ vote_frame self x)
 
 abbrev pub HasSent : List Sent → Identity → ℕ → Replica → Type 0
-HasSent sent self r y = y.standing ≡ running → (x : Branch) → Among x (voted_blocks y.chronicle) → SentVote sent self r x
+HasSent sent self r y = y.standing ≡ running → (x : Branch) → Among x (voted_blocks y.chronicle)
+    → SentVote sent self r x
 
 abbrev pub VotesSent : World → Type 0
 VotesSent w = OfCorrect w (λ r. HasSent w.sent (self_of w r) r (w.replica r))

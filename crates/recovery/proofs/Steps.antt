@@ -1,22 +1,20 @@
 -- What one event of a correct replica that goes on does to its world.
-use Rattle.ids.specs.declared.fault.Fault.{Fault}
 use Rattle.ids.specs.declared.fault.Fault.TheVariants as fault
-use Rattle.std.proofs.Common.{ℕ, ◌≡◌, ◌==◌, ◌&&◌, not, Bool, true, false, cond, List, [], ◌∷◌, ◌++◌, map, refl, sym, ap}
-use Rattle.std.proofs.Common.{subst, ◌∙◌, inl, inr, Option, Some, None, option_map, slice_get, append-nil, length}
-use Rattle.std.proofs.lemmas.Bool.{cond-true, cond-false, cond_both, eq-eqb, ne_eqb, eqb-true, cases_Bool, and_parts}
+use Rattle.std.proofs.Common.{ℕ, ◌≡◌, ◌==◌, true, List, [], ◌∷◌, ◌++◌, map, refl, sym, ap}
+use Rattle.std.proofs.Common.{subst, ◌∙◌, inl, inr, Some, option_map, slice_get, length}
+use Rattle.std.proofs.lemmas.Bool.{cond-true, cond-false, cond_both, eqb-true, cases_Bool}
 use Rattle.definitions.specs.Bytes.{Bytes}
-use Rattle.definitions.specs.Frames.{Frame}
 use Rattle.definitions.specs.Checks.{Identity}
 use Rattle.definitions.specs.Chronicles.{Chronicle, Step}
-use Rattle.definitions.specs.Rulings.{Input, Ruling, Ruling.due, Ruling.missing, Ruling.refusing, ruling, conflicts}
-use Rattle.definitions.specs.Sendings.{Sending, To.to_party, sendings, fetch_frame}
+use Rattle.definitions.specs.Rulings.{Input, Ruling, Ruling.due, Ruling.missing, ruling, conflicts}
+use Rattle.definitions.specs.Sendings.{Sending, sendings}
 use Rattle.definitions.specs.Replicas.{MemorySupply.ample, Replica, Reaction, Reaction.sends_out, Standing.running}
-use Rattle.definitions.specs.Replicas.{on_ruling, on_step, step, stopped_at, Reaction.fails, Reaction.asks_for}
-use Rattle.definitions.specs.Worlds.{World, Sent, Event, Happening, is_correct, is_replica, self_of, put}
+use Rattle.definitions.specs.Replicas.{on_ruling, on_step, stopped_at, Reaction.fails, Reaction.asks_for}
+use Rattle.definitions.specs.Worlds.{World, Sent, Event, Happening, is_correct, self_of, put}
 use Rattle.definitions.specs.Events.{Effect, stepped, acts, effect, happens, party_of, steps, out_of, answer_of}
 use Rattle.linear_law.proofs.Linear.{NoneConflicts}
 use Rattle.linear_law.proofs.Runs.{member-faulty}
-use Rattle.recovery.specs.Correct.{OfCorrect, chronicle_of}
+use Rattle.recovery.specs.Correct.{chronicle_of}
 use Rattle.recovery.proofs.Worlds.{IsMadeAs, effect-correct, step-running}
 
 -- a replica that goes on
@@ -51,7 +49,8 @@ pub record HandsIn (w : World) (e : Event) (p : ℕ) (i : Input) : Type 0 where
   pub acting : acts w e ample ≡ steps p ample i w
 
 handed : (w : World) (e : Event) (p : ℕ) (i : Input) → HandsIn w e p i
-    → effect w (e, ample) ≡ stepped w p ample (on_ruling (self_of w p) ample (ruling (self_of w p) i (chronicle_of w p)) (chronicle_of w p))
+    → effect w (e, ample) ≡ stepped w p ample (on_ruling (self_of w p) ample (ruling (self_of w p) i
+    (chronicle_of w p)) (chronicle_of w p))
 handed w e p i h =
     effect-correct w (e, ample) (member-faulty w (party_of e) (ap (is_correct w) h.party ∙ h.correct))
     ∙ (h.acting

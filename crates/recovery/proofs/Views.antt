@@ -1,6 +1,7 @@
 -- Timeouts bring the correct replicas of a world into one view.
 use Rattle.std.proofs.Common.{ℕ, zero, suc, ◌≡◌, ◌<◌, ◌≤◌, ◌+◌, ◌-◌, ◌*◌, ◌%◌, ◌/◌, ◌^◌, ◌==◌, Bool, true, false}
-use Rattle.std.proofs.Common.{cond, List, [], ◌∷◌, ◌++◌, length, refl, sym, ap, subst, ◌∙◌, arith, inl, inr, map, filter}
+use Rattle.std.proofs.Common.{cond, List, [], ◌∷◌, ◌++◌, length, refl, sym, ap, subst, ◌∙◌, arith, inl, inr}
+use Rattle.std.proofs.Common.{map, filter}
 use Rattle.std.proofs.Common.{nat_lt, None}
 use Rattle.std.proofs.lemmas.Bool.{cond_both, cond-true, cond-false, eqb-true, eq-eqb, and_parts, ltb-true}
 use Rattle.std.proofs.Math.Nat.{mod-lt, mod-add-div, add-mod-mod, add-mul-mod_self_left, mod-eq_of_lt}

@@ -2,46 +2,43 @@
 use Rattle.ids.specs.declared.kind.Kind.TheVariants as kind
 use Rattle.ids.specs.declared.fault.Fault.{Fault}
 use Rattle.ids.specs.declared.fault.Fault.TheVariants as fault
-use Rattle.std.proofs.Common.{ℕ, zero, suc, ◌≡◌, ◌<◌, ◌≤◌, ◌+◌, ◌⊎◌, ◌==◌, ◌&&◌, not, Bool, true, false, cond, List, [], ◌∷◌}
-use Rattle.std.proofs.Common.{◌++◌, map, filter, length, drop, refl, sym, ap, subst, ◌∙◌, arith, inl, inr, nat_lt}
-use Rattle.std.proofs.Common.{Option, Some, None, option_map, slice_get, Ok, true≢false}
-use Rattle.std.specs.List.{list_any}
-use Rattle.std.proofs.lemmas.Bool.{cond-true, cond-false, cond_both, cases_Bool, cases_eq, cases_lt, and_parts, lt-ltb, eqb-true}
-use Rattle.std.proofs.lemmas.List.{append-nil, append_assoc, map-append, length-append}
-use Rattle.ids.specs.Sizes.{Sizes, replicas, quorum}
+use Rattle.std.proofs.Common.{ℕ, ◌≡◌, ◌⊎◌, not, true, List, [], ◌∷◌}
+use Rattle.std.proofs.Common.{◌++◌, map, length, refl, sym, ap, subst, ◌∙◌, inl, inr}
+use Rattle.std.proofs.Common.{Option, Some, None, true≢false}
+use Rattle.std.proofs.lemmas.Bool.{cond-true, cond-false, cases_Bool, and_parts, lt-ltb}
+use Rattle.ids.specs.Sizes.{Sizes}
 use Rattle.definitions.specs.Bytes.{Bytes}
-use Rattle.definitions.specs.Lists.{Among, AreDistinct}
+use Rattle.definitions.specs.Lists.{Among}
 use Rattle.definitions.specs.Branches.{Branch}
-use Rattle.definitions.specs.Checks.{Identity, vote_verifies}
-use Rattle.definitions.specs.Chronicles.{Chronicle, Step, Step.noted, Note.got_vote, window}
+use Rattle.definitions.specs.Checks.{Identity}
+use Rattle.definitions.specs.Chronicles.{Chronicle, Step.noted, Note.got_vote, window}
 use Rattle.definitions.specs.Digests.{digest_of}
 use Rattle.definitions.specs.Frames.{Vote, Frame}
 use Rattle.definitions.specs.Frames as frame
 use Rattle.definitions.specs.Admission.{Checked, Checked.passes, Checked.rejected, check, own_tag_verifies}
-use Rattle.definitions.specs.Replicas.{MemorySupply.ample, Replica, Reaction.asks_for, Standing.running}
+use Rattle.definitions.specs.Replicas.{MemorySupply.ample, Replica, Standing.running}
 use Rattle.definitions.specs.Rulings.{Input.vote_in, Ruling.due, with_block, ruling}
 use Rattle.definitions.specs.Keyrings.{verify, vector_for}
 use Rattle.definitions.specs.Tags.{tag_of}
-use Rattle.definitions.specs.Sendings.{Sending, sendings, vote_frame}
-use Rattle.definitions.specs.States.{me, find_block}
-use Rattle.definitions.specs.Worlds.{World, Sent, Event.relay, Happening, is_correct, is_replica, self_of, put}
+use Rattle.definitions.specs.Sendings.{sendings, vote_frame}
+use Rattle.definitions.specs.States.{find_block}
+use Rattle.definitions.specs.Worlds.{World, Event.relay, Happening, is_correct, is_replica, self_of}
 use Rattle.definitions.specs.Runs.{refusal, after}
-use Rattle.definitions.specs.Events.{Effect, happens, recorded, acts, comes, effect, nothing, party_of, on_checked, out_of}
-use Rattle.definitions.proofs.Sound.{found-standing}
+use Rattle.definitions.specs.Events.{Effect, happens, recorded, acts, comes, effect, nothing, party_of, on_checked}
 use Rattle.definitions.proofs.Trees.{found-itself}
 use Rattle.linear_law.proofs.Runs.{member-faulty}
-use Rattle.recovery.specs.Correct.{OfCorrect, AllGoOn, ShareKeys, chronicle_of, amply}
+use Rattle.recovery.specs.Correct.{OfCorrect, ShareKeys, chronicle_of, amply}
 use Rattle.recovery.specs.Healing.{is_vote}
 use Rattle.recovery.proofs.Asked.{relay-hands}
 use Rattle.recovery.proofs.Counting.{IsCounting, IsCountedFor, counting-on, counted-on, counted-now}
 use Rattle.recovery.proofs.Fetched.{window-told}
 use Rattle.recovery.proofs.Copies.{vector-verifies, correct-party}
 use Rattle.recovery.proofs.Offers.{GoesOn, goes-none, goes-both, recorded-later, row-own, row-other, slice-there}
-use Rattle.recovery.proofs.Steps.{going, outs, TookStep, OnlySent, HandsIn, step-stood, asked}
-use Rattle.recovery.proofs.Ways.{IsOnWay, KnownAt, on-way, way-on, way-past}
+use Rattle.recovery.proofs.Steps.{going, outs, HandsIn, step-stood, asked}
+use Rattle.recovery.proofs.Ways.{IsOnWay, KnownAt, on-way, way-on}
 use Rattle.recovery.proofs.Wells.{sound-of}
-use Rattle.recovery.proofs.Worlds.{IsMadeAs, made-after, made-both, keys-in, same-correct, same-self, Passes, passes-none}
-use Rattle.recovery.proofs.Worlds.{passes-one, passes-append, after-append, named, effect-correct}
+use Rattle.recovery.proofs.Worlds.{keys-in, same-correct, same-self, Passes, passes-none}
+use Rattle.recovery.proofs.Worlds.{passes-one, named, effect-correct}
 
 -- ---- one vote comes
 
@@ -157,13 +154,16 @@ module _ (sizes : Sizes) (start : World) (all : List Happening) where
       let verifies = ap (λ (n : ℕ). verify (w.ring u) kind.Vote n (digest_of x) (tag_of v (w.ring u).party)) number
       ∙ vector-verifies w keys kind.Vote r u (digest_of x) (correct-party w r cr) (member-faulty w r cr) cu in
       let there = found-itself _ (window ch) (sound-of (KnownAt sizes start all) w g u cu).is_tree x m in
-      let onn = way-on sizes start all w (relay k u, ample) rest on (relay-named w k u (frame.vote (digest_of x) b) cu e) in
+      let onn = way-on sizes start all w (relay k u, ample) rest on (relay-named w k u (frame.vote
+      (digest_of x) b) cu e) in
       let st = step-stood w (relay k u) u (vote_in (digest_of x) b) (noted (got_vote (w.ring r).party v x))
       (relay-hands w k u (frame.vote (digest_of x) b) (vote_in (digest_of x) b) cu s e (cond-true _ _ _ verifies))
       (ap (λ (o : Option Branch). with_block o (w.ring r).party (digest_of x)
-      (λ y. due (noted (got_vote (w.ring r).party v y)))) there) onn.well.good.answers in
-      (v, row-own w (happens w (relay k u, ample)) u (noted (got_vote (w.ring r).party v x)) st
-      ∙ ap (λ (n : ℕ). going (noted (got_vote n v x) ∷ ch)) number)
+      (λ y. due (noted (got_vote (w.ring r).party v y)))) there) onn.well.good.answers in (
+        v,
+        row-own w (happens w (relay k u, ample)) u (noted (got_vote (w.ring r).party v x)) st
+            ∙ ap (λ (n : ℕ). going (noted (got_vote n v x) ∷ ch)) number,
+      )
 
 -- ---- all votes come to one
 
@@ -175,16 +175,19 @@ AreVotes w ks = (k : ℕ) → Among k ks → (f : Frame) × (recorded w k ≡ So
 unfoldable pub HasVote : World → List ℕ → ℕ → Branch → Type 0
 HasVote w ks r x = (k : ℕ) × Among k ks × (recorded w k ≡ Some (vote_frame (self_of w r) x))
 
-votes-later : (w next : World) → GoesOn w next → (ks : List ℕ) → AreVotes w ks → AreVotes next ks
+pub votes-later : (w next : World) → GoesOn w next → (ks : List ℕ) → AreVotes w ks → AreVotes next ks
 unfolding AreVotes
 votes-later w next g ks h = λ k m. (let r = h k m in (r.0, recorded-later w next g k r.0 r.1, r.2))
 
-vote-later : (w next : World) → GoesOn w next → (ks : List ℕ) (r : ℕ) (x : Branch) → HasVote w ks r x
+pub vote-later : (w next : World) → GoesOn w next → (ks : List ℕ) (r : ℕ) (x : Branch) → HasVote w ks r x
     → HasVote next ks r x
 unfolding HasVote
-vote-later w next g ks r x h =
-    (h.0, h.1, recorded-later w next g h.0 (vote_frame (self_of w r) x) h.2
-    ∙ ap (λ (s : Identity). Some (vote_frame s x)) (sym (same-self w next g.made r)))
+vote-later w next g ks r x h = (
+  h.0,
+  h.1,
+  recorded-later w next g h.0 (vote_frame (self_of w r) x) h.2
+      ∙ ap (λ (s : Identity). Some (vote_frame s x)) (sym (same-self w next g.made r)),
+)
 
 -- what votes leave of one
 pub record VotedOne (w next : World) (u : ℕ) (x : Branch) (before : Chronicle) : Type 0 where
@@ -228,13 +231,16 @@ module _ (sizes : Sizes) (start : World) (all : List Happening) (u : ℕ) (x : B
       → OfCorrect w (λ r. IsCountedFor w.sizes x r (chronicle_of w u) ⊎ HasVote w ks r x)
       → Passes w (relays-of u ks) × VotedOne w (after w (relays-of u ks)) u x before
   unfolding relays-of after HasVote AreVotes
-  votes-to-one [] w rest on keys c s are counting counted = (passes-none w, record {
-    goes = goes-none w;
-    others = λ j n. refl;
-    going_on = s;
-    counting = counting;
-    counted = λ r d. elim (counted r d) [ inl h ↦ h | inr h ↦ absurd h.1 ];
-  })
+  votes-to-one [] w rest on keys c s are counting counted = (
+    passes-none w,
+    record {
+      goes = goes-none w;
+      others = λ j n. refl;
+      going_on = s;
+      counting = counting;
+      counted = λ r d. elim (counted r d) [ inl h ↦ h | inr h ↦ absurd h.1 ];
+    },
+  )
   votes-to-one (k ∷ ks) w rest on keys c s are counting counted =
       let next : World = happens w (relay k u, ample) in
       let later : List Happening = relays-of u ks in

@@ -1,24 +1,24 @@
 -- A world on the way of a run whose premises hold.
-use Rattle.std.proofs.Common.{ℕ, ◌≡◌, Bool, true, List, [], ◌∷◌, ◌++◌, refl, sym, ap, subst, ◌∙◌, inl, inr, Ok, None, map}
+use Rattle.std.proofs.Common.{ℕ, ◌≡◌, Bool, List, [], ◌∷◌, ◌++◌, sym, ap, subst, ◌∙◌, inl, inr, Ok, None}
 use Rattle.ids.specs.Sizes.{Sizes}
 use Rattle.definitions.specs.Lists.{Among}
-use Rattle.definitions.specs.Frames.{Core, genesis_core}
+use Rattle.definitions.specs.Frames.{Core}
 use Rattle.definitions.specs.FrameLimits.{IsCore}
-use Rattle.definitions.specs.Digests.{NoCollision}
 use Rattle.definitions.specs.Keyrings.{Keyring}
 use Rattle.definitions.specs.Worlds.{World, Sent, Happening, new_world}
 use Rattle.definitions.specs.Runs.{refusal, run, after}
 use Rattle.definitions.specs.Events.{happens}
-use Rattle.definitions.specs.Premises.{ArePremises, CoreOf, CoreOfRun}
+use Rattle.definitions.specs.Premises.{ArePremises}
 use Rattle.definitions.proofs.Lists.{Among-before}
-use Rattle.linear_law.proofs.Fits.{IsCoreOrGenesis, core-frame}
+use Rattle.linear_law.proofs.Fits.{core-frame}
 use Rattle.linear_law.proofs.Linear.{run-step}
-use Rattle.linear_law.proofs.WholeRuns.{IsWell, AssumedAlong, well-happens, comes-framed, KnownIn, new-sizes, new-well}
+use Rattle.linear_law.proofs.WholeRuns.{IsWell, AssumedAlong, well-happens, comes-framed, KnownIn, new-sizes}
+use Rattle.linear_law.proofs.WholeRuns.{new-well}
 use Rattle.linear_law.proofs.WholeRuns.{known-apart, known-genesis, known-along}
 use Rattle.recovery.proofs.Worlds.{made-after, after-append, Passes}
 use Rattle.recovery.proofs.Ruled.{AllRuled, happens-ruled}
 use Rattle.recovery.proofs.SentVotes.{VotesSent, happens-votes}
-use Rattle.recovery.proofs.Wells.{IsReached, run-after, well-run, IsKeptWell, new-ruled, new-votes}
+use Rattle.recovery.proofs.Wells.{IsReached, run-after, well-run, new-ruled, new-votes}
 
 -- the cores of a whole run
 abbrev pub KnownAt : (sizes : Sizes) → World → List Happening → Core → Type 0
@@ -27,13 +27,13 @@ KnownAt sizes start all = KnownIn sizes start all
 -- a world of the run of `all`, with these events to go
 pub record IsOnWay (sizes : Sizes) (start : World) (all : List Happening) (w : World) (ahead : List Happening) : Type 0
   where
-  pub premises : ArePremises start all
-  pub starts : start.sizes ≡ sizes
-  pub well : IsWell (KnownAt sizes start all) w
-  pub ruled : AllRuled w
-  pub votes : VotesSent w
-  pub assumed : AssumedAlong (KnownAt sizes start all) w ahead
-  pub ends : after w ahead ≡ after start all
+    pub premises : ArePremises start all
+    pub starts : start.sizes ≡ sizes
+    pub well : IsWell (KnownAt sizes start all) w
+    pub ruled : AllRuled w
+    pub votes : VotesSent w
+    pub assumed : AssumedAlong (KnownAt sizes start all) w ahead
+    pub ends : after w ahead ≡ after start all
 
 -- what was sent stays in the record
 sent-on : (w : World) (hs : List Happening) (s : Sent) → Among s w.sent → Among s (after w hs).sent
@@ -48,10 +48,6 @@ unfolding after
 assumed-both Known w [] ys a = (tt, a)
 assumed-both Known w (x ∷ xs) ys a = let r = assumed-both Known (happens w x) xs ys a.1 in ((a.0, r.0), r.1)
 
--- the world in which a run of given sizes begins
-abbrev pub beginning_of : Sizes → (ℕ → Bool) → (ℕ → Keyring) → World
-beginning_of sizes is_faulty ring = new_world sizes is_faulty ring
-
 -- a world after the first part of a run
 pub on-way-from :
     (sizes : Sizes) (is_faulty : ℕ → Bool) (ring : ℕ → Keyring) (hs ahead : List Happening) (w : World)
@@ -61,10 +57,15 @@ on-way-from sizes is_faulty ring hs ahead w met e =
     let start : World = new_world sizes is_faulty ring in
     let all : List Happening = hs ++ ahead in
     let Known : Core → Type 0 = KnownAt sizes start all in
-    let assumed = assumed-both Known start hs ahead (known-along sizes start all (new-sizes sizes is_faulty ring) met) in
+    let assumed = assumed-both Known start hs ahead (known-along sizes start all
+    (new-sizes sizes is_faulty ring) met) in
     let end : after start hs ≡ w = run-after hs start w e in
     let kept = well-run Known (known-apart sizes start all met) (known-genesis sizes start all) hs start w
-    (record { well = new-well sizes is_faulty ring all met; ruled = new-ruled sizes is_faulty ring; votes = new-votes sizes is_faulty ring }) assumed.0 e in
+    (record {
+      well = new-well sizes is_faulty ring all met;
+      ruled = new-ruled sizes is_faulty ring;
+      votes = new-votes sizes is_faulty ring;
+    }) assumed.0 e in
     record {
       premises = met;
       starts = new-sizes sizes is_faulty ring;
@@ -79,7 +80,8 @@ module _ (sizes : Sizes) (start : World) (all : List Happening) where
   -- its sizes
   pub way-sizes : (w : World) (ahead : List Happening) → IsOnWay sizes start all w ahead → w.sizes ≡ sizes
   way-sizes w ahead on =
-      sym (made-after w ahead).sizes ∙ (ap (λ (z : World). z.sizes) on.ends ∙ ((made-after start all).sizes ∙ on.starts))
+      sym (made-after w ahead).sizes ∙ (ap (λ (z : World). z.sizes) on.ends ∙ ((made-after start all).sizes
+      ∙ on.starts))
 
   -- it is reached
   pub on-way : (w : World) (ahead : List Happening) → IsOnWay sizes start all w ahead
@@ -93,7 +95,7 @@ module _ (sizes : Sizes) (start : World) (all : List Happening) where
     sent = λ s m x o. (
       inr (inl (s, subst (λ (z : World). Among s z.sent) on.ends (sent-on w ahead s m), o)),
       inr (subst (λ (z : Sizes). IsCore z x) (way-sizes w ahead on)
-      (core-frame w.sizes s.frame x (on.well.framed.sent s m).0 o)),
+          (core-frame w.sizes s.frame x (on.well.framed.sent s m).0 o)),
     );
   }
 

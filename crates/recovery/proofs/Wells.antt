@@ -1,25 +1,26 @@
 -- What holds of each world of a run whose premises hold, for the laws of one event.
-use Rattle.std.proofs.Common.{ℕ, ◌≡◌, true, List, [], ◌∷◌, refl, sym, ap, subst, ◌∙◌, inl, inr, Ok}
+use Rattle.std.proofs.Common.{ℕ, ◌≡◌, true, List, [], ◌∷◌, sym, ap, subst, ◌∙◌, inl, inr, Ok}
 use Rattle.ids.specs.Sizes.{Sizes}
 use Rattle.std.proofs.Common.{Bool}
 use Rattle.definitions.specs.Lists.{Among}
 use Rattle.definitions.specs.Branches.{Branch}
-use Rattle.definitions.specs.Chronicles.{Chronicle, IsSound, tree, voted_blocks}
+use Rattle.definitions.specs.Chronicles.{IsSound, tree, voted_blocks}
 use Rattle.definitions.specs.Digests.{NoCollision, AllKnown, digest_of}
 use Rattle.definitions.specs.Frames.{Core, genesis_core}
 use Rattle.definitions.specs.Keyrings.{Keyring}
 use Rattle.definitions.specs.Worlds.{World, Sent, Happening, is_correct, self_of, new_world}
 use Rattle.definitions.specs.Runs.{refusal, run, after}
 use Rattle.definitions.specs.Events.{happens}
-use Rattle.definitions.specs.Premises.{ArePremises, CoreOf, CoreOfRun}
+use Rattle.definitions.specs.Premises.{ArePremises, CoreOf}
 use Rattle.definitions.proofs.Digests.{digest_of-one}
 use Rattle.definitions.specs.FrameLimits.{IsCore}
-use Rattle.linear_law.proofs.Fits.{IsCoreOrGenesis, core-frame}
+use Rattle.linear_law.proofs.Fits.{core-frame}
 use Rattle.definitions.specs.Agreement.{IsLawfulFamily}
 use Rattle.linear_law.specs.Law.{correct_family}
 use Rattle.linear_law.proofs.Linear.{ground, run-step}
 use Rattle.linear_law.proofs.StoredFrames.{AreStored}
-use Rattle.linear_law.proofs.WholeRuns.{IsWell, AssumedAlong, comes-framed, well-happens, KnownIn, new-sizes, new-well}
+use Rattle.linear_law.proofs.WholeRuns.{IsWell, AssumedAlong, comes-framed, well-happens, KnownIn, new-sizes}
+use Rattle.linear_law.proofs.WholeRuns.{new-well}
 use Rattle.linear_law.proofs.WholeRuns.{known-apart, known-genesis, known-along}
 use Rattle.recovery.specs.Correct.{chronicle_of}
 use Rattle.recovery.proofs.Worlds.{made-after}
@@ -90,7 +91,11 @@ reached sizes is_faulty ring hs last met e =
     let apart = known-apart sizes w hs met in
     let genesis = known-genesis sizes w hs in
     let kept = well-run (KnownIn sizes w hs) apart genesis hs w last
-    (record { well = new-well sizes is_faulty ring hs met; ruled = new-ruled sizes is_faulty ring; votes = new-votes sizes is_faulty ring })
+    (record {
+      well = new-well sizes is_faulty ring hs met;
+      ruled = new-ruled sizes is_faulty ring;
+      votes = new-votes sizes is_faulty ring;
+    })
     (known-along sizes w hs (new-sizes sizes is_faulty ring) met) e in
     let end = run-after hs w last e in
     record {

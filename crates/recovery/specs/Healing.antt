@@ -1,6 +1,7 @@
 -- Healing: events of correct parties alone, computed from a world, that bring a waiting client its receipt. Nobody has
 -- to know who lies, nor why nothing went on: the correct replica of the highest lock leads from that lock.
-use Rattle.std.specs.Prelude.{ℕ, zero, suc, ◌+◌, ◌-◌, ◌%◌, ◌==◌, not, Bool, true, false, List, [], ◌∷◌, ◌++◌, map, filter}
+use Rattle.std.specs.Prelude.{ℕ, zero, suc, ◌+◌, ◌-◌, ◌%◌, ◌==◌, not, Bool, true, false, List, [], ◌∷◌, ◌++◌}
+use Rattle.std.specs.Prelude.{map, filter}
 use Rattle.std.specs.Prelude.{find, reverse, length, drop, if◌then◌else◌, nat_lt, max, Option, Some, None}
 use Rattle.ids.specs.Sizes.{replicas}
 use Rattle.definitions.specs.Bytes.{Bytes}

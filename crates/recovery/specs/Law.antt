@@ -1,6 +1,7 @@
 -- The laws that are proved: steps of the statement that nobody is wedged.
 use Rattle.ids.specs.declared.limits.TheConstants.{MOST_BLOCKS, MOST_OF_HEIGHT, HEIGHT_LIMIT}
-use Rattle.std.specs.Prelude.{ℕ, suc, ◌^◌, ◌≡◌, ◌==◌, ◌<◌, ◌≤◌, ◌+◌, ◌⊎◌, Bool, true, false, List, [], ◌∷◌, ◌++◌, map, length, count_by, Ok}
+use Rattle.std.specs.Prelude.{ℕ, suc, ◌^◌, ◌≡◌, ◌==◌, ◌<◌, ◌≤◌, ◌+◌, ◌⊎◌, Bool, true, false, List, [], ◌∷◌}
+use Rattle.std.specs.Prelude.{◌++◌, map, length, count_by, Ok}
 use Rattle.std.specs.List.{AllByRecursion, list_all}
 use Rattle.ids.specs.declared.fault.Fault.TheVariants as fault
 use Rattle.ids.specs.Sizes.{Sizes, leader}
@@ -16,16 +17,17 @@ use Rattle.definitions.specs.Chronicles.{Step.took_block, horizon, standing_bloc
 use Rattle.definitions.specs.Digests.{digest_of}
 use Rattle.definitions.specs.Frames.{Command, Frame}
 use Rattle.definitions.specs.Grounds.{is_justified, is_own_certified, may_lead_from}
+use Rattle.definitions.specs.Replicas.{Standing.running}
 use Rattle.definitions.specs.Rulings.{Input, ruling, due}
 use Rattle.definitions.specs.Runs.{run, after}
 use Rattle.definitions.specs.Sendings.{block_frame, proposal_frame}
 use Rattle.definitions.specs.States.{Justified, view, votes, qc_high, leaf, pending}
 use Rattle.definitions.specs.Trees.{clear_above}
-use Rattle.definitions.specs.Worlds.{World, Sent, Happening, new_world, is_correct, self_of}
+use Rattle.definitions.specs.Worlds.{World, Sent, Event.lead, Happening, new_world, is_correct, self_of}
 use Rattle.linear_law.specs.Law.{AfterEachRun, correct_family}
 use Rattle.recovery.specs.Correct.{OfCorrect, AllGoOn, ShareKeys, chronicle_of, lock_of, view_of, correct_with}
-use Rattle.recovery.specs.Correct.{correct_replicas}
-use Rattle.recovery.specs.Healing.{view_to_come, come_to, highest_voted, fetch_block, burst}
+use Rattle.recovery.specs.Correct.{correct_replicas, amply}
+use Rattle.recovery.specs.Healing.{view_to_come, come_to, highest_voted, fetch_block, burst, round}
 use Rattle.recovery.specs.NeverWedged.{healer, ground_of, NobodyPruned, HasViews}
 
 -- ---- locks
@@ -47,6 +49,29 @@ abbrev pub LocksMayBeLedFrom : Type 0
 LocksMayBeLedFrom =
     AfterEachRun (λ w. OfCorrect w (λ r. (taken_blocks (chronicle_of w r) ≡ [] → ⊥)
     → may_lead_from (self_of w r) (lock_of w r) (chronicle_of w r) ≡ true))
+
+-- a replica is told to lead from its lock
+abbrev pub lead_events : ℕ → World → List Happening
+lead_events l w = amply (lead l (digest_of (lock_of w l)) ∷ [])
+
+-- It leads from there: its leaf and its highest certificate are on its lock, and no request waits with it.
+pub record LeadsFrom (w last : World) (l : ℕ) (m : Branch) : Type 0 where
+  pub ran : run w (lead_events l w) ≡ Ok last
+  pub goes_on : (last.replica l).standing ≡ running
+  pub leaf_is : leaf (self_of w l) (chronicle_of last l) ≡ m
+  pub high : (qc_high w.sizes (chronicle_of last l)).block ≡ m
+  pub none_waits : pending (chronicle_of last l) ≡ []
+  pub taken : taken_blocks (chronicle_of last l) ≡ taken_blocks (chronicle_of w l)
+  pub voted : voted_blocks (chronicle_of last l) ≡ voted_blocks (chronicle_of w l)
+  pub others : (j : ℕ) → (j ≡ l → ⊥) → last.replica j ≡ w.replica j
+
+-- so does a correct replica that goes on and took any block, after any run whose premises hold, and hold of the lead
+abbrev pub LeadsBegin : Type 0
+LeadsBegin =
+    (sizes : Sizes) (is_faulty : ℕ → Bool) (ring : ℕ → Keyring) (hs : List Happening) (w : World) (l : ℕ)
+    → ArePremises (new_world sizes is_faulty ring) (hs ++ lead_events l w)
+    → run (new_world sizes is_faulty ring) hs ≡ Ok w → is_correct w l ≡ true → (w.replica l).standing ≡ running
+    → (taken_blocks (chronicle_of w l) ≡ [] → ⊥) → LeadsFrom w (after w (lead_events l w)) l (lock_of w l)
 
 -- ---- what a lock stands on
 
@@ -242,8 +267,8 @@ pub record Climbs (self : Identity) (v : ℕ) (m y : Branch) (room : ℕ) (c : C
   pub trees : length (window c) + room ≤ MOST_BLOCKS
   pub heights : (h : ℕ) → length y < h → count_by (λ x. length x == h) (window c) < MOST_OF_HEIGHT
 
--- A leader of this view makes blocks that justify m: its highest certificate is for m, and each command that waits with it
--- verifies for all.
+-- A leader of this view makes blocks that justify m: its highest certificate is for m, and each command that waits
+-- with it verifies for all.
 pub record Leads (w : World) (l v : ℕ) (m : Branch) (room : ℕ) : Type 0 where
   pub leader_is : leader w.sizes v ≡ l
   pub high : high_of w l ≡ m
@@ -276,6 +301,31 @@ BurstsAreVotedFor =
     → OfCorrect w (λ r. vheight (chronicle_of w r) < length m + n) → 0 < n → length m + n < HEIGHT_LIMIT
     → IsVotedForByAll w (after w (burst n l w)) l v n room m
     (leaf (self_of w l) (chronicle_of (after w (burst n l w)) l))
+
+-- No event of a round was refused by the run, and all correct replicas go on. Each has a certificate of its own for the
+-- last block, which is n higher than m and goes through it, and which is the leader's leaf.
+pub record IsCertifiedByAll (w last : World) (l n : ℕ) (m x : Branch) : Type 0 where
+  pub ran : run w (round n l w) ≡ Ok last
+  pub going_on : AllGoOn last
+  pub height : length x ≡ length m + n
+  pub over : Extends x m
+  pub leaf_is : leaf (self_of last l) (chronicle_of last l) ≡ x
+  pub high : OfCorrect last (λ r. high_of last r ≡ x)
+  pub own : OfCorrect last (λ r. is_own_certified (self_of last r) x (chronicle_of last r) ≡ true)
+  pub stands : OfCorrect last (λ r. Among x (window (chronicle_of last r)))
+  pub session : last.session ≡ w.session
+
+-- A round, of a burst as above and all votes on it, leaves all with certificates of their own for its last block.
+abbrev pub RoundsCertify : Type 0
+RoundsCertify =
+    (sizes : Sizes) (is_faulty : ℕ → Bool) (ring : ℕ → Keyring) (hs : List Happening) (w : World)
+    (l v n room : ℕ) (m : Branch) → ShareKeys (new_world sizes is_faulty ring)
+    → ArePremises (new_world sizes is_faulty ring) (hs ++ round n l w)
+    → run (new_world sizes is_faulty ring) hs ≡ Ok w → AllGoOn w → is_correct w l ≡ true
+    → Leads w l v m (n + room) → leaf (self_of w l) (chronicle_of w l) ≡ m
+    → OfCorrect w (λ r. Climbs (self_of w r) v m m (n + room) (chronicle_of w r))
+    → OfCorrect w (λ r. vheight (chronicle_of w r) < length m + n) → 0 < n → length m + n < HEIGHT_LIMIT
+    → (x : Branch) × IsCertifiedByAll w (after w (round n l w)) l n m x
 
 -- ---- decisions
 

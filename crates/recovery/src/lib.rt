@@ -7,7 +7,7 @@ ghost use Rattle.recovery.specs.Law.{HighestLocksAreSafe, LocksMayBeLedFrom};
 ghost use Rattle.recovery.specs.Law.{JustifiedBlocksAreHeld, GroundsAreHeld};
 ghost use Rattle.recovery.specs.Law.{TimeoutsBringTogether, ACorrectLeaderComes, CopiesAreTaken, ProposalsAreTaken};
 ghost use Rattle.recovery.specs.Law.{HighestAreCertified, MissingBlocksAreFetched, ThreeMoreDecide};
-ghost use Rattle.recovery.specs.Law.{BurstsAreVotedFor};
+ghost use Rattle.recovery.specs.Law.{BurstsAreVotedFor, RoundsCertify, LeadsBegin};
 
 /// A correct replica of the highest lock: no correct lock is above it or beside it, so a block that justifies
 /// it is safe for all.
@@ -18,6 +18,11 @@ pub fn highest_locks_are_safe()
 /// A correct replica may lead from its lock, but where it never took a block.
 pub fn locks_may_be_led_from()
     ensures { LocksMayBeLedFrom }
+{}
+
+/// So it leads from there, with no request, once it is told to.
+pub fn leads_begin()
+    ensures { LeadsBegin }
 {}
 
 /// Whatever a correct replica took: more than f correct ones took what it justifies, and all below that.
@@ -69,4 +74,9 @@ pub fn three_more_decide()
 /// A leader's burst, from a block from which all may climb, ends with a block for which all vote.
 pub fn bursts_are_voted_for()
     ensures { BurstsAreVotedFor }
+{}
+
+/// A leader's round leaves all correct replicas with certificates of their own for its last block.
+pub fn rounds_certify()
+    ensures { RoundsCertify }
 {}
