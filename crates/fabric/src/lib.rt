@@ -7,6 +7,7 @@ mod inbox;
 mod laws;
 mod links;
 mod own;
+mod own_blocks;
 mod parcel;
 mod questioned;
 mod queue;

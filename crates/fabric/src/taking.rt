@@ -226,13 +226,17 @@ impl<'a, G: Gate, O: Outgoing + Questioned> Worker<'a, G, O> {
 
     /// Whether a frame is a vote that comes too late: for the block of the certificate that this replica's last
     /// proposal has. A step would write it down and change nothing else, and so it may get lost, as on any network.
-    /// Of each block's votes all but a quorum are such.
+    /// Of each block's votes all but a quorum are such. In trouble a vote for a block below the newest is lost, too.
     fn is_late(&self, bytes: &[u8]) -> bool {
-        let Some(certified) = self.certified else {
+        if self.blocks.is_empty() {
             return false;
-        };
+        }
         match read(&self.keyring.config(), bytes) {
-            Ok(Frame::Vote(vote)) => certified.0 == *vote.digest(),
+            Ok(Frame::Vote(vote)) => {
+                let block = Digest(*vote.digest());
+                self.blocks.is_certified(&block)
+                    || (self.out.in_trouble() && self.blocks.is_below(&block))
+            }
             _ => false,
         }
     }

@@ -5,6 +5,7 @@ ghost use Rattle.fabric.specs.Shares.{HasGrown};
 use crate::inbox::Inbox;
 use crate::links::Links;
 use crate::own::OwnFrames;
+use crate::own_blocks::OwnBlocks;
 use crate::parcel::Parcel;
 use crate::questioned::Questioned;
 use crate::queue::Question;
@@ -32,8 +33,8 @@ pub struct Worker<'a, G, O = Links> {
     inbox: &'a Inbox,
     pub(crate) out: &'a O,
     pub(crate) room: &'a WaitingRoom,
-    /// The block that its last proposal's certificate is for.
-    pub(crate) certified: Option<Digest>,
+    /// What it proposed.
+    pub(crate) blocks: OwnBlocks,
     /// What was sent to the replica itself, and isn't taken yet.
     own: OwnFrames,
 }
@@ -70,15 +71,6 @@ impl Outgoing for Links {
     }
 }
 
-/// The block of the certificate in a proposal that goes out.
-fn certified_by(config: &Config, out: &Out) -> Option<Digest> {
-    let sending = out.sendings().first()?;
-    match read(config, &sending.frame) {
-        Ok(Frame::Proposal(view)) => Some(Digest(*view.certificate().digest())),
-        _ => None,
-    }
-}
-
 /// They keep no questions.
 impl Questioned for Links {}
 
@@ -99,7 +91,7 @@ impl<'a, G: Gate, O: Outgoing + Questioned> Worker<'a, G, O> {
             inbox,
             out,
             room,
-            certified: None,
+            blocks: OwnBlocks::new(alloc),
             own: OwnFrames::new(alloc),
         }
     }
@@ -222,7 +214,24 @@ impl<'a, G: Gate, O: Outgoing + Questioned> Worker<'a, G, O> {
         ensures { HasGrown share.old share.new }
     {
         if let Ok(out) = steps.step(rt, share, input) {
+            self.note_proposal(&out);
             self.send_all(rt, out);
+        }
+    }
+
+    /// Notes a proposal that goes out; in trouble its block, too.
+    fn note_proposal(&mut self, out: &Out) {
+        let Some(sending) = out.sendings().first() else {
+            return;
+        };
+        if let Ok(Frame::Proposal(view)) = read(&self.keyring.config(), &sending.frame) {
+            let block = if self.out.in_trouble() {
+                Some(view.core().digest())
+            } else {
+                None
+            };
+            self.blocks
+                .propose(Digest(*view.certificate().digest()), block);
         }
     }
 
@@ -257,7 +266,7 @@ impl<'a, G: Gate, O: Outgoing + Questioned> Worker<'a, G, O> {
         ensures { HasGrown share.old share.new }
     {
         if let Some(Ok(out)) = steps.prompt(rt, share, Prompt::Beat) {
-            self.certified = certified_by(&self.keyring.config(), &out);
+            self.note_proposal(&out);
             self.send_all(rt, out);
         }
     }
