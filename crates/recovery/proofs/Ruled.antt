@@ -9,14 +9,15 @@ use Rattle.definitions.specs.Frames as frame
 use Rattle.definitions.specs.Rulings.{Input, Ruling.due, ruling, Input.proposal_in, Input.block_in}
 use Rattle.definitions.specs.Rulings.{Input.offered_in, Input.relayed_in}
 use Rattle.definitions.specs.Replicas.{MemorySupply, Replica, Reaction, step}
-use Rattle.definitions.specs.Admission.{Checked.passes, check, check_offer, check_copies, check_gathered}
+use Rattle.definitions.specs.Admission.{Checked.passes, check}
 use Rattle.definitions.specs.Worlds.{World, Event, Happening, self_of}
 use Rattle.definitions.specs.Runs.{refusal}
 use Rattle.definitions.specs.Events.{Effect, party_of, effect, happens, brought, nothing, stepped, told, submitted}
 use Rattle.definitions.proofs.Checks.{when-good}
 use Rattle.definitions.proofs.Sound.{Outcome, Outcome.unchanged, Outcome.refused, Outcome.lacks}
 use Rattle.definitions.proofs.Sound.{Outcome.conflict, Outcome.stood, Outcome.cut, step-outcome}
-use Rattle.linear_law.proofs.Inputs.{not_mine, not_frame}
+use Rattle.linear_law.proofs.Offers.{not_mine, IsOffered, IsOffered.by_proposal}
+use Rattle.linear_law.proofs.Offers.{IsOffered.by_block, IsOffered.by_view, IsGathered, IsGathered.copies}
 use Rattle.linear_law.proofs.Effects.{ComesFramed, Arises, Arises.of_checked, Arises.of_offer, Arises.of_gathered}
 use Rattle.linear_law.proofs.Effects.{Arises.of_timeout, Arises.of_beat, Arises.of_prune, Arises.of_lead}
 use Rattle.linear_law.proofs.Effects.{Arises.of_ask, Effects, Effects.idle, Effects.step_by, Effects.hearing}
@@ -54,32 +55,13 @@ check-found self (frame.new_view w s q v) i e = subst (IsFound self) (when-good 
 check-found self (frame.fetch s d t) i e = subst (IsFound self) (when-good _ _ _ e).1 tt
 check-found self (frame.reply r c s p t g) i e = absurd (not_mine i e)
 
-offer-found : (self : Identity) (f : Frame) (i : Input) → check_offer self f ≡ passes i → IsFound self i
-unfolding check_offer
-offer-found self (frame.proposal view core q v) i e = subst (IsFound self) (when-good _ _ _ e).1 refl
-offer-found self (frame.block sender core q t) i e = subst (IsFound self) (when-good _ _ _ e).1 refl
-offer-found self (frame.new_view w s q v) i e = subst (IsFound self) (when-good _ _ _ e).1 tt
-offer-found self (frame.request c) i e = absurd (not_mine i e)
-offer-found self (frame.vote d b) i e = absurd (not_mine i e)
-offer-found self (frame.fetch s d t) i e = absurd (not_mine i e)
-offer-found self (frame.reply r c s p t g) i e = absurd (not_mine i e)
+offer-found : (self : Identity) (f : Frame) (i : Input) → IsOffered self f i → IsFound self i
+offer-found self f i (by_proposal view core q v) = refl
+offer-found self f i (by_block sender core q t) = refl
+offer-found self f i (by_view view sender q v) = tt
 
-copies-found : (self : Identity) (f : Frame) (fs : List Frame) (i : Input) → check_copies self f fs ≡ passes i
-    → IsFound self i
-unfolding check_copies
-copies-found self (frame.block sender core q t) fs i e = subst (IsFound self) (when-good _ _ _ e).1 refl
-copies-found self (frame.proposal view core q v) fs i e = absurd (not_mine i e)
-copies-found self (frame.request c) fs i e = absurd (not_mine i e)
-copies-found self (frame.vote d b) fs i e = absurd (not_mine i e)
-copies-found self (frame.new_view w s q v) fs i e = absurd (not_mine i e)
-copies-found self (frame.fetch s d t) fs i e = absurd (not_mine i e)
-copies-found self (frame.reply r c s p t g) fs i e = absurd (not_mine i e)
-
-gathered-found : (self : Identity) (fs : List Frame) (i : Input) → check_gathered self fs ≡ passes i
-    → IsFound self i
-unfolding check_gathered
-gathered-found self [] i e = absurd (not_frame i e)
-gathered-found self (f ∷ fs) i e = copies-found self f (f ∷ fs) i e
+gathered-found : (self : Identity) (fs : List Frame) (i : Input) → IsGathered self fs i → IsFound self i
+gathered-found self fs i (copies sender core q t more same) = refl
 
 arises-found : (w : World) (e : Event) (i : Input) → Arises w e i → IsFound (self_of w (party_of e)) i
 arises-found w e i (of_checked f j b g) = check-found (self_of w (party_of e)) f j g
