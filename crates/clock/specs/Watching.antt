@@ -1,8 +1,11 @@
 -- What is due to a replica, by what was seen of it.
 use Rattle.std.specs.Prelude.{ℕ, ◌+◌, ◌*◌, ◌/◌, ◌-◌, ◌^◌, ◌==◌, ◌&&◌, ◌||◌, not, min, max, nat_le, Bool}
-use Rattle.std.specs.Prelude.{if◌then◌else◌, nat_lt, false, Some, None}
-use Rattle.tuning.specs.declared.clocks.TheConstants.{COMMAND_SHARE, LAG_WEIGHT, LEAD_PART, LEAST_BEAT_MILLIS}
+use Rattle.std.specs.Prelude.{if◌then◌else◌, nat_lt, Option, Some, None}
+use Rattle.std.specs.Option.{option_or}
+use Rattle.tuning.specs.declared.clocks.TheConstants.{COMMAND_SHARE, LAG_WEIGHT, LEAD_PART, LEAST_BEAT_MILLIS, LOCK_PART}
 use Rattle.tuning.specs.declared.clocks.TheConstants.{LEAST_COMMAND_MILLIS, MOST_COUNTED, MOST_UNDECIDED, VIEW_LIMIT}
+use Rattle.clock.specs.declared.watch.LeadFrom.{LeadFrom}
+use Rattle.clock.specs.declared.watch.LeadFrom.TheVariants.{Certified, Lock}
 use Rattle.clock.specs.declared.watch.Pulse.{Pulse}
 use Rattle.clock.specs.declared.watch.Due.{Due}
 use Rattle.clock.specs.declared.watch.Watch.{Watch}
@@ -23,7 +26,8 @@ unseen replicas = record {
   pause = LEAST_BEAT_MILLIS;
   height = 0;
   from = 0;
-  led = false;
+  stuck = 0;
+  led = None;
 }
 
 -- its view or its history changed since it was looked at last
@@ -76,18 +80,36 @@ rests w p = moved w p || p.wants_beat_now || not p.wants_beat
 abbrev pub is_overdue : Watch → ℕ → Pulse → Bool
 is_overdue w now p = not (rests w p) && nat_le w.pause (now - w.asked)
 
--- It leads, what it proposed waits for votes, and its view lags and was slow for a part of what it may be. Once in a view.
-abbrev pub leads_anew : Watch → ℕ → (slow : ℕ) → Pulse → Bool
-leads_anew w now slow p =
-    (p.wants_beat && not p.wants_beat_now) && (not (w.led && (p.view == w.view))
-    && (lags w now p && nat_le (limit_of p.view / LEAD_PART) slow))
+-- its requests lag, and nothing was executed since it was looked at last
+abbrev pub is_stuck : Watch → ℕ → Pulse → Bool
+is_stuck w now p = not (moved w p) && lags w now p
+
+-- how much the time since it got stuck counts, by the weight of lagging
+abbrev pub stuck_for : Watch → ℕ → ℕ
+stuck_for w now = min ((now - w.stuck) * LAG_WEIGHT) (2 ^ 64 - 1)
+
+-- From what a leader begins anew, where it was stuck for so much of what its view may be: first from what its last
+-- proposal certifies, and once from its lock.
+abbrev pub next_lead : Option LeadFrom → (stuck limit : ℕ) → Option LeadFrom
+next_lead None stuck limit = if nat_le (limit / LEAD_PART) stuck then Some Certified else None
+next_lead (Some Certified) stuck limit = if nat_le (limit / LOCK_PART) stuck then Some Lock else None
+next_lead (Some Lock) stuck limit = None
+
+-- it does so while it is stuck, and what it proposed waits for votes
+abbrev pub lead_where : Watch → ℕ → Pulse → (is_stuck : Bool) → Option LeadFrom
+lead_where w now p is_stuck =
+    if (p.wants_beat && not p.wants_beat_now) && is_stuck
+    then next_lead w.led (stuck_for w now) (limit_of p.view) else None
+
+abbrev pub lead_of : Watch → ℕ → Pulse → Option LeadFrom
+lead_of w now p = lead_where w now p (is_stuck w now p)
 
 -- what is due
 abbrev pub due_of : Watch → ℕ → Pulse → Due
 due_of w now p = record {
   beat = p.wants_beat_now || is_overdue w now p;
   timeout = if is_due w now p then Some p.view else None;
-  lead = leads_anew w now (slow_after w now p) p;
+  lead = lead_of w now p;
 }
 
 -- the next pause, in milliseconds: half of the last, and no less than the least, where the replica has got on, and
@@ -108,5 +130,6 @@ looked w now p = record {
   pause = pause_after w.pause (moved w p) (is_overdue w now p);
   height = p.height;
   from = if settled w p || is_due w now p then p.voted else w.from;
-  led = leads_anew w now (slow_after w now p) p || (w.led && (p.view == w.view));
+  stuck = if is_stuck w now p then w.stuck else now;
+  led = if is_stuck w now p then option_or (lead_of w now p) w.led else None;
 }

@@ -3,7 +3,7 @@
 use crate::forgetting::{Keep, prune_at, shown_by};
 use crate::trouble::Trouble;
 use crate::watch::{Due, Pulse, Watch};
-use ids::{Fault, Height, MOST_REPLICAS};
+use ids::{Fault, Height, MOST_REPLICAS, View};
 use std::sync::Wait;
 use std::sync::atomic::AtomicBool;
 use std::sync::atomic::Ordering::SeqCst;
@@ -19,8 +19,8 @@ pub trait Watched {
     /// How many certificates came so far that weren't good for it.
     fn doubted(&self) -> u64;
 
-    /// Is told whether there is trouble around it.
-    fn tell_trouble(&self, is_on: bool);
+    /// Is told whether there is trouble around it, and the view that it is in.
+    fn tell_trouble(&self, is_on: bool, view: View);
 
     /// Hands in a beat, a timeout or a lead, or several of them.
     fn hand_in<R: Wait>(&self, rt: &R, due: Due);
@@ -68,7 +68,8 @@ pub fn keep_time<R: Wait + Clock, W: Watched>(
             return pulse.stopped;
         }
         let now = millis_since(rt, start);
-        replica.tell_trouble(trouble.look(now, pulse.view, replica.doubted()));
+        let is_on = trouble.look(now, pulse.view, replica.doubted());
+        replica.tell_trouble(is_on, pulse.view);
         replica.hand_in(rt, watch.look(now, pulse));
         if let Some(height) = keep.and_then(|keep| prune_at(keep, &replica.shown(), &pulse)) {
             replica.prune(rt, height);

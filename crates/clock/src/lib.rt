@@ -17,4 +17,4 @@ pub use laws::{
     timeouts_are_given, what_is_kept_is_within,
 };
 pub use trouble::Trouble;
-pub use watch::{Due, Pulse, Watch};
+pub use watch::{Due, LeadFrom, Pulse, Watch};

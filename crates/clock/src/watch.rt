@@ -1,14 +1,14 @@
 //! What is due to one replica.
 
 ghost use Rattle.std.specs.Prelude.{◌≡◌, ◌-◌, if◌then◌else◌};
-ghost use Rattle.clock.specs.Watching.{climbs, due_of, is_over, is_overdue, lags, leads_anew, limit_of, looked};
-ghost use Rattle.clock.specs.Watching.{most_undecided, moved, settled};
+ghost use Rattle.clock.specs.Watching.{climbs, due_of, is_over, is_overdue, lags, lead_where, limit_of, looked};
+ghost use Rattle.clock.specs.Watching.{most_undecided, moved, next_lead, settled, stuck_for};
 ghost use Rattle.clock.specs.Watching.{patience_of, pause_after, rests, slow_after, unseen};
 
 use ids::{Fault, Height, View};
 use tuning::{
-    COMMAND_SHARE, LAG_WEIGHT, LEAD_PART, LEAST_BEAT_MILLIS, LEAST_COMMAND_MILLIS, MOST_COUNTED,
-    MOST_UNDECIDED, VIEW_LIMIT,
+    COMMAND_SHARE, LAG_WEIGHT, LEAD_PART, LEAST_BEAT_MILLIS, LEAST_COMMAND_MILLIS, LOCK_PART,
+    MOST_COUNTED, MOST_UNDECIDED, VIEW_LIMIT,
 };
 
 /// What is seen of a replica at one moment.
@@ -34,6 +34,15 @@ pub struct Pulse {
     pub stopped: Option<Fault>,
 }
 
+/// From which block a leader is to begin anew.
+#[derive(Clone, Copy, Debug, PartialEq, Eq)]
+pub enum LeadFrom {
+    /// The one that its last proposal certifies: a request may be pending that isn't right for others.
+    Certified,
+    /// Its lock: its certificates may be good for it alone.
+    Lock,
+}
+
 /// What is due to a replica.
 #[derive(Clone, Copy, Debug, PartialEq, Eq)]
 pub struct Due {
@@ -41,8 +50,8 @@ pub struct Due {
     pub beat: bool,
     /// A timeout of this view: it was slow for too long, or brought too much that was never decided.
     pub timeout: Option<View>,
-    /// Leave to lead from its lock: what it proposes finds no certificate.
-    pub lead: bool,
+    /// Leave to begin anew: what it proposes finds no certificate.
+    pub lead: Option<LeadFrom>,
 }
 
 /// What was seen of a replica so far.
@@ -63,8 +72,9 @@ pub struct Watch {
     height: Height,
     /// What it had voted for when its view began, or when a block was executed last.
     from: Height,
-    /// Whether it was given leave to lead from its lock in this view.
-    led: bool,
+    /// Since when its requests have lagged and nothing was executed, and the last leave to begin anew since then.
+    stuck: u64,
+    led: Option<LeadFrom>,
 }
 
 /// How slow a view may be: `VIEW_LIMIT`, and as much more for each view before.
@@ -125,7 +135,8 @@ impl Watch {
             pause: LEAST_BEAT_MILLIS,
             height: Height(0),
             from: Height(0),
-            led: false,
+            stuck: 0,
+            led: None,
         }
     }
 
@@ -202,15 +213,36 @@ impl Watch {
         !self.rests(pulse) && now.saturating_sub(self.asked) >= self.pause
     }
 
-    /// Whether it leads, what it proposed waits for votes, and its view was slow for a part of what it may be: then its
-    /// certificates may be good for it alone. Once in a view.
-    fn leads_anew(&self, now: u64, slow: u64, pulse: Pulse) -> bool
-        ensures { result ≡ leads_anew self.now now slow pulse }
+    /// How much the time since it got stuck counts, by the weight of lagging.
+    fn stuck_for(&self, now: u64) -> u64
+        ensures { result ≡ stuck_for self.now now }
+    {
+        now.saturating_sub(self.stuck).saturating_mul(LAG_WEIGHT)
+    }
+
+    /// From what it is to begin anew, after so much in which it was stuck: from what its last proposal certifies, and
+    /// where that brought nothing, once from its lock.
+    fn next_lead(&self, stuck: u64, limit: u64) -> Option<LeadFrom>
+        ensures { result ≡ next_lead self.now.led stuck limit }
+    {
+        match self.led {
+            None if stuck >= limit / LEAD_PART => Some(LeadFrom::Certified),
+            Some(LeadFrom::Certified) if stuck >= limit / LOCK_PART => Some(LeadFrom::Lock),
+            _ => None,
+        }
+    }
+
+    /// From what it is to begin anew, where it is stuck or isn't: if it leads, and what it proposed waits for votes.
+    fn lead(&self, now: u64, pulse: Pulse, is_stuck: bool) -> Option<LeadFrom>
+        ensures { result ≡ lead_where self.now now pulse is_stuck }
     {
         let waits = pulse.wants_beat && !pulse.wants_beat_now;
-        let is_first = !(self.led && pulse.view.0 == self.view.0);
-        let limit = limit_of(pulse.view.0) / LEAD_PART;
-        waits && is_first && self.lags(now, pulse) && slow >= limit
+        let (stuck, limit) = (self.stuck_for(now), limit_of(pulse.view.0));
+        if waits && is_stuck {
+            self.next_lead(stuck, limit)
+        } else {
+            None
+        }
     }
 
     /// What is due to a replica of which this is seen at a moment, in milliseconds from some start.
@@ -222,7 +254,8 @@ impl Watch {
         let over = self.is_over(now, slow, pulse) || self.climbs(pulse);
         let (rests, overdue) = (self.rests(pulse), self.is_overdue(now, pulse));
         let counts_anew = self.is_settled(pulse) || over;
-        let lead = self.leads_anew(now, slow, pulse);
+        let stuck = !moved && self.lags(now, pulse);
+        let lead = self.lead(now, pulse, stuck);
         *self = Watch {
             view: pulse.view,
             executed: pulse.executed,
@@ -233,7 +266,8 @@ impl Watch {
             pause: pause_after(self.pause, moved, overdue),
             height: pulse.height,
             from: if counts_anew { pulse.voted } else { self.from },
-            led: lead || (self.led && pulse.view.0 == self.view.0),
+            stuck: if stuck { self.stuck } else { now },
+            led: if stuck { lead.or(self.led) } else { None },
         };
         Due {
             beat: pulse.wants_beat_now || overdue,

@@ -2,3 +2,4 @@ pub mod Shares
 pub mod Inboxes
 pub mod Parcels
 pub mod Orders
+pub mod Proposed

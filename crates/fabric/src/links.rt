@@ -4,6 +4,7 @@ ghost use Rattle.std.specs.Prelude.{◌≡◌, ◌+◌, ◌<◌, ◌≤◌, ◌�
 ghost use Rattle.std.specs.Prelude.{count_by, nat_lt};
 ghost use Rattle.ids.specs.Sizes.{replicas};
 ghost use Rattle.tuning.specs.declared.clients.TheConstants.{CLIENT_CROWD};
+ghost use Rattle.fabric.specs.Parcels.{is_request};
 
 use crate::client_end::{ClientEnd, ClientStart, NotTold, client_link};
 use crate::inbox::{Inbox, Row};
@@ -113,7 +114,9 @@ fn last_bytes(frame: &[u8]) -> u64 {
 }
 
 /// Whether a frame is a client's request, by its kind.
-fn is_request(frame: &[u8]) -> bool {
+fn is_request(frame: &[u8]) -> bool
+    ensures { result ≡ is_request frame.now }
+{
     let place = if version(frame) == Some(2) { 1 } else { 0 };
     frame.get(place).copied() == Some(Kind::Request.number())
 }

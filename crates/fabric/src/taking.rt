@@ -58,8 +58,22 @@ impl<'a, G: Gate, O: Outgoing + Questioned> Worker<'a, G, O> {
         Ok(())
     }
 
-    /// Offers a frame: its own tag may be right, and only its certificate not good for this replica. What has no grounds
-    /// waits for them.
+    /// Offers a frame, if its own tag is right. What the step sends goes out.
+    fn offer_once<R: Wait, S: Steps>(
+        &mut self,
+        rt: &R,
+        steps: &mut S,
+        share: &mut Share,
+        bytes: &[u8],
+    ) -> Option<Result<(), Fault>>
+        ensures { HasGrown share.old share.new }
+    {
+        let answer = offer(rt, steps, share, self.keyring.verifying(), bytes)?;
+        Some(self.finish(rt, answer))
+    }
+
+    /// Offers a frame that was refused with `BadTag`: its own tag may be right, and only its certificate not good for this
+    /// replica. What has no grounds waits for them.
     fn offer<R: Wait + Clock, S: Steps>(
         &mut self,
         rt: &R,
@@ -71,27 +85,20 @@ impl<'a, G: Gate, O: Outgoing + Questioned> Worker<'a, G, O> {
         ensures { HasGrown share.old share.new }
     {
         let tried_at = self.room.news();
-        let keyring = self.keyring.verifying();
-        let Some(answer) = offer(rt, steps, share, keyring, bytes) else {
+        let Some(brought) = self.offer_once(rt, steps, share, bytes) else {
             return Err(Fault::BadTag);
         };
-        self.out.doubted(rt, keyring, bytes);
-        match self.finish(rt, answer) {
-            Err(Fault::BadTag) => {
-                let frame = Bytes::copy_from_slice(self.alloc, bytes)?;
-                self.seek_grounds(
-                    rt,
-                    steps,
-                    share,
-                    Unfounded {
-                        number,
-                        bytes: frame,
-                        tried_at,
-                    },
-                )
-            }
-            brought => brought,
+        self.out.doubted(rt, self.keyring.verifying(), bytes);
+        if brought != Err(Fault::BadTag) {
+            return brought;
         }
+        let bytes = Bytes::copy_from_slice(self.alloc, bytes)?;
+        let frame = Unfounded {
+            number,
+            bytes,
+            tried_at,
+        };
+        self.seek_grounds(rt, steps, share, frame)
     }
 
     /// A frame brings a block without grounds. A proposal waits for some, and all are asked for its block. A block that was
@@ -207,7 +214,7 @@ impl<'a, G: Gate, O: Outgoing + Questioned> Worker<'a, G, O> {
             Some(block) => self.ask_below(rt, block, frame.lacks, frame.sender),
             // Of an announcement the view counts at once.
             None => {
-                let _vote = self.offer(rt, steps, share, number, bytes.as_slice());
+                let _seen = self.offer_once(rt, steps, share, bytes.as_slice());
             }
         }
         self.room.wait(rt, frame);

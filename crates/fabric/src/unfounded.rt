@@ -1,6 +1,9 @@
 //! Proposals without grounds.
 
-ghost use Rattle.std.specs.Prelude.{◌≡◌, ◌<◌, ◌≤◌, ◌-◌};
+ghost use Rattle.std.specs.Prelude.{◌≡◌, ◌≢◌, ◌⊎◌, ◌<◌, ◌++◌, ◌∷◌, ◌-◌, [], length, List, IfNone, IfSome};
+ghost use Rattle.std.specs.Option.{option_to_list};
+ghost use Rattle.fabric.specs.declared.unfounded.Unfounded as declared;
+ghost use Rattle.fabric.specs.Proposed.{IsRest, NoneSince};
 ghost use Rattle.tuning.specs.declared.waiting.TheConstants.{MOST_UNFOUNDED};
 
 use bytes::Bytes;
@@ -29,12 +32,13 @@ pub(crate) struct UnfoundedList {
 }
 
 impl Model for UnfoundedList {
-    ghost use Rattle.std.specs.Prelude.{ℕ, ◌≤◌, length};
+    ghost use Rattle.std.specs.Prelude.{◌≤◌, List, length};
     ghost use Rattle.tuning.specs.declared.waiting.TheConstants.{MOST_UNFOUNDED};
+    ghost use Rattle.fabric.specs.declared.unfounded.Unfounded as declared;
 
-    ghost Value = { ℕ };
+    ghost Value = { List declared.Unfounded };
 
-    ghost view = { λ list. length list.frames.items };
+    ghost view = { λ list. list.frames.items };
 
     ghost invariant = { λ list. length list.frames.items ≤ MOST_UNFOUNDED };
 }
@@ -42,7 +46,7 @@ impl Model for UnfoundedList {
 impl UnfoundedList {
     /// None.
     pub(crate) fn new(alloc: Global) -> UnfoundedList
-        ensures { result ≡ 0 }
+        ensures { result ≡ [] }
     {
         UnfoundedList {
             frames: VecDeque::new(alloc),
@@ -52,14 +56,15 @@ impl UnfoundedList {
 
     /// How many there are.
     pub(crate) fn len(&self) -> usize
-        ensures { result ≡ self.now }
+        ensures { result ≡ length self.now }
     {
         self.frames.len()
     }
 
     /// Takes out the first.
     fn pop(&mut self) -> Option<Unfounded>
-        ensures { self.new ≤ self.old - 1 }
+        ensures taken { self.old ≡ option_to_list result ++ self.new }
+        ensures one { length self.new ≡ length self.old - 1 }
     {
         let first = self.frames.pop_front()?;
         self.bytes = self.bytes.saturating_sub(first.bytes.len());
@@ -68,7 +73,8 @@ impl UnfoundedList {
 
     /// Takes out the first ones, as long as all have too many bytes, and one where there are too many.
     fn make_room(&mut self)
-        ensures { self.new < MOST_UNFOUNDED }
+        ensures room { length self.new < MOST_UNFOUNDED }
+        ensures rest { IsRest self.old self.new }
     {
         for _ in 0..MOST_UNFOUNDED {
             if self.bytes <= MOST_UNFOUNDED_BYTES {
@@ -81,8 +87,11 @@ impl UnfoundedList {
         }
     }
 
-    /// Adds one behind all others. Where the list is full the first goes; where memory is refused this one is lost.
-    pub(crate) fn add(&mut self, frame: Unfounded) {
+    /// Adds one behind all others. Where the list is full the first ones go; where memory is refused this one is lost.
+    pub(crate) fn add(&mut self, frame: Unfounded)
+        ensures { (rest : List declared.Unfounded) × IsRest self.old rest
+            × ((self.new ≡ rest ++ frame ∷ []) ⊎ (self.new ≡ rest)) }
+    {
         self.make_room();
         let bytes = frame.bytes.len();
         if self.frames.push_back(frame).is_ok() {
@@ -92,7 +101,8 @@ impl UnfoundedList {
 
     /// Takes out the first, where the replica has had other news since that was tried.
     pub(crate) fn next(&mut self, news: u64) -> Option<Unfounded>
-        ensures { self.new ≤ self.old }
+        ensures next { IfSome result (λ frame. (frame.tried_at ≢ news) × (self.old ≡ frame ∷ self.new)) }
+        ensures none { IfNone result ((self.new ≡ self.old) × NoneSince news self.old) }
     {
         if self.frames.front()?.tried_at == news {
             return None;
