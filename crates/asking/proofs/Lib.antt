@@ -1,4 +1,5 @@
 pub mod Bounds
 pub mod Changing
 pub mod Choosing
+pub mod Places
 pub mod Turns

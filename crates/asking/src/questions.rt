@@ -105,17 +105,10 @@ impl Questions {
         }
     }
 
-    /// How many blocks are wanted.
-    pub fn len(&self) -> usize
-        ensures len { result ≡ length self.now.questions }
-        ensures bounded { IsBounded self.now }
-    {
-        self.questions.len()
-    }
-
     /// Whether no block is wanted.
     pub fn is_empty(&self) -> bool
-        ensures { result ≡ (length self.now.questions == 0) }
+        ensures empty { result ≡ (length self.now.questions == 0) }
+        ensures bounded { IsBounded self.now }
     {
         self.questions.is_empty()
     }
@@ -342,38 +335,6 @@ impl Questions {
         if let Some(place) = self.place_of(block) {
             self.questions[place].wait_for(parent);
         }
-    }
-
-    /// The copies of a block wait for this other one no longer.
-    fn release_one(&mut self, block: &Digest, parent: &Digest)
-        ensures { self.new
-            ≡ record self.old { questions = changed block.now (released parent.now) self.old.questions } }
-    {
-        if let Some(place) = self.place_of(block) {
-            self.questions[place].release(parent);
-        }
-    }
-
-    /// The oldest block whose copies wait for this one.
-    fn first_behind(&self, parent: &Digest) -> Option<Digest>
-        ensures { result ≡ option_map (λ q. q.block) (find (waits_for parent.now) self.now.questions) }
-    {
-        let question = self
-            .questions
-            .iter()
-            .find(|question| question.waits_for(parent))?;
-        Some(question.block())
-    }
-
-    /// The oldest block whose copies wait for this one, if there is one. They wait no longer.
-    pub fn release(&mut self, parent: &Digest) -> Option<Digest>
-        ensures block { result ≡ option_map (λ q. q.block) (find (waits_for parent.now) self.old.questions) }
-        ensures released { MatchOption result (self.new ≡ self.old) (λ block. self.new
-            ≡ record self.old { questions = changed block (released parent.now) self.old.questions }) }
-    {
-        let block = self.first_behind(parent)?;
-        self.release_one(&block, parent);
-        Some(block)
     }
 
     /// Whether the question at a place comes before another one, if there is another.

@@ -3,3 +3,4 @@ pub mod Inboxes
 pub mod Parcels
 pub mod Orders
 pub mod Proposed
+pub mod Suspecting

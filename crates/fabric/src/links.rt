@@ -114,7 +114,7 @@ fn last_bytes(frame: &[u8]) -> u64 {
 }
 
 /// Whether a frame is a client's request, by its kind.
-fn is_request(frame: &[u8]) -> bool
+pub(crate) fn is_request(frame: &[u8]) -> bool
     ensures { result ≡ is_request frame.now }
 {
     let place = if version(frame) == Some(2) { 1 } else { 0 };
@@ -431,8 +431,9 @@ impl Links {
         self.hand_in(rt, to, Parcel::Timeout(view))
     }
 
-    /// Gives a replica leave to lead from the block of a digest.
-    pub fn lead<R: Wait>(&self, rt: &R, to: ReplicaId, block: Digest) -> Result<(), Fault>
+    /// Gives a replica leave to begin anew as leader, from the block of a digest; or from the one that its last proposal
+    /// certifies.
+    pub fn lead<R: Wait>(&self, rt: &R, to: ReplicaId, block: Option<Digest>) -> Result<(), Fault>
         ensures { OnErr result ((result ≡ Err Fault.Memory) ⊎ (result ≡ Err Fault.NoSuchParty)) }
     {
         self.hand_in(rt, to, Parcel::Lead(block))

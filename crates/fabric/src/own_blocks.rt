@@ -77,6 +77,13 @@ impl OwnBlocks {
         self.certified.is_none()
     }
 
+    /// The block that its last proposal certifies.
+    pub(crate) fn certified(&self) -> Option<Digest>
+        ensures { result ≡ self.now.certified }
+    {
+        self.certified
+    }
+
     /// Whether the certificate of its last proposal is for this block.
     pub(crate) fn is_certified(&self, block: &Digest) -> bool
         ensures { result ≡ is_known_as block.now self.now.certified }

@@ -28,8 +28,8 @@ pub enum Parcel {
     Beat,
     /// This view has lasted too long.
     Timeout(View),
-    /// Leave to lead from the block of this digest.
-    Lead(Digest),
+    /// Leave to begin anew as leader, from the block of this digest, or from the one that its last proposal certifies.
+    Lead(Option<Digest>),
     /// Leave to prune the tree up to this height.
     Prune(u64),
     /// The worker that takes it ends.

@@ -26,7 +26,7 @@ fn slices<'b>(alloc: Global, frames: &'b [Bytes]) -> Result<Vec<&'b [u8]>, Alloc
 
 impl<'a, G: Gate, O: Outgoing + Questioned> Worker<'a, G, O> {
     /// The turn of one frame; where a tag isn't right, it is offered. What it sends goes out.
-    fn bring<R: Wait + Clock, S: Steps>(
+    pub(crate) fn bring<R: Wait + Clock, S: Steps>(
         &mut self,
         rt: &R,
         steps: &mut S,
@@ -259,7 +259,7 @@ impl<'a, G: Gate, O: Outgoing + Questioned> Worker<'a, G, O> {
     )
         ensures { HasGrown share.old share.new }
     {
-        if self.is_late(bytes.as_slice()) {
+        if self.is_late(bytes.as_slice()) || !self.lets_in(rt, &bytes) {
             return;
         }
         match self.bring(rt, steps, share, number, bytes.as_slice()) {
@@ -269,7 +269,7 @@ impl<'a, G: Gate, O: Outgoing + Questioned> Worker<'a, G, O> {
         }
     }
 
-    /// A frame was taken. What waited for the block that it brings comes next. In trouble a request is kept.
+    /// A frame was taken. A request is kept. What waited for the block that it brings comes next.
     fn taken<R: Wait + Clock, S: Steps>(
         &mut self,
         rt: &R,
@@ -279,11 +279,11 @@ impl<'a, G: Gate, O: Outgoing + Questioned> Worker<'a, G, O> {
     )
         ensures { HasGrown share.old share.new }
     {
+        self.keep_request(rt, bytes);
         if self.room.is_empty() && !self.out.in_trouble() {
             self.room.has_news();
             return;
         }
-        self.keep_request(rt, bytes);
         let block = Carried::by(&self.keyring.config(), bytes.as_slice()).block();
         self.has_taken(rt, block.as_ref());
         if let Some(block) = block {
@@ -296,13 +296,6 @@ impl<'a, G: Gate, O: Outgoing + Questioned> Worker<'a, G, O> {
         self.room.has_news();
         if let (true, Some(block)) = (self.out.in_trouble(), block) {
             self.out.close(rt, block);
-        }
-    }
-
-    /// Keeps a frame that is a request.
-    fn keep_request<R: Wait>(&self, rt: &R, bytes: &Bytes) {
-        if let Ok(Frame::Request(command)) = read(&self.keyring.config(), bytes.as_slice()) {
-            self.room.keep_request(rt, command.client(), bytes);
         }
     }
 

@@ -1,18 +1,18 @@
 //! Frames that wait for a block.
 
 use crate::queue::{Question, Queue};
+use crate::requests::Requests;
 use crate::unfounded::{Unfounded, UnfoundedList};
 use admission::missing_of;
 use bytes::Bytes;
 use frames_view::{Frame, read};
-use ids::{ClientId, Config, Digest, ReplicaId};
+use ids::{ClientId, Config, Digest, ReplicaId, Seq};
 use std::alloc::Global;
-use std::collections::BTreeMap;
 use std::sync::atomic::AtomicU64;
 use std::sync::atomic::Ordering::SeqCst;
 use std::sync::{Mutex, Wait};
+use std::thread;
 use std::time::{Clock, Duration};
-use std::{mem, thread};
 use tuning::{WORKER_CROWD, WORKER_HELD_MILLIS};
 
 /// What a frame carries to its receiver's tree.
@@ -106,7 +106,7 @@ impl Waiting {
 }
 
 /// Where the frames of one replica's link wait that lack a block, and proposals that lack grounds; and where requests are
-/// kept that a lead forgets. The replica's workers share it by reference.
+/// kept, since a leader that begins anew forgets them. The replica's workers share it by reference.
 ///
 /// `tuning` says how many wait at most, and with how many bytes; what comes then drives out the oldest. What is driven
 /// out, or for which memory is refused, is lost, as on any network. So that none is lost while one worker
@@ -129,8 +129,7 @@ pub struct WaitingRoom {
     /// How many frames were taken that may give grounds to another.
     news: AtomicU64,
     alloc: Global,
-    /// The last request of each client since there was trouble.
-    requests: Mutex<BTreeMap<ClientId, Bytes>>,
+    requests: Mutex<Requests>,
 }
 
 impl WaitingRoom {
@@ -146,7 +145,7 @@ impl WaitingRoom {
             lacking_grounds: AtomicU64::new(0),
             news: AtomicU64::new(0),
             alloc,
-            requests: Mutex::new(BTreeMap::new(alloc)),
+            requests: Mutex::new(Requests::new(alloc)),
         }
     }
 
@@ -251,16 +250,43 @@ impl WaitingRoom {
         frame
     }
 
-    /// Keeps the last request of a client. Where memory is refused it isn't kept: its client sends it again.
-    pub(crate) fn keep_request<R: Wait>(&self, rt: &R, client: ClientId, bytes: &Bytes) {
-        if let Ok(copy) = bytes.clone() {
-            let _refused = self.requests.lock(rt).insert(client, copy);
-        }
+    /// Keeps the last request of a client.
+    pub(crate) fn keep_request<R: Wait>(&self, rt: &R, client: ClientId, seq: Seq, bytes: &Bytes) {
+        self.requests.lock(rt).keep(client, seq, bytes);
     }
 
-    /// The requests that were kept. They are kept no longer.
-    pub(crate) fn take_requests<R: Wait>(&self, rt: &R) -> BTreeMap<ClientId, Bytes> {
-        let mut kept = self.requests.lock(rt);
-        mem::replace(&mut *kept, BTreeMap::new(self.alloc))
+    /// Whether a client's requests are let in at a moment, by a replica that leads or doesn't.
+    pub(crate) fn lets_in<R: Wait>(&self, rt: &R, client: ClientId, leads: bool, now: u64) -> bool {
+        self.requests
+            .lock(rt)
+            .suspects
+            .is_let_in(client, leads, now)
+    }
+
+    /// The replica begins anew as leader.
+    pub(crate) fn begin_trials<R: Wait>(&self, rt: &R, now: u64) {
+        self.requests.lock(rt).suspects.begin(now);
+    }
+
+    /// The request of the next trial, which begins now, if one may.
+    pub(crate) fn next_trial<R: Wait>(&self, rt: &R, now: u64) -> Option<Bytes> {
+        self.requests.lock(rt).next_trial(now)
+    }
+
+    /// What is on trial wasn't answered at once.
+    pub(crate) fn wait_for_trial<R: Wait>(&self, rt: &R) {
+        self.requests.lock(rt).suspects.wait();
+    }
+
+    /// A client's request was executed.
+    pub(crate) fn serve<R: Wait>(&self, rt: &R, client: ClientId, seq: Seq) {
+        self.requests.lock(rt).suspects.serve(client, seq);
+    }
+
+    /// The requests that were kept, of clients that aren't barred. No trial goes on.
+    pub(crate) fn give_up_trials<R: Wait>(&self, rt: &R, now: u64) -> Vec<Bytes> {
+        let mut requests = self.requests.lock(rt);
+        requests.suspects.give_up();
+        requests.of_all(self.alloc, now)
     }
 }

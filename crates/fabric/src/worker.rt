@@ -50,12 +50,22 @@ pub trait Outgoing {
         false
     }
 
+    /// Whether the replica leads its view.
+    fn leads(&self) -> bool {
+        false
+    }
+
+    /// The milliseconds since some moment.
+    fn millis<R: Clock>(&self, _rt: &R) -> u64 {
+        0
+    }
+
     /// Is told of a frame whose certificate isn't good for this keyring's replica, where the frame's own tag is right.
     fn doubted<R: Wait>(&self, _rt: &R, _keyring: &VerifyingKeyring, _bytes: &[u8]) {}
 }
 
-/// The number of a frame that a replica sends to itself: it goes over no link.
-const OWN: u64 = 0;
+/// The number of a frame that a replica sends to itself or has kept: it goes over no link.
+pub(crate) const OWN: u64 = 0;
 
 /// The links take them as they are.
 impl Outgoing for Links {
@@ -101,6 +111,7 @@ impl<'a, G: Gate, O: Outgoing + Questioned> Worker<'a, G, O> {
     pub(crate) fn send_all<R: Wait>(&mut self, rt: &R, out: Out) {
         let own = self.keyring.replica();
         for sending in out.into_sendings() {
+            self.note_reply(rt, &sending);
             let sending = self.aimed(sending);
             if sending.to == To::Replica(own) {
                 self.keep(Bytes::from_vec(sending.frame).ok());
@@ -204,7 +215,7 @@ impl<'a, G: Gate, O: Outgoing + Questioned> Worker<'a, G, O> {
     }
 
     /// One step that no frame brings.
-    fn step<R: Wait, S: Steps>(
+    pub(crate) fn step<R: Wait, S: Steps>(
         &mut self,
         rt: &R,
         steps: &mut S,
@@ -236,28 +247,18 @@ impl<'a, G: Gate, O: Outgoing + Questioned> Worker<'a, G, O> {
     }
 
     /// Where the replica is in this view still, it leaves it.
-    fn time_out<R: Wait, S: Steps>(&mut self, rt: &R, steps: &mut S, share: &mut Share, view: View)
-        ensures { HasGrown share.old share.new }
-    {
-        if let Some(Ok(out)) = steps.prompt(rt, share, Prompt::Timeout(view)) {
-            self.send_all(rt, out);
-        }
-    }
-
-    /// The replica is to lead from the block of this digest. It forgets by that what waits, so what clients asked since
-    /// there was trouble comes again.
-    fn lead<R: Wait + Clock, S: Steps>(
+    fn time_out<R: Wait + Clock, S: Steps>(
         &mut self,
         rt: &R,
         steps: &mut S,
         share: &mut Share,
-        block: Digest,
+        view: View,
     )
         ensures { HasGrown share.old share.new }
     {
-        self.step(rt, steps, share, Input::Lead(block));
-        for (_client, bytes) in self.room.take_requests(rt) {
-            self.take(rt, steps, share, OWN, bytes);
+        if let Some(Ok(out)) = steps.prompt(rt, share, Prompt::Timeout(view)) {
+            self.send_all(rt, out);
+            self.give_up_trials(rt, steps, share);
         }
     }
 
@@ -297,6 +298,7 @@ impl<'a, G: Gate, O: Outgoing + Questioned> Worker<'a, G, O> {
                 Parcel::Stop => break,
             }
             self.try_again(rt, steps, &mut share);
+            self.try_suspect(rt, steps, &mut share);
             self.propose(rt, steps, &mut share);
             self.end(rt);
         }

@@ -65,6 +65,15 @@ impl Outgoing for Outside<'_, '_> {
         self.station.trouble().is_on()
     }
 
+    fn leads(&self) -> bool {
+        let view = self.station.trouble().view();
+        self.links.config().leader(view) == self.station.number()
+    }
+
+    fn millis<R: Clock>(&self, rt: &R) -> u64 {
+        self.now(rt)
+    }
+
     fn doubted<R: Wait>(&self, rt: &R, keyring: &VerifyingKeyring, bytes: &[u8]) {
         self.station.trouble().doubt();
         self.station.doubts().look(rt, keyring, bytes);

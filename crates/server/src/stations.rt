@@ -19,10 +19,10 @@ use crate::watching::Progress;
 use crate::worker::WorkerStart;
 use asking::Questions;
 use authenticators::ReplicaKeyring;
-use clock::{Due, Keep, Pulse, Watched, keep_time};
+use clock::{Due, Keep, LeadFrom, Pulse, Watched, keep_time};
 use doorkeeper::Doorkeeper;
 use fabric::{Inbox, Links, WaitingRoom, Worker};
-use ids::{Fault, Height, MOST_REPLICAS, ReplicaId, View};
+use ids::{Digest, Fault, Height, MOST_REPLICAS, ReplicaId, View};
 use key_file::PairKeys;
 use liars::Lying;
 use locked_replica::Kept;
@@ -124,6 +124,16 @@ struct Timed<'s, 'a> {
     links: &'s Links,
 }
 
+impl<'s, 'a> Timed<'s, 'a> {
+    /// The block from which the replica is to begin anew. None for the one that its last proposal certifies.
+    fn base<R: Wait>(&self, rt: &R, from: LeadFrom) -> Option<Digest> {
+        match from {
+            LeadFrom::Certified => None,
+            LeadFrom::Lock => Some(self.station.locked.lock(rt).replica().lock()),
+        }
+    }
+}
+
 /// What a link doesn't take is lost.
 impl<'s, 'a> Watched for Timed<'s, 'a> {
     fn pulse<R: Wait>(&self, rt: &R) -> Pulse {
@@ -146,8 +156,8 @@ impl<'s, 'a> Watched for Timed<'s, 'a> {
         self.station.trouble.doubted()
     }
 
-    fn tell_trouble(&self, is_on: bool) {
-        self.station.trouble.show(is_on);
+    fn tell_trouble(&self, is_on: bool, view: View) {
+        self.station.trouble.show(is_on, view);
     }
 
     fn hand_in<R: Wait>(&self, rt: &R, due: Due) {
@@ -158,9 +168,10 @@ impl<'s, 'a> Watched for Timed<'s, 'a> {
             self.station.ended.store(view.0.saturating_add(1), SeqCst);
             let _ = self.links.timeout(rt, self.station.number, view);
         }
-        if due.lead {
-            let lock = self.station.locked.lock(rt).replica().lock();
-            let _ = self.links.lead(rt, self.station.number, lock);
+        if let Some(from) = due.lead {
+            self.station.trouble.raise();
+            let block = self.base(rt, from);
+            let _ = self.links.lead(rt, self.station.number, block);
         }
     }
 

@@ -29,3 +29,11 @@ pub const LINGER_TIMES: u32 = 10;
 
 /// Bytes that one look takes at most.
 pub const LINGER_BYTES: usize = 1024;
+
+/// Milliseconds for which a leader lets in no request of a client whose request found no certificate, the first time;
+/// twice as many each further time. More: one that is slow, or whom faulty replicas hinder, waits longer. Fewer: faulty
+/// clients cost the others more.
+pub const BAR_MILLIS: u64 = 1000;
+
+/// How often that is doubled, at most. More: who was faulty once waits longer.
+pub const MOST_DOUBLINGS: u32 = 6;

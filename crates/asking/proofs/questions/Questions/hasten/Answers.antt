@@ -1,8 +1,8 @@
-use Rattle.std.proofs.Common.{◌∙◌, ap, sym, subst, List}
+use Rattle.std.proofs.Common.{◌∙◌, ap, sym, subst}
 use Rattle.std.specs.Prelude.{position}
-use Rattle.asking.specs.Asking.{Asking, Question, changed, hastened, is_for}
+use Rattle.asking.specs.Asking.{Asking, hastened, is_for}
 use Rattle.asking.proofs.Bounds.{IsLike, hastened-like, like-bounded}
-use Rattle.asking.proofs.Changing.{unwritten, written}
+use Rattle.asking.proofs.Places.{left-alone, put-back}
 use Rattle.asking.proofs.questions.Questions.hasten.Goals as goal
 
 pub invariant_of-self : goal.invariant_of-self
@@ -16,21 +16,10 @@ invariant_of-self c =
 
 pub returns-in-Some : goal.returns-in-Some
 returns-in-Some c =
-    ap (λ (qs : List Question). record {
-      replicas = c.self.inside.replicas;
-      questions = qs;
-      turn = c.self.inside.turn;
-      pace = c.self.inside.pace;
-    })
-    (written (is_for c.args.block.now) (hastened c.args.now) c.self.inside.questions.items c.in-Some.place
-    c.index_mut.result.now c.hasten.new.self (c.self.invariant.once c.args.block.now)
-    (ap (λ (a : Asking). position (is_for c.args.block.now) a.questions) c.self.view_is ∙ sym c.in-Some.ensures)
-    c.index_mut.ensures.value c.hasten.ensures)
-    ∙ ap (λ (a : Asking). record a { questions = changed c.args.block.now (hastened c.args.now) a.questions })
-    c.self.view_is
+    put-back (hastened c.args.now) c.args.block.now _ c.args.self.now c.in-Some.place c.index_mut.result.now
+    c.hasten.new.self c.self.view_is (c.self.invariant.once c.args.block.now) (sym c.in-Some.ensures)
+    c.index_mut.ensures.value c.hasten.ensures
 
 pub returns-in_default : goal.returns-in_default
 returns-in_default c =
-    ap (λ (qs : List Question). record c.args.self.now { questions = qs })
-    (sym (unwritten (is_for c.args.block.now) (hastened c.args.now) c.args.self.now.questions
-    (sym c.place_of.ensures ∙ c.in_default.is)))
+    left-alone (hastened c.args.now) c.args.block.now c.args.self.now (sym c.place_of.ensures ∙ c.in_default.is)

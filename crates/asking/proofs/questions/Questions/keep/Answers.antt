@@ -2,26 +2,17 @@ use Rattle.std.proofs.Common.{◌≡◌, ◌∙◌, ◌<◌, ap, sym, subst, Lis
 use Rattle.std.specs.Prelude.{position, option_map}
 use Rattle.std.proofs.lemmas.List.Folds.{find-set}
 use Rattle.std.proofs.lemmas.List.Quantifiers.{position-Some}
-use Rattle.asking.specs.Asking.{Asking, Question, changed, fits, is_for, with_copy_of}
+use Rattle.asking.specs.Asking.{Asking, Question, fits, is_for, with_copy_of}
 use Rattle.asking.proofs.Bounds.{keep-bounded, may-keep, room-for}
-use Rattle.asking.proofs.Changing.{first-place, written}
+use Rattle.asking.proofs.Changing.{first-place}
+use Rattle.asking.proofs.Places.{put-back}
 use Rattle.asking.proofs.questions.Questions.keep.Goals as goal
 
 pub returns-clause-kept : goal.returns-clause-kept
 returns-clause-kept c =
-    ap (λ (qs : List Question). record {
-      replicas = c.self.inside.replicas;
-      questions = qs;
-      turn = c.self.inside.turn;
-      pace = c.self.inside.pace;
-    })
-    (written (is_for c.args.block.now) (with_copy_of c.args.sender c.args.frame) c.self.inside.questions.items
-    c.in_ok-place.place c.index_mut.result.now c.keep.new.self (c.self.invariant.once c.args.block.now)
-    (ap (λ (a : Asking). position (is_for c.args.block.now) a.questions) c.self.view_is ∙ c.in_ok-place.ensures.place)
-    c.index_mut.ensures.value c.in_ok-keep.ensures.kept)
-    ∙ ap (λ (a : Asking). record a {
-      questions = changed c.args.block.now (with_copy_of c.args.sender c.args.frame) a.questions;
-    }) c.self.view_is
+    put-back (with_copy_of c.args.sender c.args.frame) c.args.block.now _ c.args.self.now c.in_ok-place.place
+    c.index_mut.result.now c.keep.new.self c.self.view_is (c.self.invariant.once c.args.block.now)
+    c.in_ok-place.ensures.place c.index_mut.ensures.value c.in_ok-keep.ensures.kept
 
 pub returns-clause-count : goal.returns-clause-count
 returns-clause-count c =

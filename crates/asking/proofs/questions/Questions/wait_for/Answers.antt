@@ -1,9 +1,9 @@
-use Rattle.std.proofs.Common.{◌∙◌, ap, sym, subst, refl, List}
+use Rattle.std.proofs.Common.{◌∙◌, ap, sym, subst, refl}
 use Rattle.std.proofs.lemmas.Bool.{cond-true}
 use Rattle.std.specs.Prelude.{position}
-use Rattle.asking.specs.Asking.{Asking, Question, changed, is_for, waiting_for}
+use Rattle.asking.specs.Asking.{Asking, is_for, waiting_for}
 use Rattle.asking.proofs.Bounds.{IsLike, like-bounded}
-use Rattle.asking.proofs.Changing.{unwritten, written}
+use Rattle.asking.proofs.Places.{left-alone, put-back}
 use Rattle.asking.proofs.questions.Questions.wait_for.Goals as goal
 
 pub invariant_of-self : goal.invariant_of-self
@@ -17,23 +17,12 @@ invariant_of-self c =
 
 pub returns-in-Some : goal.returns-in-Some
 returns-in-Some c =
-    ap (λ (qs : List Question). record {
-      replicas = c.self.inside.replicas;
-      questions = qs;
-      turn = c.self.inside.turn;
-      pace = c.self.inside.pace;
-    })
-    (written (is_for c.args.block.now) (waiting_for c.args.parent) c.self.inside.questions.items c.in-Some.place
-    c.index_mut.result.now c.wait_for.new.self (c.self.invariant.once c.args.block.now)
-    (ap (λ (a : Asking). position (is_for c.args.block.now) a.questions) c.self.view_is ∙ sym c.in-Some.ensures)
-    c.index_mut.ensures.value c.wait_for.ensures)
-    ∙ ap (λ (a : Asking). record a { questions = changed c.args.block.now (waiting_for c.args.parent) a.questions })
-    c.self.view_is
+    put-back (waiting_for c.args.parent) c.args.block.now _ c.args.self.now c.in-Some.place c.index_mut.result.now
+    c.wait_for.new.self c.self.view_is (c.self.invariant.once c.args.block.now) (sym c.in-Some.ensures)
+    c.index_mut.ensures.value c.wait_for.ensures
     ∙ sym (cond-true _ _ _ (sym c.is_wanted.ensures ∙ c.if-not-is_wanted.false))
 
 pub returns-in_default : goal.returns-in_default
 returns-in_default c =
-    ap (λ (qs : List Question). record c.args.self.now { questions = qs })
-    (sym (unwritten (is_for c.args.block.now) (waiting_for c.args.parent) c.args.self.now.questions
-    (sym c.place_of.ensures ∙ c.in_default.is)))
+    left-alone (waiting_for c.args.parent) c.args.block.now c.args.self.now (sym c.place_of.ensures ∙ c.in_default.is)
     ∙ sym (cond-true _ _ _ (sym c.is_wanted.ensures ∙ c.if-not-is_wanted.false))

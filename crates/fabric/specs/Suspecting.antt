@@ -1,0 +1,90 @@
+-- Whose requests a leader lets in, where what it proposes finds no certificate.
+use Rattle.std.specs.Prelude.{ℕ, ◌+◌, ◌-◌, ◌*◌, ◌^◌, ◌==◌, ◌&&◌, ◌||◌, Bool, true, false, not, min, Option, Some, None}
+use Rattle.std.specs.Prelude.{if◌then◌else◌, is_none, nat_le, nat_lt, slice_index_or, slice_set}
+use Rattle.tuning.specs.declared.clocks.TheConstants.{LAG_WEIGHT}
+use Rattle.tuning.specs.declared.clients.TheConstants.{BAR_MILLIS, MOST_DOUBLINGS}
+use Rattle.fabric.specs.declared.suspects.Standing.{Standing}
+use Rattle.fabric.specs.declared.suspects.Suspects.{Suspects}
+use Rattle.fabric.specs.declared.suspects.Trial.{Trial}
+
+-- a sum that stops at the greatest number
+abbrev capped : ℕ → ℕ
+capped n = min n (2 ^ 64 - 1)
+
+-- nothing is known of a client
+abbrev pub fresh : Standing
+fresh = record { cleared_in = 0; failures = 0; barred_until = 0 }
+
+abbrev pub standing_of : Suspects → ℕ → Standing
+standing_of s client = slice_index_or s.standings client fresh
+
+abbrev with_standing : ℕ → Standing → Suspects → Suspects
+with_standing client x s = record s { standings = slice_set s.standings client x }
+
+-- the milliseconds for which it is barred after so many failures: twice as long each time, up to so often
+abbrev pub bar_of : ℕ → ℕ
+bar_of failures = BAR_MILLIS * 2 ^ min failures MOST_DOUBLINGS
+
+-- it passed its trial since the replica began anew
+abbrev pub is_cleared : Suspects → ℕ → Bool
+is_cleared s client = (standing_of s client).cleared_in == s.round
+
+abbrev pub is_on_trial : Option Trial → ℕ → Bool
+is_on_trial None client = false
+is_on_trial (Some trial) client = trial.client == client
+
+-- A client's requests are let in: where the replica leads and began anew, only if it is cleared or on trial, and
+-- nowhere while it is barred.
+abbrev pub is_let_in : Suspects → (client : ℕ) → (leads : Bool) → (now : ℕ) → Bool
+is_let_in s client leads now =
+    (not leads || (s.round == 0) || is_on_trial s.trial client || is_cleared s client)
+    && nat_le (standing_of s client).barred_until now
+
+-- another trial may begin
+abbrev pub may_try : Suspects → (now : ℕ) → Bool
+may_try s now = nat_lt 0 s.round && is_none s.trial && nat_le s.pause_until now
+
+-- a client waits for its trial
+abbrev pub is_due : Suspects → (client now : ℕ) → Bool
+is_due s client now = not (nat_lt now (standing_of s client).barred_until) && not (is_cleared s client)
+
+abbrev pub tried : Suspects → (client seq now : ℕ) → Suspects
+tried s client seq now =
+    record s { trial = Some (record { client = client; seq = seq; since = now; waits = false }); last = client }
+
+-- it wasn't answered at once
+abbrev pub waiting : Trial → Trial
+waiting trial = record trial { waits = true }
+
+-- A trial failed: its client is barred, and the next trial waits three times as long as it lasted, so that a view in
+-- which the others are served doesn't end of trials.
+abbrev pub failed : Suspects → Trial → (now : ℕ) → Suspects
+failed s trial now = with_standing trial.client (record (standing_of s trial.client) {
+  failures = min ((standing_of s trial.client).failures + 1) (2 ^ 32 - 1);
+  barred_until = capped (now + bar_of (standing_of s trial.client).failures);
+}) (record s { pause_until = capped (now + capped ((now - trial.since) * LAG_WEIGHT)) })
+
+-- a trial that goes on failed, where another client was cleared before it
+abbrev judged : Option Trial → Suspects → (now : ℕ) → Suspects
+judged None s now = s
+judged (Some trial) s now = if s.has_cleared then failed s trial now else s
+
+-- the replica begins anew: all are suspects
+abbrev pub begun : Suspects → (now : ℕ) → Suspects
+begun s now =
+    record (judged s.trial s now) { trial = None; has_cleared = false; round = capped (s.round + 1) }
+
+abbrev cleared : Trial → Suspects → (client : ℕ) → Suspects
+cleared trial s client = with_standing client (record (standing_of s client) {
+  cleared_in = s.round;
+  failures = (standing_of s client).failures - 1;
+}) (record s { trial = None; has_cleared = s.has_cleared || trial.waits })
+
+-- a client's request was executed: it is cleared where that was its trial
+abbrev passed : Option Trial → Suspects → (client seq : ℕ) → Suspects
+passed None s client seq = s
+passed (Some trial) s client seq =
+    if (trial.client == client) && (trial.seq == seq) then cleared trial s client else s
+
+abbrev pub served : Suspects → (client seq : ℕ) → Suspects
+served s client seq = passed s.trial s client seq

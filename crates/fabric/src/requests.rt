@@ -1,0 +1,80 @@
+//! The requests that a replica keeps.
+
+use crate::suspects::Suspects;
+use bytes::Bytes;
+use ids::{ClientId, Seq};
+use std::alloc::Global;
+use std::collections::BTreeMap;
+
+/// A client's request, as it came.
+#[derive(Drop)]
+struct Request {
+    seq: Seq,
+    bytes: Bytes,
+}
+
+/// The last request of each client, which a leader that begins anew takes again, and whose are let in.
+#[derive(Drop)]
+pub(crate) struct Requests {
+    kept: BTreeMap<ClientId, Request>,
+    pub(crate) suspects: Suspects,
+}
+
+impl Requests {
+    /// None.
+    pub(crate) fn new(alloc: Global) -> Requests {
+        Requests {
+            kept: BTreeMap::new(alloc),
+            suspects: Suspects::new(),
+        }
+    }
+
+    /// Keeps the last request of a client. Where memory is refused it isn't kept: its client sends it again.
+    pub(crate) fn keep(&mut self, client: ClientId, seq: Seq, bytes: &Bytes) {
+        if let Ok(bytes) = bytes.clone() {
+            let _refused = self.kept.insert(client, Request { seq, bytes });
+        }
+    }
+
+    /// Whose trial is the next one, of those that have requests: they have their turns by their numbers.
+    fn next_client(&self, now: u64) -> Option<ClientId> {
+        let (suspects, last) = (&self.suspects, self.suspects.last().0);
+        let mut first = None;
+        for client in self.kept.keys() {
+            if !suspects.is_due(*client, now) {
+                continue;
+            }
+            if client.0 > last {
+                return Some(*client);
+            }
+            first = first.or(Some(*client));
+        }
+        first
+    }
+
+    /// The request of the next trial, which begins now, if one may.
+    pub(crate) fn next_trial(&mut self, now: u64) -> Option<Bytes> {
+        if !self.suspects.may_try(now) {
+            return None;
+        }
+        let client = self.next_client(now)?;
+        let request = self.kept.get(&client)?;
+        let bytes = request.bytes.clone().ok()?;
+        self.suspects.try_client(client, request.seq, now);
+        Some(bytes)
+    }
+
+    /// The requests of clients that aren't barred.
+    pub(crate) fn of_all(&self, alloc: Global, now: u64) -> Vec<Bytes> {
+        let mut all = Vec::new(alloc);
+        for (client, request) in &self.kept {
+            if !self.suspects.is_let_in(*client, false, now) {
+                continue;
+            }
+            if let Ok(bytes) = request.bytes.clone() {
+                let _refused = all.push(bytes);
+            }
+        }
+        all
+    }
+}

@@ -1,0 +1,209 @@
+//! Whose requests a leader lets in, where what it proposes finds no certificate.
+
+ghost use Rattle.std.specs.Prelude.{◌≡◌, ◌==◌, None, option_map};
+ghost use Rattle.fabric.specs.Suspecting.{bar_of, begun, failed, is_due, is_let_in, may_try, served, standing_of};
+ghost use Rattle.fabric.specs.Suspecting.{tried, waiting};
+
+use ids::{ClientId, Seq};
+use tuning::{BAR_MILLIS, LAG_WEIGHT, MOST_DOUBLINGS};
+
+/// As many numbers as a client may have.
+const NUMBERS: usize = 256;
+
+/// What is known of a client.
+#[derive(Clone, Copy, Debug, PartialEq, Eq)]
+struct Standing {
+    /// The round in which it passed its trial last.
+    cleared_in: u64,
+    /// How many of its trials failed, less one for each that it passed since.
+    failures: u32,
+    /// In milliseconds.
+    barred_until: u64,
+}
+
+/// A request that is let in for its client to be cleared.
+#[derive(Clone, Copy, Debug, PartialEq, Eq)]
+struct Trial {
+    client: ClientId,
+    seq: Seq,
+    /// When it was let in, in milliseconds.
+    since: u64,
+    /// Whether it waits for a block: it wasn't answered at once, as one that was executed before.
+    waits: bool,
+}
+
+/// What a replica knows of clients, since a request may be right for it and for no other replica: a block with such a
+/// request is voted for by nobody.
+///
+/// Each time that it begins anew as leader all clients are suspects. One request of theirs is let in at a time, and who
+/// had one executed is cleared. Where the replica has to begin anew while one is on trial, its client is barred for a
+/// while, twice as long each time; but only where another one was cleared before, since a block finds no certificate for
+/// other reasons, too.
+#[derive(Drop)]
+pub(crate) struct Suspects {
+    /// How often the replica began anew; 0 for never.
+    round: u64,
+    /// Whether a client was cleared since, by a block.
+    has_cleared: bool,
+    trial: Option<Trial>,
+    /// The client that was on trial last.
+    last: ClientId,
+    /// When the next trial may begin, in milliseconds.
+    pause_until: u64,
+    /// By the clients' numbers.
+    standings: [Standing; NUMBERS],
+}
+
+/// For how many milliseconds a client is barred of which so many trials failed before.
+fn bar_of(failures: u32) -> u64
+    ensures { result ≡ bar_of failures }
+{
+    BAR_MILLIS << failures.min(MOST_DOUBLINGS)
+}
+
+impl Suspects {
+    /// Nobody is suspected.
+    pub(crate) fn new() -> Suspects
+        ensures round { result.round ≡ 0 }
+        ensures trial { result.trial ≡ None }
+    {
+        let fresh = Standing {
+            cleared_in: 0,
+            failures: 0,
+            barred_until: 0,
+        };
+        Suspects {
+            round: 0,
+            has_cleared: false,
+            trial: None,
+            last: ClientId(0),
+            pause_until: 0,
+            standings: [fresh; NUMBERS],
+        }
+    }
+
+    /// What is known of a client.
+    fn standing(&self, client: ClientId) -> Standing
+        ensures { result ≡ standing_of self.now client }
+    {
+        self.standings[usize::from(client.0)]
+    }
+
+    /// Whether a client was cleared since the replica began anew.
+    fn is_cleared(&self, client: ClientId) -> bool
+        ensures { result ≡ ((standing_of self.now client).cleared_in == self.now.round) }
+    {
+        self.standing(client).cleared_in == self.round
+    }
+
+    /// Whether a client's requests are let in at a moment: none while it is barred, and where the replica leads and began
+    /// anew, those of clients that are cleared or on trial.
+    pub(crate) fn is_let_in(&self, client: ClientId, leads: bool, now: u64) -> bool
+        ensures { result ≡ is_let_in self.now client leads now }
+    {
+        let on_trial = match self.trial {
+            Some(trial) => trial.client.0 == client.0,
+            None => false,
+        };
+        let is_free = !leads || self.round == 0 || on_trial || self.is_cleared(client);
+        is_free && now >= self.standing(client).barred_until
+    }
+
+    /// Whether another trial may begin.
+    pub(crate) fn may_try(&self, now: u64) -> bool
+        ensures { result ≡ may_try self.now now }
+    {
+        self.round > 0 && self.trial.is_none() && now >= self.pause_until
+    }
+
+    /// Whether a client waits for its trial, if it has a request.
+    pub(crate) fn is_due(&self, client: ClientId, now: u64) -> bool
+        ensures { result ≡ is_due self.now client now }
+    {
+        let is_barred = now < self.standing(client).barred_until;
+        !is_barred && !self.is_cleared(client)
+    }
+
+    /// The client that was on trial last.
+    pub(crate) fn last(&self) -> ClientId
+        ensures { result ≡ self.now.last }
+    {
+        self.last
+    }
+
+    /// A client's request is let in for its trial.
+    pub(crate) fn try_client(&mut self, client: ClientId, seq: Seq, now: u64)
+        ensures { self.new ≡ tried self.old client seq now }
+    {
+        self.trial = Some(Trial {
+            client,
+            seq,
+            since: now,
+            waits: false,
+        });
+        self.last = client;
+    }
+
+    /// What is on trial wasn't answered at once.
+    pub(crate) fn wait(&mut self)
+        ensures { self.new ≡ record self.old { trial = option_map waiting self.old.trial } }
+    {
+        if let Some(trial) = &mut self.trial {
+            trial.waits = true;
+        }
+    }
+
+    /// A trial failed. Its client is barred for a while, and the next trial waits so long that the view doesn't end of
+    /// trials.
+    fn fail(&mut self, trial: Trial, now: u64)
+        ensures { self.new ≡ failed self.old trial now }
+    {
+        let standing = self.standing(trial.client);
+        self.standings[usize::from(trial.client.0)] = Standing {
+            cleared_in: standing.cleared_in,
+            failures: standing.failures.saturating_add(1),
+            barred_until: now.saturating_add(bar_of(standing.failures)),
+        };
+        let lasted = now.saturating_sub(trial.since);
+        self.pause_until = now.saturating_add(lasted.saturating_mul(LAG_WEIGHT));
+    }
+
+    /// The replica begins anew.
+    pub(crate) fn begin(&mut self, now: u64)
+        ensures { self.new ≡ begun self.old now }
+    {
+        if let (Some(trial), true) = (self.trial, self.has_cleared) {
+            self.fail(trial, now);
+        }
+        self.trial = None;
+        self.has_cleared = false;
+        self.round = self.round.saturating_add(1);
+    }
+
+    /// The replica's view ends: what it tried may come to its turn elsewhere.
+    pub(crate) fn give_up(&mut self)
+        ensures { self.new ≡ record self.old { trial = None } }
+    {
+        self.trial = None;
+    }
+
+    /// A client's request was executed. If it was on trial, the client is cleared.
+    pub(crate) fn serve(&mut self, client: ClientId, seq: Seq)
+        ensures { self.new ≡ served self.old client seq }
+    {
+        let Some(trial) = self.trial else {
+            return;
+        };
+        if trial.client.0 != client.0 || trial.seq.0 != seq.0 {
+            return;
+        }
+        let standing = self.standing(client);
+        self.standings[usize::from(client.0)] = Standing {
+            cleared_in: self.round,
+            failures: standing.failures.saturating_sub(1),
+            barred_until: standing.barred_until,
+        };
+        self.trial = None;
+        self.has_cleared = self.has_cleared || trial.waits;
+    }
+}
