@@ -7,9 +7,6 @@ ghost use Rattle.fabric.specs.Suspecting.{tried, waiting};
 use ids::{ClientId, Seq};
 use tuning::{BAR_MILLIS, LAG_WEIGHT, MOST_DOUBLINGS};
 
-/// As many numbers as a client may have.
-const NUMBERS: usize = 256;
-
 /// What is known of a client.
 #[derive(Clone, Copy, Debug, PartialEq, Eq)]
 struct Standing {
@@ -50,8 +47,8 @@ pub(crate) struct Suspects {
     last: ClientId,
     /// When the next trial may begin, in milliseconds.
     pause_until: u64,
-    /// By the clients' numbers.
-    standings: [Standing; NUMBERS],
+    /// One for each number that a client may have.
+    standings: [Standing; 256],
 }
 
 /// For how many milliseconds a client is barred of which so many trials failed before.
@@ -78,7 +75,7 @@ impl Suspects {
             trial: None,
             last: ClientId(0),
             pause_until: 0,
-            standings: [fresh; NUMBERS],
+            standings: [fresh; 256],
         }
     }
 
