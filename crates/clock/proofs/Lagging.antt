@@ -6,7 +6,7 @@ use Rattle.std.proofs.lemmas.Bool.{le-leb, eq-eqb, not_from_true}
 use Rattle.std.proofs.Math.Nat.{min-le_left, min-le_right, min-eq_left, min-eq_right, le-min}
 use Rattle.clock.specs.declared.watch.Pulse.{Pulse}
 use Rattle.clock.specs.declared.watch.Watch.{Watch}
-use Rattle.clock.specs.Watching.{is_due, is_overdue, lags, limit_of, moved, slow_after}
+use Rattle.clock.specs.Watching.{is_due, is_overdue, lags, limit_after, moved, slow_after, vain_after}
 use Rattle.clock.specs.Laws.{Looks, watched, lagged, lagged_on, IsEarned, IsGiven, IsPatient}
 
 -- three times the time is as much as the count, at most
@@ -48,8 +48,8 @@ is-earned replicas earlier now p due =
     elim (or_cases _ _ due) [
       | inr c ↦ inr c
       | inl over ↦ (
-          let parts = and_parts (lags w now p) (nat_le (limit_of p.view) (slow_after w now p)) over in
-          let l = leb-true (limit_of p.view) (slow_after w now p) parts.1 in
+          let parts = and_parts (lags w now p) (nat_le (limit_after w p) (slow_after w now p)) over in
+          let l = leb-true (limit_after w p) (slow_after w now p) parts.1 in
           inl (le_trans l k))
     ]
 
@@ -108,12 +108,12 @@ is-given replicas earlier now p same l h =
     let seen : slow_after w now p ≡ min (w.slow + min (passed * 3) most) most =
     cond-false _ _ _ (not_from_true _ (eq-eqb _ _ same)) ∙ cond-true _ _ _ l in
     let k = most-added (3 * lagged_on replicas earlier) (passed * 3) w.slow most (slow-on replicas earlier) in
-    let least = le-min {b = most} h (min-le_right (min (p.view + 1) most * 1000) most) in
+    let least = le-min {b = most} h (min-le_right (min (vain_after w p + 1) most * 1000) most) in
     let sum : 3 * (lagged_on replicas earlier + passed) ≡ 3 * lagged_on replicas earlier + passed * 3 =
     omega arith in
     or_left _ _ (and_from _ _ l (le-leb _ _
-    (subst (λ (n : ℕ). limit_of p.view ≤ n) (sym seen)
-    (le_trans (subst (λ (n : ℕ). limit_of p.view ≤ min n most) sum least) k))))
+    (subst (λ (n : ℕ). limit_after w p ≤ n) (sym seen)
+    (le_trans (subst (λ (n : ℕ). limit_after w p ≤ min n most) sum least) k))))
 
 pub is-patient : IsPatient
 unfolding watched

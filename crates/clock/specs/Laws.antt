@@ -4,7 +4,7 @@ use Rattle.std.specs.Prelude.{if◌then◌else◌}
 use Rattle.tuning.specs.declared.clocks.TheConstants.{LAG_WEIGHT, LEAST_BEAT_MILLIS}
 use Rattle.clock.specs.declared.watch.Pulse.{Pulse}
 use Rattle.clock.specs.declared.watch.Watch.{Watch}
-use Rattle.clock.specs.Watching.{climbs, is_due, lags, limit_of, looked, unseen}
+use Rattle.clock.specs.Watching.{climbs, is_due, lags, limit_after, looked, unseen}
 
 -- the looks at one of so many replicas: each at a moment, and what was seen then; the last one first
 abbrev pub Looks : Type 0
@@ -36,7 +36,7 @@ lagged replicas (x ∷ earlier) =
 abbrev pub IsEarned : Type 0
 IsEarned = (replicas : ℕ) (earlier : Looks) (now : ℕ) (p : Pulse)
     → is_due (watched replicas earlier) now p ≡ true
-    → (limit_of p.view ≤ LAG_WEIGHT * (lagged replicas earlier + (now - (watched replicas earlier).looked)))
+    → (limit_after (watched replicas earlier) p ≤ LAG_WEIGHT * (lagged replicas earlier + (now - (watched replicas earlier).looked)))
     ⊎ (climbs (watched replicas earlier) p ≡ true)
 
 -- the same, as far back as it lagged at each look
@@ -49,7 +49,8 @@ lagged_on replicas (x ∷ earlier) = lagged_after (watched replicas earlier) x (
 abbrev pub IsGiven : Type 0
 IsGiven = (replicas : ℕ) (earlier : Looks) (now : ℕ) (p : Pulse)
     → (let w = watched replicas earlier in p.view ≡ w.view → lags w now p ≡ true
-    → limit_of p.view ≤ LAG_WEIGHT * (lagged_on replicas earlier + (now - w.looked)) → is_due w now p ≡ true)
+    → limit_after w p ≤ LAG_WEIGHT * (lagged_on replicas earlier + (now - w.looked))
+    → is_due w now p ≡ true)
 
 -- A proposal may always wait for the least pause before there is a beat on top of it.
 abbrev pub IsPatient : Type 0

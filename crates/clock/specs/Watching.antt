@@ -1,6 +1,6 @@
 -- What is due to a replica, by what was seen of it.
 use Rattle.std.specs.Prelude.{ℕ, ◌+◌, ◌*◌, ◌/◌, ◌-◌, ◌^◌, ◌==◌, ◌&&◌, ◌||◌, not, min, max, nat_le, Bool}
-use Rattle.std.specs.Prelude.{if◌then◌else◌, nat_lt, Option, Some, None}
+use Rattle.std.specs.Prelude.{if◌then◌else◌, nat_lt, false, Option, Some, None}
 use Rattle.std.specs.Option.{option_or}
 use Rattle.tuning.specs.declared.clocks.TheConstants.{COMMAND_SHARE, LAG_WEIGHT, LEAD_PART, LEAST_BEAT_MILLIS, LOCK_PART}
 use Rattle.tuning.specs.declared.clocks.TheConstants.{LEAST_COMMAND_MILLIS, MOST_COUNTED, MOST_UNDECIDED, VIEW_LIMIT}
@@ -28,6 +28,8 @@ unseen replicas = record {
   from = 0;
   stuck = 0;
   led = None;
+  vain = 0;
+  served = false;
 }
 
 -- its view or its history changed since it was looked at last
@@ -48,13 +50,28 @@ slow_after w now p =
     else if lags w now p then min (w.slow + min ((now - w.looked) * LAG_WEIGHT) (2 ^ 64 - 1)) (2 ^ 64 - 1)
     else w.slow - (now - w.looked)
 
--- how slow a view may be: the limit, and as much more for each view before it
+-- So many views passed in vain: of those before the one that it is in, as far as nothing was executed in them. One in
+-- which something was halves their number.
+abbrev pub vain_after : Watch → Pulse → ℕ
+vain_after w p =
+    if p.view == w.view then w.vain
+    else if w.served then w.vain / 2
+    else min (w.vain + (p.view - w.view)) (2 ^ 64 - 1)
+
+-- something was executed in the view that it is in
+abbrev pub served_after : Watch → Pulse → Bool
+served_after w p = (w.served && (p.view == w.view)) || not (p.executed == w.executed)
+
+-- how slow a view may be: the limit, and as much more for each view that passed in vain
 abbrev pub limit_of : ℕ → ℕ
-limit_of view = min (min (view + 1) (2 ^ 64 - 1) * VIEW_LIMIT) (2 ^ 64 - 1)
+limit_of vain = min (min (vain + 1) (2 ^ 64 - 1) * VIEW_LIMIT) (2 ^ 64 - 1)
+
+abbrev pub limit_after : Watch → Pulse → ℕ
+limit_after w p = limit_of (vain_after w p)
 
 -- it lags, and has been slow for so long
-abbrev pub is_over : Watch → ℕ → ℕ → Pulse → Bool
-is_over w now slow p = lags w now p && nat_le (limit_of p.view) slow
+abbrev pub is_over : Watch → (now limit slow : ℕ) → Pulse → Bool
+is_over w now limit slow p = lags w now p && nat_le limit slow
 
 -- its view or its last executed block changed since it was looked at last
 abbrev pub settled : Watch → Pulse → Bool
@@ -70,7 +87,7 @@ climbs w p = not (settled w p) && nat_lt (most_undecided p.view) (p.voted - w.fr
 
 -- its view is over with what is seen at this moment
 abbrev pub is_due : Watch → ℕ → Pulse → Bool
-is_due w now p = is_over w now (slow_after w now p) p || climbs w p
+is_due w now p = is_over w now (limit_after w p) (slow_after w now p) p || climbs w p
 
 -- nothing that it proposed waits for votes, or it has just got on
 abbrev pub rests : Watch → Pulse → Bool
@@ -96,13 +113,13 @@ next_lead (Some Certified) stuck limit = if nat_le (limit / LOCK_PART) stuck the
 next_lead (Some Lock) stuck limit = None
 
 -- it does so while it is stuck, and what it proposed waits for votes
-abbrev pub lead_where : Watch → ℕ → Pulse → (is_stuck : Bool) → Option LeadFrom
-lead_where w now p is_stuck =
+abbrev pub lead_where : Watch → (now limit : ℕ) → Pulse → (is_stuck : Bool) → Option LeadFrom
+lead_where w now limit p is_stuck =
     if (p.wants_beat && not p.wants_beat_now) && is_stuck
-    then next_lead w.led (stuck_for w now) (limit_of p.view) else None
+    then next_lead w.led (stuck_for w now) limit else None
 
 abbrev pub lead_of : Watch → ℕ → Pulse → Option LeadFrom
-lead_of w now p = lead_where w now p (is_stuck w now p)
+lead_of w now p = lead_where w now (limit_after w p) p (is_stuck w now p)
 
 -- what is due
 abbrev pub due_of : Watch → ℕ → Pulse → Due
@@ -132,4 +149,6 @@ looked w now p = record {
   from = if settled w p || is_due w now p then p.voted else w.from;
   stuck = if is_stuck w now p then w.stuck else now;
   led = if is_stuck w now p then option_or (lead_of w now p) w.led else None;
+  vain = vain_after w p;
+  served = served_after w p;
 }

@@ -3,7 +3,7 @@
 ghost use Rattle.std.specs.Prelude.{◌≡◌, ◌-◌, if◌then◌else◌};
 ghost use Rattle.clock.specs.Watching.{climbs, due_of, is_over, is_overdue, lags, lead_where, limit_of, looked};
 ghost use Rattle.clock.specs.Watching.{most_undecided, moved, next_lead, settled, stuck_for};
-ghost use Rattle.clock.specs.Watching.{patience_of, pause_after, rests, slow_after, unseen};
+ghost use Rattle.clock.specs.Watching.{patience_of, pause_after, rests, served_after, slow_after, unseen, vain_after};
 
 use ids::{Fault, Height, View};
 use tuning::{
@@ -75,13 +75,16 @@ pub struct Watch {
     /// Since when its requests have lagged and nothing was executed, and the last leave to begin anew since then.
     stuck: u64,
     led: Option<LeadFrom>,
+    /// How many views passed in vain, and whether something was executed in this one.
+    vain: u64,
+    served: bool,
 }
 
-/// How slow a view may be: `VIEW_LIMIT`, and as much more for each view before.
-fn limit_of(view: u64) -> u64
-    ensures { result ≡ limit_of view }
+/// How slow a view may be: `VIEW_LIMIT`, and as much more for each view that passed in vain.
+fn limit_of(vain: u64) -> u64
+    ensures { result ≡ limit_of vain }
 {
-    view.saturating_add(1).saturating_mul(VIEW_LIMIT)
+    vain.saturating_add(1).saturating_mul(VIEW_LIMIT)
 }
 
 /// How many heights a view may bring without a decision: `MOST_UNDECIDED`, and as many more for each view before.
@@ -137,6 +140,8 @@ impl Watch {
             from: Height(0),
             stuck: 0,
             led: None,
+            vain: 0,
+            served: false,
         }
     }
 
@@ -173,11 +178,33 @@ impl Watch {
         }
     }
 
-    /// Whether its view lags, and has been slow for too long.
-    fn is_over(&self, now: u64, slow: u64, pulse: Pulse) -> bool
-        ensures { result ≡ is_over self.now now slow pulse }
+    /// How many views passed in vain before the one that it is in. One in which something was executed halves their
+    /// number: else a server at which a faulty party ends views would bear slow ones more and more.
+    fn vain_after(&self, pulse: Pulse) -> u64
+        ensures { result ≡ vain_after self.now pulse }
     {
-        let limit = limit_of(pulse.view.0);
+        if pulse.view.0 == self.view.0 {
+            self.vain
+        } else if self.served {
+            self.vain / 2
+        } else {
+            let passed = pulse.view.0.saturating_sub(self.view.0);
+            self.vain.saturating_add(passed)
+        }
+    }
+
+    /// Whether something was executed in the view that it is in.
+    fn served_after(&self, pulse: Pulse) -> bool
+        ensures { result ≡ served_after self.now pulse }
+    {
+        let stays = self.served && pulse.view.0 == self.view.0;
+        stays || pulse.executed != self.executed
+    }
+
+    /// Whether its view lags, and has been slow for so long.
+    fn is_over(&self, now: u64, limit: u64, slow: u64, pulse: Pulse) -> bool
+        ensures { result ≡ is_over self.now now limit slow pulse }
+    {
         self.lags(now, pulse) && slow >= limit
     }
 
@@ -233,11 +260,11 @@ impl Watch {
     }
 
     /// From what it is to begin anew, where it is stuck or isn't: if it leads, and what it proposed waits for votes.
-    fn lead(&self, now: u64, pulse: Pulse, is_stuck: bool) -> Option<LeadFrom>
-        ensures { result ≡ lead_where self.now now pulse is_stuck }
+    fn lead(&self, now: u64, limit: u64, pulse: Pulse, is_stuck: bool) -> Option<LeadFrom>
+        ensures { result ≡ lead_where self.now now limit pulse is_stuck }
     {
         let waits = pulse.wants_beat && !pulse.wants_beat_now;
-        let (stuck, limit) = (self.stuck_for(now), limit_of(pulse.view.0));
+        let stuck = self.stuck_for(now);
         if waits && is_stuck {
             self.next_lead(stuck, limit)
         } else {
@@ -251,11 +278,13 @@ impl Watch {
         ensures watch { self.new ≡ looked self.old now pulse }
     {
         let (moved, slow) = (self.has_moved(pulse), self.slow_after(now, pulse));
-        let over = self.is_over(now, slow, pulse) || self.climbs(pulse);
+        let vain = self.vain_after(pulse);
+        let limit = limit_of(vain);
+        let over = self.is_over(now, limit, slow, pulse) || self.climbs(pulse);
         let (rests, overdue) = (self.rests(pulse), self.is_overdue(now, pulse));
         let counts_anew = self.is_settled(pulse) || over;
         let stuck = !moved && self.lags(now, pulse);
-        let lead = self.lead(now, pulse, stuck);
+        let lead = self.lead(now, limit, pulse, stuck);
         *self = Watch {
             view: pulse.view,
             executed: pulse.executed,
@@ -268,6 +297,8 @@ impl Watch {
             from: if counts_anew { pulse.voted } else { self.from },
             stuck: if stuck { self.stuck } else { now },
             led: if stuck { lead.or(self.led) } else { None },
+            vain,
+            served: self.served_after(pulse),
         };
         Due {
             beat: pulse.wants_beat_now || overdue,
