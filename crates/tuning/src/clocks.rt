@@ -25,8 +25,8 @@ pub const MOST_COUNTED: u64 = 8;
 /// What a millisecond in which a view lags counts; one in which it doesn't takes one back.
 pub const LAG_WEIGHT: u64 = 3;
 
-/// How much a view's lag may count, times one more than the view's number: a view that lags all along ends after a third
-/// of a second, the next one after two thirds. Less: correct leaders are replaced while they catch up.
+/// How much a view's lag may count, times one more than the number of views that passed in vain: a view that lags all along
+/// ends after a third of a second, the next one after two thirds. Less: correct leaders are replaced while they catch up.
 pub const VIEW_LIMIT: u64 = 1000;
 
 /// Heights that a view may bring without a decision, times one more than its number, before it ends: twice as many as a
