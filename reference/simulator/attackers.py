@@ -251,6 +251,16 @@ class Crowd(HalfVotes):
             self.propose(view, self.made[-1], top, [replica], True)
 
 
+class CrowdOne(Crowd):
+    """The same, and one replica gets a block over each of these, so that it asks for all that the others were shown."""
+
+    def _crowd(self, view):
+        super()._crowd(view)
+        top = self.certified()
+        for digest in self.made[-4 * len(self.good):]:
+            self.propose(view, self.extend(digest, top), top, self.good[:1], True)
+
+
 class Race(Attacker):
     """A liar that leads sends as many heights as fit through one link, to one replica alone."""
     speed = 10
@@ -330,6 +340,6 @@ class FromAMoment(HalfVotes):
 ATTACKS = {
     "none": Attacker, "mute": Mute, "leave out": LeaveOut, "half votes": HalfVotes, "each third": EachThird,
     "in turns": InTurns, "wrong digests": WrongDigests, "false claims": FalseClaims, "half claims": HalfClaims,
-    "to few": ToFew, "crowd": Crowd, "race": Race, "race twice": RaceTwice, "a moment": FromAMoment,
-    "clients 1": FaultyClients, "clients 6": FaultyClients, "clients 20": FaultyClients,
+    "to few": ToFew, "crowd": Crowd, "crowd one": CrowdOne, "race": Race, "race twice": RaceTwice,
+    "a moment": FromAMoment, "clients 1": FaultyClients, "clients 6": FaultyClients, "clients 20": FaultyClients,
 }
