@@ -6,6 +6,7 @@ use Rattle.ids.specs.declared.fault.Fault.TheVariants.{BadHeight, NotMine, Wrong
 use Rattle.admission.specs.declared.input.Input.{Input}
 use Rattle.admission.specs.declared.input.Input.TheVariants as input
 use Rattle.admission.specs.Inputs.{input_of}
+use Rattle.definitions.specs.States.{view}
 use Rattle.definitions.specs.Rulings.{Input as Ruled, Input.proposal_in, Input.offered_in}
 use Rattle.doorkeeper.specs.Climbs.{climbs_too_far}
 use Rattle.signed_frames.specs.Outs.{SentBytes}
@@ -62,11 +63,11 @@ is_careless kept (proposal_in view core q found) = is_careless_core core kept.re
 is_careless kept (offered_in (Some view) sender core q found) = is_careless_core core kept.replica.chronicle
 is_careless kept other = false
 
--- Why an input is refused before the doorkeeper counts: a vain beat, a proposal that climbs too far, or a careless one.
+-- Why an input is refused before the doorkeeper counts: a vain beat, a block that climbs too far, or a careless proposal.
 abbrev pub refusal : KeptState → Input → Option Fault
 refusal kept input =
     if is_vain kept input then Some NotMine
-    else if climbs_too_far (input_of input) then Some BadHeight
+    else if climbs_too_far (input_of input) (view kept.keys.sizes kept.replica.chronicle) then Some BadHeight
     else if is_careless kept (input_of input) then Some WrongJustify
     else None
 

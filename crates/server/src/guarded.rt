@@ -103,14 +103,14 @@ impl<'a> Guarded<'a> {
         }
     }
 
-    /// Why an input is refused before the doorkeeper counts, if it is: a vain beat, a proposal that climbs too far, or a
-    /// careless one.
+    /// Why an input is refused before the doorkeeper counts, if it is: a vain beat, a block that climbs too far, or a
+    /// careless proposal.
     fn refusal(&self, input: &Input<'_>) -> Option<Fault>
         ensures { result ≡ guarding.refusal self.now.kept input.now }
     {
         if self.is_vain(input) {
             Some(Fault::NotMine)
-        } else if climbs_too_far(input) {
+        } else if climbs_too_far(input, self.replica().view()) {
             Some(Fault::BadHeight)
         } else if self.is_careless(input) {
             Some(Fault::WrongJustify)
@@ -192,9 +192,10 @@ impl<'a> Guarded<'a> {
 }
 
 /// Each step is one of the replica, or is refused: with `Full` where it holds as many blocks as it may; with `NotMine`
-/// for a beat of a replica that doesn't lead or has no request; with `BadHeight` for a proposal that climbs too far; with
-/// `WrongJustify` for one of which a block justifies one below the lock; and for a block that the doorkeeper doesn't let
-/// in with `Crowded`, or with `Memory` where it couldn't be counted. A block that is refused is lost, as on any network.
+/// for a beat of a replica that doesn't lead or has no request; with `BadHeight` for a block that climbs too far; with
+/// `WrongJustify` for a proposal of which a block justifies one below the lock; and for a block that the doorkeeper
+/// doesn't let in with `Crowded`, or with `Memory` where it couldn't be counted. A block that is refused is lost, as on any
+/// network.
 ///
 /// It heeds no prompt to propose at once while its last proposal is out: a beat would bring that proposal once more. The
 /// clock sends it again.
