@@ -2,7 +2,7 @@
 use Rattle.std.specs.Prelude.{ℕ, ◌+◌, ◌*◌, ◌/◌, ◌-◌, ◌^◌, ◌==◌, ◌&&◌, ◌||◌, not, min, max, nat_le, Bool}
 use Rattle.std.specs.Prelude.{if◌then◌else◌, nat_lt, false, Option, Some, None}
 use Rattle.std.specs.Option.{option_or}
-use Rattle.tuning.specs.declared.clocks.TheConstants.{COMMAND_SHARE, LAG_WEIGHT, LEAD_PART, LEAST_BEAT_MILLIS, LOCK_PART}
+use Rattle.tuning.specs.declared.clocks.TheConstants.{COMMAND_SHARE, LAG_WEIGHT, LEAD_PART, LEAST_BEAT_MILLIS}
 use Rattle.tuning.specs.declared.clocks.TheConstants.{LEAST_COMMAND_MILLIS, MOST_COUNTED, MOST_UNDECIDED, VIEW_LIMIT}
 use Rattle.clock.specs.declared.watch.LeadFrom.{LeadFrom}
 use Rattle.clock.specs.declared.watch.LeadFrom.TheVariants.{Certified, Lock}
@@ -105,18 +105,23 @@ is_stuck w now p = not (moved w p) && lags w now p
 abbrev pub stuck_for : Watch → ℕ → ℕ
 stuck_for w now = min ((now - w.stuck) * LAG_WEIGHT) (2 ^ 64 - 1)
 
--- From what a leader begins anew, where it was stuck for so much of what its view may be: first from what its last
--- proposal certifies, and once from its lock.
-abbrev pub next_lead : Option LeadFrom → (stuck limit : ℕ) → Option LeadFrom
-next_lead None stuck limit = if nat_le (limit / LEAD_PART) stuck then Some Certified else None
-next_lead (Some Certified) stuck limit = if nat_le (limit / LOCK_PART) stuck then Some Lock else None
-next_lead (Some Lock) stuck limit = None
+-- how much a leader may be stuck before it begins anew, where its view may be slow for so much: a part of that, and at
+-- least half of a command's time
+abbrev pub lead_after : (patience limit : ℕ) → ℕ
+lead_after patience limit = max (limit / LEAD_PART) (min (patience * LAG_WEIGHT) (2 ^ 64 - 1) / 2)
+
+-- From what it begins anew, where it was stuck for so much: first from what its last proposal certifies, and once from
+-- its lock, after twice as much.
+abbrev pub next_lead : Option LeadFrom → (stuck least : ℕ) → Option LeadFrom
+next_lead None stuck least = if nat_le least stuck then Some Certified else None
+next_lead (Some Certified) stuck least = if nat_le (min (least * 2) (2 ^ 64 - 1)) stuck then Some Lock else None
+next_lead (Some Lock) stuck least = None
 
 -- it does so while it is stuck, and what it proposed waits for votes
 abbrev pub lead_where : Watch → (now limit : ℕ) → Pulse → (is_stuck : Bool) → Option LeadFrom
 lead_where w now limit p is_stuck =
     if (p.wants_beat && not p.wants_beat_now) && is_stuck
-    then next_lead w.led (stuck_for w now) limit else None
+    then next_lead w.led (stuck_for w now) (lead_after w.patience limit) else None
 
 abbrev pub lead_of : Watch → ℕ → Pulse → Option LeadFrom
 lead_of w now p = lead_where w now (limit_after w p) p (is_stuck w now p)

@@ -1,14 +1,14 @@
 //! What is due to one replica.
 
 ghost use Rattle.std.specs.Prelude.{◌≡◌, ◌-◌, if◌then◌else◌};
-ghost use Rattle.clock.specs.Watching.{climbs, due_of, is_over, is_overdue, lags, lead_where, limit_of, looked};
-ghost use Rattle.clock.specs.Watching.{most_undecided, moved, next_lead, settled, stuck_for};
+ghost use Rattle.clock.specs.Watching.{climbs, due_of, is_over, is_overdue, lags, lead_after, lead_where, limit_of};
+ghost use Rattle.clock.specs.Watching.{looked, most_undecided, moved, next_lead, settled, stuck_for};
 ghost use Rattle.clock.specs.Watching.{patience_of, pause_after, rests, served_after, slow_after, unseen, vain_after};
 
 use ids::{Fault, Height, View};
 use tuning::{
-    COMMAND_SHARE, LAG_WEIGHT, LEAD_PART, LEAST_BEAT_MILLIS, LEAST_COMMAND_MILLIS, LOCK_PART,
-    MOST_COUNTED, MOST_UNDECIDED, VIEW_LIMIT,
+    COMMAND_SHARE, LAG_WEIGHT, LEAD_PART, LEAST_BEAT_MILLIS, LEAST_COMMAND_MILLIS, MOST_COUNTED,
+    MOST_UNDECIDED, VIEW_LIMIT,
 };
 
 /// What is seen of a replica at one moment.
@@ -247,14 +247,23 @@ impl Watch {
         now.saturating_sub(self.stuck).saturating_mul(LAG_WEIGHT)
     }
 
+    /// How much it may be stuck before it begins anew, where its view may be slow for so much: a part of that, and at
+    /// least half of a command's time.
+    fn lead_after(&self, limit: u64) -> u64
+        ensures { result ≡ lead_after self.now.patience limit }
+    {
+        let least = self.patience.saturating_mul(LAG_WEIGHT) / 2;
+        (limit / LEAD_PART).max(least)
+    }
+
     /// From what it is to begin anew, after so much in which it was stuck: from what its last proposal certifies, and
-    /// where that brought nothing, once from its lock.
-    fn next_lead(&self, stuck: u64, limit: u64) -> Option<LeadFrom>
-        ensures { result ≡ next_lead self.now.led stuck limit }
+    /// where that brought nothing, once from its lock, after twice as much.
+    fn next_lead(&self, stuck: u64, least: u64) -> Option<LeadFrom>
+        ensures { result ≡ next_lead self.now.led stuck least }
     {
         match self.led {
-            None if stuck >= limit / LEAD_PART => Some(LeadFrom::Certified),
-            Some(LeadFrom::Certified) if stuck >= limit / LOCK_PART => Some(LeadFrom::Lock),
+            None if stuck >= least => Some(LeadFrom::Certified),
+            Some(LeadFrom::Certified) if stuck >= least.saturating_mul(2) => Some(LeadFrom::Lock),
             _ => None,
         }
     }
@@ -264,9 +273,9 @@ impl Watch {
         ensures { result ≡ lead_where self.now now limit pulse is_stuck }
     {
         let waits = pulse.wants_beat && !pulse.wants_beat_now;
-        let stuck = self.stuck_for(now);
+        let (stuck, least) = (self.stuck_for(now), self.lead_after(limit));
         if waits && is_stuck {
-            self.next_lead(stuck, limit)
+            self.next_lead(stuck, least)
         } else {
             None
         }

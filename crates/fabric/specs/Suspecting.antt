@@ -25,9 +25,10 @@ with_standing client x s = record s { standings = slice_set s.standings client x
 abbrev pub bar_of : ℕ → ℕ
 bar_of failures = BAR_MILLIS * 2 ^ min failures MOST_DOUBLINGS
 
--- it passed its trial since the replica began anew
+-- it passed its trial since the replica began anew, or wasn't the last one on trial where all others are cleared
 abbrev pub is_cleared : Suspects → ℕ → Bool
-is_cleared s client = (standing_of s client).cleared_in == s.round
+is_cleared s client =
+    (s.clears_others && not (s.last == client)) || ((standing_of s client).cleared_in == s.round)
 
 abbrev pub is_on_trial : Option Trial → ℕ → Bool
 is_on_trial None client = false
@@ -56,23 +57,39 @@ tried s client seq now =
 abbrev pub waiting : Trial → Trial
 waiting trial = record trial { waits = true }
 
--- A trial failed: its client is barred, and the next trial waits three times as long as it lasted, so that a view in
--- which the others are served doesn't end of trials.
+-- The next trial waits three times as long as this one lasted, so that a view in which the others are served doesn't end
+-- of trials.
+abbrev pub paused : Suspects → Trial → (now : ℕ) → Suspects
+paused s trial now = record s { pause_until = capped (now + capped ((now - trial.since) * LAG_WEIGHT)) }
+
+-- a trial failed: its client is barred
 abbrev pub failed : Suspects → Trial → (now : ℕ) → Suspects
 failed s trial now = with_standing trial.client (record (standing_of s trial.client) {
   failures = min ((standing_of s trial.client).failures + 1) (2 ^ 32 - 1);
   barred_until = capped (now + bar_of (standing_of s trial.client).failures);
-}) (record s { pause_until = capped (now + capped ((now - trial.since) * LAG_WEIGHT)) })
+}) (paused s trial now)
 
 -- a trial that goes on failed, where another client was cleared before it
 abbrev judged : Option Trial → Suspects → (now : ℕ) → Suspects
 judged None s now = s
 judged (Some trial) s now = if s.has_cleared then failed s trial now else s
 
--- the replica begins anew: all are suspects
+-- the replica begins anew, and all are suspects, or only who was on trial
+abbrev again : Suspects → (clears_others : Bool) → Suspects
+again s clears_others =
+    record s { trial = None; has_cleared = false; clears_others = clears_others; round = capped (s.round + 1) }
+
+-- it begins anew with what it certified: all are suspects
 abbrev pub begun : Suspects → (now : ℕ) → Suspects
-begun s now =
-    record (judged s.trial s now) { trial = None; has_cleared = false; round = capped (s.round + 1) }
+begun s now = again (judged s.trial s now) false
+
+abbrev paused_for : Option Trial → Suspects → (now : ℕ) → Suspects
+paused_for None s now = s
+paused_for (Some trial) s now = paused s trial now
+
+-- it begins anew from its lock: only who was on trial is suspected still
+abbrev pub begun_with_others : Suspects → (now : ℕ) → Suspects
+begun_with_others s now = again (paused_for s.trial s now) true
 
 abbrev cleared : Trial → Suspects → (client : ℕ) → Suspects
 cleared trial s client = with_standing client (record (standing_of s client) {

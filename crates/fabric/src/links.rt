@@ -431,12 +431,12 @@ impl Links {
         self.hand_in(rt, to, Parcel::Timeout(view))
     }
 
-    /// Gives a replica leave to begin anew as leader, from the block of a digest; or from the one that its last proposal
-    /// certifies.
-    pub fn lead<R: Wait>(&self, rt: &R, to: ReplicaId, block: Option<Digest>) -> Result<(), Fault>
+    /// Gives a replica leave to begin anew as leader, from its lock, of this digest; or from the block that its last
+    /// proposal certifies.
+    pub fn lead<R: Wait>(&self, rt: &R, to: ReplicaId, lock: Option<Digest>) -> Result<(), Fault>
         ensures { OnErr result ((result ≡ Err Fault.Memory) ⊎ (result ≡ Err Fault.NoSuchParty)) }
     {
-        self.hand_in(rt, to, Parcel::Lead(block))
+        self.hand_in(rt, to, Parcel::Lead(lock))
     }
 
     /// Gives a replica leave to prune its tree up to a height.

@@ -28,7 +28,7 @@ pub enum Parcel {
     Beat,
     /// This view has lasted too long.
     Timeout(View),
-    /// Leave to begin anew as leader, from the block of this digest, or from the one that its last proposal certifies.
+    /// Leave to begin anew as leader, from the lock, of this digest, or from the block that its last proposal certifies.
     Lead(Option<Digest>),
     /// Leave to prune the tree up to this height.
     Prune(u64),

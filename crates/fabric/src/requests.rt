@@ -64,11 +64,11 @@ impl Requests {
         Some(bytes)
     }
 
-    /// The requests of clients that aren't barred.
-    pub(crate) fn of_all(&self, alloc: Global, now: u64) -> Vec<Bytes> {
+    /// The requests of clients that are let in by a replica that leads or doesn't.
+    pub(crate) fn let_in(&self, alloc: Global, leads: bool, now: u64) -> Vec<Bytes> {
         let mut all = Vec::new(alloc);
         for (client, request) in &self.kept {
-            if !self.suspects.is_let_in(*client, false, now) {
+            if !self.suspects.is_let_in(*client, leads, now) {
                 continue;
             }
             if let Ok(bytes) = request.bytes.clone() {

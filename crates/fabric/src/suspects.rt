@@ -1,8 +1,8 @@
 //! Whose requests a leader lets in, where what it proposes finds no certificate.
 
-ghost use Rattle.std.specs.Prelude.{◌≡◌, ◌==◌, None, option_map};
-ghost use Rattle.fabric.specs.Suspecting.{bar_of, begun, failed, is_due, is_let_in, may_try, served, standing_of};
-ghost use Rattle.fabric.specs.Suspecting.{tried, waiting};
+ghost use Rattle.std.specs.Prelude.{◌≡◌, None, option_map};
+ghost use Rattle.fabric.specs.Suspecting.{bar_of, begun, begun_with_others, failed, is_cleared, is_due, is_let_in};
+ghost use Rattle.fabric.specs.Suspecting.{may_try, paused, served, standing_of, tried, waiting};
 
 use ids::{ClientId, Seq};
 use tuning::{BAR_MILLIS, LAG_WEIGHT, MOST_DOUBLINGS};
@@ -32,16 +32,19 @@ struct Trial {
 /// What a replica knows of clients, since a request may be right for it and for no other replica: a block with such a
 /// request is voted for by nobody.
 ///
-/// Each time that it begins anew as leader all clients are suspects. One request of theirs is let in at a time, and who
-/// had one executed is cleared. Where the replica has to begin anew while one is on trial, its client is barred for a
-/// while, twice as long each time; but only where another one was cleared before, since a block finds no certificate for
-/// other reasons, too.
+/// Where it begins anew as leader for want of certificates all clients are suspects. One request of theirs is let in at a
+/// time, and who had one executed is cleared. Where the replica has to begin anew while one is on trial, its client is
+/// barred for a while, twice as long each time; but only where another one was cleared before, since a block finds no
+/// certificate for other reasons, too. Where it leads from its lock, as its certificates may be at fault, who was on
+/// trial alone stays a suspect.
 #[derive(Drop)]
 pub(crate) struct Suspects {
     /// How often the replica began anew; 0 for never.
     round: u64,
     /// Whether a client was cleared since, by a block.
     has_cleared: bool,
+    /// Whether all are cleared but the client that was on trial last.
+    clears_others: bool,
     trial: Option<Trial>,
     /// The client that was on trial last.
     last: ClientId,
@@ -72,6 +75,7 @@ impl Suspects {
         Suspects {
             round: 0,
             has_cleared: false,
+            clears_others: false,
             trial: None,
             last: ClientId(0),
             pause_until: 0,
@@ -86,11 +90,12 @@ impl Suspects {
         self.standings[usize::from(client.0)]
     }
 
-    /// Whether a client was cleared since the replica began anew.
+    /// Whether a client isn't suspected since the replica began anew.
     fn is_cleared(&self, client: ClientId) -> bool
-        ensures { result ≡ ((standing_of self.now client).cleared_in == self.now.round) }
+        ensures { result ≡ is_cleared self.now client }
     {
-        self.standing(client).cleared_in == self.round
+        let is_other = self.clears_others && self.last.0 != client.0;
+        is_other || self.standing(client).cleared_in == self.round
     }
 
     /// Whether a client's requests are let in at a moment: none while it is barred, and where the replica leads and began
@@ -150,8 +155,15 @@ impl Suspects {
         }
     }
 
-    /// A trial failed. Its client is barred for a while, and the next trial waits so long that the view doesn't end of
-    /// trials.
+    /// The next trial waits, three times as long as this one lasted: then no view ends of trials.
+    fn pause(&mut self, trial: Trial, now: u64)
+        ensures { self.new ≡ paused self.old trial now }
+    {
+        let lasted = now.saturating_sub(trial.since);
+        self.pause_until = now.saturating_add(lasted.saturating_mul(LAG_WEIGHT));
+    }
+
+    /// A trial failed. Its client is barred for a while.
     fn fail(&mut self, trial: Trial, now: u64)
         ensures { self.new ≡ failed self.old trial now }
     {
@@ -161,11 +173,10 @@ impl Suspects {
             failures: standing.failures.saturating_add(1),
             barred_until: now.saturating_add(bar_of(standing.failures)),
         };
-        let lasted = now.saturating_sub(trial.since);
-        self.pause_until = now.saturating_add(lasted.saturating_mul(LAG_WEIGHT));
+        self.pause(trial, now);
     }
 
-    /// The replica begins anew.
+    /// The replica begins anew, with what it certified: all are suspects.
     pub(crate) fn begin(&mut self, now: u64)
         ensures { self.new ≡ begun self.old now }
     {
@@ -174,6 +185,20 @@ impl Suspects {
         }
         self.trial = None;
         self.has_cleared = false;
+        self.clears_others = false;
+        self.round = self.round.saturating_add(1);
+    }
+
+    /// It begins anew from its lock: only who was on trial, if anybody was, is suspected still.
+    pub(crate) fn begin_with_others(&mut self, now: u64)
+        ensures { self.new ≡ begun_with_others self.old now }
+    {
+        if let Some(trial) = self.trial {
+            self.pause(trial, now);
+        }
+        self.trial = None;
+        self.has_cleared = false;
+        self.clears_others = true;
         self.round = self.round.saturating_add(1);
     }
 

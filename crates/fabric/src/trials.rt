@@ -59,22 +59,41 @@ impl<'a, G: Gate, O: Outgoing + Questioned> Worker<'a, G, O> {
         }
     }
 
-    /// The replica is to begin anew as leader, from the block of this digest, or from the one that its last proposal
-    /// certifies. It forgets by that what is pending, and all clients are suspects.
+    /// The replica is to begin anew as leader, from its lock, which has this digest, or from the block that its last
+    /// proposal certifies. It forgets by that what is pending.
     pub(crate) fn lead<R: Wait + Clock, S: Steps>(
         &mut self,
         rt: &R,
         steps: &mut S,
         share: &mut Share,
-        block: Option<Digest>,
+        lock: Option<Digest>,
     )
         ensures { HasGrown share.old share.new }
     {
-        let Some(block) = block.or(self.blocks.certified()) else {
-            return;
-        };
-        self.room.begin_trials(rt, self.out.millis(rt));
-        self.step(rt, steps, share, Input::Lead(block));
+        let now = self.out.millis(rt);
+        if let Some(lock) = lock {
+            let others = self.room.begin_with_others(rt, now);
+            self.step(rt, steps, share, Input::Lead(lock));
+            self.bring_all(rt, steps, share, others);
+        } else if let Some(certified) = self.blocks.certified() {
+            self.room.begin_trials(rt, now);
+            self.step(rt, steps, share, Input::Lead(certified));
+        }
+    }
+
+    /// Brings frames that were kept.
+    fn bring_all<R: Wait + Clock, S: Steps>(
+        &mut self,
+        rt: &R,
+        steps: &mut S,
+        share: &mut Share,
+        frames: Vec<Bytes>,
+    )
+        ensures { HasGrown share.old share.new }
+    {
+        for bytes in frames {
+            let _answer = self.bring(rt, steps, share, OWN, bytes.as_slice());
+        }
     }
 
     /// In trouble a leader lets in the next suspect's request.
@@ -107,8 +126,7 @@ impl<'a, G: Gate, O: Outgoing + Questioned> Worker<'a, G, O> {
         if !self.out.in_trouble() || !self.out.leads() {
             return;
         }
-        for bytes in self.room.give_up_trials(rt, self.out.millis(rt)) {
-            let _answer = self.bring(rt, steps, share, OWN, bytes.as_slice());
-        }
+        let kept = self.room.give_up_trials(rt, self.out.millis(rt));
+        self.bring_all(rt, steps, share, kept);
     }
 }

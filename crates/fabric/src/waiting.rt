@@ -263,9 +263,16 @@ impl WaitingRoom {
             .is_let_in(client, leads, now)
     }
 
-    /// The replica begins anew as leader.
+    /// The replica begins anew as leader, with what it certified.
     pub(crate) fn begin_trials<R: Wait>(&self, rt: &R, now: u64) {
         self.requests.lock(rt).suspects.begin(now);
+    }
+
+    /// It begins anew from its lock. The requests that were kept, of clients that aren't suspected.
+    pub(crate) fn begin_with_others<R: Wait>(&self, rt: &R, now: u64) -> Vec<Bytes> {
+        let mut requests = self.requests.lock(rt);
+        requests.suspects.begin_with_others(now);
+        requests.let_in(self.alloc, true, now)
     }
 
     /// The request of the next trial, which begins now, if one may.
@@ -287,6 +294,6 @@ impl WaitingRoom {
     pub(crate) fn give_up_trials<R: Wait>(&self, rt: &R, now: u64) -> Vec<Bytes> {
         let mut requests = self.requests.lock(rt);
         requests.suspects.give_up();
-        requests.of_all(self.alloc, now)
+        requests.let_in(self.alloc, false, now)
     }
 }

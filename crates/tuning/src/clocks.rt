@@ -38,13 +38,10 @@ pub const MOST_UNDECIDED: u64 = 2 * MOST_CLIMB;
 /// replicas. Shorter: a liar that does harm at times has each leader begin anew. Longer: more votes than needed.
 pub const TROUBLE_MILLIS: u64 = 4000;
 
-/// After which part of what its view may be slow a leader without certificates begins anew without what is pending: one
-/// in so many. A smaller part: a correct leader on a slow machine begins anew before votes came.
+/// After which part of what its view may be slow a leader without certificates begins anew without what is pending, and
+/// after twice as much from its lock: one in so many. A smaller part: a correct leader on a slow machine begins anew before
+/// votes came. A greater one: no time is left for the blocks that it takes to come above all that was voted for.
 pub const LEAD_PART: u64 = 4;
-
-/// After which part of it a leader leads from its lock, where that brought nothing: one in so many. The rest is left for
-/// the blocks that it takes to come above all that was voted for.
-pub const LOCK_PART: u64 = 2;
 
 /// Which part of its window a replica holds beyond it before it is asked to forget: one in so many. A smaller part: it
 /// is asked more often.

@@ -1,5 +1,5 @@
 use Rattle.fabric.specs.Shares.{HasGrown}
-use Rattle.fabric.proofs.worker.Worker.give_up_trials.Given as goal
+use Rattle.fabric.proofs.worker.Worker.bring_all.Given as goal
 
 abbrev pub invariant-loop-bytes : goal.invariant-loop-bytes
 invariant-loop-bytes g l = HasGrown l.fn.share l.share
