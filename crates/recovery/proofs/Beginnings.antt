@@ -46,7 +46,7 @@ lead-hands w l c s = record { party = refl; correct = c; goes_on = s; acting = r
 
 pub leads-begin : LeadsBegin
 unfolding ruling find_block after
-leads-begin sizes is_faulty ring hs w l met e c s some =
+leads-begin l sizes is_faulty ring hs w met e c s some =
     let start : World = new_world sizes is_faulty ring in
     let all : List Happening = hs ++ lead_events l w in
     let on = on-way-from sizes is_faulty ring hs (lead_events l w) w met e in

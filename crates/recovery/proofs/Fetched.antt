@@ -41,7 +41,7 @@ use Rattle.definitions.proofs.Certificates.{IsDigest-digest_of}
 use Rattle.recovery.specs.Correct.{OfCorrect, AllGoOn, ShareKeys, chronicle_of, correct_below}
 use Rattle.recovery.specs.Correct.{correct_replicas, correct_with}
 use Rattle.recovery.specs.Healing.{in_turn, numbers_of, sent_since, is_copy, ask_each, fetch_block}
-use Rattle.recovery.specs.Law.{OnlyAsked, IsHolder, HasPlace, IsFetched, MissingBlocksAreFetched}
+use Rattle.recovery.specs.Law.{OnlyAsked, IsHolder, HasPlace, MayFetch, IsFetched, MissingBlocksAreFetched}
 use Rattle.recovery.proofs.Asked.{asked-each, holders-of, answer-of, copy-at, with-copy, same-copies, gather-hands}
 use Rattle.recovery.proofs.Copies.{gathered-taken, copies-of}
 use Rattle.recovery.proofs.Correct.{among-correct}
@@ -313,17 +313,8 @@ holders-told w v x m only (y ∷ ys) h = (
 
 -- ---- the fetch
 
--- what is known where a replica fetches a block
-pub record MayFetch (Known : Core → Type 0) (w : World) (u : ℕ) (b : Block) (parent : Branch) : Type 0 where
-  pub keys : ShareKeys w
-  pub goes : AllGoOn w
-  pub correct : is_correct w u ≡ true
-  pub place : HasPlace (chronicle_of w u) b parent
-  pub lacks : Among (b ∷ parent) (window (chronicle_of w u)) → ⊥
-  pub many : w.sizes.faults < correct_with w window (b ∷ parent)
-
 fetch-known : (Known : Core → Type 0) (w : World) → IsReached Known w → (u : ℕ) (b : Block) (parent : Branch)
-    → MayFetch Known w u b parent → AllKnown Known (b ∷ parent)
+    → MayFetch w u b parent → AllKnown Known (b ∷ parent)
 fetch-known Known w g u b parent may =
     let some = found (replicas w.sizes)
     (λ r. cond (is_correct w r) (list_any (branch_eq (b ∷ parent)) (window (chronicle_of w r))) false)
@@ -352,7 +343,7 @@ module _ (sizes : Sizes) (start : World) (all : List Happening) (w : World) (u :
   where
     pub fetched : (rest : List Happening)
         → IsOnWay sizes start all w (fetch_block (digest_of (b ∷ parent)) u w ++ rest)
-        → MayFetch (KnownAt sizes start all) w u b parent
+        → MayFetch w u b parent
         → IsFetched w (after w (fetch_block (digest_of (b ∷ parent)) u w)) u (b ∷ parent)
     unfolding after ruling
     fetched rest on may =
@@ -441,18 +432,10 @@ module _ (sizes : Sizes) (start : World) (all : List Happening) (w : World) (u :
         })
 
 pub blocks-fetched : MissingBlocksAreFetched
-blocks-fetched sizes is_faulty ring hs w u b parent keys met e goes cu place lacks many =
+blocks-fetched u b parent sizes is_faulty ring hs w met e may =
     let start : World = new_world sizes is_faulty ring in
     let d : Bytes = digest_of (b ∷ parent) in
     let all : List Happening = hs ++ fetch_block d u w in
     let on = on-way-from sizes is_faulty ring hs (fetch_block d u w) w met e in
-    let made = subst (IsMadeAs start) (run-after hs start w e) (made-after start hs) in
     fetched sizes start all w u b parent []
-    (subst (IsOnWay sizes start all w) (sym (append-nil (fetch_block d u w))) on) (record {
-      keys = keys-in start w made keys;
-      goes = goes;
-      correct = cu;
-      place = place;
-      lacks = lacks;
-      many = many;
-    })
+    (subst (IsOnWay sizes start all w) (sym (append-nil (fetch_block d u w))) on) may

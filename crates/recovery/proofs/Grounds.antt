@@ -70,7 +70,7 @@ justified-held sizes is_faulty ring hs last met e = λ r c a m x.
 -- ---- what justifies the highest lock
 
 -- an element stands in the reverse too
-reversed-among : {A : Type 0} (xs : List A) (x : A) → Among x xs → Among x (reverse xs)
+pub reversed-among : {A : Type 0} (xs : List A) (x : A) → Among x xs → Among x (reverse xs)
 reversed-among xs x m = Among-reverse (reverse xs) x (subst (λ (l : List _). Among x l) (sym (reverse-reverse xs)) m)
 
 -- a test for what was taken over this lock

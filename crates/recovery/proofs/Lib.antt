@@ -19,6 +19,7 @@ mod Decided
 mod Climbing
 mod Marks
 mod Offers
+mod Carried
 mod Making
 mod Bursts
 mod SentVotes

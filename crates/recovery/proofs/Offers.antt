@@ -9,7 +9,7 @@ use Rattle.std.proofs.lemmas.Bool.{cond-true, cond-false, cond_both, and_parts, 
 use Rattle.std.proofs.lemmas.List.{append-nil, append_assoc}
 use Rattle.ids.specs.Sizes.{Sizes, leader}
 use Rattle.definitions.specs.Lists.{Among}
-use Rattle.definitions.specs.Branches.{Block, Branch, just1, IsBranch}
+use Rattle.definitions.specs.Branches.{Block, Branch, just1, IsBranch, Extends}
 use Rattle.definitions.specs.Checks.{Identity, command_verifies}
 use Rattle.definitions.specs.Chronicles.{Admitted, Chronicle, Step, Step.took_block, voted_blocks, vheight}
 use Rattle.definitions.specs.Chronicles.{standing_blocks}
@@ -24,6 +24,7 @@ use Rattle.definitions.specs.Worlds.{self_of}
 use Rattle.definitions.specs.Runs.{refusal, after}
 use Rattle.definitions.specs.Events.{happens, recorded}
 use Rattle.definitions.proofs.Lists.{Among-before}
+use Rattle.definitions.proofs.Branches.{Extends-trans}
 use Rattle.definitions.proofs.Chronicles.{voted-grows}
 use Rattle.recovery.specs.Correct.{OfCorrect, ShareKeys, chronicle_of, amply}
 use Rattle.recovery.specs.Law.{IsProposalOf, Climbs}
@@ -152,6 +153,25 @@ pub chain-end : (w : World) (v : ℕ) (m y : Branch) (ks : List ℕ) (last : Bra
 unfolding Chain
 chain-end w v m y [] last h z = h
 chain-end w v m y (k ∷ ks) last h z = absurd (omega (arith, z))
+
+-- it goes through where it begins
+pub chain-through : (w : World) (v : ℕ) (m y : Branch) (ks : List ℕ) (last : Branch) → Chain w v m y ks last
+    → Extends last y
+unfolding Chain
+chain-through w v m y [] last h = ([], h)
+chain-through w v m y (k ∷ ks) last (b, f, e, i, h) =
+    Extends-trans last (b ∷ y) y (chain-through w v m (b ∷ y) ks last h) (b ∷ [], refl)
+
+-- and its last block justifies m
+pub chain-justifies : (w : World) (v : ℕ) (m y : Branch) (ks : List ℕ) (last : Branch) → Chain w v m y ks last
+    → Extends y m → 0 < length ks → just1 last ≡ m
+unfolding Chain
+chain-justifies w v m y [] last h over p = absurd (omega (arith, p))
+chain-justifies w v m y (k ∷ ks) last (b, f, e, i, h) over p = elim (cases_lt 0 (length ks)) [
+  | inl q ↦ chain-justifies w v m (b ∷ y) ks last h (b ∷ over.0, ap (λ (l : Branch). b ∷ l) over.1) q
+  | inr z ↦ ap just1 (sym (chain-end w v m (b ∷ y) ks last h (omega (arith, z))))
+      ∙ justifies-below b y m over i.justify
+]
 
 -- ---- one offer
 

@@ -215,6 +215,10 @@ round n l w =
     in_turn (burst n l
     ∷ (λ v. amply (comes_to (correct_replicas v) (sent_since (length w.sent) is_vote v))) ∷ []) w
 
+-- A round to climb above all votes, and three more, which decide its last block.
+unfoldable pub rounds : ℕ → ℕ → Phase
+rounds n l w = in_turn (round n l ∷ round 1 l ∷ round 1 l ∷ round 1 l ∷ []) w
+
 -- ---- the client
 
 -- frame k, a request, comes to all correct replicas, and their replies to the client
@@ -236,6 +240,5 @@ heal k w =
     ∷ make_first l
     ∷ fetch_all (lowest_first (over_lock l w))
     ∷ (λ v. amply (lead l (digest_of (lock_of w l)) ∷ relay k l ∷ []))
-    ∷ (λ v. round (to_climb l v) l v)
-    ∷ round 1 l ∷ round 1 l ∷ round 1 l
+    ∷ (λ v. rounds (to_climb l v) l v)
     ∷ ask_again k ∷ []) w

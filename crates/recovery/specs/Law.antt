@@ -1,8 +1,8 @@
 -- The laws that are proved: steps of the statement that nobody is wedged.
-use Rattle.ids.specs.declared.limits.TheConstants.{MOST_BLOCKS, MOST_OF_HEIGHT, HEIGHT_LIMIT}
-use Rattle.std.specs.Prelude.{ℕ, suc, ◌^◌, ◌≡◌, ◌==◌, ◌<◌, ◌≤◌, ◌+◌, ◌⊎◌, Bool, true, false, List, [], ◌∷◌}
+use Rattle.ids.specs.declared.limits.TheConstants.{MOST_BLOCKS, MOST_OF_HEIGHT, HEIGHT_LIMIT, MOST_COMMANDS}
+use Rattle.std.specs.Prelude.{ℕ, suc, ◌^◌, ◌≡◌, ◌==◌, ◌&&◌, ◌<◌, ◌≤◌, ◌+◌, ◌⊎◌, Bool, true, false, List, [], ◌∷◌}
 use Rattle.std.specs.Prelude.{◌++◌, map, length, count_by, Ok}
-use Rattle.std.specs.List.{AllByRecursion, list_all}
+use Rattle.std.specs.List.{AllByRecursion, list_all, list_any}
 use Rattle.ids.specs.declared.fault.Fault.TheVariants as fault
 use Rattle.ids.specs.Sizes.{Sizes, leader}
 use Rattle.definitions.specs.Keyrings.{Keyring}
@@ -16,6 +16,7 @@ use Rattle.definitions.specs.Chronicles.{Admitted, Chronicle, voted_blocks, take
 use Rattle.definitions.specs.Chronicles.{Step.took_block, horizon, standing_blocks, executed, is_safe, lock}
 use Rattle.definitions.specs.Digests.{digest_of}
 use Rattle.definitions.specs.Frames.{Command, Frame}
+use Rattle.definitions.specs.Histories.{history_of}
 use Rattle.definitions.specs.Grounds.{is_justified, is_own_certified, may_lead_from}
 use Rattle.definitions.specs.Replicas.{Standing.running}
 use Rattle.definitions.specs.Rulings.{Input, ruling, due}
@@ -27,8 +28,15 @@ use Rattle.definitions.specs.Worlds.{World, Sent, Event.lead, Happening, new_wor
 use Rattle.linear_law.specs.Law.{AfterEachRun, correct_family}
 use Rattle.recovery.specs.Correct.{OfCorrect, AllGoOn, ShareKeys, chronicle_of, lock_of, view_of, correct_with}
 use Rattle.recovery.specs.Correct.{correct_replicas, amply}
-use Rattle.recovery.specs.Healing.{view_to_come, come_to, highest_voted, fetch_block, burst, round}
+use Rattle.recovery.specs.Healing.{Phase, view_to_come, come_to, highest_voted, fetch_block, burst, round, rounds}
 use Rattle.recovery.specs.NeverWedged.{healer, ground_of, NobodyPruned, HasViews}
+
+-- P holds of each world in which a run ends, where the run's premises hold, and hold of this phase after it
+abbrev pub AheadOf : Phase → (World → Type 0) → Type 0
+AheadOf phase P =
+    (sizes : Sizes) (is_faulty : ℕ → Bool) (ring : ℕ → Keyring) (hs : List Happening) (w : World)
+    → ArePremises (new_world sizes is_faulty ring) (hs ++ phase w) → run (new_world sizes is_faulty ring) hs ≡ Ok w
+    → P w
 
 -- ---- locks
 
@@ -65,13 +73,11 @@ pub record LeadsFrom (w last : World) (l : ℕ) (m : Branch) : Type 0 where
   pub voted : voted_blocks (chronicle_of last l) ≡ voted_blocks (chronicle_of w l)
   pub others : (j : ℕ) → (j ≡ l → ⊥) → last.replica j ≡ w.replica j
 
--- so does a correct replica that goes on and took any block, after any run whose premises hold, and hold of the lead
+-- so does a correct replica that goes on and took any block
 abbrev pub LeadsBegin : Type 0
 LeadsBegin =
-    (sizes : Sizes) (is_faulty : ℕ → Bool) (ring : ℕ → Keyring) (hs : List Happening) (w : World) (l : ℕ)
-    → ArePremises (new_world sizes is_faulty ring) (hs ++ lead_events l w)
-    → run (new_world sizes is_faulty ring) hs ≡ Ok w → is_correct w l ≡ true → (w.replica l).standing ≡ running
-    → (taken_blocks (chronicle_of w l) ≡ [] → ⊥) → LeadsFrom w (after w (lead_events l w)) l (lock_of w l)
+    (l : ℕ) → AheadOf (lead_events l) (λ w. is_correct w l ≡ true → (w.replica l).standing ≡ running
+    → (taken_blocks (chronicle_of w l) ≡ [] → ⊥) → LeadsFrom w (after w (lead_events l w)) l (lock_of w l))
 
 -- ---- what a lock stands on
 
@@ -202,17 +208,21 @@ pub record IsFetched (w last : World) (u : ℕ) (x : Branch) : Type 0 where
   pub others : OfCorrect w (λ r. (r ≡ u → ⊥) → OnlyAsked (self_of w r) (chronicle_of w r) (chronicle_of last r))
   pub session : last.session ≡ w.session
 
--- A correct replica that lacks a block, and has a place for it, gets it by asking, where more than f correct replicas
--- have it: after any run whose premises hold, and hold of these events.
+-- What is known where a correct replica fetches a block: it lacks it, and has a place for it, and more than f correct
+-- replicas have it.
+pub record MayFetch (w : World) (u : ℕ) (b : Block) (parent : Branch) : Type 0 where
+  pub keys : ShareKeys w
+  pub goes : AllGoOn w
+  pub correct : is_correct w u ≡ true
+  pub place : HasPlace (chronicle_of w u) b parent
+  pub lacks : Among (b ∷ parent) (window (chronicle_of w u)) → ⊥
+  pub many : w.sizes.faults < correct_with w window (b ∷ parent)
+
+-- it gets the block by asking
 abbrev pub MissingBlocksAreFetched : Type 0
 MissingBlocksAreFetched =
-    (sizes : Sizes) (is_faulty : ℕ → Bool) (ring : ℕ → Keyring) (hs : List Happening) (w : World)
-    (u : ℕ) (b : Block) (parent : Branch) → ShareKeys (new_world sizes is_faulty ring)
-    → ArePremises (new_world sizes is_faulty ring) (hs ++ fetch_block (digest_of (b ∷ parent)) u w)
-    → run (new_world sizes is_faulty ring) hs ≡ Ok w → AllGoOn w → is_correct w u ≡ true
-    → HasPlace (chronicle_of w u) b parent → (Among (b ∷ parent) (window (chronicle_of w u)) → ⊥)
-    → w.sizes.faults < correct_with w window (b ∷ parent)
-    → IsFetched w (after w (fetch_block (digest_of (b ∷ parent)) u w)) u (b ∷ parent)
+    (u : ℕ) (b : Block) (parent : Branch) → AheadOf (fetch_block (digest_of (b ∷ parent)) u) (λ w.
+    MayFetch w u b parent → IsFetched w (after w (fetch_block (digest_of (b ∷ parent)) u w)) u (b ∷ parent))
 
 -- ---- blocks of a leader
 
@@ -276,56 +286,76 @@ pub record Leads (w : World) (l v : ℕ) (m : Branch) (room : ℕ) : Type 0 wher
   pub waiting : (c : Command) → Among c (pending (chronicle_of w l))
       → OfCorrect w (λ r. command_verifies (self_of w r) c ≡ true)
 
+-- All correct replicas go on, and may climb from m under this leader, whose leaf and highest certificate are on m.
+-- There is room for so many blocks.
+pub record MayClimb (w : World) (l v room : ℕ) (m : Branch) : Type 0 where
+  pub keys : ShareKeys w
+  pub goes : AllGoOn w
+  pub correct : is_correct w l ≡ true
+  pub leads_it : Leads w l v m room
+  pub leaf_is : leaf (self_of w l) (chronicle_of w l) ≡ m
+  pub climbs : OfCorrect w (λ r. Climbs (self_of w r) v m m room (chronicle_of w r))
+
+-- So they may with n blocks, which end above all that they voted for; and there is so much room beyond these.
+pub record MayBurst (w : World) (l v n room : ℕ) (m : Branch) : Type 0 where
+  pub climbing : MayClimb w l v (n + room) m
+  pub low : OfCorrect w (λ r. vheight (chronicle_of w r) < length m + n)
+  pub some : 0 < n
+  pub top : length m + n < HEIGHT_LIMIT
+
+-- a command of this name stands on the branch
+abbrev pub Carries : Branch → Command → Type 0
+Carries x c = list_any (λ e. (e.client == c.client) && (e.seq == c.seq)) (history_of x) ≡ true
+
+-- so does each that waited with this leader, where one block can take them all
+abbrev pub CarriesWaiting : World → ℕ → Branch → Type 0
+CarriesWaiting w l x =
+    (c : Command) → Among c (pending (chronicle_of w l)) → length (pending (chronicle_of w l)) ≤ MOST_COMMANDS
+    → Carries x c
+
 -- No event of a burst was refused by the run, and all correct replicas go on. Each voted for the last block, which is n
--- higher than m and goes through it, and which is the leader's leaf; and each could climb on, with so much room.
+-- higher than m and goes through it, justifies it, and carries what waited; and which is the leader's leaf; and each
+-- could climb on, with so much room.
 pub record IsVotedForByAll (w last : World) (l v n room : ℕ) (m x : Branch) : Type 0 where
   pub ran : run w (burst n l w) ≡ Ok last
   pub going_on : AllGoOn last
   pub high : length x ≡ length m + n
   pub over : Extends x m
+  pub justifies : just1 x ≡ m
+  pub carries : CarriesWaiting w l x
   pub leaf_is : leaf (self_of w l) (chronicle_of last l) ≡ x
   pub leads_on : Leads last l v m room
   pub climbs : OfCorrect last (λ r. Climbs (self_of w r) v m x room (chronicle_of last r))
   pub voted : OfCorrect last (λ r. Among x (voted_blocks (chronicle_of last r)))
   pub session : last.session ≡ w.session
 
--- A burst from a block m with which all may climb is voted for by all, where it ends above all that they voted for.
+-- a burst is voted for by all
 abbrev pub BurstsAreVotedFor : Type 0
 BurstsAreVotedFor =
-    (sizes : Sizes) (is_faulty : ℕ → Bool) (ring : ℕ → Keyring) (hs : List Happening) (w : World)
-    (l v n room : ℕ) (m : Branch) → ShareKeys (new_world sizes is_faulty ring)
-    → ArePremises (new_world sizes is_faulty ring) (hs ++ burst n l w)
-    → run (new_world sizes is_faulty ring) hs ≡ Ok w → AllGoOn w → is_correct w l ≡ true
-    → Leads w l v m (n + room) → leaf (self_of w l) (chronicle_of w l) ≡ m
-    → OfCorrect w (λ r. Climbs (self_of w r) v m m (n + room) (chronicle_of w r))
-    → OfCorrect w (λ r. vheight (chronicle_of w r) < length m + n) → 0 < n → length m + n < HEIGHT_LIMIT
+    (l v n room : ℕ) (m : Branch) → AheadOf (burst n l) (λ w. MayBurst w l v n room m
     → IsVotedForByAll w (after w (burst n l w)) l v n room m
-    (leaf (self_of w l) (chronicle_of (after w (burst n l w)) l))
+    (leaf (self_of w l) (chronicle_of (after w (burst n l w)) l)))
 
--- No event of a round was refused by the run, and all correct replicas go on. Each has a certificate of its own for the
--- last block, which is n higher than m and goes through it, and which is the leader's leaf.
-pub record IsCertifiedByAll (w last : World) (l n : ℕ) (m x : Branch) : Type 0 where
+-- No event of a round was refused by the run. Each correct replica has a certificate of its own for the last block, which
+-- is n higher than m and goes through it, justifies it, and carries what waited. All may climb from there, with so much
+-- room, and none voted above it.
+pub record IsCertifiedByAll (w last : World) (l v n room : ℕ) (m x : Branch) : Type 0 where
   pub ran : run w (round n l w) ≡ Ok last
-  pub going_on : AllGoOn last
   pub height : length x ≡ length m + n
   pub over : Extends x m
-  pub leaf_is : leaf (self_of last l) (chronicle_of last l) ≡ x
+  pub justifies : just1 x ≡ m
+  pub carries : CarriesWaiting w l x
   pub high : OfCorrect last (λ r. high_of last r ≡ x)
   pub own : OfCorrect last (λ r. is_own_certified (self_of last r) x (chronicle_of last r) ≡ true)
-  pub stands : OfCorrect last (λ r. Among x (window (chronicle_of last r)))
+  pub climbing : MayClimb last l v room x
+  pub low : OfCorrect last (λ r. vheight (chronicle_of last r) < suc (length x))
   pub session : last.session ≡ w.session
 
--- A round, of a burst as above and all votes on it, leaves all with certificates of their own for its last block.
+-- a round, of a burst and all votes on it, leaves all with certificates of their own for its last block
 abbrev pub RoundsCertify : Type 0
 RoundsCertify =
-    (sizes : Sizes) (is_faulty : ℕ → Bool) (ring : ℕ → Keyring) (hs : List Happening) (w : World)
-    (l v n room : ℕ) (m : Branch) → ShareKeys (new_world sizes is_faulty ring)
-    → ArePremises (new_world sizes is_faulty ring) (hs ++ round n l w)
-    → run (new_world sizes is_faulty ring) hs ≡ Ok w → AllGoOn w → is_correct w l ≡ true
-    → Leads w l v m (n + room) → leaf (self_of w l) (chronicle_of w l) ≡ m
-    → OfCorrect w (λ r. Climbs (self_of w r) v m m (n + room) (chronicle_of w r))
-    → OfCorrect w (λ r. vheight (chronicle_of w r) < length m + n) → 0 < n → length m + n < HEIGHT_LIMIT
-    → (x : Branch) × IsCertifiedByAll w (after w (round n l w)) l n m x
+    (l v n room : ℕ) (m : Branch) → AheadOf (round n l) (λ w. MayBurst w l v n room m
+    → (x : Branch) × IsCertifiedByAll w (after w (round n l w)) l v n room m x)
 
 -- ---- decisions
 
@@ -339,3 +369,20 @@ abbrev pub ThreeMoreDecide : Type 0
 ThreeMoreDecide =
     AfterEachRun (λ w. OfCorrect w (λ r. (x y z : Branch) (a : Admitted) → IsNext x y → IsNext y z → IsNext z a.branch
     → Among a (taken_blocks (chronicle_of w r)) → Extends (executed (chronicle_of w r)) x))
+
+-- No event of these rounds was refused by the run, and all correct replicas go on. Each executed a branch through x,
+-- which is n higher than m and goes through it, and carries what waited.
+pub record HaveDecided (w last : World) (l n : ℕ) (m x : Branch) : Type 0 where
+  pub ran : run w (rounds n l w) ≡ Ok last
+  pub going_on : AllGoOn last
+  pub height : length x ≡ length m + n
+  pub over : Extends x m
+  pub carries : CarriesWaiting w l x
+  pub decided : OfCorrect last (λ r. Extends (executed (chronicle_of last r)) x)
+  pub session : last.session ≡ w.session
+
+-- A round that ends above all votes, and three more of one block each, decide the last block of the first.
+abbrev pub RoundsDecide : Type 0
+RoundsDecide =
+    (l v n room : ℕ) (m : Branch) → AheadOf (rounds n l) (λ w. MayBurst w l v n (3 + room) m
+    → length m + n + 3 < HEIGHT_LIMIT → (x : Branch) × HaveDecided w (after w (rounds n l w)) l n m x)
