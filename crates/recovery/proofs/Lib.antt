@@ -27,4 +27,5 @@ mod Counting
 mod Voting
 mod Tallied
 mod Rounds
+mod Rounded
 mod Beginnings

@@ -1,5 +1,5 @@
 -- A world on the way of a run whose premises hold.
-use Rattle.std.proofs.Common.{ℕ, ◌≡◌, Bool, List, [], ◌∷◌, ◌++◌, sym, ap, subst, ◌∙◌, inl, inr, Ok, None}
+use Rattle.std.proofs.Common.{ℕ, ◌≡◌, Bool, List, [], ◌∷◌, ◌++◌, refl, sym, ap, subst, ◌∙◌, inl, inr, Ok, None}
 use Rattle.ids.specs.Sizes.{Sizes}
 use Rattle.definitions.specs.Lists.{Among}
 use Rattle.definitions.specs.Frames.{Core}
@@ -15,7 +15,9 @@ use Rattle.linear_law.proofs.Linear.{run-step}
 use Rattle.linear_law.proofs.WholeRuns.{IsWell, AssumedAlong, well-happens, comes-framed, KnownIn, new-sizes}
 use Rattle.linear_law.proofs.WholeRuns.{new-well}
 use Rattle.linear_law.proofs.WholeRuns.{known-apart, known-genesis, known-along}
-use Rattle.recovery.proofs.Worlds.{made-after, after-append, Passes}
+use Rattle.recovery.specs.Healing.{Phase, in_turn}
+use Rattle.recovery.proofs.Worlds.{made-after, after-append, Passes, passes-append, passes-none}
+use Rattle.std.proofs.lemmas.List.{append_assoc}
 use Rattle.recovery.proofs.Ruled.{AllRuled, happens-ruled}
 use Rattle.recovery.proofs.SentVotes.{VotesSent, happens-votes}
 use Rattle.recovery.proofs.Wells.{IsReached, run-after, well-run, new-ruled, new-votes}
@@ -124,3 +126,26 @@ module _ (sizes : Sizes) (start : World) (all : List Happening) where
   way-past (x ∷ xs) ahead w on p =
       let r = run-step (refusal w x.0) (run (happens w x) xs) (after (happens w x) xs) p in
       way-past xs ahead (happens w x) (way-on w x (xs ++ ahead) on r.0) r.1
+
+  -- the first of several phases is ahead, and the others after it
+  pub turn-on : (p : Phase) (ps : List Phase) (w : World) (rest : List Happening)
+      → IsOnWay sizes start all w (in_turn (p ∷ ps) w ++ rest)
+      → IsOnWay sizes start all w (p w ++ (in_turn ps (after w (p w)) ++ rest))
+  unfolding in_turn
+  turn-on p ps w rest on =
+      subst (IsOnWay sizes start all w) (append_assoc (p w) (in_turn ps (after w (p w))) rest) on
+
+-- phases pass, and end, one after the other
+pub turn-passes : (p : Phase) (ps : List Phase) (w : World) → Passes w (p w)
+    → Passes (after w (p w)) (in_turn ps (after w (p w))) → Passes w (in_turn (p ∷ ps) w)
+unfolding in_turn
+turn-passes p ps w h k = passes-append w (p w) (in_turn ps (after w (p w))) h k
+
+pub turn-after : (p : Phase) (ps : List Phase) (w : World)
+    → after w (in_turn (p ∷ ps) w) ≡ after (after w (p w)) (in_turn ps (after w (p w)))
+unfolding in_turn
+turn-after p ps w = after-append w (p w) (in_turn ps (after w (p w)))
+
+pub turns-none : (w : World) → Passes w (in_turn [] w) × (after w (in_turn [] w) ≡ w)
+unfolding in_turn after
+turns-none w = (passes-none w, refl)

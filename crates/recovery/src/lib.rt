@@ -7,7 +7,7 @@ ghost use Rattle.recovery.specs.Law.{HighestLocksAreSafe, LocksMayBeLedFrom};
 ghost use Rattle.recovery.specs.Law.{JustifiedBlocksAreHeld, GroundsAreHeld};
 ghost use Rattle.recovery.specs.Law.{TimeoutsBringTogether, ACorrectLeaderComes, CopiesAreTaken, ProposalsAreTaken};
 ghost use Rattle.recovery.specs.Law.{HighestAreCertified, MissingBlocksAreFetched, ThreeMoreDecide};
-ghost use Rattle.recovery.specs.Law.{BurstsAreVotedFor, RoundsCertify, LeadsBegin};
+ghost use Rattle.recovery.specs.Law.{BurstsAreVotedFor, RoundsCertify, RoundsDecide, LeadsBegin};
 
 /// A correct replica of the highest lock: no correct lock is above it or beside it, so a block that justifies
 /// it is safe for all.
@@ -79,4 +79,9 @@ pub fn bursts_are_voted_for()
 /// A leader's round leaves all correct replicas with certificates of their own for its last block.
 pub fn rounds_certify()
     ensures { RoundsCertify }
+{}
+
+/// Rounds in turn decide the last block of the first, which carries the requests that waited.
+pub fn rounds_decide()
+    ensures { RoundsDecide }
 {}
