@@ -58,7 +58,7 @@ distinct-correct w (suc n) = by (is_correct w n) (distinct-correct w n)
     by true d = distinct-last (correct_below w n) n d (below-correct w n)
     by false d = subst AreDistinct (sym (append-nil (correct_below w n))) d
 
-distinct-kept : (p : ℕ → Bool) (xs : List ℕ) → AreDistinct xs → AreDistinct (filter p xs)
+pub distinct-kept : (p : ℕ → Bool) (xs : List ℕ) → AreDistinct xs → AreDistinct (filter p xs)
 distinct-kept p [] d = tt
 distinct-kept p (x ∷ xs) d = by (p x) (distinct-kept p xs d.1)
   where

@@ -99,17 +99,17 @@ lock-more m c a br j h = by a.new
     by false = h
 
 -- the window after a new block, and after one that stands
-window-new : (c : Chronicle) (a : Admitted) → a.new ≡ true → horizon c ≤ length a.branch + 2
+pub window-new : (c : Chronicle) (a : Admitted) → a.new ≡ true → horizon c ≤ length a.branch + 2
     → window (took_block a ∷ c) ≡ a.branch ∷ window c
 unfolding window
 window-new c a n l = ap blocks (window-grown a c n l)
 
-window-old : (c : Chronicle) (a : Admitted) → a.new ≡ false → window (took_block a ∷ c) ≡ window c
+pub window-old : (c : Chronicle) (a : Admitted) → a.new ≡ false → window (took_block a ∷ c) ≡ window c
 unfolding window
 window-old c a o = ap blocks (standing-old a c o)
 
 -- so a window grows by one block at most, and by none of another height
-window-longer : (c : Chronicle) (a : Admitted) → horizon c ≤ length a.branch + 2 → (a.new ≡ true) ⊎ (a.new ≡ false)
+pub window-longer : (c : Chronicle) (a : Admitted) → horizon c ≤ length a.branch + 2 → (a.new ≡ true) ⊎ (a.new ≡ false)
     → length (window (took_block a ∷ c)) ≤ suc (length (window c))
 window-longer c a l (inl n) =
     let e = ap (λ (w : List Branch). length w) (window-new c a n l) in omega (arith, e)
@@ -123,7 +123,7 @@ count-other h x l n =
     let s = sum_by-cons f x l in
     omega (arith, z, s)
 
-window-count : (c : Chronicle) (a : Admitted) (h : ℕ) → horizon c ≤ length a.branch + 2
+pub window-count : (c : Chronicle) (a : Admitted) (h : ℕ) → horizon c ≤ length a.branch + 2
     → (a.new ≡ true) ⊎ (a.new ≡ false) → (length a.branch ≡ h → ⊥)
     → count_by (λ y. length y == h) (window (took_block a ∷ c)) ≡ count_by (λ y. length y == h) (window c)
 window-count c a h l (inl n) o =

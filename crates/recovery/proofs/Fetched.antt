@@ -313,16 +313,15 @@ holders-told w v x m only (y ∷ ys) h = (
 
 -- ---- the fetch
 
-fetch-known : (Known : Core → Type 0) (w : World) → IsReached Known w → (u : ℕ) (b : Block) (parent : Branch)
-    → MayFetch w u b parent → AllKnown Known (b ∷ parent)
-fetch-known Known w g u b parent may =
+-- what some correct replica has is known
+pub with-known : (Known : Core → Type 0) (w : World) → IsReached Known w → (x : Branch)
+    → w.sizes.faults < correct_with w window x → AllKnown Known x
+with-known Known w g x many =
     let some = found (replicas w.sizes)
-    (λ r. cond (is_correct w r) (list_any (branch_eq (b ∷ parent)) (window (chronicle_of w r))) false)
-    (let k = may.many in omega (arith, k)) in
+    (λ r. cond (is_correct w r) (list_any (branch_eq x) (window (chronicle_of w r))) false) (omega (arith, many)) in
     let c = both (is_correct w some.0) _ some.1 in
-    known-of Known w g some.0 c.0 (b ∷ parent)
-    (window-tree (chronicle_of w some.0) (b ∷ parent)
-    (any-among (b ∷ parent) (window (chronicle_of w some.0)) c.1))
+    known-of Known w g some.0 c.0 x
+    (window-tree (chronicle_of w some.0) x (any-among x (window (chronicle_of w some.0)) c.1))
   where
     both : (t y : Bool) → cond t y false ≡ true → (t ≡ true) × (y ≡ true)
     both true y e = (refl, e)
@@ -365,7 +364,7 @@ module _ (sizes : Sizes) (start : World) (all : List Happening) (w : World) (u :
         let onv = way-past sizes start all asks (end ++ rest) w on0 each.0 in
         let g = on-way sizes start all v (end ++ rest) onv in
         let hs : List (ℕ × Admitted) = holders-of w u d cs in
-        let known = fetch-known Known w g0 u b parent may in
+        let known = with-known Known w g0 x may.many in
         let cu = same-correct w v a.made u ∙ may.correct in
         let more : v.sizes.faults < length hs =
         (let k = may.many in let m = many-answer Known w g0 b parent u (replicas w.sizes) may.lacks in

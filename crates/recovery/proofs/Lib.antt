@@ -17,11 +17,13 @@ mod Asked
 mod Fetched
 mod Decided
 mod Climbing
+mod Gained
 mod Marks
 mod Offers
 mod Carried
 mod Making
 mod Bursts
+mod Brought
 mod SentVotes
 mod Counting
 mod Voting

@@ -10,7 +10,7 @@ use Rattle.definitions.specs.Premises.{ArePremises}
 use Rattle.definitions.specs.Lists.{Among, AreDistinct}
 use Rattle.definitions.specs.Admission.{Checked, passes, rejected, check, check_offer, check_gathered}
 use Rattle.definitions.specs.Agreement.{MayBeCertified}
-use Rattle.definitions.specs.Branches.{Block, Branch, just1, Extends}
+use Rattle.definitions.specs.Branches.{Block, Branch, IsBranch, just1, Extends}
 use Rattle.definitions.specs.Checks.{Identity, command_verifies}
 use Rattle.definitions.specs.Chronicles.{Admitted, Chronicle, voted_blocks, taken_blocks, tree, window, vheight}
 use Rattle.definitions.specs.Chronicles.{Step.took_block, horizon, standing_blocks, executed, is_safe, lock}
@@ -28,7 +28,8 @@ use Rattle.definitions.specs.Worlds.{World, Sent, Event.lead, Happening, new_wor
 use Rattle.linear_law.specs.Law.{AfterEachRun, correct_family}
 use Rattle.recovery.specs.Correct.{OfCorrect, AllGoOn, ShareKeys, chronicle_of, lock_of, view_of, correct_with}
 use Rattle.recovery.specs.Correct.{correct_replicas, amply}
-use Rattle.recovery.specs.Healing.{Phase, view_to_come, come_to, highest_voted, fetch_block, burst, round, rounds}
+use Rattle.recovery.specs.Healing.{Phase, view_to_come, come_to, highest_voted, fetch_block, fetch_all, lowest_first}
+use Rattle.recovery.specs.Healing.{burst, round, rounds}
 use Rattle.recovery.specs.NeverWedged.{healer, ground_of, NobodyPruned, HasViews}
 
 -- P holds of each world in which a run ends, where the run's premises hold, and hold of this phase after it
@@ -223,6 +224,47 @@ abbrev pub MissingBlocksAreFetched : Type 0
 MissingBlocksAreFetched =
     (u : ℕ) (b : Block) (parent : Branch) → AheadOf (fetch_block (digest_of (b ∷ parent)) u) (λ w.
     MayFetch w u b parent → IsFetched w (after w (fetch_block (digest_of (b ∷ parent)) u w)) u (b ∷ parent))
+
+-- A replica gained blocks of this branch alone, one of a height at most; but for what follows from these, it is as it was.
+pub record OnlyGained (self : Identity) (x : Branch) (before now : Chronicle) : Type 0 where
+  pub in_view : view self.sizes now ≡ view self.sizes before
+  pub voted : voted_blocks now ≡ voted_blocks before
+  pub forgotten : horizon now ≡ horizon before
+  pub kept : (y : Branch) → Among y (window before) → Among y (window now)
+  pub taken : (a : Admitted) → Among a (taken_blocks now) → Among a (taken_blocks before) ⊎ Extends x a.branch
+  pub longer : length (window now) ≤ length (window before) + length x
+  pub heights : (h : ℕ)
+      → count_by (λ y. length y == h) (window now) ≤ suc (count_by (λ y. length y == h) (window before))
+
+-- What is known where a branch is brought to all: more than f correct replicas have each block of it, nobody pruned, and
+-- there is room for it with each.
+pub record MayBring (w : World) (x : Branch) : Type 0 where
+  pub keys : ShareKeys w
+  pub goes : AllGoOn w
+  pub branch : IsBranch x
+  pub held : (y : Branch) → Extends x y → w.sizes.faults < correct_with w window y
+  pub kept : NobodyPruned w
+  pub trees : OfCorrect w (λ r. length (window (chronicle_of w r)) + length x ≤ MOST_BLOCKS)
+  pub heights : OfCorrect w (λ r. (h : ℕ)
+      → count_by (λ y. length y == h) (window (chronicle_of w r)) < MOST_OF_HEIGHT)
+  pub low : length x < HEIGHT_LIMIT
+
+-- No event was refused by the run, and all correct replicas go on. Each has the whole branch, and gained nothing else;
+-- who had it was only asked.
+pub record IsBrought (w last : World) (x : Branch) : Type 0 where
+  pub ran : run w (fetch_all (lowest_first x) w) ≡ Ok last
+  pub going_on : AllGoOn last
+  pub stands : OfCorrect last (λ r. (y : Branch) → Extends x y → Among y (window (chronicle_of last r)))
+  pub gained : OfCorrect w (λ r. OnlyGained (self_of w r) x (chronicle_of w r) (chronicle_of last r))
+  pub had : OfCorrect w (λ r. ((y : Branch) → Extends x y → Among y (window (chronicle_of w r)))
+      → OnlyAsked (self_of w r) (chronicle_of w r) (chronicle_of last r))
+  pub session : last.session ≡ w.session
+
+-- so a branch comes to all
+abbrev pub BranchesAreBrought : Type 0
+BranchesAreBrought =
+    (x : Branch) → AheadOf (fetch_all (lowest_first x)) (λ w. MayBring w x
+    → IsBrought w (after w (fetch_all (lowest_first x) w)) x)
 
 -- ---- blocks of a leader
 

@@ -6,7 +6,7 @@
 ghost use Rattle.recovery.specs.Law.{HighestLocksAreSafe, LocksMayBeLedFrom};
 ghost use Rattle.recovery.specs.Law.{JustifiedBlocksAreHeld, GroundsAreHeld};
 ghost use Rattle.recovery.specs.Law.{TimeoutsBringTogether, ACorrectLeaderComes, CopiesAreTaken, ProposalsAreTaken};
-ghost use Rattle.recovery.specs.Law.{HighestAreCertified, MissingBlocksAreFetched, ThreeMoreDecide};
+ghost use Rattle.recovery.specs.Law.{HighestAreCertified, MissingBlocksAreFetched, BranchesAreBrought, ThreeMoreDecide};
 ghost use Rattle.recovery.specs.Law.{BurstsAreVotedFor, RoundsCertify, RoundsDecide, LeadsBegin};
 
 /// A correct replica of the highest lock: no correct lock is above it or beside it, so a block that justifies
@@ -64,6 +64,11 @@ pub fn highest_are_certified()
 /// A correct replica gets a block that it lacks by asking, where more than f correct replicas have it.
 pub fn missing_blocks_are_fetched()
     ensures { MissingBlocksAreFetched }
+{}
+
+/// So all correct replicas get a whole branch, where nobody pruned.
+pub fn branches_are_brought()
+    ensures { BranchesAreBrought }
 {}
 
 /// Who took three more blocks over a block, each certified by the next, executed that block.
