@@ -46,7 +46,7 @@ use Rattle.recovery.proofs.Worlds.{passes-none, passes-append, after-none, after
 -- ---- who has a block
 
 -- no fewer have it where each keeps it
-with-more : (w v : World) (x : Branch) → IsMadeAs w v
+pub with-more : (w v : World) (x : Branch) → IsMadeAs w v
     → OfCorrect w (λ r. Among x (window (chronicle_of w r)) → Among x (window (chronicle_of v r)))
     → correct_with w window x ≤ correct_with v window x
 with-more w v x made kept =

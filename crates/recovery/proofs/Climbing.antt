@@ -45,6 +45,16 @@ IsAdded self b y c a =
     ((a.new ≡ true) × (a.clear ≡ list_all (command_verifies self) b.commands))
     ⊎ ((a.new ≡ false) × Among (b ∷ y) (window c))
 
+-- what stands justifies what it justifies
+pub stands-justifies : (m x : Branch) (c : Chronicle) → Among x (window c) → 0 < length x → just1 x ≡ m
+    → is_justified m c ≡ true
+unfolding is_justified window
+stands-justifies m x c k up j = elim (block-stored (standing_blocks c) x k) [
+  | inl z ↦ absurd (let n = ap (λ (y : Branch). length y) z in omega (arith, n, up))
+  | inr s ↦ any-from (λ (y : Stored). branch_eq (just1 y.branch) m) (standing_blocks c) s.0 s.1
+      ((branch_eq-decides (just1 s.0.branch) m).1 (ap just1 (sym s.2) ∙ j))
+]
+
 -- a block that was taken justifies what it justifies
 ground-itself : (m : Branch) (c : Chronicle) (a : Admitted) (b : Block) (y : Branch) → a.branch ≡ b ∷ y
     → just1 a.branch ≡ m → horizon c ≤ length a.branch + 2
@@ -56,11 +66,7 @@ ground-itself m c a b y e j l (inl n) =
     ((branch_eq-decides (just1 a.branch) m).1 j))
 ground-itself m c a b y e j l (inr o) =
     subst (λ (s : List Stored). list_any (λ x. branch_eq (just1 x.branch) m) s ≡ true) (sym (standing-old a c o.0))
-    (elim (block-stored (standing_blocks c) (b ∷ y) o.1) [
-      | inl z ↦ absurd (let k = ap (λ (x : Branch). length x) z in omega (arith, k))
-      | inr s ↦ any-from (λ (x : Stored). branch_eq (just1 x.branch) m) (standing_blocks c) s.0 s.1
-          ((branch_eq-decides (just1 s.0.branch) m).1 (ap just1 (sym s.2) ∙ (ap just1 (sym e) ∙ j)))
-    ])
+    (stands-justifies m (b ∷ y) c o.1 (omega arith) (ap just1 (sym e) ∙ j))
 
 -- the lock is still safe
 lock-more : (m : Branch) (c : Chronicle) (a : Admitted) → IsBranch m → just1 a.branch ≡ m

@@ -100,7 +100,7 @@ ground-cases c = by (find (is_over (lock c)) (reverse (taken_blocks c))) refl
     ]
 
 -- more than f correct replicas took it, and all below it
-ground-among : (w : World) → IsLawfulFamily (correct_family w) → (those : Chronicle → List Branch)
+pub ground-among : (w : World) → IsLawfulFamily (correct_family w) → (those : Chronicle → List Branch)
     → ((i : ℕ) → is_correct w i ≡ true → (x : Branch) → Among x (tree (chronicle_of w i))
     → Among x (those (chronicle_of w i)))
     → (x : Branch) → Extends (ground_of w) x → w.sizes.faults < correct_with w those x
@@ -117,7 +117,7 @@ unfolding just1 justify_height beginning
 just1-genesis = refl
 
 -- it justifies the lock, and stands in the tree
-ground-own : (w : World) → IsLawfulFamily (correct_family w)
+pub ground-own : (w : World) → IsLawfulFamily (correct_family w)
     → (just1 (ground_of w) ≡ lock_of w (healer w)) × Among (ground_of w) (tree (chronicle_of w (healer w)))
 ground-own w l =
     let c : Chronicle = chronicle_of w (healer w) in

@@ -30,4 +30,5 @@ mod Voting
 mod Tallied
 mod Rounds
 mod Rounded
+mod Staged
 mod Beginnings

@@ -82,7 +82,7 @@ nil [] h = refl
 nil (b ∷ x) h = absurd (omega (arith, h))
 
 -- of two locks of correct replicas that are equally high one is the other
-locks-one : (w : World) → IsLawfulFamily (correct_family w) → (r s : ℕ) → is_correct w r ≡ true
+pub locks-one : (w : World) → IsLawfulFamily (correct_family w) → (r s : ℕ) → is_correct w r ≡ true
     → is_correct w s ≡ true → length (lock_of w r) ≡ length (lock_of w s) → lock_of w r ≡ lock_of w s
 locks-one w l r s mr ms e =
     elim (cases_lt 0 (length (lock_of w r))) [

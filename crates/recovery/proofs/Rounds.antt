@@ -45,7 +45,7 @@ use Rattle.recovery.proofs.Bursts.{burst-voted, distinct-correct}
 use Rattle.recovery.proofs.Copies.{replicas-to}
 use Rattle.recovery.proofs.Correct.{among-correct, correct-listed}
 use Rattle.recovery.proofs.Families.{one-of-height}
-use Rattle.recovery.proofs.Fetched.{window-told}
+use Rattle.recovery.proofs.Fetched.{window-told, lock-told}
 use Rattle.recovery.proofs.Counting.{IsCounting}
 use Rattle.recovery.proofs.Views.{not-less}
 use Rattle.recovery.proofs.Highs.{high-certified, certified-low, voter-supports, some-core, some-core-is}
@@ -106,7 +106,7 @@ pass-numbered p v (y ∷ ys) xs k e l s (inr q) t =
 
 -- ---- heights that were voted for
 
-vheight-told : (c d : Chronicle) → voted_blocks c ≡ voted_blocks d → vheight c ≡ vheight d
+pub vheight-told : (c d : Chronicle) → voted_blocks c ≡ voted_blocks d → vheight c ≡ vheight d
 unfolding vheight
 vheight-told c d e = ap (λ (l : List Branch). greatest (map (λ (b : Branch). length b) l)) e
 
@@ -266,21 +266,17 @@ all-certify w x enough voted =
 -- ---- who may climb from a block that is certified
 
 -- all is clear above a block's own height
-clear-own : (x : Branch) (stored : List Stored) → clear_above (length x) x stored ≡ true
+pub clear-own : (x : Branch) (stored : List Stored) → clear_above (length x) x stored ≡ true
 unfolding clear_above
 clear-own [] stored = refl
 clear-own (b ∷ x) stored = cond-false (nat_lt (suc (length x)) (suc (length x))) _ _ (not-less (suc (length x)))
-
-standing-told : (c d : Chronicle) → taken_blocks d ≡ taken_blocks c → lock d ≡ lock c
-unfolding lock
-standing-told c d t = ap (λ (l : List Admitted). highest (map (λ (a : Admitted). just2 a.branch) l)) t
 
 -- who climbed to a block, and has a certificate of its own for it, climbs on from there
 climb-on : (self : Identity) (v : ℕ) (m x : Branch) (room : ℕ) (before c : Chronicle) → Climbs self v m x room before
     → IsCounting self x before c → length m < length x → is_own_certified self x c ≡ true → Climbs self v x x room c
 climb-on self v m x room before c k counting up own =
     let w = window-told before c counting.taken counting.forgotten in
-    let l = standing-told before c counting.taken in
+    let l = lock-told before c counting.taken in
     let long = ap (λ (b : Branch). length b) l in
     record {
       in_view = counting.in_view ∙ k.in_view;
