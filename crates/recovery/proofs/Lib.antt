@@ -25,6 +25,7 @@ mod Making
 mod Bursts
 mod Brought
 mod SentVotes
+mod SentRequests
 mod Counting
 mod Voting
 mod Tallied

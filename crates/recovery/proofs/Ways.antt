@@ -20,7 +20,8 @@ use Rattle.recovery.proofs.Worlds.{made-after, after-append, Passes, passes-appe
 use Rattle.std.proofs.lemmas.List.{append_assoc}
 use Rattle.recovery.proofs.Ruled.{AllRuled, happens-ruled}
 use Rattle.recovery.proofs.SentVotes.{VotesSent, happens-votes}
-use Rattle.recovery.proofs.Wells.{IsReached, run-after, well-run, new-ruled, new-votes}
+use Rattle.recovery.proofs.SentRequests.{AreOwn, happens-own}
+use Rattle.recovery.proofs.Wells.{IsReached, run-after, well-run, new-ruled, new-votes, new-own}
 
 -- the cores of a whole run
 abbrev pub KnownAt : (sizes : Sizes) → World → List Happening → Core → Type 0
@@ -34,6 +35,7 @@ pub record IsOnWay (sizes : Sizes) (start : World) (all : List Happening) (w : W
     pub well : IsWell (KnownAt sizes start all) w
     pub ruled : AllRuled w
     pub votes : VotesSent w
+    pub requests : AreOwn w w.sent
     pub assumed : AssumedAlong (KnownAt sizes start all) w ahead
     pub ends : after w ahead ≡ after start all
 
@@ -67,6 +69,7 @@ on-way-from sizes is_faulty ring hs ahead w met e =
       well = new-well sizes is_faulty ring all met;
       ruled = new-ruled sizes is_faulty ring;
       votes = new-votes sizes is_faulty ring;
+      requests = new-own sizes is_faulty ring;
     }) assumed.0 e in
     record {
       premises = met;
@@ -74,6 +77,7 @@ on-way-from sizes is_faulty ring hs ahead w met e =
       well = kept.well;
       ruled = kept.ruled;
       votes = kept.votes;
+      requests = kept.requests;
       assumed = subst (λ (z : World). AssumedAlong Known z ahead) end assumed.1;
       ends = ap (λ (z : World). after z ahead) (sym end) ∙ sym (after-append start hs ahead);
     }
@@ -94,6 +98,7 @@ module _ (sizes : Sizes) (start : World) (all : List Happening) where
     genesis = known-genesis sizes start all;
     well = on.well;
     ruled = on.ruled;
+    requests = on.requests;
     sent = λ s m x o. (
       inr (inl (s, subst (λ (z : World). Among s z.sent) on.ends (sent-on w ahead s m), o)),
       inr (subst (λ (z : Sizes). IsCore z x) (way-sizes w ahead on)
@@ -114,6 +119,8 @@ module _ (sizes : Sizes) (start : World) (all : List Happening) where
         (comes-framed w h.0 on.assumed.0.read on.well.framed.sent) ok on.ruled;
     votes = happens-votes (KnownAt sizes start all) w h on.well
         (comes-framed w h.0 on.assumed.0.read on.well.framed.sent) ok on.votes;
+    requests = happens-own (KnownAt sizes start all) w h on.well
+        (comes-framed w h.0 on.assumed.0.read on.well.framed.sent) ok on.requests;
     assumed = on.assumed.1;
     ends = on.ends;
   }

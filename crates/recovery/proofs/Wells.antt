@@ -25,6 +25,7 @@ use Rattle.linear_law.proofs.WholeRuns.{known-apart, known-genesis, known-along}
 use Rattle.recovery.specs.Correct.{chronicle_of}
 use Rattle.recovery.proofs.Worlds.{made-after}
 use Rattle.recovery.proofs.Ruled.{AllRuled, happens-ruled}
+use Rattle.recovery.proofs.SentRequests.{AreOwn, happens-own}
 use Rattle.recovery.proofs.SentVotes.{VotesSent, happens-votes}
 
 -- a world of a run, among known cores that don't collide
@@ -34,6 +35,8 @@ pub record IsReached (Known : Core → Type 0) (w : World) : Type 0 where
   pub well : IsWell Known w
   -- each step of a correct replica was due
   pub ruled : AllRuled w
+  -- each request that a client sent is its own
+  pub requests : AreOwn w w.sent
   -- the cores of what was sent are known
   pub sent : (s : Sent) → Among s w.sent → (x : Core) → CoreOf x s.frame → Known x
 
@@ -42,6 +45,7 @@ pub record IsKeptWell (Known : Core → Type 0) (w : World) : Type 0 where
   pub well : IsWell Known w
   pub ruled : AllRuled w
   pub votes : VotesSent w
+  pub requests : AreOwn w w.sent
 
 pub well-run : (Known : Core → Type 0) → NoCollision Known → Known genesis_core → (hs : List Happening) (w last : World)
     → IsKeptWell Known w → AssumedAlong Known w hs → run w hs ≡ Ok last → IsKeptWell Known last
@@ -53,6 +57,7 @@ well-run Known apart genesis (h ∷ hs) w last g a e =
       well = well-happens Known apart genesis w h g.well a.0 r.0;
       ruled = happens-ruled Known w h g.well (comes-framed w h.0 a.0.read g.well.framed.sent) r.0 g.ruled;
       votes = happens-votes Known w h g.well (comes-framed w h.0 a.0.read g.well.framed.sent) r.0 g.votes;
+      requests = happens-own Known w h g.well (comes-framed w h.0 a.0.read g.well.framed.sent) r.0 g.requests;
     }) a.1 r.1
 
 pub new-ruled : (sizes : Sizes) (is_faulty : ℕ → Bool) (ring : ℕ → Keyring) → AllRuled (new_world sizes is_faulty ring)
@@ -63,6 +68,11 @@ pub new-votes : (sizes : Sizes) (is_faulty : ℕ → Bool) (ring : ℕ → Keyri
     → VotesSent (new_world sizes is_faulty ring)
 unfolding new_world voted_blocks
 new-votes sizes is_faulty ring = λ r c s x m. absurd m
+
+pub new-own : (sizes : Sizes) (is_faulty : ℕ → Bool) (ring : ℕ → Keyring)
+    → AreOwn (new_world sizes is_faulty ring) (new_world sizes is_faulty ring).sent
+unfolding new_world
+new-own sizes is_faulty ring = λ s m. absurd m
 
 -- a run ends in the world after it
 pub run-after : (hs : List Happening) (w last : World) → run w hs ≡ Ok last → after w hs ≡ last
@@ -95,6 +105,7 @@ reached sizes is_faulty ring hs last met e =
       well = new-well sizes is_faulty ring hs met;
       ruled = new-ruled sizes is_faulty ring;
       votes = new-votes sizes is_faulty ring;
+      requests = new-own sizes is_faulty ring;
     })
     (known-along sizes w hs (new-sizes sizes is_faulty ring) met) e in
     let end = run-after hs w last e in
@@ -103,6 +114,7 @@ reached sizes is_faulty ring hs last met e =
       genesis = genesis;
       well = kept.well;
       ruled = kept.ruled;
+      requests = kept.requests;
       sent = λ s m x o. sent-known sizes w hs last end kept.well s m x o
           (ap (λ (y : World). y.sizes) (sym end) ∙ ((made-after w hs).sizes ∙ new-sizes sizes is_faulty ring));
     }
