@@ -32,4 +32,6 @@ mod Tallied
 mod Rounds
 mod Rounded
 mod Staged
+mod Requests
 mod Beginnings
+mod Ready

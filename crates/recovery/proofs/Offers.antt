@@ -66,7 +66,7 @@ goes-both w mid last h k = record {
 }
 
 -- what was recorded stays at its number
-slice-later : (xs ys : List Sent) (k : ℕ) (f : Frame) → option_map (λ s. s.frame) (slice_get xs k) ≡ Some f
+pub slice-later : (xs ys : List Sent) (k : ℕ) (f : Frame) → option_map (λ s. s.frame) (slice_get xs k) ≡ Some f
     → option_map (λ s. s.frame) (slice_get (xs ++ ys) k) ≡ Some f
 slice-later [] ys k f e = absurd (none e)
   where

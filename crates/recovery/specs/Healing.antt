@@ -122,6 +122,10 @@ highest_locked w (r ∷ s ∷ rs) =
     let best = highest_locked w (s ∷ rs) in
     if nat_lt (length (lock_of w r)) (length (lock_of w best)) then best else r
 
+-- a replica is told to lead from the block of this digest, and frame k, a request, comes to it
+abbrev pub lead_with : ℕ → ℕ → Bytes → Phase
+lead_with k l d w = amply (lead l d ∷ relay k l ∷ [])
+
 -- a leader makes a block, and it is offered to itself
 unfoldable pub make_block : ℕ → Phase
 make_block l w =
@@ -239,6 +243,6 @@ heal k w =
     in_turn (come_to (view_to_come l w)
     ∷ make_first l
     ∷ fetch_all (lowest_first (over_lock l w))
-    ∷ (λ v. amply (lead l (digest_of (lock_of w l)) ∷ relay k l ∷ []))
+    ∷ lead_with k l (digest_of (lock_of w l))
     ∷ (λ v. rounds (to_climb l v) l v)
     ∷ ask_again k ∷ []) w

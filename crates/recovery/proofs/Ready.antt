@@ -1,0 +1,1 @@
+-- The leader leads from its lock with the request, and all may follow.
