@@ -110,7 +110,7 @@ pub vheight-told : (c d : Chronicle) → voted_blocks c ≡ voted_blocks d → v
 unfolding vheight
 vheight-told c d e = ap (λ (l : List Branch). greatest (map (λ (b : Branch). length b) l)) e
 
-highest-voted-below : (w : World) (rs : List ℕ) (n : ℕ) → 0 < n
+pub highest-voted-below : (w : World) (rs : List ℕ) (n : ℕ) → 0 < n
     → ((r : ℕ) → Among r rs → vheight (chronicle_of w r) < n) → highest_voted w rs < n
 unfolding highest_voted
 highest-voted-below w [] n p h = p
