@@ -35,3 +35,5 @@ mod Staged
 mod Requests
 mod Beginnings
 mod Ready
+mod Submitted
+mod Executed

@@ -68,19 +68,19 @@ client-party w cl l =
 
 -- what a client asked for is
 pub asked-wanted : (w : World) (k cl : ℕ) → ShareKeys w → AreOwn w w.sent → (h : IsAsked w k cl)
-    → IsWanted w k h.command × (h.command.client ≡ cl)
+    → IsWanted w k h.command × (h.command.client ≡ cl) × (0 < h.command.seq)
 asked-wanted w k cl keys own h =
     let c : Command = h.command in
     let among = slice_get-among w.sent k h.sent h.recorded in
-    let is : IsOwn w cl c = own h.sent among c h.request cl h.sender in
-    (
+    let is : IsOwn w cl c = own h.sent among c h.request cl h.sender in (
       record {
         is_recorded = ap (λ (o : Option Sent). option_map (λ s. s.frame) o) h.recorded
             ∙ ap (λ (f : Frame). Some f) h.request;
-        verifies = λ r d. ap (command_verifies (self_of w r)) is
+        verifies = λ r d. ap (command_verifies (self_of w r)) is.0
             ∙ vector-verifies w keys kind.Request (client_party cl) r _ (client-party w cl h.client_is) h.correct d;
       },
-      ap (λ (x : Command). x.client) is,
+      ap (λ (x : Command). x.client) is.0,
+      is.1,
     )
 
 -- ---- it comes

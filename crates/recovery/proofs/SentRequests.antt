@@ -1,6 +1,6 @@
 -- A request that a client sent is one that it makes with its keys.
 use Rattle.std.proofs.Common.{ℕ, suc, ◌≡◌, ◌==◌, ◌&&◌, not, List, [], ◌∷◌, ◌++◌, map, refl, sym, ap, subst, ◌∙◌, inl, inr}
-use Rattle.std.proofs.Common.{None, Bool}
+use Rattle.std.proofs.Common.{None, Bool, ◌<◌, arith}
 use Rattle.std.proofs.lemmas.Bool.{cond_both}
 use Rattle.ids.specs.Sizes.{client_party}
 use Rattle.definitions.specs.Bytes.{Bytes}
@@ -29,9 +29,9 @@ use Rattle.linear_law.proofs.Submissions.{asked, IsAsked, IsAsked.kept, IsAsked.
 use Rattle.linear_law.proofs.WholeRuns.{IsWell}
 use Rattle.recovery.proofs.Steps.{outs}
 
--- the client makes this command with its keys
+-- the client makes this command with its keys, by a number that it gives
 abbrev pub IsOwn : World → ℕ → Command → Type 0
-IsOwn w cl c = c ≡ asked (client_of w cl) c.seq c.payload
+IsOwn w cl c = (c ≡ asked (client_of w cl) c.seq c.payload) × (0 < c.seq)
 
 -- so is each of these requests that a client sent
 abbrev pub AreOwn : World → List Sent → Type 0
@@ -54,11 +54,11 @@ outcome-not self m v old r (cut st n u e h) o k = none-not o k
 -- what a client submits is its own
 submitted-own : (me : Client) (payload : Bytes) (s : Session) (x : Session × Submitted) → IsAsked me payload s x
     → (o : Sending) → Among o (submitted_out x.1) → (c : Command) → o.1 ≡ frame.request c
-    → c ≡ asked me c.seq c.payload
+    → (c ≡ asked me c.seq c.payload) × (0 < c.seq)
 submitted-own me payload s x (kept n) o m c h = absurd m
 submitted-own me payload s x given o (inl e) c h =
-    subst (λ (z : Command). z ≡ asked me z.seq z.payload)
-    (same-command (asked me (suc s.used) payload) c (sym (ap (λ (y : Sending). y.1) e) ∙ h)) refl
+    subst (λ (z : Command). (z ≡ asked me z.seq z.payload) × (0 < z.seq))
+    (same-command (asked me (suc s.used) payload) c (sym (ap (λ (y : Sending). y.1) e) ∙ h)) (refl, omega arith)
 submitted-own me payload s x given o (inr k) c h = absurd k
 
 -- what goes out in an event

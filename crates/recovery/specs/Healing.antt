@@ -137,17 +137,18 @@ unfoldable pub make_blocks : ℕ → ℕ → Phase
 make_blocks zero l w = []
 make_blocks (suc n) l w = in_turn (make_block l ∷ make_blocks n l ∷ []) w
 
--- where no block was taken
-unfoldable pub where_none : List Admitted → List Happening → List Happening
-where_none [] hs = hs
-where_none (a ∷ more) hs = []
+-- of these replicas those that never took a block
+abbrev pub newcomers : World → List ℕ → List ℕ
+newcomers w rs = filter (λ r. length (taken_blocks (chronicle_of w r)) == 0) rs
 
--- A leader that never took a block makes one, which comes to itself: only then does genesis have grounds with it.
+-- Genesis has grounds with who took any block. So where a leader's lock is genesis, it makes a block there, which comes to
+-- all that never took one, as genesis's certificate is good for all.
 unfoldable pub make_first : ℕ → Phase
 make_first l w =
-    where_none (taken_blocks (chronicle_of w l))
-    (in_turn ((λ v. amply (beat l ∷ []))
-    ∷ (λ v. amply (comes_to (l ∷ []) (sent_since (length w.sent) is_proposal v))) ∷ []) w)
+    if length (lock_of w l) == 0
+    then in_turn ((λ v. amply (lead l (digest_of []) ∷ beat l ∷ []))
+    ∷ (λ v. amply (comes_to (newcomers v (correct_replicas v)) (sent_since (length w.sent) is_proposal v))) ∷ []) w
+    else []
 
 -- what a block justifies, where there is one
 abbrev pub justified_by : Option Admitted → Branch
@@ -234,15 +235,18 @@ ask_again k w =
 
 -- ---- all of it
 
--- Frame k is the client's request. A replica of the highest lock brings all into a view that it leads. All get what
--- justifies its lock. It leads from its lock, with that request alone, above all that was voted for; three more blocks
--- decide; and the client hears of it.
-unfoldable pub heal : ℕ → Phase
-heal k w =
+-- Frame k is a client's request. A replica of the highest lock brings all into a view that it leads. All get what
+-- justifies its lock. It leads from its lock, with that request alone, above all that was voted for; and three more blocks
+-- decide.
+unfoldable pub agree_on : ℕ → Phase
+agree_on k w =
     let l = highest_locked w (correct_replicas w) in
     in_turn (come_to (view_to_come l w)
     ∷ make_first l
     ∷ fetch_all (lowest_first (over_lock l w))
     ∷ lead_with k l (digest_of (lock_of w l))
-    ∷ (λ v. rounds (to_climb l v) l v)
-    ∷ ask_again k ∷ []) w
+    ∷ (λ v. rounds (to_climb l v) l v) ∷ []) w
+
+-- and the client hears of it
+unfoldable pub heal : ℕ → Phase
+heal k w = in_turn (agree_on k ∷ ask_again k ∷ []) w

@@ -29,8 +29,8 @@ use Rattle.linear_law.specs.Law.{AfterEachRun, correct_family}
 use Rattle.recovery.specs.Correct.{OfCorrect, AllGoOn, ShareKeys, chronicle_of, lock_of, view_of, correct_with}
 use Rattle.recovery.specs.Correct.{correct_replicas, amply}
 use Rattle.recovery.specs.Healing.{Phase, view_to_come, come_to, highest_voted, fetch_block, fetch_all, lowest_first}
-use Rattle.recovery.specs.Healing.{burst, round, rounds}
-use Rattle.recovery.specs.NeverWedged.{healer, ground_of, NobodyPruned, HasViews}
+use Rattle.recovery.specs.Healing.{burst, round, rounds, agree_on}
+use Rattle.recovery.specs.NeverWedged.{healer, ground_of, NobodyPruned, HasViews, HasRoom, IsAsked}
 
 -- P holds of each world in which a run ends, where the run's premises hold, and hold of this phase after it
 abbrev pub AheadOf : Phase → (World → Type 0) → Type 0
@@ -428,3 +428,27 @@ abbrev pub RoundsDecide : Type 0
 RoundsDecide =
     (l v n room : ℕ) (m : Branch) → AheadOf (rounds n l) (λ w. MayBurst w l v n (3 + room) m
     → length m + n + 3 < HEIGHT_LIMIT → (x : Branch) × HaveDecided w (after w (rounds n l w)) l n m x)
+
+-- ---- a request
+
+-- What is known where a world is healed: correct replicas go on, and share keys; views and room are left; and nobody
+-- pruned.
+pub record MayHeal (w : World) : Type 0 where
+  pub keys : ShareKeys w
+  pub goes : AllGoOn w
+  pub views : HasViews w
+  pub room : HasRoom w
+  pub kept : NobodyPruned w
+
+-- No event was refused by the run, and all correct replicas go on. Each executed this request, now or before.
+pub record IsExecutedByAll (w last : World) (k : ℕ) (c : Command) : Type 0 where
+  pub ran : run w (agree_on k w) ≡ Ok last
+  pub going_on : AllGoOn last
+  pub executed_there : OfCorrect last (λ r. Carries (executed (chronicle_of last r)) c)
+  pub session : last.session ≡ w.session
+
+-- So a correct client's request is executed by all, where the highest lock isn't genesis.
+abbrev pub RequestsAreExecuted : Type 0
+RequestsAreExecuted =
+    (k client : ℕ) → AheadOf (agree_on k) (λ w. MayHeal w → 0 < length (lock_of w (healer w))
+    → (asked : IsAsked w k client) → IsExecutedByAll w (after w (agree_on k w)) k asked.command)

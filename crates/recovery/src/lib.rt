@@ -7,7 +7,7 @@ ghost use Rattle.recovery.specs.Law.{HighestLocksAreSafe, LocksMayBeLedFrom};
 ghost use Rattle.recovery.specs.Law.{JustifiedBlocksAreHeld, GroundsAreHeld};
 ghost use Rattle.recovery.specs.Law.{TimeoutsBringTogether, ACorrectLeaderComes, CopiesAreTaken, ProposalsAreTaken};
 ghost use Rattle.recovery.specs.Law.{HighestAreCertified, MissingBlocksAreFetched, BranchesAreBrought, ThreeMoreDecide};
-ghost use Rattle.recovery.specs.Law.{BurstsAreVotedFor, RoundsCertify, RoundsDecide, LeadsBegin};
+ghost use Rattle.recovery.specs.Law.{BurstsAreVotedFor, RoundsCertify, RoundsDecide, LeadsBegin, RequestsAreExecuted};
 
 /// A correct replica of the highest lock: no correct lock is above it or beside it, so a block that justifies
 /// it is safe for all.
@@ -89,4 +89,9 @@ pub fn rounds_certify()
 /// Rounds in turn decide the last block of the first, which carries the requests that waited.
 pub fn rounds_decide()
     ensures { RoundsDecide }
+{}
+
+/// So a correct client's request is executed by all, where the highest lock isn't genesis and nobody pruned.
+pub fn requests_are_executed()
+    ensures { RequestsAreExecuted }
 {}
