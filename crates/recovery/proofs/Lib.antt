@@ -37,3 +37,4 @@ mod Beginnings
 mod Ready
 mod Submitted
 mod Executed
+mod Told
