@@ -26,6 +26,7 @@ mod Bursts
 mod Brought
 mod SentVotes
 mod SentRequests
+mod Tallies
 mod Counting
 mod Voting
 mod Tallied
@@ -38,3 +39,5 @@ mod Ready
 mod Submitted
 mod Executed
 mod Told
+mod Replying
+mod Hearing

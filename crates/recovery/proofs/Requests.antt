@@ -61,7 +61,7 @@ wanted-after w hs k c made h = record {
 }
 
 -- a client is a party
-client-party : (w : World) (cl : ℕ) → cl < w.sizes.clients → is_party w (client_party cl) ≡ true
+pub client-party : (w : World) (cl : ℕ) → cl < w.sizes.clients → is_party w (client_party cl) ≡ true
 client-party w cl l =
     or_right _ _ (and_from _ _ (le-leb (client_party 0) (client_party cl) (omega arith))
     (lt-ltb (client_party cl) (client_party w.sizes.clients) (omega (arith, l))))

@@ -120,8 +120,7 @@ pub last-answered : (most_keys cl seq : ℕ) (h : History) → 0 < seq → last_
 unfolding answer_to IsLast
 last-answered most_keys cl seq h p e =
     let r = last-is most_keys cl h (omega (arith, p, e)) in
-    let s = r.3 ∙ e in
-    (
+    let s = r.3 ∙ e in (
       r.0,
       ap (λ o. if_numbered seq o) r.1 ∙ cond-true (r.0.seq == seq) (Some r.0) _ (eq-eqb r.0.seq seq s),
       r.2,

@@ -21,7 +21,8 @@ use Rattle.std.proofs.lemmas.List.{append_assoc}
 use Rattle.recovery.proofs.Ruled.{AllRuled, happens-ruled}
 use Rattle.recovery.proofs.SentVotes.{VotesSent, happens-votes}
 use Rattle.recovery.proofs.SentRequests.{AreOwn, happens-own}
-use Rattle.recovery.proofs.Wells.{IsReached, run-after, well-run, new-ruled, new-votes, new-own}
+use Rattle.recovery.proofs.Wells.{IsReached, run-after, well-run, new-ruled, new-votes, new-own, new-few}
+use Rattle.recovery.proofs.Tallies.{HaveFew, happens-few}
 
 -- the cores of a whole run
 abbrev pub KnownAt : (sizes : Sizes) → World → List Happening → Core → Type 0
@@ -36,6 +37,7 @@ pub record IsOnWay (sizes : Sizes) (start : World) (all : List Happening) (w : W
     pub ruled : AllRuled w
     pub votes : VotesSent w
     pub requests : AreOwn w w.sent
+    pub tallies : HaveFew w
     pub assumed : AssumedAlong (KnownAt sizes start all) w ahead
     pub ends : after w ahead ≡ after start all
 
@@ -70,6 +72,7 @@ on-way-from sizes is_faulty ring hs ahead w met e =
       ruled = new-ruled sizes is_faulty ring;
       votes = new-votes sizes is_faulty ring;
       requests = new-own sizes is_faulty ring;
+      tallies = new-few sizes is_faulty ring;
     }) assumed.0 e in
     record {
       premises = met;
@@ -78,6 +81,7 @@ on-way-from sizes is_faulty ring hs ahead w met e =
       ruled = kept.ruled;
       votes = kept.votes;
       requests = kept.requests;
+      tallies = kept.tallies;
       assumed = subst (λ (z : World). AssumedAlong Known z ahead) end assumed.1;
       ends = ap (λ (z : World). after z ahead) (sym end) ∙ sym (after-append start hs ahead);
     }
@@ -99,6 +103,7 @@ module _ (sizes : Sizes) (start : World) (all : List Happening) where
     well = on.well;
     ruled = on.ruled;
     requests = on.requests;
+    tallies = on.tallies;
     sent = λ s m x o. (
       inr (inl (s, subst (λ (z : World). Among s z.sent) on.ends (sent-on w ahead s m), o)),
       inr (subst (λ (z : Sizes). IsCore z x) (way-sizes w ahead on)
@@ -121,6 +126,7 @@ module _ (sizes : Sizes) (start : World) (all : List Happening) where
         (comes-framed w h.0 on.assumed.0.read on.well.framed.sent) ok on.votes;
     requests = happens-own (KnownAt sizes start all) w h on.well
         (comes-framed w h.0 on.assumed.0.read on.well.framed.sent) ok on.requests;
+    tallies = happens-few w h (comes-framed w h.0 on.assumed.0.read on.well.framed.sent) ok on.tallies;
     assumed = on.assumed.1;
     ends = on.ends;
   }

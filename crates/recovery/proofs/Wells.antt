@@ -1,5 +1,5 @@
 -- What holds of each world of a run whose premises hold, for the laws of one event.
-use Rattle.std.proofs.Common.{ℕ, ◌≡◌, true, List, [], ◌∷◌, sym, ap, subst, ◌∙◌, inl, inr, Ok}
+use Rattle.std.proofs.Common.{ℕ, ◌≡◌, true, List, [], ◌∷◌, sym, ap, subst, ◌∙◌, inl, inr, Ok, arith}
 use Rattle.ids.specs.Sizes.{Sizes}
 use Rattle.std.proofs.Common.{Bool}
 use Rattle.definitions.specs.Lists.{Among}
@@ -27,6 +27,7 @@ use Rattle.recovery.proofs.Worlds.{made-after}
 use Rattle.recovery.proofs.Ruled.{AllRuled, happens-ruled}
 use Rattle.recovery.proofs.SentRequests.{AreOwn, happens-own}
 use Rattle.recovery.proofs.SentVotes.{VotesSent, happens-votes}
+use Rattle.recovery.proofs.Tallies.{HaveFew, happens-few}
 
 -- a world of a run, among known cores that don't collide
 pub record IsReached (Known : Core → Type 0) (w : World) : Type 0 where
@@ -37,6 +38,8 @@ pub record IsReached (Known : Core → Type 0) (w : World) : Type 0 where
   pub ruled : AllRuled w
   -- each request that a client sent is its own
   pub requests : AreOwn w w.sent
+  -- who waits wasn't told enough
+  pub tallies : HaveFew w
   -- the cores of what was sent are known
   pub sent : (s : Sent) → Among s w.sent → (x : Core) → CoreOf x s.frame → Known x
 
@@ -46,6 +49,7 @@ pub record IsKeptWell (Known : Core → Type 0) (w : World) : Type 0 where
   pub ruled : AllRuled w
   pub votes : VotesSent w
   pub requests : AreOwn w w.sent
+  pub tallies : HaveFew w
 
 pub well-run : (Known : Core → Type 0) → NoCollision Known → Known genesis_core → (hs : List Happening) (w last : World)
     → IsKeptWell Known w → AssumedAlong Known w hs → run w hs ≡ Ok last → IsKeptWell Known last
@@ -58,6 +62,7 @@ well-run Known apart genesis (h ∷ hs) w last g a e =
       ruled = happens-ruled Known w h g.well (comes-framed w h.0 a.0.read g.well.framed.sent) r.0 g.ruled;
       votes = happens-votes Known w h g.well (comes-framed w h.0 a.0.read g.well.framed.sent) r.0 g.votes;
       requests = happens-own Known w h g.well (comes-framed w h.0 a.0.read g.well.framed.sent) r.0 g.requests;
+      tallies = happens-few w h (comes-framed w h.0 a.0.read g.well.framed.sent) r.0 g.tallies;
     }) a.1 r.1
 
 pub new-ruled : (sizes : Sizes) (is_faulty : ℕ → Bool) (ring : ℕ → Keyring) → AllRuled (new_world sizes is_faulty ring)
@@ -73,6 +78,10 @@ pub new-own : (sizes : Sizes) (is_faulty : ℕ → Bool) (ring : ℕ → Keyring
     → AreOwn (new_world sizes is_faulty ring) (new_world sizes is_faulty ring).sent
 unfolding new_world
 new-own sizes is_faulty ring = λ s m. absurd m
+
+pub new-few : (sizes : Sizes) (is_faulty : ℕ → Bool) (ring : ℕ → Keyring) → HaveFew (new_world sizes is_faulty ring)
+unfolding new_world
+new-few sizes is_faulty ring = λ cl w place text. omega arith
 
 -- a run ends in the world after it
 pub run-after : (hs : List Happening) (w last : World) → run w hs ≡ Ok last → after w hs ≡ last
@@ -106,6 +115,7 @@ reached sizes is_faulty ring hs last met e =
       ruled = new-ruled sizes is_faulty ring;
       votes = new-votes sizes is_faulty ring;
       requests = new-own sizes is_faulty ring;
+      tallies = new-few sizes is_faulty ring;
     })
     (known-along sizes w hs (new-sizes sizes is_faulty ring) met) e in
     let end = run-after hs w last e in
@@ -115,6 +125,7 @@ reached sizes is_faulty ring hs last met e =
       well = kept.well;
       ruled = kept.ruled;
       requests = kept.requests;
+      tallies = kept.tallies;
       sent = λ s m x o. sent-known sizes w hs last end kept.well s m x o
           (ap (λ (y : World). y.sizes) (sym end) ∙ ((made-after w hs).sizes ∙ new-sizes sizes is_faulty ring));
     }

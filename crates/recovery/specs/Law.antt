@@ -4,7 +4,7 @@ use Rattle.std.specs.Prelude.{ℕ, suc, ◌^◌, ◌≡◌, ◌==◌, ◌&&◌, 
 use Rattle.std.specs.Prelude.{◌++◌, map, length, count_by, Ok}
 use Rattle.std.specs.List.{AllByRecursion, list_all, list_any}
 use Rattle.ids.specs.declared.fault.Fault.TheVariants as fault
-use Rattle.ids.specs.Sizes.{Sizes, leader}
+use Rattle.ids.specs.Sizes.{Sizes, AreSizes, leader}
 use Rattle.definitions.specs.Keyrings.{Keyring}
 use Rattle.definitions.specs.Premises.{ArePremises}
 use Rattle.definitions.specs.Lists.{Among, AreDistinct}
@@ -29,8 +29,8 @@ use Rattle.linear_law.specs.Law.{AfterEachRun, correct_family}
 use Rattle.recovery.specs.Correct.{OfCorrect, AllGoOn, ShareKeys, chronicle_of, lock_of, view_of, correct_with}
 use Rattle.recovery.specs.Correct.{correct_replicas, amply}
 use Rattle.recovery.specs.Healing.{Phase, view_to_come, come_to, highest_voted, fetch_block, fetch_all, lowest_first}
-use Rattle.recovery.specs.Healing.{burst, round, rounds, agree_on}
-use Rattle.recovery.specs.NeverWedged.{healer, ground_of, NobodyPruned, HasViews, HasRoom, IsAsked}
+use Rattle.recovery.specs.Healing.{burst, round, rounds, agree_on, ask_again}
+use Rattle.recovery.specs.NeverWedged.{healer, ground_of, NobodyPruned, HasViews, HasRoom, IsAsked, IsAnswered}
 
 -- P holds of each world in which a run ends, where the run's premises hold, and hold of this phase after it
 abbrev pub AheadOf : Phase → (World → Type 0) → Type 0
@@ -452,3 +452,14 @@ abbrev pub RequestsAreExecuted : Type 0
 RequestsAreExecuted =
     (k client : ℕ) → AheadOf (agree_on k) (λ w. MayHeal w → 0 < length (lock_of w (healer w))
     → (asked : IsAsked w k client) → IsExecutedByAll w (after w (agree_on k w)) k asked.command)
+
+-- ---- a receipt
+
+-- Where each correct replica executed a correct client's outstanding request, the client has its receipt once that comes
+-- to them again, and their replies to it.
+abbrev pub RepliesConvince : Type 0
+RepliesConvince =
+    (k client : ℕ) → AheadOf (ask_again k) (λ w. AreSizes w.sizes → ShareKeys w → AllGoOn w
+    → (asked : IsAsked w k client) → OfCorrect w (λ r. Carries (executed (chronicle_of w r)) asked.command)
+    → (run w (ask_again k w) ≡ Ok (after w (ask_again k w)))
+    × IsAnswered (after w (ask_again k w)) client (w.session client).used)

@@ -7,7 +7,7 @@ ghost use Rattle.recovery.specs.Law.{HighestLocksAreSafe, LocksMayBeLedFrom};
 ghost use Rattle.recovery.specs.Law.{JustifiedBlocksAreHeld, GroundsAreHeld};
 ghost use Rattle.recovery.specs.Law.{TimeoutsBringTogether, ACorrectLeaderComes, CopiesAreTaken, ProposalsAreTaken};
 ghost use Rattle.recovery.specs.Law.{HighestAreCertified, MissingBlocksAreFetched, BranchesAreBrought, ThreeMoreDecide};
-ghost use Rattle.recovery.specs.Law.{BurstsAreVotedFor, RoundsCertify, RoundsDecide, LeadsBegin, RequestsAreExecuted};
+ghost use Rattle.recovery.specs.Law.{BurstsAreVotedFor, RoundsCertify, RoundsDecide, LeadsBegin, RequestsAreExecuted, RepliesConvince};
 
 /// A correct replica of the highest lock: no correct lock is above it or beside it, so a block that justifies
 /// it is safe for all.
@@ -94,4 +94,9 @@ pub fn rounds_decide()
 /// So a correct client's request is executed by all, where the highest lock isn't genesis and nobody pruned.
 pub fn requests_are_executed()
     ensures { RequestsAreExecuted }
+{}
+
+/// And the client has its receipt, once its request comes to them again, and their replies to it.
+pub fn replies_convince()
+    ensures { RepliesConvince }
 {}
