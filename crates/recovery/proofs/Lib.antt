@@ -27,6 +27,7 @@ mod Brought
 mod SentVotes
 mod SentRequests
 mod Tallies
+mod Firsts
 mod Counting
 mod Voting
 mod Tallied

@@ -22,6 +22,8 @@ use Rattle.recovery.proofs.Ruled.{AllRuled, happens-ruled}
 use Rattle.recovery.proofs.SentVotes.{VotesSent, happens-votes}
 use Rattle.recovery.proofs.SentRequests.{AreOwn, happens-own}
 use Rattle.recovery.proofs.Wells.{IsReached, run-after, well-run, new-ruled, new-votes, new-own, new-few}
+use Rattle.recovery.proofs.Wells.{new-firsts}
+use Rattle.recovery.proofs.Firsts.{AllFirst, happens-first}
 use Rattle.recovery.proofs.Tallies.{HaveFew, happens-few}
 
 -- the cores of a whole run
@@ -38,6 +40,8 @@ pub record IsOnWay (sizes : Sizes) (start : World) (all : List Happening) (w : W
     pub votes : VotesSent w
     pub requests : AreOwn w w.sent
     pub tallies : HaveFew w
+    pub firsts : AllFirst (KnownAt sizes start all) (known-apart sizes start all premises)
+        (known-genesis sizes start all) w
     pub assumed : AssumedAlong (KnownAt sizes start all) w ahead
     pub ends : after w ahead ≡ after start all
 
@@ -73,6 +77,7 @@ on-way-from sizes is_faulty ring hs ahead w met e =
       votes = new-votes sizes is_faulty ring;
       requests = new-own sizes is_faulty ring;
       tallies = new-few sizes is_faulty ring;
+      firsts = new-firsts Known (known-apart sizes start all met) (known-genesis sizes start all) sizes is_faulty ring;
     }) assumed.0 e in
     record {
       premises = met;
@@ -82,6 +87,7 @@ on-way-from sizes is_faulty ring hs ahead w met e =
       votes = kept.votes;
       requests = kept.requests;
       tallies = kept.tallies;
+      firsts = kept.firsts;
       assumed = subst (λ (z : World). AssumedAlong Known z ahead) end assumed.1;
       ends = ap (λ (z : World). after z ahead) (sym end) ∙ sym (after-append start hs ahead);
     }
@@ -104,6 +110,7 @@ module _ (sizes : Sizes) (start : World) (all : List Happening) where
     ruled = on.ruled;
     requests = on.requests;
     tallies = on.tallies;
+    firsts = on.firsts;
     sent = λ s m x o. (
       inr (inl (s, subst (λ (z : World). Among s z.sent) on.ends (sent-on w ahead s m), o)),
       inr (subst (λ (z : Sizes). IsCore z x) (way-sizes w ahead on)
@@ -115,21 +122,24 @@ module _ (sizes : Sizes) (start : World) (all : List Happening) where
   pub way-on : (w : World) (h : Happening) (ahead : List Happening) → IsOnWay sizes start all w (h ∷ ahead)
       → refusal w h.0 ≡ None → IsOnWay sizes start all (happens w h) ahead
   unfolding after
-  way-on w h ahead on ok = record {
-    premises = on.premises;
-    starts = on.starts;
-    well = well-happens (KnownAt sizes start all) (known-apart sizes start all on.premises)
-        (known-genesis sizes start all) w h on.well on.assumed.0 ok;
-    ruled = happens-ruled (KnownAt sizes start all) w h on.well
-        (comes-framed w h.0 on.assumed.0.read on.well.framed.sent) ok on.ruled;
-    votes = happens-votes (KnownAt sizes start all) w h on.well
-        (comes-framed w h.0 on.assumed.0.read on.well.framed.sent) ok on.votes;
-    requests = happens-own (KnownAt sizes start all) w h on.well
-        (comes-framed w h.0 on.assumed.0.read on.well.framed.sent) ok on.requests;
-    tallies = happens-few w h (comes-framed w h.0 on.assumed.0.read on.well.framed.sent) ok on.tallies;
-    assumed = on.assumed.1;
-    ends = on.ends;
-  }
+  way-on w h ahead on ok =
+      let Known : Core → Type 0 = KnownAt sizes start all in
+      let apart = known-apart sizes start all on.premises in
+      let genesis = known-genesis sizes start all in
+      let framed = comes-framed w h.0 on.assumed.0.read on.well.framed.sent in
+      let well = well-happens Known apart genesis w h on.well on.assumed.0 ok in
+      record {
+        premises = on.premises;
+        starts = on.starts;
+        well = well;
+        ruled = happens-ruled Known w h on.well framed ok on.ruled;
+        votes = happens-votes Known w h on.well framed ok on.votes;
+        requests = happens-own Known w h on.well framed ok on.requests;
+        tallies = happens-few w h framed ok on.tallies;
+        firsts = happens-first Known apart genesis w h on.well well framed ok on.firsts;
+        assumed = on.assumed.1;
+        ends = on.ends;
+      }
 
   -- and the one after a phase
   pub way-past : (xs ahead : List Happening) (w : World) → IsOnWay sizes start all w (xs ++ ahead) → Passes w xs
