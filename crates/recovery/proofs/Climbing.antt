@@ -69,7 +69,7 @@ ground-itself m c a b y e j l (inr o) =
     (stands-justifies m (b ∷ y) c o.1 (omega arith) (ap just1 (sym e) ∙ j))
 
 -- the lock is still safe
-lock-more : (m : Branch) (c : Chronicle) (a : Admitted) → IsBranch m → just1 a.branch ≡ m
+pub lock-more : (m : Branch) (c : Chronicle) (a : Admitted) → IsBranch m → just1 a.branch ≡ m
     → (lock c ≡ m) ⊎ (length (lock c) < length m) → (lock (took_block a ∷ c) ≡ m) ⊎ (length (lock
     (took_block a ∷ c)) < length m)
 unfolding lock taken_blocks highest

@@ -1,13 +1,13 @@
 -- A correct client's request is executed by all.
 use Rattle.ids.specs.declared.limits.TheConstants.{MOST_COMMANDS}
 use Rattle.std.proofs.Common.{ℕ, suc, ◌≡◌, ◌<◌, ◌≤◌, ◌+◌, ◌⊎◌, ◌==◌, Bool, true, false, cond, List, [], ◌∷◌, ◌++◌}
-use Rattle.std.proofs.Common.{length, refl, sym, ap, subst, ◌∙◌, arith, inl, inr, Ok}
+use Rattle.std.proofs.Common.{length, find, reverse, refl, sym, ap, subst, ◌∙◌, arith, inl, inr, Ok}
 use Rattle.std.proofs.lemmas.Bool.{cond-false, ne_eqb}
 use Rattle.std.proofs.lemmas.List.{append-nil}
 use Rattle.ids.specs.Sizes.{Sizes, client_party}
 use Rattle.definitions.specs.Lists.{Among}
-use Rattle.definitions.specs.Branches.{Branch}
-use Rattle.definitions.specs.Chronicles.{executed, history}
+use Rattle.definitions.specs.Branches.{Branch, branch_eq, just2}
+use Rattle.definitions.specs.Chronicles.{executed, history, taken_blocks}
 use Rattle.definitions.specs.Digests.{digest_of}
 use Rattle.definitions.specs.Frames.{Command}
 use Rattle.definitions.specs.Sessions.{Session}
@@ -15,6 +15,7 @@ use Rattle.definitions.specs.Worlds.{World, Happening, new_world, is_correct}
 use Rattle.definitions.specs.Runs.{run, after}
 use Rattle.recovery.specs.Correct.{OfCorrect, AllGoOn, ShareKeys, chronicle_of, lock_of, correct_replicas}
 use Rattle.recovery.specs.Healing.{Phase, in_turn, come_to, view_to_come, make_first, fetch_all, lowest_first, over_lock}
+use Rattle.recovery.specs.Healing.{justified_by}
 use Rattle.recovery.specs.Healing.{lead_with, to_climb, rounds, agree_on, highest_voted}
 use Rattle.recovery.specs.NeverWedged.{healer, ground_of, IsAsked}
 use Rattle.recovery.specs.Law.{Carries, CameTo, MayHeal, IsExecutedByAll, RequestsAreExecuted}
@@ -46,12 +47,19 @@ last_phases k w =
     lead_with k (healer w) (digest_of (lock_of w (healer w)))
     ∷ (λ v. rounds (to_climb (healer w) v) (healer w) v) ∷ []
 
--- no first block is made where the lock isn't genesis
-none-first : (l : ℕ) (w : World) → 0 < length (lock_of w l) → make_first l w ≡ []
+-- no first block is made where genesis doesn't justify the lock
+none-first : (l : ℕ) (w : World) → 0 < length (over_lock l w) → make_first l w ≡ []
 unfolding make_first
 none-first l w up =
-    cond-false (length (lock_of w l) == 0) _ []
-    (ne_eqb (length (lock_of w l)) 0 (λ e. absurd (omega (arith, e, up))))
+    cond-false (length (over_lock l w) == 0) _ []
+    (ne_eqb (length (over_lock l w)) 0 (λ e. absurd (omega (arith, e, up))))
+
+-- what justifies a lock is told by what was taken
+over-told : (l : ℕ) (w v : World) → taken_blocks (chronicle_of v l) ≡ taken_blocks (chronicle_of w l)
+    → over_lock l v ≡ over_lock l w
+over-told l w v t =
+    let m = lock-told (chronicle_of w l) (chronicle_of v l) t in
+    λ k. justified_by (find (λ a. branch_eq (just2 a.branch) (m k)) (reverse (t k)))
 
 -- the worlds after the first phases
 abbrev pub world_1 : World → World
@@ -75,7 +83,7 @@ module _ (sizes : Sizes) (start : World) (all : List Happening) where
   -- where the lock isn't genesis
   stage-above : (w : World) (ps : List Phase) (rest : List Happening)
       → IsOnWay sizes start all w (in_turn (first_phase w ∷ make_first (healer w) ∷ third_phase w ∷ ps) w ++ rest)
-      → MayHeal w → 0 < length (lock_of w (healer w)) → AreStaged w (highest_voted w (correct_replicas w))
+      → MayHeal w → 0 < length (ground_of w) → AreStaged w (highest_voted w (correct_replicas w))
   stage-above w ps rest on may up =
       let Known = KnownAt sizes start all in
       let l : ℕ = healer w in
@@ -89,8 +97,8 @@ module _ (sizes : Sizes) (start : World) (all : List Happening) where
       let made1 = made-after w (first_phase w w) in
       let on1 = turn-on sizes start all (make_first l) (third_phase w ∷ ps) w1 rest
       (way-past sizes start all (first_phase w w) _ w on0 came.ran) in
-      let same = lock-told (chronicle_of w l) (chronicle_of w1 l) (came.rest l (same-correct w w1 made1 l ∙ cl)).taken in
-      let up1 : 0 < length (lock_of w1 l) = (let n = ap (λ (x : Branch). length x) same in omega (arith, up, n)) in
+      let same = over-told l w w1 (came.rest l (same-correct w w1 made1 l ∙ cl)).taken in
+      let up1 : 0 < length (over_lock l w1) = (let n = ap (λ (x : Branch). length x) same in omega (arith, up, n)) in
       let none = none-first l w1 up1 in
       let passes2 : Passes w1 (make_first l w1) = subst (Passes w1) (sym none) (passes-none w1) in
       let w2 : World = world_2 w in

@@ -137,6 +137,15 @@ count-own h x l =
     by true = omega arith
     by false = omega arith
 
+-- a block more, of any height
+pub took-heights : (c : Chronicle) (a : Admitted) → horizon c ≤ length a.branch + 2 → (a.new ≡ true) ⊎ (a.new ≡ false)
+    → (h : ℕ) → of_height h (took_block a ∷ c) ≤ suc (of_height h c)
+took-heights c a reach n h = elim n [
+  | inl t ↦ (let w = ap (λ (x : List Branch). count_by (λ z. length z == h) x) (window-new c a t reach) in
+      let o = count-own h a.branch (window c) in omega (arith, w, o))
+  | inr t ↦ (let w = ap (λ (x : List Branch). count_by (λ z. length z == h) x) (window-old c a t) in omega (arith, w))
+]
+
 voted-not : (a : Admitted) (c : Chronicle) → a.voted ≡ false → voted_blocks (took_block a ∷ c) ≡ voted_blocks c
 unfolding voted_blocks
 voted-not a c e = cond-false a.voted (a.branch ∷ voted_blocks c) (voted_blocks c) e
@@ -185,12 +194,7 @@ step-gains self b y c a e low unvoted n =
       longer = omega (arith, l);
       below = λ h k. other h (λ i. absurd (omega (arith, i, k)));
       above = λ h k. other h (λ i. absurd (omega (arith, i, k)));
-      heights = λ h. elim n [
-        | inl t ↦ (let w = ap (λ (x : List Branch). count_by (λ z. length z == h) x) (window-new c a t reach) in
-            let o = count-own h a.branch (window c) in omega (arith, w, o))
-        | inr t ↦ (let w = ap (λ (x : List Branch). count_by (λ z. length z == h) x) (window-old c a t) in
-            omega (arith, w))
-      ];
+      heights = λ h. took-heights c a reach n h;
     }
 
 -- so is one that was fetched

@@ -143,7 +143,7 @@ over-some c some =
     ]
 
 -- what justifies the lock stands in the tree, so some block that is in reach does
-lock-justified : (s : Sizes) (c : Chronicle) → IsLawful s c → (a : Admitted) → Among a (taken_blocks c)
+pub lock-justified : (s : Sizes) (c : Chronicle) → IsLawful s c → (a : Admitted) → Among a (taken_blocks c)
     → just2 a.branch ≡ lock c → is_justified (lock c) c ≡ true
 lock-justified s c law a m e =
     let over : just1 (just1 a.branch) ≡ lock c = just2-is a.branch ∙ e in

@@ -68,7 +68,7 @@ made-justified self c =
     record { block = made-block self c ∷ leaf self c; certificate = (qc_high self.sizes c).certificate }
 
 -- a leader whose leaf stands makes it
-child-made : (self : Identity) (c : Chronicle) → leads self c ≡ true → is_known (digest_of (leaf self c)) c ≡ true
+pub child-made : (self : Identity) (c : Chronicle) → leads self c ≡ true → is_known (digest_of (leaf self c)) c ≡ true
     → child self c (leaf self c) ≡ Some (made-block self c ∷ leaf self c)
 unfolding child made-block
 child-made self c l k = cond-true (leads self c && is_known (digest_of (leaf self c)) c) _ _ (and_from _ _ l k)

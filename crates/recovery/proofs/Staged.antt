@@ -1,4 +1,4 @@
--- What all have when their leader is told to lead from its lock, where that isn't genesis.
+-- What all have when their leader is told to lead from its lock, where genesis doesn't justify that.
 use Rattle.ids.specs.declared.limits.TheConstants.{MOST_BLOCKS, MOST_OF_HEIGHT, HEIGHT_LIMIT}
 use Rattle.std.specs.Prelude.{count_by}
 use Rattle.std.proofs.Common.{ℕ, suc, ◌≡◌, ◌<◌, ◌≤◌, ◌+◌, ◌-◌, ◌⊎◌, ◌==◌, true, List, [], length, sym, ap, subst, ◌∙◌}
@@ -168,14 +168,13 @@ module _ (Known : Core → Type 0) (w : World) (g : IsReached Known w) (nobody :
       | inr d ↦ inr (let k = locks-low r c in omega (arith, k, d))
     ]
 
-    pub staged : ShareKeys w → leader w.sizes v ≡ led_by → 0 < length m
+    pub staged : ShareKeys w → leader w.sizes v ≡ led_by → 0 < length b
         → IsStaged w3 led_by v (highest_voted w (correct_replicas w)) m
     staged keys leads up =
         let made = made-both w w1 w3 made1 made3 in
         let was : (r : ℕ) → is_correct w3 r ≡ true → is_correct w r ≡ true = λ r c. sym (same-correct w w3 made r) ∙ c in
         let over = (ground-own w fam).0 in
         let below = subst (Extends b) over (just1-extends b) in
-        let long = length-extends b m below in
         record {
           keys = keys-in w w3 made keys;
           goes = brought.going_on;
@@ -198,7 +197,7 @@ module _ (Known : Core → Type 0) (w : World) (g : IsReached Known w) (nobody :
                 stands = brought.stands r (in1 r cw) m below;
                 over = ([], refl);
                 ground = inl (stands-justifies m b (chronicle_of w3 r) (brought.stands r (in1 r cw) b ([], refl))
-                    (omega (arith, long, up)) over);
+                    up over);
                 reach = omega (arith, h, h1, z);
                 safe = locks-safe r c cw;
                 clear = clear-own m _;

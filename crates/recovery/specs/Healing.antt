@@ -137,19 +137,6 @@ unfoldable pub make_blocks : ℕ → ℕ → Phase
 make_blocks zero l w = []
 make_blocks (suc n) l w = in_turn (make_block l ∷ make_blocks n l ∷ []) w
 
--- of these replicas those that never took a block
-abbrev pub newcomers : World → List ℕ → List ℕ
-newcomers w rs = filter (λ r. length (taken_blocks (chronicle_of w r)) == 0) rs
-
--- Genesis has grounds with who took any block. So where a leader's lock is genesis, it makes a block there, which comes to
--- all that never took one, as genesis's certificate is good for all.
-unfoldable pub make_first : ℕ → Phase
-make_first l w =
-    if length (lock_of w l) == 0
-    then in_turn ((λ v. amply (lead l (digest_of []) ∷ beat l ∷ []))
-    ∷ (λ v. amply (comes_to (newcomers v (correct_replicas v)) (sent_since (length w.sent) is_proposal v))) ∷ []) w
-    else []
-
 -- what a block justifies, where there is one
 abbrev pub justified_by : Option Admitted → Branch
 justified_by None = []
@@ -160,6 +147,19 @@ abbrev pub over_lock : ℕ → World → Branch
 over_lock l w =
     justified_by (find (λ a. branch_eq (just2 a.branch) (lock_of w l))
     (reverse (taken_blocks (chronicle_of w l))))
+
+-- of these replicas those that never took a block
+abbrev pub newcomers : World → List ℕ → List ℕ
+newcomers w rs = filter (λ r. length (taken_blocks (chronicle_of w r)) == 0) rs
+
+-- Genesis has grounds with who took any block. So where genesis justifies a leader's lock, it makes a block there, which
+-- comes to all that never took one, as genesis's certificate is good for all.
+unfoldable pub make_first : ℕ → Phase
+make_first l w =
+    if length (over_lock l w) == 0
+    then in_turn ((λ v. amply (lead l (digest_of []) ∷ beat l ∷ []))
+    ∷ (λ v. amply (comes_to (newcomers v (correct_replicas v)) (sent_since (length w.sent) is_proposal v))) ∷ []) w
+    else []
 
 -- a block and all below it, the lowest first
 unfoldable pub lowest_first : Branch → List Branch

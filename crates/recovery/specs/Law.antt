@@ -447,10 +447,10 @@ pub record IsExecutedByAll (w last : World) (k : ℕ) (c : Command) : Type 0 whe
   pub executed_there : OfCorrect last (λ r. Carries (executed (chronicle_of last r)) c)
   pub session : last.session ≡ w.session
 
--- So a correct client's request is executed by all, where the highest lock isn't genesis.
+-- So a correct client's request is executed by all, where genesis doesn't justify the highest lock.
 abbrev pub RequestsAreExecuted : Type 0
 RequestsAreExecuted =
-    (k client : ℕ) → AheadOf (agree_on k) (λ w. MayHeal w → 0 < length (lock_of w (healer w))
+    (k client : ℕ) → AheadOf (agree_on k) (λ w. MayHeal w → 0 < length (ground_of w)
     → (asked : IsAsked w k client) → IsExecutedByAll w (after w (agree_on k w)) k asked.command)
 
 -- ---- a receipt
