@@ -1,6 +1,7 @@
 -- A replica leads from its lock.
 use Rattle.std.proofs.Common.{ℕ, ◌≡◌, not, true, List, [], ◌∷◌, ◌++◌, refl, ap, ◌∙◌, Option, Some, None}
 use Rattle.std.proofs.lemmas.Bool.{cond-true, and_parts}
+use Rattle.definitions.specs.Bytes.{Bytes}
 use Rattle.definitions.specs.Branches.{Branch}
 use Rattle.definitions.specs.Checks.{Identity}
 use Rattle.definitions.specs.Chronicles.{Chronicle, Step.noted, Note.led_from, taken_blocks, voted_blocks, window, lock}
@@ -41,10 +42,10 @@ pub lead-voted : (m : Branch) (c : Chronicle) → voted_blocks (noted (led_from 
 unfolding voted_blocks
 lead-voted m c = refl
 
-lead-hands : (w : World) (l : ℕ) → is_correct w l ≡ true → (w.replica l).standing ≡ running
-    → HandsIn w (worlds.lead l (digest_of (lock_of w l))) l (lead_in (digest_of (lock_of w l)))
+pub lead-hands : (w : World) (l : ℕ) (d : Bytes) → is_correct w l ≡ true → (w.replica l).standing ≡ running
+    → HandsIn w (worlds.lead l d) l (lead_in d)
 unfolding acts party_of
-lead-hands w l c s = record { party = refl; correct = c; goes_on = s; acting = refl }
+lead-hands w l d c s = record { party = refl; correct = c; goes_on = s; acting = refl }
 
 module _ (sizes : Sizes) (start : World) (all : List Happening) where
   -- a replica that may lead from its lock does once it is told to
@@ -67,7 +68,7 @@ module _ (sizes : Sizes) (start : World) (all : List Happening) where
       named w ev (and_parts (is_replica w l) (not (w.is_faulty l)) c).0 refl refl in
       let on1 = way-on sizes start all w (ev, ample) rest on ok in (
         ok,
-        step-stood w ev l (lead_in (digest_of m)) (noted (led_from m)) (lead-hands w l c s) due on1.well.good.answers,
+        step-stood w ev l (lead_in (digest_of m)) (noted (led_from m)) (lead-hands w l (digest_of m) c s) due on1.well.good.answers,
       )
 
 pub leads-begin : LeadsBegin

@@ -36,6 +36,7 @@ mod Rounded
 mod Staged
 mod Requests
 mod Beginnings
+mod FirstBlocks
 mod Ready
 mod Submitted
 mod Executed

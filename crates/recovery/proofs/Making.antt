@@ -62,6 +62,11 @@ made-block self c = record {
   justify = length (qc_high self.sizes c).block;
 }
 
+pub made-justifies : (self : Identity) (c : Chronicle)
+    → (made-block self c).justify ≡ length (qc_high self.sizes c).block
+unfolding made-block
+made-justifies self c = refl
+
 -- with its certificate
 made-justified : Identity → Chronicle → Justified
 made-justified self c =
@@ -226,7 +231,7 @@ up-is (suc n) room = let h = up-is n room in omega (arith, h)
 
 -- ---- one block
 
-beat-hands : (w : World) (l : ℕ) → is_correct w l ≡ true → (w.replica l).standing ≡ running → HandsIn w
+pub beat-hands : (w : World) (l : ℕ) → is_correct w l ≡ true → (w.replica l).standing ≡ running → HandsIn w
     (beat l) l beat_in
 unfolding acts party_of
 beat-hands w l c s = record { party = refl; correct = c; goes_on = s; acting = refl }
