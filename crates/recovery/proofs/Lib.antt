@@ -37,6 +37,7 @@ mod Staged
 mod Requests
 mod Beginnings
 mod FirstBlocks
+mod Newcomers
 mod Ready
 mod Submitted
 mod Executed

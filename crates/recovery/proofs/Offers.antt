@@ -98,14 +98,12 @@ pub record IsMade (w : World) (v : ℕ) (m y : Branch) (b : Block) (f : Frame) :
   pub justify : b.justify ≡ length m
   pub good : OfCorrect w (λ r. list_all (command_verifies (self_of w r)) b.commands ≡ true)
 
--- it stays one
-pub made-later : (w next : World) → GoesOn w next → (v : ℕ) (m y : Branch) (b : Block) (f : Frame)
-    → IsMade w v m y b f → IsMade next v m y b f
-made-later w next g v m y b f h =
-    let p = h.proposal in
-    let l = ap (λ (s : Sizes). leader s v) g.made.sizes in
-    record {
-      proposal = record {
+-- a proposal stays one
+pub proposal-later : (w next : World) → GoesOn w next → (v : ℕ) (b : Block) (y : Branch) (f : Frame)
+    → (p : IsProposalOf w v b y f) → (q : IsProposalOf next v b y f) × (q.made ≡ p.made)
+proposal-later w next g v b y f p =
+    let l = ap (λ (s : Sizes). leader s v) g.made.sizes in (
+      record {
         correct = ap (is_correct next) l ∙ (same-correct w next g.made (leader w.sizes v) ∙ p.correct);
         sent = p.sent;
         recorded = subst (λ (r : List Sent). Among p.sent r) (sym g.sent)
@@ -116,11 +114,19 @@ made-later w next g v m y b f h =
         frame_is = p.frame_is;
         block_is = p.block_is;
         justified = p.justified;
-      };
-      justify = h.justify;
-      good = λ r c. ap (λ (s : Identity). list_all (command_verifies s) b.commands) (same-self w next g.made r)
-          ∙ h.good r (sym (same-correct w next g.made r) ∙ c);
-    }
+      },
+      refl,
+    )
+
+-- so does such a one
+pub made-later : (w next : World) → GoesOn w next → (v : ℕ) (m y : Branch) (b : Block) (f : Frame)
+    → IsMade w v m y b f → IsMade next v m y b f
+made-later w next g v m y b f h = record {
+  proposal = (proposal-later w next g v b y f h.proposal).0;
+  justify = h.justify;
+  good = λ r c. ap (λ (s : Identity). list_all (command_verifies s) b.commands) (same-self w next g.made r)
+      ∙ h.good r (sym (same-correct w next g.made r) ∙ c);
+}
 
 -- a chain of them by their numbers, from y up to this block
 unfoldable pub Chain : World → ℕ → Branch → Branch → List ℕ → Branch → Type 0

@@ -52,7 +52,7 @@ pub record IsStaged (w : World) (l v top : ℕ) (m : Branch) : Type 0 where
 -- ---- who came into the view
 
 -- a window is the same where the view alone moved
-moved-window : (self : Identity) (c d : Chronicle) → OnlyViewMoved self c d → window d ≡ window c
+pub moved-window : (self : Identity) (c d : Chronicle) → OnlyViewMoved self c d → window d ≡ window c
 moved-window self c d h = window-told c d h.taken h.forgotten
 
 module _ (Known : Core → Type 0) (w : World) (g : IsReached Known w) (nobody : NobodyPruned w) (room : HasRoom w) where
