@@ -232,7 +232,7 @@ fetch-last b parent w =
     fetch-append (lowest_first parent) ((b ∷ parent) ∷ []) w
     ∙ ap (λ (l : List Happening). fetch_all (lowest_first parent) w ++ l) (append-nil _)
 
-fetch-none : (w : World) → fetch_all (lowest_first []) w ≡ []
+pub fetch-none : (w : World) → fetch_all (lowest_first []) w ≡ []
 unfolding lowest_first fetch_all
 fetch-none w = refl
 

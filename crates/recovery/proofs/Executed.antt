@@ -2,7 +2,7 @@
 use Rattle.ids.specs.declared.limits.TheConstants.{MOST_COMMANDS}
 use Rattle.std.proofs.Common.{ℕ, suc, ◌≡◌, ◌<◌, ◌≤◌, ◌+◌, ◌⊎◌, ◌==◌, Bool, true, false, cond, List, [], ◌∷◌, ◌++◌}
 use Rattle.std.proofs.Common.{length, find, reverse, refl, sym, ap, subst, ◌∙◌, arith, inl, inr, Ok}
-use Rattle.std.proofs.lemmas.Bool.{cond-false, ne_eqb}
+use Rattle.std.proofs.lemmas.Bool.{cond-false, ne_eqb, cases_lt}
 use Rattle.std.proofs.lemmas.List.{append-nil}
 use Rattle.ids.specs.Sizes.{Sizes, client_party}
 use Rattle.definitions.specs.Lists.{Among}
@@ -17,12 +17,13 @@ use Rattle.recovery.specs.Correct.{OfCorrect, AllGoOn, ShareKeys, chronicle_of, 
 use Rattle.recovery.specs.Healing.{Phase, in_turn, come_to, view_to_come, make_first, fetch_all, lowest_first, over_lock}
 use Rattle.recovery.specs.Healing.{justified_by}
 use Rattle.recovery.specs.Healing.{lead_with, to_climb, rounds, agree_on, highest_voted}
-use Rattle.recovery.specs.NeverWedged.{healer, ground_of, IsAsked}
-use Rattle.recovery.specs.Law.{Carries, CameTo, MayHeal, IsExecutedByAll, RequestsAreExecuted}
-use Rattle.recovery.proofs.Brought.{BroughtAll, branch-brought}
+use Rattle.recovery.specs.NeverWedged.{healer, ground_of, MayHeal, IsAsked}
+use Rattle.recovery.specs.Law.{Carries, CameTo, IsExecutedByAll, RequestsAreExecuted}
+use Rattle.recovery.proofs.Brought.{BroughtAll, branch-brought, fetch-none}
 use Rattle.recovery.proofs.Carried.{carries-over}
 use Rattle.recovery.proofs.Fetched.{lock-told}
-use Rattle.recovery.proofs.Locks.{healer-highest}
+use Rattle.recovery.proofs.Locks.{healer-highest, nil}
+use Rattle.recovery.proofs.Newcomers.{first-staged, locks-nil}
 use Rattle.recovery.proofs.Ready.{IsReady, ready}
 use Rattle.recovery.proofs.Requests.{IsWanted, asked-wanted, wanted-after}
 use Rattle.recovery.proofs.Rounded.{rounds-decided}
@@ -120,6 +121,41 @@ module _ (sizes : Sizes) (start : World) (all : List Happening) where
         session = third.1.session ∙ came2.session;
       }
 
+  -- where it is
+  stage-genesis : (w : World) (ps : List Phase) (rest : List Happening)
+      → IsOnWay sizes start all w (in_turn (first_phase w ∷ make_first (healer w) ∷ third_phase w ∷ ps) w ++ rest)
+      → MayHeal w → ground_of w ≡ [] → AreStaged w (suc (highest_voted w (correct_replicas w)))
+  stage-genesis w ps rest on may low =
+      let Known = KnownAt sizes start all in
+      let l : ℕ = healer w in
+      let v : ℕ = view_to_come l w in
+      let on0 = turn-on sizes start all (first_phase w) (make_first l ∷ third_phase w ∷ ps) w rest on in
+      let g = on-way sizes start all w _ on0 in
+      let cl = (healer-highest w (family-of Known w g)).0 in
+      let comes = leader-comes w l cl may.goes may.views in
+      let came = comes.1 in
+      let w1 : World = world_1 w in
+      let made1 = made-after w (first_phase w w) in
+      let on1 = turn-on sizes start all (make_first l) (third_phase w ∷ ps) w1 rest
+      (way-past sizes start all (first_phase w w) _ w on0 came.ran) in
+      let over : over_lock l w1 ≡ [] =
+      over-told l w w1 (came.rest l (same-correct w w1 made1 l ∙ cl)).taken ∙ low in
+      let one = first-staged sizes start all w g may.kept may.room low v w1 _ on1 made1 may.keys came comes.0 over in
+      let w2 : World = world_2 w in
+      let w3 : World = world_3 w in
+      let none : third_phase w w2 ≡ [] = ap (λ (x : Branch). fetch_all (lowest_first x) w2) low ∙ fetch-none w2 in
+      let still : w3 ≡ w2 = ap (after w2) none ∙ after-none w2 in
+      let lock_is : lock_of w l ≡ [] = locks-nil sizes start all w g may.kept may.room low l cl in
+      let top : ℕ = suc (highest_voted w (correct_replicas w)) in
+      record {
+        first = came.ran;
+        second = one.0;
+        third = subst (Passes w2) (sym none) (passes-none w2);
+        stage = subst (λ (z : World). IsStaged z l v top (lock_of w l)) (sym still)
+            (subst (λ (x : Branch). IsStaged w2 l v top x) (sym lock_is) one.1.stage);
+        session = ap (λ (z : World). z.session) still ∙ (one.1.session ∙ came.session);
+      }
+
   -- what the last two phases leave
   agreed : (w : World) (rest : List Happening) (k client top : ℕ) → IsOnWay sizes start all w (agree_on k w ++ rest)
       → ShareKeys w → (asked : IsAsked w k client) → AreStaged w top
@@ -205,12 +241,21 @@ module _ (sizes : Sizes) (start : World) (all : List Happening) where
         session = h.session ∙ (r.session ∙ s.session);
       })
 
+  pub request-executed : (w : World) (rest : List Happening) (k client : ℕ)
+      → IsOnWay sizes start all w (agree_on k w ++ rest) → MayHeal w → (asked : IsAsked w k client)
+      → IsExecutedByAll w (after w (agree_on k w)) k asked.command
+  unfolding agree_on
+  request-executed w rest k client on may asked = elim (cases_lt 0 (length (ground_of w))) [
+    | inl up ↦ agreed w rest k client (highest_voted w (correct_replicas w)) on may.keys asked
+        (stage-above w (last_phases k w) rest on may up)
+    | inr z ↦ agreed w rest k client (suc (highest_voted w (correct_replicas w))) on may.keys asked
+        (stage-genesis w (last_phases k w) rest on may (nil (ground_of w) (omega (arith, z))))
+  ]
+
 pub requests-executed : RequestsAreExecuted
-unfolding agree_on
-requests-executed k client sizes is_faulty ring hs w met e may up asked =
+requests-executed k client sizes is_faulty ring hs w met e may asked =
     let start : World = new_world sizes is_faulty ring in
     let all : List Happening = hs ++ agree_on k w in
     let on = subst (IsOnWay sizes start all w) (sym (append-nil (agree_on k w)))
     (on-way-from sizes is_faulty ring hs (agree_on k w) w met e) in
-    agreed sizes start all w [] k client (highest_voted w (correct_replicas w)) on may.keys asked
-    (stage-above sizes start all w (last_phases k w) [] on may up)
+    request-executed sizes start all w [] k client on may asked

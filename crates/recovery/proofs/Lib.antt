@@ -44,3 +44,4 @@ mod Executed
 mod Told
 mod Replying
 mod Hearing
+mod Wedged

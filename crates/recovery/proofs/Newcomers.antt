@@ -277,7 +277,7 @@ module _ (sizes : Sizes) (start : World) (all : List Happening) (w : World)
     top = suc (highest_voted w (correct_replicas w))
 
     -- all locks are genesis
-    locks-nil : (r : ℕ) → is_correct w r ≡ true → lock_of w r ≡ []
+    pub locks-nil : (r : ℕ) → is_correct w r ≡ true → lock_of w r ≡ []
     locks-nil r c =
         let fam = family-of Known w g in
         let own : [] ≡ lock_of w l = sym just1-genesis ∙ (ap just1 (sym low) ∙ (ground-own w fam).0) in

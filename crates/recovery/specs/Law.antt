@@ -30,14 +30,8 @@ use Rattle.recovery.specs.Correct.{OfCorrect, AllGoOn, ShareKeys, chronicle_of, 
 use Rattle.recovery.specs.Correct.{correct_replicas, amply}
 use Rattle.recovery.specs.Healing.{Phase, view_to_come, come_to, highest_voted, fetch_block, fetch_all, lowest_first}
 use Rattle.recovery.specs.Healing.{burst, round, rounds, agree_on, ask_again}
-use Rattle.recovery.specs.NeverWedged.{healer, ground_of, NobodyPruned, HasViews, HasRoom, IsAsked, IsAnswered}
-
--- P holds of each world in which a run ends, where the run's premises hold, and hold of this phase after it
-abbrev pub AheadOf : Phase → (World → Type 0) → Type 0
-AheadOf phase P =
-    (sizes : Sizes) (is_faulty : ℕ → Bool) (ring : ℕ → Keyring) (hs : List Happening) (w : World)
-    → ArePremises (new_world sizes is_faulty ring) (hs ++ phase w) → run (new_world sizes is_faulty ring) hs ≡ Ok w
-    → P w
+use Rattle.recovery.specs.NeverWedged.{AheadOf, healer, ground_of, NobodyPruned, HasViews, MayHeal, IsAsked}
+use Rattle.recovery.specs.NeverWedged.{IsAnswered}
 
 -- ---- locks
 
@@ -431,15 +425,6 @@ RoundsDecide =
 
 -- ---- a request
 
--- What is known where a world is healed: correct replicas go on, and share keys; views and room are left; and nobody
--- pruned.
-pub record MayHeal (w : World) : Type 0 where
-  pub keys : ShareKeys w
-  pub goes : AllGoOn w
-  pub views : HasViews w
-  pub room : HasRoom w
-  pub kept : NobodyPruned w
-
 -- No event was refused by the run, and all correct replicas go on. Each executed this request, now or before.
 pub record IsExecutedByAll (w last : World) (k : ℕ) (c : Command) : Type 0 where
   pub ran : run w (agree_on k w) ≡ Ok last
@@ -447,11 +432,11 @@ pub record IsExecutedByAll (w last : World) (k : ℕ) (c : Command) : Type 0 whe
   pub executed_there : OfCorrect last (λ r. Carries (executed (chronicle_of last r)) c)
   pub session : last.session ≡ w.session
 
--- So a correct client's request is executed by all, where genesis doesn't justify the highest lock.
+-- so a correct client's request is executed by all
 abbrev pub RequestsAreExecuted : Type 0
 RequestsAreExecuted =
-    (k client : ℕ) → AheadOf (agree_on k) (λ w. MayHeal w → 0 < length (ground_of w)
-    → (asked : IsAsked w k client) → IsExecutedByAll w (after w (agree_on k w)) k asked.command)
+    (k client : ℕ) → AheadOf (agree_on k) (λ w. MayHeal w → (asked : IsAsked w k client)
+    → IsExecutedByAll w (after w (agree_on k w)) k asked.command)
 
 -- ---- a receipt
 

@@ -16,7 +16,14 @@ use Rattle.definitions.specs.Runs.{run}
 use Rattle.definitions.specs.Worlds.{World, Sent, AcceptedBy, Happening, new_world}
 use Rattle.recovery.specs.Correct.{OfCorrect, AllGoOn, ShareKeys, chronicle_of, lock_of, view_of, correct_replicas}
 use Rattle.recovery.specs.Correct.{correct_with}
-use Rattle.recovery.specs.Healing.{highest_locked, highest_voted, over_lock, heal}
+use Rattle.recovery.specs.Healing.{Phase, highest_locked, highest_voted, over_lock, heal}
+
+-- P holds of each world in which a run ends, where the run's premises hold, and hold of this phase after it
+abbrev pub AheadOf : Phase → (World → Type 0) → Type 0
+AheadOf phase P =
+    (sizes : Sizes) (is_faulty : ℕ → Bool) (ring : ℕ → Keyring) (hs : List Happening) (w : World)
+    → ArePremises (new_world sizes is_faulty ring) (hs ++ phase w) → run (new_world sizes is_faulty ring) hs ≡ Ok w
+    → P w
 
 -- the leader of a world's healing
 abbrev pub healer : World → ℕ
@@ -47,13 +54,14 @@ pub record HasRoom (w : World) : Type 0 where
 abbrev pub NobodyPruned : World → Type 0
 NobodyPruned w = OfCorrect w (λ r. horizon (chronicle_of w r) ≡ 0)
 
--- Each correct replica voted carefully, and none is left behind: what it lacks below the leader's lock, in its own
--- reach, more than f correct ones still have.
-pub record PrunedWell (w : World) : Type 0 where
-  pub careful : OfCorrect w (λ r. AreCareful (chronicle_of w r))
-  pub held : OfCorrect w (λ r. (x : Branch) → Extends (ground_of w) x
-      → horizon (chronicle_of w r) ≤ length x + BELOW_HORIZON
-      → Among x (window (chronicle_of w r)) ⊎ (w.sizes.faults < correct_with w window x))
+-- What is known where a world is healed: correct replicas share keys, and go on; views and room are left; and nobody
+-- pruned.
+pub record MayHeal (w : World) : Type 0 where
+  pub keys : ShareKeys w
+  pub goes : AllGoOn w
+  pub views : HasViews w
+  pub room : HasRoom w
+  pub kept : NobodyPruned w
 
 -- A correct client waits, and frame k of the record is its request.
 pub record IsAsked (w : World) (k client : ℕ) : Type 0 where
@@ -73,12 +81,8 @@ IsAnswered w client seq =
     (r : AcceptedBy) × Among r w.receipts × (r.client ≡ client) × (r.receipt.seq ≡ seq)
 
 -- After any run whose premises hold, and hold of what heals it: where each correct replica goes on, views and room
--- are left, and nobody pruned what others lack, healing is refused no event, and the client has its receipt.
+-- are left, and nobody pruned, healing is refused no event, and the client has its receipt.
 abbrev pub NeverWedged : Type 0
 NeverWedged =
-    (sizes : Sizes) (is_faulty : ℕ → Bool) (ring : ℕ → Keyring) (hs : List Happening) (w : World)
-    (k client : ℕ) → AreSizes sizes → ShareKeys (new_world sizes is_faulty ring)
-    → ArePremises (new_world sizes is_faulty ring) (hs ++ heal k w)
-    → run (new_world sizes is_faulty ring) hs ≡ Ok w → AllGoOn w → HasViews w → HasRoom w
-    → NobodyPruned w ⊎ PrunedWell w → IsAsked w k client
-    → (last : World) × (run w (heal k w) ≡ Ok last) × IsAnswered last client (w.session client).used
+    (k client : ℕ) → AheadOf (heal k) (λ w. AreSizes w.sizes → MayHeal w → IsAsked w k client
+    → (last : World) × (run w (heal k w) ≡ Ok last) × IsAnswered last client (w.session client).used)

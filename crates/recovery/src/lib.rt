@@ -8,6 +8,7 @@ ghost use Rattle.recovery.specs.Law.{JustifiedBlocksAreHeld, GroundsAreHeld};
 ghost use Rattle.recovery.specs.Law.{TimeoutsBringTogether, ACorrectLeaderComes, CopiesAreTaken, ProposalsAreTaken};
 ghost use Rattle.recovery.specs.Law.{HighestAreCertified, MissingBlocksAreFetched, BranchesAreBrought, ThreeMoreDecide};
 ghost use Rattle.recovery.specs.Law.{BurstsAreVotedFor, RoundsCertify, RoundsDecide, LeadsBegin, RequestsAreExecuted, RepliesConvince};
+ghost use Rattle.recovery.specs.NeverWedged.{NeverWedged};
 
 /// A correct replica of the highest lock: no correct lock is above it or beside it, so a block that justifies
 /// it is safe for all.
@@ -91,7 +92,7 @@ pub fn rounds_decide()
     ensures { RoundsDecide }
 {}
 
-/// So a correct client's request is executed by all, where the highest lock isn't genesis and nobody pruned.
+/// So a correct client's request is executed by all, where nobody pruned.
 pub fn requests_are_executed()
     ensures { RequestsAreExecuted }
 {}
@@ -99,4 +100,10 @@ pub fn requests_are_executed()
 /// And the client has its receipt, once its request comes to them again, and their replies to it.
 pub fn replies_convince()
     ensures { RepliesConvince }
+{}
+
+/// So nobody is wedged: events of correct parties alone, which are computed from the world, bring a waiting client its
+/// receipt, whatever at most f faulty replicas and any clients did before, where nobody pruned.
+pub fn never_wedged()
+    ensures { NeverWedged }
 {}
