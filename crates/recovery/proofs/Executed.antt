@@ -140,12 +140,12 @@ module _ (sizes : Sizes) (start : World) (all : List Happening) where
       (way-past sizes start all (first_phase w w) _ w on0 came.ran) in
       let over : over_lock l w1 ≡ [] =
       over-told l w w1 (came.rest l (same-correct w w1 made1 l ∙ cl)).taken ∙ low in
-      let one = first-staged sizes start all w g may.kept may.room low v w1 _ on1 made1 may.keys came comes.0 over in
+      let one = first-staged sizes start all w g may.room low v w1 _ on1 made1 may.keys came comes.0 over in
       let w2 : World = world_2 w in
       let w3 : World = world_3 w in
       let none : third_phase w w2 ≡ [] = ap (λ (x : Branch). fetch_all (lowest_first x) w2) low ∙ fetch-none w2 in
       let still : w3 ≡ w2 = ap (after w2) none ∙ after-none w2 in
-      let lock_is : lock_of w l ≡ [] = locks-nil sizes start all w g may.kept may.room low l cl in
+      let lock_is : lock_of w l ≡ [] = locks-nil sizes start all w g may.room low l cl in
       let top : ℕ = suc (highest_voted w (correct_replicas w)) in
       record {
         first = came.ran;

@@ -78,12 +78,12 @@ abbrev is_over : Branch → Admitted → Bool
 is_over m a = branch_eq (just2 a.branch) m
 
 -- a block that was taken over the lock, and what it justifies; or there is no such block, and both are genesis
-abbrev GroundCases : Chronicle → Branch → Type 0
+abbrev pub GroundCases : Chronicle → Branch → Type 0
 GroundCases c b =
     ((a : Admitted) × Among a (taken_blocks c) × (just2 a.branch ≡ lock c) × (b ≡ just1 a.branch))
     ⊎ ((b ≡ []) × (lock c ≡ []))
 
-ground-cases : (c : Chronicle)
+pub ground-cases : (c : Chronicle)
     → GroundCases c (justified_by (find (is_over (lock c)) (reverse (taken_blocks c))))
 ground-cases c = by (find (is_over (lock c)) (reverse (taken_blocks c))) refl
   where

@@ -18,6 +18,7 @@ mod Fetched
 mod Decided
 mod Climbing
 mod Gained
+mod Vain
 mod Marks
 mod Offers
 mod Carried

@@ -23,12 +23,12 @@ use Rattle.definitions.specs.Worlds.{World, Sent, Event.relay, Event.beat, Happe
 use Rattle.definitions.specs.Worlds as worlds
 use Rattle.definitions.specs.Runs.{refusal, after}
 use Rattle.definitions.specs.Events.{happens, recorded}
-use Rattle.definitions.proofs.Horizons.{window-genesis}
+use Rattle.definitions.proofs.Horizons.{window-genesis, horizon-low, executed-locked}
 use Rattle.definitions.proofs.Lists.{Among-after, Among-filter, Among-kept}
 use Rattle.recovery.specs.Correct.{OfCorrect, AllGoOn, ShareKeys, chronicle_of, lock_of, view_of, correct_replicas, amply}
 use Rattle.recovery.specs.Healing.{Phase, in_turn, comes_to, sent_since, numbers_of, is_proposal, newcomers, make_first}
 use Rattle.recovery.specs.Healing.{over_lock, highest_voted}
-use Rattle.recovery.specs.NeverWedged.{healer, ground_of, HasRoom, NobodyPruned}
+use Rattle.recovery.specs.NeverWedged.{healer, ground_of, HasRoom}
 use Rattle.recovery.specs.Law.{HasPlace, IsProposalOf, Climbs, CameTo}
 use Rattle.recovery.proofs.Asked.{relay-hands}
 use Rattle.recovery.proofs.Bursts.{distinct-correct, distinct-kept}
@@ -265,7 +265,7 @@ pub record HasFirsts (w last : World) (l v top : ℕ) : Type 0 where
   pub session : last.session ≡ w.session
 
 module _ (sizes : Sizes) (start : World) (all : List Happening) (w : World)
-    (g : IsReached (KnownAt sizes start all) w) (nobody : NobodyPruned w) (room : HasRoom w) (low : ground_of w ≡ [])
+    (g : IsReached (KnownAt sizes start all) w) (room : HasRoom w) (low : ground_of w ≡ [])
   where
     abbrev Known : Core → Type 0
     Known = KnownAt sizes start all
@@ -284,6 +284,14 @@ module _ (sizes : Sizes) (start : World) (all : List Happening) (w : World)
         let high = (healer-highest w fam).1 r c in
         let n = ap (λ (x : Branch). length x) own in
         nil (lock_of w r) (omega (arith, high, n))
+
+    -- so nobody pruned
+    nobody : (r : ℕ) → is_correct w r ≡ true → horizon (chronicle_of w r) ≡ 0
+    nobody r c =
+        let a = horizon-low (chronicle_of w r) in
+        let e = executed-locked (chronicle_of w r) in
+        let n = ap (λ (x : Branch). length x) (locks-nil r c) in
+        omega (arith, a, e, n)
 
     -- a replica that is as it was, but for its view
     record IsSettled (self : Identity) (v r : ℕ) (c : Chronicle) : Type 0 where

@@ -44,7 +44,7 @@ placed-new b parent q t e room free low =
     ∙ (cond-false _ _ _ (ap not (lt-ltb _ MOST_OF_HEIGHT free))
     ∙ cond-false _ _ _ (ap not (and_from _ _ (lt-ltb _ MOST_BLOCKS room) (lt-ltb _ HEIGHT_LIMIT low)))))
 
-digest-own : (b : Block) (parent : Branch) → digest_of (b ∷ parent) ≡ digest (core_of (b ∷ parent))
+pub digest-own : (b : Block) (parent : Branch) → digest_of (b ∷ parent) ≡ digest (core_of (b ∷ parent))
 unfolding digest_of core_of
 digest-own b parent = refl
 

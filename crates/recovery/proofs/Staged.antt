@@ -2,32 +2,37 @@
 use Rattle.ids.specs.declared.limits.TheConstants.{MOST_BLOCKS, MOST_OF_HEIGHT, HEIGHT_LIMIT}
 use Rattle.std.specs.Prelude.{count_by}
 use Rattle.std.proofs.Common.{ℕ, suc, ◌≡◌, ◌<◌, ◌≤◌, ◌+◌, ◌-◌, ◌⊎◌, ◌==◌, true, List, [], length, sym, ap, subst, ◌∙◌}
-use Rattle.std.proofs.Common.{arith, inl, inr, refl}
+use Rattle.std.proofs.Common.{arith, inl, inr, refl, map, ◌∷◌}
 use Rattle.std.proofs.lemmas.Bool.{cases_eq, cases_lt}
 use Rattle.ids.specs.Sizes.{Sizes, replicas, leader}
 use Rattle.definitions.specs.Lists.{Among}
-use Rattle.definitions.specs.Branches.{Branch, just1, just2, Extends}
-use Rattle.definitions.specs.Agreement.{IsLawfulFamily}
+use Rattle.definitions.specs.Branches.{Block, Branch, just1, just2, justify_height, Extends}
+use Rattle.definitions.specs.Agreement.{IsLawfulFamily, MayBeCertified}
 use Rattle.definitions.specs.Checks.{Identity}
 use Rattle.definitions.specs.Chronicles.{Admitted, Chronicle, taken_blocks, window, horizon, lock, vheight}
+use Rattle.definitions.specs.Chronicles.{executed, tree, stored_blocks, stored_block}
 use Rattle.definitions.specs.Frames.{Core}
 use Rattle.definitions.specs.States.{view}
 use Rattle.definitions.specs.Worlds.{World, is_correct, self_of}
-use Rattle.definitions.proofs.Branches.{just1-extends, just2-is, length-extends}
-use Rattle.definitions.proofs.Chronicles.{lock-above, lock-cases, tree-taken, tree-extends}
-use Rattle.definitions.proofs.Horizons.{window-all}
+use Rattle.definitions.proofs.Branches.{just1-extends, just2-is, length-extends, extends-between}
+use Rattle.definitions.proofs.Chronicles.{lock-above, lock-cases, tree-taken, tree-extends, executed-decided}
+use Rattle.agreement.proofs.Agreement.{certified-extends-decided}
+use Rattle.agreement.proofs.Careful.{none-justifies-below}
+use Rattle.definitions.specs.Trees.{blocks}
+use Rattle.recovery.proofs.Families.{justified-certified}
+use Rattle.definitions.proofs.Horizons.{window-all, window-tree, tree-window, horizon-low, executed-locked, executed-window}
 use Rattle.linear_law.specs.Law.{correct_family}
 use Rattle.recovery.specs.Correct.{OfCorrect, AllGoOn, ShareKeys, chronicle_of, lock_of, view_of, correct_replicas}
 use Rattle.recovery.specs.Correct.{correct_with}
 use Rattle.recovery.specs.Healing.{highest_voted}
-use Rattle.recovery.specs.NeverWedged.{healer, ground_of, blocks_made, HasRoom, NobodyPruned}
-use Rattle.recovery.specs.Law.{OnlyViewMoved, OnlyAsked, CameTo, MayBring, Climbs}
+use Rattle.recovery.specs.NeverWedged.{healer, ground_of, blocks_made, HasRoom, NobodyPruned, PrunedWell}
+use Rattle.recovery.specs.Law.{OnlyViewMoved, OnlyAsked, CameTo, IsInReach, CanGet, MayBring, Climbs}
 use Rattle.recovery.proofs.Brought.{BroughtAll, with-more}
 use Rattle.recovery.proofs.Climbing.{stands-justifies}
 use Rattle.recovery.proofs.Correct.{correct-listed}
 use Rattle.recovery.proofs.Fetched.{window-told, lock-told}
 use Rattle.recovery.proofs.Gained.{Gains, of_height}
-use Rattle.recovery.proofs.Grounds.{ground-own, ground-among}
+use Rattle.recovery.proofs.Grounds.{ground-own, ground-among, ground-cases}
 use Rattle.recovery.proofs.Highs.{highest-voted-above}
 use Rattle.recovery.proofs.Locks.{healer-highest, locks-one}
 use Rattle.recovery.proofs.Rounds.{vheight-told, clear-own}
@@ -55,7 +60,13 @@ pub record IsStaged (w : World) (l v top : ℕ) (m : Branch) : Type 0 where
 pub moved-window : (self : Identity) (c d : Chronicle) → OnlyViewMoved self c d → window d ≡ window c
 moved-window self c d h = window-told c d h.taken h.forgotten
 
-module _ (Known : Core → Type 0) (w : World) (g : IsReached Known w) (nobody : NobodyPruned w) (room : HasRoom w) where
+-- a tree is told by what was taken
+tree-told : (c d : Chronicle) → taken_blocks d ≡ taken_blocks c → tree d ≡ tree c
+unfolding tree stored_blocks
+tree-told c d t = ap (λ (l : List Admitted). blocks (map stored_block l)) t
+
+module _ (Known : Core → Type 0) (w : World) (g : IsReached Known w) (kept : NobodyPruned w ⊎ PrunedWell w)
+    (room : HasRoom w) where
   abbrev fam : IsLawfulFamily (correct_family w)
   fam = family-of Known w g
 
@@ -68,27 +79,106 @@ module _ (Known : Core → Type 0) (w : World) (g : IsReached Known w) (nobody :
   abbrev b : Branch
   b = ground_of w
 
-  ground-held : (x : Branch) → Extends b x → w.sizes.faults < correct_with w window x
-  ground-held = ground-among w fam window
-      (λ i c x k. subst (λ (xs : List Branch). Among x xs) (sym (window-all _ (nobody i c))) k)
+  -- the lock is no higher than what justifies it
+  lock-low : length m ≤ length b
+  lock-low =
+      let k = length-extends b (just1 b) (just1-extends b) in
+      let e = ap (λ (x : Branch). length x) (ground-own w fam).0 in
+      omega (arith, k, e)
 
-  ground-stands : Among b (window (chronicle_of w led_by))
-  ground-stands = subst (λ (xs : List Branch). Among b xs) (sym (window-all _ (nobody led_by (healer-highest w fam).0)))
-      (ground-own w fam).1
+  -- nobody pruned above it, nor executed above it
+  horizons-low : (r : ℕ) → is_correct w r ≡ true
+      → (horizon (chronicle_of w r) ≤ length (executed (chronicle_of w r)))
+      × (length (executed (chronicle_of w r)) ≤ length m)
+  horizons-low r c =
+      let a = horizon-low (chronicle_of w r) in
+      let e = executed-locked (chronicle_of w r) in
+      let h = (healer-highest w fam).1 r c in
+      (a, omega (arith, e, h))
+
+  -- what justifies it is certified
+  ground-certified : 0 < length b → MayBeCertified (correct_family w) b
+  ground-certified up = elim (ground-cases (chronicle_of w led_by)) [
+    | inl r ↦ subst (MayBeCertified (correct_family w)) (sym r.3)
+        (justified-certified (correct_family w) fam led_by (healer-highest w fam).0 r.0 r.1
+        (let n = ap (λ (x : Branch). length x) r.3 in omega (arith, up, n)))
+    | inr z ↦ absurd (let n = ap (λ (x : Branch). length x) z.0 in omega (arith, up, n))
+  ]
+
+  -- a replica can get what it lacks of it, in its reach
+  can-get : (r : ℕ) → is_correct w r ≡ true → (x : Block) (y : Branch) → Extends b (x ∷ y)
+      → IsInReach (chronicle_of w r) (x ∷ y)
+      → Among (x ∷ y) (window (chronicle_of w r)) ⊎ CanGet w (chronicle_of w r) x y
+  unfolding justify_height
+  can-get r c x y e k =
+      let ch : Chronicle = chronicle_of w r in
+      let low = horizons-low r c in
+      let long = length-extends b (x ∷ y) e in
+      let certified = ground-certified (omega (arith, long)) in
+      elim (cases_lt (length (executed ch)) (length (x ∷ y))) [
+        | inl above ↦ (elim kept [
+          | inl nobody ↦
+              let z = nobody r c in
+              inr (record {
+                above = omega (arith, z);
+                reach = omega (arith, z);
+                many = ground-among w fam window
+                    (λ i ci n q. subst (λ (xs : List Branch). Among n xs) (sym (window-all _ (nobody i ci))) q) (x ∷ y) e;
+              })
+          | inr pruned ↦ (elim (pruned.held r c (x ∷ y) e k) [
+            | inl there ↦ inl there
+            | inr many ↦
+                let h = low.0 in
+                let j = none-justifies-below (correct_family w) b (executed ch) (x ∷ y) fam pruned.careful certified
+                (r, c, executed-decided ch) e above in
+                inr (record { above = omega (arith, h, above); reach = omega (arith, h, j); many = many })
+          ])
+        ])
+        | inr below ↦ (
+            let law = (sound-of Known w g r c).lawful in
+            let under = low.1 in
+            let lo = lock-low in
+            let over = certified-extends-decided (correct_family w) b (executed ch) fam certified
+            (r, c, executed-decided ch) (omega (arith, under, lo)) in
+            let through = extends-between b (executed ch) (x ∷ y) over e (omega (arith, below)) in
+            inl (tree-window ch (x ∷ y)
+            (tree-extends w.sizes ch law (executed ch) (x ∷ y) (window-tree ch (executed ch) (executed-window w.sizes ch law))
+            through) k))
+      ]
 
   -- what justifies the lock may be brought to all
   pub may-bring : (v : ℕ) (w1 : World) → ShareKeys w → IsMadeAs w w1 → CameTo v w w1 → MayBring w1 b
   may-bring v w1 keys made came = record {
     keys = keys-in w w1 made keys;
     goes = came.going_on;
-    branch = (sound-of Known w g led_by (healer-highest w fam).0).is_tree.branches b ground-stands;
-    held = λ x e.
-        let more = with-more w w1 x made (λ r c k. subst (λ (l : List Branch). Among x l)
-        (sym (moved-window (self_of w r) (chronicle_of w r) (chronicle_of w1 r) (came.rest r (same-correct w w1 made r ∙ c)))) k) in
-        let h = ground-held x e in
-        let s = ap (λ (z : Sizes). z.faults) made.sizes in
-        omega (arith, more, h, s);
-    kept = λ r c. (came.rest r c).forgotten ∙ nobody r (was r c);
+    branch = (sound-of Known w g led_by (healer-highest w fam).0).is_tree.branches b
+        (tree-window (chronicle_of w led_by) b (ground-own w fam).1
+        (let a = horizons-low led_by (healer-highest w fam).0 in let lo = lock-low in let p = a.0 in let q = a.1 in
+        omega (arith, p, q, lo)));
+    taken = (
+      led_by,
+      same-correct w w1 made led_by ∙ (healer-highest w fam).0,
+      subst (λ (l : List Branch). Among b l)
+          (sym (tree-told (chronicle_of w led_by) (chronicle_of w1 led_by)
+          (came.rest led_by (same-correct w w1 made led_by ∙ (healer-highest w fam).0)).taken)) (ground-own w fam).1,
+    );
+    each = λ r c x y e k.
+        let h = (came.rest r c).forgotten in
+        elim (can-get r (was r c) x y e (omega (arith, k, h))) [
+          | inl there ↦ inl (subst (λ (l : List Branch). Among (x ∷ y) l) (sym (same r c)) there)
+          | inr get ↦
+              let above = get.above in
+              let reach = get.reach in
+              let many = get.many in
+              let more = with-more w w1 (x ∷ y) made (λ i ci n. subst (λ (l : List Branch). Among (x ∷ y) l)
+              (sym (same i (same-correct w w1 made i ∙ ci))) n) in
+              let s = ap (λ (z : Sizes). z.faults) made.sizes in
+              inr (record {
+                above = omega (arith, above, h);
+                reach = omega (arith, reach, h);
+                many = omega (arith, more, many, s);
+              })
+        ];
     trees = λ r c.
         let t = room.trees r (was r c) in
         let n = ap (λ (l : List Branch). length l) (same r c) in
@@ -113,14 +203,17 @@ module _ (Known : Core → Type 0) (w : World) (g : IsReached Known w) (nobody :
     in1 : (r : ℕ) → is_correct w r ≡ true → is_correct w1 r ≡ true
     in1 r c = same-correct w w1 made1 r ∙ c
 
-    -- the leader had all of it
+    -- the leader had all of it that is in its reach
     leader-asked : OnlyAsked (self_of w1 led_by) (chronicle_of w1 led_by) (chronicle_of w3 led_by)
     leader-asked =
         let c = (healer-highest w fam).0 in
-        brought.had led_by (in1 led_by c) (λ y e. subst (λ (l : List Branch). Among y l)
-        (sym (moved-window (self_of w led_by) (chronicle_of w led_by) (chronicle_of w1 led_by) (came.rest led_by (in1 led_by c))))
-        (subst (λ (l : List Branch). Among y l) (sym (window-all _ (nobody led_by c)))
-        (tree-extends w.sizes (chronicle_of w led_by) (sound-of Known w g led_by c).lawful b y (ground-own w fam).1 e)))
+        let rest = came.rest led_by (in1 led_by c) in
+        let h = rest.forgotten in
+        brought.had led_by (in1 led_by c) (λ y e k. subst (λ (l : List Branch). Among y l)
+        (sym (moved-window (self_of w led_by) (chronicle_of w led_by) (chronicle_of w1 led_by) rest))
+        (tree-window (chronicle_of w led_by) y
+        (tree-extends w.sizes (chronicle_of w led_by) (sound-of Known w g led_by c).lawful b y (ground-own w fam).1 e)
+        (omega (arith, k, h))))
 
     leader-lock : lock_of w3 led_by ≡ m
     leader-lock =
@@ -186,7 +279,10 @@ module _ (Known : Core → Type 0) (w : World) (g : IsReached Known w) (nobody :
               let gain = brought.gained r (in1 r cw) in
               let h = gain.forgotten in
               let h1 = (came.rest r (in1 r cw)).forgotten in
-              let z = nobody r cw in
+              let a = horizons-low r cw in
+              let a0 = a.0 in
+              let a1 = a.1 in
+              let lo = lock-low in
               let same = moved-window (self_of w r) (chronicle_of w r) (chronicle_of w1 r) (came.rest r (in1 r cw)) in
               let long1 = ap (λ (l : List Branch). length l) same in
               let more = gain.longer in
@@ -194,11 +290,11 @@ module _ (Known : Core → Type 0) (w : World) (g : IsReached Known w) (nobody :
               record {
                 in_view = ap (λ (s : Sizes). view s (chronicle_of w3 r)) made3.sizes
                     ∙ (gain.in_view ∙ came.views r (in1 r cw));
-                stands = brought.stands r (in1 r cw) m below;
+                stands = brought.stands r (in1 r cw) m below (omega (arith, h, h1, a0, a1));
                 over = ([], refl);
-                ground = inl (stands-justifies m b (chronicle_of w3 r) (brought.stands r (in1 r cw) b ([], refl))
-                    up over);
-                reach = omega (arith, h, h1, z);
+                ground = inl (stands-justifies m b (chronicle_of w3 r)
+                    (brought.stands r (in1 r cw) b ([], refl) (omega (arith, h, h1, a0, a1, lo))) up over);
+                reach = omega (arith, h, h1, a0, a1);
                 safe = locks-safe r c cw;
                 clear = clear-own m _;
                 trees = omega (arith, trees, long1, more);

@@ -1,5 +1,6 @@
 -- The laws that are proved: steps of the statement that nobody is wedged.
 use Rattle.ids.specs.declared.limits.TheConstants.{MOST_BLOCKS, MOST_OF_HEIGHT, HEIGHT_LIMIT, MOST_COMMANDS}
+use Rattle.ids.specs.declared.limits.TheConstants.{BELOW_HORIZON}
 use Rattle.std.specs.Prelude.{ℕ, suc, ◌^◌, ◌≡◌, ◌==◌, ◌&&◌, ◌<◌, ◌≤◌, ◌+◌, ◌⊎◌, Bool, true, false, List, [], ◌∷◌}
 use Rattle.std.specs.Prelude.{◌++◌, map, length, count_by, Ok}
 use Rattle.std.specs.List.{AllByRecursion, list_all, list_any}
@@ -230,27 +231,44 @@ pub record OnlyGained (self : Identity) (x : Branch) (before now : Chronicle) : 
   pub heights : (h : ℕ)
       → count_by (λ y. length y == h) (window now) ≤ suc (count_by (λ y. length y == h) (window before))
 
--- What is known where a branch is brought to all: more than f correct replicas have each block of it, nobody pruned, and
--- there is room for it with each.
+-- a block of this height is in reach of a replica: it isn't pruned with it
+abbrev pub IsInReach : Chronicle → Branch → Type 0
+IsInReach c x = horizon c ≤ length x + BELOW_HORIZON
+
+-- A replica can get this block over this parent by asking: the parent and what it justifies aren't pruned with it, and
+-- more than f correct replicas have it.
+pub record CanGet (w : World) (c : Chronicle) (b : Block) (parent : Branch) : Type 0 where
+  pub above : horizon c ≤ length parent
+  pub reach : horizon c ≤ b.justify
+  pub many : w.sizes.faults < correct_with w window (b ∷ parent)
+
+-- What is known where a branch is brought to all: a correct replica took it, each has a block of it that is in its reach,
+-- or can get it, and there is room for it with each.
 pub record MayBring (w : World) (x : Branch) : Type 0 where
   pub keys : ShareKeys w
   pub goes : AllGoOn w
   pub branch : IsBranch x
-  pub held : (y : Branch) → Extends x y → w.sizes.faults < correct_with w window y
-  pub kept : NobodyPruned w
+  pub taken : (r : ℕ) × (is_correct w r ≡ true) × Among x (tree (chronicle_of w r))
+  pub each : OfCorrect w (λ r. (b : Block) (parent : Branch) → Extends x (b ∷ parent)
+      → IsInReach (chronicle_of w r) (b ∷ parent)
+      → Among (b ∷ parent) (window (chronicle_of w r)) ⊎ CanGet w (chronicle_of w r) b parent)
   pub trees : OfCorrect w (λ r. length (window (chronicle_of w r)) + length x ≤ MOST_BLOCKS)
   pub heights : OfCorrect w (λ r. (h : ℕ)
       → count_by (λ y. length y == h) (window (chronicle_of w r)) < MOST_OF_HEIGHT)
   pub low : length x < HEIGHT_LIMIT
 
--- No event was refused by the run, and all correct replicas go on. Each has the whole branch, and gained nothing else;
--- who had it was only asked.
+-- a replica has each block of this branch that is in its reach
+abbrev pub HasReached : Chronicle → Branch → Type 0
+HasReached c x = (y : Branch) → Extends x y → IsInReach c y → Among y (window c)
+
+-- No event was refused by the run, and all correct replicas go on. Each has the branch, as far as it is in its reach, and
+-- gained nothing else; who had it was only asked.
 pub record IsBrought (w last : World) (x : Branch) : Type 0 where
   pub ran : run w (fetch_all (lowest_first x) w) ≡ Ok last
   pub going_on : AllGoOn last
-  pub stands : OfCorrect last (λ r. (y : Branch) → Extends x y → Among y (window (chronicle_of last r)))
+  pub stands : OfCorrect last (λ r. HasReached (chronicle_of last r) x)
   pub gained : OfCorrect w (λ r. OnlyGained (self_of w r) x (chronicle_of w r) (chronicle_of last r))
-  pub had : OfCorrect w (λ r. ((y : Branch) → Extends x y → Among y (window (chronicle_of w r)))
+  pub had : OfCorrect w (λ r. HasReached (chronicle_of w r) x
       → OnlyAsked (self_of w r) (chronicle_of w r) (chronicle_of last r))
   pub session : last.session ≡ w.session
 

@@ -54,14 +54,22 @@ pub record HasRoom (w : World) : Type 0 where
 abbrev pub NobodyPruned : World → Type 0
 NobodyPruned w = OfCorrect w (λ r. horizon (chronicle_of w r) ≡ 0)
 
+-- Each correct replica voted carefully, and none is left behind: what it lacks below the leader's lock, in its own
+-- reach, more than f correct ones still have.
+pub record PrunedWell (w : World) : Type 0 where
+  pub careful : OfCorrect w (λ r. AreCareful (chronicle_of w r))
+  pub held : OfCorrect w (λ r. (x : Branch) → Extends (ground_of w) x
+      → horizon (chronicle_of w r) ≤ length x + BELOW_HORIZON
+      → Among x (window (chronicle_of w r)) ⊎ (w.sizes.faults < correct_with w window x))
+
 -- What is known where a world is healed: correct replicas share keys, and go on; views and room are left; and nobody
--- pruned.
+-- pruned what others lack.
 pub record MayHeal (w : World) : Type 0 where
   pub keys : ShareKeys w
   pub goes : AllGoOn w
   pub views : HasViews w
   pub room : HasRoom w
-  pub kept : NobodyPruned w
+  pub kept : NobodyPruned w ⊎ PrunedWell w
 
 -- A correct client waits, and frame k of the record is its request.
 pub record IsAsked (w : World) (k client : ℕ) : Type 0 where
@@ -81,7 +89,7 @@ IsAnswered w client seq =
     (r : AcceptedBy) × Among r w.receipts × (r.client ≡ client) × (r.receipt.seq ≡ seq)
 
 -- After any run whose premises hold, and hold of what heals it: where each correct replica goes on, views and room
--- are left, and nobody pruned, healing is refused no event, and the client has its receipt.
+-- are left, and nobody pruned what others lack, healing is refused no event, and the client has its receipt.
 abbrev pub NeverWedged : Type 0
 NeverWedged =
     (k client : ℕ) → AheadOf (heal k) (λ w. AreSizes w.sizes → MayHeal w → IsAsked w k client

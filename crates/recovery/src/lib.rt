@@ -1,13 +1,13 @@
-//! Laws of recovery, over the definitions alone; no code runs here. Each stands as the contract of a
-//! function with an empty body. They are steps to the statement that correct parties are never wedged,
-//! whatever faulty ones did before (`specs/NeverWedged`), which isn't proved as a whole.
+//! Nobody is wedged: laws over the definitions alone; no code runs here. Each stands as the contract of a function
+//! with an empty body. `never_wedged` is the statement; the others are its steps.
 #![tactic(auto)]
 
 ghost use Rattle.recovery.specs.Law.{HighestLocksAreSafe, LocksMayBeLedFrom};
 ghost use Rattle.recovery.specs.Law.{JustifiedBlocksAreHeld, GroundsAreHeld};
 ghost use Rattle.recovery.specs.Law.{TimeoutsBringTogether, ACorrectLeaderComes, CopiesAreTaken, ProposalsAreTaken};
 ghost use Rattle.recovery.specs.Law.{HighestAreCertified, MissingBlocksAreFetched, BranchesAreBrought, ThreeMoreDecide};
-ghost use Rattle.recovery.specs.Law.{BurstsAreVotedFor, RoundsCertify, RoundsDecide, LeadsBegin, RequestsAreExecuted, RepliesConvince};
+ghost use Rattle.recovery.specs.Law.{BurstsAreVotedFor, RoundsCertify, RoundsDecide, LeadsBegin};
+ghost use Rattle.recovery.specs.Law.{RequestsAreExecuted, RepliesConvince};
 ghost use Rattle.recovery.specs.NeverWedged.{NeverWedged};
 
 /// A correct replica of the highest lock: no correct lock is above it or beside it, so a block that justifies
@@ -67,7 +67,7 @@ pub fn missing_blocks_are_fetched()
     ensures { MissingBlocksAreFetched }
 {}
 
-/// So all correct replicas get a whole branch, where nobody pruned.
+/// So all correct replicas get a whole branch, as far as it is in their reach.
 pub fn branches_are_brought()
     ensures { BranchesAreBrought }
 {}
@@ -92,7 +92,7 @@ pub fn rounds_decide()
     ensures { RoundsDecide }
 {}
 
-/// So a correct client's request is executed by all, where nobody pruned.
+/// So a correct client's request is executed by all.
 pub fn requests_are_executed()
     ensures { RequestsAreExecuted }
 {}
@@ -103,7 +103,7 @@ pub fn replies_convince()
 {}
 
 /// So nobody is wedged: events of correct parties alone, which are computed from the world, bring a waiting client its
-/// receipt, whatever at most f faulty replicas and any clients did before, where nobody pruned.
+/// receipt, whatever at most f faulty replicas and any clients did before.
 pub fn never_wedged()
     ensures { NeverWedged }
 {}
