@@ -18,7 +18,7 @@ use Rattle.definitions.specs.Events.{acts, happens, party_of}
 use Rattle.definitions.proofs.Horizons.{lock-window, led-high}
 use Rattle.definitions.proofs.Trees.{found-itself}
 use Rattle.recovery.specs.Correct.{chronicle_of, lock_of}
-use Rattle.recovery.specs.Law.{lead_events, LeadsBegin}
+use Rattle.recovery.specs.Locks.{lead_events, LeadsBegin}
 use Rattle.recovery.proofs.Locks.{led-from-lock}
 use Rattle.recovery.proofs.Offers.{row-own, row-other}
 use Rattle.recovery.proofs.Steps.{HandsIn, TookStep, step-stood}

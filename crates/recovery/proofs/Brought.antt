@@ -1,9 +1,7 @@
 -- A branch is brought to all, block after block, and each to one replica after the other.
-use Rattle.ids.specs.declared.limits.TheConstants.{MOST_BLOCKS, MOST_OF_HEIGHT, HEIGHT_LIMIT}
-use Rattle.std.specs.Prelude.{count_by}
-use Rattle.std.proofs.Common.{ℕ, suc, ◌≡◌, ◌<◌, ◌≤◌, ◌+◌, ◌⊎◌, ◌==◌, not, Bool, true, false, cond, List, [], ◌∷◌}
-use Rattle.std.proofs.Common.{◌++◌, map, filter, length, refl, sym, ap, subst, ◌∙◌, arith, inl, inr, Option, Some, None}
-use Rattle.std.proofs.Common.{true≢false, Ok}
+use Rattle.std.proofs.Common.{ℕ, suc, ◌≡◌, ◌<◌, ◌≤◌, ◌+◌, ◌⊎◌, not, Bool, true, false, cond, List, [], ◌∷◌}
+use Rattle.std.proofs.Common.{◌++◌, map, length, refl, sym, ap, subst, ◌∙◌, arith, inl, inr, Option, Some, None}
+use Rattle.std.proofs.Common.{true≢false}
 use Rattle.std.specs.Prelude.{is_some}
 use Rattle.std.specs.List.{list_any}
 use Rattle.std.proofs.lemmas.Bool.{cases_Bool, cases_eq, cases_lt, cond-true, not-true}
@@ -11,15 +9,14 @@ use Rattle.std.proofs.lemmas.List.{append-nil, append_assoc, nil_from_length}
 use Rattle.ids.specs.Sizes.{Sizes, replicas}
 use Rattle.definitions.specs.Bytes.{Bytes}
 use Rattle.definitions.specs.Lists.{Among, AreDistinct, count_below}
-use Rattle.definitions.specs.Branches.{Block, Branch, IsBranch, Extends, branch_eq}
+use Rattle.definitions.specs.Branches.{Block, Branch, Extends, branch_eq}
 use Rattle.definitions.specs.Checks.{Identity}
 use Rattle.definitions.specs.Chronicles.{Chronicle, tree, window, horizon}
 use Rattle.definitions.specs.Digests.{digest_of, AllKnown}
 use Rattle.definitions.specs.Frames.{Core}
-use Rattle.definitions.specs.Replicas.{Replica, Standing.running}
 use Rattle.definitions.specs.States.{find_block, is_known}
 use Rattle.definitions.specs.Worlds.{World, Happening, new_world, is_correct, self_of}
-use Rattle.definitions.specs.Runs.{run, after}
+use Rattle.definitions.specs.Runs.{after}
 use Rattle.definitions.proofs.Branches.{extends-cases, length-extends}
 use Rattle.definitions.proofs.Counts.{count-mono}
 use Rattle.definitions.proofs.Horizons.{window-tree, window-genesis, window-cases}
@@ -29,20 +26,20 @@ use Rattle.definitions.proofs.Sound.{found-standing}
 use Rattle.definitions.proofs.Trees.{found-itself}
 use Rattle.agreement.proofs.Certified.{any-among, among-any}
 use Rattle.recovery.specs.Correct.{OfCorrect, AllGoOn, ShareKeys, chronicle_of, correct_replicas, correct_with}
-use Rattle.recovery.specs.Healing.{Phase, in_turn, fetch_block, fetch_all, lacking, lowest_first}
-use Rattle.recovery.specs.Law.{OnlyAsked, HasPlace, MayFetch, OnlyGained, IsInReach, CanGet, MayBring, HasReached}
-use Rattle.recovery.specs.Law.{IsBrought, BranchesAreBrought}
+use Rattle.recovery.specs.Healing.{Phase, in_turn, fetch_block, fetch_for_all, fetch_all, lacking, lowest_first}
+use Rattle.recovery.specs.Fetching.{OnlyAsked, HasPlace, IsInReach, CanGet, MayBring}
+use Rattle.recovery.specs.Fetching.{HasReached, BranchesAreBrought}
 use Rattle.recovery.proofs.Asked.{asked-none, asked-trans}
 use Rattle.recovery.proofs.Bursts.{distinct-correct, distinct-kept}
 use Rattle.recovery.proofs.Correct.{among-correct, correct-listed}
 use Rattle.recovery.proofs.Fetched.{fetched, window-told, place-told}
 use Rattle.recovery.proofs.Vain.{fetched-vainly}
-use Rattle.recovery.proofs.Gained.{of_height, Gains, asked-gains, gains-both, asked-first, asked-last, took-gains}
+use Rattle.recovery.proofs.Gained.{Gains, asked-gains, gains-both, asked-first, asked-last, took-gains}
 use Rattle.recovery.proofs.Gained.{gains-only}
 use Rattle.recovery.proofs.Ways.{IsOnWay, KnownAt, on-way-from, on-way, way-past, turn-on, turn-passes, turn-after}
 use Rattle.recovery.proofs.Ways.{turns-none}
 use Rattle.recovery.proofs.Wells.{IsReached, sound-of, known-of, one-branch}
-use Rattle.recovery.proofs.Worlds.{IsMadeAs, made-after, made-both, keys-in, same-correct, same-self, Passes}
+use Rattle.recovery.proofs.Worlds.{IsMadeAs, made-after, keys-in, same-correct, same-self, Passes}
 use Rattle.recovery.proofs.Worlds.{passes-none, passes-append, after-none, after-append}
 
 -- ---- who has a block
@@ -271,7 +268,7 @@ module _ (sizes : Sizes) (start : World) (all : List Happening) (b : Block) (par
 
 fetch-append : (xs ys : List Branch) (w : World)
     → fetch_all (xs ++ ys) w ≡ fetch_all xs w ++ fetch_all ys (after w (fetch_all xs w))
-unfolding fetch_all after
+unfolding fetch_all fetch_for_all in_turn after
 fetch-append [] ys w = refl
 fetch-append (x ∷ xs) ys w =
     let here : List Happening = in_turn (map (fetch_block (digest_of x)) (lacking (digest_of x) w)) w in
@@ -288,13 +285,13 @@ fetch-last : (b : Block) (parent : Branch) (w : World)
     ++ in_turn (map (fetch_block (digest_of (b ∷ parent)))
     (lacking (digest_of (b ∷ parent)) (after w (fetch_all (lowest_first parent) w))))
     (after w (fetch_all (lowest_first parent) w))
-unfolding lowest_first fetch_all
+unfolding lowest_first fetch_all fetch_for_all in_turn
 fetch-last b parent w =
     fetch-append (lowest_first parent) ((b ∷ parent) ∷ []) w
     ∙ ap (λ (l : List Happening). fetch_all (lowest_first parent) w ++ l) (append-nil _)
 
 pub fetch-none : (w : World) → fetch_all (lowest_first []) w ≡ []
-unfolding lowest_first fetch_all
+unfolding lowest_first fetch_all in_turn
 fetch-none w = refl
 
 -- what bringing a branch leaves

@@ -17,19 +17,19 @@ use Rattle.definitions.specs.Worlds.{World, Sent, Event, Event.offer, Happening,
 use Rattle.definitions.specs.Worlds.{is_correct, self_of}
 use Rattle.definitions.specs.Runs.{run, after}
 use Rattle.definitions.proofs.Lists.{Among-either, Among-filter, Among-kept}
-use Rattle.recovery.specs.Correct.{OfCorrect, AllGoOn, ShareKeys, chronicle_of, correct_below}
+use Rattle.recovery.specs.Correct.{OfCorrect, ShareKeys, chronicle_of, correct_below}
 use Rattle.recovery.specs.Correct.{correct_replicas, amply}
 use Rattle.recovery.specs.Healing.{in_turn, sent_since, numbers_of, is_proposal, offered_to, make_blocks}
 use Rattle.recovery.specs.Healing.{others, burst}
-use Rattle.recovery.specs.Law.{Climbs, Leads, MayBurst, CarriesWaiting, IsVotedForByAll, BurstsAreVotedFor}
+use Rattle.recovery.specs.Rounds.{Climbs, Leads, MayBurst, CarriesWaiting, IsVotedForByAll, BurstsAreVotedFor}
 use Rattle.recovery.proofs.Correct.{among-correct, correct-listed}
 use Rattle.recovery.proofs.Fetched.{distinct-last}
 use Rattle.recovery.proofs.Making.{made-all, up-is}
 use Rattle.recovery.proofs.Offers.{GoesOn, goes-none, goes-both, Chain, chain-later, chain-up, chain-justifies, grown}
 use Rattle.recovery.proofs.Offers.{grown-is, offers-of, offers-all, IsStill}
 use Rattle.recovery.proofs.Ways.{IsOnWay, KnownAt, on-way-from, on-way, way-past}
-use Rattle.recovery.proofs.Wells.{sound-of, run-after}
-use Rattle.recovery.proofs.Worlds.{IsMadeAs, made-after, keys-in, same-correct, same-self, Passes}
+use Rattle.recovery.proofs.Wells.{sound-of}
+use Rattle.recovery.proofs.Worlds.{IsMadeAs, keys-in, same-correct, same-self, Passes}
 use Rattle.recovery.proofs.Worlds.{passes-none, passes-append}
 use Rattle.recovery.proofs.Worlds.{after-append}
 

@@ -1,6 +1,6 @@
 -- What a leader's block carries: all that waited with it, where one block can take that.
 use Rattle.ids.specs.declared.limits.TheConstants.{MOST_COMMANDS}
-use Rattle.std.proofs.Common.{ℕ, zero, suc, ◌≡◌, ◌≤◌, ◌-◌, ◌==◌, ◌&&◌, not, Bool, true, false, List, [], ◌∷◌, ◌++◌}
+use Rattle.std.proofs.Common.{ℕ, zero, suc, ◌≡◌, ◌≤◌, ◌-◌, ◌==◌, ◌&&◌, not, Bool, List, [], ◌∷◌, ◌++◌}
 use Rattle.std.proofs.Common.{map, filter, take, reverse, length, refl, sym, ap, subst, ◌∙◌, arith, inl, inr}
 use Rattle.std.specs.List.{list_any}
 use Rattle.std.proofs.lemmas.Bool.{cases_Bool, and_from, eq-eqb}
@@ -15,7 +15,7 @@ use Rattle.definitions.specs.States.{picks, pending}
 use Rattle.definitions.proofs.Histories.{history_of-grows}
 use Rattle.definitions.proofs.Lists.{Among-after, Among-before, Among-either, Among-kept, Among-mapped, any-found}
 use Rattle.definitions.proofs.Lists.{any-from}
-use Rattle.recovery.specs.Law.{Carries}
+use Rattle.recovery.specs.Rounds.{Carries}
 use Rattle.recovery.proofs.Grounds.{reversed-among}
 
 -- what the newest blocks carry, the branch does

@@ -19,7 +19,8 @@ use Rattle.definitions.proofs.Branches.{just1-below, just2-is, branch_eq-decides
 use Rattle.definitions.proofs.Horizons.{window-grown}
 use Rattle.definitions.proofs.Windows.{block-stored}
 use Rattle.definitions.proofs.Lists.{any-from}
-use Rattle.recovery.specs.Law.{HasPlace, Climbs}
+use Rattle.recovery.specs.Fetching.{HasPlace}
+use Rattle.recovery.specs.Rounds.{Climbs}
 use Rattle.recovery.proofs.Decided.{justifies-below}
 use Rattle.recovery.proofs.Grounds.{just1-genesis}
 use Rattle.recovery.proofs.Fetched.{took-stands}

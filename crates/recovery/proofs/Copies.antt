@@ -35,7 +35,7 @@ use Rattle.definitions.proofs.Horizons.{window-tree}
 use Rattle.linear_law.proofs.Runs.{member-faulty}
 use Rattle.linear_law.proofs.StoredFrames.{AreStored, IsStored, IsStoredBlock}
 use Rattle.recovery.specs.Correct.{ShareKeys, chronicle_of}
-use Rattle.recovery.specs.Law.{HasPlace, IsHolder, CopiesAreTaken}
+use Rattle.recovery.specs.Fetching.{HasPlace, IsHolder, CopiesAreTaken}
 use Rattle.recovery.proofs.Wells.{IsReached, reached, sound-of, known-of, stored-of, one-branch}
 use Rattle.recovery.proofs.Places.{IsPlaced, placed}
 

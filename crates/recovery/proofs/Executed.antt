@@ -1,39 +1,40 @@
 -- A correct client's request is executed by all.
-use Rattle.ids.specs.declared.limits.TheConstants.{MOST_COMMANDS}
-use Rattle.std.proofs.Common.{ℕ, suc, ◌≡◌, ◌<◌, ◌≤◌, ◌+◌, ◌⊎◌, ◌==◌, Bool, true, false, cond, List, [], ◌∷◌, ◌++◌}
+use Rattle.std.proofs.Common.{ℕ, suc, ◌≡◌, ◌<◌, ◌==◌, Bool, false, List, [], ◌∷◌, ◌++◌}
 use Rattle.std.proofs.Common.{length, find, reverse, refl, sym, ap, subst, ◌∙◌, arith, inl, inr, Ok}
 use Rattle.std.proofs.lemmas.Bool.{cond-false, ne_eqb, cases_lt}
 use Rattle.std.proofs.lemmas.List.{append-nil}
 use Rattle.ids.specs.Sizes.{Sizes, client_party}
 use Rattle.definitions.specs.Lists.{Among}
 use Rattle.definitions.specs.Branches.{Branch, branch_eq, just2}
-use Rattle.definitions.specs.Chronicles.{executed, history, taken_blocks}
+use Rattle.definitions.specs.Chronicles.{executed, taken_blocks}
 use Rattle.definitions.specs.Digests.{digest_of}
 use Rattle.definitions.specs.Frames.{Command}
 use Rattle.definitions.specs.Sessions.{Session}
-use Rattle.definitions.specs.Worlds.{World, Happening, new_world, is_correct}
-use Rattle.definitions.specs.Runs.{run, after}
-use Rattle.recovery.specs.Correct.{OfCorrect, AllGoOn, ShareKeys, chronicle_of, lock_of, correct_replicas}
+use Rattle.definitions.specs.Worlds.{World, Happening, new_world}
+use Rattle.definitions.specs.Runs.{after}
+use Rattle.recovery.specs.Correct.{ShareKeys, chronicle_of, lock_of, correct_replicas}
 use Rattle.recovery.specs.Healing.{Phase, in_turn, come_to, view_to_come, make_first, fetch_all, lowest_first, over_lock}
 use Rattle.recovery.specs.Healing.{justified_by}
 use Rattle.recovery.specs.Healing.{lead_with, to_climb, rounds, agree_on, highest_voted}
 use Rattle.recovery.specs.NeverWedged.{healer, ground_of, MayHeal, IsAsked}
-use Rattle.recovery.specs.Law.{Carries, CameTo, IsExecutedByAll, RequestsAreExecuted}
-use Rattle.recovery.proofs.Brought.{BroughtAll, branch-brought, fetch-none}
+use Rattle.recovery.specs.Views.{CameTo}
+use Rattle.recovery.specs.Rounds.{Carries}
+use Rattle.recovery.specs.Requests.{IsExecutedByAll, RequestsAreExecuted}
+use Rattle.recovery.proofs.Brought.{branch-brought, fetch-none}
 use Rattle.recovery.proofs.Carried.{carries-over}
 use Rattle.recovery.proofs.Fetched.{lock-told}
 use Rattle.recovery.proofs.Locks.{healer-highest, nil}
 use Rattle.recovery.proofs.Newcomers.{first-staged, locks-nil}
 use Rattle.recovery.proofs.Ready.{IsReady, ready}
-use Rattle.recovery.proofs.Requests.{IsWanted, asked-wanted, wanted-after}
+use Rattle.recovery.proofs.Requests.{asked-wanted, wanted-after}
 use Rattle.recovery.proofs.Rounded.{rounds-decided}
 use Rattle.recovery.proofs.Staged.{IsStaged, may-bring, staged}
 use Rattle.recovery.proofs.Submitted.{lock-carries}
 use Rattle.recovery.proofs.Views.{leader-comes}
 use Rattle.recovery.proofs.Ways.{IsOnWay, KnownAt, on-way-from, on-way, way-past, turn-on, turn-passes, turn-after}
 use Rattle.recovery.proofs.Ways.{turns-none}
-use Rattle.recovery.proofs.Wells.{IsReached, family-of}
-use Rattle.recovery.proofs.Worlds.{IsMadeAs, made-after, made-both, same-correct, Passes, passes-none, after-none}
+use Rattle.recovery.proofs.Wells.{family-of}
+use Rattle.recovery.proofs.Worlds.{made-after, made-both, same-correct, Passes, passes-none, after-none}
 
 -- ---- phases of a healing
 

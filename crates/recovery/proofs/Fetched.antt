@@ -41,14 +41,14 @@ use Rattle.definitions.proofs.Certificates.{IsDigest-digest_of}
 use Rattle.recovery.specs.Correct.{OfCorrect, AllGoOn, ShareKeys, chronicle_of, correct_below}
 use Rattle.recovery.specs.Correct.{correct_replicas, correct_with}
 use Rattle.recovery.specs.Healing.{in_turn, numbers_of, sent_since, is_copy, ask_each, fetch_block}
-use Rattle.recovery.specs.Law.{OnlyAsked, IsHolder, HasPlace, MayFetch, IsFetched, MissingBlocksAreFetched}
+use Rattle.recovery.specs.Fetching.{OnlyAsked, IsHolder, HasPlace, MayFetch, IsFetched, MissingBlocksAreFetched}
 use Rattle.recovery.proofs.Asked.{Asked, asked-each, holders-of, answer-of, copy-at, with-copy, same-copies, gather-hands}
 use Rattle.recovery.proofs.Copies.{gathered-taken, copies-of}
 use Rattle.recovery.proofs.Correct.{among-correct}
 use Rattle.recovery.proofs.Proposals.{standing-old}
 use Rattle.recovery.proofs.Steps.{going, step-stood, frame-behind}
 use Rattle.recovery.proofs.Ways.{IsOnWay, on-way-from, on-way, way-on, way-past, KnownAt}
-use Rattle.recovery.proofs.Wells.{IsReached, sound-of, known-of, one-branch, run-after}
+use Rattle.recovery.proofs.Wells.{IsReached, sound-of, known-of, one-branch}
 use Rattle.recovery.proofs.Worlds.{IsMadeAs, keys-in, same-correct, Passes, passes-none}
 use Rattle.recovery.proofs.Worlds.{passes-one, passes-append, after-append, named}
 

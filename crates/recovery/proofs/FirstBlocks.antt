@@ -1,20 +1,17 @@
 -- A leader makes a first block, on genesis.
 use Rattle.ids.specs.declared.fault.Fault.TheVariants as fault
-use Rattle.std.proofs.Common.{ℕ, ◌≡◌, ◌<◌, ◌≤◌, ◌⊎◌, ◌==◌, ◌&&◌, not, Bool, true, false, cond, List, [], ◌∷◌, ◌++◌}
-use Rattle.std.proofs.Common.{map, length, refl, sym, ap, subst, ◌∙◌, arith, inl, inr, Option, Some, None, true≢false}
-use Rattle.std.proofs.lemmas.Bool.{cond-true, cond-false, cases_Bool, cases_eq, eq-eqb, and_from, and_parts, or_left}
-use Rattle.std.proofs.lemmas.Bool.{le-leb, not-true}
+use Rattle.std.proofs.Common.{ℕ, ◌≡◌, ◌⊎◌, ◌&&◌, not, Bool, true, false, List, [], ◌∷◌, ◌++◌}
+use Rattle.std.proofs.Common.{length, refl, sym, ap, subst, ◌∙◌, inl, inr, Option, Some, None, true≢false}
+use Rattle.std.proofs.lemmas.Bool.{cond-true, cond-false, cases_Bool, eq-eqb, and_parts}
 use Rattle.std.proofs.lemmas.List.{append-nil}
 use Rattle.std.specs.Prelude.{is_some}
 use Rattle.ids.specs.Sizes.{Sizes, leader}
-use Rattle.definitions.specs.Bytes.{Bytes}
-use Rattle.definitions.specs.Lists.{Among}
-use Rattle.definitions.specs.Branches.{Block, Branch, just1}
+use Rattle.definitions.specs.Branches.{Block, Branch}
 use Rattle.definitions.specs.Checks.{Identity}
 use Rattle.definitions.specs.Chronicles.{Chronicle, Step.noted, Note.beat, Note.led_from, taken_blocks, voted_blocks}
 use Rattle.definitions.specs.Chronicles.{Admitted, IsLawful, horizon, window, lock}
 use Rattle.definitions.specs.Digests.{digest_of, AllKnown}
-use Rattle.definitions.specs.Frames.{Certificate, Core, Frame}
+use Rattle.definitions.specs.Frames.{Core}
 use Rattle.definitions.specs.Grounds.{may_lead_from}
 use Rattle.definitions.specs.Replicas.{MemorySupply.ample, Replica, Standing.running}
 use Rattle.definitions.specs.Rulings.{Input.lead_in, Input.beat_in, Ruling.refusing, lead, ruling}
@@ -24,20 +21,20 @@ use Rattle.definitions.specs.States.{is_known}
 use Rattle.definitions.specs.Worlds.{World, Sent, Event.beat, Happening, is_correct, is_replica, self_of}
 use Rattle.definitions.specs.Worlds as worlds
 use Rattle.definitions.specs.Runs.{refusal, after}
-use Rattle.definitions.specs.Events.{acts, happens, party_of}
+use Rattle.definitions.specs.Events.{happens}
 use Rattle.definitions.proofs.Horizons.{led-high, window-genesis}
 use Rattle.definitions.proofs.Trees.{found-itself}
 use Rattle.linear_law.proofs.Leaves.{known-block}
 use Rattle.linear_law.proofs.Runs.{member-faulty}
 use Rattle.linear_law.proofs.StoredFrames.{AreStored}
-use Rattle.recovery.specs.Correct.{OfCorrect, ShareKeys, chronicle_of, lock_of, view_of, amply}
-use Rattle.recovery.proofs.Beginnings.{lead-comes, lead-hands, lead-leaf, lead-taken, lead-voted}
+use Rattle.recovery.specs.Correct.{ShareKeys, chronicle_of, lock_of, view_of, amply}
+use Rattle.recovery.proofs.Beginnings.{lead-comes, lead-hands, lead-leaf}
 use Rattle.recovery.proofs.Copies.{correct-party}
 use Rattle.recovery.proofs.Firsts.{IsPlain, IsLost, tree-empty, high-empty, plain-high, no-genesis}
 use Rattle.recovery.proofs.Locks.{led-from-lock}
 use Rattle.recovery.proofs.Making.{made-block, made-justifies, child-made, beat-hands}
-use Rattle.recovery.proofs.Offers.{GoesOn, row-own, row-other}
-use Rattle.recovery.proofs.Steps.{outs, TookStep, OnlySent, step-stood, refused}
+use Rattle.recovery.proofs.Offers.{row-own, row-other}
+use Rattle.recovery.proofs.Steps.{outs, TookStep, step-stood, refused}
 use Rattle.recovery.proofs.Ways.{IsOnWay, KnownAt, on-way, way-on}
 use Rattle.recovery.proofs.Wells.{IsReached, sound-of, stored-of}
 use Rattle.recovery.proofs.Worlds.{IsMadeAs, made-both, keys-in, same-correct, same-self, Passes, passes-none, passes-one}

@@ -1,6 +1,6 @@
 -- A replica that never took a block stands on genesis, or on its own last proposal on it.
-use Rattle.std.proofs.Common.{ℕ, ◌≡◌, ◌<◌, ◌==◌, Bool, true, false, cond, List, [], ◌∷◌, map, length, refl, sym, ap, subst}
-use Rattle.std.proofs.Common.{◌∙◌, arith, inl, inr, nat_lt, Option, Some, None, true≢false, ◌⊎◌}
+use Rattle.std.proofs.Common.{ℕ, ◌≡◌, ◌==◌, Bool, true, false, cond, List, [], ◌∷◌, map, length, refl, sym, ap, subst}
+use Rattle.std.proofs.Common.{◌∙◌, arith, inl, inr, nat_lt, Option, Some, None, ◌⊎◌}
 use Rattle.std.specs.Cmp.Lexicographic.{bytes_decides}
 use Rattle.std.proofs.lemmas.Bool.{cond-true, cond-false, cond_both, eqb-true, eq-eqb, le-ltb}
 use Rattle.std.proofs.lemmas.List.{nil_from_length}
@@ -11,13 +11,12 @@ use Rattle.definitions.specs.Checks.{Identity, is_good}
 use Rattle.definitions.specs.Chronicles.{Admitted, Chronicle, Step, Step.took_block, Step.noted, Note.beat, Note.led_from}
 use Rattle.definitions.specs.Chronicles.{IsLawful, IsSound, AreKnown, taken_blocks, tree, stored_blocks, stored_block}
 use Rattle.definitions.specs.Digests.{digest, digest_of, AllKnown, NoCollision}
-use Rattle.definitions.specs.Frames.{Certificate, Core, Vote, genesis_core}
-use Rattle.definitions.specs.Replicas.{MemorySupply, Replica, Reaction, step, Standing.running, Standing.stopped}
-use Rattle.definitions.specs.Replicas.{Standing.cut_short}
+use Rattle.definitions.specs.Frames.{Certificate, Core, genesis_core}
+use Rattle.definitions.specs.Replicas.{MemorySupply, Replica, Reaction, step, Standing.running}
 use Rattle.definitions.specs.Rulings.{Ruling, ruling}
 use Rattle.definitions.specs.States.{Justified, leaf, proposed, made_with, child, or_else, picks, known_as, qc_high}
-use Rattle.definitions.specs.Trees.{Stored, blocks}
-use Rattle.definitions.specs.Worlds.{World, Event, Happening, self_of, is_correct}
+use Rattle.definitions.specs.Trees.{blocks}
+use Rattle.definitions.specs.Worlds.{World, Event, Happening, self_of}
 use Rattle.definitions.specs.Runs.{refusal}
 use Rattle.definitions.specs.Events.{Effect, party_of, effect, happens, nothing, stepped, told, submitted}
 use Rattle.definitions.proofs.Digests.{digest_of-one}

@@ -2,7 +2,7 @@
 use Rattle.std.specs.Prelude.{count_by}
 use Rattle.std.proofs.Common.{ℕ, suc, ◌≡◌, ◌<◌, ◌≤◌, ◌+◌, ◌⊎◌, ◌==◌, Bool, true, false, cond, List, ◌∷◌, length, refl, []}
 use Rattle.std.proofs.Common.{sym, ap, subst, ◌∙◌, arith, inl, inr}
-use Rattle.std.proofs.lemmas.Bool.{cond-true, cond-false, cases_lt, cases_eq}
+use Rattle.std.proofs.lemmas.Bool.{cond-false, cases_lt}
 use Rattle.std.proofs.lemmas.List.Sums.{sum_by-cons}
 use Rattle.definitions.specs.Lists.{Among}
 use Rattle.definitions.specs.Branches.{Block, Branch, Extends}
@@ -11,7 +11,7 @@ use Rattle.definitions.specs.Chronicles.{Admitted, Chronicle, Step.took_block, t
 use Rattle.definitions.specs.Chronicles.{horizon}
 use Rattle.definitions.specs.States.{view}
 use Rattle.definitions.proofs.Branches.{length-extends}
-use Rattle.recovery.specs.Law.{OnlyAsked, OnlyTook, OnlyGained}
+use Rattle.recovery.specs.Fetching.{OnlyAsked, OnlyTook, OnlyGained}
 use Rattle.recovery.proofs.Climbing.{window-new, window-old, window-longer, window-count}
 use Rattle.recovery.proofs.Fetched.{window-told}
 

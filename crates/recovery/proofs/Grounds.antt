@@ -21,7 +21,7 @@ use Rattle.linear_law.proofs.WholeRuns.{chronicles-family}
 use Rattle.recovery.specs.Correct.{chronicle_of, lock_of, correct_with}
 use Rattle.recovery.specs.Healing.{justified_by}
 use Rattle.recovery.specs.NeverWedged.{healer, ground_of}
-use Rattle.recovery.specs.Law.{JustifiedBlocksAreHeld, GroundsAreHeld}
+use Rattle.recovery.specs.Locks.{JustifiedBlocksAreHeld, GroundsAreHeld}
 use Rattle.recovery.proofs.Families.{justified-certified, certified-held}
 use Rattle.recovery.proofs.Locks.{nil, healer-highest}
 

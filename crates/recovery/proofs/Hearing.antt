@@ -1,20 +1,18 @@
 -- A client hears the replies of all correct replicas, and has its receipt.
 use Rattle.ids.specs.declared.kind.Kind.TheVariants as kind
-use Rattle.ids.specs.declared.fault.Fault.TheVariants as fault
-use Rattle.std.proofs.Common.{ℕ, zero, suc, ◌≡◌, ◌<◌, ◌≤◌, ◌+◌, ◌-◌, ◌⊎◌, ◌==◌, ◌&&◌, ◌||◌, not, Bool, true, false}
-use Rattle.std.proofs.Common.{cond, List, [], ◌∷◌, ◌++◌, map, filter, length, drop, refl, sym, ap, subst, ◌∙◌, arith}
-use Rattle.std.proofs.Common.{inl, inr, nat_lt, Option, Some, None, option_map, slice_get, Ok, true≢false}
+use Rattle.std.proofs.Common.{ℕ, suc, ◌≡◌, ◌<◌, ◌⊎◌, ◌==◌, ◌&&◌, not, Bool, true, false}
+use Rattle.std.proofs.Common.{List, [], ◌∷◌, ◌++◌, map, filter, length, drop, refl, sym, ap, subst, ◌∙◌, arith}
+use Rattle.std.proofs.Common.{inl, inr, nat_lt, Option, Some, None, option_map, slice_get}
 use Rattle.std.specs.List.{list_any}
 use Rattle.std.specs.Str.{bytes_eq}
 use Rattle.std.specs.Cmp.Lexicographic.{bytes_decides}
-use Rattle.std.proofs.lemmas.Bool.{cond-true, cond-false, cond_both, cases_Bool, and_from, and_parts, or_left, or_right}
+use Rattle.std.proofs.lemmas.Bool.{cond-true, cond-false, cond_both, and_from, or_left, or_right}
 use Rattle.std.proofs.lemmas.Bool.{eq-eqb, eqb-true, le-ltb, lt-ltb}
 use Rattle.std.proofs.lemmas.List.{append-nil, append_assoc, length-append}
 use Rattle.std.proofs.Math.Seq.{drop-append_seam}
-use Rattle.ids.specs.Sizes.{Sizes, AreSizes, client_party, replicas, quorum}
+use Rattle.ids.specs.Sizes.{Sizes, AreSizes, client_party, replicas}
 use Rattle.definitions.specs.Bytes.{Bytes}
 use Rattle.definitions.specs.Lists.{Among}
-use Rattle.definitions.specs.Checks.{Identity}
 use Rattle.definitions.specs.Frames.{Command, Core, Frame, reply_content}
 use Rattle.definitions.specs.Frames as frame
 use Rattle.definitions.specs.Histories.{Answer, answers}
@@ -23,27 +21,27 @@ use Rattle.definitions.specs.Tags.{tag}
 use Rattle.definitions.specs.Chronicles.{executed}
 use Rattle.definitions.specs.Replicas.{MemorySupply.ample}
 use Rattle.definitions.specs.Sendings.{To, To.to_party, reply_to}
-use Rattle.definitions.specs.Sessions.{Client, Session, Receipt, Heard, Heard.gives_receipt, Heard.only_counts}
-use Rattle.definitions.specs.Sessions.{Heard.not_counted, on_reply, count_reply, is_ample}
+use Rattle.definitions.specs.Sessions.{Client, Session, Receipt, Heard}
+use Rattle.definitions.specs.Sessions.{on_reply, count_reply}
 use Rattle.definitions.specs.Tally.{Told, agrees, agreeing, is_counted}
 use Rattle.definitions.specs.Worlds.{World, Sent, AcceptedBy, Event.relay, Happening, is_correct, is_replica, self_of}
-use Rattle.definitions.specs.Worlds.{client_of, is_party, new_world, put}
-use Rattle.definitions.specs.Runs.{refusal, run, after}
+use Rattle.definitions.specs.Worlds.{client_of, is_party, new_world}
+use Rattle.definitions.specs.Runs.{refusal, after}
 use Rattle.definitions.specs.Events.{Effect, happens, recorded, acts, comes, effect, told, party_of, hears, accepted_of}
 use Rattle.definitions.specs.Events.{client_number}
 use Rattle.definitions.proofs.Lists.{Among-after, Among-before, Among-mapped, any-found, any-from, Among-kept}
-use Rattle.linear_law.proofs.Final.{same-client}
 use Rattle.linear_law.proofs.Receipts.{held}
 use Rattle.linear_law.proofs.Runs.{member-faulty}
 use Rattle.linear_law.proofs.Replies.{answer_at}
 use Rattle.recovery.specs.Correct.{OfCorrect, AllGoOn, ShareKeys, chronicle_of, correct_replicas, amply}
 use Rattle.recovery.specs.Healing.{Phase, in_turn, comes_to, receivers, delivered, delivered_since, is_reply, ask_again}
 use Rattle.recovery.specs.NeverWedged.{IsAsked, IsAnswered}
-use Rattle.recovery.specs.Law.{Carries, RepliesConvince}
+use Rattle.recovery.specs.Rounds.{Carries}
+use Rattle.recovery.specs.Requests.{RepliesConvince}
 use Rattle.recovery.proofs.Bursts.{distinct-correct}
 use Rattle.recovery.proofs.Copies.{correct-party}
 use Rattle.recovery.proofs.Correct.{among-correct, correct-listed}
-use Rattle.recovery.proofs.Replying.{AreReplies, HaveReplied, replies-later, all-tell, all-reply}
+use Rattle.recovery.proofs.Replying.{AreReplies, replies-later, all-tell, all-reply}
 use Rattle.recovery.proofs.Requests.{asked-wanted, client-party}
 use Rattle.recovery.proofs.Steps.{frame-behind}
 use Rattle.recovery.proofs.Tallied.{count-named}
@@ -51,8 +49,8 @@ use Rattle.recovery.proofs.Told.{one-answer}
 use Rattle.recovery.proofs.Ways.{IsOnWay, KnownAt, on-way-from, on-way, way-on, way-past, turn-on, turn-passes}
 use Rattle.recovery.proofs.Ways.{turn-after, turns-none}
 use Rattle.recovery.proofs.Wells.{IsReached, family-of}
-use Rattle.recovery.proofs.Worlds.{IsMadeAs, made-after, made-both, keys-in, same-correct, same-self, Passes}
-use Rattle.recovery.proofs.Worlds.{passes-none, passes-one, passes-append, after-append, named, effect-correct}
+use Rattle.recovery.proofs.Worlds.{IsMadeAs, made-both, keys-in, same-correct, Passes}
+use Rattle.recovery.proofs.Worlds.{passes-none, passes-one, named, effect-correct}
 
 -- ---- one reply
 

@@ -23,7 +23,7 @@ use Rattle.linear_law.proofs.WholeRuns.{chronicles-lawful, chronicles-family}
 use Rattle.recovery.specs.Correct.{OfCorrect, chronicle_of, lock_of, correct_replicas}
 use Rattle.recovery.specs.Healing.{highest_locked}
 use Rattle.recovery.specs.NeverWedged.{healer}
-use Rattle.recovery.specs.Law.{IsSafeForAll, HighestLocksAreSafe, LocksMayBeLedFrom}
+use Rattle.recovery.specs.Locks.{IsSafeForAll, HighestLocksAreSafe, LocksMayBeLedFrom}
 use Rattle.recovery.proofs.Families.{locked-certified, one-of-height}
 use Rattle.recovery.proofs.Correct.{among-correct, correct-listed, highest-locked}
 

@@ -38,7 +38,8 @@ use Rattle.linear_law.proofs.Runs.{member-faulty}
 use Rattle.linear_law.proofs.MadeCertificates.{qc_high-is}
 use Rattle.recovery.specs.Correct.{ShareKeys, chronicle_of, amply}
 use Rattle.recovery.specs.Healing.{in_turn, numbers_of, sent_since, is_proposal, offered_to, make_block, make_blocks}
-use Rattle.recovery.specs.Law.{Climbs, Leads, CarriesWaiting, high_of}
+use Rattle.recovery.specs.Locks.{high_of}
+use Rattle.recovery.specs.Rounds.{Climbs, Leads, CarriesWaiting}
 use Rattle.recovery.proofs.Carried.{carries-over, picked-carries}
 use Rattle.recovery.proofs.Copies.{correct-party}
 use Rattle.recovery.proofs.Decided.{justifies-below}

@@ -1,11 +1,11 @@
 -- A first block comes to all that never took one.
-use Rattle.ids.specs.declared.limits.TheConstants.{MOST_BLOCKS, MOST_OF_HEIGHT, HEIGHT_LIMIT}
+use Rattle.ids.specs.declared.limits.TheConstants.{MOST_BLOCKS, MOST_OF_HEIGHT}
 use Rattle.std.specs.Prelude.{count_by}
-use Rattle.std.proofs.Common.{ℕ, suc, ◌≡◌, ◌<◌, ◌≤◌, ◌+◌, ◌-◌, ◌⊎◌, ◌==◌, ◌&&◌, not, Bool, true, false, cond, List, []}
-use Rattle.std.proofs.Common.{◌∷◌, ◌++◌, map, filter, length, drop, refl, sym, ap, subst, ◌∙◌, arith, inl, inr, Some}
+use Rattle.std.proofs.Common.{ℕ, suc, ◌≡◌, ◌<◌, ◌≤◌, ◌+◌, ◌⊎◌, ◌==◌, true, false, List, []}
+use Rattle.std.proofs.Common.{◌∷◌, ◌++◌, length, drop, refl, sym, ap, subst, ◌∙◌, arith, inl, inr, Some}
 use Rattle.std.proofs.Common.{None, option_map, slice_get, true≢false}
-use Rattle.std.proofs.lemmas.Bool.{cond-true, cases_eq, cases_Bool, and_parts, lt-ltb, eq-eqb, eqb-true}
-use Rattle.std.proofs.lemmas.List.{append-nil, append_assoc, nil_from_length}
+use Rattle.std.proofs.lemmas.Bool.{cond-true, cases_eq, cases_Bool, lt-ltb, eq-eqb, eqb-true}
+use Rattle.std.proofs.lemmas.List.{nil_from_length}
 use Rattle.std.proofs.Math.Seq.{drop-append_seam}
 use Rattle.ids.specs.Sizes.{Sizes, replicas, leader}
 use Rattle.definitions.specs.Lists.{Among, AreDistinct}
@@ -25,11 +25,13 @@ use Rattle.definitions.specs.Runs.{refusal, after}
 use Rattle.definitions.specs.Events.{happens, recorded}
 use Rattle.definitions.proofs.Horizons.{window-genesis, horizon-low, executed-locked}
 use Rattle.definitions.proofs.Lists.{Among-after, Among-filter, Among-kept}
-use Rattle.recovery.specs.Correct.{OfCorrect, AllGoOn, ShareKeys, chronicle_of, lock_of, view_of, correct_replicas, amply}
+use Rattle.recovery.specs.Correct.{ShareKeys, chronicle_of, lock_of, correct_replicas, amply}
 use Rattle.recovery.specs.Healing.{Phase, in_turn, comes_to, sent_since, numbers_of, is_proposal, newcomers, make_first}
 use Rattle.recovery.specs.Healing.{over_lock, highest_voted}
 use Rattle.recovery.specs.NeverWedged.{healer, ground_of, HasRoom}
-use Rattle.recovery.specs.Law.{HasPlace, IsProposalOf, Climbs, CameTo}
+use Rattle.recovery.specs.Views.{CameTo}
+use Rattle.recovery.specs.Fetching.{HasPlace}
+use Rattle.recovery.specs.Rounds.{IsProposalOf, Climbs}
 use Rattle.recovery.proofs.Asked.{relay-hands}
 use Rattle.recovery.proofs.Bursts.{distinct-correct, distinct-kept}
 use Rattle.recovery.proofs.Climbing.{stands-justifies, lock-more, voted-low, window-longer}
@@ -37,7 +39,7 @@ use Rattle.recovery.proofs.Copies.{correct-party}
 use Rattle.recovery.proofs.Correct.{among-correct, correct-listed}
 use Rattle.recovery.proofs.Decided.{justifies-below}
 use Rattle.recovery.proofs.Fetched.{took-stands, window-told, lock-told}
-use Rattle.recovery.proofs.FirstBlocks.{HasFirstMade, IsAlike, alike-none, first-made}
+use Rattle.recovery.proofs.FirstBlocks.{IsAlike, alike-none, first-made}
 use Rattle.recovery.proofs.Firsts.{IsPlain}
 use Rattle.recovery.proofs.Gained.{of_height, took-heights}
 use Rattle.recovery.proofs.Grounds.{ground-own, just1-genesis}
@@ -46,12 +48,12 @@ use Rattle.recovery.proofs.Locks.{healer-highest, nil, over-some, lock-justified
 use Rattle.recovery.proofs.Offers.{GoesOn, row-own, row-other, proposal-later, recorded-later, slice-there}
 use Rattle.recovery.proofs.Proposals.{plain-taken}
 use Rattle.recovery.proofs.Rounds.{vheight-told, clear-own}
-use Rattle.recovery.proofs.Staged.{IsStaged, room_above, moved-window}
+use Rattle.recovery.proofs.Staged.{IsStaged, room_above}
 use Rattle.recovery.proofs.Steps.{going, outs, TookStep, step-stood, frame-behind}
 use Rattle.recovery.proofs.Ways.{IsOnWay, KnownAt, on-way, way-on, way-past, turn-on, turn-passes, turn-after, turns-none}
 use Rattle.recovery.proofs.Wells.{IsReached, sound-of, family-of}
 use Rattle.recovery.proofs.Worlds.{IsMadeAs, made-after, made-both, keys-in, same-correct, same-self, Passes}
-use Rattle.recovery.proofs.Worlds.{passes-none, passes-one, passes-append, after-append, named}
+use Rattle.recovery.proofs.Worlds.{passes-none, passes-one, named}
 
 -- ---- one newcomer
 

@@ -27,7 +27,7 @@ use Rattle.definitions.proofs.Lists.{Among-before}
 use Rattle.definitions.proofs.Branches.{Extends-trans}
 use Rattle.definitions.proofs.Chronicles.{voted-grows}
 use Rattle.recovery.specs.Correct.{OfCorrect, ShareKeys, chronicle_of, amply}
-use Rattle.recovery.specs.Law.{IsProposalOf, Climbs}
+use Rattle.recovery.specs.Rounds.{IsProposalOf, Climbs}
 use Rattle.recovery.proofs.Asked.{offer-hands}
 use Rattle.recovery.proofs.Climbing.{next-place, climb-more, voted-low, voted-now}
 use Rattle.recovery.proofs.Decided.{justifies-below}

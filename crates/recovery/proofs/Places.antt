@@ -14,7 +14,7 @@ use Rattle.definitions.specs.Trees.{Placing, Placing.stands, Placing.grows, Plac
 use Rattle.definitions.specs.Trees.{placing, placing_known, placing_over, placing_new, find_in, justifies}
 use Rattle.definitions.specs.Trees.{IsTree}
 use Rattle.definitions.proofs.Trees.{found-in, found-itself}
-use Rattle.recovery.specs.Law.{HasPlace}
+use Rattle.recovery.specs.Fetching.{HasPlace}
 
 -- a number that is no lower isn't below
 not-below : (a b : ℕ) → b ≤ a → nat_lt a b ≡ false

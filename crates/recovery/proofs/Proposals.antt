@@ -37,7 +37,8 @@ use Rattle.definitions.proofs.Branches.{branch_eq-decides}
 use Rattle.definitions.proofs.Horizons.{window-grown, window-tree}
 use Rattle.linear_law.proofs.Runs.{member-faulty}
 use Rattle.recovery.specs.Correct.{ShareKeys, chronicle_of, view_of}
-use Rattle.recovery.specs.Law.{HasPlace, MayVoteFor, IsProposalOf, ProposalsAreTaken}
+use Rattle.recovery.specs.Fetching.{HasPlace}
+use Rattle.recovery.specs.Rounds.{MayVoteFor, IsProposalOf, ProposalsAreTaken}
 use Rattle.recovery.proofs.Copies.{vector-verifies, correct-party}
 use Rattle.recovery.proofs.Wells.{IsReached, reached, sound-of, known-of, one-branch}
 use Rattle.recovery.proofs.Firsts.{IsPlain}

@@ -1,7 +1,7 @@
 -- The leader leads from its lock with the request, and all may follow.
-use Rattle.ids.specs.declared.limits.TheConstants.{MOST_BLOCKS, HEIGHT_LIMIT, MOST_PENDING}
-use Rattle.std.proofs.Common.{ℕ, suc, ◌≡◌, ◌<◌, ◌≤◌, ◌+◌, ◌-◌, ◌⊎◌, ◌&&◌, ◌||◌, Bool, true, false, cond, List, [], ◌∷◌}
-use Rattle.std.proofs.Common.{◌++◌, length, refl, sym, ap, subst, ◌∙◌, arith, inl, inr, nat_le, None}
+use Rattle.ids.specs.declared.limits.TheConstants.{HEIGHT_LIMIT}
+use Rattle.std.proofs.Common.{ℕ, suc, ◌≡◌, ◌<◌, ◌≤◌, ◌+◌, ◌⊎◌, ◌&&◌, ◌||◌, Bool, true, false, cond, List, [], ◌∷◌}
+use Rattle.std.proofs.Common.{◌++◌, length, refl, sym, ap, subst, ◌∙◌, arith, inl, inr, nat_le}
 use Rattle.std.proofs.lemmas.Bool.{cond-true, cond-false, cases_Bool, cases_eq, and_from, and_parts, or_left, or_right}
 use Rattle.std.proofs.lemmas.Bool.{le-leb}
 use Rattle.ids.specs.Sizes.{Sizes, leader, quorum, replicas}
@@ -20,22 +20,22 @@ use Rattle.definitions.specs.Rulings.{Ruling.due, Ruling.refusing, on_request}
 use Rattle.definitions.specs.States.{Justified, view, qc_high, raised, leaf, pending, is_due}
 use Rattle.definitions.specs.Worlds.{World, Event.relay, Happening, is_correct, self_of}
 use Rattle.definitions.specs.Worlds as worlds
-use Rattle.definitions.specs.Runs.{refusal, after}
+use Rattle.definitions.specs.Runs.{after}
 use Rattle.definitions.specs.Events.{happens}
 use Rattle.definitions.proofs.Horizons.{led-high}
-use Rattle.recovery.specs.Correct.{OfCorrect, AllGoOn, ShareKeys, chronicle_of, lock_of, correct_replicas}
-use Rattle.recovery.specs.Healing.{lead_with, to_climb, highest_voted}
-use Rattle.recovery.specs.Law.{Climbs, Leads, MayClimb, MayBurst, high_of}
-use Rattle.recovery.proofs.Beginnings.{lead-comes, lead-leaf, lead-pending, lead-taken, lead-voted}
+use Rattle.recovery.specs.Correct.{OfCorrect, chronicle_of, lock_of, correct_replicas}
+use Rattle.recovery.specs.Healing.{lead_with, to_climb}
+use Rattle.recovery.specs.Locks.{high_of}
+use Rattle.recovery.specs.Rounds.{Climbs, MayBurst}
+use Rattle.recovery.proofs.Beginnings.{lead-comes, lead-leaf, lead-voted}
 use Rattle.recovery.proofs.Correct.{among-correct, correct-listed}
 use Rattle.recovery.proofs.Highs.{highest-voted-above}
-use Rattle.recovery.proofs.Offers.{offer-goes, row-own, row-other}
+use Rattle.recovery.proofs.Offers.{row-own, row-other}
 use Rattle.recovery.proofs.Requests.{IsWanted, request-comes, wanted-after}
 use Rattle.recovery.proofs.Rounds.{vheight-told, highest-voted-below}
 use Rattle.recovery.proofs.Staged.{IsStaged, room_above}
-use Rattle.recovery.proofs.Steps.{going, TookStep}
 use Rattle.recovery.proofs.Views.{not-less}
-use Rattle.recovery.proofs.Ways.{IsOnWay, KnownAt, on-way, way-on}
+use Rattle.recovery.proofs.Ways.{IsOnWay, way-on}
 use Rattle.recovery.proofs.Worlds.{IsMadeAs, made-both, keys-in, same-correct, same-self, Passes, passes-one, passes-none}
 
 -- ---- the leader's chronicle

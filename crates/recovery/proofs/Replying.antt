@@ -1,38 +1,38 @@
 -- A request comes to all that executed it, and each replies.
-use Rattle.std.proofs.Common.{ℕ, suc, ◌≡◌, ◌<◌, ◌≤◌, ◌==◌, ◌&&◌, not, Bool, true, false, cond, List, [], ◌∷◌, ◌++◌, map}
-use Rattle.std.proofs.Common.{length, refl, sym, ap, subst, ◌∙◌, arith, inl, inr, Option, Some, None}
+use Rattle.std.proofs.Common.{ℕ, ◌≡◌, ◌<◌, ◌==◌, ◌&&◌, Bool, true, false, cond, List, [], ◌∷◌, ◌++◌}
+use Rattle.std.proofs.Common.{refl, sym, ap, subst, ◌∙◌, arith, inl, inr, Option, Some}
 use Rattle.std.specs.Bool.{⊤}
-use Rattle.std.proofs.lemmas.Bool.{cond-true, cond-false, and_parts, eqb-true, eq-eqb, le-ltb, true≢false}
+use Rattle.std.proofs.lemmas.Bool.{cond-true, and_parts, eqb-true, eq-eqb, le-ltb, true≢false}
 use Rattle.std.proofs.lemmas.List.{append-nil, append_assoc}
 use Rattle.ids.specs.Sizes.{Sizes, client_party, replicas}
 use Rattle.definitions.specs.Lists.{Among, AreDistinct, IsBeginning}
 use Rattle.definitions.specs.Checks.{Identity}
 use Rattle.definitions.specs.Chronicles.{Chronicle, Step.noted, Note.got_request, executed, history}
-use Rattle.definitions.specs.Frames.{Command, Core, Frame}
+use Rattle.definitions.specs.Frames.{Command, Core}
 use Rattle.definitions.specs.Histories.{Entry, History, Answer, answers, answer_to, last_seq}
 use Rattle.definitions.specs.Replicas.{MemorySupply.ample, Replica, Standing.running}
 use Rattle.ids.specs.declared.fault.Fault.TheVariants as fault
 use Rattle.definitions.specs.Rulings.{Ruling.due, Ruling.refusing, on_request}
-use Rattle.definitions.specs.Sendings.{Sending, To, sendings, reply_to, again}
+use Rattle.definitions.specs.Sendings.{Sending, sendings, reply_to, again}
 use Rattle.definitions.specs.Linearity.{IsLinear}
 use Rattle.definitions.specs.States.{is_due}
 use Rattle.definitions.specs.Worlds.{World, Sent, Event.relay, Happening, is_correct, self_of}
-use Rattle.definitions.specs.Runs.{refusal, after}
+use Rattle.definitions.specs.Runs.{after}
 use Rattle.definitions.specs.Events.{happens}
 use Rattle.definitions.proofs.Counts.{found}
 use Rattle.definitions.proofs.Lists.{any-found}
 use Rattle.linear_law.proofs.Final.{linear}
 use Rattle.linear_law.proofs.Replies.{answers-grow, held-running}
 use Rattle.linear_law.proofs.Sends.{answer_to-among}
-use Rattle.recovery.specs.Correct.{OfCorrect, AllGoOn, chronicle_of, correct_replicas, amply}
+use Rattle.recovery.specs.Correct.{OfCorrect, AllGoOn, chronicle_of, amply}
 use Rattle.recovery.specs.Healing.{comes_to}
-use Rattle.recovery.specs.Law.{Carries}
+use Rattle.recovery.specs.Rounds.{Carries}
 use Rattle.recovery.proofs.Offers.{GoesOn, row-other}
 use Rattle.recovery.proofs.Requests.{IsWanted, request-comes, wanted-after}
-use Rattle.recovery.proofs.Steps.{outs, TookStep}
+use Rattle.recovery.proofs.Steps.{outs}
 use Rattle.recovery.proofs.Submitted.{entry-low}
 use Rattle.recovery.proofs.Told.{last-above, last-below, last-answered, one-answer}
-use Rattle.recovery.proofs.Ways.{IsOnWay, KnownAt, on-way, way-on}
+use Rattle.recovery.proofs.Ways.{IsOnWay, way-on}
 use Rattle.recovery.proofs.Wells.{IsReached, family-of}
 use Rattle.recovery.proofs.Worlds.{IsMadeAs, made-both, same-correct, same-self, Passes, passes-none, passes-one}
 

@@ -1,24 +1,21 @@
 -- A correct client's request comes to a correct replica.
 use Rattle.ids.specs.declared.kind.Kind.TheVariants as kind
-use Rattle.std.proofs.Common.{ℕ, ◌≡◌, ◌<◌, ◌+◌, ◌&&◌, not, true, List, [], ◌∷◌, ◌++◌, refl, sym, ap, subst, ◌∙◌, arith}
+use Rattle.std.proofs.Common.{ℕ, ◌≡◌, ◌<◌, true, List, [], ◌∷◌, ◌++◌, refl, sym, ap, ◌∙◌, arith}
 use Rattle.std.proofs.Common.{Option, Some, None, option_map, slice_get, length}
-use Rattle.std.proofs.lemmas.Bool.{cond-true, and_from, and_parts, lt-ltb, le-leb, or_right}
+use Rattle.std.proofs.lemmas.Bool.{cond-true, and_from, lt-ltb, le-leb, or_right}
 use Rattle.std.proofs.lemmas.List.{append-nil, append_assoc}
-use Rattle.ids.specs.Sizes.{Sizes, client_party, replicas}
-use Rattle.definitions.specs.Lists.{Among}
+use Rattle.ids.specs.Sizes.{Sizes, client_party}
 use Rattle.definitions.specs.Checks.{Identity, command_verifies}
 use Rattle.definitions.specs.Frames.{Command, Frame}
 use Rattle.definitions.specs.Frames as frame
 use Rattle.definitions.specs.Admission.{Checked.passes, check}
-use Rattle.definitions.specs.Chronicles.{Chronicle, Step.noted, Note.got_request}
+use Rattle.definitions.specs.Chronicles.{Step.noted, Note.got_request}
 use Rattle.definitions.specs.Replicas.{Standing.running}
 use Rattle.definitions.specs.Replicas.{MemorySupply.ample}
 use Rattle.definitions.specs.Rulings.{Input.request_in, Ruling.due, on_request, ruling}
-use Rattle.definitions.specs.Worlds.{World, Sent, Event.relay, Happening, is_correct, is_party, is_replica, self_of}
-use Rattle.definitions.specs.Worlds.{client_of}
+use Rattle.definitions.specs.Worlds.{World, Sent, Event.relay, Happening, is_correct, is_party, self_of}
 use Rattle.definitions.specs.Runs.{refusal, after}
 use Rattle.definitions.specs.Events.{happens, recorded}
-use Rattle.linear_law.proofs.Submissions.{asked}
 use Rattle.linear_law.proofs.WholeRuns.{slice_get-among}
 use Rattle.recovery.specs.Correct.{OfCorrect, ShareKeys, chronicle_of}
 use Rattle.recovery.specs.NeverWedged.{IsAsked}

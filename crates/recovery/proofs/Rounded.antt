@@ -1,25 +1,24 @@
 -- Rounds, one after the other, decide.
 use Rattle.ids.specs.declared.limits.TheConstants.{HEIGHT_LIMIT}
-use Rattle.std.proofs.Common.{ℕ, suc, ◌≡◌, ◌<◌, ◌≤◌, ◌+◌, List, [], ◌∷◌, ◌++◌, length, refl, sym, ap, subst, ◌∙◌}
+use Rattle.std.proofs.Common.{ℕ, suc, ◌≡◌, ◌<◌, ◌+◌, List, [], ◌∷◌, ◌++◌, length, sym, ap, subst, ◌∙◌}
 use Rattle.std.proofs.Common.{arith, inl, inr, Ok}
 use Rattle.std.proofs.lemmas.List.{append-nil, length-append, nil_from_length}
 use Rattle.ids.specs.Sizes.{Sizes}
-use Rattle.definitions.specs.Lists.{Among}
-use Rattle.definitions.specs.Branches.{Block, Branch, IsBranch, Extends, just1, justify_height}
-use Rattle.definitions.specs.Chronicles.{executed, vheight}
-use Rattle.definitions.specs.Worlds.{World, Happening, new_world, is_correct}
-use Rattle.definitions.specs.Runs.{run, after}
-use Rattle.definitions.proofs.Branches.{Extends-trans, extends-cases, length-extends, justify_height-just1}
+use Rattle.definitions.specs.Branches.{Branch, IsBranch, Extends, just1, justify_height}
+use Rattle.definitions.specs.Chronicles.{vheight}
+use Rattle.definitions.specs.Worlds.{World, Happening, new_world}
+use Rattle.definitions.specs.Runs.{after}
+use Rattle.definitions.proofs.Branches.{extends-cases, justify_height-just1}
 use Rattle.definitions.proofs.Chronicles.{tree-taken}
 use Rattle.definitions.proofs.Horizons.{window-tree}
 use Rattle.recovery.specs.Correct.{OfCorrect, chronicle_of}
-use Rattle.recovery.specs.Healing.{Phase, in_turn, round, rounds}
-use Rattle.recovery.specs.Law.{IsNext, MayBurst, MayClimb, IsCertifiedByAll, HaveDecided, RoundsDecide}
+use Rattle.recovery.specs.Healing.{round, rounds}
+use Rattle.recovery.specs.Rounds.{IsNext, MayBurst, MayClimb, IsCertifiedByAll, HaveDecided, RoundsDecide}
 use Rattle.recovery.proofs.Decided.{third-executes}
 use Rattle.recovery.proofs.Rounds.{round-certified}
 use Rattle.recovery.proofs.Ways.{IsOnWay, KnownAt, on-way-from, on-way, way-past, turn-on, turn-passes}
 use Rattle.recovery.proofs.Ways.{turn-after, turns-none}
-use Rattle.recovery.proofs.Wells.{IsReached, sound-of, family-of}
+use Rattle.recovery.proofs.Wells.{sound-of, family-of}
 
 -- a block one higher than what it goes through and justifies stands on it
 next-is : (m x : Branch) → IsBranch x → length x ≡ suc (length m) → Extends x m → just1 x ≡ m → IsNext m x

@@ -1,5 +1,5 @@
 -- A round: a burst, and all votes on it, leave all with certificates of their own.
-use Rattle.std.proofs.Common.{ℕ, suc, ◌≡◌, ◌<◌, ◌≤◌, ◌+◌, ◌==◌, ◌&&◌, not, Bool, true, false, cond, List, [], ◌∷◌}
+use Rattle.std.proofs.Common.{ℕ, suc, ◌≡◌, ◌<◌, ◌≤◌, ◌==◌, ◌&&◌, not, Bool, true, false, cond, List, [], ◌∷◌}
 use Rattle.std.proofs.Common.{◌++◌, map, length, drop, refl, sym, ap, subst, ◌∙◌, arith, inl, inr, nat_lt, Some, Ok}
 use Rattle.std.proofs.Common.{option_map, slice_get}
 use Rattle.std.specs.Prelude.{count_by}
@@ -12,13 +12,13 @@ use Rattle.std.proofs.Math.Seq.{drop-append_seam}
 use Rattle.ids.specs.Sizes.{Sizes, replicas, quorum, leader}
 use Rattle.definitions.specs.Bytes.{Bytes}
 use Rattle.definitions.specs.Lists.{Among, AreDistinct, count_below, greatest}
-use Rattle.definitions.specs.Branches.{Branch, Extends, branch_eq, just2, highest}
+use Rattle.definitions.specs.Branches.{Branch, branch_eq}
 use Rattle.definitions.specs.Agreement.{MayBeCertified, supports}
 use Rattle.definitions.specs.Checks.{Identity, command_verifies}
 use Rattle.definitions.specs.Trees.{Stored, clear_above}
 use Rattle.definitions.specs.Chronicles.{Chronicle, Step.took_block, Step.noted, Note.got_vote, Note.led_from}
 use Rattle.definitions.specs.Chronicles.{voted_blocks}
-use Rattle.definitions.specs.Chronicles.{Admitted, vheight, window, lock, taken_blocks, standing_blocks}
+use Rattle.definitions.specs.Chronicles.{vheight, window, standing_blocks}
 use Rattle.definitions.specs.Digests.{digest, digest_of, AllKnown}
 use Rattle.definitions.specs.Frames.{Core, Vote, Frame, genesis_core}
 use Rattle.definitions.specs.Grounds.{is_own_certified, own_counted}
@@ -40,7 +40,8 @@ use Rattle.linear_law.proofs.MadeCertificates.{qc_high-is, votes-each, votes-cou
 use Rattle.linear_law.proofs.Runs.{IsGiven, Stands}
 use Rattle.recovery.specs.Correct.{OfCorrect, ShareKeys, chronicle_of, correct_replicas, amply}
 use Rattle.recovery.specs.Healing.{in_turn, sent_since, numbers_of, is_vote, comes_to, burst, round, highest_voted}
-use Rattle.recovery.specs.Law.{Climbs, MayBurst, IsVotedForByAll, IsCertifiedByAll, RoundsCertify, high_of}
+use Rattle.recovery.specs.Locks.{high_of}
+use Rattle.recovery.specs.Rounds.{Climbs, MayBurst, IsVotedForByAll, IsCertifiedByAll, RoundsCertify}
 use Rattle.recovery.proofs.Bursts.{burst-voted, distinct-correct}
 use Rattle.recovery.proofs.Copies.{replicas-to}
 use Rattle.recovery.proofs.Correct.{among-correct, correct-listed}
@@ -54,8 +55,8 @@ use Rattle.recovery.proofs.Steps.{frame-behind}
 use Rattle.recovery.proofs.Tallied.{MayCount, HasCounted, votes-to-all, counted-all}
 use Rattle.recovery.proofs.Voting.{AreVotes, HasVote}
 use Rattle.recovery.proofs.Ways.{IsOnWay, KnownAt, on-way-from, on-way, way-past}
-use Rattle.recovery.proofs.Wells.{IsReached, sound-of, known-of, stored-of, family-of, one-branch, run-after}
-use Rattle.recovery.proofs.Worlds.{IsMadeAs, made-after, keys-in, same-correct, same-self, passes-append}
+use Rattle.recovery.proofs.Wells.{IsReached, sound-of, known-of, stored-of, family-of, one-branch}
+use Rattle.recovery.proofs.Worlds.{keys-in, same-correct, same-self, passes-append}
 use Rattle.recovery.proofs.Worlds.{after-append}
 
 -- ---- numbers of frames

@@ -1,6 +1,6 @@
 -- A request that a client sent is one that it makes with its keys.
-use Rattle.std.proofs.Common.{ℕ, suc, ◌≡◌, ◌==◌, ◌&&◌, not, List, [], ◌∷◌, ◌++◌, map, refl, sym, ap, subst, ◌∙◌, inl, inr}
-use Rattle.std.proofs.Common.{None, Bool, ◌<◌, arith}
+use Rattle.std.proofs.Common.{ℕ, suc, ◌≡◌, ◌==◌, ◌&&◌, not, List, [], ◌∷◌, refl, sym, ap, subst, ◌∙◌, inl, inr}
+use Rattle.std.proofs.Common.{None, ◌<◌, arith}
 use Rattle.std.proofs.lemmas.Bool.{cond_both}
 use Rattle.ids.specs.Sizes.{client_party}
 use Rattle.definitions.specs.Bytes.{Bytes}
@@ -11,8 +11,8 @@ use Rattle.definitions.specs.Frames as frame
 use Rattle.definitions.specs.Replicas.{MemorySupply, Replica, Reaction}
 use Rattle.definitions.specs.Rulings.{Ruling, ruling}
 use Rattle.definitions.specs.Sendings.{Sending, To.to_party, fetch_frame}
-use Rattle.definitions.specs.Sessions.{Client, Session, Submitted, is_ample, submission}
-use Rattle.definitions.specs.Worlds.{World, Sent, Event, Event.submit, Happening, self_of, client_of}
+use Rattle.definitions.specs.Sessions.{Client, Session, Submitted, is_ample}
+use Rattle.definitions.specs.Worlds.{World, Sent, Event, Happening, self_of, client_of}
 use Rattle.definitions.specs.Runs.{refusal}
 use Rattle.definitions.specs.Events.{Effect, party_of, effect, happens, nothing, stepped, told, submitted, submitted_out}
 use Rattle.definitions.specs.Events.{out_of}

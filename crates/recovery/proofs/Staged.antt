@@ -1,15 +1,15 @@
 -- What all have when their leader is told to lead from its lock, where genesis doesn't justify that.
-use Rattle.ids.specs.declared.limits.TheConstants.{MOST_BLOCKS, MOST_OF_HEIGHT, HEIGHT_LIMIT}
+use Rattle.ids.specs.declared.limits.TheConstants.{HEIGHT_LIMIT}
 use Rattle.std.specs.Prelude.{count_by}
 use Rattle.std.proofs.Common.{ℕ, suc, ◌≡◌, ◌<◌, ◌≤◌, ◌+◌, ◌-◌, ◌⊎◌, ◌==◌, true, List, [], length, sym, ap, subst, ◌∙◌}
 use Rattle.std.proofs.Common.{arith, inl, inr, refl, map, ◌∷◌}
 use Rattle.std.proofs.lemmas.Bool.{cases_eq, cases_lt}
-use Rattle.ids.specs.Sizes.{Sizes, replicas, leader}
+use Rattle.ids.specs.Sizes.{Sizes, leader}
 use Rattle.definitions.specs.Lists.{Among}
 use Rattle.definitions.specs.Branches.{Block, Branch, just1, just2, justify_height, Extends}
 use Rattle.definitions.specs.Agreement.{IsLawfulFamily, MayBeCertified}
 use Rattle.definitions.specs.Checks.{Identity}
-use Rattle.definitions.specs.Chronicles.{Admitted, Chronicle, taken_blocks, window, horizon, lock, vheight}
+use Rattle.definitions.specs.Chronicles.{Admitted, Chronicle, taken_blocks, window, horizon, vheight}
 use Rattle.definitions.specs.Chronicles.{executed, tree, stored_blocks, stored_block}
 use Rattle.definitions.specs.Frames.{Core}
 use Rattle.definitions.specs.States.{view}
@@ -22,22 +22,22 @@ use Rattle.definitions.specs.Trees.{blocks}
 use Rattle.recovery.proofs.Families.{justified-certified}
 use Rattle.definitions.proofs.Horizons.{window-all, window-tree, tree-window, horizon-low, executed-locked, executed-window}
 use Rattle.linear_law.specs.Law.{correct_family}
-use Rattle.recovery.specs.Correct.{OfCorrect, AllGoOn, ShareKeys, chronicle_of, lock_of, view_of, correct_replicas}
-use Rattle.recovery.specs.Correct.{correct_with}
+use Rattle.recovery.specs.Correct.{OfCorrect, AllGoOn, ShareKeys, chronicle_of, lock_of, correct_replicas}
 use Rattle.recovery.specs.Healing.{highest_voted}
-use Rattle.recovery.specs.NeverWedged.{healer, ground_of, blocks_made, HasRoom, NobodyPruned, PrunedWell}
-use Rattle.recovery.specs.Law.{OnlyViewMoved, OnlyAsked, CameTo, IsInReach, CanGet, MayBring, Climbs}
+use Rattle.recovery.specs.NeverWedged.{healer, ground_of, HasRoom, NobodyPruned, PrunedWell}
+use Rattle.recovery.specs.Views.{OnlyViewMoved, CameTo}
+use Rattle.recovery.specs.Fetching.{OnlyAsked, IsInReach, CanGet, MayBring}
+use Rattle.recovery.specs.Rounds.{Climbs}
 use Rattle.recovery.proofs.Brought.{BroughtAll, with-more}
 use Rattle.recovery.proofs.Climbing.{stands-justifies}
 use Rattle.recovery.proofs.Correct.{correct-listed}
 use Rattle.recovery.proofs.Fetched.{window-told, lock-told}
-use Rattle.recovery.proofs.Gained.{Gains, of_height}
 use Rattle.recovery.proofs.Grounds.{ground-own, ground-among, ground-cases}
 use Rattle.recovery.proofs.Highs.{highest-voted-above}
 use Rattle.recovery.proofs.Locks.{healer-highest, locks-one}
 use Rattle.recovery.proofs.Rounds.{vheight-told, clear-own}
 use Rattle.recovery.proofs.Wells.{IsReached, sound-of, family-of}
-use Rattle.recovery.proofs.Worlds.{IsMadeAs, keys-in, same-correct, same-self, made-both}
+use Rattle.recovery.proofs.Worlds.{IsMadeAs, keys-in, same-correct, made-both}
 
 -- how many blocks are made above m, where none was voted for above this height
 abbrev pub room_above : ℕ → Branch → ℕ

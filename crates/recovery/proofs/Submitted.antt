@@ -1,13 +1,13 @@
 -- A request that isn't due was executed.
-use Rattle.std.proofs.Common.{ℕ, ◌≡◌, ◌<◌, ◌≤◌, ◌==◌, ◌&&◌, Bool, true, false, cond, List, [], ◌∷◌, map, filter, max}
-use Rattle.std.proofs.Common.{length, sym, ap, subst, ◌∙◌, arith, inl, inr, nat_lt, refl}
+use Rattle.std.proofs.Common.{ℕ, ◌≡◌, ◌<◌, ◌≤◌, ◌==◌, ◌&&◌, true, false, List, [], ◌∷◌, map, filter}
+use Rattle.std.proofs.Common.{length, sym, ap, subst, ◌∙◌, arith, inl, inr, refl}
 use Rattle.std.proofs.lemmas.Bool.{and_from, eq-eqb, eqb-true, ltb-false, cases_lt}
 use Rattle.ids.specs.Sizes.{client_party}
 use Rattle.definitions.specs.Lists.{Among, greatest}
 use Rattle.definitions.specs.Branches.{Branch, Extends}
-use Rattle.definitions.specs.Chronicles.{executed, history, lock}
+use Rattle.definitions.specs.Chronicles.{executed, history}
 use Rattle.definitions.specs.Frames.{Command, Core}
-use Rattle.definitions.specs.Histories.{Entry, History, history_of, last_seq}
+use Rattle.definitions.specs.Histories.{Entry, History, last_seq}
 use Rattle.definitions.specs.States.{is_due}
 use Rattle.definitions.specs.Worlds.{World, is_correct}
 use Rattle.definitions.proofs.Chronicles.{executed-decided}
@@ -17,7 +17,7 @@ use Rattle.agreement.proofs.Agreement.{certified-extends-decided}
 use Rattle.linear_law.specs.Law.{correct_family}
 use Rattle.linear_law.proofs.Linear.{history-submitted}
 use Rattle.recovery.specs.Correct.{chronicle_of, lock_of}
-use Rattle.recovery.specs.Law.{Carries}
+use Rattle.recovery.specs.Rounds.{Carries}
 use Rattle.recovery.proofs.Carried.{carries-over}
 use Rattle.recovery.proofs.Families.{locked-certified}
 use Rattle.recovery.proofs.Locks.{nil}

@@ -1,8 +1,7 @@
 -- A client that waits was told no place and text by more than f replicas.
 use Rattle.ids.specs.declared.kind.Kind.TheVariants as kind
-use Rattle.ids.specs.declared.fault.Fault.TheVariants as fault
-use Rattle.std.proofs.Common.{ℕ, ◌≡◌, ◌≤◌, ◌==◌, ◌&&◌, not, Bool, true, false, cond, List, [], ◌∷◌, filter, length, refl}
-use Rattle.std.proofs.Common.{sym, ap, subst, ◌∙◌, arith, nat_lt, None, true≢false}
+use Rattle.std.proofs.Common.{ℕ, ◌≡◌, ◌≤◌, ◌==◌, ◌&&◌, not, Bool, true, false, cond, List, ◌∷◌, filter, length, refl}
+use Rattle.std.proofs.Common.{sym, arith, nat_lt, None, true≢false}
 use Rattle.std.specs.List.{list_any}
 use Rattle.std.specs.Str.{bytes_eq}
 use Rattle.std.specs.Cmp.Lexicographic.{bytes_decides}
@@ -13,7 +12,7 @@ use Rattle.definitions.specs.Frames as frame
 use Rattle.definitions.specs.Keyrings.{verify}
 use Rattle.definitions.specs.Frames.{reply_content}
 use Rattle.definitions.specs.Replicas.{MemorySupply}
-use Rattle.definitions.specs.Sessions.{Client, Session, Submitted, Heard, on_reply, count_reply, submission, is_ample}
+use Rattle.definitions.specs.Sessions.{Client, Session, Submitted, Heard, on_reply, count_reply, is_ample}
 use Rattle.definitions.specs.Tally.{Told, agrees, agreeing}
 use Rattle.definitions.specs.Worlds.{World, Event, Happening, client_of}
 use Rattle.definitions.specs.Keyrings.{client_at}

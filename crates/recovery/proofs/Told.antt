@@ -1,8 +1,8 @@
 -- A client's last request has one answer.
-use Rattle.std.proofs.Common.{ℕ, suc, ◌≡◌, ◌<◌, ◌≤◌, ◌==◌, ◌||◌, ◌&&◌, not, Bool, true, false, cond, List, [], ◌∷◌}
-use Rattle.std.proofs.Common.{map, filter, find, max, refl, sym, ap, subst, ◌∙◌, arith, inl, inr, Some, true≢false, nat_lt}
+use Rattle.std.proofs.Common.{ℕ, ◌≡◌, ◌<◌, ◌≤◌, ◌==◌, ◌||◌, not, Bool, true, false, cond, List, [], ◌∷◌}
+use Rattle.std.proofs.Common.{map, filter, find, refl, sym, ap, subst, ◌∙◌, arith, inl, inr, Some, true≢false, nat_lt}
 use Rattle.std.specs.List.{list_all}
-use Rattle.std.proofs.lemmas.Bool.{cond-true, cond-false, cond_both, and_cases, or_cases, or_parts, not-true, not-false}
+use Rattle.std.proofs.lemmas.Bool.{cond-true, cond-false, and_cases, or_cases, or_parts, not-true, not-false}
 use Rattle.std.proofs.lemmas.Bool.{eqb-true, eq-eqb, ltb-true, ltb-false}
 use Rattle.definitions.specs.Lists.{Among, greatest}
 use Rattle.definitions.specs.Histories.{Entry, History, Answer, is_fresh, last_seq, answers, answer_in, last_answer}

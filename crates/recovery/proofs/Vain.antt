@@ -2,40 +2,39 @@
 use Rattle.ids.specs.declared.fault.Fault.{Fault}
 use Rattle.ids.specs.declared.fault.Fault.TheVariants as fault
 use Rattle.ids.specs.declared.limits.TheConstants.{MOST_BLOCKS}
-use Rattle.std.proofs.Common.{ℕ, suc, ◌≡◌, ◌<◌, ◌≤◌, ◌+◌, Bool, true, false, cond, List, [], ◌∷◌, ◌++◌, map, length, refl}
+use Rattle.std.proofs.Common.{ℕ, ◌≡◌, ◌<◌, true, List, [], ◌∷◌, ◌++◌, map, refl}
 use Rattle.std.proofs.Common.{sym, ap, subst, ◌∙◌, arith, Option, Some, None, nat_lt, Ok}
 use Rattle.std.proofs.lemmas.Bool.{cond-true, lt-ltb}
-use Rattle.std.proofs.lemmas.List.{append-nil}
 use Rattle.std.specs.List.{AllByRecursion}
 use Rattle.ids.specs.Sizes.{Sizes, replicas}
 use Rattle.definitions.specs.Lists.{Among, AreDistinct}
-use Rattle.definitions.specs.Admission.{Checked, Checked.rejected, Checked.passes, check_gathered}
+use Rattle.definitions.specs.Admission.{Checked, Checked.rejected, check_gathered}
 use Rattle.definitions.specs.Branches.{Block, Branch}
 use Rattle.definitions.specs.Checks.{Identity, Findings, cut}
 use Rattle.definitions.specs.Chronicles.{Admitted, Chronicle, window, horizon}
 use Rattle.definitions.specs.Digests.{digest, digest_of, core_of, core_over, AllKnown}
-use Rattle.definitions.specs.Frames.{Core, Certificate, Frame}
+use Rattle.definitions.specs.Frames.{Core, Certificate}
 use Rattle.definitions.specs.Replicas.{MemorySupply.ample, Replica, Standing.running}
-use Rattle.definitions.specs.Rulings.{Input, Ruling.refusing, on_relay, ruling}
+use Rattle.definitions.specs.Rulings.{Ruling.refusing, on_relay, ruling}
 use Rattle.definitions.specs.Trees.{Placing, Placing.unfit, placing, placing_known, placing_over, find_in}
-use Rattle.definitions.specs.Worlds.{World, Sent, Event, Event.gather, Happening, Source, is_correct, self_of}
+use Rattle.definitions.specs.Worlds.{World, Event.gather, Happening, Source, is_correct, self_of}
 use Rattle.definitions.specs.Runs.{run, after}
 use Rattle.definitions.specs.Events.{Effect, happens, effect, acts, nothing, party_of, on_checked, frames_of}
 use Rattle.definitions.proofs.Horizons.{window-tree}
 use Rattle.definitions.proofs.Trees.{found-in}
 use Rattle.linear_law.proofs.Runs.{member-faulty}
-use Rattle.recovery.specs.Correct.{OfCorrect, AllGoOn, ShareKeys, chronicle_of, correct_replicas}
+use Rattle.recovery.specs.Correct.{OfCorrect, AllGoOn, ShareKeys, chronicle_of}
 use Rattle.recovery.specs.Healing.{fetch_block}
-use Rattle.recovery.specs.Law.{OnlyAsked, IsHolder}
+use Rattle.recovery.specs.Fetching.{OnlyAsked, IsHolder}
 use Rattle.recovery.proofs.Asked.{gather-hands}
 use Rattle.recovery.proofs.Copies.{copies-of, copies-checked, gathered-input}
-use Rattle.recovery.proofs.Fetched.{HasAsked, has-asked, fetch-ran, asked_world, answers_of, answerers, who-answers}
+use Rattle.recovery.proofs.Fetched.{has-asked, fetch-ran, asked_world, answers_of, answerers, who-answers}
 use Rattle.recovery.proofs.Fetched.{window-told}
 use Rattle.recovery.proofs.Places.{digest-own}
 use Rattle.recovery.proofs.Steps.{refused}
 use Rattle.recovery.proofs.Ways.{IsOnWay, KnownAt, on-way}
 use Rattle.recovery.proofs.Wells.{IsReached, known-of, one-branch}
-use Rattle.recovery.proofs.Worlds.{IsMadeAs, made-after, keys-in, same-correct, effect-correct}
+use Rattle.recovery.proofs.Worlds.{made-after, keys-in, same-correct, effect-correct}
 
 -- ---- where it is
 

@@ -1,16 +1,16 @@
 -- Nobody is wedged.
-use Rattle.std.proofs.Common.{ℕ, ◌≡◌, List, [], ◌∷◌, ◌++◌, refl, sym, ap, subst, ◌∙◌, Option, Some, None, Ok, slice_get}
+use Rattle.std.proofs.Common.{ℕ, ◌≡◌, List, [], ◌∷◌, ◌++◌, refl, sym, ap, subst, ◌∙◌, Some, None, Ok, slice_get}
 use Rattle.std.proofs.Common.{zero, suc, ◌<◌, Bool}
 use Rattle.definitions.specs.Chronicles.{executed}
 use Rattle.definitions.specs.Frames.{Command}
 use Rattle.recovery.specs.Correct.{chronicle_of}
-use Rattle.recovery.specs.Law.{Carries}
+use Rattle.recovery.specs.Rounds.{Carries}
 use Rattle.std.proofs.lemmas.List.{append-nil}
 use Rattle.ids.specs.Sizes.{Sizes, AreSizes, client_party}
 use Rattle.definitions.specs.Sessions.{Session}
 use Rattle.definitions.specs.Worlds.{World, Sent, Happening, new_world}
-use Rattle.definitions.specs.Runs.{run, after}
-use Rattle.recovery.specs.Healing.{Phase, in_turn, agree_on, ask_again, heal}
+use Rattle.definitions.specs.Runs.{after}
+use Rattle.recovery.specs.Healing.{agree_on, ask_again, heal}
 use Rattle.recovery.specs.NeverWedged.{IsAsked, IsAnswered, NeverWedged}
 use Rattle.recovery.proofs.Executed.{request-executed}
 use Rattle.recovery.proofs.Hearing.{asked-again}

@@ -122,21 +122,6 @@ highest_locked w (r ∷ s ∷ rs) =
     let best = highest_locked w (s ∷ rs) in
     if nat_lt (length (lock_of w r)) (length (lock_of w best)) then best else r
 
--- a replica is told to lead from the block of this digest, and frame k, a request, comes to it
-abbrev pub lead_with : ℕ → ℕ → Bytes → Phase
-lead_with k l d w = amply (lead l d ∷ relay k l ∷ [])
-
--- a leader makes a block, and it is offered to itself
-unfoldable pub make_block : ℕ → Phase
-make_block l w =
-    in_turn ((λ v. amply (beat l ∷ []))
-    ∷ (λ v. amply (offered_to (l ∷ []) (sent_since (length w.sent) is_proposal v))) ∷ []) w
-
--- so many blocks
-unfoldable pub make_blocks : ℕ → ℕ → Phase
-make_blocks zero l w = []
-make_blocks (suc n) l w = in_turn (make_block l ∷ make_blocks n l ∷ []) w
-
 -- what a block justifies, where there is one
 abbrev pub justified_by : Option Admitted → Branch
 justified_by None = []
@@ -152,7 +137,7 @@ over_lock l w =
 abbrev pub newcomers : World → List ℕ → List ℕ
 newcomers w rs = filter (λ r. length (taken_blocks (chronicle_of w r)) == 0) rs
 
--- Genesis has grounds with who took any block. So where genesis justifies a leader's lock, it makes a block there, which
+-- Genesis has grounds with who took any block. So where genesis justifies a leader's lock, it makes a block there. That
 -- comes to all that never took one, as genesis's certificate is good for all.
 unfoldable pub make_first : ℕ → Phase
 make_first l w =
@@ -160,6 +145,12 @@ make_first l w =
     then in_turn ((λ v. amply (lead l (digest_of []) ∷ beat l ∷ []))
     ∷ (λ v. amply (comes_to (newcomers v (correct_replicas v)) (sent_since (length w.sent) is_proposal v))) ∷ []) w
     else []
+
+-- a replica is told to lead from the block of this digest, and frame k, a request, comes to it
+abbrev pub lead_with : ℕ → ℕ → Bytes → Phase
+lead_with k l d w = amply (lead l d ∷ relay k l ∷ [])
+
+-- ---- blocks that are asked for
 
 -- a block and all below it, the lowest first
 unfoldable pub lowest_first : Branch → List Branch
@@ -187,13 +178,26 @@ fetch_block d u w =
 abbrev pub lacking : Bytes → World → List ℕ
 lacking d w = filter (λ r. not (is_known d (chronicle_of w r))) (correct_replicas w)
 
+-- they get it, one after the other
+unfoldable pub fetch_for_all : Branch → Phase
+fetch_for_all x w = in_turn (map (fetch_block (digest_of x)) (lacking (digest_of x) w)) w
+
 -- all correct replicas get these blocks, one after the other
 unfoldable pub fetch_all : List Branch → Phase
-fetch_all [] w = []
-fetch_all (x ∷ xs) w = in_turn (map (fetch_block (digest_of x)) (lacking (digest_of x) w)) w
-    ++ fetch_all xs (after w (in_turn (map (fetch_block (digest_of x)) (lacking (digest_of x) w)) w))
+fetch_all xs = in_turn (map fetch_for_all xs)
 
 -- ---- blocks that decide
+
+-- a leader makes a block, and it is offered to itself
+unfoldable pub make_block : ℕ → Phase
+make_block l w =
+    in_turn ((λ v. amply (beat l ∷ []))
+    ∷ (λ v. amply (offered_to (l ∷ []) (sent_since (length w.sent) is_proposal v))) ∷ []) w
+
+-- so many blocks
+unfoldable pub make_blocks : ℕ → ℕ → Phase
+make_blocks zero l w = []
+make_blocks (suc n) l w = in_turn (make_block l ∷ make_blocks n l ∷ []) w
 
 -- the greatest height that one of these replicas voted for
 unfoldable pub highest_voted : World → List ℕ → ℕ
@@ -236,8 +240,8 @@ ask_again k w =
 -- ---- all of it
 
 -- Frame k is a client's request. A replica of the highest lock brings all into a view that it leads. All get what
--- justifies its lock. It leads from its lock, with that request alone, above all that was voted for; and three more blocks
--- decide.
+-- justifies its lock. It leads from its lock, with that request alone, above all that was voted for; and three more
+-- blocks decide.
 unfoldable pub agree_on : ℕ → Phase
 agree_on k w =
     let l = highest_locked w (correct_replicas w) in

@@ -2,12 +2,13 @@
 //! with an empty body. `never_wedged` is the statement; the others are its steps.
 #![tactic(auto)]
 
-ghost use Rattle.recovery.specs.Law.{HighestLocksAreSafe, LocksMayBeLedFrom};
-ghost use Rattle.recovery.specs.Law.{JustifiedBlocksAreHeld, GroundsAreHeld};
-ghost use Rattle.recovery.specs.Law.{TimeoutsBringTogether, ACorrectLeaderComes, CopiesAreTaken, ProposalsAreTaken};
-ghost use Rattle.recovery.specs.Law.{HighestAreCertified, MissingBlocksAreFetched, BranchesAreBrought, ThreeMoreDecide};
-ghost use Rattle.recovery.specs.Law.{BurstsAreVotedFor, RoundsCertify, RoundsDecide, LeadsBegin};
-ghost use Rattle.recovery.specs.Law.{RequestsAreExecuted, RepliesConvince};
+ghost use Rattle.recovery.specs.Locks.{HighestLocksAreSafe, LocksMayBeLedFrom, JustifiedBlocksAreHeld};
+ghost use Rattle.recovery.specs.Locks.{GroundsAreHeld, HighestAreCertified, LeadsBegin};
+ghost use Rattle.recovery.specs.Views.{TimeoutsBringTogether, ACorrectLeaderComes};
+ghost use Rattle.recovery.specs.Fetching.{CopiesAreTaken, MissingBlocksAreFetched, BranchesAreBrought};
+ghost use Rattle.recovery.specs.Rounds.{ProposalsAreTaken, ThreeMoreDecide, BurstsAreVotedFor, RoundsCertify};
+ghost use Rattle.recovery.specs.Rounds.{RoundsDecide};
+ghost use Rattle.recovery.specs.Requests.{RequestsAreExecuted, RepliesConvince};
 ghost use Rattle.recovery.specs.NeverWedged.{NeverWedged};
 
 /// A correct replica of the highest lock: no correct lock is above it or beside it, so a block that justifies
