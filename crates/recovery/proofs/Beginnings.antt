@@ -68,7 +68,8 @@ module _ (sizes : Sizes) (start : World) (all : List Happening) where
       named w ev (and_parts (is_replica w l) (not (w.is_faulty l)) c).0 refl refl in
       let on1 = way-on sizes start all w (ev, ample) rest on ok in (
         ok,
-        step-stood w ev l (lead_in (digest_of m)) (noted (led_from m)) (lead-hands w l (digest_of m) c s) due on1.well.good.answers,
+        step-stood w ev l (lead_in (digest_of m)) (noted (led_from m)) (lead-hands w l
+            (digest_of m) c s) due on1.well.good.answers,
       )
 
 pub leads-begin : LeadsBegin

@@ -199,7 +199,8 @@ module _ (sizes : Sizes) (start : World) (all : List Happening) (b : Block) (par
       stays r o m = subst (λ (l : List Branch). Among x l)
           (sym (window-told (chronicle_of w r) (chronicle_of mid r) o.0.taken o.0.forgotten)) m
 
-      kept : (r : ℕ) → is_correct w r ≡ true → Among x (window (chronicle_of w r)) → Among x (window (chronicle_of mid r))
+      kept : (r : ℕ) → is_correct w r ≡ true → Among x (window (chronicle_of w r))
+          → Among x (window (chronicle_of mid r))
       kept r c m = elim (cases_eq r u) [
         | inl e ↦ subst (λ (i : ℕ). Among x (window (chronicle_of w i)) → Among x (window (chronicle_of mid i))) (sym e)
             (λ k. elim one.own [ inl h ↦ h.0.kept x k | inr h ↦ stays u h.0 k ]) m
@@ -324,7 +325,8 @@ may-parent b parent w below may = record {
 module _ (sizes : Sizes) (start : World) (all : List Happening) where
   -- the replicas that lack the last block may fetch it
   may-last : (b : Block) (parent : Branch) (w mid : World) → MayBring w (b ∷ parent) → IsMadeAs w mid
-      → BroughtAll w mid parent → IsReached (KnownAt sizes start all) mid → AllKnown (KnownAt sizes start all) (b ∷ parent)
+      → BroughtAll w mid parent → IsReached (KnownAt sizes start all) mid
+      → AllKnown (KnownAt sizes start all) (b ∷ parent)
       → MayAll sizes start all b parent mid (lacking (digest_of (b ∷ parent)) mid)
   may-last b parent w mid may made h g known = record {
     keys = keys-in w mid made may.keys;
@@ -369,7 +371,8 @@ module _ (sizes : Sizes) (start : World) (all : List Happening) where
     where
       correct : (u : ℕ) → Among u (lacking (digest_of (b ∷ parent)) mid) → is_correct mid u ≡ true
       correct u m = among-correct mid (replicas mid.sizes) u
-          (Among-filter (λ r. not (is_known (digest_of (b ∷ parent)) (chronicle_of mid r))) (correct_replicas mid) u m).0
+          (Among-filter (λ r. not (is_known (digest_of (b ∷ parent)) (chronicle_of mid r)))
+          (correct_replicas mid) u m).0
 
       was : (u : ℕ) → Among u (lacking (digest_of (b ∷ parent)) mid) → is_correct w u ≡ true
       was u m = sym (same-correct w mid made u) ∙ correct u m
@@ -377,11 +380,13 @@ module _ (sizes : Sizes) (start : World) (all : List Happening) where
       lacks : (u : ℕ) → Among u (lacking (digest_of (b ∷ parent)) mid)
           → Among (b ∷ parent) (window (chronicle_of mid u)) → ⊥
       lacks u m = lacks-it (KnownAt sizes start all) mid g (b ∷ parent) known u (correct u m)
-          (Among-filter (λ r. not (is_known (digest_of (b ∷ parent)) (chronicle_of mid r))) (correct_replicas mid) u m).1
+          (Among-filter (λ r. not (is_known (digest_of (b ∷ parent)) (chronicle_of mid r)))
+          (correct_replicas mid) u m).1
 
   -- the last block comes after the others
   brought-last : (b : Block) (parent : Branch) (w mid last : World) → MayBring w (b ∷ parent) → IsMadeAs w mid
-      → BroughtAll w mid parent → IsReached (KnownAt sizes start all) mid → AllKnown (KnownAt sizes start all) (b ∷ parent)
+      → BroughtAll w mid parent → IsReached (KnownAt sizes start all) mid
+      → AllKnown (KnownAt sizes start all) (b ∷ parent)
       → FetchedEach sizes start all b parent mid last (lacking (digest_of (b ∷ parent)) mid)
       → BroughtAll w last (b ∷ parent)
   brought-last b parent w mid last may made h g known f = record {
@@ -397,7 +402,8 @@ module _ (sizes : Sizes) (start : World) (all : List Happening) where
           | inr i ↦ (gain r c).kept y (h.stands r c y i (omega (arith, k, now)))
         ];
     gained = λ r c. gains-both (self_of w r) 0 parent (b ∷ parent) (chronicle_of w r) (chronicle_of mid r)
-        (chronicle_of last r) (omega arith) (b ∷ [], refl) (λ z e. longer-extends b parent z e) (h.gained r c) (gain r c);
+        (chronicle_of last r) (omega arith) (b ∷ [], refl) (λ z e. longer-extends b parent z e) (h.gained r c)
+        (gain r c);
     had = λ r c k.
         let one = h.had r c (λ y e i. k y (longer-extends b parent y e) i) in
         let before = one.0.forgotten in
@@ -499,7 +505,8 @@ module _ (sizes : Sizes) (start : World) (all : List Happening) where
       let gw = on-way sizes start all w _ on0 in
       let Known : Core → Type 0 = KnownAt sizes start all in
       let one = branch-brought parent w (back ++ rest) on0
-      (may-parent b parent w (λ r c m. tree-parent w.sizes (chronicle_of w r) (sound-of Known w gw r c).lawful b parent m)
+      (may-parent b parent w (λ r c m. tree-parent w.sizes (chronicle_of w r)
+      (sound-of Known w gw r c).lawful b parent m)
       may) in
       let made = made-after w front in
       let onm = way-past sizes start all front (back ++ rest) w on0 one.0 in

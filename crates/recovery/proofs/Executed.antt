@@ -13,7 +13,8 @@ use Rattle.definitions.specs.Sessions.{Session}
 use Rattle.definitions.specs.Worlds.{World, Happening, new_world}
 use Rattle.definitions.specs.Runs.{after}
 use Rattle.recovery.specs.Correct.{ShareKeys, chronicle_of, lock_of, correct_replicas}
-use Rattle.recovery.specs.Healing.{Phase, in_turn, come_to, view_to_come, make_first, fetch_all, lowest_first, over_lock}
+use Rattle.recovery.specs.Healing.{Phase, in_turn, come_to, view_to_come, make_first, fetch_all, lowest_first}
+use Rattle.recovery.specs.Healing.{over_lock}
 use Rattle.recovery.specs.Healing.{justified_by}
 use Rattle.recovery.specs.Healing.{lead_with, to_climb, rounds, agree_on, highest_voted}
 use Rattle.recovery.specs.NeverWedged.{healer, ground_of, MayHeal, IsAsked}
@@ -197,7 +198,8 @@ module _ (sizes : Sizes) (start : World) (all : List Happening) where
       let told3 : Phase = lead_with k l (digest_of (lock_of w3 l)) in
       let same : told w3 ≡ told3 w3 = ap (λ (x : Branch). lead_with k l (digest_of x) w3) (sym lock3) in
       let ready3 = ready sizes start all w3 _ k l v top c
-      (subst (λ (x : List Happening). IsOnWay sizes start all w3 (x ++ (in_turn (climb ∷ []) (after w3 (told w3)) ++ rest)))
+      (subst (λ (x : List Happening). IsOnWay sizes start all w3 (x ++ (in_turn (climb ∷ []) (after w3
+      (told w3)) ++ rest)))
       same on3)
       (subst (λ (x : Branch). IsStaged w3 l v top x) (sym lock3) s.stage) wanted3 in
       let w4 : World = after w3 (told w3) in

@@ -42,7 +42,8 @@ use Rattle.recovery.specs.Correct.{OfCorrect, AllGoOn, ShareKeys, chronicle_of, 
 use Rattle.recovery.specs.Correct.{correct_replicas, correct_with}
 use Rattle.recovery.specs.Healing.{in_turn, numbers_of, sent_since, is_copy, ask_each, fetch_block}
 use Rattle.recovery.specs.Fetching.{OnlyAsked, IsHolder, HasPlace, MayFetch, IsFetched, MissingBlocksAreFetched}
-use Rattle.recovery.proofs.Asked.{Asked, asked-each, holders-of, answer-of, copy-at, with-copy, same-copies, gather-hands}
+use Rattle.recovery.proofs.Asked.{Asked, asked-each, holders-of, answer-of, copy-at, with-copy, same-copies}
+use Rattle.recovery.proofs.Asked.{gather-hands}
 use Rattle.recovery.proofs.Copies.{gathered-taken, copies-of}
 use Rattle.recovery.proofs.Correct.{among-correct}
 use Rattle.recovery.proofs.Proposals.{standing-old}

@@ -37,7 +37,8 @@ use Rattle.recovery.proofs.Offers.{row-own, row-other}
 use Rattle.recovery.proofs.Steps.{outs, TookStep, step-stood, refused}
 use Rattle.recovery.proofs.Ways.{IsOnWay, KnownAt, on-way, way-on}
 use Rattle.recovery.proofs.Wells.{IsReached, sound-of, stored-of}
-use Rattle.recovery.proofs.Worlds.{IsMadeAs, made-both, keys-in, same-correct, same-self, Passes, passes-none, passes-one}
+use Rattle.recovery.proofs.Worlds.{IsMadeAs, made-both, keys-in, same-correct, same-self, Passes, passes-none}
+use Rattle.recovery.proofs.Worlds.{passes-one}
 use Rattle.recovery.proofs.Worlds.{named}
 
 -- ---- what a beat proposes
@@ -312,6 +313,7 @@ module _ (sizes : Sizes) (start : World) (all : List Happening) where
       (ap (λ (z : Sizes). leader z v) made.sizes ∙ leads_it)
       (ap (λ (z : Sizes). view z (chronicle_of mid l)) made.sizes ∙ (one.1.alike.in_view ∙ in_view)) in
       let next : World = happens mid (beat l, ample) in (
-        passes-one w (ev, ample) ((beat l, ample) ∷ []) one.0 (passes-one mid (beat l, ample) [] two.0 (passes-none next)),
+        passes-one w (ev, ample) ((beat l, ample) ∷ []) one.0 (passes-one mid (beat l, ample) [] two.0
+            (passes-none next)),
         two.1,
       )

@@ -8,7 +8,8 @@ use Rattle.ids.specs.Sizes.{Sizes}
 use Rattle.definitions.specs.Lists.{Among}
 use Rattle.definitions.specs.Branches.{Block, Branch}
 use Rattle.definitions.specs.Checks.{Identity, is_good}
-use Rattle.definitions.specs.Chronicles.{Admitted, Chronicle, Step, Step.took_block, Step.noted, Note.beat, Note.led_from}
+use Rattle.definitions.specs.Chronicles.{Admitted, Chronicle, Step, Step.took_block, Step.noted, Note.beat}
+use Rattle.definitions.specs.Chronicles.{Note.led_from}
 use Rattle.definitions.specs.Chronicles.{IsLawful, IsSound, AreKnown, taken_blocks, tree, stored_blocks, stored_block}
 use Rattle.definitions.specs.Digests.{digest, digest_of, AllKnown, NoCollision}
 use Rattle.definitions.specs.Frames.{Certificate, Core, genesis_core}

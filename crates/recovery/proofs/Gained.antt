@@ -1,6 +1,7 @@
 -- What a replica gains by blocks that it fetches.
 use Rattle.std.specs.Prelude.{count_by}
-use Rattle.std.proofs.Common.{ℕ, suc, ◌≡◌, ◌<◌, ◌≤◌, ◌+◌, ◌⊎◌, ◌==◌, Bool, true, false, cond, List, ◌∷◌, length, refl, []}
+use Rattle.std.proofs.Common.{ℕ, suc, ◌≡◌, ◌<◌, ◌≤◌, ◌+◌, ◌⊎◌, ◌==◌, Bool, true, false, cond, List, ◌∷◌, length}
+use Rattle.std.proofs.Common.{refl, []}
 use Rattle.std.proofs.Common.{sym, ap, subst, ◌∙◌, arith, inl, inr}
 use Rattle.std.proofs.lemmas.Bool.{cond-false, cases_lt}
 use Rattle.std.proofs.lemmas.List.Sums.{sum_by-cons}

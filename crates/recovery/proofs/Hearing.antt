@@ -303,7 +303,8 @@ module _ (sizes : Sizes) (start : World) (all : List Happening) (v : World) (cl 
       let party = client-party w cl may.client_is in
       let good : verify (w.ring p) kind.Reply n content
       (tag_for (w.ring r) kind.Reply (client_party a.client) content) ≡ true =
-      ap (λ (i : ℕ). verify (w.ring p) kind.Reply n content (tag_for (w.ring r) kind.Reply (client_party i) content)) mine
+      ap (λ (i : ℕ). verify (w.ring p) kind.Reply n content (tag_for (w.ring r) kind.Reply
+      (client_party i) content)) mine
       ∙ client-verifies w may.keys r p content cr party may.honest in
       let same = may.keys.numbers r (correct-party w r cr) (member-faulty w r cr) in
       let counted : before.waiting ≡ true → before.used ≡ seq → IsCounted n seq a before x = λ waits used.
@@ -311,14 +312,16 @@ module _ (sizes : Sizes) (start : World) (all : List Happening) (v : World) (cl 
       let ok : refusal w (relay k p) ≡ None =
       named w (relay k p) party
       (lt-ltb k (length w.sent)
-      (let z = ap (λ (y : List Sent). length y) e in let q = length-append xs (s ∷ ss) in omega (arith, l, z, q))) refl in
+      (let z = ap (λ (y : List Sent). length y) e in let q = length-append xs (s ∷ ss) in omega
+      (arith, l, z, q))) refl in
       let onn = way-on sizes start all w (relay k p, ample) (later ++ rest) on0 ok in
       let more = all-hear rs ss next rest (suc k) (xs ++ s ∷ []) onn
       (t.sent ∙ (e ∙ sym (append_assoc xs (s ∷ []) ss)))
       (let q = length-append xs (s ∷ []) in omega (arith, q, l)) (record {
         keys = keys-in w next t.made may.keys;
         are = subst AreSizes (sym t.made.sizes) may.are;
-        client_is = (let z = ap (λ (y : Sizes). y.clients) t.made.sizes in let c = may.client_is in omega (arith, z, c));
+        client_is = (let z = ap (λ (y : Sizes). y.clients) t.made.sizes in let c = may.client_is in omega
+            (arith, z, c));
         honest = ap (λ (g : ℕ → Bool). g p) t.made.faulty ∙ may.honest;
         correct = λ j m. same-correct w next t.made j ∙ may.correct j (inr m);
         replies = replies-later w next a rs ss t.made h.3;
@@ -393,7 +396,8 @@ module _ (Known : Core → Type 0) (w : World) (g : IsReached Known w) (cl : ℕ
 -- ---- the phase
 
 module _ (sizes : Sizes) (start : World) (all : List Happening) where
-  pub asked-again : (w : World) (rest : List Happening) (k client : ℕ) → IsOnWay sizes start all w (ask_again k w ++ rest)
+  pub asked-again : (w : World) (rest : List Happening) (k client : ℕ)
+      → IsOnWay sizes start all w (ask_again k w ++ rest)
       → AreSizes w.sizes → ShareKeys w → AllGoOn w → (asked : IsAsked w k client)
       → OfCorrect w (λ r. Carries (executed (chronicle_of w r)) asked.command)
       → Passes w (ask_again k w) × IsAnswered (after w (ask_again k w)) client (w.session client).used
@@ -426,7 +430,8 @@ module _ (sizes : Sizes) (start : World) (all : List Happening) where
       let is : second v ≡ amply (delivered is_reply v before more) =
       ap (λ (l : List Sent). amply (delivered is_reply v before l)) drops in
       let repliesv = replies-later w v a cs more goesv.made one.1.replies in
-      let onh = subst (λ (l : List Happening). IsOnWay sizes start all v (l ++ (in_turn [] (after v (second v)) ++ rest)))
+      let onh = subst (λ (l : List Happening). IsOnWay sizes start all v (l ++ (in_turn [] (after v
+      (second v)) ++ rest)))
       is onv in
       let start_hears : Hears v client c.seq cs = all-to-come v client c.seq cs
       (ap (λ (s : ℕ → Session). (s client).waiting) goesv.session ∙ asked.waits)

@@ -50,7 +50,8 @@ use Rattle.recovery.proofs.Proposals.{plain-taken}
 use Rattle.recovery.proofs.Rounds.{vheight-told, clear-own}
 use Rattle.recovery.proofs.Staged.{IsStaged, room_above}
 use Rattle.recovery.proofs.Steps.{going, outs, TookStep, step-stood, frame-behind}
-use Rattle.recovery.proofs.Ways.{IsOnWay, KnownAt, on-way, way-on, way-past, turn-on, turn-passes, turn-after, turns-none}
+use Rattle.recovery.proofs.Ways.{IsOnWay, KnownAt, on-way, way-on, way-past, turn-on, turn-passes, turn-after}
+use Rattle.recovery.proofs.Ways.{turns-none}
 use Rattle.recovery.proofs.Wells.{IsReached, sound-of, family-of}
 use Rattle.recovery.proofs.Worlds.{IsMadeAs, made-after, made-both, keys-in, same-correct, same-self, Passes}
 use Rattle.recovery.proofs.Worlds.{passes-none, passes-one, named}
@@ -108,7 +109,8 @@ module _ (sizes : Sizes) (start : World) (all : List Happening) (k v : ℕ) (b :
       (lt-ltb k (length w.sent) (slice-there w.sent k f rec)) refl in
       let onn = way-on sizes start all w (relay k r, ample) rest on ok in
       let a = t.2.0 in
-      let st = step-stood w (relay k r) r t.0 (took_block a) (relay-hands w k r f t.0 may.correct may.goes rec t.1) t.2.1
+      let st = step-stood w (relay k r) r t.0 (took_block a) (relay-hands w k r f t.0 may.correct may.goes rec
+      t.1) t.2.1
       onn.well.good.answers in
       (ok, (a, st, t.2.2, elim t.2.4 [ inl n ↦ inl n.0 | inr o ↦ inr o ]))
 
@@ -148,7 +150,8 @@ module _ (sizes : Sizes) (start : World) (all : List Happening) (k v : ℕ) (b :
               branch = one.1.2;
               fresh = one.1.3;
             })
-            | inr i ↦ subst (λ (x : Replica). TookFirst x.chronicle b ((after next later).replica j)) (other j (apart j i))
+            | inr i ↦ subst (λ (x : Replica). TookFirst x.chronicle b ((after next later).replica j)) (other j
+                (apart j i))
                 (more.1.each j i)
           ];
         },
@@ -418,7 +421,8 @@ module _ (sizes : Sizes) (start : World) (all : List Happening) (w : World)
             low = omega (arith, top_low);
           };
         }) in
-        let onb = subst (λ (x : List Happening). IsOnWay sizes start all wa (x ++ (in_turn [] (after wa (brings k wa)) ++ rest)))
+        let onb = subst (λ (x : List Happening). IsOnWay sizes start all wa (x ++ (in_turn [] (after wa
+        (brings k wa)) ++ rest)))
         isb ona in
         let two = all-take sizes start all k v b f us wa _ onb
         (distinct-kept (λ r. length (taken_blocks (chronicle_of wa r)) == 0) (correct_replicas wa)

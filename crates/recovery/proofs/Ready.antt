@@ -36,7 +36,8 @@ use Rattle.recovery.proofs.Rounds.{vheight-told, highest-voted-below}
 use Rattle.recovery.proofs.Staged.{IsStaged, room_above}
 use Rattle.recovery.proofs.Views.{not-less}
 use Rattle.recovery.proofs.Ways.{IsOnWay, way-on}
-use Rattle.recovery.proofs.Worlds.{IsMadeAs, made-both, keys-in, same-correct, same-self, Passes, passes-one, passes-none}
+use Rattle.recovery.proofs.Worlds.{IsMadeAs, made-both, keys-in, same-correct, same-self, Passes, passes-one}
+use Rattle.recovery.proofs.Worlds.{passes-none}
 
 -- ---- the leader's chronicle
 
@@ -172,7 +173,8 @@ module _ (sizes : Sizes) (start : World) (all : List Happening) where
       let other : (j : ℕ) → (j ≡ l → ⊥) → last.replica j ≡ w.replica j =
       λ j n. row-other mid last l (noted (got_request c)) two.1 j n
       ∙ row-other w mid l (noted (led_from m)) one.1 j n in
-      let was : (r : ℕ) → is_correct last r ≡ true → is_correct w r ≡ true = λ r e. sym (same-correct w last made r) ∙ e in
+      let was : (r : ℕ) → is_correct last r ≡ true → is_correct w r ≡ true = λ r e. sym
+      (same-correct w last made r) ∙ e in
       let self2 = same-self w last made l in
       let leaf2 : leaf (self_of last l) (chronicle_of last l) ≡ m =
       (λ i. leaf (self2 i) (own i))
@@ -180,7 +182,8 @@ module _ (sizes : Sizes) (start : World) (all : List Happening) where
       let high2 : high_of last l ≡ m =
       (λ i. (qc_high (made.sizes i) (own i)).block)
       ∙ (ap (λ (j : Justified). j.block) (request-high w.sizes c (noted (led_from m) ∷ ch)) ∙ led-high w.sizes m ch) in
-      let voted : (r : ℕ) → is_correct w r ≡ true → voted_blocks (chronicle_of last r) ≡ voted_blocks (chronicle_of w r) =
+      let voted : (r : ℕ) → is_correct w r ≡ true → voted_blocks (chronicle_of last r) ≡ voted_blocks
+      (chronicle_of w r) =
       λ r e. elim (cases_eq r l) [
         | inl i ↦ subst (λ (j : ℕ). voted_blocks (chronicle_of last j) ≡ voted_blocks (chronicle_of w j)) (sym i)
             (ap voted_blocks own ∙ (request-voted c (noted (led_from m) ∷ ch) ∙ lead-voted m ch))

@@ -14,7 +14,8 @@ use Rattle.definitions.specs.Sendings.{Sending, To.to_party, fetch_frame}
 use Rattle.definitions.specs.Sessions.{Client, Session, Submitted, is_ample}
 use Rattle.definitions.specs.Worlds.{World, Sent, Event, Happening, self_of, client_of}
 use Rattle.definitions.specs.Runs.{refusal}
-use Rattle.definitions.specs.Events.{Effect, party_of, effect, happens, nothing, stepped, told, submitted, submitted_out}
+use Rattle.definitions.specs.Events.{Effect, party_of, effect, happens, nothing, stepped, told, submitted}
+use Rattle.definitions.specs.Events.{submitted_out}
 use Rattle.definitions.specs.Events.{out_of}
 use Rattle.definitions.proofs.Lists.{Among-either, Among-map}
 use Rattle.definitions.proofs.Sound.{Outcome, Outcome.unchanged, Outcome.refused, Outcome.lacks}

@@ -20,7 +20,8 @@ use Rattle.agreement.proofs.Agreement.{certified-extends-decided}
 use Rattle.agreement.proofs.Careful.{none-justifies-below}
 use Rattle.definitions.specs.Trees.{blocks}
 use Rattle.recovery.proofs.Families.{justified-certified}
-use Rattle.definitions.proofs.Horizons.{window-all, window-tree, tree-window, horizon-low, executed-locked, executed-window}
+use Rattle.definitions.proofs.Horizons.{window-all, window-tree, tree-window, horizon-low, executed-locked}
+use Rattle.definitions.proofs.Horizons.{executed-window}
 use Rattle.linear_law.specs.Law.{correct_family}
 use Rattle.recovery.specs.Correct.{OfCorrect, AllGoOn, ShareKeys, chronicle_of, lock_of, correct_replicas}
 use Rattle.recovery.specs.Healing.{highest_voted}
@@ -123,7 +124,8 @@ module _ (Known : Core → Type 0) (w : World) (g : IsReached Known w) (kept : N
                 above = omega (arith, z);
                 reach = omega (arith, z);
                 many = ground-among w fam window
-                    (λ i ci n q. subst (λ (xs : List Branch). Among n xs) (sym (window-all _ (nobody i ci))) q) (x ∷ y) e;
+                    (λ i ci n q. subst (λ (xs : List Branch). Among n xs) (sym (window-all _ (nobody i ci))) q)
+                    (x ∷ y) e;
               })
           | inr pruned ↦ (elim (pruned.held r c (x ∷ y) e k) [
             | inl there ↦ inl there
@@ -142,7 +144,8 @@ module _ (Known : Core → Type 0) (w : World) (g : IsReached Known w) (kept : N
             (r, c, executed-decided ch) (omega (arith, under, lo)) in
             let through = extends-between b (executed ch) (x ∷ y) over e (omega (arith, below)) in
             inl (tree-window ch (x ∷ y)
-            (tree-extends w.sizes ch law (executed ch) (x ∷ y) (window-tree ch (executed ch) (executed-window w.sizes ch law))
+            (tree-extends w.sizes ch law (executed ch) (x ∷ y) (window-tree ch (executed ch)
+            (executed-window w.sizes ch law))
             through) k))
       ]
 
@@ -245,7 +248,8 @@ module _ (Known : Core → Type 0) (w : World) (g : IsReached Known w) (kept : N
                       omega (arith, n, high, i)
                   | inr z ↦
                       let k1 = length-extends a.branch (just1 a.branch) (just1-extends a.branch) in
-                      let k2 = length-extends (just1 a.branch) (just1 (just1 a.branch)) (just1-extends (just1 a.branch)) in
+                      let k2 = length-extends (just1 a.branch) (just1 (just1 a.branch)) (just1-extends
+                      (just1 a.branch)) in
                       let i = ap (λ (x : Branch). length x) (just2-is a.branch) in
                       omega (arith, n, k1, k2, i, z)
                 ])
@@ -265,7 +269,8 @@ module _ (Known : Core → Type 0) (w : World) (g : IsReached Known w) (kept : N
         → IsStaged w3 led_by v (highest_voted w (correct_replicas w)) m
     staged keys leads up =
         let made = made-both w w1 w3 made1 made3 in
-        let was : (r : ℕ) → is_correct w3 r ≡ true → is_correct w r ≡ true = λ r c. sym (same-correct w w3 made r) ∙ c in
+        let was : (r : ℕ) → is_correct w3 r ≡ true → is_correct w r ≡ true = λ r c. sym
+        (same-correct w w3 made r) ∙ c in
         let over = (ground-own w fam).0 in
         let below = subst (Extends b) over (just1-extends b) in
         record {

@@ -83,7 +83,8 @@ unfolding IsCountedFor
 counted-all w x c enough h = elim (cases_lt (length (votes w.sizes x c)) (quorum w.sizes)) [
   | inr k ↦ k
   | inl l ↦ (
-      let n = count-named (λ (z : Vote). z.voter) (replicas w.sizes) (votes w.sizes x c) (is_correct w) (λ i t. elim (h i t) [
+      let n = count-named (λ (z : Vote). z.voter) (replicas w.sizes) (votes w.sizes x c) (is_correct w)
+      (λ i t. elim (h i t) [
         | inl a ↦ a
         | inr b ↦ absurd (omega (arith, l, b))
       ]) in omega (arith, enough, n))

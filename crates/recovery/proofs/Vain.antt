@@ -153,7 +153,11 @@ module _ (sizes : Sizes) (start : World) (all : List Happening) (w : World) (u :
         subst (λ (z : World). IsVain w z u (b ∷ parent)) (sym ends.1) (record {
           ran = ends.0;
           going_on = λ r c. ap (λ (y : Replica). y.standing) (st.row r)
-              ∙ a.going_on r (sym (same-correct v last (made-after v ((gather u (answers_of sizes start all w u b parent), ample) ∷ [])) r)
+              ∙ a.going_on r (sym (same-correct v last (made-after v ((
+                gather u
+                    (answers_of sizes start all w u b parent),
+                ample,
+              ) ∷ [])) r)
               ∙ c);
           only = λ r c. subst (λ (y : Replica). OnlyAsked (self_of w r) (chronicle_of w r) y.chronicle) (sym (st.row r))
               (a.only r c);

@@ -48,7 +48,8 @@ pub record IsReached (Known : Core → Type 0) (w : World) : Type 0 where
   pub sent : (s : Sent) → Among s w.sent → (x : Core) → CoreOf x s.frame → Known x
 
 -- what is kept along a run
-pub record IsKeptWell (Known : Core → Type 0) (apart : NoCollision Known) (genesis : Known genesis_core) (w : World) : Type 0
+pub record IsKeptWell (Known : Core → Type 0) (apart : NoCollision Known) (genesis : Known genesis_core)
+    (w : World) : Type 0
   where
     pub well : IsWell Known w
     pub ruled : AllRuled w

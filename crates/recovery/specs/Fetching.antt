@@ -94,7 +94,8 @@ MissingBlocksAreFetched =
     (u : ℕ) (b : Block) (parent : Branch) → AheadOf (fetch_block (digest_of (b ∷ parent)) u) (λ w.
     MayFetch w u b parent → IsFetched w (after w (fetch_block (digest_of (b ∷ parent)) u w)) u (b ∷ parent))
 
--- A replica gained blocks of this branch alone, one of a height at most; but for what follows from these, it is as it was.
+-- A replica gained blocks of this branch alone, one of a height at most; but for what follows from these, it is as it
+-- was.
 pub record OnlyGained (self : Identity) (x : Branch) (before now : Chronicle) : Type 0 where
   pub in_view : view self.sizes now ≡ view self.sizes before
   pub voted : voted_blocks now ≡ voted_blocks before
@@ -116,8 +117,8 @@ pub record CanGet (w : World) (c : Chronicle) (b : Block) (parent : Branch) : Ty
   pub reach : horizon c ≤ b.justify
   pub many : w.sizes.faults < correct_with w window (b ∷ parent)
 
--- What is known where a branch is brought to all: a correct replica took it, each has a block of it that is in its reach,
--- or can get it, and there is room for it with each.
+-- What is known where a branch is brought to all: a correct replica took it, each has a block of it that is in its
+-- reach, or can get it, and there is room for it with each.
 pub record MayBring (w : World) (x : Branch) : Type 0 where
   pub keys : ShareKeys w
   pub goes : AllGoOn w
@@ -135,8 +136,8 @@ pub record MayBring (w : World) (x : Branch) : Type 0 where
 abbrev pub HasReached : Chronicle → Branch → Type 0
 HasReached c x = (y : Branch) → Extends x y → IsInReach c y → Among y (window c)
 
--- No event was refused by the run, and all correct replicas go on. Each has the branch, as far as it is in its reach, and
--- gained nothing else; who had it was only asked.
+-- No event was refused by the run, and all correct replicas go on. Each has the branch, as far as it is in its reach,
+-- and gained nothing else; who had it was only asked.
 pub record IsBrought (w last : World) (x : Branch) : Type 0 where
   pub ran : run w (fetch_all (lowest_first x) w) ≡ Ok last
   pub going_on : AllGoOn last

@@ -29,8 +29,8 @@ RequestsAreExecuted =
 
 -- ---- a receipt
 
--- Where each correct replica executed a correct client's outstanding request, the client has its receipt once that comes
--- to them again, and their replies to it.
+-- Where each correct replica executed a correct client's outstanding request, the client has its receipt once that
+-- comes to them again, and their replies to it.
 abbrev pub RepliesConvince : Type 0
 RepliesConvince =
     (k client : ℕ) → AheadOf (ask_again k) (λ w. AreSizes w.sizes → ShareKeys w → AllGoOn w

@@ -140,9 +140,9 @@ BurstsAreVotedFor =
     → IsVotedForByAll w (after w (burst n l w)) l v n room m
     (leaf (self_of w l) (chronicle_of (after w (burst n l w)) l)))
 
--- No event of a round was refused by the run. Each correct replica has a certificate of its own for the last block, which
--- is n higher than m and goes through it, justifies it, and carries what waited. All may climb from there, with so much
--- room, and none voted above it.
+-- No event of a round was refused by the run. Each correct replica has a certificate of its own for the last block,
+-- which is n higher than m and goes through it, justifies it, and carries what waited. All may climb from there, with
+-- so much room, and none voted above it.
 pub record IsCertifiedByAll (w last : World) (l v n room : ℕ) (m x : Branch) : Type 0 where
   pub ran : run w (round n l w) ≡ Ok last
   pub height : length x ≡ length m + n
