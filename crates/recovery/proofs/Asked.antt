@@ -30,7 +30,7 @@ use Rattle.linear_law.proofs.Runs.{member-faulty}
 use Rattle.recovery.specs.Correct.{OfCorrect, AllGoOn, ShareKeys, chronicle_of, amply}
 use Rattle.recovery.specs.Healing.{in_turn, is_question, is_copy, receivers, comes_to, delivered, delivered_since}
 use Rattle.recovery.specs.Healing.{ask_one, ask_each}
-use Rattle.recovery.specs.Law.{OnlyAsked}
+use Rattle.recovery.specs.Fetching.{OnlyAsked}
 use Rattle.recovery.proofs.Worlds.{IsMadeAs, made-both, keys-in, after-append, passes-append, same-self}
 use Rattle.recovery.proofs.Worlds.{same-correct, Passes, passes-none, passes-one, named}
 use Rattle.recovery.proofs.Copies.{tag-verifies, correct-party, copies-of}

@@ -8,7 +8,7 @@ use Rattle.std.proofs.lemmas.List.{append-nil, append_assoc, map-append}
 use Rattle.std.proofs.Math.Seq.{drop-append_seam}
 use Rattle.ids.specs.Sizes.{Sizes, replicas, leader}
 use Rattle.definitions.specs.Lists.{Among, AreDistinct}
-use Rattle.definitions.specs.Branches.{Branch, IsBranch, Extends}
+use Rattle.definitions.specs.Branches.{Branch, IsBranch, Extends, just1}
 use Rattle.definitions.specs.Checks.{Identity, command_verifies}
 use Rattle.definitions.specs.Chronicles.{Chronicle, voted_blocks, vheight}
 use Rattle.definitions.specs.Replicas.{MemorySupply.ample, Replica, Standing.running}
@@ -17,19 +17,19 @@ use Rattle.definitions.specs.Worlds.{World, Sent, Event, Event.offer, Happening,
 use Rattle.definitions.specs.Worlds.{is_correct, self_of}
 use Rattle.definitions.specs.Runs.{run, after}
 use Rattle.definitions.proofs.Lists.{Among-either, Among-filter, Among-kept}
-use Rattle.recovery.specs.Correct.{OfCorrect, AllGoOn, ShareKeys, chronicle_of, correct_below}
+use Rattle.recovery.specs.Correct.{OfCorrect, ShareKeys, chronicle_of, correct_below}
 use Rattle.recovery.specs.Correct.{correct_replicas, amply}
 use Rattle.recovery.specs.Healing.{in_turn, sent_since, numbers_of, is_proposal, offered_to, make_blocks}
 use Rattle.recovery.specs.Healing.{others, burst}
-use Rattle.recovery.specs.Law.{Climbs, Leads, IsVotedForByAll, BurstsAreVotedFor}
+use Rattle.recovery.specs.Rounds.{Climbs, Leads, MayBurst, CarriesWaiting, IsVotedForByAll, BurstsAreVotedFor}
 use Rattle.recovery.proofs.Correct.{among-correct, correct-listed}
 use Rattle.recovery.proofs.Fetched.{distinct-last}
 use Rattle.recovery.proofs.Making.{made-all, up-is}
-use Rattle.recovery.proofs.Offers.{GoesOn, goes-none, goes-both, Chain, chain-later, chain-up, grown, grown-is}
-use Rattle.recovery.proofs.Offers.{offers-of, offers-all, IsStill}
+use Rattle.recovery.proofs.Offers.{GoesOn, goes-none, goes-both, Chain, chain-later, chain-up, chain-justifies, grown}
+use Rattle.recovery.proofs.Offers.{grown-is, offers-of, offers-all, IsStill}
 use Rattle.recovery.proofs.Ways.{IsOnWay, KnownAt, on-way-from, on-way, way-past}
-use Rattle.recovery.proofs.Wells.{sound-of, run-after}
-use Rattle.recovery.proofs.Worlds.{IsMadeAs, made-after, keys-in, same-correct, same-self, Passes}
+use Rattle.recovery.proofs.Wells.{sound-of}
+use Rattle.recovery.proofs.Worlds.{IsMadeAs, keys-in, same-correct, same-self, Passes}
 use Rattle.recovery.proofs.Worlds.{passes-none, passes-append}
 use Rattle.recovery.proofs.Worlds.{after-append}
 
@@ -58,7 +58,7 @@ distinct-correct w (suc n) = by (is_correct w n) (distinct-correct w n)
     by true d = distinct-last (correct_below w n) n d (below-correct w n)
     by false d = subst AreDistinct (sym (append-nil (correct_below w n))) d
 
-distinct-kept : (p : ℕ → Bool) (xs : List ℕ) → AreDistinct xs → AreDistinct (filter p xs)
+pub distinct-kept : (p : ℕ → Bool) (xs : List ℕ) → AreDistinct xs → AreDistinct (filter p xs)
 distinct-kept p [] d = tt
 distinct-kept p (x ∷ xs) d = by (p x) (distinct-kept p xs d.1)
   where
@@ -174,18 +174,6 @@ burst-is : (n l : ℕ) (w : World)
 unfolding burst in_turn
 burst-is n l w = ap (λ (x : List Happening). make_blocks n l w ++ x) (append-nil _)
 
--- what is known where a leader bursts
-pub record MayBurst (w : World) (l v n room : ℕ) (m : Branch) : Type 0 where
-  pub keys : ShareKeys w
-  pub goes : AllGoOn w
-  pub correct : is_correct w l ≡ true
-  pub leads_it : Leads w l v m (n + room)
-  pub leaf_is : leaf (self_of w l) (chronicle_of w l) ≡ m
-  pub climbs : OfCorrect w (λ r. Climbs (self_of w r) v m m (n + room) (chronicle_of w r))
-  pub low : OfCorrect w (λ r. vheight (chronicle_of w r) < length m + n)
-  pub some : 0 < n
-  pub top : length m + n < HEIGHT_LIMIT
-
 -- what a burst leaves
 pub record HasBurst (w end : World) (l v n room : ℕ) (m : Branch) : Type 0 where
   pub voted_for : IsVotedForByAll w end l v n room m (leaf (self_of w l) (chronicle_of end l))
@@ -199,6 +187,7 @@ module _ (sizes : Sizes) (start : World) (all : List Happening) where
       → HasBurst w (after w (burst n l w)) l v n room m
   unfolding after
   burst-voted w rest l v n room m on may =
+      let from = may.climbing in
       let mk : List Happening = make_blocks n l w in
       let mid : World = after w mk in
       let rs : List ℕ = others l mid in
@@ -206,13 +195,13 @@ module _ (sizes : Sizes) (start : World) (all : List Happening) where
       let on1 = subst (IsOnWay sizes start all w)
       (append_assoc mk (amply (offered_to rs (sent_since (length w.sent) is_proposal mid))) rest) on0 in
       let gw = on-way sizes start all w _ on1 in
-      let cl = may.correct in
+      let cl = from.correct in
       let br : IsBranch m =
-      (sound-of (KnownAt sizes start all) w gw l cl).is_tree.branches m (may.climbs l cl).stands in
-      let leafw = ap (λ (x : Branch). length x) may.leaf_is in
+      (sound-of (KnownAt sizes start all) w gw l cl).is_tree.branches m (from.climbs l cl).stands in
+      let leafw = ap (λ (x : Branch). length x) from.leaf_is in
       let top = may.top in
-      let made = made-all sizes start all l v m br n w _ room on1 may.keys cl (may.goes l cl)
-      (subst (Leads w l v m) (sym (up-is n room)) may.leads_it) (omega (arith, leafw, top)) in
+      let made = made-all sizes start all l v m br n w _ room on1 from.keys cl (from.goes l cl)
+      (subst (Leads w l v m) (sym (up-is n room)) from.leads_it) (omega (arith, leafw, top)) in
       let a = made.1 in
       let ks : List ℕ = a.ks in
       let last : Branch = leaf (self_of mid l) (chronicle_of mid l) in
@@ -225,7 +214,7 @@ module _ (sizes : Sizes) (start : World) (all : List Happening) where
       burst-is n l w ∙ ap (λ (x : List ℕ). mk ++ amply (offered_to rs x)) numbers in
       let onm0 = way-past sizes start all mk _ w on1 made.0 in
       let onm = subst (λ (x : List ℕ). IsOnWay sizes start all mid (amply (offered_to rs x) ++ rest)) numbers onm0 in
-      let chain : Chain mid v m m ks last = subst (λ (x : Branch). Chain mid v m x ks last) may.leaf_is a.chain in
+      let chain : Chain mid v m m ks last = subst (λ (x : Branch). Chain mid v m x ks last) from.leaf_is a.chain in
       let count = a.count in
       let high = chain-up mid v m m ks last chain in
       let some = may.some in
@@ -242,15 +231,15 @@ module _ (sizes : Sizes) (start : World) (all : List Happening) where
       let low = may.low r cr in
       ready-later w mid v room m last ks r a.goes.made (a.others r o.1) (record {
         correct = cr;
-        goes = may.goes r cr;
-        climbs = subst (λ (x : ℕ). Climbs (self_of w r) v m m x (chronicle_of w r)) (sym grow) (may.climbs r cr);
+        goes = from.goes r cr;
+        climbs = subst (λ (x : ℕ). Climbs (self_of w r) v m m x (chronicle_of w r)) (sym grow) (from.climbs r cr);
         low = omega (arith, low, high, count);
       })) in
       let distinct = distinct-kept (λ r. not (r == l)) (correct_replicas mid) (distinct-correct mid
       (replicas mid.sizes)) in
       let b = offered-each sizes start all v room m last br (omega (arith, high, count, top)) ks (omega
       (arith, count, some))
-      rs mid rest onm (keys-in w mid a.goes.made may.keys) distinct chain ready in
+      rs mid rest onm (keys-in w mid a.goes.made from.keys) distinct chain ready in
       let o = b.1 in
       let end : World = after mid later in
       let ends : after w (burst n l w) ≡ end = ap (after w) is ∙ after-append w mk later in
@@ -280,6 +269,8 @@ module _ (sizes : Sizes) (start : World) (all : List Happening) where
         ];
         high = omega (arith, long, high, count);
         over = subst (λ (z : Branch). Extends z m) (sym leaf2) a.leads_on.climbs.over;
+        justifies = ap just1 leaf2 ∙ chain-justifies mid v m m ks last chain ([], refl) (omega (arith, count, some));
+        carries = subst (CarriesWaiting w l) (sym leaf2) (a.carries some);
         leaf_is = refl;
         voted = λ r c. subst (λ (z : Branch). Among z (voted_blocks (chronicle_of end r))) (sym leaf2)
             (elim (cases_eq r l) [
@@ -328,19 +319,8 @@ module _ (sizes : Sizes) (start : World) (all : List Happening) where
       })
 
 pub bursts-voted : BurstsAreVotedFor
-bursts-voted sizes is_faulty ring hs w l v n room m keys met e goes cl lead is climbs low some top =
+bursts-voted l v n room m sizes is_faulty ring hs w met e may =
     let start : World = new_world sizes is_faulty ring in
     let on = on-way-from sizes is_faulty ring hs (burst n l w) w met e in
-    let made = subst (IsMadeAs start) (run-after hs start w e) (made-after start hs) in
     (burst-voted sizes start (hs ++ burst n l w) w [] l v n room m
-    (subst (IsOnWay sizes start (hs ++ burst n l w) w) (sym (append-nil (burst n l w))) on) (record {
-      keys = keys-in start w made keys;
-      goes = goes;
-      correct = cl;
-      leads_it = lead;
-      leaf_is = is;
-      climbs = climbs;
-      low = low;
-      some = some;
-      top = top;
-    })).voted_for
+    (subst (IsOnWay sizes start (hs ++ burst n l w) w) (sym (append-nil (burst n l w))) on) may).voted_for

@@ -19,7 +19,8 @@ use Rattle.definitions.proofs.Branches.{just1-below, just2-is, branch_eq-decides
 use Rattle.definitions.proofs.Horizons.{window-grown}
 use Rattle.definitions.proofs.Windows.{block-stored}
 use Rattle.definitions.proofs.Lists.{any-from}
-use Rattle.recovery.specs.Law.{HasPlace, Climbs}
+use Rattle.recovery.specs.Fetching.{HasPlace}
+use Rattle.recovery.specs.Rounds.{Climbs}
 use Rattle.recovery.proofs.Decided.{justifies-below}
 use Rattle.recovery.proofs.Grounds.{just1-genesis}
 use Rattle.recovery.proofs.Fetched.{took-stands}
@@ -45,6 +46,16 @@ IsAdded self b y c a =
     ((a.new ≡ true) × (a.clear ≡ list_all (command_verifies self) b.commands))
     ⊎ ((a.new ≡ false) × Among (b ∷ y) (window c))
 
+-- what stands justifies what it justifies
+pub stands-justifies : (m x : Branch) (c : Chronicle) → Among x (window c) → 0 < length x → just1 x ≡ m
+    → is_justified m c ≡ true
+unfolding is_justified window
+stands-justifies m x c k up j = elim (block-stored (standing_blocks c) x k) [
+  | inl z ↦ absurd (let n = ap (λ (y : Branch). length y) z in omega (arith, n, up))
+  | inr s ↦ any-from (λ (y : Stored). branch_eq (just1 y.branch) m) (standing_blocks c) s.0 s.1
+      ((branch_eq-decides (just1 s.0.branch) m).1 (ap just1 (sym s.2) ∙ j))
+]
+
 -- a block that was taken justifies what it justifies
 ground-itself : (m : Branch) (c : Chronicle) (a : Admitted) (b : Block) (y : Branch) → a.branch ≡ b ∷ y
     → just1 a.branch ≡ m → horizon c ≤ length a.branch + 2
@@ -56,14 +67,10 @@ ground-itself m c a b y e j l (inl n) =
     ((branch_eq-decides (just1 a.branch) m).1 j))
 ground-itself m c a b y e j l (inr o) =
     subst (λ (s : List Stored). list_any (λ x. branch_eq (just1 x.branch) m) s ≡ true) (sym (standing-old a c o.0))
-    (elim (block-stored (standing_blocks c) (b ∷ y) o.1) [
-      | inl z ↦ absurd (let k = ap (λ (x : Branch). length x) z in omega (arith, k))
-      | inr s ↦ any-from (λ (x : Stored). branch_eq (just1 x.branch) m) (standing_blocks c) s.0 s.1
-          ((branch_eq-decides (just1 s.0.branch) m).1 (ap just1 (sym s.2) ∙ (ap just1 (sym e) ∙ j)))
-    ])
+    (stands-justifies m (b ∷ y) c o.1 (omega arith) (ap just1 (sym e) ∙ j))
 
 -- the lock is still safe
-lock-more : (m : Branch) (c : Chronicle) (a : Admitted) → IsBranch m → just1 a.branch ≡ m
+pub lock-more : (m : Branch) (c : Chronicle) (a : Admitted) → IsBranch m → just1 a.branch ≡ m
     → (lock c ≡ m) ⊎ (length (lock c) < length m) → (lock (took_block a ∷ c) ≡ m) ⊎ (length (lock
     (took_block a ∷ c)) < length m)
 unfolding lock taken_blocks highest
@@ -99,17 +106,17 @@ lock-more m c a br j h = by a.new
     by false = h
 
 -- the window after a new block, and after one that stands
-window-new : (c : Chronicle) (a : Admitted) → a.new ≡ true → horizon c ≤ length a.branch + 2
+pub window-new : (c : Chronicle) (a : Admitted) → a.new ≡ true → horizon c ≤ length a.branch + 2
     → window (took_block a ∷ c) ≡ a.branch ∷ window c
 unfolding window
 window-new c a n l = ap blocks (window-grown a c n l)
 
-window-old : (c : Chronicle) (a : Admitted) → a.new ≡ false → window (took_block a ∷ c) ≡ window c
+pub window-old : (c : Chronicle) (a : Admitted) → a.new ≡ false → window (took_block a ∷ c) ≡ window c
 unfolding window
 window-old c a o = ap blocks (standing-old a c o)
 
 -- so a window grows by one block at most, and by none of another height
-window-longer : (c : Chronicle) (a : Admitted) → horizon c ≤ length a.branch + 2 → (a.new ≡ true) ⊎ (a.new ≡ false)
+pub window-longer : (c : Chronicle) (a : Admitted) → horizon c ≤ length a.branch + 2 → (a.new ≡ true) ⊎ (a.new ≡ false)
     → length (window (took_block a ∷ c)) ≤ suc (length (window c))
 window-longer c a l (inl n) =
     let e = ap (λ (w : List Branch). length w) (window-new c a n l) in omega (arith, e)
@@ -123,7 +130,7 @@ count-other h x l n =
     let s = sum_by-cons f x l in
     omega (arith, z, s)
 
-window-count : (c : Chronicle) (a : Admitted) (h : ℕ) → horizon c ≤ length a.branch + 2
+pub window-count : (c : Chronicle) (a : Admitted) (h : ℕ) → horizon c ≤ length a.branch + 2
     → (a.new ≡ true) ⊎ (a.new ≡ false) → (length a.branch ≡ h → ⊥)
     → count_by (λ y. length y == h) (window (took_block a ∷ c)) ≡ count_by (λ y. length y == h) (window c)
 window-count c a h l (inl n) o =

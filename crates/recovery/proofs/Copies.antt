@@ -35,7 +35,7 @@ use Rattle.definitions.proofs.Horizons.{window-tree}
 use Rattle.linear_law.proofs.Runs.{member-faulty}
 use Rattle.linear_law.proofs.StoredFrames.{AreStored, IsStored, IsStoredBlock}
 use Rattle.recovery.specs.Correct.{ShareKeys, chronicle_of}
-use Rattle.recovery.specs.Law.{HasPlace, IsHolder, CopiesAreTaken}
+use Rattle.recovery.specs.Fetching.{HasPlace, IsHolder, CopiesAreTaken}
 use Rattle.recovery.proofs.Wells.{IsReached, reached, sound-of, known-of, stored-of, one-branch}
 use Rattle.recovery.proofs.Places.{IsPlaced, placed}
 
@@ -147,7 +147,7 @@ copy-passes w keys u c x q h held e =
     ((bytes_decides k.digest q.digest).1 e))
 
 -- what a correct replica took has a certificate for what it justifies
-holder-certificate : (Known : Core → Type 0) (w : World) → IsReached Known w → (x : Branch) (h : ℕ × Admitted)
+pub holder-certificate : (Known : Core → Type 0) (w : World) → IsReached Known w → (x : Branch) (h : ℕ × Admitted)
     → IsHolder w x h → h.1.certificate.digest ≡ digest_of (just1 x)
 holder-certificate Known w g x h held =
     (taken-stored (self_of w h.0) (chronicle_of w h.0) (stored-of Known w g h.0 held.0) h.1 held.1).justified
@@ -188,11 +188,11 @@ few-replicas n xs d b =
     omega (arith, k, l)
 
 -- what a first copy and the others come to
-gathered-input : World → ℕ → Branch → Certificate → List (ℕ × Admitted) → Input
+unfoldable pub gathered-input : World → ℕ → Branch → Certificate → List (ℕ × Admitted) → Input
 gathered-input w u x q hs =
     relayed_in (map (sender_of w.sizes) (copies-of w u hs)) (core_of x) q (findings (self_of w u) (core_of x) q)
 
-copies-checked : (Known : Core → Type 0) (w : World) → IsReached Known w → ShareKeys w → (u : ℕ)
+pub copies-checked : (Known : Core → Type 0) (w : World) → IsReached Known w → ShareKeys w → (u : ℕ)
     → is_correct w u ≡ true → (x : Branch) (h : ℕ × Admitted) (hs : List (ℕ × Admitted))
     → AllByRecursion (IsHolder w x) (h ∷ hs) → AreDistinct (map (λ y. y.0) (h ∷ hs))
     → check_gathered (self_of w u) (copies-of w u (h ∷ hs))

@@ -14,7 +14,7 @@ use Rattle.agreement.proofs.Agreement.{one-extends}
 use Rattle.linear_law.specs.Law.{correct_family}
 use Rattle.linear_law.proofs.WholeRuns.{chronicles-family}
 use Rattle.recovery.specs.Correct.{chronicle_of}
-use Rattle.recovery.specs.Law.{IsNext, ThreeMoreDecide}
+use Rattle.recovery.specs.Rounds.{IsNext, ThreeMoreDecide}
 
 -- a block that justifies what it extends at a height justifies that
 pub justifies-below : (b : Block) (parent m : Branch) → Extends parent m → b.justify ≡ length m

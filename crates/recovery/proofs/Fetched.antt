@@ -15,8 +15,8 @@ use Rattle.std.proofs.Math.Seq.{drop-append_seam}
 use Rattle.ids.specs.Sizes.{Sizes, replicas}
 use Rattle.definitions.specs.Bytes.{Bytes}
 use Rattle.definitions.specs.Lists.{Among, AreDistinct, count_below}
-use Rattle.definitions.specs.Branches.{Block, Branch, branch_eq}
-use Rattle.definitions.specs.Chronicles.{Admitted, Chronicle, Step.took_block, taken_blocks, window, horizon}
+use Rattle.definitions.specs.Branches.{Block, Branch, branch_eq, just2, highest}
+use Rattle.definitions.specs.Chronicles.{Admitted, Chronicle, Step.took_block, taken_blocks, window, horizon, lock}
 use Rattle.definitions.specs.Chronicles.{standing_blocks, stored_blocks, stored_block}
 use Rattle.definitions.specs.Digests.{digest_of, AllKnown}
 use Rattle.definitions.specs.Frames.{Core, Frame}
@@ -41,15 +41,16 @@ use Rattle.definitions.proofs.Certificates.{IsDigest-digest_of}
 use Rattle.recovery.specs.Correct.{OfCorrect, AllGoOn, ShareKeys, chronicle_of, correct_below}
 use Rattle.recovery.specs.Correct.{correct_replicas, correct_with}
 use Rattle.recovery.specs.Healing.{in_turn, numbers_of, sent_since, is_copy, ask_each, fetch_block}
-use Rattle.recovery.specs.Law.{OnlyAsked, IsHolder, HasPlace, IsFetched, MissingBlocksAreFetched}
-use Rattle.recovery.proofs.Asked.{asked-each, holders-of, answer-of, copy-at, with-copy, same-copies, gather-hands}
+use Rattle.recovery.specs.Fetching.{OnlyAsked, IsHolder, HasPlace, MayFetch, IsFetched, MissingBlocksAreFetched}
+use Rattle.recovery.proofs.Asked.{Asked, asked-each, holders-of, answer-of, copy-at, with-copy, same-copies}
+use Rattle.recovery.proofs.Asked.{gather-hands}
 use Rattle.recovery.proofs.Copies.{gathered-taken, copies-of}
 use Rattle.recovery.proofs.Correct.{among-correct}
 use Rattle.recovery.proofs.Proposals.{standing-old}
 use Rattle.recovery.proofs.Steps.{going, step-stood, frame-behind}
 use Rattle.recovery.proofs.Ways.{IsOnWay, on-way-from, on-way, way-on, way-past, KnownAt}
-use Rattle.recovery.proofs.Wells.{IsReached, sound-of, known-of, one-branch, run-after}
-use Rattle.recovery.proofs.Worlds.{IsMadeAs, made-after, keys-in, same-correct, passes-none}
+use Rattle.recovery.proofs.Wells.{IsReached, sound-of, known-of, one-branch}
+use Rattle.recovery.proofs.Worlds.{IsMadeAs, keys-in, same-correct, Passes, passes-none}
 use Rattle.recovery.proofs.Worlds.{passes-one, passes-append, after-append, named}
 
 -- ---- frames of the record
@@ -163,7 +164,7 @@ one-answers w u d r =
     by (Some a) = inr refl
 
 -- of the correct replicas below a number: distinct, and below it
-who-answers : (w : World) (u : ℕ) (d : Bytes) (n : ℕ)
+pub who-answers : (w : World) (u : ℕ) (d : Bytes) (n : ℕ)
     → AreDistinct (who (holders-of w u d (correct_below w n)))
     × ((r : ℕ) → Among r (who (holders-of w u d (correct_below w n))) → r < n)
 unfolding holders-of correct_below
@@ -281,6 +282,11 @@ pub window-told : (c d : Chronicle) → taken_blocks d ≡ taken_blocks c → ho
 unfolding window standing_blocks stored_blocks
 window-told c d t h = λ k. blocks (standing (h k) (map stored_block (t k)))
 
+-- so is the lock by what was taken
+pub lock-told : (c d : Chronicle) → taken_blocks d ≡ taken_blocks c → lock d ≡ lock c
+unfolding lock
+lock-told c d t = ap (λ (l : List Admitted). highest (map (λ (a : Admitted). just2 a.branch) l)) t
+
 -- a place stays one
 pub place-told : (self : Identity) (c d : Chronicle) (b : Block) (parent : Branch) → OnlyAsked self c d
     → HasPlace c b parent → HasPlace d b parent
@@ -313,25 +319,15 @@ holders-told w v x m only (y ∷ ys) h = (
 
 -- ---- the fetch
 
--- what is known where a replica fetches a block
-pub record MayFetch (Known : Core → Type 0) (w : World) (u : ℕ) (b : Block) (parent : Branch) : Type 0 where
-  pub keys : ShareKeys w
-  pub goes : AllGoOn w
-  pub correct : is_correct w u ≡ true
-  pub place : HasPlace (chronicle_of w u) b parent
-  pub lacks : Among (b ∷ parent) (window (chronicle_of w u)) → ⊥
-  pub many : w.sizes.faults < correct_with w window (b ∷ parent)
-
-fetch-known : (Known : Core → Type 0) (w : World) → IsReached Known w → (u : ℕ) (b : Block) (parent : Branch)
-    → MayFetch Known w u b parent → AllKnown Known (b ∷ parent)
-fetch-known Known w g u b parent may =
+-- what some correct replica has is known
+pub with-known : (Known : Core → Type 0) (w : World) → IsReached Known w → (x : Branch)
+    → w.sizes.faults < correct_with w window x → AllKnown Known x
+with-known Known w g x many =
     let some = found (replicas w.sizes)
-    (λ r. cond (is_correct w r) (list_any (branch_eq (b ∷ parent)) (window (chronicle_of w r))) false)
-    (let k = may.many in omega (arith, k)) in
+    (λ r. cond (is_correct w r) (list_any (branch_eq x) (window (chronicle_of w r))) false) (omega (arith, many)) in
     let c = both (is_correct w some.0) _ some.1 in
-    known-of Known w g some.0 c.0 (b ∷ parent)
-    (window-tree (chronicle_of w some.0) (b ∷ parent)
-    (any-among (b ∷ parent) (window (chronicle_of w some.0)) c.1))
+    known-of Known w g some.0 c.0 x
+    (window-tree (chronicle_of w some.0) x (any-among x (window (chronicle_of w some.0)) c.1))
   where
     both : (t y : Bool) → cond t y false ≡ true → (t ≡ true) × (y ≡ true)
     both true y e = (refl, e)
@@ -350,58 +346,106 @@ fetch-is d u w = refl
 
 module _ (sizes : Sizes) (start : World) (all : List Happening) (w : World) (u : ℕ) (b : Block) (parent : Branch)
   where
-    pub fetched : (rest : List Happening)
-        → IsOnWay sizes start all w (fetch_block (digest_of (b ∷ parent)) u w ++ rest)
-        → MayFetch (KnownAt sizes start all) w u b parent
-        → IsFetched w (after w (fetch_block (digest_of (b ∷ parent)) u w)) u (b ∷ parent)
-    unfolding after ruling
-    fetched rest on may =
-        let x : Branch = b ∷ parent in
-        let d : Bytes = digest_of x in
+    abbrev x : Branch
+    x = b ∷ parent
+
+    abbrev d : Bytes
+    d = digest_of x
+
+    abbrev asks : List Happening
+    asks = ask_each d u (correct_replicas w) w
+
+    -- the world after the questions, and what was answered
+    abbrev pub asked_world : World
+    asked_world = after w asks
+
+    abbrev v : World
+    v = asked_world
+
+    abbrev pub answers_of : List Source
+    answers_of = map of_record (sent_since (length w.sent) is_copy v)
+
+    abbrev pub answerers : List (ℕ × Admitted)
+    answerers = holders-of w u d (correct_replicas w)
+
+    -- what is known before it gathers them
+    pub record HasAsked (rest : List Happening) : Type 0 where
+      pub asked : Asked w v u d (correct_replicas w)
+      pub passing : Passes w asks
+      pub frames : frames_of v answers_of ≡ copies-of v u answerers
+      pub held : AllByRecursion (IsHolder v x) answerers
+      pub ok : refusal v (gather u answers_of) ≡ None
+      pub on : IsOnWay sizes start all v ((gather u answers_of, ample) ∷ rest)
+
+    pub has-asked : (rest : List Happening) → IsOnWay sizes start all w (fetch_block d u w ++ rest) → ShareKeys w
+        → AllGoOn w → is_correct w u ≡ true → AllKnown (KnownAt sizes start all) x → HasAsked rest
+    has-asked rest on keys goes correct known =
         let Known : Core → Type 0 = KnownAt sizes start all in
         let cs : List ℕ = correct_replicas w in
-        let asks : List Happening = ask_each d u cs w in
-        let v : World = after w asks in
-        let sources : List Source = map of_record (sent_since (length w.sent) is_copy v) in
-        let end : List Happening = (gather u sources, ample) ∷ [] in
+        let end : List Happening = (gather u answers_of, ample) ∷ [] in
         let on0 = subst (IsOnWay sizes start all w) (append_assoc asks end rest)
         (subst (λ (l : List Happening). IsOnWay sizes start all w (l ++ rest)) (fetch-is d u w) on) in
-        let each = asked-each sizes start all u d (IsDigest-digest_of x) cs
-        (end ++ rest) w may.keys may.goes may.correct
+        let each = asked-each sizes start all u d (IsDigest-digest_of x) cs (end ++ rest) w keys goes correct
         (among-correct w (replicas w.sizes)) on0 in
         let a = each.1 in
         let g0 = on-way sizes start all w (asks ++ (end ++ rest)) on0 in
         let onv = way-past sizes start all asks (end ++ rest) w on0 each.0 in
-        let g = on-way sizes start all v (end ++ rest) onv in
-        let hs : List (ℕ × Admitted) = holders-of w u d cs in
-        let known = fetch-known Known w g0 u b parent may in
-        let cu = same-correct w v a.made u ∙ may.correct in
-        let more : v.sizes.faults < length hs =
-        (let k = may.many in let m = many-answer Known w g0 b parent u (replicas w.sizes) may.lacks in
-        let s = ap (λ (z : Sizes). z.faults) a.made.sizes in omega (arith, k, m, s)) in
+        let cu = same-correct w v a.made u ∙ correct in
         let drops : drop (length w.sent) v.sent ≡ a.more =
         ap (λ (l : List Sent). drop (length w.sent) l) a.sent ∙ drop-append_seam w.sent a.more in
-        let frames : frames_of v sources ≡ copies-of v u hs =
-        ap (λ (l : List Sent). frames_of v (map of_record (numbers_of is_copy (length w.sent) l))) drops
-        ∙ (frames-behind is_copy v a.more w.sent (length w.sent) a.sent refl
-        ∙ (a.copies ∙ sym (same-copies w v u a.made hs))) in
-        let r = gathered-taken Known v g (keys-in w v a.made may.keys) u cu b parent hs
-        (place-told (self_of w u) (chronicle_of w u) (chronicle_of v u) b parent (a.only u may.correct) may.place)
-        (who-answers w u d (replicas w.sizes)).0
-        (holders-told w v x a.made a.only hs
-        (holders-hold Known w g0 x known u cs (among-correct w (replicas w.sizes)))) more in
-        let there : list_all (is_there v) sources ≡ true =
+        let there : list_all (is_there v) answers_of ≡ true =
         ap (λ (l : List Sent). list_all (is_there v) (map of_record (numbers_of is_copy (length w.sent) l))) drops
         ∙ numbers-there is_copy v a.more (length w.sent)
         (let n = ap (λ (l : List Sent). length l) a.sent in let m = length-append w.sent a.more in
         omega (arith, n, m)) in
-        let ok : refusal v (gather u sources) ≡ None =
-        named v (gather u sources) (and_parts (is_replica v u) (not (v.is_faulty u)) cu).0 there refl in
-        let last : World = happens v (gather u sources, ample) in
-        let onl = way-on sizes start all v (gather u sources, ample) rest onv ok in
+        record {
+          asked = a;
+          passing = each.0;
+          frames = ap (λ (l : List Sent). frames_of v (map of_record (numbers_of is_copy (length w.sent) l))) drops
+              ∙ (frames-behind is_copy v a.more w.sent (length w.sent) a.sent refl
+              ∙ (a.copies ∙ sym (same-copies w v u a.made answerers)));
+          held = holders-told w v x a.made a.only answerers
+              (holders-hold Known w g0 x known u cs (among-correct w (replicas w.sizes)));
+          ok = named v (gather u answers_of) (and_parts (is_replica v u) (not (v.is_faulty u)) cu).0 there refl;
+          on = onv;
+        }
+
+    -- the events of it
+    pub fetch-ran : (rest : List Happening) → HasAsked rest
+        → (run w (fetch_block d u w) ≡ Ok (happens v (gather u answers_of, ample)))
+        × (after w (fetch_block d u w) ≡ happens v (gather u answers_of, ample))
+    unfolding after
+    fetch-ran rest h =
+        let end : List Happening = (gather u answers_of, ample) ∷ [] in
+        let last : World = happens v (gather u answers_of, ample) in (
+          subst (λ (l : List Happening). run w l ≡ Ok last) (sym (fetch-is d u w))
+              (passes-append w asks end h.passing (passes-one v (gather u answers_of, ample) [] h.ok (passes-none last))
+              ∙ ap (λ (z : World). Ok z) (after-append w asks end)),
+          ap (after w) (fetch-is d u w) ∙ after-append w asks end,
+        )
+
+    pub fetched : (rest : List Happening) → IsOnWay sizes start all w (fetch_block d u w ++ rest)
+        → MayFetch w u b parent → IsFetched w (after w (fetch_block d u w)) u x
+    unfolding ruling
+    fetched rest on may =
+        let Known : Core → Type 0 = KnownAt sizes start all in
+        let g0 = on-way sizes start all w _ on in
+        let p = has-asked rest on may.keys may.goes may.correct (with-known Known w g0 x may.many) in
+        let a = p.asked in
+        let g = on-way sizes start all v _ p.on in
+        let cu = same-correct w v a.made u ∙ may.correct in
+        let more : v.sizes.faults < length answerers =
+        (let k = may.many in let m = many-answer Known w g0 b parent u (replicas w.sizes) may.lacks in
+        let s = ap (λ (z : Sizes). z.faults) a.made.sizes in omega (arith, k, m, s)) in
+        let r = gathered-taken Known v g (keys-in w v a.made may.keys) u cu b parent answerers
+        (place-told (self_of w u) (chronicle_of w u) (chronicle_of v u) b parent (a.only u may.correct) may.place)
+        (who-answers w u d (replicas w.sizes)).0 p.held more in
+        let ev = gather u answers_of in
+        let last : World = happens v (ev, ample) in
+        let onl = way-on sizes start all v (ev, ample) rest p.on p.ok in
         let t = r.takes in
-        let st = step-stood v (gather u sources) u r.input (took_block t.0)
-        (gather-hands v u sources (copies-of v u hs) r.input cu (a.going_on u cu) frames r.passing) t.1
+        let st = step-stood v ev u r.input (took_block t.0)
+        (gather-hands v u answers_of (copies-of v u answerers) r.input cu (a.going_on u cu) p.frames r.passing) t.1
         onl.well.good.answers in
         let own : last.replica u ≡ going (took_block t.0 ∷ chronicle_of v u) =
         ap (λ (row : ℕ → Replica). row u) st.row
@@ -413,11 +457,9 @@ module _ (sizes : Sizes) (start : World) (all : List Happening) (w : World) (u :
         let reach = may.place.reach in
         let below = may.place.below in
         let h = (a.only u may.correct).0.forgotten in
-        subst (λ (z : World). IsFetched w z u x)
-        (sym (ap (after w) (fetch-is d u w) ∙ after-append w asks end)) (record {
-          ran = subst (λ (l : List Happening). run w l ≡ Ok last) (sym (fetch-is d u w))
-              (passes-append w asks end each.0 (passes-one v (gather u sources, ample) [] ok (passes-none last))
-              ∙ ap (λ (z : World). Ok z) (after-append w asks end));
+        let ends = fetch-ran rest p in
+        subst (λ (z : World). IsFetched w z u x) (sym ends.1) (record {
+          ran = ends.0;
           going_on = λ j c. elim (cases_eq j u) [
             | inl e ↦ subst (λ (i : ℕ). (last.replica i).standing ≡ running) (sym e)
                 (ap (λ (y : Replica). y.standing) own)
@@ -441,18 +483,10 @@ module _ (sizes : Sizes) (start : World) (all : List Happening) (w : World) (u :
         })
 
 pub blocks-fetched : MissingBlocksAreFetched
-blocks-fetched sizes is_faulty ring hs w u b parent keys met e goes cu place lacks many =
+blocks-fetched u b parent sizes is_faulty ring hs w met e may =
     let start : World = new_world sizes is_faulty ring in
     let d : Bytes = digest_of (b ∷ parent) in
     let all : List Happening = hs ++ fetch_block d u w in
     let on = on-way-from sizes is_faulty ring hs (fetch_block d u w) w met e in
-    let made = subst (IsMadeAs start) (run-after hs start w e) (made-after start hs) in
     fetched sizes start all w u b parent []
-    (subst (IsOnWay sizes start all w) (sym (append-nil (fetch_block d u w))) on) (record {
-      keys = keys-in start w made keys;
-      goes = goes;
-      correct = cu;
-      place = place;
-      lacks = lacks;
-      many = many;
-    })
+    (subst (IsOnWay sizes start all w) (sym (append-nil (fetch_block d u w))) on) may

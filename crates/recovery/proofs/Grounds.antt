@@ -21,7 +21,7 @@ use Rattle.linear_law.proofs.WholeRuns.{chronicles-family}
 use Rattle.recovery.specs.Correct.{chronicle_of, lock_of, correct_with}
 use Rattle.recovery.specs.Healing.{justified_by}
 use Rattle.recovery.specs.NeverWedged.{healer, ground_of}
-use Rattle.recovery.specs.Law.{JustifiedBlocksAreHeld, GroundsAreHeld}
+use Rattle.recovery.specs.Locks.{JustifiedBlocksAreHeld, GroundsAreHeld}
 use Rattle.recovery.proofs.Families.{justified-certified, certified-held}
 use Rattle.recovery.proofs.Locks.{nil, healer-highest}
 
@@ -70,7 +70,7 @@ justified-held sizes is_faulty ring hs last met e = λ r c a m x.
 -- ---- what justifies the highest lock
 
 -- an element stands in the reverse too
-reversed-among : {A : Type 0} (xs : List A) (x : A) → Among x xs → Among x (reverse xs)
+pub reversed-among : {A : Type 0} (xs : List A) (x : A) → Among x xs → Among x (reverse xs)
 reversed-among xs x m = Among-reverse (reverse xs) x (subst (λ (l : List _). Among x l) (sym (reverse-reverse xs)) m)
 
 -- a test for what was taken over this lock
@@ -78,12 +78,12 @@ abbrev is_over : Branch → Admitted → Bool
 is_over m a = branch_eq (just2 a.branch) m
 
 -- a block that was taken over the lock, and what it justifies; or there is no such block, and both are genesis
-abbrev GroundCases : Chronicle → Branch → Type 0
+abbrev pub GroundCases : Chronicle → Branch → Type 0
 GroundCases c b =
     ((a : Admitted) × Among a (taken_blocks c) × (just2 a.branch ≡ lock c) × (b ≡ just1 a.branch))
     ⊎ ((b ≡ []) × (lock c ≡ []))
 
-ground-cases : (c : Chronicle)
+pub ground-cases : (c : Chronicle)
     → GroundCases c (justified_by (find (is_over (lock c)) (reverse (taken_blocks c))))
 ground-cases c = by (find (is_over (lock c)) (reverse (taken_blocks c))) refl
   where
@@ -100,7 +100,7 @@ ground-cases c = by (find (is_over (lock c)) (reverse (taken_blocks c))) refl
     ]
 
 -- more than f correct replicas took it, and all below it
-ground-among : (w : World) → IsLawfulFamily (correct_family w) → (those : Chronicle → List Branch)
+pub ground-among : (w : World) → IsLawfulFamily (correct_family w) → (those : Chronicle → List Branch)
     → ((i : ℕ) → is_correct w i ≡ true → (x : Branch) → Among x (tree (chronicle_of w i))
     → Among x (those (chronicle_of w i)))
     → (x : Branch) → Extends (ground_of w) x → w.sizes.faults < correct_with w those x
@@ -117,7 +117,7 @@ unfolding just1 justify_height beginning
 just1-genesis = refl
 
 -- it justifies the lock, and stands in the tree
-ground-own : (w : World) → IsLawfulFamily (correct_family w)
+pub ground-own : (w : World) → IsLawfulFamily (correct_family w)
     → (just1 (ground_of w) ≡ lock_of w (healer w)) × Among (ground_of w) (tree (chronicle_of w (healer w)))
 ground-own w l =
     let c : Chronicle = chronicle_of w (healer w) in

@@ -41,7 +41,7 @@ use Rattle.linear_law.proofs.Runs.{IsGiven, Stands}
 use Rattle.linear_law.proofs.StoredFrames.{AreStored, IsStoredView}
 use Rattle.recovery.specs.Correct.{chronicle_of, correct_replicas}
 use Rattle.recovery.specs.Healing.{highest_voted}
-use Rattle.recovery.specs.Law.{high_of, HighestAreCertified}
+use Rattle.recovery.specs.Locks.{high_of, HighestAreCertified}
 use Rattle.recovery.proofs.Correct.{correct-listed}
 use Rattle.recovery.proofs.Families.{justified-certified, to-order}
 use Rattle.recovery.proofs.Leads.{led-well}

@@ -23,7 +23,7 @@ use Rattle.linear_law.proofs.WholeRuns.{chronicles-lawful, chronicles-family}
 use Rattle.recovery.specs.Correct.{OfCorrect, chronicle_of, lock_of, correct_replicas}
 use Rattle.recovery.specs.Healing.{highest_locked}
 use Rattle.recovery.specs.NeverWedged.{healer}
-use Rattle.recovery.specs.Law.{IsSafeForAll, HighestLocksAreSafe, LocksMayBeLedFrom}
+use Rattle.recovery.specs.Locks.{IsSafeForAll, HighestLocksAreSafe, LocksMayBeLedFrom}
 use Rattle.recovery.proofs.Families.{locked-certified, one-of-height}
 use Rattle.recovery.proofs.Correct.{among-correct, correct-listed, highest-locked}
 
@@ -82,7 +82,7 @@ nil [] h = refl
 nil (b ∷ x) h = absurd (omega (arith, h))
 
 -- of two locks of correct replicas that are equally high one is the other
-locks-one : (w : World) → IsLawfulFamily (correct_family w) → (r s : ℕ) → is_correct w r ≡ true
+pub locks-one : (w : World) → IsLawfulFamily (correct_family w) → (r s : ℕ) → is_correct w r ≡ true
     → is_correct w s ≡ true → length (lock_of w r) ≡ length (lock_of w s) → lock_of w r ≡ lock_of w s
 locks-one w l r s mr ms e =
     elim (cases_lt 0 (length (lock_of w r))) [
@@ -143,7 +143,7 @@ over-some c some =
     ]
 
 -- what justifies the lock stands in the tree, so some block that is in reach does
-lock-justified : (s : Sizes) (c : Chronicle) → IsLawful s c → (a : Admitted) → Among a (taken_blocks c)
+pub lock-justified : (s : Sizes) (c : Chronicle) → IsLawful s c → (a : Admitted) → Among a (taken_blocks c)
     → just2 a.branch ≡ lock c → is_justified (lock c) c ≡ true
 lock-justified s c law a m e =
     let over : just1 (just1 a.branch) ≡ lock c = just2-is a.branch ∙ e in

@@ -10,7 +10,7 @@ use Rattle.std.proofs.lemmas.List.{append-nil, append_assoc, length-append}
 use Rattle.std.proofs.Math.Seq.{drop-append_seam}
 use Rattle.ids.specs.Sizes.{Sizes, leader}
 use Rattle.definitions.specs.Lists.{Among}
-use Rattle.definitions.specs.Branches.{Block, Branch, just1, IsBranch}
+use Rattle.definitions.specs.Branches.{Block, Branch, just1, IsBranch, Extends}
 use Rattle.definitions.specs.Checks.{Identity, command_verifies}
 use Rattle.definitions.specs.Chronicles.{Admitted, Chronicle, Step.took_block, Step.noted, Note.beat, taken_blocks}
 use Rattle.definitions.specs.Chronicles.{voted_blocks, vheight, horizon, history, window, lock}
@@ -38,10 +38,12 @@ use Rattle.linear_law.proofs.Runs.{member-faulty}
 use Rattle.linear_law.proofs.MadeCertificates.{qc_high-is}
 use Rattle.recovery.specs.Correct.{ShareKeys, chronicle_of, amply}
 use Rattle.recovery.specs.Healing.{in_turn, numbers_of, sent_since, is_proposal, offered_to, make_block, make_blocks}
-use Rattle.recovery.specs.Law.{Climbs, Leads, high_of}
+use Rattle.recovery.specs.Locks.{high_of}
+use Rattle.recovery.specs.Rounds.{Climbs, Leads, CarriesWaiting}
+use Rattle.recovery.proofs.Carried.{carries-over, picked-carries}
 use Rattle.recovery.proofs.Copies.{correct-party}
 use Rattle.recovery.proofs.Decided.{justifies-below}
-use Rattle.recovery.proofs.Offers.{GoesOn, IsMade, Chain, chain-later, chain-up, chain-end, offer-one}
+use Rattle.recovery.proofs.Offers.{GoesOn, IsMade, Chain, chain-later, chain-up, chain-end, chain-through, offer-one}
 use Rattle.recovery.proofs.Offers.{row-own, row-other, recorded-later, made-later, offer-goes}
 use Rattle.recovery.proofs.Offers.{IsStill, still-none, still-both, still-wider, still-took}
 use Rattle.recovery.proofs.Climbing.{voted-low, voted-now}
@@ -61,13 +63,18 @@ made-block self c = record {
   justify = length (qc_high self.sizes c).block;
 }
 
+pub made-justifies : (self : Identity) (c : Chronicle)
+    → (made-block self c).justify ≡ length (qc_high self.sizes c).block
+unfolding made-block
+made-justifies self c = refl
+
 -- with its certificate
 made-justified : Identity → Chronicle → Justified
 made-justified self c =
     record { block = made-block self c ∷ leaf self c; certificate = (qc_high self.sizes c).certificate }
 
 -- a leader whose leaf stands makes it
-child-made : (self : Identity) (c : Chronicle) → leads self c ≡ true → is_known (digest_of (leaf self c)) c ≡ true
+pub child-made : (self : Identity) (c : Chronicle) → leads self c ≡ true → is_known (digest_of (leaf self c)) c ≡ true
     → child self c (leaf self c) ≡ Some (made-block self c ∷ leaf self c)
 unfolding child made-block
 child-made self c l k = cond-true (leads self c && is_known (digest_of (leaf self c)) c) _ _ (and_from _ _ l k)
@@ -225,7 +232,7 @@ up-is (suc n) room = let h = up-is n room in omega (arith, h)
 
 -- ---- one block
 
-beat-hands : (w : World) (l : ℕ) → is_correct w l ≡ true → (w.replica l).standing ≡ running → HandsIn w
+pub beat-hands : (w : World) (l : ℕ) → is_correct w l ≡ true → (w.replica l).standing ≡ running → HandsIn w
     (beat l) l beat_in
 unfolding acts party_of
 beat-hands w l c s = record { party = refl; correct = c; goes_on = s; acting = refl }
@@ -247,6 +254,7 @@ pub record MadeOne (w next : World) (l v : ℕ) (m : Branch) (room : ℕ) (b : B
       → vheight (chronicle_of next l) < n
   pub still : IsStill w.sizes m (suc (length (leaf (self_of w l) (chronicle_of w l)))) (chronicle_of w l)
       (chronicle_of next l)
+  pub carries : CarriesWaiting w l (b ∷ leaf (self_of w l) (chronicle_of w l))
 
 module _ (sizes : Sizes) (start : World) (all : List Happening) (l v : ℕ) (m : Branch) (br : IsBranch m) where
   -- after the beat
@@ -257,6 +265,7 @@ module _ (sizes : Sizes) (start : World) (all : List Happening) (l v : ℕ) (m :
         ≡ w.sent ++ record { event = w.now; sender = l; to = to_all; frame = f } ∷ []
     made : IsMade (happens w (beat l, ample)) v m (leaf (self_of w l) (chronicle_of w l)) b f
     leaf_is : leaf (self_of w l) (noted beat ∷ chronicle_of w l) ≡ b ∷ leaf (self_of w l) (chronicle_of w l)
+    carries : CarriesWaiting w l (b ∷ leaf (self_of w l) (chronicle_of w l))
 
   beaten : (w : World) (rest : List Happening) (room : ℕ) → IsOnWay sizes start all w ((beat l, ample) ∷ rest)
       → ShareKeys w → is_correct w l ≡ true → (w.replica l).standing ≡ running → Leads w l v m room
@@ -274,8 +283,9 @@ module _ (sizes : Sizes) (start : World) (all : List Happening) (l v : ℕ) (m :
       let leading : leads self ch ≡ true =
       eq-eqb (leader w.sizes (view w.sizes ch)) (me self)
       (ap (leader w.sizes) climbs.in_view ∙ (lead.leader_is ∙ sym number)) in
-      let known : is_known (digest_of z) ch ≡ true =
-      ap is_some (found-itself _ (window ch) (sound-of (KnownAt sizes start all) w g l c).is_tree z climbs.stands) in
+      let there : find_block (digest_of z) ch ≡ Some z =
+      found-itself _ (window ch) (sound-of (KnownAt sizes start all) w g l c).is_tree z climbs.stands in
+      let known : is_known (digest_of z) ch ≡ true = ap is_some there in
       let ok : refusal w (beat l) ≡ None =
       named w (beat l) (and_parts (is_replica w l) (not (w.is_faulty l)) c).0 refl refl in
       let on1 = way-on sizes start all w (beat l, ample) rest on ok in
@@ -311,6 +321,7 @@ module _ (sizes : Sizes) (start : World) (all : List Happening) (l v : ℕ) (m :
               ∙ lead.waiting k (made-waits self ch k n) r (sym (same-correct w one st.made r) ∙ d));
         };
         leaf_is = beat-leaf self ch leading known;
+        carries = picked-carries ch z (made-block self ch) (ap (λ (o : Option Branch). picks ch (or_else o z)) there);
       }
 
   -- the events of one block
@@ -427,6 +438,7 @@ module _ (sizes : Sizes) (start : World) (all : List Happening) (l v : ℕ) (m :
               (still-took w.sizes m (suc (length z)) (noted beat ∷ ch) a
               (ap just1 o.branch ∙ justifies-below b z m over h.made.justify)
               (let e = ap (λ (x : Branch). length x) o.branch in omega (arith, e))));
+          carries = h.carries;
         }),
       )
 
@@ -450,6 +462,7 @@ module _ (sizes : Sizes) (start : World) (all : List Happening) (l v : ℕ) (m :
     pub kept : (x : Branch) → Among x (voted_blocks (chronicle_of w l)) → Among x (voted_blocks (chronicle_of next l))
     pub still : IsStill w.sizes m (length (leaf (self_of next l) (chronicle_of next l))) (chronicle_of w l)
         (chronicle_of next l)
+    pub carries : 0 < n → CarriesWaiting w l (leaf (self_of next l) (chronicle_of next l))
 
   -- a first block, and then the others
   made-more : (w mid next : World) (room room2 n : ℕ) (b : Block) → MadeOne w mid l v m room b
@@ -505,6 +518,9 @@ module _ (sizes : Sizes) (start : World) (all : List Happening) (l v : ℕ) (m :
             (omega (arith, up, mids)) one.still)
             (subst (λ (s : Sizes). IsStill s m (length last) (chronicle_of mid l) (chronicle_of next l))
             one.goes.made.sizes rest.still);
+        carries = λ p k q few. carries-over last (b ∷ z) k
+            (subst (Extends last) one.leaf_is (chain-through next v m (leaf-at mid) rest.ks last rest.chain))
+            (one.carries k q few);
       }
 
   pub made-all : (n : ℕ) (w : World) (rest : List Happening) (room : ℕ)
@@ -532,6 +548,7 @@ module _ (sizes : Sizes) (start : World) (all : List Happening) (l v : ℕ) (m :
       voted = λ p h. absurd (omega (arith, p));
       kept = λ x q. q;
       still = still-none w.sizes m (length (leaf (self_of w l) (chronicle_of w l))) (chronicle_of w l);
+      carries = λ p. absurd (omega (arith, p));
     },
   )
   made-all (suc n) w rest room on keys c s lead top =

@@ -9,7 +9,7 @@ use Rattle.std.proofs.lemmas.Bool.{cond-true, cond-false, cond_both, and_parts, 
 use Rattle.std.proofs.lemmas.List.{append-nil, append_assoc}
 use Rattle.ids.specs.Sizes.{Sizes, leader}
 use Rattle.definitions.specs.Lists.{Among}
-use Rattle.definitions.specs.Branches.{Block, Branch, just1, IsBranch}
+use Rattle.definitions.specs.Branches.{Block, Branch, just1, IsBranch, Extends}
 use Rattle.definitions.specs.Checks.{Identity, command_verifies}
 use Rattle.definitions.specs.Chronicles.{Admitted, Chronicle, Step, Step.took_block, voted_blocks, vheight}
 use Rattle.definitions.specs.Chronicles.{standing_blocks}
@@ -24,9 +24,10 @@ use Rattle.definitions.specs.Worlds.{self_of}
 use Rattle.definitions.specs.Runs.{refusal, after}
 use Rattle.definitions.specs.Events.{happens, recorded}
 use Rattle.definitions.proofs.Lists.{Among-before}
+use Rattle.definitions.proofs.Branches.{Extends-trans}
 use Rattle.definitions.proofs.Chronicles.{voted-grows}
 use Rattle.recovery.specs.Correct.{OfCorrect, ShareKeys, chronicle_of, amply}
-use Rattle.recovery.specs.Law.{IsProposalOf, Climbs}
+use Rattle.recovery.specs.Rounds.{IsProposalOf, Climbs}
 use Rattle.recovery.proofs.Asked.{offer-hands}
 use Rattle.recovery.proofs.Climbing.{next-place, climb-more, voted-low, voted-now}
 use Rattle.recovery.proofs.Decided.{justifies-below}
@@ -65,7 +66,7 @@ goes-both w mid last h k = record {
 }
 
 -- what was recorded stays at its number
-slice-later : (xs ys : List Sent) (k : ℕ) (f : Frame) → option_map (λ s. s.frame) (slice_get xs k) ≡ Some f
+pub slice-later : (xs ys : List Sent) (k : ℕ) (f : Frame) → option_map (λ s. s.frame) (slice_get xs k) ≡ Some f
     → option_map (λ s. s.frame) (slice_get (xs ++ ys) k) ≡ Some f
 slice-later [] ys k f e = absurd (none e)
   where
@@ -97,14 +98,12 @@ pub record IsMade (w : World) (v : ℕ) (m y : Branch) (b : Block) (f : Frame) :
   pub justify : b.justify ≡ length m
   pub good : OfCorrect w (λ r. list_all (command_verifies (self_of w r)) b.commands ≡ true)
 
--- it stays one
-pub made-later : (w next : World) → GoesOn w next → (v : ℕ) (m y : Branch) (b : Block) (f : Frame)
-    → IsMade w v m y b f → IsMade next v m y b f
-made-later w next g v m y b f h =
-    let p = h.proposal in
-    let l = ap (λ (s : Sizes). leader s v) g.made.sizes in
-    record {
-      proposal = record {
+-- a proposal stays one
+pub proposal-later : (w next : World) → GoesOn w next → (v : ℕ) (b : Block) (y : Branch) (f : Frame)
+    → (p : IsProposalOf w v b y f) → (q : IsProposalOf next v b y f) × (q.made ≡ p.made)
+proposal-later w next g v b y f p =
+    let l = ap (λ (s : Sizes). leader s v) g.made.sizes in (
+      record {
         correct = ap (is_correct next) l ∙ (same-correct w next g.made (leader w.sizes v) ∙ p.correct);
         sent = p.sent;
         recorded = subst (λ (r : List Sent). Among p.sent r) (sym g.sent)
@@ -115,11 +114,19 @@ made-later w next g v m y b f h =
         frame_is = p.frame_is;
         block_is = p.block_is;
         justified = p.justified;
-      };
-      justify = h.justify;
-      good = λ r c. ap (λ (s : Identity). list_all (command_verifies s) b.commands) (same-self w next g.made r)
-          ∙ h.good r (sym (same-correct w next g.made r) ∙ c);
-    }
+      },
+      refl,
+    )
+
+-- so does such a one
+pub made-later : (w next : World) → GoesOn w next → (v : ℕ) (m y : Branch) (b : Block) (f : Frame)
+    → IsMade w v m y b f → IsMade next v m y b f
+made-later w next g v m y b f h = record {
+  proposal = (proposal-later w next g v b y f h.proposal).0;
+  justify = h.justify;
+  good = λ r c. ap (λ (s : Identity). list_all (command_verifies s) b.commands) (same-self w next g.made r)
+      ∙ h.good r (sym (same-correct w next g.made r) ∙ c);
+}
 
 -- a chain of them by their numbers, from y up to this block
 unfoldable pub Chain : World → ℕ → Branch → Branch → List ℕ → Branch → Type 0
@@ -152,6 +159,25 @@ pub chain-end : (w : World) (v : ℕ) (m y : Branch) (ks : List ℕ) (last : Bra
 unfolding Chain
 chain-end w v m y [] last h z = h
 chain-end w v m y (k ∷ ks) last h z = absurd (omega (arith, z))
+
+-- it goes through where it begins
+pub chain-through : (w : World) (v : ℕ) (m y : Branch) (ks : List ℕ) (last : Branch) → Chain w v m y ks last
+    → Extends last y
+unfolding Chain
+chain-through w v m y [] last h = ([], h)
+chain-through w v m y (k ∷ ks) last (b, f, e, i, h) =
+    Extends-trans last (b ∷ y) y (chain-through w v m (b ∷ y) ks last h) (b ∷ [], refl)
+
+-- and its last block justifies m
+pub chain-justifies : (w : World) (v : ℕ) (m y : Branch) (ks : List ℕ) (last : Branch) → Chain w v m y ks last
+    → Extends y m → 0 < length ks → just1 last ≡ m
+unfolding Chain
+chain-justifies w v m y [] last h over p = absurd (omega (arith, p))
+chain-justifies w v m y (k ∷ ks) last (b, f, e, i, h) over p = elim (cases_lt 0 (length ks)) [
+  | inl q ↦ chain-justifies w v m (b ∷ y) ks last h (b ∷ over.0, ap (λ (l : Branch). b ∷ l) over.1) q
+  | inr z ↦ ap just1 (sym (chain-end w v m (b ∷ y) ks last h (omega (arith, z))))
+      ∙ justifies-below b y m over i.justify
+]
 
 -- ---- one offer
 

@@ -14,7 +14,7 @@ use Rattle.definitions.specs.Trees.{Placing, Placing.stands, Placing.grows, Plac
 use Rattle.definitions.specs.Trees.{placing, placing_known, placing_over, placing_new, find_in, justifies}
 use Rattle.definitions.specs.Trees.{IsTree}
 use Rattle.definitions.proofs.Trees.{found-in, found-itself}
-use Rattle.recovery.specs.Law.{HasPlace}
+use Rattle.recovery.specs.Fetching.{HasPlace}
 
 -- a number that is no lower isn't below
 not-below : (a b : ℕ) → b ≤ a → nat_lt a b ≡ false
@@ -44,7 +44,7 @@ placed-new b parent q t e room free low =
     ∙ (cond-false _ _ _ (ap not (lt-ltb _ MOST_OF_HEIGHT free))
     ∙ cond-false _ _ _ (ap not (and_from _ _ (lt-ltb _ MOST_BLOCKS room) (lt-ltb _ HEIGHT_LIMIT low)))))
 
-digest-own : (b : Block) (parent : Branch) → digest_of (b ∷ parent) ≡ digest (core_of (b ∷ parent))
+pub digest-own : (b : Block) (parent : Branch) → digest_of (b ∷ parent) ≡ digest (core_of (b ∷ parent))
 unfolding digest_of core_of
 digest-own b parent = refl
 

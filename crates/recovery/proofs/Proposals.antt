@@ -3,22 +3,25 @@ use Rattle.ids.specs.declared.fault.Fault.TheVariants as fault
 use Rattle.ids.specs.declared.limits.TheConstants.{MOST_BLOCKS}
 use Rattle.ids.specs.declared.kind.Kind.TheVariants as kind
 use Rattle.std.proofs.Common.{ℕ, suc, ◌≡◌, ◌⊎◌, ◌&&◌, ◌==◌, Bool, true, false, cond, List, [], ◌∷◌}
-use Rattle.std.proofs.Common.{length, map, true≢false, refl, sym, ap, subst, ◌∙◌, arith, inl, inr, nat_lt}
+use Rattle.std.proofs.Common.{length, map, filter, take, true≢false, refl, sym, ap, subst, ◌∙◌, arith, inl, inr, nat_lt}
 use Rattle.std.proofs.Common.{Option, Some}
 use Rattle.std.specs.List.{list_all}
 use Rattle.std.proofs.lemmas.Bool.{and_from, or_left, or_right, cond-true, cond-false, cond_both, eq-eqb, and_parts}
 use Rattle.std.proofs.lemmas.Bool.{cases_Bool}
-use Rattle.ids.specs.Sizes.{Sizes, leader}
+use Rattle.std.proofs.lemmas.List.{take_all}
+use Rattle.std.specs.Cmp.Lexicographic.{bytes_decides}
+use Rattle.ids.specs.Sizes.{Sizes, leader, quorum}
 use Rattle.definitions.specs.Bytes.{Bytes}
 use Rattle.definitions.specs.Lists.{Among}
 use Rattle.definitions.specs.Branches.{Block, Branch, just1, justify_height, branch_eq}
 use Rattle.definitions.specs.Chronicles.{Admitted, Chronicle, Step.took_block, window, horizon, standing_blocks}
 use Rattle.definitions.specs.Chronicles.{stored_blocks, stored_block, taken_blocks, is_safe}
-use Rattle.definitions.specs.Digests.{core_of, core_over, AllKnown}
-use Rattle.definitions.specs.Frames.{Core, Certificate, Frame, proposal_content}
+use Rattle.definitions.specs.Digests.{core_of, core_over, AllKnown, digest, digest_of}
+use Rattle.definitions.specs.Frames.{Core, Certificate, Vote, Frame, genesis_core, proposal_content}
 use Rattle.definitions.specs.Frames as frame
 use Rattle.definitions.specs.Keyrings.{vector_for}
-use Rattle.definitions.specs.Checks.{Identity, command_verifies, cut, findings, is_good, is_clear_core}
+use Rattle.definitions.specs.Checks.{Identity, command_verifies, cut, findings, is_good, is_genesis, vote_verifies}
+use Rattle.definitions.specs.Checks.{is_clear_core}
 use Rattle.definitions.specs.Grounds.{is_justified, is_own_certified, grounded}
 use Rattle.definitions.specs.Rulings.{Input, Input.proposal_in, Input.offered_in, Ruling, Ruling.due}
 use Rattle.definitions.specs.Rulings.{admitted, on_placing}
@@ -34,9 +37,11 @@ use Rattle.definitions.proofs.Branches.{branch_eq-decides}
 use Rattle.definitions.proofs.Horizons.{window-grown, window-tree}
 use Rattle.linear_law.proofs.Runs.{member-faulty}
 use Rattle.recovery.specs.Correct.{ShareKeys, chronicle_of, view_of}
-use Rattle.recovery.specs.Law.{HasPlace, MayVoteFor, IsProposalOf, ProposalsAreTaken}
+use Rattle.recovery.specs.Fetching.{HasPlace}
+use Rattle.recovery.specs.Rounds.{MayVoteFor, IsProposalOf, ProposalsAreTaken}
 use Rattle.recovery.proofs.Copies.{vector-verifies, correct-party}
 use Rattle.recovery.proofs.Wells.{IsReached, reached, sound-of, known-of, one-branch}
+use Rattle.recovery.proofs.Firsts.{IsPlain}
 use Rattle.recovery.proofs.Places.{IsPlaced, placed}
 use Rattle.recovery.proofs.Marks.{stands-clear}
 
@@ -274,15 +279,20 @@ proposal-shown w u v b parent q vec tag has place grounds =
       takes = o;
     }
 
--- a correct leader's proposal of this block
-pub proposal-known : (Known : Core → Type 0) (w : World) → IsReached Known w → ShareKeys w → (u v : ℕ)
-    → is_correct w u ≡ true → (b : Block) (parent : Branch) (f : Frame) → IsProposalOf w v b parent f
+-- what is known of a correct leader's proposal where it comes
+record IsReceived (w : World) (u v : ℕ) (b : Block) (parent : Branch) (q : Certificate) (f : Frame) : Type 0 where
+  vector : Bytes
+  is : f ≡ frame.proposal v (core_of (b ∷ parent)) q vector
+  verifies : own_tag_verifies (self_of w u) (frame.proposal v (core_of (b ∷ parent)) q vector) ≡ true
+  place : IsPlaced (chronicle_of w u) (b ∷ parent)
+      (placing (horizon (chronicle_of w u)) MOST_BLOCKS (core_of (b ∷ parent)) q (window (chronicle_of w u)))
+
+proposal-received : (Known : Core → Type 0) (w : World) → IsReached Known w → ShareKeys w → (u v : ℕ)
+    → is_correct w u ≡ true → (b : Block) (parent : Branch) (f : Frame) → (made : IsProposalOf w v b parent f)
     → HasPlace (chronicle_of w u) b parent
-    → (is_justified (just1 (b ∷ parent)) (chronicle_of w u) ≡ true)
-    ⊎ (is_own_certified (self_of w u) (just1 (b ∷ parent)) (chronicle_of w u) ≡ true)
-    → IsShown w u v b parent f
+    → IsReceived w u v b parent (cut (self_of w (leader w.sizes v)) made.made.certificate) f
 unfolding proposal_frame cut
-proposal-known Known w g keys u v c b parent f made has grounds =
+proposal-received Known w g keys u v c b parent f made has =
     let l : ℕ = leader w.sizes v in
     let q : Certificate = cut (self_of w l) made.made.certificate in
     let x : Branch = b ∷ parent in
@@ -295,12 +305,52 @@ proposal-known Known w g keys u v c b parent f made has grounds =
     (subst (CoreOf (core_of x)) (sym is ∙ made.frame_is) refl) in
     let known : AllKnown Known x =
     (core, known-of Known w g u c parent (window-tree (chronicle_of w u) parent has.stands)) in
-    let place = placed (chronicle_of w u) b parent q (sound-of Known w g u c).is_tree has made.justified
-    (λ y m e. one-branch Known w g y x (known-of Known w g u c y (window-tree (chronicle_of w u) y m)) known e) in
-    subst (IsShown w u v b parent) (sym is)
-    (proposal-shown w u v b parent q vec
-    (vector-verifies w keys kind.Proposal l u (proposal_content v (core_of x) q) (correct-party w l made.correct)
-    (member-faulty w l made.correct) c) has place grounds)
+    record {
+      vector = vec;
+      is = is;
+      verifies = vector-verifies w keys kind.Proposal l u (proposal_content v (core_of x) q)
+          (correct-party w l made.correct) (member-faulty w l made.correct) c;
+      place = placed (chronicle_of w u) b parent q (sound-of Known w g u c).is_tree has made.justified
+          (λ y m e. one-branch Known w g y x (known-of Known w g u c y (window-tree (chronicle_of w u) y m)) known e);
+    }
+
+-- a correct leader's proposal of this block
+pub proposal-known : (Known : Core → Type 0) (w : World) → IsReached Known w → ShareKeys w → (u v : ℕ)
+    → is_correct w u ≡ true → (b : Block) (parent : Branch) (f : Frame) → IsProposalOf w v b parent f
+    → HasPlace (chronicle_of w u) b parent
+    → (is_justified (just1 (b ∷ parent)) (chronicle_of w u) ≡ true)
+    ⊎ (is_own_certified (self_of w u) (just1 (b ∷ parent)) (chronicle_of w u) ≡ true)
+    → IsShown w u v b parent f
+proposal-known Known w g keys u v c b parent f made has grounds =
+    let r = proposal-received Known w g keys u v c b parent f made has in
+    subst (IsShown w u v b parent) (sym r.is)
+    (proposal-shown w u v b parent _ r.vector r.verifies has r.place grounds)
+
+-- genesis's certificate is good for all
+plain-good : (self by : Identity) (q : Certificate) → IsPlain q → is_good self (cut by q) ≡ true
+unfolding is_good cut digest_of
+plain-good self by q p =
+    cond-true (is_genesis q.digest) _ _ ((bytes_decides q.digest (digest genesis_core)).1 p.0)
+    ∙ (ap (λ (bs : List Vote). length (take (quorum by.sizes) (filter (vote_verifies by q.digest) bs)) == 0) p.1
+    ∙ ap (λ (bs : List Vote). length bs == 0) (take_all (quorum by.sizes) [] (omega arith)))
+
+-- so a proposal on genesis is taken where it comes
+pub plain-taken : (Known : Core → Type 0) (w : World) → IsReached Known w → ShareKeys w → (u v : ℕ)
+    → is_correct w u ≡ true → (b : Block) (parent : Branch) (f : Frame) → (made : IsProposalOf w v b parent f)
+    → HasPlace (chronicle_of w u) b parent → IsPlain made.made.certificate
+    → (i : Input) × (check (self_of w u) f ≡ passes i)
+    × Takes w u v b parent (ruling (self_of w u) i (chronicle_of w u))
+unfolding check ruling
+plain-taken Known w g keys u v c b parent f made has plain =
+    let self : Identity = self_of w u in
+    let q : Certificate = cut (self_of w (leader w.sizes v)) made.made.certificate in
+    let core : Core = core_of (b ∷ parent) in
+    let r = proposal-received Known w g keys u v c b parent f made has in
+    let good = plain-good self (self_of w (leader w.sizes v)) made.made.certificate plain in (
+      proposal_in v core q (findings self core q),
+      ap (check self) r.is ∙ cond-true _ _ _ (and_from _ _ r.verifies good),
+      placing-takes w u v (leader w.sizes v) b parent q _ has r.place,
+    )
 
 -- what it finds clear where it stands needn't be asked for
 pub may-vote : (Known : Core → Type 0) (w : World) → IsReached Known w → (u v : ℕ) → is_correct w u ≡ true

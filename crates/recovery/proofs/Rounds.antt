@@ -1,21 +1,24 @@
 -- A round: a burst, and all votes on it, leave all with certificates of their own.
-use Rattle.std.proofs.Common.{ℕ, suc, ◌≡◌, ◌<◌, ◌≤◌, ◌+◌, ◌==◌, ◌&&◌, not, Bool, true, false, cond, List, [], ◌∷◌}
+use Rattle.std.proofs.Common.{ℕ, suc, ◌≡◌, ◌<◌, ◌≤◌, ◌==◌, ◌&&◌, not, Bool, true, false, cond, List, [], ◌∷◌}
 use Rattle.std.proofs.Common.{◌++◌, map, length, drop, refl, sym, ap, subst, ◌∙◌, arith, inl, inr, nat_lt, Some, Ok}
 use Rattle.std.proofs.Common.{option_map, slice_get}
+use Rattle.std.specs.Prelude.{count_by}
+use Rattle.ids.specs.declared.limits.TheConstants.{MOST_OF_HEIGHT}
 use Rattle.std.specs.List.{list_any, AllByRecursion}
 use Rattle.std.specs.Cmp.Lexicographic.{bytes_decides}
-use Rattle.std.proofs.lemmas.Bool.{cond-true, cond_both, and_from, and_parts, cases_Bool}
+use Rattle.std.proofs.lemmas.Bool.{cond-true, cond-false, cond_both, and_from, and_parts, cases_Bool}
 use Rattle.std.proofs.lemmas.List.{append-nil, append_assoc, length-append, length-map}
 use Rattle.std.proofs.Math.Seq.{drop-append_seam}
-use Rattle.ids.specs.Sizes.{Sizes, replicas, quorum}
+use Rattle.ids.specs.Sizes.{Sizes, replicas, quorum, leader}
 use Rattle.definitions.specs.Bytes.{Bytes}
 use Rattle.definitions.specs.Lists.{Among, AreDistinct, count_below, greatest}
-use Rattle.definitions.specs.Branches.{Branch, Extends, branch_eq}
+use Rattle.definitions.specs.Branches.{Branch, branch_eq}
 use Rattle.definitions.specs.Agreement.{MayBeCertified, supports}
-use Rattle.definitions.specs.Checks.{Identity}
+use Rattle.definitions.specs.Checks.{Identity, command_verifies}
+use Rattle.definitions.specs.Trees.{Stored, clear_above}
 use Rattle.definitions.specs.Chronicles.{Chronicle, Step.took_block, Step.noted, Note.got_vote, Note.led_from}
 use Rattle.definitions.specs.Chronicles.{voted_blocks}
-use Rattle.definitions.specs.Chronicles.{vheight, window}
+use Rattle.definitions.specs.Chronicles.{vheight, window, standing_blocks}
 use Rattle.definitions.specs.Digests.{digest, digest_of, AllKnown}
 use Rattle.definitions.specs.Frames.{Core, Vote, Frame, genesis_core}
 use Rattle.definitions.specs.Grounds.{is_own_certified, own_counted}
@@ -35,22 +38,25 @@ use Rattle.linear_law.specs.Law.{correct_family}
 use Rattle.linear_law.proofs.HeldVotes.{AreHolding}
 use Rattle.linear_law.proofs.MadeCertificates.{qc_high-is, votes-each, votes-count, Counts}
 use Rattle.linear_law.proofs.Runs.{IsGiven, Stands}
-use Rattle.recovery.specs.Correct.{OfCorrect, AllGoOn, chronicle_of, correct_replicas, amply}
+use Rattle.recovery.specs.Correct.{OfCorrect, ShareKeys, chronicle_of, correct_replicas, amply}
 use Rattle.recovery.specs.Healing.{in_turn, sent_since, numbers_of, is_vote, comes_to, burst, round, highest_voted}
-use Rattle.recovery.specs.Law.{IsCertifiedByAll, RoundsCertify, high_of}
-use Rattle.recovery.proofs.Bursts.{MayBurst, burst-voted, distinct-correct}
+use Rattle.recovery.specs.Locks.{high_of}
+use Rattle.recovery.specs.Rounds.{Climbs, MayBurst, IsVotedForByAll, IsCertifiedByAll, RoundsCertify}
+use Rattle.recovery.proofs.Bursts.{burst-voted, distinct-correct}
 use Rattle.recovery.proofs.Copies.{replicas-to}
 use Rattle.recovery.proofs.Correct.{among-correct, correct-listed}
 use Rattle.recovery.proofs.Families.{one-of-height}
-use Rattle.recovery.proofs.Fetched.{window-told}
+use Rattle.recovery.proofs.Fetched.{window-told, lock-told}
+use Rattle.recovery.proofs.Counting.{IsCounting}
+use Rattle.recovery.proofs.Views.{not-less}
 use Rattle.recovery.proofs.Highs.{high-certified, certified-low, voter-supports, some-core, some-core-is}
 use Rattle.recovery.proofs.Offers.{GoesOn, goes-both}
 use Rattle.recovery.proofs.Steps.{frame-behind}
 use Rattle.recovery.proofs.Tallied.{MayCount, HasCounted, votes-to-all, counted-all}
 use Rattle.recovery.proofs.Voting.{AreVotes, HasVote}
 use Rattle.recovery.proofs.Ways.{IsOnWay, KnownAt, on-way-from, on-way, way-past}
-use Rattle.recovery.proofs.Wells.{IsReached, sound-of, known-of, stored-of, family-of, one-branch, run-after}
-use Rattle.recovery.proofs.Worlds.{IsMadeAs, made-after, keys-in, same-correct, same-self, passes-append}
+use Rattle.recovery.proofs.Wells.{IsReached, sound-of, known-of, stored-of, family-of, one-branch}
+use Rattle.recovery.proofs.Worlds.{keys-in, same-correct, same-self, passes-append}
 use Rattle.recovery.proofs.Worlds.{after-append}
 
 -- ---- numbers of frames
@@ -101,11 +107,11 @@ pass-numbered p v (y ∷ ys) xs k e l s (inr q) t =
 
 -- ---- heights that were voted for
 
-vheight-told : (c d : Chronicle) → voted_blocks c ≡ voted_blocks d → vheight c ≡ vheight d
+pub vheight-told : (c d : Chronicle) → voted_blocks c ≡ voted_blocks d → vheight c ≡ vheight d
 unfolding vheight
 vheight-told c d e = ap (λ (l : List Branch). greatest (map (λ (b : Branch). length b) l)) e
 
-highest-voted-below : (w : World) (rs : List ℕ) (n : ℕ) → 0 < n
+pub highest-voted-below : (w : World) (rs : List ℕ) (n : ℕ) → 0 < n
     → ((r : ℕ) → Among r rs → vheight (chronicle_of w r) < n) → highest_voted w rs < n
 unfolding highest_voted
 highest-voted-below w [] n p h = p
@@ -258,29 +264,55 @@ all-certify w x enough voted =
     (λ i l t. voter-supports w x i (λ c. voted i c)) in
     omega (arith, n, enough)
 
+-- ---- who may climb from a block that is certified
+
+-- all is clear above a block's own height
+pub clear-own : (x : Branch) (stored : List Stored) → clear_above (length x) x stored ≡ true
+unfolding clear_above
+clear-own [] stored = refl
+clear-own (b ∷ x) stored = cond-false (nat_lt (suc (length x)) (suc (length x))) _ _ (not-less (suc (length x)))
+
+-- who climbed to a block, and has a certificate of its own for it, climbs on from there
+climb-on : (self : Identity) (v : ℕ) (m x : Branch) (room : ℕ) (before c : Chronicle) → Climbs self v m x room before
+    → IsCounting self x before c → length m < length x → is_own_certified self x c ≡ true → Climbs self v x x room c
+climb-on self v m x room before c k counting up own =
+    let w = window-told before c counting.taken counting.forgotten in
+    let l = lock-told before c counting.taken in
+    let long = ap (λ (b : Branch). length b) l in
+    record {
+      in_view = counting.in_view ∙ k.in_view;
+      stands = subst (λ (b : List Branch). Among x b) (sym w) k.stands;
+      over = ([], refl);
+      ground = inr own;
+      reach = (let h = counting.forgotten in let r = k.reach in omega (arith, h, r, up));
+      safe = inr (elim k.safe [
+        | inl e ↦ (let n = ap (λ (b : Branch). length b) e in omega (arith, long, n, up))
+        | inr n ↦ omega (arith, long, n, up)
+      ]);
+      clear = clear-own x (standing_blocks c);
+      trees = (let n = ap (λ (b : List Branch). length b) w in let t = k.trees in omega (arith, n, t));
+      heights = λ h n. subst (λ (b : List Branch). count_by (λ y. length y == h) b < MOST_OF_HEIGHT) (sym w)
+          (k.heights h n);
+    }
+
 module _ (sizes : Sizes) (start : World) (all : List Happening) where
   abbrev Known : Core → Type 0
   Known = KnownAt sizes start all
 
-  -- who leads, what all voted for, and what was counted
-  record HasRound (w mid end : World) (l n : ℕ) (m x : Branch) : Type 0 where
-    on_w : IsReached Known w
+  -- what all voted for, and what was counted
+  record HasRound (w mid end : World) (l v n room : ℕ) (m x : Branch) : Type 0 where
     on_end : IsReached Known end
     burst_is : GoesOn w mid
     votes_are : GoesOn mid end
-    going_on : AllGoOn mid
-    height : length x ≡ length m + n
-    over : Extends x m
-    leaf_is : leaf (self_of w l) (chronicle_of mid l) ≡ x
-    voted : OfCorrect mid (λ r. Among x (voted_blocks (chronicle_of mid r)))
-    stands : OfCorrect mid (λ r. Among x (window (chronicle_of mid r)))
+    voted_for : IsVotedForByAll w mid l v n room m x
     low : OfCorrect mid (λ r. vheight (chronicle_of mid r) < suc (length x))
     counted : OfCorrect mid (λ u. HasCounted mid x u (end.replica u))
 
   -- so all are certified
-  round-done : (w mid end : World) (l n : ℕ) (m x : Branch) → HasRound w mid end l n m x → 0 < n
-      → is_correct w l ≡ true → run w (round n l w) ≡ Ok end → IsCertifiedByAll w end l n m x
-  round-done w mid end l n m x h some cl ran =
+  round-done : (w mid end : World) (l v n room : ℕ) (m x : Branch) → HasRound w mid end l v n room m x → 0 < n
+      → is_correct w l ≡ true → ShareKeys end → run w (round n l w) ≡ Ok end → IsCertifiedByAll w end l v n room m x
+  round-done w mid end l v n room m x h some cl keys ran =
+      let so = h.voted_for in
       let g = h.on_end in
       let fam = family-of Known end g in
       let was : (r : ℕ) → is_correct end r ≡ true → is_correct mid r ≡ true =
@@ -291,7 +323,7 @@ module _ (sizes : Sizes) (start : World) (all : List Happening) where
       (λ i r. same-correct mid end made r i)
       (subst (λ (s : Sizes). quorum s ≤ count_below (replicas s) (is_correct end)) made.sizes fam.enough) in
       let voted : OfCorrect end (λ r. Among x (voted_blocks (chronicle_of end r))) =
-      λ r c. subst (λ (b : List Branch). Among x b) (sym (h.counted r (was r c)).counting.voted) (h.voted r
+      λ r c. subst (λ (b : List Branch). Among x b) (sym (h.counted r (was r c)).counting.voted) (so.voted r
       (was r c)) in
       let certified = all-certify end x fam.enough voted in
       let top : highest_voted end (correct_replicas end) < suc (length x) =
@@ -300,7 +332,7 @@ module _ (sizes : Sizes) (start : World) (all : List Happening) where
       let e = vheight-told (chronicle_of end r) (chronicle_of mid r) (h.counted r (was r c)).counting.voted in
       let b = h.low r (was r c) in
       omega (arith, e, b)) in
-      let up : 0 < length x = (let k = h.height in omega (arith, k, some)) in
+      let up : 0 < length x = (let k = so.high in omega (arith, k, some)) in
       let high : OfCorrect end (λ r. high_of end r ≡ x) = λ u c.
       (let cm = was u c in
       let k = (h.counted u cm).counting in
@@ -318,45 +350,76 @@ module _ (sizes : Sizes) (start : World) (all : List Happening) where
         | inl z ↦ absurd (let i = ap (λ (b : Branch). length b) z in omega (arith, i, e, up))
         | inr p ↦ one-of-height (correct_family end) fam (high_of end u) x p certified e
       ]) in
-      let stands : OfCorrect end (λ r. Among x (window (chronicle_of end r))) = λ r c.
-      (let k = (h.counted r (was r c)).counting in
-      subst (λ (b : List Branch). Among x b)
-      (sym (window-told (chronicle_of mid r) (chronicle_of end r) k.taken k.forgotten)) (h.stands r (was r c))) in
-      let cle = same-correct w end (goes-both w mid end h.burst_is h.votes_are).made l ∙ cl in
-      let selfe = same-self w end (goes-both w mid end h.burst_is h.votes_are).made l in
+      let all = goes-both w mid end h.burst_is h.votes_are in
+      let cle = same-correct w end all.made l ∙ cl in
+      let selfe = same-self w end all.made l in
       let selfm = same-self w mid h.burst_is.made l in
+      let leaf_is : leaf (self_of end l) (chronicle_of end l) ≡ x =
+      (let k = (h.counted l (was l cle)).counting.leaf_is in
+      let here = ap (λ (s : Identity). leaf s (chronicle_of end l)) (selfe ∙ sym selfm) in
+      here ∙ (elim k [
+        | inl e ↦ e ∙ (ap (λ (s : Identity). leaf s (chronicle_of mid l)) selfm ∙ so.leaf_is)
+        | inr e ↦ e ∙ (ap (λ (s : Sizes). (qc_high s (chronicle_of end l)).block) (sym made.sizes) ∙ high l cle)
+      ])) in
+      let own : OfCorrect end (λ r. is_own_certified (self_of end r) x (chronicle_of end r) ≡ true) = λ u c.
+      (let cm = was u c in
+      let kx = known-of Known end g u c x (window-tree (chronicle_of end u) x
+      (subst (λ (b : List Branch). Among x b)
+      (sym (window-told (chronicle_of mid u) (chronicle_of end u) (h.counted u cm).counting.taken
+      (h.counted u cm).counting.forgotten)) (so.climbs u cm).stands)) in
+      let e = ap (λ (b : Branch). length b) (high u c) in
+      let sz = ap (λ (s : Sizes). length (qc_high s (chronicle_of end u)).block) made.sizes in
+      own-certified Known end g u c x kx up (high u c)
+      (subst (λ (s : Sizes). 0 < length (qc_high s (chronicle_of end u)).certificate.votes) (sym made.sizes)
+      (elim (h.counted u cm).counting.made [
+        | inl l ↦ absurd (omega (arith, l, e, sz))
+        | inr k ↦ k
+      ]))) in
+      let higher : length m < length x = (let k = so.high in omega (arith, k, some)) in
+      let climbs : OfCorrect end (λ r. Climbs (self_of end r) v x x room (chronicle_of end r)) = λ r c.
+      (let cm = was r c in
+      let e = same-self mid end made r in
+      subst (λ (s : Identity). Climbs s v x x room (chronicle_of end r)) (sym e)
+      (climb-on (self_of mid r) v m x room (chronicle_of mid r) (chronicle_of end r)
+      (subst (λ (s : Identity). Climbs s v m x room (chronicle_of mid r)) (sym (same-self w mid h.burst_is.made r))
+      (so.climbs r cm)) (h.counted r cm).counting higher
+      (subst (λ (s : Identity). is_own_certified s x (chronicle_of end r) ≡ true) e (own r c)))) in
       record {
         ran = ran;
-        going_on = λ r c. (h.counted r (was r c)).going_on;
-        height = h.height;
-        over = h.over;
-        leaf_is =
-            let k = (h.counted l (was l cle)).counting.leaf_is in
-            let here = ap (λ (s : Identity). leaf s (chronicle_of end l)) (selfe ∙ sym selfm) in
-            here ∙ (elim k [
-              | inl e ↦ e ∙ (ap (λ (s : Identity). leaf s (chronicle_of mid l)) selfm ∙ h.leaf_is)
-              | inr e ↦ e ∙ (ap (λ (s : Sizes). (qc_high s (chronicle_of end l)).block) (sym made.sizes) ∙ high l cle)
-            ]);
+        height = so.high;
+        over = so.over;
+        justifies = so.justifies;
+        carries = so.carries;
         high = high;
-        own = λ u c.
-            let cm = was u c in
-            let kx = known-of Known end g u c x (window-tree (chronicle_of end u) x (stands u c)) in
-            let e = ap (λ (b : Branch). length b) (high u c) in
-            let sz = ap (λ (s : Sizes). length (qc_high s (chronicle_of end u)).block) made.sizes in
-            own-certified Known end g u c x kx up (high u c)
-            (subst (λ (s : Sizes). 0 < length (qc_high s (chronicle_of end u)).certificate.votes) (sym made.sizes)
-            (elim (h.counted u cm).counting.made [
-              | inl l ↦ absurd (omega (arith, l, e, sz))
-              | inr k ↦ k
-            ]));
-        stands = stands;
+        own = own;
+        climbing = record {
+          keys = keys;
+          goes = λ r c. (h.counted r (was r c)).going_on;
+          correct = cle;
+          leads_it = record {
+            leader_is = ap (λ (s : Sizes). leader s v) made.sizes ∙ so.leads_on.leader_is;
+            high = high l cle;
+            climbs = subst (λ (b : Branch). Climbs (self_of end l) v x b room (chronicle_of end l)) (sym leaf_is)
+                (climbs l cle);
+            waiting = λ q k r c.
+                ap (λ (i : Identity). command_verifies i q) (same-self mid end made r)
+                ∙ so.leads_on.waiting q ((h.counted l (was l cle)).counting.waiting q k) r (was r c);
+          };
+          leaf_is = leaf_is;
+          climbs = climbs;
+        };
+        low = λ r c.
+            let e = vheight-told (chronicle_of end r) (chronicle_of mid r) (h.counted r (was r c)).counting.voted in
+            let b = h.low r (was r c) in
+            omega (arith, e, b);
         session = h.votes_are.session ∙ h.burst_is.session;
       }
 
-  round-certified : (w : World) (rest : List Happening) (l v n room : ℕ) (m : Branch)
+  pub round-certified : (w : World) (rest : List Happening) (l v n room : ℕ) (m : Branch)
       → IsOnWay sizes start all w (round n l w ++ rest) → MayBurst w l v n room m
-      → (x : Branch) × IsCertifiedByAll w (after w (round n l w)) l n m x
+      → (x : Branch) × IsCertifiedByAll w (after w (round n l w)) l v n room m x
   round-certified w rest l v n room m on may =
+      let from = may.climbing in
       let bs : List Happening = burst n l w in
       let mid : World = after w bs in
       let cs : List ℕ = correct_replicas mid in
@@ -379,7 +442,7 @@ module _ (sizes : Sizes) (start : World) (all : List Happening) where
       let lowx : OfCorrect w (λ r. vheight (chronicle_of w r) < length x) =
       λ r c. (let k = may.low r c in omega (arith, k, high)) in
       let stands : OfCorrect mid (λ r. Among x (window (chronicle_of mid r))) = λ r c. (voted.climbs r c).stands in
-      let cl = same-correct w mid made l ∙ may.correct in
+      let cl = same-correct w mid made l ∙ from.correct in
       let kx = known-of Known mid gm l cl x (window-tree (chronicle_of mid l) x (stands l cl)) in
       let famw = family-of Known w gw in
       let topw = highest-voted-below w (correct_replicas w) (length x) (omega (arith, high, some))
@@ -411,7 +474,7 @@ module _ (sizes : Sizes) (start : World) (all : List Happening) where
             (let e = ap (λ (z : List Vote). length z) (still.votes_are x) in
             let k = votes-lack Known w gw x kx lowx u cw in omega (arith, e, k));
       }) in
-      let keysm = keys-in w mid made may.keys in
+      let keysm = keys-in w mid made from.keys in
       let t = votes-to-all sizes start all x ks cs mid rest onm keysm (distinct-correct mid
       (replicas mid.sizes)) are have mays in
       let end : World = after mid later in
@@ -421,38 +484,21 @@ module _ (sizes : Sizes) (start : World) (all : List Happening) where
       let ran : run w (round n l w) ≡ Ok end =
       ap (run w) is ∙ (passes-append w bs later voted.ran t.0 ∙ ap (λ (z : World). Ok z) (after-append w bs later)) in (
         x,
-        subst (λ (z : World). IsCertifiedByAll w z l n m x) (sym ends)
-            (round-done w mid end l n m x (record {
-              on_w = gw;
+        subst (λ (z : World). IsCertifiedByAll w z l v n room m x) (sym ends)
+            (round-done w mid end l v n room m x (record {
               on_end = ge;
               burst_is = b.goes;
               votes_are = t.1.goes;
-              going_on = voted.going_on;
-              height = high;
-              over = voted.over;
-              leaf_is = refl;
-              voted = voted.voted;
-              stands = stands;
+              voted_for = voted;
               low = λ r c. (b.still r (was r c)).voted_low (suc (length x)) (omega arith)
                   (let k = lowx r (was r c) in omega (arith, k));
               counted = λ u c. t.1.each u (correct-listed mid u c);
-            }) some may.correct ran),
+            }) some from.correct (keys-in mid end t.1.goes.made keysm) ran),
       )
 
 pub rounds-certify : RoundsCertify
-rounds-certify sizes is_faulty ring hs w l v n room m keys met e goes cl lead is climbs low some top =
+rounds-certify l v n room m sizes is_faulty ring hs w met e may =
     let start : World = new_world sizes is_faulty ring in
     let on = on-way-from sizes is_faulty ring hs (round n l w) w met e in
-    let made = subst (IsMadeAs start) (run-after hs start w e) (made-after start hs) in
     round-certified sizes start (hs ++ round n l w) w [] l v n room m
-    (subst (IsOnWay sizes start (hs ++ round n l w) w) (sym (append-nil (round n l w))) on) (record {
-      keys = keys-in start w made keys;
-      goes = goes;
-      correct = cl;
-      leads_it = lead;
-      leaf_is = is;
-      climbs = climbs;
-      low = low;
-      some = some;
-      top = top;
-    })
+    (subst (IsOnWay sizes start (hs ++ round n l w) w) (sym (append-nil (round n l w))) on) may

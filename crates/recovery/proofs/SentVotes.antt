@@ -71,10 +71,10 @@ step-sends w p self (took_block a) c xs x m old = by a.voted refl m
     by true e (inr k) = sent-more xs out self p x (old k)
     by false e k = sent-more xs out self p x (old k)
 
-stopped-apart : stopped ≡ running → ⊥
+pub stopped-apart : stopped ≡ running → ⊥
 stopped-apart e = cc
 
-cut-apart : (n : ℕ) → cut_short n ≡ running → ⊥
+pub cut-apart : (n : ℕ) → cut_short n ≡ running → ⊥
 cut-apart n e = cc
 
 -- what a step's outcome leaves

@@ -1,15 +1,17 @@
 -- What one event of a correct replica that goes on does to its world.
 use Rattle.ids.specs.declared.fault.Fault.TheVariants as fault
-use Rattle.std.proofs.Common.{ℕ, ◌≡◌, ◌==◌, true, List, [], ◌∷◌, ◌++◌, map, refl, sym, ap}
+use Rattle.std.proofs.Common.{ℕ, ◌≡◌, ◌==◌, true, false, List, [], ◌∷◌, ◌++◌, map, refl, sym, ap}
 use Rattle.std.proofs.Common.{subst, ◌∙◌, inl, inr, Some, option_map, slice_get, length}
 use Rattle.std.proofs.lemmas.Bool.{cond-true, cond-false, cond_both, eqb-true, cases_Bool}
 use Rattle.definitions.specs.Bytes.{Bytes}
 use Rattle.definitions.specs.Checks.{Identity}
 use Rattle.definitions.specs.Chronicles.{Chronicle, Step}
-use Rattle.definitions.specs.Rulings.{Input, Ruling, Ruling.due, Ruling.missing, ruling, conflicts}
+use Rattle.definitions.specs.Rulings.{Input, Ruling, Ruling.due, Ruling.missing, Ruling.refusing, ruling, conflicts}
 use Rattle.definitions.specs.Sendings.{Sending, sendings}
 use Rattle.definitions.specs.Replicas.{MemorySupply.ample, Replica, Reaction, Reaction.sends_out, Standing.running}
-use Rattle.definitions.specs.Replicas.{on_ruling, on_step, stopped_at, Reaction.fails, Reaction.asks_for}
+use Rattle.ids.specs.declared.fault.Fault.{Fault}
+use Rattle.definitions.specs.Replicas.{on_ruling, on_step, stopped_at, stops, Standing, Standing.stopped}
+use Rattle.definitions.specs.Replicas.{Reaction.fails, Reaction.asks_for}
 use Rattle.definitions.specs.Worlds.{World, Sent, Event, Happening, is_correct, self_of, put}
 use Rattle.definitions.specs.Events.{Effect, stepped, acts, effect, happens, party_of, steps, out_of, answer_of}
 use Rattle.linear_law.proofs.Linear.{NoneConflicts}
@@ -106,6 +108,26 @@ same-row w p s j =
     cond_both (j == p) (going (chronicle_of w p)) (w.replica j) (λ (x : Replica). x ≡ w.replica j)
     (λ e. (λ k. record { chronicle = chronicle_of w p; standing = sym s k }) ∙ ap w.replica (sym (eqb-true j p e)))
     (λ e. refl)
+
+-- an input is refused, with a fault that stops nobody: nothing changes with it
+pub refused : (w : World) (e : Event) (p : ℕ) (i : Input) (n : Fault) → HandsIn w e p i
+    → ruling (self_of w p) i (chronicle_of w p) ≡ refusing n → stops n (chronicle_of w p) ≡ false
+    → OnlySent w (happens w (e, ample)) p []
+unfolding on_ruling stepped
+refused w e p i n h m goes =
+    let self : Identity = self_of w p in
+    let c : Chronicle = chronicle_of w p in
+    let f : effect w (e, ample) ≡ stepped w p ample (going c, fails n) =
+    handed w e p i h ∙ (ap (λ (v : Ruling). stepped w p ample (on_ruling self ample v c)) m
+    ∙ ap (λ (s : Standing). stepped w p ample (record { chronicle = c; standing = s }, fails n))
+    (cond-false (stops n c) stopped running goes)) in
+    let r = happens-by w e (stepped w p ample (going c, fails n)) f in
+    record {
+      made = made-by w (e, ample);
+      row = λ j. ap (λ (row : ℕ → Replica). row j) r.0 ∙ same-row w p h.goes_on j;
+      sent = r.2 ∙ ap (λ (q : ℕ). w.sent ++ outs w q []) h.party;
+      session = r.1;
+    }
 
 -- a question goes out
 pub asked : (w : World) (e : Event) (p : ℕ) (i : Input) (to : ℕ) (d : Bytes) → HandsIn w e p i

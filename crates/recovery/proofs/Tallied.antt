@@ -58,21 +58,21 @@ count-without (suc n) v p = elim (cases_eq n v) [
     kept true b e = e
     kept false b e = refl
 
--- numbers that all voted are no more than the votes
-count-voted : (n : ℕ) (vs : List Vote) (p : ℕ → Bool)
-    → ((i : ℕ) → p i ≡ true → list_any (λ z. z.voter == i) vs ≡ true) → count_below n p ≤ length vs
-count-voted n [] p h = elim (cases_lt 0 (count_below n p)) [
+-- numbers that all stand in a list are no more than its elements
+pub count-named : {A : Type 0} (f : A → ℕ) (n : ℕ) (vs : List A) (p : ℕ → Bool)
+    → ((i : ℕ) → p i ≡ true → list_any (λ z. f z == i) vs ≡ true) → count_below n p ≤ length vs
+count-named f n [] p h = elim (cases_lt 0 (count_below n p)) [
   | inl l ↦ (let i = found n p l in absurd (true≢false (sym (h i.0 i.1))))
   | inr z ↦ omega (arith, z)
 ]
-count-voted n (v ∷ vs) p h =
-    let rest = count-voted n vs (λ i. p i && not (i == v.voter)) (λ i t.
-    let a = and_parts (p i) (not (i == v.voter)) t in
-    elim (or_cases (v.voter == i) (list_any (λ z. z.voter == i) vs) (h i a.0)) [
-      | inl e ↦ absurd (true≢false (sym (eq-eqb i v.voter (sym (eqb-true v.voter i e))) ∙ not-true _ a.1))
+count-named f n (v ∷ vs) p h =
+    let rest = count-named f n vs (λ i. p i && not (i == f v)) (λ i t.
+    let a = and_parts (p i) (not (i == f v)) t in
+    elim (or_cases (f v == i) (list_any (λ z. f z == i) vs) (h i a.0)) [
+      | inl e ↦ absurd (true≢false (sym (eq-eqb i (f v) (sym (eqb-true (f v) i e))) ∙ not-true _ a.1))
       | inr k ↦ k
     ]) in
-    let less = count-without n v.voter p in
+    let less = count-without n (f v) p in
     omega (arith, rest, less)
 
 -- where all correct replicas were counted there is a quorum
@@ -83,7 +83,8 @@ unfolding IsCountedFor
 counted-all w x c enough h = elim (cases_lt (length (votes w.sizes x c)) (quorum w.sizes)) [
   | inr k ↦ k
   | inl l ↦ (
-      let n = count-voted (replicas w.sizes) (votes w.sizes x c) (is_correct w) (λ i t. elim (h i t) [
+      let n = count-named (λ (z : Vote). z.voter) (replicas w.sizes) (votes w.sizes x c) (is_correct w)
+      (λ i t. elim (h i t) [
         | inl a ↦ a
         | inr b ↦ absurd (omega (arith, l, b))
       ]) in omega (arith, enough, n))

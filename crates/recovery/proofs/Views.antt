@@ -21,7 +21,7 @@ use Rattle.definitions.specs.Events.{Effect, stepped, acts, happens, party_of}
 use Rattle.linear_law.proofs.Runs.{member-faulty}
 use Rattle.recovery.specs.Correct.{OfCorrect, AllGoOn, chronicle_of, view_of, correct_replicas, amply}
 use Rattle.recovery.specs.Healing.{in_turn, timeouts, waits_until, come_to, highest_view, next_led, view_to_come}
-use Rattle.recovery.specs.Law.{OnlyViewMoved, CameTo, TimeoutsBringTogether, ACorrectLeaderComes}
+use Rattle.recovery.specs.Views.{OnlyViewMoved, CameTo, TimeoutsBringTogether, ACorrectLeaderComes}
 use Rattle.recovery.proofs.Worlds.{IsMadeAs, made-after, same-correct, same-self, after-append, Passes, passes-none}
 use Rattle.recovery.proofs.Worlds.{named, after-none, passes-one, passes-append, effect-correct, step-running}
 use Rattle.recovery.proofs.Correct.{among-correct, correct-listed}

@@ -1,5 +1,5 @@
 -- A world on the way of a run whose premises hold.
-use Rattle.std.proofs.Common.{ℕ, ◌≡◌, Bool, List, [], ◌∷◌, ◌++◌, sym, ap, subst, ◌∙◌, inl, inr, Ok, None}
+use Rattle.std.proofs.Common.{ℕ, ◌≡◌, Bool, List, [], ◌∷◌, ◌++◌, refl, sym, ap, subst, ◌∙◌, inl, inr, Ok, None}
 use Rattle.ids.specs.Sizes.{Sizes}
 use Rattle.definitions.specs.Lists.{Among}
 use Rattle.definitions.specs.Frames.{Core}
@@ -15,10 +15,16 @@ use Rattle.linear_law.proofs.Linear.{run-step}
 use Rattle.linear_law.proofs.WholeRuns.{IsWell, AssumedAlong, well-happens, comes-framed, KnownIn, new-sizes}
 use Rattle.linear_law.proofs.WholeRuns.{new-well}
 use Rattle.linear_law.proofs.WholeRuns.{known-apart, known-genesis, known-along}
-use Rattle.recovery.proofs.Worlds.{made-after, after-append, Passes}
+use Rattle.recovery.specs.Healing.{Phase, in_turn}
+use Rattle.recovery.proofs.Worlds.{made-after, after-append, Passes, passes-append, passes-none}
+use Rattle.std.proofs.lemmas.List.{append_assoc}
 use Rattle.recovery.proofs.Ruled.{AllRuled, happens-ruled}
 use Rattle.recovery.proofs.SentVotes.{VotesSent, happens-votes}
-use Rattle.recovery.proofs.Wells.{IsReached, run-after, well-run, new-ruled, new-votes}
+use Rattle.recovery.proofs.SentRequests.{AreOwn, happens-own}
+use Rattle.recovery.proofs.Wells.{IsReached, run-after, well-run, new-ruled, new-votes, new-own, new-few}
+use Rattle.recovery.proofs.Wells.{new-firsts}
+use Rattle.recovery.proofs.Firsts.{AllFirst, happens-first}
+use Rattle.recovery.proofs.Tallies.{HaveFew, happens-few}
 
 -- the cores of a whole run
 abbrev pub KnownAt : (sizes : Sizes) → World → List Happening → Core → Type 0
@@ -32,6 +38,10 @@ pub record IsOnWay (sizes : Sizes) (start : World) (all : List Happening) (w : W
     pub well : IsWell (KnownAt sizes start all) w
     pub ruled : AllRuled w
     pub votes : VotesSent w
+    pub requests : AreOwn w w.sent
+    pub tallies : HaveFew w
+    pub firsts : AllFirst (KnownAt sizes start all) (known-apart sizes start all premises)
+        (known-genesis sizes start all) w
     pub assumed : AssumedAlong (KnownAt sizes start all) w ahead
     pub ends : after w ahead ≡ after start all
 
@@ -65,6 +75,9 @@ on-way-from sizes is_faulty ring hs ahead w met e =
       well = new-well sizes is_faulty ring all met;
       ruled = new-ruled sizes is_faulty ring;
       votes = new-votes sizes is_faulty ring;
+      requests = new-own sizes is_faulty ring;
+      tallies = new-few sizes is_faulty ring;
+      firsts = new-firsts Known (known-apart sizes start all met) (known-genesis sizes start all) sizes is_faulty ring;
     }) assumed.0 e in
     record {
       premises = met;
@@ -72,6 +85,9 @@ on-way-from sizes is_faulty ring hs ahead w met e =
       well = kept.well;
       ruled = kept.ruled;
       votes = kept.votes;
+      requests = kept.requests;
+      tallies = kept.tallies;
+      firsts = kept.firsts;
       assumed = subst (λ (z : World). AssumedAlong Known z ahead) end assumed.1;
       ends = ap (λ (z : World). after z ahead) (sym end) ∙ sym (after-append start hs ahead);
     }
@@ -92,6 +108,9 @@ module _ (sizes : Sizes) (start : World) (all : List Happening) where
     genesis = known-genesis sizes start all;
     well = on.well;
     ruled = on.ruled;
+    requests = on.requests;
+    tallies = on.tallies;
+    firsts = on.firsts;
     sent = λ s m x o. (
       inr (inl (s, subst (λ (z : World). Among s z.sent) on.ends (sent-on w ahead s m), o)),
       inr (subst (λ (z : Sizes). IsCore z x) (way-sizes w ahead on)
@@ -103,18 +122,24 @@ module _ (sizes : Sizes) (start : World) (all : List Happening) where
   pub way-on : (w : World) (h : Happening) (ahead : List Happening) → IsOnWay sizes start all w (h ∷ ahead)
       → refusal w h.0 ≡ None → IsOnWay sizes start all (happens w h) ahead
   unfolding after
-  way-on w h ahead on ok = record {
-    premises = on.premises;
-    starts = on.starts;
-    well = well-happens (KnownAt sizes start all) (known-apart sizes start all on.premises)
-        (known-genesis sizes start all) w h on.well on.assumed.0 ok;
-    ruled = happens-ruled (KnownAt sizes start all) w h on.well
-        (comes-framed w h.0 on.assumed.0.read on.well.framed.sent) ok on.ruled;
-    votes = happens-votes (KnownAt sizes start all) w h on.well
-        (comes-framed w h.0 on.assumed.0.read on.well.framed.sent) ok on.votes;
-    assumed = on.assumed.1;
-    ends = on.ends;
-  }
+  way-on w h ahead on ok =
+      let Known : Core → Type 0 = KnownAt sizes start all in
+      let apart = known-apart sizes start all on.premises in
+      let genesis = known-genesis sizes start all in
+      let framed = comes-framed w h.0 on.assumed.0.read on.well.framed.sent in
+      let well = well-happens Known apart genesis w h on.well on.assumed.0 ok in
+      record {
+        premises = on.premises;
+        starts = on.starts;
+        well = well;
+        ruled = happens-ruled Known w h on.well framed ok on.ruled;
+        votes = happens-votes Known w h on.well framed ok on.votes;
+        requests = happens-own Known w h on.well framed ok on.requests;
+        tallies = happens-few w h framed ok on.tallies;
+        firsts = happens-first Known apart genesis w h on.well well framed ok on.firsts;
+        assumed = on.assumed.1;
+        ends = on.ends;
+      }
 
   -- and the one after a phase
   pub way-past : (xs ahead : List Happening) (w : World) → IsOnWay sizes start all w (xs ++ ahead) → Passes w xs
@@ -124,3 +149,26 @@ module _ (sizes : Sizes) (start : World) (all : List Happening) where
   way-past (x ∷ xs) ahead w on p =
       let r = run-step (refusal w x.0) (run (happens w x) xs) (after (happens w x) xs) p in
       way-past xs ahead (happens w x) (way-on w x (xs ++ ahead) on r.0) r.1
+
+  -- the first of several phases is ahead, and the others after it
+  pub turn-on : (p : Phase) (ps : List Phase) (w : World) (rest : List Happening)
+      → IsOnWay sizes start all w (in_turn (p ∷ ps) w ++ rest)
+      → IsOnWay sizes start all w (p w ++ (in_turn ps (after w (p w)) ++ rest))
+  unfolding in_turn
+  turn-on p ps w rest on =
+      subst (IsOnWay sizes start all w) (append_assoc (p w) (in_turn ps (after w (p w))) rest) on
+
+-- phases pass, and end, one after the other
+pub turn-passes : (p : Phase) (ps : List Phase) (w : World) → Passes w (p w)
+    → Passes (after w (p w)) (in_turn ps (after w (p w))) → Passes w (in_turn (p ∷ ps) w)
+unfolding in_turn
+turn-passes p ps w h k = passes-append w (p w) (in_turn ps (after w (p w))) h k
+
+pub turn-after : (p : Phase) (ps : List Phase) (w : World)
+    → after w (in_turn (p ∷ ps) w) ≡ after (after w (p w)) (in_turn ps (after w (p w)))
+unfolding in_turn
+turn-after p ps w = after-append w (p w) (in_turn ps (after w (p w)))
+
+pub turns-none : (w : World) → Passes w (in_turn [] w) × (after w (in_turn [] w) ≡ w)
+unfolding in_turn after
+turns-none w = (passes-none w, refl)

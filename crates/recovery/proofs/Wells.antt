@@ -1,5 +1,5 @@
 -- What holds of each world of a run whose premises hold, for the laws of one event.
-use Rattle.std.proofs.Common.{ℕ, ◌≡◌, true, List, [], ◌∷◌, sym, ap, subst, ◌∙◌, inl, inr, Ok}
+use Rattle.std.proofs.Common.{ℕ, ◌≡◌, true, List, [], ◌∷◌, refl, sym, ap, subst, ◌∙◌, inl, inr, Ok, arith}
 use Rattle.ids.specs.Sizes.{Sizes}
 use Rattle.std.proofs.Common.{Bool}
 use Rattle.definitions.specs.Lists.{Among}
@@ -25,7 +25,11 @@ use Rattle.linear_law.proofs.WholeRuns.{known-apart, known-genesis, known-along}
 use Rattle.recovery.specs.Correct.{chronicle_of}
 use Rattle.recovery.proofs.Worlds.{made-after}
 use Rattle.recovery.proofs.Ruled.{AllRuled, happens-ruled}
+use Rattle.definitions.specs.States.{leaf}
+use Rattle.recovery.proofs.Firsts.{AllFirst, happens-first}
+use Rattle.recovery.proofs.SentRequests.{AreOwn, happens-own}
 use Rattle.recovery.proofs.SentVotes.{VotesSent, happens-votes}
+use Rattle.recovery.proofs.Tallies.{HaveFew, happens-few}
 
 -- a world of a run, among known cores that don't collide
 pub record IsReached (Known : Core → Type 0) (w : World) : Type 0 where
@@ -34,25 +38,42 @@ pub record IsReached (Known : Core → Type 0) (w : World) : Type 0 where
   pub well : IsWell Known w
   -- each step of a correct replica was due
   pub ruled : AllRuled w
+  -- each request that a client sent is its own
+  pub requests : AreOwn w w.sent
+  -- who waits wasn't told enough
+  pub tallies : HaveFew w
+  -- who never took a block stands on genesis, or on its own proposal on it
+  pub firsts : AllFirst Known apart genesis w
   -- the cores of what was sent are known
   pub sent : (s : Sent) → Among s w.sent → (x : Core) → CoreOf x s.frame → Known x
 
 -- what is kept along a run
-pub record IsKeptWell (Known : Core → Type 0) (w : World) : Type 0 where
-  pub well : IsWell Known w
-  pub ruled : AllRuled w
-  pub votes : VotesSent w
+pub record IsKeptWell (Known : Core → Type 0) (apart : NoCollision Known) (genesis : Known genesis_core)
+    (w : World) : Type 0
+  where
+    pub well : IsWell Known w
+    pub ruled : AllRuled w
+    pub votes : VotesSent w
+    pub requests : AreOwn w w.sent
+    pub tallies : HaveFew w
+    pub firsts : AllFirst Known apart genesis w
 
-pub well-run : (Known : Core → Type 0) → NoCollision Known → Known genesis_core → (hs : List Happening) (w last : World)
-    → IsKeptWell Known w → AssumedAlong Known w hs → run w hs ≡ Ok last → IsKeptWell Known last
+pub well-run : (Known : Core → Type 0) (apart : NoCollision Known) (genesis : Known genesis_core) (hs : List Happening)
+    (w last : World) → IsKeptWell Known apart genesis w → AssumedAlong Known w hs → run w hs ≡ Ok last
+    → IsKeptWell Known apart genesis last
 unfolding run
-well-run Known apart genesis [] w last g a e = let k : w ≡ last = cc in subst (IsKeptWell Known) k g
+well-run Known apart genesis [] w last g a e = let k : w ≡ last = cc in subst (IsKeptWell Known apart genesis) k g
 well-run Known apart genesis (h ∷ hs) w last g a e =
     let r = run-step (refusal w h.0) (run (happens w h) hs) last e in
+    let framed = comes-framed w h.0 a.0.read g.well.framed.sent in
+    let well = well-happens Known apart genesis w h g.well a.0 r.0 in
     well-run Known apart genesis hs (happens w h) last (record {
-      well = well-happens Known apart genesis w h g.well a.0 r.0;
-      ruled = happens-ruled Known w h g.well (comes-framed w h.0 a.0.read g.well.framed.sent) r.0 g.ruled;
-      votes = happens-votes Known w h g.well (comes-framed w h.0 a.0.read g.well.framed.sent) r.0 g.votes;
+      well = well;
+      ruled = happens-ruled Known w h g.well framed r.0 g.ruled;
+      votes = happens-votes Known w h g.well framed r.0 g.votes;
+      requests = happens-own Known w h g.well framed r.0 g.requests;
+      tallies = happens-few w h framed r.0 g.tallies;
+      firsts = happens-first Known apart genesis w h g.well well framed r.0 g.firsts;
     }) a.1 r.1
 
 pub new-ruled : (sizes : Sizes) (is_faulty : ℕ → Bool) (ring : ℕ → Keyring) → AllRuled (new_world sizes is_faulty ring)
@@ -63,6 +84,20 @@ pub new-votes : (sizes : Sizes) (is_faulty : ℕ → Bool) (ring : ℕ → Keyri
     → VotesSent (new_world sizes is_faulty ring)
 unfolding new_world voted_blocks
 new-votes sizes is_faulty ring = λ r c s x m. absurd m
+
+pub new-own : (sizes : Sizes) (is_faulty : ℕ → Bool) (ring : ℕ → Keyring)
+    → AreOwn (new_world sizes is_faulty ring) (new_world sizes is_faulty ring).sent
+unfolding new_world
+new-own sizes is_faulty ring = λ s m. absurd m
+
+pub new-few : (sizes : Sizes) (is_faulty : ℕ → Bool) (ring : ℕ → Keyring) → HaveFew (new_world sizes is_faulty ring)
+unfolding new_world
+new-few sizes is_faulty ring = λ cl w place text. omega arith
+
+pub new-firsts : (Known : Core → Type 0) (apart : NoCollision Known) (genesis : Known genesis_core) (sizes : Sizes)
+    (is_faulty : ℕ → Bool) (ring : ℕ → Keyring) → AllFirst Known apart genesis (new_world sizes is_faulty ring)
+unfolding new_world leaf
+new-firsts Known apart genesis sizes is_faulty ring = λ r c s none. inl refl
 
 -- a run ends in the world after it
 pub run-after : (hs : List Happening) (w last : World) → run w hs ≡ Ok last → after w hs ≡ last
@@ -95,6 +130,9 @@ reached sizes is_faulty ring hs last met e =
       well = new-well sizes is_faulty ring hs met;
       ruled = new-ruled sizes is_faulty ring;
       votes = new-votes sizes is_faulty ring;
+      requests = new-own sizes is_faulty ring;
+      tallies = new-few sizes is_faulty ring;
+      firsts = new-firsts (KnownIn sizes w hs) apart genesis sizes is_faulty ring;
     })
     (known-along sizes w hs (new-sizes sizes is_faulty ring) met) e in
     let end = run-after hs w last e in
@@ -103,6 +141,9 @@ reached sizes is_faulty ring hs last met e =
       genesis = genesis;
       well = kept.well;
       ruled = kept.ruled;
+      requests = kept.requests;
+      tallies = kept.tallies;
+      firsts = kept.firsts;
       sent = λ s m x o. sent-known sizes w hs last end kept.well s m x o
           (ap (λ (y : World). y.sizes) (sym end) ∙ ((made-after w hs).sizes ∙ new-sizes sizes is_faulty ring));
     }

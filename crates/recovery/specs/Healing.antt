@@ -122,29 +122,6 @@ highest_locked w (r ∷ s ∷ rs) =
     let best = highest_locked w (s ∷ rs) in
     if nat_lt (length (lock_of w r)) (length (lock_of w best)) then best else r
 
--- a leader makes a block, and it is offered to itself
-unfoldable pub make_block : ℕ → Phase
-make_block l w =
-    in_turn ((λ v. amply (beat l ∷ []))
-    ∷ (λ v. amply (offered_to (l ∷ []) (sent_since (length w.sent) is_proposal v))) ∷ []) w
-
--- so many blocks
-unfoldable pub make_blocks : ℕ → ℕ → Phase
-make_blocks zero l w = []
-make_blocks (suc n) l w = in_turn (make_block l ∷ make_blocks n l ∷ []) w
-
--- where no block was taken
-unfoldable pub where_none : List Admitted → List Happening → List Happening
-where_none [] hs = hs
-where_none (a ∷ more) hs = []
-
--- A leader that never took a block makes one, which comes to itself: only then does genesis have grounds with it.
-unfoldable pub make_first : ℕ → Phase
-make_first l w =
-    where_none (taken_blocks (chronicle_of w l))
-    (in_turn ((λ v. amply (beat l ∷ []))
-    ∷ (λ v. amply (comes_to (l ∷ []) (sent_since (length w.sent) is_proposal v))) ∷ []) w)
-
 -- what a block justifies, where there is one
 abbrev pub justified_by : Option Admitted → Branch
 justified_by None = []
@@ -155,6 +132,25 @@ abbrev pub over_lock : ℕ → World → Branch
 over_lock l w =
     justified_by (find (λ a. branch_eq (just2 a.branch) (lock_of w l))
     (reverse (taken_blocks (chronicle_of w l))))
+
+-- of these replicas those that never took a block
+abbrev pub newcomers : World → List ℕ → List ℕ
+newcomers w rs = filter (λ r. length (taken_blocks (chronicle_of w r)) == 0) rs
+
+-- Genesis has grounds with who took any block. So where genesis justifies a leader's lock, it makes a block there. That
+-- comes to all that never took one, as genesis's certificate is good for all.
+unfoldable pub make_first : ℕ → Phase
+make_first l w =
+    if length (over_lock l w) == 0
+    then in_turn ((λ v. amply (lead l (digest_of []) ∷ beat l ∷ []))
+    ∷ (λ v. amply (comes_to (newcomers v (correct_replicas v)) (sent_since (length w.sent) is_proposal v))) ∷ []) w
+    else []
+
+-- a replica is told to lead from the block of this digest, and frame k, a request, comes to it
+abbrev pub lead_with : ℕ → ℕ → Bytes → Phase
+lead_with k l d w = amply (lead l d ∷ relay k l ∷ [])
+
+-- ---- blocks that are asked for
 
 -- a block and all below it, the lowest first
 unfoldable pub lowest_first : Branch → List Branch
@@ -182,13 +178,26 @@ fetch_block d u w =
 abbrev pub lacking : Bytes → World → List ℕ
 lacking d w = filter (λ r. not (is_known d (chronicle_of w r))) (correct_replicas w)
 
+-- they get it, one after the other
+unfoldable pub fetch_for_all : Branch → Phase
+fetch_for_all x w = in_turn (map (fetch_block (digest_of x)) (lacking (digest_of x) w)) w
+
 -- all correct replicas get these blocks, one after the other
 unfoldable pub fetch_all : List Branch → Phase
-fetch_all [] w = []
-fetch_all (x ∷ xs) w = in_turn (map (fetch_block (digest_of x)) (lacking (digest_of x) w)) w
-    ++ fetch_all xs (after w (in_turn (map (fetch_block (digest_of x)) (lacking (digest_of x) w)) w))
+fetch_all xs = in_turn (map fetch_for_all xs)
 
 -- ---- blocks that decide
+
+-- a leader makes a block, and it is offered to itself
+unfoldable pub make_block : ℕ → Phase
+make_block l w =
+    in_turn ((λ v. amply (beat l ∷ []))
+    ∷ (λ v. amply (offered_to (l ∷ []) (sent_since (length w.sent) is_proposal v))) ∷ []) w
+
+-- so many blocks
+unfoldable pub make_blocks : ℕ → ℕ → Phase
+make_blocks zero l w = []
+make_blocks (suc n) l w = in_turn (make_block l ∷ make_blocks n l ∷ []) w
 
 -- the greatest height that one of these replicas voted for
 unfoldable pub highest_voted : World → List ℕ → ℕ
@@ -215,6 +224,10 @@ round n l w =
     in_turn (burst n l
     ∷ (λ v. amply (comes_to (correct_replicas v) (sent_since (length w.sent) is_vote v))) ∷ []) w
 
+-- A round to climb above all votes, and three more, which decide its last block.
+unfoldable pub rounds : ℕ → ℕ → Phase
+rounds n l w = in_turn (round n l ∷ round 1 l ∷ round 1 l ∷ round 1 l ∷ []) w
+
 -- ---- the client
 
 -- frame k, a request, comes to all correct replicas, and their replies to the client
@@ -226,16 +239,18 @@ ask_again k w =
 
 -- ---- all of it
 
--- Frame k is the client's request. A replica of the highest lock brings all into a view that it leads. All get what
--- justifies its lock. It leads from its lock, with that request alone, above all that was voted for; three more blocks
--- decide; and the client hears of it.
-unfoldable pub heal : ℕ → Phase
-heal k w =
+-- Frame k is a client's request. A replica of the highest lock brings all into a view that it leads. All get what
+-- justifies its lock. It leads from its lock, with that request alone, above all that was voted for; and three more
+-- blocks decide.
+unfoldable pub agree_on : ℕ → Phase
+agree_on k w =
     let l = highest_locked w (correct_replicas w) in
     in_turn (come_to (view_to_come l w)
     ∷ make_first l
     ∷ fetch_all (lowest_first (over_lock l w))
-    ∷ (λ v. amply (lead l (digest_of (lock_of w l)) ∷ relay k l ∷ []))
-    ∷ (λ v. round (to_climb l v) l v)
-    ∷ round 1 l ∷ round 1 l ∷ round 1 l
-    ∷ ask_again k ∷ []) w
+    ∷ lead_with k l (digest_of (lock_of w l))
+    ∷ (λ v. rounds (to_climb l v) l v) ∷ []) w
+
+-- and the client hears of it
+unfoldable pub heal : ℕ → Phase
+heal k w = in_turn (agree_on k ∷ ask_again k ∷ []) w

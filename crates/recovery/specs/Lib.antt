@@ -1,4 +1,8 @@
 pub mod Correct
 pub mod Healing
 pub mod NeverWedged
-pub mod Law
+pub mod Locks
+pub mod Views
+pub mod Fetching
+pub mod Rounds
+pub mod Requests

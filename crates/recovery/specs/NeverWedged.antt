@@ -16,7 +16,14 @@ use Rattle.definitions.specs.Runs.{run}
 use Rattle.definitions.specs.Worlds.{World, Sent, AcceptedBy, Happening, new_world}
 use Rattle.recovery.specs.Correct.{OfCorrect, AllGoOn, ShareKeys, chronicle_of, lock_of, view_of, correct_replicas}
 use Rattle.recovery.specs.Correct.{correct_with}
-use Rattle.recovery.specs.Healing.{highest_locked, highest_voted, over_lock, heal}
+use Rattle.recovery.specs.Healing.{Phase, highest_locked, highest_voted, over_lock, heal}
+
+-- P holds of each world in which a run ends, where the run's premises hold, and hold of this phase after it
+abbrev pub AheadOf : Phase → (World → Type 0) → Type 0
+AheadOf phase P =
+    (sizes : Sizes) (is_faulty : ℕ → Bool) (ring : ℕ → Keyring) (hs : List Happening) (w : World)
+    → ArePremises (new_world sizes is_faulty ring) (hs ++ phase w) → run (new_world sizes is_faulty ring) hs ≡ Ok w
+    → P w
 
 -- the leader of a world's healing
 abbrev pub healer : World → ℕ
@@ -55,6 +62,15 @@ pub record PrunedWell (w : World) : Type 0 where
       → horizon (chronicle_of w r) ≤ length x + BELOW_HORIZON
       → Among x (window (chronicle_of w r)) ⊎ (w.sizes.faults < correct_with w window x))
 
+-- What is known where a world is healed: correct replicas share keys, and go on; views and room are left; and nobody
+-- pruned what others lack.
+pub record MayHeal (w : World) : Type 0 where
+  pub keys : ShareKeys w
+  pub goes : AllGoOn w
+  pub views : HasViews w
+  pub room : HasRoom w
+  pub kept : NobodyPruned w ⊎ PrunedWell w
+
 -- A correct client waits, and frame k of the record is its request.
 pub record IsAsked (w : World) (k client : ℕ) : Type 0 where
   pub client_is : client < w.sizes.clients
@@ -76,9 +92,5 @@ IsAnswered w client seq =
 -- are left, and nobody pruned what others lack, healing is refused no event, and the client has its receipt.
 abbrev pub NeverWedged : Type 0
 NeverWedged =
-    (sizes : Sizes) (is_faulty : ℕ → Bool) (ring : ℕ → Keyring) (hs : List Happening) (w : World)
-    (k client : ℕ) → AreSizes sizes → ShareKeys (new_world sizes is_faulty ring)
-    → ArePremises (new_world sizes is_faulty ring) (hs ++ heal k w)
-    → run (new_world sizes is_faulty ring) hs ≡ Ok w → AllGoOn w → HasViews w → HasRoom w
-    → NobodyPruned w ⊎ PrunedWell w → IsAsked w k client
-    → (last : World) × (run w (heal k w) ≡ Ok last) × IsAnswered last client (w.session client).used
+    (k client : ℕ) → AheadOf (heal k) (λ w. AreSizes w.sizes → MayHeal w → IsAsked w k client
+    → (last : World) × (run w (heal k w) ≡ Ok last) × IsAnswered last client (w.session client).used)

@@ -1,13 +1,15 @@
-//! Laws of recovery, over the definitions alone; no code runs here. Each stands as the contract of a
-//! function with an empty body. They are steps to the statement that correct parties are never wedged,
-//! whatever faulty ones did before (`specs/NeverWedged`), which isn't proved as a whole.
+//! Nobody is wedged: laws over the definitions alone; no code runs here. Each stands as the contract of a function
+//! with an empty body. `never_wedged` is the statement; the others are its steps.
 #![tactic(auto)]
 
-ghost use Rattle.recovery.specs.Law.{HighestLocksAreSafe, LocksMayBeLedFrom};
-ghost use Rattle.recovery.specs.Law.{JustifiedBlocksAreHeld, GroundsAreHeld};
-ghost use Rattle.recovery.specs.Law.{TimeoutsBringTogether, ACorrectLeaderComes, CopiesAreTaken, ProposalsAreTaken};
-ghost use Rattle.recovery.specs.Law.{HighestAreCertified, MissingBlocksAreFetched, ThreeMoreDecide};
-ghost use Rattle.recovery.specs.Law.{BurstsAreVotedFor, RoundsCertify, LeadsBegin};
+ghost use Rattle.recovery.specs.Locks.{HighestLocksAreSafe, LocksMayBeLedFrom, JustifiedBlocksAreHeld};
+ghost use Rattle.recovery.specs.Locks.{GroundsAreHeld, HighestAreCertified, LeadsBegin};
+ghost use Rattle.recovery.specs.Views.{TimeoutsBringTogether, ACorrectLeaderComes};
+ghost use Rattle.recovery.specs.Fetching.{CopiesAreTaken, MissingBlocksAreFetched, BranchesAreBrought};
+ghost use Rattle.recovery.specs.Rounds.{ProposalsAreTaken, ThreeMoreDecide, BurstsAreVotedFor, RoundsCertify};
+ghost use Rattle.recovery.specs.Rounds.{RoundsDecide};
+ghost use Rattle.recovery.specs.Requests.{RequestsAreExecuted, RepliesConvince};
+ghost use Rattle.recovery.specs.NeverWedged.{NeverWedged};
 
 /// A correct replica of the highest lock: no correct lock is above it or beside it, so a block that justifies
 /// it is safe for all.
@@ -66,6 +68,11 @@ pub fn missing_blocks_are_fetched()
     ensures { MissingBlocksAreFetched }
 {}
 
+/// So all correct replicas get a whole branch, as far as it is in their reach.
+pub fn branches_are_brought()
+    ensures { BranchesAreBrought }
+{}
+
 /// Who took three more blocks over a block, each certified by the next, executed that block.
 pub fn three_more_decide()
     ensures { ThreeMoreDecide }
@@ -79,4 +86,25 @@ pub fn bursts_are_voted_for()
 /// A leader's round leaves all correct replicas with certificates of their own for its last block.
 pub fn rounds_certify()
     ensures { RoundsCertify }
+{}
+
+/// Rounds in turn decide the last block of the first, which carries the requests that waited.
+pub fn rounds_decide()
+    ensures { RoundsDecide }
+{}
+
+/// So a correct client's request is executed by all.
+pub fn requests_are_executed()
+    ensures { RequestsAreExecuted }
+{}
+
+/// And the client has its receipt, once its request comes to them again, and their replies to it.
+pub fn replies_convince()
+    ensures { RepliesConvince }
+{}
+
+/// So nobody is wedged: events of correct parties alone, which are computed from the world, bring a waiting client its
+/// receipt, whatever at most f faulty replicas and any clients did before.
+pub fn never_wedged()
+    ensures { NeverWedged }
 {}

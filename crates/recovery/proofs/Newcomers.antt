@@ -1,0 +1,510 @@
+-- A first block comes to all that never took one.
+use Rattle.ids.specs.declared.limits.TheConstants.{MOST_BLOCKS, MOST_OF_HEIGHT}
+use Rattle.std.specs.Prelude.{count_by}
+use Rattle.std.proofs.Common.{ℕ, suc, ◌≡◌, ◌<◌, ◌≤◌, ◌+◌, ◌⊎◌, ◌==◌, true, false, List, []}
+use Rattle.std.proofs.Common.{◌∷◌, ◌++◌, length, drop, refl, sym, ap, subst, ◌∙◌, arith, inl, inr, Some}
+use Rattle.std.proofs.Common.{None, option_map, slice_get, true≢false}
+use Rattle.std.proofs.lemmas.Bool.{cond-true, cases_eq, cases_Bool, lt-ltb, eq-eqb, eqb-true}
+use Rattle.std.proofs.lemmas.List.{nil_from_length}
+use Rattle.std.proofs.Math.Seq.{drop-append_seam}
+use Rattle.ids.specs.Sizes.{Sizes, replicas, leader}
+use Rattle.definitions.specs.Lists.{Among, AreDistinct}
+use Rattle.definitions.specs.Branches.{Block, Branch, just1}
+use Rattle.definitions.specs.Checks.{Identity}
+use Rattle.definitions.specs.Chronicles.{Admitted, Chronicle, IsLawful, Step.took_block, taken_blocks, window, horizon}
+use Rattle.definitions.specs.Chronicles.{lock, vheight}
+use Rattle.definitions.specs.Digests.{digest_of}
+use Rattle.definitions.specs.Frames.{Core, Frame}
+use Rattle.definitions.specs.Grounds.{is_justified}
+use Rattle.definitions.specs.Replicas.{MemorySupply.ample, Replica, Standing.running}
+use Rattle.definitions.specs.Sendings.{proposal_frame, sendings}
+use Rattle.definitions.specs.States.{Justified, view}
+use Rattle.definitions.specs.Worlds.{World, Sent, Event.relay, Event.beat, Happening, is_correct, self_of}
+use Rattle.definitions.specs.Worlds as worlds
+use Rattle.definitions.specs.Runs.{refusal, after}
+use Rattle.definitions.specs.Events.{happens, recorded}
+use Rattle.definitions.proofs.Horizons.{window-genesis, horizon-low, executed-locked}
+use Rattle.definitions.proofs.Lists.{Among-after, Among-filter, Among-kept}
+use Rattle.recovery.specs.Correct.{ShareKeys, chronicle_of, lock_of, correct_replicas, amply}
+use Rattle.recovery.specs.Healing.{Phase, in_turn, comes_to, sent_since, numbers_of, is_proposal, newcomers, make_first}
+use Rattle.recovery.specs.Healing.{over_lock, highest_voted}
+use Rattle.recovery.specs.NeverWedged.{healer, ground_of, HasRoom}
+use Rattle.recovery.specs.Views.{CameTo}
+use Rattle.recovery.specs.Fetching.{HasPlace}
+use Rattle.recovery.specs.Rounds.{IsProposalOf, Climbs}
+use Rattle.recovery.proofs.Asked.{relay-hands}
+use Rattle.recovery.proofs.Bursts.{distinct-correct, distinct-kept}
+use Rattle.recovery.proofs.Climbing.{stands-justifies, lock-more, voted-low, window-longer}
+use Rattle.recovery.proofs.Copies.{correct-party}
+use Rattle.recovery.proofs.Correct.{among-correct, correct-listed}
+use Rattle.recovery.proofs.Decided.{justifies-below}
+use Rattle.recovery.proofs.Fetched.{took-stands, window-told, lock-told}
+use Rattle.recovery.proofs.FirstBlocks.{IsAlike, alike-none, first-made}
+use Rattle.recovery.proofs.Firsts.{IsPlain}
+use Rattle.recovery.proofs.Gained.{of_height, took-heights}
+use Rattle.recovery.proofs.Grounds.{ground-own, just1-genesis}
+use Rattle.recovery.proofs.Highs.{highest-voted-above}
+use Rattle.recovery.proofs.Locks.{healer-highest, nil, over-some, lock-justified}
+use Rattle.recovery.proofs.Offers.{GoesOn, row-own, row-other, proposal-later, recorded-later, slice-there}
+use Rattle.recovery.proofs.Proposals.{plain-taken}
+use Rattle.recovery.proofs.Rounds.{vheight-told, clear-own}
+use Rattle.recovery.proofs.Staged.{IsStaged, room_above}
+use Rattle.recovery.proofs.Steps.{going, outs, TookStep, step-stood, frame-behind}
+use Rattle.recovery.proofs.Ways.{IsOnWay, KnownAt, on-way, way-on, way-past, turn-on, turn-passes, turn-after}
+use Rattle.recovery.proofs.Ways.{turns-none}
+use Rattle.recovery.proofs.Wells.{IsReached, sound-of, family-of}
+use Rattle.recovery.proofs.Worlds.{IsMadeAs, made-after, made-both, keys-in, same-correct, same-self, Passes}
+use Rattle.recovery.proofs.Worlds.{passes-none, passes-one, named}
+
+-- ---- one newcomer
+
+-- a proposal on genesis, with genesis's certificate
+record IsPlainProposal (w : World) (v : ℕ) (b : Block) (f : Frame) : Type 0 where
+  proposal : IsProposalOf w v b [] f
+  plain : IsPlain proposal.made.certificate
+
+plain-later : (w next : World) → GoesOn w next → (v : ℕ) (b : Block) (f : Frame) → IsPlainProposal w v b f
+    → IsPlainProposal next v b f
+plain-later w next g v b f h =
+    let p = proposal-later w next g v b [] f h.proposal in
+    record { proposal = p.0; plain = subst (λ (j : Justified). IsPlain j.certificate) (sym p.1) h.plain }
+
+-- it took the block
+record TookFirst (before : Chronicle) (b : Block) (now : Replica) : Type 0 where
+  taken : Admitted
+  is : now ≡ going (took_block taken ∷ before)
+  branch : taken.branch ≡ b ∷ []
+  fresh : (taken.new ≡ true) ⊎ ((taken.new ≡ false) × Among (b ∷ []) (window before))
+
+-- what is known of one to which it is to come
+record MayTake (w : World) (b : Block) (r : ℕ) : Type 0 where
+  correct : is_correct w r ≡ true
+  goes : (w.replica r).standing ≡ running
+  place : HasPlace (chronicle_of w r) b []
+
+may-later : (w next : World) (b : Block) (r : ℕ) → IsMadeAs w next → next.replica r ≡ w.replica r → MayTake w b r
+    → MayTake next b r
+may-later w next b r made e h = record {
+  correct = same-correct w next made r ∙ h.correct;
+  goes = ap (λ (x : Replica). x.standing) e ∙ h.goes;
+  place = subst (λ (x : Replica). HasPlace x.chronicle b []) (sym e) h.place;
+}
+
+-- the block came to each of these
+record HaveTaken (w last : World) (b : Block) (rs : List ℕ) : Type 0 where
+  session : last.session ≡ w.session
+  others : (j : ℕ) → (Among j rs → ⊥) → last.replica j ≡ w.replica j
+  each : (r : ℕ) → Among r rs → TookFirst (chronicle_of w r) b (last.replica r)
+
+module _ (sizes : Sizes) (start : World) (all : List Happening) (k v : ℕ) (b : Block) (f : Frame) where
+  one-takes : (w : World) (rest : List Happening) (r : ℕ) → IsOnWay sizes start all w ((relay k r, ample) ∷ rest)
+      → ShareKeys w → recorded w k ≡ Some f → IsPlainProposal w v b f → MayTake w b r
+      → (refusal w (relay k r) ≡ None)
+      × ((a : Admitted) × TookStep w (happens w (relay k r, ample)) r (took_block a) × (a.branch ≡ b ∷ [])
+      × ((a.new ≡ true) ⊎ ((a.new ≡ false) × Among (b ∷ []) (window (chronicle_of w r)))))
+  one-takes w rest r on keys rec p may =
+      let g = on-way sizes start all w ((relay k r, ample) ∷ rest) on in
+      let t = plain-taken (KnownAt sizes start all) w g keys r v may.correct b [] f p.proposal may.place p.plain in
+      let ok = named w (relay k r) (correct-party w r may.correct)
+      (lt-ltb k (length w.sent) (slice-there w.sent k f rec)) refl in
+      let onn = way-on sizes start all w (relay k r, ample) rest on ok in
+      let a = t.2.0 in
+      let st = step-stood w (relay k r) r t.0 (took_block a) (relay-hands w k r f t.0 may.correct may.goes rec
+      t.1) t.2.1
+      onn.well.good.answers in
+      (ok, (a, st, t.2.2, elim t.2.4 [ inl n ↦ inl n.0 | inr o ↦ inr o ]))
+
+  all-take : (rs : List ℕ) (w : World) (rest : List Happening)
+      → IsOnWay sizes start all w (amply (comes_to rs (k ∷ [])) ++ rest) → AreDistinct rs → ShareKeys w
+      → recorded w k ≡ Some f → IsPlainProposal w v b f → ((r : ℕ) → Among r rs → MayTake w b r)
+      → Passes w (amply (comes_to rs (k ∷ []))) × HaveTaken w (after w (amply (comes_to rs (k ∷ [])))) b rs
+  unfolding comes_to after
+  all-take [] w rest on d keys rec p may =
+      (passes-none w, record { session = refl; others = λ j n. refl; each = λ r m. absurd m })
+  all-take (r ∷ rs) w rest on d keys rec p may =
+      let later : List Happening = amply (comes_to rs (k ∷ [])) in
+      let next : World = happens w (relay k r, ample) in
+      let one = one-takes w (later ++ rest) r on keys rec p (may r (inl refl)) in
+      let a = one.1.0 in
+      let st = one.1.1 in
+      let goes : GoesOn w next = record {
+        made = st.made;
+        more = outs w r (sendings (self_of w r) (took_block a) (chronicle_of w r));
+        sent = st.sent;
+        session = st.session;
+      } in
+      let other : (j : ℕ) → (j ≡ r → ⊥) → next.replica j ≡ w.replica j = row-other w next r (took_block a) st in
+      let apart : (j : ℕ) → Among j rs → (j ≡ r → ⊥) = λ j m e. d.0 (subst (λ (i : ℕ). Among i rs) e m) in
+      let onn = way-on sizes start all w (relay k r, ample) (later ++ rest) on one.0 in
+      let more = all-take rs next rest onn d.1 (keys-in w next st.made keys) (recorded-later w next goes k f rec)
+      (plain-later w next goes v b f p)
+      (λ j m. may-later w next b j st.made (other j (apart j m)) (may j (inr m))) in (
+        passes-one w (relay k r, ample) later one.0 more.0,
+        record {
+          session = more.1.session ∙ st.session;
+          others = λ j n. more.1.others j (λ m. n (inr m)) ∙ other j (λ e. n (inl e));
+          each = λ j m. elim m [
+            | inl e ↦ subst (λ (i : ℕ). TookFirst (chronicle_of w i) b ((after next later).replica i)) (sym e) (record {
+              taken = a;
+              is = more.1.others r d.0 ∙ row-own w next r (took_block a) st;
+              branch = one.1.2;
+              fresh = one.1.3;
+            })
+            | inr i ↦ subst (λ (x : Replica). TookFirst x.chronicle b ((after next later).replica j)) (other j
+                (apart j i))
+                (more.1.each j i)
+          ];
+        },
+      )
+
+-- ---- who may climb from genesis
+
+-- what it takes
+climbs-first : (self : Identity) (v room : ℕ) (c : Chronicle) → view self.sizes c ≡ v → is_justified [] c ≡ true
+    → horizon c ≡ 0 → (lock c ≡ []) ⊎ (length (lock c) < 0) → length (window c) + room ≤ MOST_BLOCKS
+    → ((h : ℕ) → of_height h c < MOST_OF_HEIGHT) → Climbs self v [] [] room c
+climbs-first self v room c in_view ground reach low trees heights = record {
+  in_view = in_view;
+  stands = window-genesis c;
+  over = ([], refl);
+  ground = inl ground;
+  reach = omega (arith, reach);
+  safe = low;
+  clear = clear-own [] _;
+  trees = trees;
+  heights = λ h l. heights h;
+}
+
+-- whoever took a block may, where its lock is genesis
+old-climbs : (self : Identity) (v room : ℕ) (c : Chronicle) → IsLawful self.sizes c → (taken_blocks c ≡ [] → ⊥)
+    → view self.sizes c ≡ v → horizon c ≡ 0 → lock c ≡ [] → length (window c) + room ≤ MOST_BLOCKS
+    → ((h : ℕ) → of_height h c < MOST_OF_HEIGHT) → Climbs self v [] [] room c
+old-climbs self v room c law some in_view reach low trees heights =
+    let a = over-some c some in
+    climbs-first self v room c in_view
+    (subst (λ (x : Branch). is_justified x c ≡ true) low (lock-justified self.sizes c law a.0 a.1 a.2))
+    reach (inl low) trees heights
+
+view-took : (self : Identity) (a : Admitted) (c : Chronicle) → view self.sizes (took_block a ∷ c) ≡ view self.sizes c
+unfolding view
+view-took self a c = refl
+
+horizon-took : (a : Admitted) (c : Chronicle) → horizon (took_block a ∷ c) ≡ horizon c
+unfolding horizon
+horizon-took a c = refl
+
+-- so may who just took its first one
+new-climbs : (self : Identity) (v room : ℕ) (c : Chronicle) (b : Block) (a : Admitted) → a.branch ≡ b ∷ []
+    → b.justify ≡ 0 → (a.new ≡ true) ⊎ ((a.new ≡ false) × Among (b ∷ []) (window c)) → view self.sizes c ≡ v
+    → horizon c ≡ 0 → lock c ≡ [] → length (window c) + suc room ≤ MOST_BLOCKS
+    → ((h : ℕ) → suc (of_height h c) < MOST_OF_HEIGHT) → Climbs self v [] [] room (took_block a ∷ c)
+new-climbs self v room c b a e j fresh in_view reach low trees heights =
+    let long = ap (λ (x : Branch). length x) e in
+    let near : horizon c ≤ length a.branch + 2 = omega (arith, reach, long) in
+    let n : (a.new ≡ true) ⊎ (a.new ≡ false) = elim fresh [ inl t ↦ inl t | inr o ↦ inr o.0 ] in
+    let over : just1 (b ∷ []) ≡ [] = justifies-below b [] [] ([], refl) j in
+    let more = window-longer c a near n in
+    climbs-first self v room (took_block a ∷ c) (view-took self a c ∙ in_view)
+    (stands-justifies [] (b ∷ []) (took_block a ∷ c)
+    (took-stands c a (b ∷ []) e (omega (arith, near, long)) fresh) (omega arith) over)
+    (horizon-took a c ∙ reach) (lock-more [] c a tt (ap just1 e ∙ over) (inl low)) (omega (arith, trees, more))
+    (λ h. let k = took-heights c a near n h in let l = heights h in omega (arith, k, l))
+
+first-lock : (a : Admitted) (c : Chronicle) (b : Block) → a.branch ≡ b ∷ [] → b.justify ≡ 0 → lock c ≡ []
+    → lock (took_block a ∷ c) ≡ []
+first-lock a c b e j low =
+    elim (lock-more [] c a tt (ap just1 e ∙ justifies-below b [] [] ([], refl) j) (inl low)) [
+      | inl n ↦ n
+      | inr l ↦ absurd (omega (arith, l))
+    ]
+
+-- ---- the phase
+
+abbrev tells : ℕ → Phase
+tells l v = amply (worlds.lead l (digest_of []) ∷ beat l ∷ [])
+
+abbrev brings : ℕ → Phase
+brings before v =
+    amply (comes_to (newcomers v (correct_replicas v)) (sent_since before is_proposal v))
+
+-- where genesis justifies the lock
+first-is : (l : ℕ) (w : World) → over_lock l w ≡ []
+    → make_first l w ≡ in_turn (tells l ∷ brings (length w.sent) ∷ []) w
+unfolding make_first
+first-is l w e =
+    cond-true (length (over_lock l w) == 0) _ _
+    (eq-eqb (length (over_lock l w)) 0 (ap (λ (x : Branch). length x) e))
+
+-- one proposal was sent since
+one-sent : (w next : World) (s : Sent) → next.sent ≡ w.sent ++ s ∷ [] → is_proposal s.frame ≡ true
+    → sent_since (length w.sent) is_proposal next ≡ length w.sent ∷ []
+unfolding numbers_of
+one-sent w next s e is =
+    ap (λ (l : List Sent). numbers_of is_proposal (length w.sent) l)
+    (ap (λ (l : List Sent). drop (length w.sent) l) e ∙ drop-append_seam w.sent (s ∷ []))
+    ∙ cond-true (is_proposal s.frame) (length w.sent ∷ []) [] is
+
+proposal-one : (self : Identity) (v : ℕ) (p : Justified) → is_proposal (proposal_frame self v p) ≡ true
+unfolding proposal_frame is_proposal
+proposal-one self v p = refl
+
+-- who is listed never took a block
+is-newcomer : (w : World) (r : ℕ) → Among r (newcomers w (correct_replicas w))
+    → (is_correct w r ≡ true) × (taken_blocks (chronicle_of w r) ≡ [])
+is-newcomer w r m =
+    let f = Among-filter (λ (i : ℕ). length (taken_blocks (chronicle_of w i)) == 0) (correct_replicas w) r m in (
+      among-correct w (replicas w.sizes) r f.0,
+      nil_from_length (taken_blocks (chronicle_of w r))
+          (eqb-true (length (taken_blocks (chronicle_of w r))) 0 f.1),
+    )
+
+newcomer-listed : (w : World) (r : ℕ) → is_correct w r ≡ true → taken_blocks (chronicle_of w r) ≡ []
+    → Among r (newcomers w (correct_replicas w))
+newcomer-listed w r c e =
+    Among-kept (λ (i : ℕ). length (taken_blocks (chronicle_of w i)) == 0) (correct_replicas w) r (correct-listed w r c)
+    (eq-eqb (length (taken_blocks (chronicle_of w r))) 0 (ap (λ (l : List Admitted). length l) e))
+
+-- what a first block leaves
+pub record HasFirsts (w last : World) (l v top : ℕ) : Type 0 where
+  pub stage : IsStaged last l v top []
+  pub session : last.session ≡ w.session
+
+module _ (sizes : Sizes) (start : World) (all : List Happening) (w : World)
+    (g : IsReached (KnownAt sizes start all) w) (room : HasRoom w) (low : ground_of w ≡ [])
+  where
+    abbrev Known : Core → Type 0
+    Known = KnownAt sizes start all
+
+    abbrev l : ℕ
+    l = healer w
+
+    abbrev top : ℕ
+    top = suc (highest_voted w (correct_replicas w))
+
+    -- all locks are genesis
+    pub locks-nil : (r : ℕ) → is_correct w r ≡ true → lock_of w r ≡ []
+    locks-nil r c =
+        let fam = family-of Known w g in
+        let own : [] ≡ lock_of w l = sym just1-genesis ∙ (ap just1 (sym low) ∙ (ground-own w fam).0) in
+        let high = (healer-highest w fam).1 r c in
+        let n = ap (λ (x : Branch). length x) own in
+        nil (lock_of w r) (omega (arith, high, n))
+
+    -- so nobody pruned
+    nobody : (r : ℕ) → is_correct w r ≡ true → horizon (chronicle_of w r) ≡ 0
+    nobody r c =
+        let a = horizon-low (chronicle_of w r) in
+        let e = executed-locked (chronicle_of w r) in
+        let n = ap (λ (x : Branch). length x) (locks-nil r c) in
+        omega (arith, a, e, n)
+
+    -- a replica that is as it was, but for its view
+    record IsSettled (self : Identity) (v r : ℕ) (c : Chronicle) : Type 0 where
+      in_view : view self.sizes c ≡ v
+      forgotten : horizon c ≡ 0
+      unlocked : lock c ≡ []
+      trees : length (window c) + suc (room_above top []) ≤ MOST_BLOCKS
+      heights : (h : ℕ) → suc (of_height h c) < MOST_OF_HEIGHT
+      voted_low : vheight c < top
+      taken : taken_blocks c ≡ taken_blocks (chronicle_of w r)
+
+    settled : (self : Identity) (v r : ℕ) (c d : Chronicle) → is_correct w r ≡ true → view self.sizes c ≡ v
+        → taken_blocks c ≡ taken_blocks (chronicle_of w r) → horizon c ≡ horizon (chronicle_of w r)
+        → vheight c ≡ vheight (chronicle_of w r) → IsAlike self c d → IsSettled self v r d
+    settled self v r c d cr in_view taken forgotten voted alike =
+        let before : Chronicle = chronicle_of w r in
+        let t = alike.taken ∙ taken in
+        let f = alike.forgotten ∙ forgotten in
+        let win = window-told before d t f in
+        let n = ap (λ (x : List Branch). length x) win in
+        let trees = room.trees r cr in
+        let zero = ap (λ (x : Branch). length x) low in
+        let nolock = ap (λ (x : Branch). length x) (locks-nil l (healer-highest w (family-of Known w g)).0) in
+        let v1 = vheight-told d c alike.voted in
+        let high = highest-voted-above w (correct_replicas w) r (correct-listed w r cr) in
+        record {
+          in_view = alike.in_view ∙ in_view;
+          forgotten = f ∙ nobody r cr;
+          unlocked = lock-told before d t ∙ locks-nil r cr;
+          trees = omega (arith, trees, n, zero, nolock);
+          heights = λ h.
+              let few = room.heights r cr h in
+              let k = ap (λ (x : List Branch). count_by (λ y. length y == h) x) win in
+              omega (arith, few, k);
+          voted_low = omega (arith, v1, voted, high);
+          taken = t;
+        }
+
+    pub first-staged : (v : ℕ) (w1 : World) (rest : List Happening)
+        → IsOnWay sizes start all w1 (make_first l w1 ++ rest) → IsMadeAs w w1 → ShareKeys w → CameTo v w w1
+        → leader w.sizes v ≡ l → over_lock l w1 ≡ []
+        → Passes w1 (make_first l w1) × HasFirsts w1 (after w1 (make_first l w1)) l v top
+    first-staged v w1 rest on made1 keys came leads_it over =
+        let fam = family-of Known w g in
+        let cl = (healer-highest w fam).0 in
+        let cl1 = same-correct w w1 made1 l ∙ cl in
+        let k : ℕ = length w1.sent in
+        let is = first-is l w1 over in
+        let on0 = turn-on sizes start all (tells l) (brings k ∷ []) w1 rest
+        (subst (λ (x : List Happening). IsOnWay sizes start all w1 (x ++ rest)) is on) in
+        let keys1 = keys-in w w1 made1 keys in
+        let lead1 : leader w1.sizes v ≡ l = ap (λ (z : Sizes). leader z v) made1.sizes ∙ leads_it in
+        let low1 = lock-told (chronicle_of w l) (chronicle_of w1 l) (came.rest l cl1).taken ∙ locks-nil l cl in
+        let one = first-made sizes start all w1 _ l v on0 keys1 cl1 (came.going_on l cl1) low1 lead1
+        (came.views l cl1) in
+        let h = one.1 in
+        let wa : World = after w1 (tells l w1) in
+        let ona = turn-on sizes start all (brings k) [] wa rest
+        (way-past sizes start all (tells l w1) _ w1 on0 one.0) in
+        let made2 = h.made_as in
+        let keys2 = keys-in w1 wa made2 keys1 in
+        let leada : leader wa.sizes v ≡ l = ap (λ (z : Sizes). leader z v) made2.sizes ∙ lead1 in
+        let b : Block = h.block in
+        let f : Frame = h.msg.frame in
+        let cla = same-correct w1 wa made2 l ∙ cl1 in
+        let over_b : just1 (b ∷ []) ≡ [] = justifies-below b [] [] ([], refl) h.justify in
+        let p : IsPlainProposal wa v b f = record {
+          proposal = record {
+            correct = ap (is_correct wa) leada ∙ cla;
+            sent = h.msg;
+            recorded = subst (λ (x : List Sent). Among h.msg x) (sym h.sent) (Among-after h.msg w1.sent _ (inl refl));
+            made = h.made;
+            is = h.frame_is ∙ ap (λ (i : ℕ). proposal_frame (self_of wa i) v h.made) (sym leada);
+            frame_is = refl;
+            block_is = h.block_is;
+            justified = h.plain.0 ∙ ap digest_of (sym over_b);
+          };
+          plain = h.plain;
+        } in
+        let rec : recorded wa k ≡ Some f =
+        ap (λ (x : List Sent). option_map (λ z. z.frame) (slice_get x k)) h.sent ∙ frame-behind w1.sent h.msg [] in
+        let us : List ℕ = newcomers wa (correct_replicas wa) in
+        let numbers = one-sent w1 wa h.msg h.sent (ap is_proposal h.frame_is ∙ proposal-one (self_of wa l) v h.made) in
+        let isb : brings k wa ≡ amply (comes_to us (k ∷ [])) =
+        ap (λ (x : List ℕ). amply (comes_to us x)) numbers in
+        let wasa : (r : ℕ) → is_correct wa r ≡ true → is_correct w1 r ≡ true = λ r c. sym
+        (same-correct w1 wa made2 r) ∙ c in
+        let was1 : (r : ℕ) → is_correct w1 r ≡ true → is_correct w r ≡ true = λ r c. sym
+        (same-correct w w1 made1 r) ∙ c in
+        let goes : (r : ℕ) → is_correct wa r ≡ true → (wa.replica r).standing ≡ running = λ r c.
+        elim (cases_eq r l) [
+          | inl e ↦ subst (λ (i : ℕ). (wa.replica i).standing ≡ running) (sym e) h.goes
+          | inr n ↦ ap (λ (x : Replica). x.standing) (h.others r n) ∙ came.going_on r (wasa r c)
+        ] in
+        let alike : (r : ℕ) → IsAlike (self_of w1 r) (chronicle_of w1 r) (chronicle_of wa r) = λ r.
+        elim (cases_eq r l) [
+          | inl e ↦ subst (λ (i : ℕ). IsAlike (self_of w1 i) (chronicle_of w1 i) (chronicle_of wa i)) (sym e) h.alike
+          | inr n ↦ subst (λ (x : Replica). IsAlike (self_of w1 r) (chronicle_of w1 r) x.chronicle) (sym (h.others r n))
+              (alike-none (self_of w1 r) (chronicle_of w1 r))
+        ] in
+        let there : (r : ℕ) → is_correct w1 r ≡ true → IsSettled (self_of w1 r) v r (chronicle_of wa r) = λ r c.
+        (let moved = came.rest r c in
+        settled (self_of w1 r) v r (chronicle_of w1 r) (chronicle_of wa r) (was1 r c) (came.views r c) moved.taken
+        moved.forgotten (vheight-told (chronicle_of w1 r) (chronicle_of w r) moved.voted) (alike r)) in
+        let may : (r : ℕ) → Among r us → MayTake wa b r = λ r m.
+        (let n = is-newcomer wa r m in
+        let s = there r (wasa r n.0) in
+        let j = h.justify in
+        let t = s.trees in
+        let few = s.heights 1 in
+        let top_low = room.low in
+        let zero = s.forgotten in
+        record {
+          correct = n.0;
+          goes = goes r n.0;
+          place = record {
+            stands = window-genesis (chronicle_of wa r);
+            below = omega (arith, j);
+            reach = omega (arith, j, zero);
+            room = omega (arith, t);
+            uncrowded = omega (arith, few);
+            low = omega (arith, top_low);
+          };
+        }) in
+        let onb = subst (λ (x : List Happening). IsOnWay sizes start all wa (x ++ (in_turn [] (after wa
+        (brings k wa)) ++ rest)))
+        isb ona in
+        let two = all-take sizes start all k v b f us wa _ onb
+        (distinct-kept (λ r. length (taken_blocks (chronicle_of wa r)) == 0) (correct_replicas wa)
+        (distinct-correct wa (replicas wa.sizes))) keys2 rec p may in
+        let passes2 : Passes wa (brings k wa) = subst (Passes wa) (sym isb) two.0 in
+        let wb : World = after wa (brings k wa) in
+        let t : HaveTaken wa wb b us = subst (λ (x : List Happening). HaveTaken wa (after wa x) b us) (sym isb) two.1 in
+        let made3 = made-after wa (brings k wa) in
+        let made : IsMadeAs w1 wb = made-both w1 wa wb made2 made3 in
+        let wayb = way-past sizes start all (brings k wa) _ wa ona passes2 in
+        let gb = on-way sizes start all wb _ wayb in
+        let none = turns-none wb in
+        let ends : after w1 (make_first l w1) ≡ wb =
+        ap (after w1) is ∙ (turn-after (tells l) (brings k ∷ []) w1 ∙ (turn-after (brings k) [] wa ∙ none.1)) in
+        let wasb : (r : ℕ) → is_correct wb r ≡ true → is_correct w1 r ≡ true = λ r c. sym
+        (same-correct w1 wb made r) ∙ c in
+        let cases : (r : ℕ) → is_correct wb r ≡ true
+        → ((taken_blocks (chronicle_of wa r) ≡ []) × TookFirst (chronicle_of wa r) b (wb.replica r))
+        ⊎ ((taken_blocks (chronicle_of wa r) ≡ [] → ⊥) × (wb.replica r ≡ wa.replica r)) = λ r c.
+        (let ca = same-correct w1 wa made2 r ∙ wasb r c in
+        elim (cases_Bool (length (taken_blocks (chronicle_of wa r)) == 0)) [
+          | inl e ↦
+              let z = nil_from_length (taken_blocks (chronicle_of wa r))
+              (eqb-true (length (taken_blocks (chronicle_of wa r))) 0 e) in
+              inl (z, t.each r (newcomer-listed wa r ca z))
+          | inr n ↦
+              let lacks : taken_blocks (chronicle_of wa r) ≡ [] → ⊥ = λ z.
+              true≢false (sym (eq-eqb (length (taken_blocks (chronicle_of wa r))) 0
+              (ap (λ (x : List Admitted). length x) z)) ∙ n) in
+              inr (lacks, t.others r (λ m. lacks (is-newcomer wa r m).1))
+        ]) in
+        let self_b : (r : ℕ) → self_of wb r ≡ self_of w1 r = same-self w1 wb made in
+        let limit = room.low in
+        let nolock = ap (λ (x : Branch). length x) (locks-nil l cl) in (
+          subst (Passes w1) (sym is) (turn-passes (tells l) (brings k ∷ []) w1 one.0
+              (turn-passes (brings k) [] wa passes2 none.0)),
+          subst (λ (z : World). HasFirsts w1 z l v top) (sym ends) (record {
+            stage = record {
+              keys = keys-in w1 wb made keys1;
+              goes = λ r c. elim (cases r c) [
+                | inl n ↦ ap (λ (x : Replica). x.standing) n.1.is
+                | inr o ↦ ap (λ (x : Replica). x.standing) o.1
+                    ∙ goes r (same-correct w1 wa made2 r ∙ wasb r c)
+              ];
+              correct = same-correct w1 wb made l ∙ cl1;
+              leader_is = ap (λ (z : Sizes). leader z v) made.sizes ∙ lead1;
+              lock_is = elim (cases l (same-correct w1 wb made l ∙ cl1)) [
+                | inl n ↦ ap (λ (x : Replica). lock x.chronicle) n.1.is
+                    ∙ first-lock n.1.taken (chronicle_of wa l) b n.1.branch h.justify (there l cl1).unlocked
+                | inr o ↦ ap (λ (x : Replica). lock x.chronicle) o.1 ∙ (there l cl1).unlocked
+              ];
+              climbs = λ r c.
+                  let s = there r (wasb r c) in
+                  subst (λ (i : Identity). Climbs i v [] [] (room_above top []) (chronicle_of wb r)) (sym (self_b r))
+                  (elim (cases r c) [
+                    | inl n ↦ subst (λ (x : Replica). Climbs (self_of w1 r) v [] [] (room_above top []) x.chronicle)
+                        (sym n.1.is)
+                        (new-climbs (self_of w1 r) v (room_above top []) (chronicle_of wa r) b n.1.taken n.1.branch
+                        h.justify n.1.fresh s.in_view s.forgotten s.unlocked s.trees s.heights)
+                    | inr o ↦ subst (λ (x : Replica). Climbs (self_of w1 r) v [] [] (room_above top []) x.chronicle)
+                        (sym o.1)
+                        (old-climbs (self_of w1 r) v (room_above top []) (chronicle_of wa r)
+                        (subst (λ (x : Replica). IsLawful w1.sizes x.chronicle) o.1
+                        (subst (λ (z : Sizes). IsLawful z (chronicle_of wb r)) made.sizes
+                        (sound-of Known wb gb r c).lawful)) o.0 s.in_view s.forgotten s.unlocked
+                        (let q = s.trees in omega (arith, q))
+                        (λ n. let q = s.heights n in omega (arith, q)))
+                  ]);
+              low = λ r c.
+                  let s = there r (wasb r c) in
+                  let q = s.voted_low in
+                  elim (cases r c) [
+                    | inl n ↦
+                        let i = ap (λ (x : Replica). vheight x.chronicle) n.1.is in
+                        let long = ap (λ (x : Branch). length x) n.1.branch in
+                        let m = voted-low (chronicle_of wa r) n.1.taken (suc top) (omega (arith, q)) (omega
+                        (arith, long)) in
+                        omega (arith, i, m)
+                    | inr o ↦ (let i = ap (λ (x : Replica). vheight x.chronicle) o.1 in omega (arith, i, q))
+                  ];
+              limit = omega (arith, limit, nolock);
+            };
+            session = t.session ∙ h.session;
+          }),
+        )
