@@ -1,17 +1,12 @@
 //! Endpoints as lines spell them: `FAULTS:CLIENTS:KEPT:PARTY:LIFE:KEYS`, the sizes, how many keys a cache keeps, the
 //! party's number, its life, and its keys with `,` between them, each `ONE-OTHER-KEY`.
 
-use crate::bytes::array_of;
-use anyhow::{Context, Result};
+use crate::fields::{array_of, next};
+use anyhow::Result;
 use handshake::{Endpoint, Life};
 use ids::{Config, PartyId};
 use key_file::PairKey;
 use std::alloc::Global;
-
-/// The next of some fields.
-pub(crate) fn next<'a>(fields: &mut impl Iterator<Item = &'a str>) -> Result<&'a str> {
-    fields.next().context("a field lacks")
-}
 
 /// A party's number.
 pub(crate) fn party_of(field: &str) -> Result<PartyId> {

@@ -9,14 +9,15 @@
 //!   turn changed by exclusive or with the mask, and a letter is told of each: `.` where somebody is named or asked, else
 //!   that of the refusal.
 
-use crate::bytes::array_of;
-use crate::endpoints::{endpoint_of, next, party_of};
+use crate::endpoints::{endpoint_of, party_of};
+use crate::fields::{array_of, next};
 use anyhow::{Result, bail};
 use handshake::{
     ANSWER_LEN, ASK_LEN, Dialling, Endpoint, GREETING_LEN, Nonce, Peer, Refusal, greeting,
 };
 use ids::PartyId;
 use std::alloc::Global;
+use std::str::Split;
 
 /// A letter for a refusal.
 fn letter(refusal: Refusal) -> char {
@@ -68,7 +69,7 @@ struct Dial {
 }
 
 impl Dial {
-    fn read<'a>(alloc: Global, fields: &mut impl Iterator<Item = &'a str>) -> Result<Dial> {
+    fn read(alloc: Global, fields: &mut Split<'_, char>) -> Result<Dial> {
         Ok(Dial {
             endpoint: endpoint_of(alloc, next(fields)?)?,
             acceptor: party_of(next(fields)?)?,
@@ -105,7 +106,8 @@ fn admit_told(
     ask: &[u8; ASK_LEN],
 ) -> Result<String> {
     match endpoint.admit(nonce, ask) {
-        Ok((peer, answer)) => {
+        Ok(named) => {
+            let (peer, answer) = named;
             let answer = hex::encode(alloc, &answer)?;
             Ok(format!(in alloc; "{} {answer}", peer_told(alloc, &peer)?)?)
         }
@@ -151,17 +153,13 @@ fn hear_row(
 }
 
 /// The mask of a row.
-fn mask_of<'a>(fields: &mut impl Iterator<Item = &'a str>) -> Result<u8> {
+fn mask_of(fields: &mut Split<'_, char>) -> Result<u8> {
     let [mask] = array_of::<1>(next(fields)?)?;
     Ok(mask)
 }
 
 /// A case of a dialler that hears.
-fn hear_case<'a>(
-    alloc: Global,
-    is_row: bool,
-    fields: &mut impl Iterator<Item = &'a str>,
-) -> Result<String> {
+fn hear_case(alloc: Global, is_row: bool, fields: &mut Split<'_, char>) -> Result<String> {
     let dial = Dial::read(alloc, fields)?;
     let dialling = dial.with(&dial.greeting)?;
     let answer = array_of(next(fields)?)?;
@@ -172,11 +170,7 @@ fn hear_case<'a>(
 }
 
 /// A case of an acceptor.
-fn admit_case<'a>(
-    alloc: Global,
-    is_row: bool,
-    fields: &mut impl Iterator<Item = &'a str>,
-) -> Result<String> {
+fn admit_case(alloc: Global, is_row: bool, fields: &mut Split<'_, char>) -> Result<String> {
     let endpoint = endpoint_of(alloc, next(fields)?)?;
     let nonce = Nonce(array_of(next(fields)?)?);
     let ask = array_of(next(fields)?)?;

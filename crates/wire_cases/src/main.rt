@@ -7,8 +7,8 @@
 //! A line is printed of each. What is wanted was computed by an independent program, `reference/wire_cases`.
 #![tactic(auto)]
 
-mod bytes;
 mod endpoints;
+mod fields;
 mod handshakes;
 mod outboxes;
 mod streams;

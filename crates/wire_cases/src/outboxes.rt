@@ -5,7 +5,7 @@
 //! - `close` and `reopen`: themselves.
 //! - `lost`: how many were lost. `empty`: whether nothing waits.
 
-use crate::bytes::{bytes_of, told};
+use crate::fields::{bytes_of, told};
 use anyhow::{Result, bail};
 use bytes::Bytes;
 use outbox::{Outbox, Refusal};

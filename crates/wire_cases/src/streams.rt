@@ -7,7 +7,7 @@
 //! - Of `cuts FAULTS STREAM` the same of the whole, and how many of its cuts in two give the same.
 //! - Of `room FAULTS LENGTH` how many pieces of that length a new feed takes in.
 
-use crate::bytes::{bytes_of, told};
+use crate::fields::{bytes_of, told};
 use anyhow::{Context, Result, bail};
 use ids::Config;
 use std::alloc::Global;

@@ -1,15 +1,21 @@
-//! Bytes as lines spell them, and as they are told.
+//! Fields of lines, and bytes as these spell them and as they are told.
 //!
-//! A field is hexadecimal, or parts with `+` between them, of which a part `HH*COUNT` is one byte so many times; `-` is no
+//! A field of bytes is hexadecimal, or parts with `+` between them, of which a part `HH*COUNT` is one byte so many times; `-` is no
 //! bytes. Of more than 64 bytes the length and the first half of the SHA-256 digest are told, with `:` between them.
 
-use anyhow::Result;
+use anyhow::{Context, Result};
 use hex::FromHex;
 use sha2::{Digest, Sha256};
 use std::alloc::Global;
+use std::str::Split;
 
 /// The most bytes that are told in full.
 const MOST_TOLD: usize = 64;
+
+/// The next field.
+pub(crate) fn next<'a>(fields: &mut Split<'a, char>) -> Result<&'a str> {
+    fields.next().context("a field lacks")
+}
 
 /// So many bytes, in hexadecimal.
 pub(crate) fn array_of<const N: usize>(digits: &str) -> Result<[u8; N]> {
