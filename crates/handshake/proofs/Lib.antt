@@ -1,0 +1,4 @@
+mod Cutting
+mod Named
+mod Meeting
+mod Spoken

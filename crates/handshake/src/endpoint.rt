@@ -1,0 +1,130 @@
+ghost use Rattle.std.specs.Prelude.{◌≡◌, ◌==◌, ◌&&◌, find, option_map, Option, if◌then◌else◌};
+ghost use Rattle.key_file.specs.KeyFile.{found_key};
+ghost use Rattle.handshake.specs.Judging.{admitted, admitted_by, dialled, link_key};
+ghost use Rattle.handshake.specs.Texts.{ask_in};
+
+use crate::ask::Ask;
+use crate::dialling::Dialling;
+use crate::parts::are_equal;
+use crate::peer::Peer;
+use crate::refusal::Refusal;
+use crate::texts::{
+    ANSWER_LEN, ASK_LEN, GREETING_LEN, answer_bytes, ask_tag, read_ask, read_greeting, sizes_digest,
+};
+use crate::words::{Life, Nonce};
+use ids::{Config, PartyId};
+use key_file::PairKey;
+use std::marker::Model;
+
+/// A party at its handshakes, with the keys that it shares with others.
+#[derive(Drop)]
+pub struct Endpoint {
+    config: Config,
+    party: PartyId,
+    life: Life,
+    keys: Vec<PairKey>,
+}
+
+impl Model for Endpoint {
+    ghost use Rattle.handshake.specs.Judging as judging;
+
+    ghost Value = { judging.Endpoint };
+
+    ghost view = { λ e. record { sizes = e.config; party = e.party; life = e.life; keys = e.keys.items } };
+}
+
+/// The first of some keys that is of these two parties, in this order.
+fn find_pair(keys: &[PairKey], one: PartyId, other: PartyId) -> Option<&PairKey>
+    ensures { option_map (λ k. k.now) result ≡ find (λ k. (k.one == one) && (k.other == other)) keys.now }
+{
+    keys.iter().find(|key| key.one == one && key.other == other)
+}
+
+/// The key of two parties.
+fn find_key(keys: &[PairKey], a: PartyId, b: PartyId) -> Option<[u8; 32]>
+    ensures { result ≡ found_key keys.now a b }
+{
+    let one = PartyId(a.0.min(b.0));
+    let other = PartyId(a.0.max(b.0));
+    let found = find_pair(keys, one, other)?;
+    let key = found.key;
+    Some(key)
+}
+
+impl Endpoint {
+    /// A party, in its life, with the keys that it holds, as a key file has them.
+    pub fn new(config: Config, party: PartyId, life: Life, keys: Vec<PairKey>) -> Endpoint
+        ensures { result ≡ record { sizes = config; party = party; life = life; keys = keys.items } }
+    {
+        Endpoint {
+            config,
+            party,
+            life,
+            keys,
+        }
+    }
+
+    /// The key of a dialler and an acceptor, where they have one.
+    fn link_key(&self, dialler: PartyId, acceptor: PartyId) -> Option<[u8; 32]>
+        ensures { result ≡ link_key self.now.keys dialler acceptor }
+    {
+        if dialler.0 <= acceptor.0 {
+            return None;
+        }
+        find_key(&self.keys, dialler, acceptor)
+    }
+
+    /// Begins a handshake with an acceptor that greeted so, with a nonce that is made for it. `NotAGreeting` where the
+    /// greeting has other words; `NotAParty` where no key is held with that party, or this one's number isn't the higher.
+    pub fn dial(
+        &self,
+        acceptor: PartyId,
+        greeting: &[u8; GREETING_LEN],
+        nonce: Nonce,
+    ) -> Result<Dialling, Refusal>
+        ensures { result ≡ dialled self.now acceptor greeting.now nonce }
+    {
+        let greeted = read_greeting(greeting).ok_or(Refusal::NotAGreeting)?;
+        let key = self
+            .link_key(self.party, acceptor)
+            .ok_or(Refusal::NotAParty)?;
+        let ask = Ask {
+            dialler: self.party,
+            acceptor,
+            sizes: sizes_digest(&self.config),
+            life: self.life,
+            nonce,
+        };
+        Ok(Dialling::new(ask, greeted, key))
+    }
+
+    /// Who asks, and the answer to it, where this party greeted with this nonce.
+    ///
+    /// `NotMine` where another party is asked; `NotAParty` where no key is held with the dialler, or its number isn't the
+    /// higher; `BadTag` where the tag isn't right for what is said; `OtherSizes` only then: so a warning of other sizes
+    /// comes from who holds the key.
+    pub fn admit(
+        &self,
+        greeted: Nonce,
+        bytes: &[u8; ASK_LEN],
+    ) -> Result<(Peer, [u8; ANSWER_LEN]), Refusal>
+        ensures { result ≡ admitted self.now greeted bytes.now }
+    {
+        let (ask, tag) = read_ask(bytes);
+        if ask.acceptor != self.party {
+            return Err(Refusal::NotMine);
+        }
+        let key = self
+            .link_key(ask.dialler, self.party)
+            .ok_or(Refusal::NotAParty)?;
+        if !are_equal(&tag, &ask_tag(&key, greeted, &ask)) {
+            return Err(Refusal::BadTag);
+        }
+        if ask.sizes != sizes_digest(&self.config) {
+            return Err(Refusal::OtherSizes);
+        }
+        let peer = Peer::new(ask.dialler, ask.life, ask.nonce);
+        let answer = answer_bytes(&key, greeted, &ask, self.life);
+        Ok((peer, answer))
+    }
+}

@@ -1,0 +1,31 @@
+use std::error::Error;
+use std::fmt;
+
+/// Why a handshake names nobody.
+#[derive(Clone, Copy, Debug, PartialEq, Eq)]
+pub enum Refusal {
+    /// The greeting doesn't begin with the words of a link of this version.
+    NotAGreeting,
+    /// The ask is for another party.
+    NotMine,
+    /// No key is held with that party, or it is the other one that has to dial.
+    NotAParty,
+    /// The tag isn't that of what is said, under the key of the two.
+    BadTag,
+    /// Who holds the key asks at other sizes.
+    OtherSizes,
+}
+
+impl fmt::Display for Refusal {
+    fn fmt<W: fmt::Write>(&self, f: &mut fmt::Formatter<W>) -> fmt::Result {
+        f.write_str(match self {
+            Refusal::NotAGreeting => "not a greeting",
+            Refusal::NotMine => "for another party",
+            Refusal::NotAParty => "no such party may dial",
+            Refusal::BadTag => "bad tag",
+            Refusal::OtherSizes => "other sizes",
+        })
+    }
+}
+
+impl Error for Refusal {}

@@ -1,0 +1,38 @@
+//! Cases of what goes over wires. Each line of standard input is a case behind the name of its subject:
+//!
+//! - `longest`, `put`, `cuts`, `pieces`, `room`: frames on a wire (`streams.rt`).
+//! - `greeting`, `dial`, `admit`, `hear`, and these with a changed byte: handshakes (`handshakes.rt`).
+//! - `outbox`: calls of an outbox (`outboxes.rt`).
+//!
+//! A line is printed of each. What is wanted was computed by an independent program, `reference/wire_cases`.
+#![tactic(auto)]
+
+mod endpoints;
+mod fields;
+mod handshakes;
+mod outboxes;
+mod streams;
+
+use anyhow::{Result, bail};
+use std::alloc::Global;
+
+/// What is printed of a line of the input.
+fn case_told(alloc: Global, line: &str) -> Result<String> {
+    let Some((subject, case)) = line.split_once(' ') else {
+        bail!("a case without a subject");
+    };
+    match subject {
+        "longest" | "put" | "cuts" | "pieces" | "room" => streams::case_told(alloc, subject, case),
+        "outbox" => outboxes::case_told(alloc, case),
+        _ => handshakes::case_told(alloc, subject, case),
+    }
+}
+
+fn main(rt: HostRuntime) -> Result<()> {
+    let alloc = rt.alloc();
+    for line in rt.lines(alloc) {
+        let line = line?;
+        println!(rt; "{}", case_told(alloc, line.as_str())?)?;
+    }
+    Ok(())
+}

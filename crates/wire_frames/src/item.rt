@@ -1,0 +1,8 @@
+/// What stands on a wire.
+#[derive(Clone, Copy, Debug, PartialEq, Eq)]
+pub enum Item<'a> {
+    /// A frame, which has at least one byte. Whether it is one of the grammar isn't looked at.
+    Frame(&'a [u8]),
+    /// A length of 0: who sends it shows that it lives.
+    Ping,
+}

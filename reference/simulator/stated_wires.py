@@ -1,0 +1,194 @@
+"""Cases of crates/wire_cases that show one thing each."""
+from . import wires
+from .sizes import Config
+from .tags import big_endian, sha256
+
+LONG = 60000
+
+
+def field(frames):
+    """A stream of frames as a line spells it: a run of one byte is told by its length."""
+    return "+".join(part for frame in frames for part in (big_endian(len(frame), 4).hex(), run(frame)) if part)
+
+
+def run(data):
+    if len(data) > 32 and len(set(data)) == 1:
+        return "%02x*%d" % (data[0], len(data))
+    return data.hex()
+
+
+# ---- streams
+
+
+def streams():
+    longest = {faults: wires.longest_frame(Config(faults, 1)) for faults in range(1, 11)}
+    yield from (f"longest {faults}" for faults in longest)
+    most = longest[1]
+    yield "put 1 - 01 0203 " + "00*300"
+    yield f"put 1 07*{most} 07*{most + 1} 08"
+    yield f"put 10 07*{longest[10]} 07*{longest[10] + 1}"
+    few = field([b"\x01", b"", b"\x02\x03", b"", b"", bytes(range(40))])
+    ends = {
+        "nothing": "-",
+        "a ping": "00000000",
+        "a few": few,
+        "part of a length": few + "+000000",
+        "part of a frame": few + "+0000000501020304",
+        "the longest length": few + "+" + big_endian(most, 4).hex() + "+0102",
+        "one above it": few + "+" + big_endian(most + 1, 4).hex() + "+0102",
+        "one above it, and a frame": few + "+" + big_endian(most + 1, 4).hex() + "+00000001ff",
+        "the greatest length, and a frame": "ffffffff+00000001ff",
+        "the fourth byte of a length": few + "+00000100+01*256+00000001ff",
+        "its first byte": few + "+01000000+01*256",
+        "three refusals": "00ffffff00ffffff00ffffff",
+    }
+    yield from (f"cuts 1 {stream}" for stream in ends.values())
+    yield from (f"pieces 1 {stream} 1 2 3 5 8 13" for stream in ends.values())
+    long = field([b"\x09" * most, b"", b"\x01\x02", b"\x08" * LONG, b"\x07" * (most - 1)])
+    yield f"pieces 1 {long} 65536 4096 16384 65535 9973"
+    yield f"pieces 1 {long}+{big_endian(most + 1, 4).hex()}+{field([b'x' * 99])} 65536 16384 65535"
+    yield f"pieces 10 {field([bytes([5]) * longest[10]] * 3)} 65536 30000"
+    yield from (f"room {faults} {size}" for faults in (1, 10) for size in (1000, 65536))
+    yield f"room 1 {4 + most + wires.PIECE}"
+    yield f"room 1 {4 + most + wires.PIECE + 1}"
+
+
+# ---- handshakes
+
+
+def key(one, other):
+    return sha256(b"key %d %d" % (one, other))
+
+
+def life(party):
+    return sha256(b"life %d" % party)[:16]
+
+
+def nonce(word):
+    return sha256(b"nonce " + word)[:16]
+
+
+def endpoint(party, pairs, faults=1, clients=2, kept=65536, of=key):
+    keys = tuple((one, other, of(one, other)) for one, other in pairs)
+    return wires.Endpoint(faults, clients, kept, party, life(party), keys)
+
+
+def spelled(end):
+    keys = ",".join(f"{one}-{other}-{key.hex()}" for one, other, key in end.keys)
+    return f"{end.faults}:{end.clients}:{end.kept}:{end.party}:{end.life.hex()}:{keys}"
+
+
+HELD = {
+    0: [(0, 0), (0, 1), (0, 2), (0, 3), (0, 256), (0, 257)],
+    2: [(0, 2), (1, 2), (2, 2), (2, 3), (2, 256), (2, 257)],
+    257: [(0, 257), (1, 257), (2, 257), (3, 257)],
+}
+GREETED, ASKED = nonce(b"acceptor"), nonce(b"dialler")
+
+
+def begun(end, acceptor, greeted=GREETED, mine=ASKED):
+    return wires.dial(end, acceptor, mine, wires.greeting(greeted))
+
+
+def dials():
+    ends = {party: endpoint(party, held) for party, held in HELD.items()}
+    hello = wires.greeting(GREETED).hex()
+    yield f"greeting {GREETED.hex()}"
+    for party, acceptor in ((2, 0), (2, 1), (257, 0), (257, 2), (2, 3), (2, 2), (2, 257), (257, 257), (257, 256), (0, 2)):
+        yield f"dial {spelled(ends[party])} {acceptor} {ASKED.hex()} {hello}"
+    for words in (b"mcbft link 2\n", b"mcbft link 1\r", b"mcbft link 1\n"[::-1]):
+        yield f"dial {spelled(ends[2])} 0 {ASKED.hex()} {(words + GREETED).hex()}"
+    yield f"dial {spelled(endpoint(2, []))} 0 {ASKED.hex()} {hello}"
+    yield from (f"dial-row {spelled(ends[2])} 0 {ASKED.hex()} {hello} {mask}" for mask in ("01", "80"))
+
+
+def asks():
+    """(the dialler's ask, what is special)"""
+    yield begun(endpoint(2, HELD[2]), 0).ask()
+    yield begun(endpoint(257, HELD[257]), 0).ask()
+    yield begun(endpoint(2, HELD[2]), 1).ask()                                 # for another party
+    yield begun(endpoint(3, [(0, 3)], of=lambda one, other: key(other, one)), 0).ask()      # under another key
+    yield begun(endpoint(2, HELD[2]), 0, greeted=nonce(b"another")).ask()      # of another greeting
+    for other in ({"faults": 2}, {"clients": 3}, {"kept": 65535}):
+        yield begun(endpoint(2, HELD[2], **other), 0).ask()
+    yield begun(endpoint(258, [(0, 258)]), 0).ask()                            # a party without a key here
+    own = wires.Dialling(0, 0, key(0, 0), GREETED, ASKED, endpoint(0, []).sizes_digest(), life(0))
+    yield own.ask()                                                            # of itself
+    right = begun(endpoint(2, HELD[2]), 0)
+    head = right.ask()[:68]
+    yield head + right.answer(life(2))[16:]                                    # an answer's tag
+    yield head + wires.tag(right.key, 1, 2, 0, *right.said())                  # a frame's label
+    yield head + wires.tag(right.key, wires.ASK, 0, 2, *right.said())          # the parties changed
+    yield head + wires.tag(right.key, wires.ASK, 2, 0, right.nonce, right.greeted, right.sizes, right.life)
+    yield head + wires.tag(right.key, wires.ASK, 2, 0, right.nonce, right.sizes, right.life)
+    yield head + wires.tag(right.key, wires.ASK, 2, 0, right.greeted, right.sizes, right.life)
+    yield head + wires.tag(right.key, wires.ASK, 2, 0, right.greeted, right.nonce, right.life)
+    yield head + wires.tag(right.key, wires.ASK, 2, 0, right.greeted, right.nonce, right.sizes)
+
+
+def admissions():
+    zero = spelled(endpoint(0, HELD[0]))
+    yield from (f"admit {zero} {GREETED.hex()} {ask.hex()}" for ask in asks())
+    # one that is lower asks, in a world where both have the key
+    low = wires.Dialling(0, 2, key(0, 2), GREETED, ASKED, endpoint(0, []).sizes_digest(), life(0))
+    yield f"admit {spelled(endpoint(2, HELD[2]))} {GREETED.hex()} {low.ask().hex()}"
+    small = endpoint(1, [(1, 3)], faults=3, clients=64, kept=1)
+    yield f"admit {spelled(small)} {GREETED.hex()} " + begun(endpoint(3, [(1, 3)], 3, 64, 1), 1).ask().hex()
+    for ask in (begun(endpoint(2, HELD[2]), 0).ask(), begun(endpoint(257, HELD[257]), 0).ask()):
+        yield from (f"admit-row {zero} {GREETED.hex()} {ask.hex()} {mask}" for mask in ("01", "02", "80", "ff"))
+    others = begun(endpoint(2, HELD[2], kept=65535), 0).ask()
+    yield f"admit-row {zero} {GREETED.hex()} {others.hex()} 01"
+
+
+def hearings():
+    two, hello = endpoint(2, HELD[2]), wires.greeting(GREETED).hex()
+    right = begun(two, 0)
+    answers = [
+        right.answer(life(0)),
+        right.answer(life(1)),                                                 # another life
+        begun(two, 0, greeted=nonce(b"another")).answer(life(0)),              # of another greeting
+        begun(two, 0, mine=nonce(b"another")).answer(life(0)),                 # to another ask
+        begun(endpoint(2, HELD[2], kept=65535), 0).answer(life(0)),            # at other sizes
+        begun(two, 1).answer(life(0)),                                         # of another party
+        life(0) + right.ask()[68:],                                            # an ask's tag
+        right.life + right.ask()[68:],                                         # what was said, sent back
+        life(0) + wires.tag(right.key, wires.ASK, 0, 2, *right.said(), life(0)),
+        life(0) + wires.tag(right.key, wires.ANSWER, 2, 0, *right.said(), life(0)),
+        life(0) + wires.tag(right.key, wires.ANSWER, 0, 2, *right.said()),
+    ]
+    case = f"{spelled(two)} 0 {ASKED.hex()} {hello}"
+    yield from (f"hear {case} {answer.hex()}" for answer in answers)
+    yield from (f"hear-row {case} {answers[0].hex()} {mask}" for mask in ("01", "80", "ff"))
+
+
+# ---- outboxes
+
+
+def outboxes():
+    yield "outbox 1000 empty put=01 put=0203 put=040506 lost empty take=6 empty lost"
+    yield "outbox 1000 put=01*10 put=02*10 put=03*10 take=20 take=20 take=20"
+    yield "outbox 1000 put=01*10 put=02*10 put=03*10 take=19 take=0 take=1000 take=1000"
+    yield "outbox 1000 put=01*300 put=02*10 take=5 take=10 take=0"
+    yield "outbox 2000 put=01*300 put=- put=- put=02 take=299 take=0 take=0"
+    # the bound: 128 and the bytes, for each
+    yield "outbox 386 put=01 put=02 put=03 put=- lost take=9"
+    yield "outbox 387 put=01 put=02 put=03 lost take=9 put=04 take=9"
+    yield "outbox 387 put=01 put=02 put=- put=- lost take=9"
+    yield "outbox 127 put=- lost take=9 empty"
+    yield "outbox 128 put=01 put=- lost take=9 empty"
+    yield "outbox 0 put=- lost take=9"
+    # the new one is lost, and the others stay
+    yield "outbox 300 put=01 put=02*43 put=02*42 put=03 take=100 put=04 lost take=100"
+    # a closed one
+    yield "outbox 1000 put=01 put=02 close lost empty put=03 take=9 lost reopen put=04 lost take=9"
+    yield "outbox 1000 close close lost reopen put=01 reopen close lost empty take=1"
+    yield "outbox 300 put=01 put=02 close reopen put=03 put=04 put=05 lost take=2"
+    yield "outbox 18446744073709551615 put=01*5000 put=02*5000 put=03*5000 take=10000 take=18446744073709551615 empty"
+
+
+def all_cases():
+    yield from streams()
+    yield from dials()
+    yield from admissions()
+    yield from hearings()
+    yield from outboxes()

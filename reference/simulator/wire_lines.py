@@ -1,0 +1,139 @@
+"""The cases of crates/wire_cases: what is wanted of each line. The heads of the program's files have the format."""
+from hashlib import sha256
+
+from . import wires
+from .frame_lines import bytes_of as parts_of
+from .sizes import Config
+from .wires import NotNamed
+
+MOST_TOLD = 64
+LETTERS = {"not a greeting": "G", "for another party": "M", "no such party may dial": "P", "bad tag": "T",
+           "other sizes": "S"}
+TOO_LONG = "a length that no frame has"
+NO_ROOM = "more bytes than there is room for"
+
+
+def bytes_of(field):
+    return b"" if field == "-" else parts_of(field)
+
+
+def told(data):
+    if not data:
+        return "-"
+    if len(data) <= MOST_TOLD:
+        return data.hex()
+    return "%d:%s" % (len(data), sha256(data).hexdigest()[:32])
+
+
+# ---- streams
+
+
+def given(longest, stream):
+    """What a feed gives, whatever the pieces."""
+    frames, is_over = wires.items(longest, stream)
+    return [told(frame) if frame else "ping" for frame in frames] + [TOO_LONG if is_over else "more"]
+
+
+def tell_stream(subject, fields):
+    config = Config(int(fields[0]), 1)
+    longest = wires.longest_frame(config)
+    if subject == "longest":
+        return str(longest)
+    if subject == "put":
+        words, wire = [], b""
+        for frame in map(bytes_of, fields[1:]):
+            fits = len(frame) <= longest
+            words.append("put" if fits else TOO_LONG)
+            wire += wires.on_wire(frame) if fits else b""
+        return " ".join([*words, told(wire)])
+    if subject == "room":
+        return "%d %s" % ((4 + longest + wires.PIECE) // int(fields[1]), NO_ROOM)
+    stream = bytes_of(fields[1])
+    alike = len(stream) + 1 if subject == "cuts" else len(fields) - 2
+    return " ".join([*given(longest, stream), str(alike), "alike"])
+
+
+# ---- handshakes
+
+
+def endpoint_of(field):
+    faults, clients, kept, party, life, keys = field.split(":")
+    triples = [key.split("-") for key in keys.split(",") if key]
+    held = tuple((int(one), int(other), bytes.fromhex(key)) for one, other, key in triples)
+    return wires.Endpoint(int(faults), int(clients), int(kept), int(party), bytes.fromhex(life), held)
+
+
+def peer_words(peer):
+    party, life, nonce = peer
+    return f"{party} {life.hex()} {nonce.hex()}"
+
+
+def dialled(fields):
+    """(what dials, as a function of the greeting; the greeting)"""
+    endpoint, acceptor, nonce = endpoint_of(fields[0]), int(fields[1]), bytes.fromhex(fields[2])
+    return lambda words: wires.dial(endpoint, acceptor, nonce, words), bytes.fromhex(fields[3])
+
+
+def asked(subject, fields):
+    """(what is asked, as a function of the bytes that may be changed, and gives words; those bytes)"""
+    if subject == "dial":
+        dial, words = dialled(fields)
+        return lambda data: dial(data).ask().hex(), words
+    if subject == "admit":
+        endpoint, greeted = endpoint_of(fields[0]), bytes.fromhex(fields[1])
+
+        def admit(data):
+            peer, answer = wires.admit(endpoint, greeted, data)
+            return peer_words(peer) + " " + answer.hex()
+        return admit, bytes.fromhex(fields[2])
+    dial, words = dialled(fields)
+    return lambda data: peer_words(dial(words).hear(data)), bytes.fromhex(fields[4])
+
+
+def outcome(ask, data):
+    try:
+        return ask(data)
+    except NotNamed as refusal:
+        return str(refusal)
+
+
+def tell_handshake(subject, fields):
+    if subject == "greeting":
+        return wires.greeting(bytes.fromhex(fields[0])).hex()
+    name, _, row = subject.partition("-")
+    ask, data = asked(name, fields)
+    if not row:
+        return outcome(ask, data)
+    mask = int(fields[-1], 16)
+    changed = (data[:at] + bytes([data[at] ^ mask]) + data[at + 1:] for at in range(len(data)))
+    return "".join(LETTERS.get(outcome(ask, other), ".") for other in changed)
+
+
+# ---- outboxes
+
+
+def tell_outbox(fields):
+    outbox, words = wires.Outbox(int(fields[0])), ["outbox"]
+    for call in fields[1:]:
+        name, _, value = call.partition("=")
+        if name == "put":
+            words.append(outbox.put(bytes_of(value)))
+        elif name == "take":
+            words += ["[", *map(told, outbox.take(int(value))), "]"]
+        elif name == "lost":
+            words.append(str(outbox.lost))
+        elif name == "empty":
+            words.append("false" if outbox.waiting else "true")
+        else:
+            {"close": outbox.close, "reopen": outbox.reopen}[name]()
+            words.append(name)
+    return " ".join(words)
+
+
+def tell(line):
+    subject, *fields = line.split(" ")
+    if subject == "outbox":
+        return tell_outbox(fields)
+    if subject in ("longest", "put", "cuts", "pieces", "room"):
+        return tell_stream(subject, fields)
+    return tell_handshake(subject, fields)
