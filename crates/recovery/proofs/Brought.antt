@@ -210,13 +210,13 @@ module _ (sizes : Sizes) (start : World) (all : List Happening) (b : Block) (par
   -- being asked before or after leaves what was got
   got-last : (self : Identity) (a c d : Chronicle) → IsGot self a c → OnlyAsked self c d → IsGot self a d
   got-last self a c d (inl h) o = inl (
-    asked-last self (length parent) x a c d h.0 o,
+    asked-last self (length parent) x a c d (omega arith) h.0 o,
     subst (λ (l : List Branch). Among x l) (sym (window-told c d o.0.taken o.0.forgotten)) h.1,
   )
   got-last self a c d (inr h) o = inr (asked-trans self a c d h.0 o, h.1)
 
   got-first : (self : Identity) (a c d : Chronicle) → OnlyAsked self a c → IsGot self c d → IsGot self a d
-  got-first self a c d o (inl h) = inl (asked-first self (length parent) x a c d o h.0, h.1)
+  got-first self a c d o (inl h) = inl (asked-first self b parent a c d o h.0, h.1)
   got-first self a c d o (inr h) =
       let f = o.0.forgotten in inr (asked-trans self a c d o h.0, λ k. h.1 (omega (arith, k, f)))
 

@@ -12,9 +12,10 @@ use Rattle.definitions.specs.Branches.{Block, Branch, just1, just2, IsBranch, br
 use Rattle.definitions.specs.Checks.{Identity, command_verifies}
 use Rattle.definitions.specs.Chronicles.{Admitted, Chronicle, Step.took_block, taken_blocks, voted_blocks, window}
 use Rattle.definitions.specs.Chronicles.{horizon, standing_blocks, stored_block, lock, vheight}
-use Rattle.definitions.specs.Grounds.{is_justified}
+use Rattle.definitions.specs.Grounds.{is_justified, is_own_certified}
+use Rattle.definitions.specs.Chronicles.{stored_blocks}
 use Rattle.definitions.specs.States.{view}
-use Rattle.definitions.specs.Trees.{Stored, blocks, clear_above, is_clear}
+use Rattle.definitions.specs.Trees.{Stored, blocks, standing, clear_above, is_clear}
 use Rattle.definitions.proofs.Branches.{just1-below, just2-is, branch_eq-decides, length-extends}
 use Rattle.definitions.proofs.Horizons.{window-grown}
 use Rattle.definitions.proofs.Windows.{block-stored}
@@ -23,7 +24,7 @@ use Rattle.recovery.specs.Fetching.{HasPlace}
 use Rattle.recovery.specs.Rounds.{Climbs}
 use Rattle.recovery.proofs.Decided.{justifies-below}
 use Rattle.recovery.proofs.Grounds.{just1-genesis}
-use Rattle.recovery.proofs.Fetched.{took-stands}
+use Rattle.recovery.proofs.Fetched.{took-stands, window-told, lock-told}
 use Rattle.recovery.proofs.Locks.{nil}
 use Rattle.recovery.proofs.Proposals.{standing-old, clear-more, clear-over, clear-first}
 
@@ -214,3 +215,41 @@ unfolding voted_blocks
 voted-now c a x e v =
     subst (λ (l : List Branch). Among x l) (sym (cond-true a.voted (a.branch ∷ voted_blocks c) (voted_blocks c) v))
     (inl (sym e))
+
+-- ---- steps that leave blocks as they are
+
+standing-told : (c d : Chronicle) → taken_blocks d ≡ taken_blocks c → horizon d ≡ horizon c
+    → standing_blocks d ≡ standing_blocks c
+unfolding standing_blocks stored_blocks
+standing-told c d t h = λ k. standing (h k) (map stored_block (t k))
+
+justified-told : (m : Branch) (c d : Chronicle) → standing_blocks d ≡ standing_blocks c
+    → is_justified m d ≡ is_justified m c
+unfolding is_justified
+justified-told m c d e = ap (λ (l : List Stored). list_any (λ x. branch_eq (just1 x.branch) m) l) e
+
+-- who took and pruned nothing, and is in that view, climbs as before
+pub climbs-kept : (self : Identity) (v : ℕ) (m y : Branch) (room : ℕ) (c d : Chronicle)
+    → view self.sizes d ≡ view self.sizes c → taken_blocks d ≡ taken_blocks c → horizon d ≡ horizon c
+    → (is_own_certified self m c ≡ true → is_own_certified self m d ≡ true) → Climbs self v m y room c
+    → Climbs self v m y room d
+climbs-kept self v m y room c d i t h own k =
+    let w = window-told c d t h in
+    let s = standing-told c d t h in
+    let n = ap (λ (l : List Branch). length l) w in
+    let reach = k.reach in
+    let trees = k.trees in
+    record {
+      in_view = i ∙ k.in_view;
+      stands = subst (λ (l : List Branch). Among y l) (sym w) k.stands;
+      over = k.over;
+      ground = elim k.ground [ inl j ↦ inl (justified-told m c d s ∙ j) | inr o ↦ inr (own o) ];
+      reach = omega (arith, h, reach);
+      safe = subst (λ (x : Branch). (x ≡ m) ⊎ (length x < length m)) (sym (lock-told c d t)) k.safe;
+      clear = ap (λ (l : List Stored). clear_above (length m) y l) s ∙ k.clear;
+      trees = omega (arith, n, trees);
+      heights = λ q l.
+          let few = k.heights q l in
+          let same = ap (λ (x : List Branch). count_by (λ z. length z == q) x) w in
+          omega (arith, few, same);
+    }

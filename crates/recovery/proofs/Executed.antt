@@ -3,7 +3,7 @@ use Rattle.std.proofs.Common.{ℕ, suc, ◌≡◌, ◌<◌, ◌==◌, Bool, fals
 use Rattle.std.proofs.Common.{length, find, reverse, refl, sym, ap, subst, ◌∙◌, arith, inl, inr, Ok}
 use Rattle.std.proofs.lemmas.Bool.{cond-false, ne_eqb, cases_lt}
 use Rattle.std.proofs.lemmas.List.{append-nil}
-use Rattle.ids.specs.Sizes.{Sizes, client_party}
+use Rattle.ids.specs.Sizes.{Sizes, client_party, leader}
 use Rattle.definitions.specs.Lists.{Among}
 use Rattle.definitions.specs.Branches.{Branch, branch_eq, just2}
 use Rattle.definitions.specs.Chronicles.{executed, taken_blocks}
@@ -34,7 +34,7 @@ use Rattle.recovery.proofs.Submitted.{lock-carries}
 use Rattle.recovery.proofs.Views.{leader-comes}
 use Rattle.recovery.proofs.Ways.{IsOnWay, KnownAt, on-way-from, on-way, way-past, turn-on, turn-passes, turn-after}
 use Rattle.recovery.proofs.Ways.{turns-none}
-use Rattle.recovery.proofs.Wells.{family-of}
+use Rattle.recovery.proofs.Wells.{IsReached, family-of}
 use Rattle.recovery.proofs.Worlds.{made-after, made-both, same-correct, Passes, passes-none, after-none}
 
 -- ---- phases of a healing
@@ -83,79 +83,86 @@ pub record AreStaged (w : World) (top : ℕ) : Type 0 where
   pub session : (world_3 w).session ≡ w.session
 
 module _ (sizes : Sizes) (start : World) (all : List Happening) where
-  -- where the lock isn't genesis
-  stage-above : (w : World) (ps : List Phase) (rest : List Happening)
+  -- what the first phase leaves
+  record HasCome (w : World) (ps : List Phase) (rest : List Happening) : Type 0 where
+    reached : IsReached (KnownAt sizes start all) w
+    leads : leader w.sizes (view_to_come (healer w) w) ≡ healer w
+    came : CameTo (view_to_come (healer w) w) w (world_1 w)
+    over : over_lock (healer w) (world_1 w) ≡ ground_of w
+    on : IsOnWay sizes start all (world_1 w)
+        (make_first (healer w) (world_1 w) ++ (in_turn (third_phase w ∷ ps) (world_2 w) ++ rest))
+
+  has-come : (w : World) (ps : List Phase) (rest : List Happening)
       → IsOnWay sizes start all w (in_turn (first_phase w ∷ make_first (healer w) ∷ third_phase w ∷ ps) w ++ rest)
-      → MayHeal w → 0 < length (ground_of w) → AreStaged w (highest_voted w (correct_replicas w))
-  stage-above w ps rest on may up =
+      → MayHeal w → HasCome w ps rest
+  has-come w ps rest on may =
+      let l : ℕ = healer w in
+      let on0 = turn-on sizes start all (first_phase w) (make_first l ∷ third_phase w ∷ ps) w rest on in
+      let g = on-way sizes start all w _ on0 in
+      let cl = (healer-highest w (family-of (KnownAt sizes start all) w g)).0 in
+      let comes = leader-comes w l cl may.goes may.views in
+      let made = made-after w (first_phase w w) in
+      record {
+        reached = g;
+        leads = comes.0;
+        came = comes.1;
+        over = over-told l w (world_1 w) (comes.1.rest l (same-correct w (world_1 w) made l ∙ cl)).taken;
+        on = turn-on sizes start all (make_first l) (third_phase w ∷ ps) (world_1 w) rest
+            (way-past sizes start all (first_phase w w) _ w on0 comes.1.ran);
+      }
+
+  -- where genesis doesn't justify the lock
+  stage-above : (w : World) (ps : List Phase) (rest : List Happening) → HasCome w ps rest → MayHeal w
+      → 0 < length (ground_of w) → AreStaged w (highest_voted w (correct_replicas w))
+  stage-above w ps rest h may up =
       let Known = KnownAt sizes start all in
       let l : ℕ = healer w in
       let v : ℕ = view_to_come l w in
-      let on0 = turn-on sizes start all (first_phase w) (make_first l ∷ third_phase w ∷ ps) w rest on in
-      let g = on-way sizes start all w _ on0 in
-      let cl = (healer-highest w (family-of Known w g)).0 in
-      let comes = leader-comes w l cl may.goes may.views in
-      let came = comes.1 in
       let w1 : World = world_1 w in
-      let made1 = made-after w (first_phase w w) in
-      let on1 = turn-on sizes start all (make_first l) (third_phase w ∷ ps) w1 rest
-      (way-past sizes start all (first_phase w w) _ w on0 came.ran) in
-      let same = over-told l w w1 (came.rest l (same-correct w w1 made1 l ∙ cl)).taken in
-      let up1 : 0 < length (over_lock l w1) = (let n = ap (λ (x : Branch). length x) same in omega (arith, up, n)) in
-      let none = none-first l w1 up1 in
-      let passes2 : Passes w1 (make_first l w1) = subst (Passes w1) (sym none) (passes-none w1) in
       let w2 : World = world_2 w in
-      let still : w2 ≡ w1 = ap (after w1) none ∙ after-none w1 in
-      let came2 : CameTo v w w2 = subst (CameTo v w) (sym still) came in
-      let made2 = made-both w w1 w2 made1 (made-after w1 (make_first l w1)) in
-      let on2 = turn-on sizes start all (third_phase w) ps w2 rest
-      (way-past sizes start all (make_first l w1) _ w1 on1 passes2) in
-      let bring = may-bring Known w g may.kept may.room v w2 may.keys made2 came2 in
-      let third = branch-brought sizes start all (ground_of w) w2 _ on2 bring in
       let w3 : World = world_3 w in
+      let n = ap (λ (x : Branch). length x) h.over in
+      let none = none-first l w1 (omega (arith, up, n)) in
+      let passes2 : Passes w1 (make_first l w1) = subst (Passes w1) (sym none) (passes-none w1) in
+      let still : w2 ≡ w1 = ap (after w1) none ∙ after-none w1 in
+      let came2 : CameTo v w w2 = subst (CameTo v w) (sym still) h.came in
+      let made2 = made-both w w1 w2 (made-after w (first_phase w w)) (made-after w1 (make_first l w1)) in
+      let on2 = turn-on sizes start all (third_phase w) ps w2 rest
+      (way-past sizes start all (make_first l w1) _ w1 h.on passes2) in
+      let bring = may-bring Known w h.reached may.kept may.room v w2 may.keys made2 came2 in
+      let third = branch-brought sizes start all (ground_of w) w2 _ on2 bring in
       let g3 = on-way sizes start all w3 _ (way-past sizes start all (third_phase w w2) _ w2 on2 third.0) in
-      let made3 = made-after w2 (third_phase w w2) in
       record {
-        first = came.ran;
+        first = h.came.ran;
         second = passes2;
         third = third.0;
-        stage = staged Known w g may.kept may.room v w2 w3 g3 made2 made3 came2 third.1 may.keys comes.0 up;
+        stage = staged Known w h.reached may.kept may.room v w2 w3 g3 made2 (made-after w2 (third_phase w w2)) came2
+            third.1 may.keys h.leads up;
         session = third.1.session ∙ came2.session;
       }
 
-  -- where it is
-  stage-genesis : (w : World) (ps : List Phase) (rest : List Happening)
-      → IsOnWay sizes start all w (in_turn (first_phase w ∷ make_first (healer w) ∷ third_phase w ∷ ps) w ++ rest)
-      → MayHeal w → ground_of w ≡ [] → AreStaged w (suc (highest_voted w (correct_replicas w)))
-  stage-genesis w ps rest on may low =
-      let Known = KnownAt sizes start all in
+  -- where it does
+  stage-genesis : (w : World) (ps : List Phase) (rest : List Happening) → HasCome w ps rest → MayHeal w
+      → ground_of w ≡ [] → AreStaged w (suc (highest_voted w (correct_replicas w)))
+  stage-genesis w ps rest h may low =
       let l : ℕ = healer w in
       let v : ℕ = view_to_come l w in
-      let on0 = turn-on sizes start all (first_phase w) (make_first l ∷ third_phase w ∷ ps) w rest on in
-      let g = on-way sizes start all w _ on0 in
-      let cl = (healer-highest w (family-of Known w g)).0 in
-      let comes = leader-comes w l cl may.goes may.views in
-      let came = comes.1 in
       let w1 : World = world_1 w in
-      let made1 = made-after w (first_phase w w) in
-      let on1 = turn-on sizes start all (make_first l) (third_phase w ∷ ps) w1 rest
-      (way-past sizes start all (first_phase w w) _ w on0 came.ran) in
-      let over : over_lock l w1 ≡ [] =
-      over-told l w w1 (came.rest l (same-correct w w1 made1 l ∙ cl)).taken ∙ low in
-      let one = first-staged sizes start all w g may.room low v w1 _ on1 made1 may.keys came comes.0 over in
       let w2 : World = world_2 w in
-      let w3 : World = world_3 w in
-      let none : third_phase w w2 ≡ [] = ap (λ (x : Branch). fetch_all (lowest_first x) w2) low ∙ fetch-none w2 in
-      let still : w3 ≡ w2 = ap (after w2) none ∙ after-none w2 in
-      let lock_is : lock_of w l ≡ [] = locks-nil sizes start all w g may.room low l cl in
       let top : ℕ = suc (highest_voted w (correct_replicas w)) in
+      let cl = (healer-highest w (family-of (KnownAt sizes start all) w h.reached)).0 in
+      let one = first-staged sizes start all w h.reached may.room low v w1 _ h.on (made-after w (first_phase w w))
+      may.keys h.came h.leads (h.over ∙ low) in
+      let none : third_phase w w2 ≡ [] = ap (λ (x : Branch). fetch_all (lowest_first x) w2) low ∙ fetch-none w2 in
+      let still : world_3 w ≡ w2 = ap (after w2) none ∙ after-none w2 in
+      let lock_is : lock_of w l ≡ [] = locks-nil sizes start all w h.reached may.room low l cl in
       record {
-        first = came.ran;
+        first = h.came.ran;
         second = one.0;
         third = subst (Passes w2) (sym none) (passes-none w2);
         stage = subst (λ (z : World). IsStaged z l v top (lock_of w l)) (sym still)
             (subst (λ (x : Branch). IsStaged w2 l v top x) (sym lock_is) one.1.stage);
-        session = ap (λ (z : World). z.session) still ∙ (one.1.session ∙ came.session);
+        session = ap (λ (z : World). z.session) still ∙ (one.1.session ∙ h.came.session);
       }
 
   -- what the last two phases leave
@@ -248,12 +255,14 @@ module _ (sizes : Sizes) (start : World) (all : List Happening) where
       → IsOnWay sizes start all w (agree_on k w ++ rest) → MayHeal w → (asked : IsAsked w k client)
       → IsExecutedByAll w (after w (agree_on k w)) k asked.command
   unfolding agree_on
-  request-executed w rest k client on may asked = elim (cases_lt 0 (length (ground_of w))) [
-    | inl up ↦ agreed w rest k client (highest_voted w (correct_replicas w)) on may.keys asked
-        (stage-above w (last_phases k w) rest on may up)
-    | inr z ↦ agreed w rest k client (suc (highest_voted w (correct_replicas w))) on may.keys asked
-        (stage-genesis w (last_phases k w) rest on may (nil (ground_of w) (omega (arith, z))))
-  ]
+  request-executed w rest k client on may asked =
+      let come = has-come w (last_phases k w) rest on may in
+      elim (cases_lt 0 (length (ground_of w))) [
+        | inl up ↦ agreed w rest k client (highest_voted w (correct_replicas w)) on may.keys asked
+            (stage-above w (last_phases k w) rest come may up)
+        | inr z ↦ agreed w rest k client (suc (highest_voted w (correct_replicas w))) on may.keys asked
+            (stage-genesis w (last_phases k w) rest come may (nil (ground_of w) (omega (arith, z))))
+      ]
 
 pub requests-executed : RequestsAreExecuted
 requests-executed k client sizes is_faulty ring hs w met e may asked =

@@ -81,48 +81,16 @@ gains-both self k x y a b c low over wider h g =
     over-longer = length-extends y x over
 
 -- nothing is gained before or after by being asked
-pub asked-first : (self : Identity) (k : ℕ) (x : Branch) (a b c : Chronicle) → OnlyAsked self a b → Gains self k x b c
-    → Gains self k x a c
-asked-first self k x a b c h g =
-    let w = window-told a b h.0.taken h.0.forgotten in
-    let long = ap (λ (l : List Branch). length l) w in
-    let same : (n : ℕ) → of_height n b ≡ of_height n a =
-    λ n. ap (λ (l : List Branch). count_by (λ y. length y == n) l) w in
-    let l = g.longer in
-    record {
-      in_view = g.in_view ∙ h.1;
-      voted = g.voted ∙ h.0.voted;
-      forgotten = g.forgotten ∙ h.0.forgotten;
-      kept = λ y m. g.kept y (subst (λ (z : List Branch). Among y z) (sym w) m);
-      taken = λ y m. elim (g.taken y m) [
-        | inl n ↦ inl (subst (λ (z : List Admitted). Among y z) h.0.taken n)
-        | inr e ↦ inr e
-      ];
-      longer = omega (arith, l, long);
-      below = λ n k. (let p = g.below n k in let e = same n in omega (arith, p, e));
-      above = λ n k. (let p = g.above n k in let e = same n in omega (arith, p, e));
-      heights = λ n. (let p = g.heights n in let e = same n in omega (arith, p, e));
-    }
+pub asked-first : (self : Identity) (b : Block) (y : Branch) (u v w : Chronicle) → OnlyAsked self u v
+    → Gains self (length y) (b ∷ y) v w → Gains self (length y) (b ∷ y) u w
+asked-first self b y u v w o g =
+    gains-both self (length y) y (b ∷ y) u v w (omega arith) (b ∷ [], refl)
+    (λ z e. (b ∷ e.0, ap (λ (l : Branch). b ∷ l) e.1)) (asked-gains self (length y) y u v (omega arith) o) g
 
-pub asked-last : (self : Identity) (k : ℕ) (x : Branch) (a b c : Chronicle) → Gains self k x a b → OnlyAsked self b c
-    → Gains self k x a c
-asked-last self k x a b c g h =
-    let w = window-told b c h.0.taken h.0.forgotten in
-    let long = ap (λ (l : List Branch). length l) w in
-    let same : (n : ℕ) → of_height n c ≡ of_height n b =
-    λ n. ap (λ (l : List Branch). count_by (λ y. length y == n) l) w in
-    let l = g.longer in
-    record {
-      in_view = h.1 ∙ g.in_view;
-      voted = h.0.voted ∙ g.voted;
-      forgotten = h.0.forgotten ∙ g.forgotten;
-      kept = λ y m. subst (λ (z : List Branch). Among y z) (sym w) (g.kept y m);
-      taken = λ y m. g.taken y (subst (λ (z : List Admitted). Among y z) h.0.taken m);
-      longer = omega (arith, l, long);
-      below = λ n k. (let p = g.below n k in let e = same n in omega (arith, p, e));
-      above = λ n k. (let p = g.above n k in let e = same n in omega (arith, p, e));
-      heights = λ n. (let p = g.heights n in let e = same n in omega (arith, p, e));
-    }
+pub asked-last : (self : Identity) (k : ℕ) (x : Branch) (a b c : Chronicle) → k ≤ length x → Gains self k x a b
+    → OnlyAsked self b c → Gains self k x a c
+asked-last self k x a b c low g o =
+    gains-both self k x x a b c low ([], refl) (λ z e. e) g (asked-gains self (length x) x b c (omega arith) o)
 
 -- ---- one block
 
@@ -151,11 +119,11 @@ voted-not : (a : Admitted) (c : Chronicle) → a.voted ≡ false → voted_block
 unfolding voted_blocks
 voted-not a c e = cond-false a.voted (a.branch ∷ voted_blocks c) (voted_blocks c) e
 
-view-took : (self : Identity) (a : Admitted) (c : Chronicle) → view self.sizes (took_block a ∷ c) ≡ view self.sizes c
+pub view-took : (self : Identity) (a : Admitted) (c : Chronicle) → view self.sizes (took_block a ∷ c) ≡ view self.sizes c
 unfolding view
 view-took self a c = refl
 
-horizon-took : (a : Admitted) (c : Chronicle) → horizon (took_block a ∷ c) ≡ horizon c
+pub horizon-took : (a : Admitted) (c : Chronicle) → horizon (took_block a ∷ c) ≡ horizon c
 unfolding horizon
 horizon-took a c = refl
 
@@ -204,7 +172,7 @@ pub took-gains : (self : Identity) (b : Block) (y : Branch) (before now : Chroni
 took-gains self b y before now low t =
     let h = t.only.0.forgotten in
     subst (Gains self (length y) (b ∷ y) before) (sym t.is)
-    (asked-first self (length y) (b ∷ y) before t.asked (took_block t.taken ∷ t.asked) t.only
+    (asked-first self b y before t.asked (took_block t.taken ∷ t.asked) t.only
     (step-gains self b y t.asked t.taken t.block_is (omega (arith, h, low)) t.no_vote
     (elim t.new_or_there [ inl n ↦ inl n | inr o ↦ inr o.0 ])))
 

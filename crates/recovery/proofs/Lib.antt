@@ -46,3 +46,4 @@ mod Told
 mod Replying
 mod Hearing
 mod Wedged
+mod FirstRequests

@@ -13,11 +13,10 @@ use Rattle.definitions.specs.Lists.{Among}
 use Rattle.definitions.specs.Branches.{Block, Branch, just1, IsBranch, Extends}
 use Rattle.definitions.specs.Checks.{Identity, command_verifies}
 use Rattle.definitions.specs.Chronicles.{Admitted, Chronicle, Step.took_block, Step.noted, Note.beat, taken_blocks}
-use Rattle.definitions.specs.Chronicles.{voted_blocks, vheight, horizon, history, window, lock}
-use Rattle.definitions.specs.Chronicles.{standing_blocks, stored_blocks}
+use Rattle.definitions.specs.Chronicles.{voted_blocks, vheight, horizon, history, window}
 use Rattle.definitions.specs.Digests.{digest_of}
 use Rattle.definitions.specs.Frames.{Command, Frame}
-use Rattle.definitions.specs.Grounds.{is_justified, is_own_certified, own_counted}
+use Rattle.definitions.specs.Grounds.{is_own_certified, own_counted}
 use Rattle.definitions.specs.Histories.{Answer}
 use Rattle.definitions.specs.Replicas.{MemorySupply.ample, Replica, Standing.running}
 use Rattle.definitions.specs.Rulings.{Input.beat_in, ruling}
@@ -43,10 +42,11 @@ use Rattle.recovery.specs.Rounds.{Climbs, Leads, CarriesWaiting}
 use Rattle.recovery.proofs.Carried.{carries-over, picked-carries}
 use Rattle.recovery.proofs.Copies.{correct-party}
 use Rattle.recovery.proofs.Decided.{justifies-below}
+use Rattle.recovery.proofs.Offers.{goes-none, goes-both}
 use Rattle.recovery.proofs.Offers.{GoesOn, IsMade, Chain, chain-later, chain-up, chain-end, chain-through, offer-one}
 use Rattle.recovery.proofs.Offers.{row-own, row-other, recorded-later, made-later, offer-goes}
 use Rattle.recovery.proofs.Offers.{IsStill, still-none, still-both, still-wider, still-took}
-use Rattle.recovery.proofs.Climbing.{voted-low, voted-now}
+use Rattle.recovery.proofs.Climbing.{voted-low, voted-now, climbs-kept}
 use Rattle.definitions.proofs.Chronicles.{voted-grows}
 use Rattle.recovery.proofs.Steps.{outs, TookStep, HandsIn, step-stood, frame-behind}
 use Rattle.recovery.proofs.Ways.{IsOnWay, KnownAt, on-way, way-on, way-past}
@@ -110,19 +110,8 @@ made-waits self c k m = (Among-filter _ (pending c) k (Among-take MOST_COMMANDS 
 -- a climber whose taken blocks, horizon, votes and view are the same
 climbs-told : (self : Identity) (v : ℕ) (m y : Branch) (room : ℕ) (c : Chronicle) → Climbs self v m y room c
     → Climbs self v m y room (noted beat ∷ c)
-unfolding view window horizon standing_blocks stored_blocks taken_blocks lock is_justified is_own_certified
-    own_counted qc_high raised
-climbs-told self v m y room c k = record {
-  in_view = k.in_view;
-  stands = k.stands;
-  over = k.over;
-  ground = k.ground;
-  reach = k.reach;
-  safe = k.safe;
-  clear = k.clear;
-  trees = k.trees;
-  heights = k.heights;
-}
+unfolding view horizon taken_blocks is_own_certified own_counted qc_high raised
+climbs-told self v m y room c k = climbs-kept self v m y room c (noted beat ∷ c) refl refl refl (λ o. o) k
 
 -- what waits after any step but a lead waited before
 beat-pending : (c : Chronicle) (k : Command) → Among k (pending (noted beat ∷ c)) → Among k (pending c)
@@ -468,7 +457,7 @@ module _ (sizes : Sizes) (start : World) (all : List Happening) (l v : ℕ) (m :
   made-more : (w mid next : World) (room room2 n : ℕ) (b : Block) → MadeOne w mid l v m room b
       → MadeAll mid next room2 n
       → MadeAll w next room2 (suc n)
-  unfolding Chain
+  unfolding Chain goes-both
   made-more w mid next room room2 n b one rest =
       let z : Branch = leaf-at w in
       let last : Branch = leaf-at next in
@@ -480,13 +469,7 @@ module _ (sizes : Sizes) (start : World) (all : List Happening) (l v : ℕ) (m :
       let mids = ap (λ (x : Branch). length x) one.leaf_is in
       let count = rest.count in
       record {
-        goes = record {
-          made = made-both w mid next one.goes.made rest.goes.made;
-          more = one.goes.more ++ rest.goes.more;
-          sent = rest.goes.sent ∙ (ap (λ (x : List Sent). x ++ rest.goes.more) one.goes.sent
-              ∙ append_assoc w.sent one.goes.more rest.goes.more);
-          session = rest.goes.session ∙ one.goes.session;
-        };
+        goes = goes-both w mid next one.goes rest.goes;
         others = λ j m. rest.others j m ∙ one.others j m;
         going_on = rest.going_on;
         leads_on = rest.leads_on;
@@ -528,16 +511,11 @@ module _ (sizes : Sizes) (start : World) (all : List Happening) (l v : ℕ) (m :
       → (w.replica l).standing ≡ running → Leads w l v m (up n room)
       → length (leaf (self_of w l) (chronicle_of w l)) + n < HEIGHT_LIMIT
       → Passes w (make_blocks n l w) × MadeAll w (after w (make_blocks n l w)) room n
-  unfolding make_blocks in_turn Chain numbers_of up after
+  unfolding make_blocks in_turn Chain numbers_of up after goes-none
   made-all zero w rest room on keys c s lead top = (
     passes-none w,
     record {
-      goes = record {
-        made = record { sizes = refl; faulty = refl; ring = refl };
-        more = [];
-        sent = sym (append-nil w.sent);
-        session = refl;
-      };
+      goes = goes-none w;
       others = λ j n. refl;
       going_on = s;
       leads_on = lead;

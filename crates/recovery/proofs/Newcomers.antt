@@ -41,7 +41,7 @@ use Rattle.recovery.proofs.Decided.{justifies-below}
 use Rattle.recovery.proofs.Fetched.{took-stands, window-told, lock-told}
 use Rattle.recovery.proofs.FirstBlocks.{IsAlike, alike-none, first-made}
 use Rattle.recovery.proofs.Firsts.{IsPlain}
-use Rattle.recovery.proofs.Gained.{of_height, took-heights}
+use Rattle.recovery.proofs.Gained.{of_height, took-heights, view-took, horizon-took}
 use Rattle.recovery.proofs.Grounds.{ground-own, just1-genesis}
 use Rattle.recovery.proofs.Highs.{highest-voted-above}
 use Rattle.recovery.proofs.Locks.{healer-highest, nil, over-some, lock-justified}
@@ -184,14 +184,6 @@ old-climbs self v room c law some in_view reach low trees heights =
     climbs-first self v room c in_view
     (subst (λ (x : Branch). is_justified x c ≡ true) low (lock-justified self.sizes c law a.0 a.1 a.2))
     reach (inl low) trees heights
-
-view-took : (self : Identity) (a : Admitted) (c : Chronicle) → view self.sizes (took_block a ∷ c) ≡ view self.sizes c
-unfolding view
-view-took self a c = refl
-
-horizon-took : (a : Admitted) (c : Chronicle) → horizon (took_block a ∷ c) ≡ horizon c
-unfolding horizon
-horizon-took a c = refl
 
 -- so may who just took its first one
 new-climbs : (self : Identity) (v room : ℕ) (c : Chronicle) (b : Block) (a : Admitted) → a.branch ≡ b ∷ []

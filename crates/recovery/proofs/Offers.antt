@@ -2,7 +2,7 @@
 use Rattle.ids.specs.declared.limits.TheConstants.{HEIGHT_LIMIT}
 use Rattle.std.proofs.Common.{ℕ, zero, suc, ◌≡◌, ◌<◌, ◌≤◌, ◌+◌, ◌==◌, ◌&&◌, ◌||◌, not, Bool, true, false}
 use Rattle.std.proofs.Common.{cond, List, [], ◌∷◌}
-use Rattle.std.proofs.Common.{◌++◌, map, length, refl, sym, ap, subst, ◌∙◌, arith, inl, inr, nat_lt, Some, None}
+use Rattle.std.proofs.Common.{◌++◌, map, length, refl, sym, ap, subst, ◌∙◌, arith, inl, inr, nat_lt, Option, Some, None}
 use Rattle.std.proofs.Common.{option_map, slice_get}
 use Rattle.std.specs.List.{list_all}
 use Rattle.std.proofs.lemmas.Bool.{cond-true, cond-false, cond_both, and_parts, eq-eqb, ne_eqb, lt-ltb, cases_lt}
@@ -49,7 +49,7 @@ pub record GoesOn (w next : World) : Type 0 where
   pub sent : next.sent ≡ w.sent ++ more
   pub session : next.session ≡ w.session
 
-pub goes-none : (w : World) → GoesOn w w
+unfoldable pub goes-none : (w : World) → GoesOn w w
 goes-none w = record {
   made = record { sizes = refl; faulty = refl; ring = refl };
   more = [];
@@ -57,7 +57,7 @@ goes-none w = record {
   session = refl;
 }
 
-pub goes-both : (w mid last : World) → GoesOn w mid → GoesOn mid last → GoesOn w last
+unfoldable pub goes-both : (w mid last : World) → GoesOn w mid → GoesOn mid last → GoesOn w last
 goes-both w mid last h k = record {
   made = made-both w mid last h.made k.made;
   more = h.more ++ k.more;
@@ -66,14 +66,26 @@ goes-both w mid last h k = record {
 }
 
 -- what was recorded stays at its number
+pub sent-later : (xs ys : List Sent) (k : ℕ) (s : Sent) → slice_get xs k ≡ Some s → slice_get (xs ++ ys) k ≡ Some s
+sent-later [] ys k s e = absurd (none e)
+  where
+    none : None ≡ Some s → ⊥
+    none h = cc
+sent-later (x ∷ xs) ys zero s e = e
+sent-later (x ∷ xs) ys (suc k) s e = sent-later xs ys k s e
+
+-- so does its frame
 pub slice-later : (xs ys : List Sent) (k : ℕ) (f : Frame) → option_map (λ s. s.frame) (slice_get xs k) ≡ Some f
     → option_map (λ s. s.frame) (slice_get (xs ++ ys) k) ≡ Some f
-slice-later [] ys k f e = absurd (none e)
+slice-later xs ys k f e = by (slice_get xs k) refl e
   where
-    none : None ≡ Some f → ⊥
-    none h = cc
-slice-later (x ∷ xs) ys zero f e = e
-slice-later (x ∷ xs) ys (suc k) f e = slice-later xs ys k f e
+    by : (o : Option Sent) → slice_get xs k ≡ o → option_map (λ s. s.frame) o ≡ Some f
+        → option_map (λ s. s.frame) (slice_get (xs ++ ys) k) ≡ Some f
+    by (Some s) i h = ap (λ (o : Option Sent). option_map (λ z. z.frame) o) (sent-later xs ys k s i) ∙ h
+    by None i h = absurd (none h)
+      where
+        none : None ≡ Some f → ⊥
+        none q = cc
 
 pub recorded-later : (w next : World) → GoesOn w next → (k : ℕ) (f : Frame) → recorded w k ≡ Some f
     → recorded next k ≡ Some f

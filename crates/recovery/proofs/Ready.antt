@@ -9,8 +9,7 @@ use Rattle.definitions.specs.Lists.{Among}
 use Rattle.definitions.specs.Branches.{Branch, branch_eq}
 use Rattle.definitions.specs.Checks.{Identity, command_verifies, counted_voters}
 use Rattle.definitions.specs.Chronicles.{Chronicle, Step.noted, Note.led_from, Note.got_request, taken_blocks}
-use Rattle.definitions.specs.Chronicles.{voted_blocks, vheight, horizon, history, executed, decided, window, lock}
-use Rattle.definitions.specs.Chronicles.{standing_blocks, stored_blocks}
+use Rattle.definitions.specs.Chronicles.{voted_blocks, vheight, horizon, history, executed, decided, lock}
 use Rattle.definitions.specs.Digests.{digest_of}
 use Rattle.definitions.specs.Frames.{Command}
 use Rattle.definitions.specs.Grounds.{is_justified, is_own_certified, own_counted, are_replicas, may_lead_from}
@@ -28,6 +27,7 @@ use Rattle.recovery.specs.Healing.{lead_with, to_climb}
 use Rattle.recovery.specs.Locks.{high_of}
 use Rattle.recovery.specs.Rounds.{Climbs, MayBurst}
 use Rattle.recovery.proofs.Beginnings.{lead-comes, lead-leaf, lead-voted}
+use Rattle.recovery.proofs.Climbing.{climbs-kept}
 use Rattle.recovery.proofs.Correct.{among-correct, correct-listed}
 use Rattle.recovery.proofs.Highs.{highest-voted-above}
 use Rattle.recovery.proofs.Offers.{row-own, row-other}
@@ -52,34 +52,15 @@ own-led self m c e =
 
 climbs-led : (self : Identity) (v : ℕ) (m : Branch) (room : ℕ) (c : Chronicle) → Climbs self v m m room c
     → Climbs self v m m room (noted (led_from m) ∷ c)
-unfolding view window horizon standing_blocks stored_blocks taken_blocks lock is_justified
-climbs-led self v m room c k = record {
-  in_view = k.in_view;
-  stands = k.stands;
-  over = k.over;
-  ground = elim k.ground [ inl j ↦ inl j | inr o ↦ inr (own-led self m c o) ];
-  reach = k.reach;
-  safe = k.safe;
-  clear = k.clear;
-  trees = k.trees;
-  heights = k.heights;
-}
+unfolding view horizon taken_blocks
+climbs-led self v m room c k =
+    climbs-kept self v m m room c (noted (led_from m) ∷ c) refl refl refl (own-led self m c) k
 
 climbs-requested : (self : Identity) (v : ℕ) (m : Branch) (room : ℕ) (c : Chronicle) (r : Command)
     → Climbs self v m m room c → Climbs self v m m room (noted (got_request r) ∷ c)
-unfolding view window horizon standing_blocks stored_blocks taken_blocks lock is_justified is_own_certified
-    own_counted qc_high raised
-climbs-requested self v m room c r k = record {
-  in_view = k.in_view;
-  stands = k.stands;
-  over = k.over;
-  ground = k.ground;
-  reach = k.reach;
-  safe = k.safe;
-  clear = k.clear;
-  trees = k.trees;
-  heights = k.heights;
-}
+unfolding view horizon taken_blocks is_own_certified own_counted qc_high raised
+climbs-requested self v m room c r k =
+    climbs-kept self v m m room c (noted (got_request r) ∷ c) refl refl refl (λ o. o) k
 
 -- who may climb so far may climb less far
 climbs-less : (self : Identity) (v : ℕ) (m y : Branch) (room less : ℕ) (c : Chronicle) → less ≤ room

@@ -3,7 +3,6 @@ use Rattle.std.proofs.Common.{ℕ, ◌≡◌, ◌<◌, ◌==◌, ◌&&◌, Bool,
 use Rattle.std.proofs.Common.{refl, sym, ap, subst, ◌∙◌, arith, inl, inr, Option, Some}
 use Rattle.std.specs.Bool.{⊤}
 use Rattle.std.proofs.lemmas.Bool.{cond-true, and_parts, eqb-true, eq-eqb, le-ltb, true≢false}
-use Rattle.std.proofs.lemmas.List.{append-nil, append_assoc}
 use Rattle.ids.specs.Sizes.{Sizes, client_party, replicas}
 use Rattle.definitions.specs.Lists.{Among, AreDistinct, IsBeginning}
 use Rattle.definitions.specs.Checks.{Identity}
@@ -27,14 +26,14 @@ use Rattle.linear_law.proofs.Sends.{answer_to-among}
 use Rattle.recovery.specs.Correct.{OfCorrect, AllGoOn, chronicle_of, amply}
 use Rattle.recovery.specs.Healing.{comes_to}
 use Rattle.recovery.specs.Rounds.{Carries}
-use Rattle.recovery.proofs.Offers.{GoesOn, row-other}
+use Rattle.recovery.proofs.Offers.{GoesOn, goes-none, goes-both, row-other}
 use Rattle.recovery.proofs.Requests.{IsWanted, request-comes, wanted-after}
 use Rattle.recovery.proofs.Steps.{outs}
 use Rattle.recovery.proofs.Submitted.{entry-low}
 use Rattle.recovery.proofs.Told.{last-above, last-below, last-answered, one-answer}
 use Rattle.recovery.proofs.Ways.{IsOnWay, way-on}
 use Rattle.recovery.proofs.Wells.{IsReached, family-of}
-use Rattle.recovery.proofs.Worlds.{IsMadeAs, made-both, same-correct, same-self, Passes, passes-none, passes-one}
+use Rattle.recovery.proofs.Worlds.{IsMadeAs, same-correct, same-self, Passes, passes-none, passes-one}
 
 -- ---- what each tells
 
@@ -181,19 +180,8 @@ module _ (sizes : Sizes) (start : World) (all : List Happening) (k : ℕ) (c : C
       → IsOnWay sizes start all w (amply (comes_to rs (k ∷ [])) ++ rest) → AreDistinct rs → IsWanted w k c
       → ((r : ℕ) → Among r rs → (is_correct w r ≡ true) × Tells w c a r)
       → Passes w (amply (comes_to rs (k ∷ []))) × HaveReplied w (after w (amply (comes_to rs (k ∷ [])))) a rs
-  unfolding comes_to after
-  all-reply [] w rest on d wanted tell = (
-    passes-none w,
-    record {
-      goes = record {
-        made = record { sizes = refl; faulty = refl; ring = refl };
-        more = [];
-        sent = sym (append-nil w.sent);
-        session = refl;
-      };
-      replies = tt;
-    },
-  )
+  unfolding comes_to after goes-none goes-both
+  all-reply [] w rest on d wanted tell = (passes-none w, record { goes = goes-none w; replies = tt })
   all-reply (r ∷ rs) w rest on d wanted tell =
       let later : List Happening = amply (comes_to rs (k ∷ [])) in
       let t = tell r (inl refl) in
@@ -220,13 +208,7 @@ module _ (sizes : Sizes) (start : World) (all : List Happening) (k : ℕ) (c : C
       let end : World = after next later in (
         passes-one w (relay k r, ample) later one.0 more.0,
         record {
-          goes = record {
-            made = made-both w next end made more.1.goes.made;
-            more = here ++ more.1.goes.more;
-            sent = more.1.goes.sent ∙ (ap (λ (l : List Sent). l ++ more.1.goes.more) goes.sent
-                ∙ append_assoc w.sent here more.1.goes.more);
-            session = more.1.goes.session ∙ goes.session;
-          };
+          goes = goes-both w next end goes more.1.goes;
           replies = (refl, refl, refl, replies-before w next a rs more.1.goes.more made more.1.replies);
         },
       )

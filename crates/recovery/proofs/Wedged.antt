@@ -1,6 +1,6 @@
 -- Nobody is wedged.
-use Rattle.std.proofs.Common.{ℕ, ◌≡◌, List, [], ◌∷◌, ◌++◌, refl, sym, ap, subst, ◌∙◌, Some, None, Ok, slice_get}
-use Rattle.std.proofs.Common.{zero, suc, ◌<◌, Bool}
+use Rattle.std.proofs.Common.{ℕ, ◌≡◌, List, [], ◌∷◌, ◌++◌, refl, sym, ap, subst, ◌∙◌, Ok, slice_get}
+use Rattle.std.proofs.Common.{◌<◌, Bool}
 use Rattle.definitions.specs.Chronicles.{executed}
 use Rattle.definitions.specs.Frames.{Command}
 use Rattle.recovery.specs.Correct.{chronicle_of}
@@ -14,18 +14,10 @@ use Rattle.recovery.specs.Healing.{agree_on, ask_again, heal}
 use Rattle.recovery.specs.NeverWedged.{IsAsked, IsAnswered, NeverWedged}
 use Rattle.recovery.proofs.Executed.{request-executed}
 use Rattle.recovery.proofs.Hearing.{asked-again}
+use Rattle.recovery.proofs.Offers.{sent-later}
 use Rattle.recovery.proofs.Requests.{sent-after}
 use Rattle.recovery.proofs.Ways.{IsOnWay, on-way-from, way-past, turn-on, turn-passes, turn-after, turns-none}
 use Rattle.recovery.proofs.Worlds.{made-after, keys-in}
-
--- what was sent stays at its number
-sent-later : (xs ys : List Sent) (k : ℕ) (s : Sent) → slice_get xs k ≡ Some s → slice_get (xs ++ ys) k ≡ Some s
-sent-later [] ys k s e = absurd (none e)
-  where
-    none : None ≡ Some s → ⊥
-    none h = cc
-sent-later (x ∷ xs) ys zero s e = e
-sent-later (x ∷ xs) ys (suc k) s e = sent-later xs ys k s e
 
 -- a client that waits is as it was, where its session is
 asked-later : (w : World) (hs : List Happening) (k client : ℕ) → (after w hs).session ≡ w.session

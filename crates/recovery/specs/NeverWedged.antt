@@ -1,7 +1,8 @@
 -- Never wedged: whatever at most f faulty replicas and any clients did in a run, healing brings a waiting correct
 -- client its receipt. It says nothing of time: that such events come about isn't claimed.
 use Rattle.ids.specs.declared.limits.TheConstants.{MOST_BLOCKS, MOST_OF_HEIGHT, HEIGHT_LIMIT, BELOW_HORIZON}
-use Rattle.std.specs.Prelude.{ℕ, ◌+◌, ◌-◌, ◌^◌, ◌≡◌, ◌<◌, ◌≤◌, ◌==◌, ◌⊎◌, true, false, Bool, List, ◌++◌, length}
+use Rattle.std.specs.Prelude.{ℕ, ◌+◌, ◌-◌, ◌^◌, ◌≡◌, ◌<◌, ◌≤◌, ◌==◌, ◌⊎◌, true, false, Bool, List, [], ◌∷◌}
+use Rattle.std.specs.Prelude.{◌++◌, length}
 use Rattle.std.specs.Prelude.{count_by, Some, slice_get, Ok}
 use Rattle.ids.specs.Sizes.{Sizes, AreSizes, replicas, client_party}
 use Rattle.definitions.specs.Lists.{Among}
@@ -13,9 +14,11 @@ use Rattle.definitions.specs.Frames as frame
 use Rattle.definitions.specs.Keyrings.{Keyring}
 use Rattle.definitions.specs.Premises.{ArePremises}
 use Rattle.definitions.specs.Runs.{run}
-use Rattle.definitions.specs.Worlds.{World, Sent, AcceptedBy, Happening, new_world}
+use Rattle.definitions.specs.Bytes.{Bytes}
+use Rattle.definitions.specs.Canonical.{is_canonical}
+use Rattle.definitions.specs.Worlds.{World, Sent, AcceptedBy, Event.submit, Happening, new_world}
 use Rattle.recovery.specs.Correct.{OfCorrect, AllGoOn, ShareKeys, chronicle_of, lock_of, view_of, correct_replicas}
-use Rattle.recovery.specs.Correct.{correct_with}
+use Rattle.recovery.specs.Correct.{correct_with, amply}
 use Rattle.recovery.specs.Healing.{Phase, highest_locked, highest_voted, over_lock, heal}
 
 -- P holds of each world in which a run ends, where the run's premises hold, and hold of this phase after it
@@ -94,3 +97,12 @@ abbrev pub NeverWedged : Type 0
 NeverWedged =
     (k client : ℕ) → AheadOf (heal k) (λ w. AreSizes w.sizes → MayHeal w → IsAsked w k client
     → (last : World) × (run w (heal k w) ≡ Ok last) × IsAnswered last client (w.session client).used)
+
+-- What it asks of a world can be met: so it is where a correct client made the first request of all, whoever is faulty.
+abbrev pub FirstRequestsMayHeal : Type 0
+FirstRequestsMayHeal =
+    (sizes : Sizes) (is_faulty : ℕ → Bool) (ring : ℕ → Keyring) (client : ℕ) (payload : Bytes) → AreSizes sizes
+    → ShareKeys (new_world sizes is_faulty ring) → client < sizes.clients
+    → is_faulty (client_party client) ≡ false → is_canonical payload ≡ true
+    → (w : World) × (run (new_world sizes is_faulty ring) (amply (submit client payload ∷ [])) ≡ Ok w) × MayHeal w
+    × IsAsked w 0 client

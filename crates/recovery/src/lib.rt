@@ -9,7 +9,7 @@ ghost use Rattle.recovery.specs.Fetching.{CopiesAreTaken, MissingBlocksAreFetche
 ghost use Rattle.recovery.specs.Rounds.{ProposalsAreTaken, ThreeMoreDecide, BurstsAreVotedFor, RoundsCertify};
 ghost use Rattle.recovery.specs.Rounds.{RoundsDecide};
 ghost use Rattle.recovery.specs.Requests.{RequestsAreExecuted, RepliesConvince};
-ghost use Rattle.recovery.specs.NeverWedged.{NeverWedged};
+ghost use Rattle.recovery.specs.NeverWedged.{NeverWedged, FirstRequestsMayHeal};
 
 /// A correct replica of the highest lock: no correct lock is above it or beside it, so a block that justifies
 /// it is safe for all.
@@ -107,4 +107,9 @@ pub fn replies_convince()
 /// receipt, whatever at most f faulty replicas and any clients did before.
 pub fn never_wedged()
     ensures { NeverWedged }
+{}
+
+/// What that asks of a world can be met: it holds after the first request of all.
+pub fn first_requests_may_heal()
+    ensures { FirstRequestsMayHeal }
 {}
