@@ -13,6 +13,8 @@ NOT_TUNED = {
     "liars::MOST_KEPT", "liars::LOW_EACH", "liars::LOW_LEAST", "liars::LOW_SPREAD", "liars::LOW_STEP",
     "liars::MANNERS",                           # how many ways there are to spoil a frame
     "mcbft_main::MOST_OF_32_BITS",
+    "handshake::ASK_LABEL", "handshake::ANSWER_LABEL",          # a format, and its lengths
+    "handshake::GREETING_LEN", "handshake::ASK_LEN", "handshake::ANSWER_LEN", "handshake::HEAD_LEN",
 }
 CONST = re.compile(r"^ *(pub )?(?:pub\([a-z]+\) )?const ([A-Z]\w*): [ui](?:8|16|32|64|128|size) =([^;]*);", re.M)
 NAME = re.compile(r"\b(?:\w+::)*([A-Z]\w*)\b")
