@@ -1,8 +1,8 @@
 -- Whose requests a leader lets in, where what it proposes finds no certificate.
-use Rattle.std.specs.Prelude.{ℕ, ◌+◌, ◌-◌, ◌*◌, ◌^◌, ◌==◌, ◌&&◌, ◌||◌, Bool, true, false, not, min, Option, Some, None}
+use Rattle.std.specs.Prelude.{ℕ, ◌+◌, ◌-◌, ◌*◌, ◌^◌, ◌%◌, ◌==◌, ◌&&◌, ◌||◌, Bool, true, false, not, min, Option, Some, None}
 use Rattle.std.specs.Prelude.{if◌then◌else◌, is_none, nat_le, nat_lt, slice_index_or, slice_set}
 use Rattle.tuning.specs.declared.clocks.TheConstants.{LAG_WEIGHT}
-use Rattle.tuning.specs.declared.clients.TheConstants.{BAR_MILLIS, MOST_DOUBLINGS}
+use Rattle.tuning.specs.declared.clients.TheConstants.{BAR_MILLIS, MOST_DOUBLINGS, TRIAL_STRIDE}
 use Rattle.fabric.specs.declared.suspects.Standing.{Standing}
 use Rattle.fabric.specs.declared.suspects.Suspects.{Suspects}
 use Rattle.fabric.specs.declared.suspects.Trial.{Trial}
@@ -34,20 +34,24 @@ abbrev pub is_on_trial : Option Trial → ℕ → Bool
 is_on_trial None client = false
 is_on_trial (Some trial) client = trial.client == client
 
--- A client's requests are let in: where the replica leads and began anew, only if it is cleared or on trial, and
+-- A client's requests are let in: where the replica leads and suspects anybody, only if it is cleared or on trial, and
 -- nowhere while it is barred.
 abbrev pub is_let_in : Suspects → (client : ℕ) → (leads : Bool) → (now : ℕ) → Bool
 is_let_in s client leads now =
-    (not leads || (s.round == 0) || is_on_trial s.trial client || is_cleared s client)
+    (not leads || not s.is_on || is_on_trial s.trial client || is_cleared s client)
     && nat_le (standing_of s client).barred_until now
 
 -- another trial may begin
 abbrev pub may_try : Suspects → (now : ℕ) → Bool
-may_try s now = nat_lt 0 s.round && is_none s.trial && nat_le s.pause_until now
+may_try s now = s.is_on && is_none s.trial && nat_le s.pause_until now
 
 -- a client waits for its trial
 abbrev pub is_due : Suspects → (client now : ℕ) → Bool
 is_due s client now = not (nat_lt now (standing_of s client).barred_until) && not (is_cleared s client)
+
+-- its place among those that do: each is the first in some round
+abbrev pub place_of : Suspects → (client : ℕ) → ℕ
+place_of s client = (client + s.round % 256) * TRIAL_STRIDE % 256
 
 abbrev pub tried : Suspects → (client seq now : ℕ) → Suspects
 tried s client seq now =
@@ -77,7 +81,13 @@ judged (Some trial) s now = if s.has_cleared then failed s trial now else s
 -- the replica begins anew, and all are suspects, or only who was on trial
 abbrev again : Suspects → (clears_others : Bool) → Suspects
 again s clears_others =
-    record s { trial = None; has_cleared = false; clears_others = clears_others; round = capped (s.round + 1) }
+    record s {
+      is_on = true;
+      trial = None;
+      has_cleared = false;
+      clears_others = clears_others;
+      round = capped (s.round + 1);
+    }
 
 -- it begins anew with what it certified: all are suspects
 abbrev pub begun : Suspects → (now : ℕ) → Suspects

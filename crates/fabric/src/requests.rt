@@ -36,20 +36,20 @@ impl Requests {
         }
     }
 
-    /// Whose trial is the next one, of those that have requests: they have their turns by their numbers.
+    /// Whose trial is the next one, of those that have requests.
     fn next_client(&self, now: u64) -> Option<ClientId> {
-        let (suspects, last) = (&self.suspects, self.suspects.last().0);
-        let mut first = None;
+        let suspects = &self.suspects;
+        let mut next: Option<ClientId> = None;
         for client in self.kept.keys() {
-            if !suspects.is_due(*client, now) {
-                continue;
+            let is_sooner = match next {
+                Some(other) => suspects.place(*client) < suspects.place(other),
+                None => true,
+            };
+            if is_sooner && suspects.is_due(*client, now) {
+                next = Some(*client);
             }
-            if client.0 > last {
-                return Some(*client);
-            }
-            first = first.or(Some(*client));
         }
-        first
+        next
     }
 
     /// The request of the next trial, which begins now, if one may.

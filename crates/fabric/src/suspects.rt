@@ -1,11 +1,11 @@
 //! Whose requests a leader lets in, where what it proposes finds no certificate.
 
-ghost use Rattle.std.specs.Prelude.{◌≡◌, None, option_map};
+ghost use Rattle.std.specs.Prelude.{◌≡◌, None, false, option_map};
 ghost use Rattle.fabric.specs.Suspecting.{bar_of, begun, begun_with_others, failed, is_cleared, is_due, is_let_in};
-ghost use Rattle.fabric.specs.Suspecting.{may_try, paused, served, standing_of, tried, waiting};
+ghost use Rattle.fabric.specs.Suspecting.{may_try, paused, place_of, served, standing_of, tried, waiting};
 
 use ids::{ClientId, Seq};
-use tuning::{BAR_MILLIS, LAG_WEIGHT, MOST_DOUBLINGS};
+use tuning::{BAR_MILLIS, LAG_WEIGHT, MOST_DOUBLINGS, TRIAL_STRIDE};
 
 /// What is known of a client.
 #[derive(Clone, Copy, Debug, PartialEq, Eq)]
@@ -39,7 +39,9 @@ struct Trial {
 /// trial alone stays a suspect.
 #[derive(Drop)]
 pub(crate) struct Suspects {
-    /// How often the replica began anew; 0 for never.
+    /// Whether anybody is suspected.
+    is_on: bool,
+    /// How often the replica began anew.
     round: u64,
     /// Whether a client was cleared since, by a block.
     has_cleared: bool,
@@ -64,7 +66,7 @@ fn bar_of(failures: u32) -> u64
 impl Suspects {
     /// Nobody is suspected.
     pub(crate) fn new() -> Suspects
-        ensures round { result.round ≡ 0 }
+        ensures on { result.is_on ≡ false }
         ensures trial { result.trial ≡ None }
     {
         let fresh = Standing {
@@ -73,6 +75,7 @@ impl Suspects {
             barred_until: 0,
         };
         Suspects {
+            is_on: false,
             round: 0,
             has_cleared: false,
             clears_others: false,
@@ -107,7 +110,7 @@ impl Suspects {
             Some(trial) => trial.client.0 == client.0,
             None => false,
         };
-        let is_free = !leads || self.round == 0 || on_trial || self.is_cleared(client);
+        let is_free = !leads || !self.is_on || on_trial || self.is_cleared(client);
         is_free && now >= self.standing(client).barred_until
     }
 
@@ -115,7 +118,7 @@ impl Suspects {
     pub(crate) fn may_try(&self, now: u64) -> bool
         ensures { result ≡ may_try self.now now }
     {
-        self.round > 0 && self.trial.is_none() && now >= self.pause_until
+        self.is_on && self.trial.is_none() && now >= self.pause_until
     }
 
     /// Whether a client waits for its trial, if it has a request.
@@ -126,11 +129,11 @@ impl Suspects {
         !is_barred && !self.is_cleared(client)
     }
 
-    /// The client that was on trial last.
-    pub(crate) fn last(&self) -> ClientId
-        ensures { result ≡ self.now.last }
+    /// The place of a client among those that wait for their trials. Each is the first in some round.
+    pub(crate) fn place(&self, client: ClientId) -> u64
+        ensures { result ≡ place_of self.now client }
     {
-        self.last
+        (u64::from(client.0) + self.round % 256) * TRIAL_STRIDE % 256
     }
 
     /// A client's request is let in for its trial.
@@ -187,6 +190,7 @@ impl Suspects {
         self.has_cleared = false;
         self.clears_others = false;
         self.round = self.round.saturating_add(1);
+        self.is_on = true;
     }
 
     /// It begins anew from its lock: only who was on trial, if anybody was, is suspected still.
@@ -200,12 +204,14 @@ impl Suspects {
         self.has_cleared = false;
         self.clears_others = true;
         self.round = self.round.saturating_add(1);
+        self.is_on = true;
     }
 
-    /// The replica's view ends: what it tried may come to its turn elsewhere.
-    pub(crate) fn give_up(&mut self)
-        ensures { self.new ≡ record self.old { trial = None } }
+    /// Trouble is over, or the replica leads no more: nobody is suspected.
+    pub(crate) fn end(&mut self)
+        ensures { self.new ≡ record self.old { is_on = false; trial = None } }
     {
+        self.is_on = false;
         self.trial = None;
     }
 

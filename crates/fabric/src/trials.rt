@@ -96,7 +96,8 @@ impl<'a, G: Gate, O: Outgoing + Questioned> Worker<'a, G, O> {
         }
     }
 
-    /// In trouble a leader lets in the next suspect's request.
+    /// A leader in trouble lets in the next suspect's request. Once trouble is over, or it leads no more, nobody is
+    /// suspected: it takes what it kept as others do, so that its clock sees who waits.
     pub(crate) fn try_suspect<R: Wait + Clock, S: Steps>(
         &mut self,
         rt: &R,
@@ -105,28 +106,30 @@ impl<'a, G: Gate, O: Outgoing + Questioned> Worker<'a, G, O> {
     )
         ensures { HasGrown share.old share.new }
     {
-        if !self.out.in_trouble() || !self.out.leads() {
-            return;
-        }
-        if let Some(bytes) = self.room.next_trial(rt, self.out.millis(rt)) {
-            let _answer = self.bring(rt, steps, share, OWN, bytes.as_slice());
-            self.room.wait_for_trial(rt);
+        if self.room.suspects_any() {
+            let now = self.out.millis(rt);
+            if self.out.in_trouble() && self.out.leads() {
+                self.try_next(rt, steps, share, now);
+            } else {
+                let kept = self.room.end_trials(rt, now);
+                self.bring_all(rt, steps, share, kept);
+            }
         }
     }
 
-    /// A view ended that the replica led: now it takes what it kept as others do, so that its clock sees who waits.
-    pub(crate) fn give_up_trials<R: Wait + Clock, S: Steps>(
+    /// Lets in the next suspect's request, if it may.
+    fn try_next<R: Wait + Clock, S: Steps>(
         &mut self,
         rt: &R,
         steps: &mut S,
         share: &mut Share,
+        now: u64,
     )
         ensures { HasGrown share.old share.new }
     {
-        if !self.out.in_trouble() || !self.out.leads() {
-            return;
+        if let Some(bytes) = self.room.next_trial(rt, now) {
+            let _answer = self.bring(rt, steps, share, OWN, bytes.as_slice());
+            self.room.wait_for_trial(rt);
         }
-        let kept = self.room.give_up_trials(rt, self.out.millis(rt));
-        self.bring_all(rt, steps, share, kept);
     }
 }

@@ -8,8 +8,8 @@ use bytes::Bytes;
 use frames_view::{Frame, read};
 use ids::{ClientId, Config, Digest, ReplicaId, Seq};
 use std::alloc::Global;
-use std::sync::atomic::AtomicU64;
 use std::sync::atomic::Ordering::SeqCst;
+use std::sync::atomic::{AtomicBool, AtomicU64};
 use std::sync::{Mutex, Wait};
 use std::thread;
 use std::time::{Clock, Duration};
@@ -130,6 +130,8 @@ pub struct WaitingRoom {
     news: AtomicU64,
     alloc: Global,
     requests: Mutex<Requests>,
+    /// Whether anybody is suspected.
+    suspects_any: AtomicBool,
 }
 
 impl WaitingRoom {
@@ -146,6 +148,7 @@ impl WaitingRoom {
             news: AtomicU64::new(0),
             alloc,
             requests: Mutex::new(Requests::new(alloc)),
+            suspects_any: AtomicBool::new(false),
         }
     }
 
@@ -266,12 +269,14 @@ impl WaitingRoom {
     /// The replica begins anew as leader, with what it certified.
     pub(crate) fn begin_trials<R: Wait>(&self, rt: &R, now: u64) {
         self.requests.lock(rt).suspects.begin(now);
+        self.suspects_any.store(true, SeqCst);
     }
 
     /// It begins anew from its lock. The requests that were kept, of clients that aren't suspected.
     pub(crate) fn begin_with_others<R: Wait>(&self, rt: &R, now: u64) -> Vec<Bytes> {
         let mut requests = self.requests.lock(rt);
         requests.suspects.begin_with_others(now);
+        self.suspects_any.store(true, SeqCst);
         requests.let_in(self.alloc, true, now)
     }
 
@@ -290,10 +295,16 @@ impl WaitingRoom {
         self.requests.lock(rt).suspects.serve(client, seq);
     }
 
-    /// The requests that were kept, of clients that aren't barred. No trial goes on.
-    pub(crate) fn give_up_trials<R: Wait>(&self, rt: &R, now: u64) -> Vec<Bytes> {
+    /// Whether anybody is suspected.
+    pub(crate) fn suspects_any(&self) -> bool {
+        self.suspects_any.load(SeqCst)
+    }
+
+    /// Nobody is suspected. The requests that were kept, of clients that aren't barred.
+    pub(crate) fn end_trials<R: Wait>(&self, rt: &R, now: u64) -> Vec<Bytes> {
         let mut requests = self.requests.lock(rt);
-        requests.suspects.give_up();
+        requests.suspects.end();
+        self.suspects_any.store(false, SeqCst);
         requests.let_in(self.alloc, false, now)
     }
 }

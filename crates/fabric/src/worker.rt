@@ -247,18 +247,11 @@ impl<'a, G: Gate, O: Outgoing + Questioned> Worker<'a, G, O> {
     }
 
     /// Where the replica is in this view still, it leaves it.
-    fn time_out<R: Wait + Clock, S: Steps>(
-        &mut self,
-        rt: &R,
-        steps: &mut S,
-        share: &mut Share,
-        view: View,
-    )
+    fn time_out<R: Wait, S: Steps>(&mut self, rt: &R, steps: &mut S, share: &mut Share, view: View)
         ensures { HasGrown share.old share.new }
     {
         if let Some(Ok(out)) = steps.prompt(rt, share, Prompt::Timeout(view)) {
             self.send_all(rt, out);
-            self.give_up_trials(rt, steps, share);
         }
     }
 

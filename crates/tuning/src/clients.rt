@@ -37,3 +37,7 @@ pub const BAR_MILLIS: u64 = 1000;
 
 /// How often that is doubled, at most. More: who was faulty once waits longer.
 pub const MOST_DOUBLINGS: u32 = 6;
+
+/// By how many places of 256 two clients with neighbouring numbers are apart in the order of trials: odd, so that each has
+/// a place of its own. Fewer: faulty clients with neighbouring numbers come one behind the other.
+pub const TRIAL_STRIDE: u64 = 167;
