@@ -119,7 +119,8 @@ voted-not : (a : Admitted) (c : Chronicle) → a.voted ≡ false → voted_block
 unfolding voted_blocks
 voted-not a c e = cond-false a.voted (a.branch ∷ voted_blocks c) (voted_blocks c) e
 
-pub view-took : (self : Identity) (a : Admitted) (c : Chronicle) → view self.sizes (took_block a ∷ c) ≡ view self.sizes c
+pub view-took : (self : Identity) (a : Admitted) (c : Chronicle)
+    → view self.sizes (took_block a ∷ c) ≡ view self.sizes c
 unfolding view
 view-took self a c = refl
 
