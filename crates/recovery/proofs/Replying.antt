@@ -182,7 +182,8 @@ module _ (sizes : Sizes) (start : World) (all : List Happening) (k : ℕ) (c : C
       → ((r : ℕ) → Among r rs → (is_correct w r ≡ true) × Tells w c a r)
       → Passes w (amply (comes_to rs (k ∷ []))) × HaveReplied w (after w (amply (comes_to rs (k ∷ [])))) a rs
   unfolding comes_to after goes-none goes-both
-  all-reply [] w rest on d wanted tell = (passes-none w, record { goes = goes-none w; standing = λ j s. s; replies = tt })
+  all-reply [] w rest on d wanted tell =
+      (passes-none w, record { goes = goes-none w; standing = λ j s. s; replies = tt })
   all-reply (r ∷ rs) w rest on d wanted tell =
       let later : List Happening = amply (comes_to rs (k ∷ [])) in
       let t = tell r (inl refl) in
