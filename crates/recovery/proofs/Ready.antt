@@ -1,7 +1,7 @@
 -- The leader leads from its lock with the request, and all may follow.
 use Rattle.ids.specs.declared.limits.TheConstants.{HEIGHT_LIMIT}
-use Rattle.std.proofs.Common.{ℕ, suc, ◌≡◌, ◌<◌, ◌≤◌, ◌+◌, ◌⊎◌, ◌&&◌, ◌||◌, Bool, true, false, cond, List, [], ◌∷◌}
-use Rattle.std.proofs.Common.{◌++◌, length, refl, sym, ap, subst, ◌∙◌, arith, inl, inr, nat_le}
+use Rattle.std.proofs.Common.{ℕ, suc, ◌≡◌, ◌<◌, ◌≤◌, ◌+◌, ◌⊎◌, ◌&&◌, Bool, true, false, cond, List, [], ◌∷◌}
+use Rattle.std.proofs.Common.{◌++◌, length, refl, sym, ap, subst, ◌∙◌, arith, inl, inr}
 use Rattle.std.proofs.lemmas.Bool.{cond-true, cond-false, cases_Bool, cases_eq, and_from, and_parts, or_left, or_right}
 use Rattle.std.proofs.lemmas.Bool.{le-leb}
 use Rattle.ids.specs.Sizes.{Sizes, leader, quorum, replicas}
@@ -9,7 +9,7 @@ use Rattle.definitions.specs.Lists.{Among}
 use Rattle.definitions.specs.Branches.{Branch, branch_eq}
 use Rattle.definitions.specs.Checks.{Identity, command_verifies, counted_voters}
 use Rattle.definitions.specs.Chronicles.{Chronicle, Step.noted, Note.led_from, Note.got_request, taken_blocks}
-use Rattle.definitions.specs.Chronicles.{voted_blocks, vheight, horizon, history, executed, decided, lock}
+use Rattle.definitions.specs.Chronicles.{voted_blocks, horizon, history, executed, decided, lock}
 use Rattle.definitions.specs.Digests.{digest_of}
 use Rattle.definitions.specs.Frames.{Command}
 use Rattle.definitions.specs.Grounds.{is_justified, is_own_certified, own_counted, are_replicas, may_lead_from}

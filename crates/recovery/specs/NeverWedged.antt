@@ -19,6 +19,7 @@ use Rattle.definitions.specs.Canonical.{is_canonical}
 use Rattle.definitions.specs.Worlds.{World, Sent, AcceptedBy, Event.submit, Happening, new_world}
 use Rattle.recovery.specs.Correct.{OfCorrect, AllGoOn, ShareKeys, chronicle_of, lock_of, view_of, correct_replicas}
 use Rattle.recovery.specs.Correct.{correct_with, amply}
+use Rattle.linear_law.specs.Law.{AfterEachRun}
 use Rattle.recovery.specs.Healing.{Phase, highest_locked, highest_voted, over_lock, heal}
 
 -- P holds of each world in which a run ends, where the run's premises hold, and hold of this phase after it
@@ -85,6 +86,12 @@ pub record IsAsked (w : World) (k client : ℕ) : Type 0 where
   pub sender : sent.sender ≡ client_party client
   pub request : sent.frame ≡ frame.request command
   pub seq : command.seq ≡ (w.session client).used
+
+-- so it is of each correct client that waits
+abbrev pub WaitingClientsAsked : Type 0
+WaitingClientsAsked =
+    AfterEachRun (λ w. (client : ℕ) → client < w.sizes.clients → w.is_faulty (client_party client) ≡ false
+    → (w.session client).waiting ≡ true → (k : ℕ) × IsAsked w k client)
 
 -- the client has a receipt for its request of this number
 abbrev pub IsAnswered : World → ℕ → ℕ → Type 0

@@ -9,7 +9,7 @@ ghost use Rattle.recovery.specs.Fetching.{CopiesAreTaken, MissingBlocksAreFetche
 ghost use Rattle.recovery.specs.Rounds.{ProposalsAreTaken, ThreeMoreDecide, BurstsAreVotedFor, RoundsCertify};
 ghost use Rattle.recovery.specs.Rounds.{RoundsDecide};
 ghost use Rattle.recovery.specs.Requests.{RequestsAreExecuted, RepliesConvince};
-ghost use Rattle.recovery.specs.NeverWedged.{NeverWedged, FirstRequestsMayHeal};
+ghost use Rattle.recovery.specs.NeverWedged.{NeverWedged, FirstRequestsMayHeal, WaitingClientsAsked};
 
 /// Timeouts alone bring all correct replicas into any view that none of them passed; nothing else changes.
 pub fn timeouts_bring_together()
@@ -96,6 +96,11 @@ pub fn rounds_decide()
 /// So a correct client's request is executed by all.
 pub fn requests_are_executed()
     ensures { RequestsAreExecuted }
+{}
+
+/// Whoever waits sent its request, so that it is in the record.
+pub fn waiting_clients_asked()
+    ensures { WaitingClientsAsked }
 {}
 
 /// And the client has its receipt, once its request comes to them again, and their replies to it.
