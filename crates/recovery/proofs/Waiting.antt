@@ -15,7 +15,8 @@ use Rattle.definitions.specs.Sessions.{Client, Session, Submitted, Heard, on_rep
 use Rattle.definitions.specs.Tally.{agrees}
 use Rattle.definitions.specs.Worlds.{World, Sent, Event, Happening, client_of}
 use Rattle.definitions.specs.Runs.{refusal}
-use Rattle.definitions.specs.Events.{Effect, party_of, effect, happens, nothing, stepped, told, submitted, submitted_out}
+use Rattle.definitions.specs.Events.{Effect, party_of, effect, happens, nothing, stepped, told, submitted}
+use Rattle.definitions.specs.Events.{submitted_out}
 use Rattle.definitions.proofs.Lists.{Among-before, Among-after}
 use Rattle.linear_law.proofs.Accounts.{put-session, on_reply-used, submit-party}
 use Rattle.linear_law.proofs.Effects.{ComesFramed, Effects, Effects.idle, Effects.step_by, Effects.hearing}
@@ -26,7 +27,8 @@ use Rattle.recovery.proofs.Steps.{outs}
 -- a request of this number stands in the record, from this client
 abbrev pub HasRequest : List Sent → ℕ → ℕ → Type 0
 HasRequest sent cl seq =
-    (s : Sent) × (c : Command) × Among s sent × (s.sender ≡ client_party cl) × (s.frame ≡ frame.request c) × (c.seq ≡ seq)
+    (s : Sent) × (c : Command) × Among s sent × (s.sender ≡ client_party cl) × (s.frame ≡ frame.request c)
+    × (c.seq ≡ seq)
 
 -- so it does where the client waits
 abbrev pub HasAsked : List Sent → ℕ → Session → Type 0
