@@ -35,7 +35,7 @@ use Rattle.recovery.proofs.Correct.{among-correct, correct-listed}
 use Rattle.recovery.proofs.Fetched.{fetched, window-told, place-told}
 use Rattle.recovery.proofs.Vain.{fetched-vainly}
 use Rattle.recovery.proofs.Gained.{Gains, asked-gains, gains-both, asked-first, asked-last, took-gains}
-use Rattle.recovery.proofs.Gained.{gains-only}
+use Rattle.recovery.proofs.Gained.{gains-only, gains-up, least}
 use Rattle.recovery.proofs.Ways.{IsOnWay, KnownAt, on-way-from, on-way, way-past, turn-on, turn-passes, turn-after}
 use Rattle.recovery.proofs.Ways.{turns-none}
 use Rattle.recovery.proofs.Wells.{IsReached, sound-of, known-of, one-branch}
@@ -107,7 +107,7 @@ module _ (sizes : Sizes) (start : World) (all : List Happening) (b : Block) (par
   -- it got the block, or it is out of its reach
   abbrev IsGot : Identity → Chronicle → Chronicle → Type 0
   IsGot self before now =
-      (Gains self (length parent) x before now × Among x (window now))
+      (Gains self (length parent) x before now × Among x (window now) × (horizon before ≤ length parent))
       ⊎ (OnlyAsked self before now × (IsInReach before x → ⊥))
 
   record FetchedEach (w last : World) (us : List ℕ) : Type 0 where
@@ -157,6 +157,7 @@ module _ (sizes : Sizes) (start : World) (all : List Happening) (b : Block) (par
                 took-gains (self_of w u) b parent (chronicle_of w u)
                     (chronicle_of (after w (fetch_block (digest_of x) u w)) u) p.1.above one.own,
                 one.stands,
+                p.1.above,
               );
               others = one.others;
               session = one.session;
@@ -212,11 +213,15 @@ module _ (sizes : Sizes) (start : World) (all : List Happening) (b : Block) (par
   got-last self a c d (inl h) o = inl (
     asked-last self (length parent) x a c d (omega arith) h.0 o,
     subst (λ (l : List Branch). Among x l) (sym (window-told c d o.0.taken o.0.forgotten)) h.1,
+    h.2,
   )
   got-last self a c d (inr h) o = inr (asked-trans self a c d h.0 o, h.1)
 
   got-first : (self : Identity) (a c d : Chronicle) → OnlyAsked self a c → IsGot self c d → IsGot self a d
-  got-first self a c d o (inl h) = inl (asked-first self b parent a c d o h.0, h.1)
+  got-first self a c d o (inl h) =
+      let f = o.0.forgotten in
+      let above = h.2 in
+      inl (asked-first self b parent a c d o h.0, h.1, omega (arith, f, above))
   got-first self a c d o (inr h) =
       let f = o.0.forgotten in inr (asked-trans self a c d o h.0, λ k. h.1 (omega (arith, k, f)))
 
@@ -300,7 +305,8 @@ pub record BroughtAll (w last : World) (x : Branch) : Type 0 where
   pub going_on : AllGoOn last
   pub session : last.session ≡ w.session
   pub stands : OfCorrect w (λ r. HasReached (chronicle_of last r) x)
-  pub gained : OfCorrect w (λ r. Gains (self_of w r) 0 x (chronicle_of w r) (chronicle_of last r))
+  pub gained : OfCorrect w (λ r. Gains (self_of w r) (least (horizon (chronicle_of w r)) x) x (chronicle_of w r)
+      (chronicle_of last r))
   pub had : OfCorrect w (λ r. HasReached (chronicle_of w r) x
       → OnlyAsked (self_of w r) (chronicle_of w r) (chronicle_of last r))
 
@@ -401,9 +407,7 @@ module _ (sizes : Sizes) (start : World) (all : List Happening) where
               (own r c (omega (arith, k, now, long)))
           | inr i ↦ (gain r c).kept y (h.stands r c y i (omega (arith, k, now)))
         ];
-    gained = λ r c. gains-both (self_of w r) 0 parent (b ∷ parent) (chronicle_of w r) (chronicle_of mid r)
-        (chronicle_of last r) (omega arith) (b ∷ [], refl) (λ z e. longer-extends b parent z e) (h.gained r c)
-        (gain r c);
+    gained = λ r c. gained r c;
     had = λ r c k.
         let one = h.had r c (λ y e i. k y (longer-extends b parent y e) i) in
         let before = one.0.forgotten in
@@ -466,6 +470,37 @@ module _ (sizes : Sizes) (start : World) (all : List Happening) where
         ])
       ]
 
+      -- below its horizon a replica gains nothing
+      below : (r : ℕ) → is_correct w r ≡ true → length parent < horizon (chronicle_of w r)
+          → OnlyAsked (self_of w r) (chronicle_of mid r) (chronicle_of last r)
+      below r c low = elim (cases_Bool (is_known d (chronicle_of mid r))) [
+        | inl t ↦ asked r c (knows r c t)
+        | inr n ↦ (elim (got r c (listed r c (ap not n))) [
+          | inl o ↦ absurd (let f = (h.gained r c).forgotten in let above = o.2 in omega (arith, f, above, low))
+          | inr o ↦ o.0
+        ])
+      ]
+
+      gained : (r : ℕ) → is_correct w r ≡ true
+          → Gains (self_of w r) (least (horizon (chronicle_of w r)) (b ∷ parent)) (b ∷ parent) (chronicle_of w r)
+          (chronicle_of last r)
+      gained r c =
+          let z : ℕ = horizon (chronicle_of w r) in
+          elim (cases_lt (length parent) z) [
+            | inl low ↦ subst (λ (k : ℕ). Gains (self_of w r) k (b ∷ parent) (chronicle_of w r) (chronicle_of last r))
+                (let e : length (b ∷ parent) ≡ least z (b ∷ parent) = omega (arith, low) in e)
+                (gains-up (self_of w r) b parent (chronicle_of w r) (chronicle_of last r)
+                (asked-last (self_of w r) (length parent) parent (chronicle_of w r) (chronicle_of mid r)
+                (chronicle_of last r) (omega arith)
+                (subst (λ (k : ℕ). Gains (self_of w r) k parent (chronicle_of w r) (chronicle_of mid r))
+                (let e : least z parent ≡ length parent = omega (arith, low) in e) (h.gained r c)) (below r c low)))
+            | inr high ↦ subst (λ (k : ℕ). Gains (self_of w r) k (b ∷ parent) (chronicle_of w r) (chronicle_of last r))
+                (let e : least z parent ≡ least z (b ∷ parent) = omega (arith, high) in e)
+                (gains-both (self_of w r) (least z parent) parent (b ∷ parent) (chronicle_of w r) (chronicle_of mid r)
+                (chronicle_of last r) (omega arith) (b ∷ [], refl) (λ y e. longer-extends b parent y e) (h.gained r c)
+                (gain r c))
+          ]
+
       own : (r : ℕ) → is_correct w r ≡ true → IsInReach (chronicle_of mid r) (b ∷ parent)
           → Among (b ∷ parent) (window (chronicle_of last r))
       own r c k = elim (cases_Bool (is_known d (chronicle_of mid r))) [
@@ -485,7 +520,8 @@ module _ (sizes : Sizes) (start : World) (all : List Happening) where
           session = refl;
           stands = λ r c y e k. subst (λ (z : Branch). Among z (window (chronicle_of w r))) (sym (nothing-below y e))
               (window-genesis (chronicle_of w r));
-          gained = λ r c. asked-gains (self_of w r) 0 [] (chronicle_of w r) (chronicle_of w r) (omega arith)
+          gained = λ r c. asked-gains (self_of w r) (least (horizon (chronicle_of w r)) []) [] (chronicle_of w r)
+              (chronicle_of w r) (omega arith)
               (asked-none (self_of w r) (chronicle_of w r));
           had = λ r c k. asked-none (self_of w r) (chronicle_of w r);
         }),

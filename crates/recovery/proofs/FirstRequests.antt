@@ -1,13 +1,11 @@
 -- The first request of all meets what healing asks of a world.
-use Rattle.ids.specs.declared.limits.TheConstants.{MOST_BLOCKS, MOST_OF_HEIGHT, HEIGHT_LIMIT}
 use Rattle.std.specs.Prelude.{count_by}
-use Rattle.std.proofs.Common.{ℕ, suc, ◌≡◌, ◌<◌, ◌≤◌, ◌+◌, ◌==◌, ◌^◌, Bool, true, false, cond, List, [], ◌∷◌, ◌++◌}
-use Rattle.std.proofs.Common.{length, map, find, reverse, refl, sym, ap, subst, ◌∙◌, arith, inl, Some, None, Ok, slice_get}
+use Rattle.std.proofs.Common.{ℕ, ◌≡◌, ◌<◌, ◌≤◌, ◌+◌, ◌==◌, Bool, true, false, cond, List, [], ◌∷◌, ◌++◌}
+use Rattle.std.proofs.Common.{length, map, find, reverse, refl, sym, ap, subst, ◌∙◌, arith, inl, Some, None, slice_get}
 use Rattle.std.proofs.lemmas.Bool.{cond-true, eq-eqb, lt-ltb}
 use Rattle.ids.specs.Sizes.{Sizes, AreSizes, client_party, replicas}
 use Rattle.definitions.specs.Bytes.{Bytes}
 use Rattle.definitions.specs.Branches.{Branch, branch_eq, just2, highest}
-use Rattle.definitions.specs.Canonical.{is_canonical}
 use Rattle.definitions.specs.Chronicles.{Chronicle, taken_blocks, voted_blocks, window, horizon, lock, vheight}
 use Rattle.definitions.specs.Chronicles.{standing_blocks, stored_blocks}
 use Rattle.definitions.specs.Frames.{Command}
@@ -17,13 +15,12 @@ use Rattle.definitions.specs.Replicas.{MemorySupply.ample, Replica, Standing.run
 use Rattle.definitions.specs.Sendings.{To.to_all}
 use Rattle.definitions.specs.Sessions.{Session, submission, request_frame}
 use Rattle.definitions.specs.States.{view}
-use Rattle.definitions.specs.Trees.{standing, blocks}
-use Rattle.definitions.specs.Worlds.{World, Sent, Event.submit, Happening, new_world, client_of, is_correct}
-use Rattle.definitions.specs.Runs.{refusal, run, after}
+use Rattle.definitions.specs.Worlds.{World, Event.submit, new_world, client_of}
+use Rattle.definitions.specs.Runs.{refusal, after}
 use Rattle.definitions.specs.Events.{Effect, happens, effect, acts, submitted, party_of}
 use Rattle.linear_law.proofs.Submissions.{asked}
-use Rattle.recovery.specs.Correct.{OfCorrect, ShareKeys, chronicle_of, lock_of, correct_replicas, amply}
-use Rattle.recovery.specs.Healing.{highest_voted, over_lock, justified_by}
+use Rattle.recovery.specs.Correct.{ShareKeys, chronicle_of, lock_of, correct_replicas}
+use Rattle.recovery.specs.Healing.{highest_voted, justified_by}
 use Rattle.recovery.specs.NeverWedged.{healer, ground_of, HasRoom, MayHeal, IsAsked, FirstRequestsMayHeal}
 use Rattle.recovery.proofs.Rounds.{highest-voted-below}
 use Rattle.recovery.proofs.Worlds.{IsMadeAs, keys-in, named, effect-correct, passes-one, passes-none}
@@ -102,7 +99,8 @@ module _ (sizes : Sizes) (is_faulty : ℕ → Bool) (ring : ℕ → Keyring) (cl
       })
   unfolding happens submitted submission new_world party_of
   sent-is = ap (λ (e : Effect). slice_get (start.sent
-      ++ map (λ o. record { event = start.now; sender = client_party client; to = o.0; frame = o.1 }) e.out) 0) effect-is
+      ++ map (λ o. record { event = start.now; sender = client_party client; to = o.0; frame = o.1 }) e.out) 0)
+      effect-is
 
   voted-none : highest_voted first (correct_replicas first) < 1
   voted-none = highest-voted-below first (correct_replicas first) 1 (omega arith) (λ r m.
@@ -113,7 +111,8 @@ module _ (sizes : Sizes) (is_faulty : ℕ → Bool) (ring : ℕ → Keyring) (cl
 
   ground-is : ground_of first ≡ []
   ground-is =
-      subst (λ (c : Chronicle). justified_by (find (λ a. branch_eq (just2 a.branch) (lock c)) (reverse (taken_blocks c)))
+      subst (λ (c : Chronicle). justified_by (find (λ a. branch_eq (just2 a.branch) (lock c)) (reverse
+      (taken_blocks c)))
       ≡ []) (sym (none-yet (healer first))) over-first
 
   room : HasRoom first
@@ -123,7 +122,8 @@ module _ (sizes : Sizes) (is_faulty : ℕ → Bool) (ring : ℕ → Keyring) (cl
       let l = ap (λ (x : Branch). length x) (unlocked (healer first)) in
       record {
         trees = λ r c.
-            let n = ap (λ (x : Chronicle). length (window x)) (none-yet r) ∙ ap (λ (x : List Branch). length x) window-first in
+            let n = ap (λ (x : Chronicle). length (window x)) (none-yet r)
+            ∙ ap (λ (x : List Branch). length x) window-first in
             omega (arith, v, g, l, n);
         heights = λ r c h.
             let n = ap (λ (x : Chronicle). count_by (λ y. length y == h) (window x)) (none-yet r)

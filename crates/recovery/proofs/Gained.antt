@@ -1,6 +1,6 @@
 -- What a replica gains by blocks that it fetches.
 use Rattle.std.specs.Prelude.{count_by}
-use Rattle.std.proofs.Common.{ℕ, suc, ◌≡◌, ◌<◌, ◌≤◌, ◌+◌, ◌⊎◌, ◌==◌, Bool, true, false, cond, List, ◌∷◌, length}
+use Rattle.std.proofs.Common.{ℕ, suc, ◌≡◌, ◌<◌, ◌≤◌, ◌+◌, ◌⊎◌, ◌==◌, Bool, true, false, cond, List, ◌∷◌, length, min}
 use Rattle.std.proofs.Common.{refl, []}
 use Rattle.std.proofs.Common.{sym, ap, subst, ◌∙◌, arith, inl, inr}
 use Rattle.std.proofs.lemmas.Bool.{cond-false, cases_lt}
@@ -119,7 +119,8 @@ voted-not : (a : Admitted) (c : Chronicle) → a.voted ≡ false → voted_block
 unfolding voted_blocks
 voted-not a c e = cond-false a.voted (a.branch ∷ voted_blocks c) (voted_blocks c) e
 
-pub view-took : (self : Identity) (a : Admitted) (c : Chronicle) → view self.sizes (took_block a ∷ c) ≡ view self.sizes c
+pub view-took : (self : Identity) (a : Admitted) (c : Chronicle)
+    → view self.sizes (took_block a ∷ c) ≡ view self.sizes c
 unfolding view
 view-took self a c = refl
 
@@ -178,8 +179,35 @@ took-gains self b y before now low t =
 
 -- ---- a whole branch
 
-pub gains-only : (self : Identity) (x : Branch) (before now : Chronicle) → Gains self 0 x before now
-    → OnlyGained self x before now
+-- who gained nothing of the parent gained nothing of a block over it
+pub gains-up : (self : Identity) (b : Block) (y : Branch) (before now : Chronicle)
+    → Gains self (length y) y before now → Gains self (length (b ∷ y)) (b ∷ y) before now
+gains-up self b y before now g =
+    let l = g.longer in
+    record {
+      in_view = g.in_view;
+      voted = g.voted;
+      forgotten = g.forgotten;
+      kept = g.kept;
+      taken = λ a m. elim (g.taken a m) [
+        | inl o ↦ inl o
+        | inr e ↦ inr (b ∷ e.0, ap (λ (z : Branch). b ∷ z) e.1)
+      ];
+      longer = omega (arith, l);
+      below = λ h k. elim (cases_lt (length y) h) [
+        | inl above ↦ g.above h above
+        | inr low ↦ g.below h (omega (arith, low))
+      ];
+      above = λ h k. g.above h (omega (arith, k));
+      heights = g.heights;
+    }
+
+-- how high a replica that pruned below a horizon lacks nothing of a branch
+abbrev pub least : ℕ → Branch → ℕ
+least h x = min h (length x)
+
+pub gains-only : (self : Identity) (x : Branch) (before now : Chronicle)
+    → Gains self (least (horizon before) x) x before now → OnlyGained self x before now
 gains-only self x before now g = record {
   in_view = g.in_view;
   voted = g.voted;

@@ -19,7 +19,7 @@ use Rattle.definitions.specs.Histories.{Answer, answers}
 use Rattle.definitions.specs.Keyrings.{verify, tag_for, client_at}
 use Rattle.definitions.specs.Tags.{tag}
 use Rattle.definitions.specs.Chronicles.{executed}
-use Rattle.definitions.specs.Replicas.{MemorySupply.ample}
+use Rattle.definitions.specs.Replicas.{MemorySupply.ample, Replica}
 use Rattle.definitions.specs.Sendings.{To, To.to_party, reply_to}
 use Rattle.definitions.specs.Sessions.{Client, Session, Receipt, Heard}
 use Rattle.definitions.specs.Sessions.{on_reply, count_reply}
@@ -136,6 +136,7 @@ no-replica w cl sizes = le-ltb (client_party cl) (replicas w.sizes) (let f = siz
 record ToldOne (w next : World) (cl : ℕ) (x : Session × Heard) : Type 0 where
   made : IsMadeAs w next
   sent : next.sent ≡ w.sent
+  row : next.replica ≡ w.replica
   session : next.session cl ≡ x.0
   old : (r : AcceptedBy) → Among r w.receipts → Among r next.receipts
   new : (rc : Receipt) → Among rc (accepted_of x.1)
@@ -155,6 +156,7 @@ told-one w k cl x e =
       made = record { sizes = refl; faulty = refl; ring = refl };
       sent = ap (λ (f : Effect). w.sent
           ++ map (λ o. record { event = w.now; sender = p; to = o.0; frame = o.1 }) f.out) e ∙ append-nil w.sent;
+      row = ap (λ (f : Effect). f.replica) e;
       session = ap (λ (f : Effect). f.session cl) e
           ∙ cond-true (cl == cl) x.0 (w.session cl) (eq-eqb cl cl refl);
       old = λ r m. subst (λ (l : List AcceptedBy). Among r l) (sym now)
@@ -247,6 +249,7 @@ module _ (sizes : Sizes) (start : World) (all : List Happening) (v : World) (cl 
   record HasHeard (w last : World) : Type 0 where
     made : IsMadeAs w last
     sent : last.sent ≡ w.sent
+    row : last.replica ≡ w.replica
     hears : Hears last cl seq []
 
   reply-is : (w : World) (r : ℕ)
@@ -276,6 +279,7 @@ module _ (sizes : Sizes) (start : World) (all : List Happening) (v : World) (cl 
         subst (λ (h : List Happening). HasHeard w (after w h)) (sym none) (record {
           made = record { sizes = refl; faulty = refl; ring = refl };
           sent = refl;
+          row = refl;
           hears = may.hears;
         }),
       )
@@ -332,6 +336,7 @@ module _ (sizes : Sizes) (start : World) (all : List Happening) (v : World) (cl 
         subst (λ (z : List Happening). HasHeard w (after w z)) (sym is) (record {
           made = made-both w next end t.made more.1.made;
           sent = more.1.sent ∙ t.sent;
+          row = more.1.row ∙ t.row;
           hears = more.1.hears;
         }),
       )
@@ -400,7 +405,8 @@ module _ (sizes : Sizes) (start : World) (all : List Happening) where
       → IsOnWay sizes start all w (ask_again k w ++ rest)
       → AreSizes w.sizes → ShareKeys w → AllGoOn w → (asked : IsAsked w k client)
       → OfCorrect w (λ r. Carries (executed (chronicle_of w r)) asked.command)
-      → Passes w (ask_again k w) × IsAnswered (after w (ask_again k w)) client (w.session client).used
+      → Passes w (ask_again k w) × AllGoOn (after w (ask_again k w))
+      × IsAnswered (after w (ask_again k w)) client (w.session client).used
   unfolding ask_again
   asked-again w rest k client on are keys goes asked there =
       let Known = KnownAt sizes start all in
@@ -465,6 +471,8 @@ module _ (sizes : Sizes) (start : World) (all : List Happening) where
       let ends : after w (ask_again k w) ≡ end =
       turn-after first (second ∷ []) w ∙ (turn-after second [] v ∙ none.1) in (
         turn-passes first (second ∷ []) w one.0 (turn-passes second [] v passes2 none.0),
+        subst AllGoOn (sym ends) (λ r cr. ap (λ (x : ℕ → Replica). (x r).standing) heard.row
+            ∙ one.1.standing r (goes r (sym (same-correct w v goesv.made r) ∙ (sym (same-correct v end made r) ∙ cr)))),
         subst (λ (z : World). IsAnswered z client (w.session client).used) (sym ends)
             (subst (λ (q : ℕ). IsAnswered end client q) (tell.2 ∙ asked.seq) receipt),
       )

@@ -28,6 +28,7 @@ mod Brought
 mod SentVotes
 mod SentRequests
 mod Tallies
+mod Waiting
 mod Firsts
 mod Counting
 mod Voting

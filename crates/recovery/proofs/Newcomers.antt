@@ -25,7 +25,8 @@ use Rattle.definitions.specs.Runs.{refusal, after}
 use Rattle.definitions.specs.Events.{happens, recorded}
 use Rattle.definitions.proofs.Horizons.{window-genesis, horizon-low, executed-locked}
 use Rattle.definitions.proofs.Lists.{Among-after, Among-filter, Among-kept}
-use Rattle.recovery.specs.Correct.{ShareKeys, chronicle_of, lock_of, correct_replicas, amply}
+use Rattle.recovery.specs.Correct.{OfCorrect, AllGoOn, ShareKeys, chronicle_of, lock_of, view_of, correct_replicas}
+use Rattle.recovery.specs.Correct.{amply}
 use Rattle.recovery.specs.Healing.{Phase, in_turn, comes_to, sent_since, numbers_of, is_proposal, newcomers, make_first}
 use Rattle.recovery.specs.Healing.{over_lock, highest_voted}
 use Rattle.recovery.specs.NeverWedged.{healer, ground_of, HasRoom}
@@ -39,7 +40,7 @@ use Rattle.recovery.proofs.Copies.{correct-party}
 use Rattle.recovery.proofs.Correct.{among-correct, correct-listed}
 use Rattle.recovery.proofs.Decided.{justifies-below}
 use Rattle.recovery.proofs.Fetched.{took-stands, window-told, lock-told}
-use Rattle.recovery.proofs.FirstBlocks.{IsAlike, alike-none, first-made}
+use Rattle.recovery.proofs.FirstBlocks.{HasFirstMade, IsAlike, alike-none, first-made}
 use Rattle.recovery.proofs.Firsts.{IsPlain}
 use Rattle.recovery.proofs.Gained.{of_height, took-heights, view-took, horizon-took}
 use Rattle.recovery.proofs.Grounds.{ground-own, just1-genesis}
@@ -53,7 +54,7 @@ use Rattle.recovery.proofs.Steps.{going, outs, TookStep, step-stood, frame-behin
 use Rattle.recovery.proofs.Ways.{IsOnWay, KnownAt, on-way, way-on, way-past, turn-on, turn-passes, turn-after}
 use Rattle.recovery.proofs.Ways.{turns-none}
 use Rattle.recovery.proofs.Wells.{IsReached, sound-of, family-of}
-use Rattle.recovery.proofs.Worlds.{IsMadeAs, made-after, made-both, keys-in, same-correct, same-self, Passes}
+use Rattle.recovery.proofs.Worlds.{IsMadeAs, made-after, keys-in, same-correct, same-self, Passes}
 use Rattle.recovery.proofs.Worlds.{passes-none, passes-one, named}
 
 -- ---- one newcomer
@@ -256,6 +257,140 @@ newcomer-listed w r c e =
     Among-kept (λ (i : ℕ). length (taken_blocks (chronicle_of w i)) == 0) (correct_replicas w) r (correct-listed w r c)
     (eq-eqb (length (taken_blocks (chronicle_of w r))) 0 (ap (λ (l : List Admitted). length l) e))
 
+-- a first proposal is one on genesis
+first-plain : (w next : World) (l v : ℕ) (h : HasFirstMade w next l v) → is_correct next l ≡ true
+    → leader next.sizes v ≡ l → IsPlainProposal next v h.block h.msg.frame
+first-plain w next l v h c lead =
+    let over : just1 (h.block ∷ []) ≡ [] = justifies-below h.block [] [] ([], refl) h.justify in
+    record {
+      proposal = record {
+        correct = ap (is_correct next) lead ∙ c;
+        sent = h.msg;
+        recorded = subst (λ (x : List Sent). Among h.msg x) (sym h.sent) (Among-after h.msg w.sent _ (inl refl));
+        made = h.made;
+        is = h.frame_is ∙ ap (λ (i : ℕ). proposal_frame (self_of next i) v h.made) (sym lead);
+        frame_is = refl;
+        block_is = h.block_is;
+        justified = h.plain.0 ∙ ap digest_of (sym over);
+      };
+      plain = h.plain;
+    }
+
+-- what the phase leaves of one: it is as it was, or took the block as its first
+record IsAfter (w last : World) (b : Block) (r : ℕ) : Type 0 where
+  before : Chronicle
+  alike : IsAlike (self_of w r) (chronicle_of w r) before
+  goes : (last.replica r).standing ≡ running
+  cases : ((a : Admitted) × (chronicle_of last r ≡ took_block a ∷ before) × (a.branch ≡ b ∷ [])
+      × ((a.new ≡ true) ⊎ ((a.new ≡ false) × Among (b ∷ []) (window before))))
+      ⊎ ((chronicle_of last r ≡ before) × (taken_blocks before ≡ [] → ⊥))
+
+record AreAfter (w last : World) : Type 0 where
+  session : last.session ≡ w.session
+  block : Block
+  justify : block.justify ≡ 0
+  each : OfCorrect w (λ r. IsAfter w last block r)
+
+-- it goes on, and is as it was, where the leader proposed the block
+may-now : (w mid : World) (l v : ℕ) → HasFirstMade w mid l v → AllGoOn w
+    → OfCorrect w (λ r. ((mid.replica r).standing ≡ running)
+    × IsAlike (self_of w r) (chronicle_of w r) (chronicle_of mid r))
+may-now w mid l v h goes r c = elim (cases_eq r l) [
+  | inl e ↦ subst (λ (i : ℕ). ((mid.replica i).standing ≡ running)
+      × IsAlike (self_of w i) (chronicle_of w i) (chronicle_of mid i)) (sym e) (h.goes, h.alike)
+  | inr n ↦ subst (λ (x : Replica). (x.standing ≡ running) × IsAlike (self_of w r) (chronicle_of w r) x.chronicle)
+      (sym (h.others r n)) (goes r c, alike-none (self_of w r) (chronicle_of w r))
+]
+
+-- of those that were told, and to which the block came
+after-both : (w mid last : World) (l v : ℕ) (h : HasFirstMade w mid l v) → AllGoOn w
+    → HaveTaken mid last h.block (newcomers mid (correct_replicas mid)) → OfCorrect w (λ r. IsAfter w last h.block r)
+after-both w mid last l v h goes t r c = record {
+  before = chronicle_of mid r;
+  alike = now.1;
+  goes = elim cases [
+    | inl n ↦ ap (λ (x : Replica). x.standing) n.is
+    | inr o ↦ ap (λ (x : Replica). x.standing) o.0 ∙ now.0
+  ];
+  cases = elim cases [
+    | inl n ↦ inl (n.taken, ap (λ (x : Replica). x.chronicle) n.is, n.branch, n.fresh)
+    | inr o ↦ inr (ap (λ (x : Replica). x.chronicle) o.0, o.1)
+  ];
+}
+  where
+    now : ((mid.replica r).standing ≡ running) × IsAlike (self_of w r) (chronicle_of w r) (chronicle_of mid r)
+    now = may-now w mid l v h goes r c
+
+    cm : is_correct mid r ≡ true
+    cm = same-correct w mid h.made_as r ∙ c
+
+    cases : TookFirst (chronicle_of mid r) h.block (last.replica r)
+        ⊎ ((last.replica r ≡ mid.replica r) × (taken_blocks (chronicle_of mid r) ≡ [] → ⊥))
+    cases = elim (cases_Bool (length (taken_blocks (chronicle_of mid r)) == 0)) [
+      | inl e ↦
+          let z = nil_from_length (taken_blocks (chronicle_of mid r))
+          (eqb-true (length (taken_blocks (chronicle_of mid r))) 0 e) in
+          inl (t.each r (newcomer-listed mid r cm z))
+      | inr n ↦
+          let lacks : taken_blocks (chronicle_of mid r) ≡ [] → ⊥ = λ z.
+          true≢false (sym (eq-eqb (length (taken_blocks (chronicle_of mid r))) 0
+          (ap (λ (x : List Admitted). length x) z)) ∙ n) in
+          inr (t.others r (λ m. lacks (is-newcomer mid r m).1), lacks)
+    ]
+
+module _ (sizes : Sizes) (start : World) (all : List Happening) (l v : ℕ) where
+  first-brought : (w : World) (rest : List Happening)
+      → IsOnWay sizes start all w (in_turn (tells l ∷ brings (length w.sent) ∷ []) w ++ rest) → ShareKeys w
+      → AllGoOn w → is_correct w l ≡ true → lock_of w l ≡ [] → leader w.sizes v ≡ l → view_of w l ≡ v
+      → OfCorrect w (λ r. (d : Chronicle) (b : Block) → IsAlike (self_of w r) (chronicle_of w r) d → b.justify ≡ 0
+      → HasPlace d b [])
+      → Passes w (in_turn (tells l ∷ brings (length w.sent) ∷ []) w)
+      × AreAfter w (after w (in_turn (tells l ∷ brings (length w.sent) ∷ []) w))
+  first-brought w rest on keys goes c low lead in_view place =
+      let k : ℕ = length w.sent in
+      let on0 = turn-on sizes start all (tells l) (brings k ∷ []) w rest on in
+      let one = first-made sizes start all w _ l v on0 keys c (goes l c) low lead in_view in
+      let h = one.1 in
+      let mid : World = after w (tells l w) in
+      let made = h.made_as in
+      let ona = turn-on sizes start all (brings k) [] mid rest
+      (way-past sizes start all (tells l w) _ w on0 one.0) in
+      let f : Frame = h.msg.frame in
+      let p = first-plain w mid l v h (same-correct w mid made l ∙ c)
+      (ap (λ (z : Sizes). leader z v) made.sizes ∙ lead) in
+      let rec : recorded mid k ≡ Some f =
+      ap (λ (x : List Sent). option_map (λ z. z.frame) (slice_get x k)) h.sent ∙ frame-behind w.sent h.msg [] in
+      let us : List ℕ = newcomers mid (correct_replicas mid) in
+      let numbers = one-sent w mid h.msg h.sent (ap is_proposal h.frame_is ∙ proposal-one (self_of mid l) v h.made) in
+      let is : brings k mid ≡ amply (comes_to us (k ∷ [])) = ap (λ (x : List ℕ). amply (comes_to us x)) numbers in
+      let on1 = subst (λ (x : List Happening). IsOnWay sizes start all mid
+      (x ++ (in_turn [] (after mid (brings k mid)) ++ rest))) is ona in
+      let was : (r : ℕ) → is_correct mid r ≡ true → is_correct w r ≡ true = λ r cm.
+      sym (same-correct w mid made r) ∙ cm in
+      let may : (r : ℕ) → Among r us → MayTake mid h.block r = λ r m.
+      (let cm = (is-newcomer mid r m).0 in
+      let now = may-now w mid l v h goes r (was r cm) in
+      record { correct = cm; goes = now.0; place = place r (was r cm) (chronicle_of mid r) h.block now.1 h.justify }) in
+      let two = all-take sizes start all k v h.block f us mid _ on1
+      (distinct-kept (λ r. length (taken_blocks (chronicle_of mid r)) == 0) (correct_replicas mid)
+      (distinct-correct mid (replicas mid.sizes))) (keys-in w mid made keys) rec p may in
+      let passes2 : Passes mid (brings k mid) = subst (Passes mid) (sym is) two.0 in
+      let last : World = after mid (brings k mid) in
+      let t : HaveTaken mid last h.block us =
+      subst (λ (x : List Happening). HaveTaken mid (after mid x) h.block us) (sym is) two.1 in
+      let none = turns-none last in
+      let ends = turn-after (tells l) (brings k ∷ []) w ∙ (turn-after (brings k) [] mid ∙ none.1) in (
+        turn-passes (tells l) (brings k ∷ []) w one.0 (turn-passes (brings k) [] mid passes2 none.0),
+        subst (AreAfter w) (sym ends) (record {
+          session = t.session ∙ h.session;
+          block = h.block;
+          justify = h.justify;
+          each = after-both w mid last l v h goes t;
+        }),
+      )
+
+-- ---- the stage
+
 -- what a first block leaves
 pub record HasFirsts (w last : World) (l v top : ℕ) : Type 0 where
   pub stage : IsStaged last l v top []
@@ -327,176 +462,103 @@ module _ (sizes : Sizes) (start : World) (all : List Happening) (w : World)
           taken = t;
         }
 
+    -- who is settled has a place for a first block
+    settled-place : (self : Identity) (v r : ℕ) (c : Chronicle) (b : Block) → IsSettled self v r c → b.justify ≡ 0
+        → HasPlace c b []
+    settled-place self v r c b s j =
+        let t = s.trees in
+        let few = s.heights 1 in
+        let high = room.low in
+        let zero = s.forgotten in
+        record {
+          stands = window-genesis c;
+          below = omega (arith, j);
+          reach = omega (arith, j, zero);
+          room = omega (arith, t);
+          uncrowded = omega (arith, few);
+          low = omega (arith, high);
+        }
+
+    -- and climbs after it
+    settled-climbs : (self : Identity) (v r : ℕ) (b : Block) (c d : Chronicle) → IsLawful self.sizes d → b.justify ≡ 0
+        → IsSettled self v r c
+        → ((a : Admitted) × (d ≡ took_block a ∷ c) × (a.branch ≡ b ∷ [])
+        × ((a.new ≡ true) ⊎ ((a.new ≡ false) × Among (b ∷ []) (window c))))
+        ⊎ ((d ≡ c) × (taken_blocks c ≡ [] → ⊥))
+        → Climbs self v [] [] (room_above top []) d × (lock d ≡ []) × (vheight d ≤ top)
+    settled-climbs self v r b c d law j s (inl (a, e, branch, fresh)) =
+        let q = s.voted_low in
+        let long = ap (λ (x : Branch). length x) branch in
+        let low = voted-low c a (suc top) (omega (arith, q)) (omega (arith, long)) in
+        let is = ap vheight e in (
+          subst (Climbs self v [] [] (room_above top [])) (sym e)
+              (new-climbs self v (room_above top []) c b a branch j fresh s.in_view s.forgotten s.unlocked
+              s.trees s.heights),
+          ap lock e ∙ first-lock a c b branch j s.unlocked,
+          omega (arith, low, is),
+        )
+    settled-climbs self v r b c d law j s (inr (e, some)) =
+        let q = s.voted_low in
+        let is = ap vheight e in (
+          subst (Climbs self v [] [] (room_above top [])) (sym e)
+              (old-climbs self v (room_above top []) c (subst (IsLawful self.sizes) e law) some s.in_view s.forgotten
+              s.unlocked (let t = s.trees in omega (arith, t)) (λ n. let h = s.heights n in omega (arith, h))),
+          ap lock e ∙ s.unlocked,
+          omega (arith, q, is),
+        )
+
     pub first-staged : (v : ℕ) (w1 : World) (rest : List Happening)
         → IsOnWay sizes start all w1 (make_first l w1 ++ rest) → IsMadeAs w w1 → ShareKeys w → CameTo v w w1
         → leader w.sizes v ≡ l → over_lock l w1 ≡ []
         → Passes w1 (make_first l w1) × HasFirsts w1 (after w1 (make_first l w1)) l v top
     first-staged v w1 rest on made1 keys came leads_it over =
-        let fam = family-of Known w g in
-        let cl = (healer-highest w fam).0 in
+        let cl = (healer-highest w (family-of Known w g)).0 in
         let cl1 = same-correct w w1 made1 l ∙ cl in
-        let k : ℕ = length w1.sent in
         let is = first-is l w1 over in
-        let on0 = turn-on sizes start all (tells l) (brings k ∷ []) w1 rest
-        (subst (λ (x : List Happening). IsOnWay sizes start all w1 (x ++ rest)) is on) in
+        let on0 = subst (λ (x : List Happening). IsOnWay sizes start all w1 (x ++ rest)) is on in
         let keys1 = keys-in w w1 made1 keys in
         let lead1 : leader w1.sizes v ≡ l = ap (λ (z : Sizes). leader z v) made1.sizes ∙ leads_it in
         let low1 = lock-told (chronicle_of w l) (chronicle_of w1 l) (came.rest l cl1).taken ∙ locks-nil l cl in
-        let one = first-made sizes start all w1 _ l v on0 keys1 cl1 (came.going_on l cl1) low1 lead1
-        (came.views l cl1) in
-        let h = one.1 in
-        let wa : World = after w1 (tells l w1) in
-        let ona = turn-on sizes start all (brings k) [] wa rest
-        (way-past sizes start all (tells l w1) _ w1 on0 one.0) in
-        let made2 = h.made_as in
-        let keys2 = keys-in w1 wa made2 keys1 in
-        let leada : leader wa.sizes v ≡ l = ap (λ (z : Sizes). leader z v) made2.sizes ∙ lead1 in
-        let b : Block = h.block in
-        let f : Frame = h.msg.frame in
-        let cla = same-correct w1 wa made2 l ∙ cl1 in
-        let over_b : just1 (b ∷ []) ≡ [] = justifies-below b [] [] ([], refl) h.justify in
-        let p : IsPlainProposal wa v b f = record {
-          proposal = record {
-            correct = ap (is_correct wa) leada ∙ cla;
-            sent = h.msg;
-            recorded = subst (λ (x : List Sent). Among h.msg x) (sym h.sent) (Among-after h.msg w1.sent _ (inl refl));
-            made = h.made;
-            is = h.frame_is ∙ ap (λ (i : ℕ). proposal_frame (self_of wa i) v h.made) (sym leada);
-            frame_is = refl;
-            block_is = h.block_is;
-            justified = h.plain.0 ∙ ap digest_of (sym over_b);
-          };
-          plain = h.plain;
-        } in
-        let rec : recorded wa k ≡ Some f =
-        ap (λ (x : List Sent). option_map (λ z. z.frame) (slice_get x k)) h.sent ∙ frame-behind w1.sent h.msg [] in
-        let us : List ℕ = newcomers wa (correct_replicas wa) in
-        let numbers = one-sent w1 wa h.msg h.sent (ap is_proposal h.frame_is ∙ proposal-one (self_of wa l) v h.made) in
-        let isb : brings k wa ≡ amply (comes_to us (k ∷ [])) =
-        ap (λ (x : List ℕ). amply (comes_to us x)) numbers in
-        let wasa : (r : ℕ) → is_correct wa r ≡ true → is_correct w1 r ≡ true = λ r c. sym
-        (same-correct w1 wa made2 r) ∙ c in
-        let was1 : (r : ℕ) → is_correct w1 r ≡ true → is_correct w r ≡ true = λ r c. sym
-        (same-correct w w1 made1 r) ∙ c in
-        let goes : (r : ℕ) → is_correct wa r ≡ true → (wa.replica r).standing ≡ running = λ r c.
-        elim (cases_eq r l) [
-          | inl e ↦ subst (λ (i : ℕ). (wa.replica i).standing ≡ running) (sym e) h.goes
-          | inr n ↦ ap (λ (x : Replica). x.standing) (h.others r n) ∙ came.going_on r (wasa r c)
-        ] in
-        let alike : (r : ℕ) → IsAlike (self_of w1 r) (chronicle_of w1 r) (chronicle_of wa r) = λ r.
-        elim (cases_eq r l) [
-          | inl e ↦ subst (λ (i : ℕ). IsAlike (self_of w1 i) (chronicle_of w1 i) (chronicle_of wa i)) (sym e) h.alike
-          | inr n ↦ subst (λ (x : Replica). IsAlike (self_of w1 r) (chronicle_of w1 r) x.chronicle) (sym (h.others r n))
-              (alike-none (self_of w1 r) (chronicle_of w1 r))
-        ] in
-        let there : (r : ℕ) → is_correct w1 r ≡ true → IsSettled (self_of w1 r) v r (chronicle_of wa r) = λ r c.
+        let here : OfCorrect w1 (λ r. (d : Chronicle) → IsAlike (self_of w1 r) (chronicle_of w1 r) d
+        → IsSettled (self_of w1 r) v r d) = λ r c d alike.
         (let moved = came.rest r c in
-        settled (self_of w1 r) v r (chronicle_of w1 r) (chronicle_of wa r) (was1 r c) (came.views r c) moved.taken
-        moved.forgotten (vheight-told (chronicle_of w1 r) (chronicle_of w r) moved.voted) (alike r)) in
-        let may : (r : ℕ) → Among r us → MayTake wa b r = λ r m.
-        (let n = is-newcomer wa r m in
-        let s = there r (wasa r n.0) in
-        let j = h.justify in
-        let t = s.trees in
-        let few = s.heights 1 in
-        let top_low = room.low in
-        let zero = s.forgotten in
-        record {
-          correct = n.0;
-          goes = goes r n.0;
-          place = record {
-            stands = window-genesis (chronicle_of wa r);
-            below = omega (arith, j);
-            reach = omega (arith, j, zero);
-            room = omega (arith, t);
-            uncrowded = omega (arith, few);
-            low = omega (arith, top_low);
-          };
-        }) in
-        let onb = subst (λ (x : List Happening). IsOnWay sizes start all wa (x ++ (in_turn [] (after wa
-        (brings k wa)) ++ rest)))
-        isb ona in
-        let two = all-take sizes start all k v b f us wa _ onb
-        (distinct-kept (λ r. length (taken_blocks (chronicle_of wa r)) == 0) (correct_replicas wa)
-        (distinct-correct wa (replicas wa.sizes))) keys2 rec p may in
-        let passes2 : Passes wa (brings k wa) = subst (Passes wa) (sym isb) two.0 in
-        let wb : World = after wa (brings k wa) in
-        let t : HaveTaken wa wb b us = subst (λ (x : List Happening). HaveTaken wa (after wa x) b us) (sym isb) two.1 in
-        let made3 = made-after wa (brings k wa) in
-        let made : IsMadeAs w1 wb = made-both w1 wa wb made2 made3 in
-        let wayb = way-past sizes start all (brings k wa) _ wa ona passes2 in
-        let gb = on-way sizes start all wb _ wayb in
-        let none = turns-none wb in
-        let ends : after w1 (make_first l w1) ≡ wb =
-        ap (after w1) is ∙ (turn-after (tells l) (brings k ∷ []) w1 ∙ (turn-after (brings k) [] wa ∙ none.1)) in
-        let wasb : (r : ℕ) → is_correct wb r ≡ true → is_correct w1 r ≡ true = λ r c. sym
-        (same-correct w1 wb made r) ∙ c in
-        let cases : (r : ℕ) → is_correct wb r ≡ true
-        → ((taken_blocks (chronicle_of wa r) ≡ []) × TookFirst (chronicle_of wa r) b (wb.replica r))
-        ⊎ ((taken_blocks (chronicle_of wa r) ≡ [] → ⊥) × (wb.replica r ≡ wa.replica r)) = λ r c.
-        (let ca = same-correct w1 wa made2 r ∙ wasb r c in
-        elim (cases_Bool (length (taken_blocks (chronicle_of wa r)) == 0)) [
-          | inl e ↦
-              let z = nil_from_length (taken_blocks (chronicle_of wa r))
-              (eqb-true (length (taken_blocks (chronicle_of wa r))) 0 e) in
-              inl (z, t.each r (newcomer-listed wa r ca z))
-          | inr n ↦
-              let lacks : taken_blocks (chronicle_of wa r) ≡ [] → ⊥ = λ z.
-              true≢false (sym (eq-eqb (length (taken_blocks (chronicle_of wa r))) 0
-              (ap (λ (x : List Admitted). length x) z)) ∙ n) in
-              inr (lacks, t.others r (λ m. lacks (is-newcomer wa r m).1))
-        ]) in
-        let self_b : (r : ℕ) → self_of wb r ≡ self_of w1 r = same-self w1 wb made in
+        settled (self_of w1 r) v r (chronicle_of w1 r) d (sym (same-correct w w1 made1 r) ∙ c) (came.views r c)
+        moved.taken moved.forgotten (vheight-told (chronicle_of w1 r) (chronicle_of w r) moved.voted) alike) in
+        let one = first-brought sizes start all l v w1 rest on0 keys1 came.going_on cl1 low1 lead1 (came.views l cl1)
+        (λ r c d b alike j. settled-place (self_of w1 r) v r d b (here r c d alike) j) in
+        let events : List Happening = in_turn (tells l ∷ brings (length w1.sent) ∷ []) w1 in
+        let wb : World = after w1 events in
+        let made = made-after w1 events in
+        let gb = on-way sizes start all wb rest (way-past sizes start all events rest w1 on0 one.0) in
+        let after_it = one.1 in
+        let was : (r : ℕ) → is_correct wb r ≡ true → is_correct w1 r ≡ true = λ r c.
+        sym (same-correct w1 wb made r) ∙ c in
+        let each : OfCorrect wb (λ r. Climbs (self_of wb r) v [] [] (room_above top []) (chronicle_of wb r)
+        × (lock_of wb r ≡ []) × (vheight (chronicle_of wb r) ≤ top)) = λ r c.
+        (let n = after_it.each r (was r c) in
+        let self = same-self w1 wb made r in
+        let k = settled-climbs (self_of w1 r) v r after_it.block n.before (chronicle_of wb r)
+        (subst (λ (z : Sizes). IsLawful z (chronicle_of wb r)) made.sizes (sound-of Known wb gb r c).lawful)
+        after_it.justify (here r (was r c) n.before n.alike) n.cases in (
+          subst (λ (i : Identity). Climbs i v [] [] (room_above top []) (chronicle_of wb r)) (sym self) k.0,
+          k.1,
+          k.2,
+        )) in
+        let clb = same-correct w1 wb made l ∙ cl1 in
         let limit = room.low in
         let nolock = ap (λ (x : Branch). length x) (locks-nil l cl) in (
-          subst (Passes w1) (sym is) (turn-passes (tells l) (brings k ∷ []) w1 one.0
-              (turn-passes (brings k) [] wa passes2 none.0)),
-          subst (λ (z : World). HasFirsts w1 z l v top) (sym ends) (record {
+          subst (Passes w1) (sym is) one.0,
+          subst (λ (x : List Happening). HasFirsts w1 (after w1 x) l v top) (sym is) (record {
             stage = record {
               keys = keys-in w1 wb made keys1;
-              goes = λ r c. elim (cases r c) [
-                | inl n ↦ ap (λ (x : Replica). x.standing) n.1.is
-                | inr o ↦ ap (λ (x : Replica). x.standing) o.1
-                    ∙ goes r (same-correct w1 wa made2 r ∙ wasb r c)
-              ];
-              correct = same-correct w1 wb made l ∙ cl1;
+              goes = λ r c. (after_it.each r (was r c)).goes;
+              correct = clb;
               leader_is = ap (λ (z : Sizes). leader z v) made.sizes ∙ lead1;
-              lock_is = elim (cases l (same-correct w1 wb made l ∙ cl1)) [
-                | inl n ↦ ap (λ (x : Replica). lock x.chronicle) n.1.is
-                    ∙ first-lock n.1.taken (chronicle_of wa l) b n.1.branch h.justify (there l cl1).unlocked
-                | inr o ↦ ap (λ (x : Replica). lock x.chronicle) o.1 ∙ (there l cl1).unlocked
-              ];
-              climbs = λ r c.
-                  let s = there r (wasb r c) in
-                  subst (λ (i : Identity). Climbs i v [] [] (room_above top []) (chronicle_of wb r)) (sym (self_b r))
-                  (elim (cases r c) [
-                    | inl n ↦ subst (λ (x : Replica). Climbs (self_of w1 r) v [] [] (room_above top []) x.chronicle)
-                        (sym n.1.is)
-                        (new-climbs (self_of w1 r) v (room_above top []) (chronicle_of wa r) b n.1.taken n.1.branch
-                        h.justify n.1.fresh s.in_view s.forgotten s.unlocked s.trees s.heights)
-                    | inr o ↦ subst (λ (x : Replica). Climbs (self_of w1 r) v [] [] (room_above top []) x.chronicle)
-                        (sym o.1)
-                        (old-climbs (self_of w1 r) v (room_above top []) (chronicle_of wa r)
-                        (subst (λ (x : Replica). IsLawful w1.sizes x.chronicle) o.1
-                        (subst (λ (z : Sizes). IsLawful z (chronicle_of wb r)) made.sizes
-                        (sound-of Known wb gb r c).lawful)) o.0 s.in_view s.forgotten s.unlocked
-                        (let q = s.trees in omega (arith, q))
-                        (λ n. let q = s.heights n in omega (arith, q)))
-                  ]);
-              low = λ r c.
-                  let s = there r (wasb r c) in
-                  let q = s.voted_low in
-                  elim (cases r c) [
-                    | inl n ↦
-                        let i = ap (λ (x : Replica). vheight x.chronicle) n.1.is in
-                        let long = ap (λ (x : Branch). length x) n.1.branch in
-                        let m = voted-low (chronicle_of wa r) n.1.taken (suc top) (omega (arith, q)) (omega
-                        (arith, long)) in
-                        omega (arith, i, m)
-                    | inr o ↦ (let i = ap (λ (x : Replica). vheight x.chronicle) o.1 in omega (arith, i, q))
-                  ];
+              lock_is = (each l clb).1;
+              climbs = λ r c. (each r c).0;
+              low = λ r c. (each r c).2;
               limit = omega (arith, limit, nolock);
             };
-            session = t.session ∙ h.session;
+            session = after_it.session;
           }),
         )

@@ -2,7 +2,7 @@
 use Rattle.std.proofs.Common.{ℕ, ◌≡◌, ◌<◌, ◌==◌, ◌&&◌, Bool, true, false, cond, List, [], ◌∷◌, ◌++◌}
 use Rattle.std.proofs.Common.{refl, sym, ap, subst, ◌∙◌, arith, inl, inr, Option, Some}
 use Rattle.std.specs.Bool.{⊤}
-use Rattle.std.proofs.lemmas.Bool.{cond-true, and_parts, eqb-true, eq-eqb, le-ltb, true≢false}
+use Rattle.std.proofs.lemmas.Bool.{cases_eq, cond-true, and_parts, eqb-true, eq-eqb, le-ltb, true≢false}
 use Rattle.ids.specs.Sizes.{Sizes, client_party, replicas}
 use Rattle.definitions.specs.Lists.{Among, AreDistinct, IsBeginning}
 use Rattle.definitions.specs.Checks.{Identity}
@@ -26,7 +26,7 @@ use Rattle.linear_law.proofs.Sends.{answer_to-among}
 use Rattle.recovery.specs.Correct.{OfCorrect, AllGoOn, chronicle_of, amply}
 use Rattle.recovery.specs.Healing.{comes_to}
 use Rattle.recovery.specs.Rounds.{Carries}
-use Rattle.recovery.proofs.Offers.{GoesOn, goes-none, goes-both, row-other}
+use Rattle.recovery.proofs.Offers.{GoesOn, goes-none, goes-both, row-own, row-other}
 use Rattle.recovery.proofs.Requests.{IsWanted, request-comes, wanted-after}
 use Rattle.recovery.proofs.Steps.{outs}
 use Rattle.recovery.proofs.Submitted.{entry-low}
@@ -173,6 +173,7 @@ request-sends w c a r h =
 
 pub record HaveReplied (w last : World) (a : Answer) (rs : List ℕ) : Type 0 where
   pub goes : GoesOn w last
+  pub standing : (j : ℕ) → (w.replica j).standing ≡ running → (last.replica j).standing ≡ running
   pub replies : AreReplies w a rs goes.more
 
 module _ (sizes : Sizes) (start : World) (all : List Happening) (k : ℕ) (c : Command) (a : Answer) where
@@ -181,7 +182,8 @@ module _ (sizes : Sizes) (start : World) (all : List Happening) (k : ℕ) (c : C
       → ((r : ℕ) → Among r rs → (is_correct w r ≡ true) × Tells w c a r)
       → Passes w (amply (comes_to rs (k ∷ []))) × HaveReplied w (after w (amply (comes_to rs (k ∷ [])))) a rs
   unfolding comes_to after goes-none goes-both
-  all-reply [] w rest on d wanted tell = (passes-none w, record { goes = goes-none w; replies = tt })
+  all-reply [] w rest on d wanted tell =
+      (passes-none w, record { goes = goes-none w; standing = λ j s. s; replies = tt })
   all-reply (r ∷ rs) w rest on d wanted tell =
       let later : List Happening = amply (comes_to rs (k ∷ [])) in
       let t = tell r (inl refl) in
@@ -209,6 +211,11 @@ module _ (sizes : Sizes) (start : World) (all : List Happening) (k : ℕ) (c : C
         passes-one w (relay k r, ample) later one.0 more.0,
         record {
           goes = goes-both w next end goes more.1.goes;
+          standing = λ j s. more.1.standing j (elim (cases_eq j r) [
+            | inl e ↦ subst (λ (i : ℕ). (next.replica i).standing ≡ running) (sym e)
+                (ap (λ (x : Replica). x.standing) (row-own w next r (noted (got_request c)) st))
+            | inr n ↦ ap (λ (x : Replica). x.standing) (row-other w next r (noted (got_request c)) st j n) ∙ s
+          ]);
           replies = (refl, refl, refl, replies-before w next a rs more.1.goes.more made more.1.replies);
         },
       )

@@ -18,7 +18,10 @@ use Rattle.definitions.specs.Runs.{refusal, after}
 use Rattle.definitions.specs.Events.{happens, recorded}
 use Rattle.linear_law.proofs.WholeRuns.{slice_get-among}
 use Rattle.recovery.specs.Correct.{OfCorrect, ShareKeys, chronicle_of}
-use Rattle.recovery.specs.NeverWedged.{IsAsked}
+use Rattle.recovery.specs.NeverWedged.{IsAsked, WaitingClientsAsked}
+use Rattle.definitions.specs.Lists.{Among}
+use Rattle.std.proofs.Common.{suc, inl, inr}
+use Rattle.recovery.proofs.Wells.{reached}
 use Rattle.recovery.proofs.Asked.{relay-hands}
 use Rattle.recovery.proofs.Copies.{vector-verifies, correct-party}
 use Rattle.recovery.proofs.Offers.{slice-later, slice-there}
@@ -78,6 +81,33 @@ asked-wanted w k cl keys own h =
       },
       ap (λ (x : Command). x.client) is.0,
       is.1,
+    )
+
+-- ---- whoever waits asked
+
+-- what stands in a list has a place in it
+place-of : (xs : List Sent) (s : Sent) → Among s xs → (k : ℕ) × (slice_get xs k ≡ Some s)
+place-of [] s m = absurd m
+place-of (x ∷ xs) s (inl e) = (0, ap (λ (y : Sent). Some y) (sym e))
+place-of (x ∷ xs) s (inr m) = let r = place-of xs s m in (suc r.0, r.1)
+
+pub waiting-asked : WaitingClientsAsked
+waiting-asked sizes is_faulty ring hs last met e client low ok waits =
+    let g = reached sizes is_faulty ring hs last met e in
+    let r = g.asked client waits in
+    let k = place-of last.sent r.0 r.2 in (
+      k.0,
+      record {
+        client_is = low;
+        correct = ok;
+        waits = waits;
+        sent = r.0;
+        command = r.1;
+        recorded = k.1;
+        sender = r.3;
+        request = r.4;
+        seq = r.5;
+      },
     )
 
 -- ---- it comes

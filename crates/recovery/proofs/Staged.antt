@@ -184,8 +184,9 @@ module _ (Known : Core → Type 0) (w : World) (g : IsReached Known w) (kept : N
         ];
     trees = λ r c.
         let t = room.trees r (was r c) in
+        let h = (came.rest r c).forgotten in
         let n = ap (λ (l : List Branch). length l) (same r c) in
-        omega (arith, t, n);
+        omega (arith, t, n, h);
     heights = λ r c h.
         let t = room.heights r (was r c) h in
         let n = ap (λ (l : List Branch). count_by (λ y. length y == h) l) (same r c) in
@@ -302,7 +303,7 @@ module _ (Known : Core → Type 0) (w : World) (g : IsReached Known w) (kept : N
                 reach = omega (arith, h, h1, a0, a1);
                 safe = locks-safe r c cw;
                 clear = clear-own m _;
-                trees = omega (arith, trees, long1, more);
+                trees = omega (arith, trees, long1, more, h, h1);
                 heights = λ n k.
                     let one = gain.heights n in
                     let same1 = ap (λ (l : List Branch). count_by (λ y. length y == n) l) same in

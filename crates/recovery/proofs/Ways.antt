@@ -25,6 +25,8 @@ use Rattle.recovery.proofs.Wells.{IsReached, run-after, well-run, new-ruled, new
 use Rattle.recovery.proofs.Wells.{new-firsts}
 use Rattle.recovery.proofs.Firsts.{AllFirst, happens-first}
 use Rattle.recovery.proofs.Tallies.{HaveFew, happens-few}
+use Rattle.recovery.proofs.Waiting.{HaveAsked, happens-asked}
+use Rattle.recovery.proofs.Wells.{new-asked}
 
 -- the cores of a whole run
 abbrev pub KnownAt : (sizes : Sizes) → World → List Happening → Core → Type 0
@@ -40,6 +42,7 @@ pub record IsOnWay (sizes : Sizes) (start : World) (all : List Happening) (w : W
     pub votes : VotesSent w
     pub requests : AreOwn w w.sent
     pub tallies : HaveFew w
+    pub asked : HaveAsked w
     pub firsts : AllFirst (KnownAt sizes start all) (known-apart sizes start all premises)
         (known-genesis sizes start all) w
     pub assumed : AssumedAlong (KnownAt sizes start all) w ahead
@@ -77,6 +80,7 @@ on-way-from sizes is_faulty ring hs ahead w met e =
       votes = new-votes sizes is_faulty ring;
       requests = new-own sizes is_faulty ring;
       tallies = new-few sizes is_faulty ring;
+      asked = new-asked sizes is_faulty ring;
       firsts = new-firsts Known (known-apart sizes start all met) (known-genesis sizes start all) sizes is_faulty ring;
     }) assumed.0 e in
     record {
@@ -87,6 +91,7 @@ on-way-from sizes is_faulty ring hs ahead w met e =
       votes = kept.votes;
       requests = kept.requests;
       tallies = kept.tallies;
+      asked = kept.asked;
       firsts = kept.firsts;
       assumed = subst (λ (z : World). AssumedAlong Known z ahead) end assumed.1;
       ends = ap (λ (z : World). after z ahead) (sym end) ∙ sym (after-append start hs ahead);
@@ -110,6 +115,7 @@ module _ (sizes : Sizes) (start : World) (all : List Happening) where
     ruled = on.ruled;
     requests = on.requests;
     tallies = on.tallies;
+    asked = on.asked;
     firsts = on.firsts;
     sent = λ s m x o. (
       inr (inl (s, subst (λ (z : World). Among s z.sent) on.ends (sent-on w ahead s m), o)),
@@ -136,6 +142,7 @@ module _ (sizes : Sizes) (start : World) (all : List Happening) where
         votes = happens-votes Known w h on.well framed ok on.votes;
         requests = happens-own Known w h on.well framed ok on.requests;
         tallies = happens-few w h framed ok on.tallies;
+        asked = happens-asked w h framed ok on.asked;
         firsts = happens-first Known apart genesis w h on.well well framed ok on.firsts;
         assumed = on.assumed.1;
         ends = on.ends;

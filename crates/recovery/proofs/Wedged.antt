@@ -65,5 +65,6 @@ never-wedged k client sizes is_faulty ring hs w met e are may asked =
       last,
       turn-passes (agree_on k) (ask_again k ∷ []) w one.ran (turn-passes (ask_again k) [] mid two.0 none.0)
           ∙ ap (λ (z : World). Ok z) ends,
-      subst (λ (q : ℕ). IsAnswered last client q) (ap (λ (s : ℕ → Session). (s client).used) one.session) two.1,
+      two.1,
+      subst (λ (q : ℕ). IsAnswered last client q) (ap (λ (s : ℕ → Session). (s client).used) one.session) two.2,
     )

@@ -30,6 +30,8 @@ use Rattle.recovery.proofs.Firsts.{AllFirst, happens-first}
 use Rattle.recovery.proofs.SentRequests.{AreOwn, happens-own}
 use Rattle.recovery.proofs.SentVotes.{VotesSent, happens-votes}
 use Rattle.recovery.proofs.Tallies.{HaveFew, happens-few}
+use Rattle.recovery.proofs.Waiting.{HaveAsked, happens-asked}
+use Rattle.std.proofs.Common.{true≢false}
 
 -- a world of a run, among known cores that don't collide
 pub record IsReached (Known : Core → Type 0) (w : World) : Type 0 where
@@ -42,6 +44,8 @@ pub record IsReached (Known : Core → Type 0) (w : World) : Type 0 where
   pub requests : AreOwn w w.sent
   -- who waits wasn't told enough
   pub tallies : HaveFew w
+  -- who waits sent its request
+  pub asked : HaveAsked w
   -- who never took a block stands on genesis, or on its own proposal on it
   pub firsts : AllFirst Known apart genesis w
   -- the cores of what was sent are known
@@ -56,6 +60,7 @@ pub record IsKeptWell (Known : Core → Type 0) (apart : NoCollision Known) (gen
     pub votes : VotesSent w
     pub requests : AreOwn w w.sent
     pub tallies : HaveFew w
+    pub asked : HaveAsked w
     pub firsts : AllFirst Known apart genesis w
 
 pub well-run : (Known : Core → Type 0) (apart : NoCollision Known) (genesis : Known genesis_core) (hs : List Happening)
@@ -73,6 +78,7 @@ well-run Known apart genesis (h ∷ hs) w last g a e =
       votes = happens-votes Known w h g.well framed r.0 g.votes;
       requests = happens-own Known w h g.well framed r.0 g.requests;
       tallies = happens-few w h framed r.0 g.tallies;
+      asked = happens-asked w h framed r.0 g.asked;
       firsts = happens-first Known apart genesis w h g.well well framed r.0 g.firsts;
     }) a.1 r.1
 
@@ -93,6 +99,11 @@ new-own sizes is_faulty ring = λ s m. absurd m
 pub new-few : (sizes : Sizes) (is_faulty : ℕ → Bool) (ring : ℕ → Keyring) → HaveFew (new_world sizes is_faulty ring)
 unfolding new_world
 new-few sizes is_faulty ring = λ cl w place text. omega arith
+
+pub new-asked : (sizes : Sizes) (is_faulty : ℕ → Bool) (ring : ℕ → Keyring)
+    → HaveAsked (new_world sizes is_faulty ring)
+unfolding new_world
+new-asked sizes is_faulty ring = λ cl w. absurd (true≢false (sym w))
 
 pub new-firsts : (Known : Core → Type 0) (apart : NoCollision Known) (genesis : Known genesis_core) (sizes : Sizes)
     (is_faulty : ℕ → Bool) (ring : ℕ → Keyring) → AllFirst Known apart genesis (new_world sizes is_faulty ring)
@@ -132,6 +143,7 @@ reached sizes is_faulty ring hs last met e =
       votes = new-votes sizes is_faulty ring;
       requests = new-own sizes is_faulty ring;
       tallies = new-few sizes is_faulty ring;
+      asked = new-asked sizes is_faulty ring;
       firsts = new-firsts (KnownIn sizes w hs) apart genesis sizes is_faulty ring;
     })
     (known-along sizes w hs (new-sizes sizes is_faulty ring) met) e in
@@ -143,6 +155,7 @@ reached sizes is_faulty ring hs last met e =
       ruled = kept.ruled;
       requests = kept.requests;
       tallies = kept.tallies;
+      asked = kept.asked;
       firsts = kept.firsts;
       sent = λ s m x o. sent-known sizes w hs last end kept.well s m x o
           (ap (λ (y : World). y.sizes) (sym end) ∙ ((made-after w hs).sizes ∙ new-sizes sizes is_faulty ring));

@@ -1,7 +1,7 @@
 -- Correct replicas get blocks by asking for them.
 use Rattle.ids.specs.declared.limits.TheConstants.{MOST_BLOCKS, MOST_OF_HEIGHT, HEIGHT_LIMIT}
 use Rattle.ids.specs.declared.limits.TheConstants.{BELOW_HORIZON}
-use Rattle.std.specs.Prelude.{ℕ, suc, ◌≡◌, ◌==◌, ◌<◌, ◌≤◌, ◌+◌, ◌⊎◌, true, false, List, ◌∷◌}
+use Rattle.std.specs.Prelude.{ℕ, suc, ◌≡◌, ◌==◌, ◌<◌, ◌≤◌, ◌+◌, ◌⊎◌, true, false, List, ◌∷◌, ◌-◌}
 use Rattle.std.specs.Prelude.{map, length, count_by, Ok}
 use Rattle.std.specs.List.{AllByRecursion}
 use Rattle.definitions.specs.Lists.{Among, AreDistinct}
@@ -94,15 +94,15 @@ MissingBlocksAreFetched =
     (u : ℕ) (b : Block) (parent : Branch) → AheadOf (fetch_block (digest_of (b ∷ parent)) u) (λ w.
     MayFetch w u b parent → IsFetched w (after w (fetch_block (digest_of (b ∷ parent)) u w)) u (b ∷ parent))
 
--- A replica gained blocks of this branch alone, one of a height at most; but for what follows from these, it is as it
--- was.
+-- A replica gained blocks of this branch alone, above its horizon, one of a height at most; but for what follows from
+-- these, it is as it was.
 pub record OnlyGained (self : Identity) (x : Branch) (before now : Chronicle) : Type 0 where
   pub in_view : view self.sizes now ≡ view self.sizes before
   pub voted : voted_blocks now ≡ voted_blocks before
   pub forgotten : horizon now ≡ horizon before
   pub kept : (y : Branch) → Among y (window before) → Among y (window now)
   pub taken : (a : Admitted) → Among a (taken_blocks now) → Among a (taken_blocks before) ⊎ Extends x a.branch
-  pub longer : length (window now) ≤ length (window before) + length x
+  pub longer : length (window now) ≤ length (window before) + (length x - horizon before)
   pub heights : (h : ℕ)
       → count_by (λ y. length y == h) (window now) ≤ suc (count_by (λ y. length y == h) (window before))
 
@@ -127,7 +127,8 @@ pub record MayBring (w : World) (x : Branch) : Type 0 where
   pub each : OfCorrect w (λ r. (b : Block) (parent : Branch) → Extends x (b ∷ parent)
       → IsInReach (chronicle_of w r) (b ∷ parent)
       → Among (b ∷ parent) (window (chronicle_of w r)) ⊎ CanGet w (chronicle_of w r) b parent)
-  pub trees : OfCorrect w (λ r. length (window (chronicle_of w r)) + length x ≤ MOST_BLOCKS)
+  pub trees : OfCorrect w (λ r.
+      length (window (chronicle_of w r)) + (length x - horizon (chronicle_of w r)) ≤ MOST_BLOCKS)
   pub heights : OfCorrect w (λ r. (h : ℕ)
       → count_by (λ y. length y == h) (window (chronicle_of w r)) < MOST_OF_HEIGHT)
   pub low : length x < HEIGHT_LIMIT

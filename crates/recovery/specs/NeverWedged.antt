@@ -19,6 +19,7 @@ use Rattle.definitions.specs.Canonical.{is_canonical}
 use Rattle.definitions.specs.Worlds.{World, Sent, AcceptedBy, Event.submit, Happening, new_world}
 use Rattle.recovery.specs.Correct.{OfCorrect, AllGoOn, ShareKeys, chronicle_of, lock_of, view_of, correct_replicas}
 use Rattle.recovery.specs.Correct.{correct_with, amply}
+use Rattle.linear_law.specs.Law.{AfterEachRun}
 use Rattle.recovery.specs.Healing.{Phase, highest_locked, highest_voted, over_lock, heal}
 
 -- P holds of each world in which a run ends, where the run's premises hold, and hold of this phase after it
@@ -44,11 +45,12 @@ HasViews w = OfCorrect w (λ r. view_of w r + replicas w.sizes < 2 ^ 64)
 abbrev pub blocks_made : World → ℕ
 blocks_made w = (highest_voted w (correct_replicas w) - length (lock_of w (healer w))) + 6
 
--- There is room in each correct replica's tree for the blocks that healing brings and makes: two of each height, and
--- none too high.
+-- There is room in each correct replica's tree for the blocks that healing brings, above its horizon, and makes: two of
+-- each height, and none too high.
 pub record HasRoom (w : World) : Type 0 where
   pub trees : OfCorrect w (λ r.
-      length (window (chronicle_of w r)) + (length (ground_of w) + blocks_made w) ≤ MOST_BLOCKS)
+      length (window (chronicle_of w r)) + ((length (ground_of w) - horizon (chronicle_of w r)) + blocks_made w)
+      ≤ MOST_BLOCKS)
   pub heights : OfCorrect w (λ r. (h : ℕ)
       → count_by (λ x. length x == h) (window (chronicle_of w r)) + 2 ≤ MOST_OF_HEIGHT)
   pub low : length (lock_of w (healer w)) + blocks_made w < HEIGHT_LIMIT
@@ -86,17 +88,23 @@ pub record IsAsked (w : World) (k client : ℕ) : Type 0 where
   pub request : sent.frame ≡ frame.request command
   pub seq : command.seq ≡ (w.session client).used
 
+-- so it is of each correct client that waits
+abbrev pub WaitingClientsAsked : Type 0
+WaitingClientsAsked =
+    AfterEachRun (λ w. (client : ℕ) → client < w.sizes.clients → w.is_faulty (client_party client) ≡ false
+    → (w.session client).waiting ≡ true → (k : ℕ) × IsAsked w k client)
+
 -- the client has a receipt for its request of this number
 abbrev pub IsAnswered : World → ℕ → ℕ → Type 0
 IsAnswered w client seq =
     (r : AcceptedBy) × Among r w.receipts × (r.client ≡ client) × (r.receipt.seq ≡ seq)
 
 -- After any run whose premises hold, and hold of what heals it: where each correct replica goes on, views and room
--- are left, and nobody pruned what others lack, healing is refused no event, and the client has its receipt.
+-- are left, and nobody pruned what others lack, healing is refused no event, all go on, and the client has its receipt.
 abbrev pub NeverWedged : Type 0
 NeverWedged =
     (k client : ℕ) → AheadOf (heal k) (λ w. AreSizes w.sizes → MayHeal w → IsAsked w k client
-    → (last : World) × (run w (heal k w) ≡ Ok last) × IsAnswered last client (w.session client).used)
+    → (last : World) × (run w (heal k w) ≡ Ok last) × AllGoOn last × IsAnswered last client (w.session client).used)
 
 -- What it asks of a world can be met: so it is where a correct client made the first request of all, whoever is faulty.
 abbrev pub FirstRequestsMayHeal : Type 0

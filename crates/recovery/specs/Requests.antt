@@ -30,10 +30,10 @@ RequestsAreExecuted =
 -- ---- a receipt
 
 -- Where each correct replica executed a correct client's outstanding request, the client has its receipt once that
--- comes to them again, and their replies to it.
+-- comes to them again, and their replies to it; and all go on.
 abbrev pub RepliesConvince : Type 0
 RepliesConvince =
     (k client : ℕ) → AheadOf (ask_again k) (λ w. AreSizes w.sizes → ShareKeys w → AllGoOn w
     → (asked : IsAsked w k client) → OfCorrect w (λ r. Carries (executed (chronicle_of w r)) asked.command)
-    → (run w (ask_again k w) ≡ Ok (after w (ask_again k w)))
+    → (run w (ask_again k w) ≡ Ok (after w (ask_again k w))) × AllGoOn (after w (ask_again k w))
     × IsAnswered (after w (ask_again k w)) client (w.session client).used)

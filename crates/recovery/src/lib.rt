@@ -9,7 +9,17 @@ ghost use Rattle.recovery.specs.Fetching.{CopiesAreTaken, MissingBlocksAreFetche
 ghost use Rattle.recovery.specs.Rounds.{ProposalsAreTaken, ThreeMoreDecide, BurstsAreVotedFor, RoundsCertify};
 ghost use Rattle.recovery.specs.Rounds.{RoundsDecide};
 ghost use Rattle.recovery.specs.Requests.{RequestsAreExecuted, RepliesConvince};
-ghost use Rattle.recovery.specs.NeverWedged.{NeverWedged, FirstRequestsMayHeal};
+ghost use Rattle.recovery.specs.NeverWedged.{NeverWedged, FirstRequestsMayHeal, WaitingClientsAsked};
+
+/// Timeouts alone bring all correct replicas into any view that none of them passed; nothing else changes.
+pub fn timeouts_bring_together()
+    ensures { TimeoutsBringTogether }
+{}
+
+/// So they come into a view that a correct replica leads, while views are left.
+pub fn a_correct_leader_comes()
+    ensures { ACorrectLeaderComes }
+{}
 
 /// A correct replica of the highest lock: no correct lock is above it or beside it, so a block that justifies
 /// it is safe for all.
@@ -37,30 +47,9 @@ pub fn grounds_are_held()
     ensures { GroundsAreHeld }
 {}
 
-/// Timeouts alone bring all correct replicas into any view that none of them passed; nothing else changes.
-pub fn timeouts_bring_together()
-    ensures { TimeoutsBringTogether }
-{}
-
-/// So they come into a view that a correct replica leads, while views are left.
-pub fn a_correct_leader_comes()
-    ensures { ACorrectLeaderComes }
-{}
-
 /// A correct replica takes a block of which it gathers the copies of more than f correct ones.
 pub fn copies_are_taken()
     ensures { CopiesAreTaken }
-{}
-
-/// A correct replica takes a correct leader's block on grounds, and votes for it where it may.
-pub fn proposals_are_taken()
-    ensures { ProposalsAreTaken }
-{}
-
-/// A correct replica's highest certificate is for a block for which a quorum may have voted, or genesis; so it
-/// is no higher than what some correct replica voted for.
-pub fn highest_are_certified()
-    ensures { HighestAreCertified }
 {}
 
 /// A correct replica gets a block that it lacks by asking, where more than f correct replicas have it.
@@ -73,9 +62,9 @@ pub fn branches_are_brought()
     ensures { BranchesAreBrought }
 {}
 
-/// Who took three more blocks over a block, each certified by the next, executed that block.
-pub fn three_more_decide()
-    ensures { ThreeMoreDecide }
+/// A correct replica takes a correct leader's block on grounds, and votes for it where it may.
+pub fn proposals_are_taken()
+    ensures { ProposalsAreTaken }
 {}
 
 /// A leader's burst, from a block from which all may climb, ends with a block for which all vote.
@@ -83,9 +72,20 @@ pub fn bursts_are_voted_for()
     ensures { BurstsAreVotedFor }
 {}
 
+/// A correct replica's highest certificate is for a block for which a quorum may have voted, or genesis; so it
+/// is no higher than what some correct replica voted for.
+pub fn highest_are_certified()
+    ensures { HighestAreCertified }
+{}
+
 /// A leader's round leaves all correct replicas with certificates of their own for its last block.
 pub fn rounds_certify()
     ensures { RoundsCertify }
+{}
+
+/// Who took three more blocks over a block, each certified by the next, executed that block.
+pub fn three_more_decide()
+    ensures { ThreeMoreDecide }
 {}
 
 /// Rounds in turn decide the last block of the first, which carries the requests that waited.
@@ -96,6 +96,11 @@ pub fn rounds_decide()
 /// So a correct client's request is executed by all.
 pub fn requests_are_executed()
     ensures { RequestsAreExecuted }
+{}
+
+/// Whoever waits sent its request, so that it is in the record.
+pub fn waiting_clients_asked()
+    ensures { WaitingClientsAsked }
 {}
 
 /// And the client has its receipt, once its request comes to them again, and their replies to it.
