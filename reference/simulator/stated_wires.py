@@ -94,7 +94,8 @@ def dials():
     ends = {party: endpoint(party, held) for party, held in HELD.items()}
     hello = wires.greeting(GREETED).hex()
     yield f"greeting {GREETED.hex()}"
-    for party, acceptor in ((2, 0), (2, 1), (257, 0), (257, 2), (2, 3), (2, 2), (2, 257), (257, 257), (257, 256), (0, 2)):
+    pairs = [(2, 0), (2, 1), (257, 0), (257, 2), (2, 3), (2, 2), (2, 257), (257, 257), (257, 256), (0, 2)]
+    for party, acceptor in pairs:
         yield f"dial {spelled(ends[party])} {acceptor} {ASKED.hex()} {hello}"
     for words in (b"mcbft link 2\n", b"mcbft link 1\r", b"mcbft link 1\n"[::-1]):
         yield f"dial {spelled(ends[2])} 0 {ASKED.hex()} {(words + GREETED).hex()}"

@@ -69,8 +69,8 @@ named_with e greeted a tag peer answer None held mine h = absurd cc
 
 named_as : (e : Endpoint) (greeted : Bytes) (a : Ask) (tag : Bytes) (peer : Peer) (answer : Bytes) (b : Bool)
     → (b ≡ true → a.acceptor ≡ e.party)
-    → (let r : Result (Peer × Bytes) Refusal = (if b then admitted_by (link_key e.keys a.dialler e.party) e greeted a tag
-    else Err NotMine) in r) ≡ Ok (peer, answer)
+    → (let r : Result (Peer × Bytes) Refusal = (if b
+    then admitted_by (link_key e.keys a.dialler e.party) e greeted a tag else Err NotMine) in r) ≡ Ok (peer, answer)
     → Named e greeted a tag peer answer
 named_as e greeted a tag peer answer true mine h =
     named_with e greeted a tag peer answer (link_key e.keys a.dialler e.party) refl (mine refl) h
@@ -86,8 +86,10 @@ named e greeted bytes peer answer are h =
     record {
       is = record {
         party = subst (λ (p : ℕ). p < 2 ^ 16) n.party (two_bytes bytes are.each);
-        life = ap (λ (l : Bytes). length l) (sym n.life) ∙ (length-take 16 (drop 36 bytes) ∙ omega (arith, length-drop 36 bytes, are.len));
-        nonce = ap (λ (l : Bytes). length l) (sym n.nonce) ∙ (length-take 16 (drop 52 bytes) ∙ omega (arith, length-drop 52 bytes, are.len));
+        life = ap (λ (l : Bytes). length l) (sym n.life)
+            ∙ (length-take 16 (drop 36 bytes) ∙ omega (arith, length-drop 36 bytes, are.len));
+        nonce = ap (λ (l : Bytes). length l) (sym n.nonce)
+            ∙ (length-take 16 (drop 52 bytes) ∙ omega (arith, length-drop 52 bytes, are.len));
       };
       key = n.key;
       held = ap (λ (p : ℕ). link_key e.keys p e.party) (sym n.party) ∙ n.held;

@@ -30,8 +30,8 @@ ask_from e peer = record {
   nonce = peer.nonce;
 }
 
--- The bytes are the ask of a peer that may dial the endpoint which greeted with this nonce, under their key; and this is
--- the answer to it.
+-- The bytes are the ask of a peer that may dial the endpoint which greeted with this nonce, under their key; and this
+-- is the answer to it.
 pub record IsAskOf (e : Endpoint) (greeted bytes : Bytes) (peer : Peer) (answer : Bytes) : Type 0 where
   pub is : IsPeer peer
   pub key : Bytes

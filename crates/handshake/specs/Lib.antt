@@ -1,3 +1,4 @@
+pub mod Labels
 pub mod Texts
 pub mod Judging
 pub mod Laws

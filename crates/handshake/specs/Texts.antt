@@ -6,7 +6,8 @@ use Rattle.ids.specs.Sizes.{Sizes}
 use Rattle.definitions.specs.Bytes.{Bytes}
 use Rattle.definitions.specs.Tags.{hmac}
 use Rattle.handshake.specs.declared.ask.Ask.{Ask}
-use Rattle.handshake.specs.declared.texts.TheConstants.{ASK_LABEL, ANSWER_LABEL}
+use Rattle.handshake.specs.declared.label.Label.TheVariants as label
+use Rattle.handshake.specs.Labels.{label_number}
 
 -- the acceptor's first words, before its nonce
 abbrev pub greeting_words : Bytes
@@ -40,7 +41,7 @@ shared_text greeted a = greeted ++ a.nonce ++ a.sizes ++ a.life
 -- what the tag of an ask is made of
 abbrev pub ask_text : (greeted : Bytes) → Ask → Bytes
 ask_text greeted a =
-    ASK_LABEL ∷ to_be_bytes w16 a.dialler ++ to_be_bytes w16 a.acceptor ++ shared_text greeted a
+    label_number label.Ask ∷ to_be_bytes w16 a.dialler ++ to_be_bytes w16 a.acceptor ++ shared_text greeted a
 
 -- an ask, as it goes over a link
 abbrev pub ask_bytes : (key greeted : Bytes) → Ask → Bytes
@@ -64,7 +65,7 @@ ask_tag_in bytes = take 32 (drop 68 bytes)
 -- what the tag of an answer is made of: the parties change places, and the acceptor's life stands last
 abbrev pub answer_text : (greeted : Bytes) → Ask → (life : Bytes) → Bytes
 answer_text greeted a life =
-    ANSWER_LABEL ∷ to_be_bytes w16 a.acceptor ++ to_be_bytes w16 a.dialler ++ shared_text greeted a ++ life
+    label_number label.Answer ∷ to_be_bytes w16 a.acceptor ++ to_be_bytes w16 a.dialler ++ shared_text greeted a ++ life
 
 -- an answer, as it goes over a link: the acceptor's life and the tag
 abbrev pub answer_bytes : (key greeted : Bytes) → Ask → (life : Bytes) → Bytes

@@ -6,7 +6,7 @@ use crate::ask::Ask;
 use crate::parts::are_equal;
 use crate::peer::Peer;
 use crate::refusal::Refusal;
-use crate::texts::{ANSWER_LEN, ASK_LEN, answer_tag, ask_bytes, read_answer};
+use crate::texts::{AnswerBytes, AskBytes, answer_tag, ask_bytes, read_answer};
 use crate::words::Nonce;
 use std::marker::Model;
 
@@ -35,14 +35,14 @@ impl Dialling {
     }
 
     /// What the dialler sends.
-    pub fn ask(&self) -> [u8; ASK_LEN]
+    pub fn ask(&self) -> AskBytes
         ensures { result ≡ ask_bytes self.now.key self.now.greeted self.now.ask }
     {
         ask_bytes(&self.key, self.greeted, &self.ask)
     }
 
     /// The acceptor, where these bytes are its answer; else `BadTag`. An acceptor with other sizes gives none.
-    pub fn hear(&self, answer: &[u8; ANSWER_LEN]) -> Result<Peer, Refusal>
+    pub fn hear(&self, answer: &AnswerBytes) -> Result<Peer, Refusal>
         ensures { result ≡ heard self.now answer.now }
     {
         let (life, tag) = read_answer(answer);

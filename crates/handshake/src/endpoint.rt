@@ -9,7 +9,8 @@ use crate::parts::are_equal;
 use crate::peer::Peer;
 use crate::refusal::Refusal;
 use crate::texts::{
-    ANSWER_LEN, ASK_LEN, GREETING_LEN, answer_bytes, ask_tag, read_ask, read_greeting, sizes_digest,
+    AnswerBytes, AskBytes, GreetingBytes, answer_bytes, ask_tag, read_ask, read_greeting,
+    sizes_digest,
 };
 use crate::words::{Life, Nonce};
 use ids::{Config, PartyId};
@@ -74,12 +75,14 @@ impl Endpoint {
         find_key(&self.keys, dialler, acceptor)
     }
 
-    /// Begins a handshake with an acceptor that greeted so, with a nonce that is made for it. `NotAGreeting` where the
-    /// greeting has other words; `NotAParty` where no key is held with that party, or this one's number isn't the higher.
+    /// Begins a handshake with an acceptor that greeted so, with a nonce that is made for it.
+    ///
+    /// `NotAGreeting` where the greeting has other words; `NotAParty` where no key is held with that party, or this
+    /// one's number isn't the higher.
     pub fn dial(
         &self,
         acceptor: PartyId,
-        greeting: &[u8; GREETING_LEN],
+        greeting: &GreetingBytes,
         nonce: Nonce,
     ) -> Result<Dialling, Refusal>
         ensures { result ≡ dialled self.now acceptor greeting.now nonce }
@@ -100,14 +103,10 @@ impl Endpoint {
 
     /// Who asks, and the answer to it, where this party greeted with this nonce.
     ///
-    /// `NotMine` where another party is asked; `NotAParty` where no key is held with the dialler, or its number isn't the
-    /// higher; `BadTag` where the tag isn't right for what is said; `OtherSizes` only then: so a warning of other sizes
-    /// comes from who holds the key.
-    pub fn admit(
-        &self,
-        greeted: Nonce,
-        bytes: &[u8; ASK_LEN],
-    ) -> Result<(Peer, [u8; ANSWER_LEN]), Refusal>
+    /// `NotMine` where another party is asked; `NotAParty` where no key is held with the dialler, or its number isn't
+    /// the higher; `BadTag` where the tag isn't right for what is said; `OtherSizes` only behind that: so a warning of
+    /// other sizes comes from who holds the key.
+    pub fn admit(&self, greeted: Nonce, bytes: &AskBytes) -> Result<(Peer, AnswerBytes), Refusal>
         ensures { result ≡ admitted self.now greeted bytes.now }
     {
         let (ask, tag) = read_ask(bytes);

@@ -9,7 +9,8 @@ pub fn an_ask_is_admitted_exactly()
     ensures { AdmitsExactly }
 {}
 
-/// A dialler names a peer exactly where the bytes are the answer to what it asked, with the tag under the key of the two.
+/// A dialler names a peer exactly where the bytes are the answer to what it asked, with the tag under the key of the
+/// two.
 pub fn an_answer_is_heard_exactly()
     ensures { HearsExactly }
 {}

@@ -7,6 +7,7 @@
 mod ask;
 mod dialling;
 mod endpoint;
+mod label;
 mod laws;
 mod parts;
 mod peer;
@@ -22,5 +23,5 @@ pub use laws::{
 };
 pub use peer::Peer;
 pub use refusal::Refusal;
-pub use texts::{ANSWER_LEN, ASK_LEN, GREETING_LEN, greeting};
+pub use texts::{AnswerBytes, AskBytes, GreetingBytes, greeting};
 pub use words::{Life, Nonce};

@@ -1,11 +1,13 @@
 //! What the two ends say, byte by byte.
 
 ghost use Rattle.std.specs.Prelude.{◌≡◌, Some, None, if◌then◌else◌};
-ghost use Rattle.handshake.specs.Texts.{greeting_bytes, is_greeting, nonce_in, sizes_digest, ask_head, ask_text, ask_bytes, ask_in, ask_tag_in};
+ghost use Rattle.handshake.specs.Texts.{greeting_bytes, is_greeting, nonce_in, sizes_digest, ask_head};
+ghost use Rattle.handshake.specs.Texts.{ask_text, ask_bytes, ask_in, ask_tag_in};
 ghost use Rattle.definitions.specs.Tags.{hmac};
 ghost use Rattle.handshake.specs.Texts.{answer_text, answer_bytes, answer_life_in, answer_tag_in};
 
 use crate::ask::Ask;
+use crate::label::Label;
 use crate::parts::{join, part};
 use crate::words::{Life, Nonce};
 use authenticators::hmac;
@@ -15,33 +17,24 @@ use sha2::{Digest, Sha256};
 /// The acceptor's first words.
 const WORDS: &[u8; 13] = b"mcbft link 1\n";
 
-/// The label of an ask's tag: the number of no kind of frame.
-pub(crate) const ASK_LABEL: u8 = 8;
-
-/// The label of an answer's tag.
-pub(crate) const ANSWER_LABEL: u8 = 9;
-
 /// The bytes of a greeting: the words, and the acceptor's nonce.
-pub const GREETING_LEN: usize = 29;
+pub type GreetingBytes = [u8; 29];
 
 /// The bytes of an ask: dialler, acceptor, digest of its sizes, life, nonce, tag.
-pub const ASK_LEN: usize = 100;
+pub type AskBytes = [u8; 100];
 
 /// The bytes of an answer: life, tag.
-pub const ANSWER_LEN: usize = 48;
-
-/// The bytes of an ask before its tag.
-const HEAD_LEN: usize = 68;
+pub type AnswerBytes = [u8; 48];
 
 /// What an acceptor says at once, with a nonce that it makes for this handshake.
-pub fn greeting(nonce: Nonce) -> [u8; GREETING_LEN]
+pub fn greeting(nonce: Nonce) -> GreetingBytes
     ensures { result ≡ greeting_bytes nonce }
 {
     join(&[WORDS, &nonce.0])
 }
 
 /// The nonce of a greeting, where the bytes are one.
-pub(crate) fn read_greeting(bytes: &[u8; GREETING_LEN]) -> Option<Nonce>
+pub(crate) fn read_greeting(bytes: &GreetingBytes) -> Option<Nonce>
     ensures { result ≡ (if is_greeting bytes.now then Some (nonce_in bytes.now) else None) }
 {
     if part::<13>(bytes, 0) == *WORDS {
@@ -61,7 +54,7 @@ pub(crate) fn sizes_digest(config: &Config) -> [u8; 32]
 }
 
 /// What an ask says before its tag.
-fn ask_head(ask: &Ask) -> [u8; HEAD_LEN]
+fn ask_head(ask: &Ask) -> [u8; 68]
     ensures { result ≡ ask_head ask.now }
 {
     join(&[
@@ -78,7 +71,7 @@ pub(crate) fn ask_tag(key: &[u8; 32], greeted: Nonce, ask: &Ask) -> [u8; 32]
     ensures { result ≡ hmac key.now (ask_text greeted ask.now) }
 {
     let text: [u8; 85] = join(&[
-        &[ASK_LABEL],
+        &[Label::Ask.number()],
         &ask.dialler.0.to_be_bytes(),
         &ask.acceptor.0.to_be_bytes(),
         &greeted.0,
@@ -90,14 +83,14 @@ pub(crate) fn ask_tag(key: &[u8; 32], greeted: Nonce, ask: &Ask) -> [u8; 32]
 }
 
 /// An ask, as it goes over a link.
-pub(crate) fn ask_bytes(key: &[u8; 32], greeted: Nonce, ask: &Ask) -> [u8; ASK_LEN]
+pub(crate) fn ask_bytes(key: &[u8; 32], greeted: Nonce, ask: &Ask) -> AskBytes
     ensures { result ≡ ask_bytes key.now greeted ask.now }
 {
     join(&[&ask_head(ask), &ask_tag(key, greeted, ask)])
 }
 
 /// What stands in an ask, and its tag.
-pub(crate) fn read_ask(bytes: &[u8; ASK_LEN]) -> (Ask, [u8; 32])
+pub(crate) fn read_ask(bytes: &AskBytes) -> (Ask, [u8; 32])
     ensures ask { result.0 ≡ ask_in bytes.now }
     ensures tag { result.1 ≡ ask_tag_in bytes.now }
 {
@@ -108,7 +101,7 @@ pub(crate) fn read_ask(bytes: &[u8; ASK_LEN]) -> (Ask, [u8; 32])
         life: Life(part(bytes, 36)),
         nonce: Nonce(part(bytes, 52)),
     };
-    (ask, part(bytes, HEAD_LEN))
+    (ask, part(bytes, 68))
 }
 
 /// The tag of an answer to an ask, in the acceptor's life.
@@ -116,7 +109,7 @@ pub(crate) fn answer_tag(key: &[u8; 32], greeted: Nonce, ask: &Ask, life: Life) 
     ensures { result ≡ hmac key.now (answer_text greeted ask.now life) }
 {
     let text: [u8; 101] = join(&[
-        &[ANSWER_LABEL],
+        &[Label::Answer.number()],
         &ask.acceptor.0.to_be_bytes(),
         &ask.dialler.0.to_be_bytes(),
         &greeted.0,
@@ -129,12 +122,7 @@ pub(crate) fn answer_tag(key: &[u8; 32], greeted: Nonce, ask: &Ask, life: Life) 
 }
 
 /// An answer, as it goes over a link.
-pub(crate) fn answer_bytes(
-    key: &[u8; 32],
-    greeted: Nonce,
-    ask: &Ask,
-    life: Life,
-) -> [u8; ANSWER_LEN]
+pub(crate) fn answer_bytes(key: &[u8; 32], greeted: Nonce, ask: &Ask, life: Life) -> AnswerBytes
     ensures { result ≡ answer_bytes key.now greeted ask.now life }
 {
     let tag = answer_tag(key, greeted, ask, life);
@@ -142,7 +130,7 @@ pub(crate) fn answer_bytes(
 }
 
 /// The life that stands in an answer, and its tag.
-pub(crate) fn read_answer(bytes: &[u8; ANSWER_LEN]) -> (Life, [u8; 32])
+pub(crate) fn read_answer(bytes: &AnswerBytes) -> (Life, [u8; 32])
     ensures life { result.0 ≡ answer_life_in bytes.now }
     ensures tag { result.1 ≡ answer_tag_in bytes.now }
 {

@@ -36,8 +36,8 @@ empty most = record { frames = []; most = most; lost = 0; is_open = true }
 abbrev pub closed : Waiting → Waiting
 closed w = record w { frames = []; lost = counted w.lost (length w.frames); is_open = false }
 
--- So many frames from the front are a batch: one at least where one waits, more only of so many bytes, and with the next
--- one they would have more.
+-- So many frames from the front are a batch: one at least where one waits, more only of so many bytes, and with the
+-- next one they would have more.
 pub record IsBatch (most : ℕ) (frames : List Bytes) (count : ℕ) : Type 0 where
   pub within : count ≤ length frames
   pub some : 0 < length frames → 0 < count

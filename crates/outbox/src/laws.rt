@@ -2,8 +2,8 @@
 
 ghost use Rattle.outbox.specs.Laws.{GivesWhatWasKept, CountsWhatIsLost};
 
-/// Over all calls of an outbox, what was taken or let go at a closing, and then what waits, are the frames that were kept,
-/// in order, each once.
+/// Over all calls of an outbox, what was taken or let go at a closing, and then what waits, are the frames that were
+/// kept, in order, each once.
 pub fn an_outbox_gives_what_was_kept()
     ensures { GivesWhatWasKept }
 {}

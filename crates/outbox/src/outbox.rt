@@ -1,5 +1,5 @@
-ghost use Rattle.std.specs.Prelude.{◌≡◌, ◌+◌, ◌≤◌, [], ◌∷◌, ◌++◌, ℕ, length, take, drop, nat_lt, nat_eq, OnOk, OnErr, MatchBool};
-ghost use Rattle.std.specs.Prelude.{◌<◌, true, vec_len, vec_capacity};
+ghost use Rattle.std.specs.Prelude.{◌≡◌, ◌+◌, ◌<◌, ◌≤◌, [], ◌∷◌, ◌++◌, ℕ, length, take, drop, nat_lt, nat_eq};
+ghost use Rattle.std.specs.Prelude.{OnOk, OnErr, MatchBool, true, vec_len, vec_capacity};
 ghost use Rattle.outbox.specs.Waiting.{IsBatch, closed, cost, cost_of, counted, empty};
 
 use crate::batch::batch_len;

@@ -1,7 +1,8 @@
 //! Fields of lines, and bytes as these spell them and as they are told.
 //!
-//! A field of bytes is hexadecimal, or parts with `+` between them, of which a part `HH*COUNT` is one byte so many times; `-` is no
-//! bytes. Of more than 64 bytes the length and the first half of the SHA-256 digest are told, with `:` between them.
+//! A field of bytes is hexadecimal, or parts with `+` between them, of which a part `HH*COUNT` is one byte so many
+//! times; `-` is no bytes. Of more than 64 bytes the length and the first half of the SHA-256 digest are told, with `:`
+//! between them.
 
 use anyhow::{Context, Result};
 use hex::FromHex;

@@ -2,18 +2,19 @@
 //!
 //! - Of `greeting NONCE` the greeting is told.
 //! - Of `dial ENDPOINT ACCEPTOR NONCE GREETING` the ask, or why there is none.
-//! - Of `admit ENDPOINT NONCE ASK`, of an endpoint that greeted with the nonce, who asks, that party's life and nonce, and
-//!   the answer; or why nobody is named.
-//! - Of `hear ENDPOINT ACCEPTOR NONCE GREETING ANSWER` who answers, that party's life and nonce; or why nobody is named.
-//! - Of `dial-row`, `admit-row` and `hear-row`, with a mask behind these fields, the last bytes are taken with each byte in
-//!   turn changed by exclusive or with the mask, and a letter is told of each: `.` where somebody is named or asked, else
-//!   that of the refusal.
+//! - Of `admit ENDPOINT NONCE ASK`, of an endpoint that greeted with the nonce, who asks, that party's life and nonce,
+//!   and the answer; or why nobody is named.
+//! - Of `hear ENDPOINT ACCEPTOR NONCE GREETING ANSWER` who answers, that party's life and nonce; or why nobody is
+//!   named.
+//! - Of `dial-row`, `admit-row` and `hear-row`, with a mask behind these fields, the last bytes are taken with each
+//!   byte in turn changed by exclusive or with the mask, and a letter is told of each: `.` where somebody is named or
+//!   asked, else that of the refusal.
 
 use crate::endpoints::{endpoint_of, party_of};
 use crate::fields::{array_of, next};
 use anyhow::{Result, bail};
 use handshake::{
-    ANSWER_LEN, ASK_LEN, Dialling, Endpoint, GREETING_LEN, Nonce, Peer, Refusal, greeting,
+    AnswerBytes, AskBytes, Dialling, Endpoint, GreetingBytes, Nonce, Peer, Refusal, greeting,
 };
 use ids::PartyId;
 use std::alloc::Global;
@@ -65,7 +66,7 @@ struct Dial {
     endpoint: Endpoint,
     acceptor: PartyId,
     nonce: Nonce,
-    greeting: [u8; GREETING_LEN],
+    greeting: GreetingBytes,
 }
 
 impl Dial {
@@ -78,7 +79,7 @@ impl Dial {
         })
     }
 
-    fn with(&self, greeting: &[u8; GREETING_LEN]) -> Result<Dialling, Refusal> {
+    fn with(&self, greeting: &GreetingBytes) -> Result<Dialling, Refusal> {
         self.endpoint.dial(self.acceptor, greeting, self.nonce)
     }
 
@@ -91,7 +92,7 @@ impl Dial {
 
     fn row(&self, alloc: Global, mask: u8) -> Result<String> {
         let mut row = String::new(alloc);
-        for place in 0..GREETING_LEN {
+        for place in 0..self.greeting.len() {
             row.push(letter_of(self.with(&changed(&self.greeting, place, mask))))?;
         }
         Ok(row)
@@ -99,12 +100,7 @@ impl Dial {
 }
 
 /// What an endpoint that greeted with a nonce says of an ask.
-fn admit_told(
-    alloc: Global,
-    endpoint: &Endpoint,
-    nonce: Nonce,
-    ask: &[u8; ASK_LEN],
-) -> Result<String> {
+fn admit_told(alloc: Global, endpoint: &Endpoint, nonce: Nonce, ask: &AskBytes) -> Result<String> {
     match endpoint.admit(nonce, ask) {
         Ok(named) => {
             let (peer, answer) = named;
@@ -120,18 +116,18 @@ fn admit_row(
     alloc: Global,
     endpoint: &Endpoint,
     nonce: Nonce,
-    ask: &[u8; ASK_LEN],
+    ask: &AskBytes,
     mask: u8,
 ) -> Result<String> {
     let mut row = String::new(alloc);
-    for place in 0..ASK_LEN {
+    for place in 0..ask.len() {
         row.push(letter_of(endpoint.admit(nonce, &changed(ask, place, mask))))?;
     }
     Ok(row)
 }
 
 /// What a dialler says of an answer.
-fn hear_told(alloc: Global, dialling: &Dialling, answer: &[u8; ANSWER_LEN]) -> Result<String> {
+fn hear_told(alloc: Global, dialling: &Dialling, answer: &AnswerBytes) -> Result<String> {
     match dialling.hear(answer) {
         Ok(peer) => peer_told(alloc, &peer),
         Err(refusal) => refusal_told(alloc, refusal),
@@ -139,14 +135,9 @@ fn hear_told(alloc: Global, dialling: &Dialling, answer: &[u8; ANSWER_LEN]) -> R
 }
 
 /// The same of the answer with each byte in turn changed.
-fn hear_row(
-    alloc: Global,
-    dialling: &Dialling,
-    answer: &[u8; ANSWER_LEN],
-    mask: u8,
-) -> Result<String> {
+fn hear_row(alloc: Global, dialling: &Dialling, answer: &AnswerBytes, mask: u8) -> Result<String> {
     let mut row = String::new(alloc);
-    for place in 0..ANSWER_LEN {
+    for place in 0..answer.len() {
         row.push(letter_of(dialling.hear(&changed(answer, place, mask))))?;
     }
     Ok(row)

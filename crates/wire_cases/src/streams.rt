@@ -2,8 +2,8 @@
 //!
 //! - Of `longest FAULTS` the length of the longest frame is told.
 //! - Of `put FAULTS FRAME ..` a word for each frame, `put` or why not, and then what goes over the wire.
-//! - Of `pieces FAULTS STREAM LENGTH ..` what a feed gives of the stream in pieces of the first length: `ping`, or a frame,
-//!   and at last `more` or why nothing more comes; then how many of the lengths give the same.
+//! - Of `pieces FAULTS STREAM LENGTH ..` what a feed gives of the stream in pieces of the first length: `ping`, or a
+//!   frame, and at last `more` or why nothing more comes; then how many of the lengths give the same.
 //! - Of `cuts FAULTS STREAM` the same of the whole, and how many of its cuts in two give the same.
 //! - Of `room FAULTS LENGTH` how many pieces of that length a new feed takes in.
 
@@ -11,7 +11,10 @@ use crate::fields::{bytes_of, told};
 use anyhow::{Context, Result, bail};
 use ids::Config;
 use std::alloc::Global;
-use wire_frames::{Feed, Item, PIECE, WireFault, longest_frame, put};
+use wire_frames::{Feed, Item, WireFault, longest_frame, put};
+
+/// The longest piece.
+const PIECE: usize = 65_536;
 
 /// The words of what a feed gave.
 #[derive(Drop)]
@@ -72,7 +75,7 @@ impl Given {
 
 /// What is given of a stream that comes in pieces of so many bytes.
 fn in_pieces(alloc: Global, config: &Config, stream: &[u8], step: usize) -> Result<String> {
-    let mut feed = Feed::new(alloc, config)?;
+    let mut feed = Feed::new(alloc, config, PIECE)?;
     let mut given = Given::new(alloc);
     for piece in stream.chunks(step.max(1)) {
         given.take(alloc, &mut feed, piece)?;
@@ -104,7 +107,7 @@ fn cuts(alloc: Global, config: &Config, stream: &[u8]) -> Result<String> {
     let whole = in_pieces(alloc, config, stream, PIECE)?;
     let mut alike = 0u64;
     for at in 0..=stream.len() {
-        let mut feed = Feed::new(alloc, config)?;
+        let mut feed = Feed::new(alloc, config, PIECE)?;
         let mut given = Given::new(alloc);
         given.take(alloc, &mut feed, &stream[..at])?;
         given.take(alloc, &mut feed, &stream[at..])?;
@@ -131,7 +134,7 @@ fn put_all(alloc: Global, config: &Config, frames: &str) -> Result<String> {
 
 /// How many pieces of so many bytes a new feed takes in.
 fn room(alloc: Global, config: &Config, len: usize) -> Result<String> {
-    let mut feed = Feed::new(alloc, config)?;
+    let mut feed = Feed::new(alloc, config, PIECE)?;
     let piece = vec![in alloc; 0u8; len]?;
     for count in 0..1_000_000u32 {
         if let Err(fault) = feed.push(&piece) {

@@ -4,7 +4,6 @@ use Rattle.std.specs.Prelude.{Some, None, Result, Ok, Err, ⊤}
 use Rattle.std.specs.Int.{w32, to_be_bytes, from_be_bytes}
 use Rattle.std.specs.List.{flat_map, AllByRecursion}
 use Rattle.definitions.specs.Bytes.{Bytes}
-use Rattle.wire_frames.specs.declared.feed.TheConstants.{PIECE}
 use Rattle.wire_frames.specs.declared.item.Item.{Item}
 use Rattle.wire_frames.specs.declared.item.Item.TheVariants.{Frame, Ping}
 use Rattle.wire_frames.specs.declared.wire_fault.WireFault.{WireFault}
@@ -38,14 +37,15 @@ IsTooLong longest bytes = (length_len ≤ length bytes) × (longest < told bytes
 
 -- ---- a feed
 
--- what a feed is: the longest frame that it takes, and the bytes that it holds
+-- what a feed is: the longest frame that it takes, the longest piece, and the bytes that it holds
 pub record Holding : Type 0 where
   pub longest : ℕ
+  pub piece : ℕ
   pub held : Bytes
 
 -- how many bytes it has room for: those of a frame and its length, and a piece more
-abbrev pub most_held : ℕ → ℕ
-most_held longest = length_len + longest + PIECE
+abbrev pub most_held : (longest piece : ℕ) → ℕ
+most_held longest piece = length_len + longest + piece
 
 -- what a call says of what is held
 pub data Answer : Type 0 where
@@ -120,9 +120,9 @@ abbrev pub GivesWhatWasPushed : Type 0
 GivesWhatWasPushed = (longest : ℕ) (calls : List Call) (held : Bytes) → Lead longest [] calls held
     → all_pushed calls ≡ stream (all_given calls) ++ held
 
--- Where the bytes are the beginning of frames that were put, none of them too long: none is refused, those given are the
--- first of them, and what is held is the beginning of the others. Once nothing is coming and nothing whole is held, all
--- were given.
+-- Where the bytes are the beginning of frames that were put, none of them too long: none is refused, those given are
+-- the first of them, and what is held is the beginning of the others. Once nothing is coming and nothing whole is
+-- held, all were given.
 abbrev pub GivesWhatWasPut : Type 0
 GivesWhatWasPut = (longest : ℕ) (frames : List Bytes) (calls : List Call) (held coming : Bytes) → longest < 2 ^ 32
     → AllByRecursion (λ frame. length frame ≤ longest) frames
@@ -137,5 +137,5 @@ GivesNothingMore = (longest : ℕ) (calls : List Call) (held left : Bytes) → l
 
 -- Once nothing whole is held, there is room for a piece.
 abbrev pub HasRoomForAPiece : Type 0
-HasRoomForAPiece = (longest : ℕ) (held bytes : Bytes) → IsUnfinished longest held → length bytes ≤ PIECE
-    → length held + length bytes ≤ most_held longest
+HasRoomForAPiece = (longest piece : ℕ) (held bytes : Bytes) → IsUnfinished longest held → length bytes ≤ piece
+    → length held + length bytes ≤ most_held longest piece

@@ -31,7 +31,7 @@ pub fn a_feed_gives_nothing_after_a_refusal()
     ensures { GivesNothingMore }
 {}
 
-/// Once `next` found nothing whole, `PIECE` bytes can be pushed.
+/// Once `next` found nothing whole, a piece can be pushed.
 pub fn a_feed_has_room_for_a_piece()
     ensures { HasRoomForAPiece }
 {}

@@ -11,7 +11,7 @@ mod longest;
 mod wire_fault;
 mod writing;
 
-pub use feed::{Feed, PIECE};
+pub use feed::Feed;
 pub use item::Item;
 pub use laws::{
     a_feed_gives_nothing_after_a_refusal, a_feed_gives_what_was_pushed, a_feed_gives_what_was_put,
