@@ -1,9 +1,10 @@
 -- What an outbox gives and counts over a history of calls.
-use Rattle.std.proofs.Common.{◌≡◌, ◌∙◌, ◌+◌, ◌^◌, ◌<◌, List, [], ◌∷◌, ◌++◌, length, sym, ap, arith}
+use Rattle.std.proofs.Common.{◌≡◌, ◌∙◌, ◌+◌, ◌^◌, ◌<◌, ◌≤◌, List, [], ◌∷◌, ◌++◌, length, sym, ap, arith}
 use Rattle.std.proofs.Common.{append_assoc, length-append, true}
 use Rattle.std.proofs.lemmas.List.{append-nil}
 use Rattle.definitions.specs.Bytes.{Bytes}
-use Rattle.outbox.specs.Waiting.{Waiting, counted, closed}
+use Rattle.std.proofs.lemmas.List.Sums.{sum_by-append}
+use Rattle.outbox.specs.Waiting.{Waiting, cost_of, cost, counted, closed}
 use Rattle.outbox.specs.Laws.{Call, kept, lost, took, closes, reopens, Lead, all_kept, all_left, all_taken, puts}
 
 pub in_order : (calls : List Call) (w new : Waiting) → Lead w calls new
@@ -11,7 +12,7 @@ pub in_order : (calls : List Call) (w new : Waiting) → Lead w calls new
 in_order [] w new h = append-nil w.frames ∙ ap (λ (v : Waiting). v.frames) (sym h)
 in_order (kept frame ∷ calls) w new h =
     sym (append_assoc w.frames (frame ∷ []) (all_kept calls))
-    ∙ in_order calls (record w { frames = w.frames ++ frame ∷ [] }) new h
+    ∙ in_order calls (record w { frames = w.frames ++ frame ∷ [] }) new h.1
 in_order (lost ∷ calls) w new h = in_order calls (record w { lost = counted w.lost 1 }) new h
 in_order (took frames ∷ calls) w new h =
     ap (λ (l : List Bytes). l ++ all_kept calls) h.1
@@ -34,7 +35,7 @@ each_counted (kept frame ∷ calls) w new h few =
     omega (
       arith,
       more,
-      each_counted calls (record w { frames = w.frames ++ frame ∷ [] }) new h (omega (arith, more, few)),
+      each_counted calls (record w { frames = w.frames ++ frame ∷ [] }) new h.1 (omega (arith, more, few)),
     )
 each_counted (lost ∷ calls) w new h few =
     let one : counted w.lost 1 ≡ w.lost + 1 = omega (arith, few) in
@@ -56,3 +57,16 @@ each_counted (closes frames ∷ calls) w new h few =
     let all : counted w.lost (length w.frames) ≡ w.lost + length w.frames = omega (arith, few) in
     omega (arith, all, each_counted calls (closed w) new h.1 (omega (arith, all, few)))
 each_counted (reopens ∷ calls) w new h few = each_counted calls (record w { is_open = true }) new h few
+
+pub within_bound : (calls : List Call) (w new : Waiting) → Lead w calls new → cost w.frames ≤ w.most
+    → cost new.frames ≤ w.most
+within_bound [] w new h fits = omega (arith, ap (λ (v : Waiting). cost v.frames) h, fits)
+within_bound (kept frame ∷ calls) w new h fits =
+    within_bound calls (record w { frames = w.frames ++ frame ∷ [] }) new h.1
+    (omega (arith, h.0, sum_by-append cost_of w.frames (frame ∷ [])))
+within_bound (lost ∷ calls) w new h fits = within_bound calls (record w { lost = counted w.lost 1 }) new h fits
+within_bound (took frames ∷ calls) w new h fits =
+    within_bound calls (record w { frames = h.0 }) new h.2
+    (omega (arith, fits, ap (λ (l : List Bytes). cost l) h.1, sum_by-append cost_of frames h.0))
+within_bound (closes frames ∷ calls) w new h fits = within_bound calls (closed w) new h.1 (omega arith)
+within_bound (reopens ∷ calls) w new h fits = within_bound calls (record w { is_open = true }) new h fits

@@ -1,7 +1,7 @@
 -- What holds of an outbox over a whole history of calls.
-use Rattle.std.specs.Prelude.{◌≡◌, ℕ, suc, ◌+◌, ◌^◌, ◌<◌, List, [], ◌∷◌, ◌++◌, length, true}
+use Rattle.std.specs.Prelude.{◌≡◌, ℕ, suc, ◌+◌, ◌^◌, ◌<◌, ◌≤◌, List, [], ◌∷◌, ◌++◌, length, true}
 use Rattle.definitions.specs.Bytes.{Bytes}
-use Rattle.outbox.specs.Waiting.{Waiting, counted, empty, closed}
+use Rattle.outbox.specs.Waiting.{Waiting, cost_of, cost, counted, empty, closed}
 
 -- a call of an outbox, and what came of it
 pub data Call : Type 0 where
@@ -14,7 +14,8 @@ pub data Call : Type 0 where
 -- these calls, one after the other, lead from one state to another
 abbrev pub Lead : Waiting → List Call → Waiting → Type 0
 Lead w [] new = new ≡ w
-Lead w (kept frame ∷ calls) new = Lead (record w { frames = w.frames ++ frame ∷ [] }) calls new
+Lead w (kept frame ∷ calls) new =
+    (cost w.frames + cost_of frame ≤ w.most) × Lead (record w { frames = w.frames ++ frame ∷ [] }) calls new
 Lead w (lost ∷ calls) new = Lead (record w { lost = counted w.lost 1 }) calls new
 Lead w (took frames ∷ calls) new =
     (rest : List Bytes) × (w.frames ≡ frames ++ rest) × Lead (record w { frames = rest }) calls new
@@ -66,3 +67,8 @@ GivesWhatWasKept = (most : ℕ) (calls : List Call) (w : Waiting) → Lead (empt
 abbrev pub CountsWhatIsLost : Type 0
 CountsWhatIsLost = (most : ℕ) (calls : List Call) (w : Waiting) → Lead (empty most) calls w → puts calls < 2 ^ 64
     → puts calls ≡ length (all_taken calls) + length w.frames + w.lost
+
+-- What waits never costs more than it may.
+abbrev pub StaysWithinItsBound : Type 0
+StaysWithinItsBound = (most : ℕ) (calls : List Call) (w : Waiting) → Lead (empty most) calls w
+    → cost w.frames ≤ most

@@ -7,6 +7,8 @@ mod laws;
 mod outbox;
 mod refusal;
 
-pub use laws::{an_outbox_counts_what_is_lost, an_outbox_gives_what_was_kept};
+pub use laws::{
+    an_outbox_counts_what_is_lost, an_outbox_gives_what_was_kept, an_outbox_stays_within_its_bound,
+};
 pub use outbox::Outbox;
 pub use refusal::Refusal;
