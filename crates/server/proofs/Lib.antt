@@ -1,1 +1,2 @@
-mod Judging
+mod Filling
+mod Lending

@@ -1,44 +1,96 @@
 -- How a deployment ends.
-use Rattle.std.specs.Prelude.{◌≡◌, ◌⊎◌, List, ⊤}
+use Rattle.std.specs.Prelude.{ℕ, ◌≡◌, ◌<◌, ◌≤◌, ◌⊎◌, Bool, not, Option, Some, List, length, map, ⊤}
+use Rattle.std.specs.List.{filter, slice_get}
+use Rattle.ids.specs.declared.limits.TheConstants.{MOST_REPLICAS}
 use Rattle.ids.specs.declared.fault.Fault.{Fault}
 use Rattle.ids.specs.declared.fault.Fault.TheVariants.{Memory, AcceptFailed, NoSuchParty, TooFew}
 use Rattle.std.specs.Borrow.{Bor}
 use Rattle.definitions.specs.Audit.{IsVerdict, HistoriesAgree}
+use Rattle.definitions.specs.Chronicles.{was_pruned}
 use Rattle.definitions.specs.Digests.{NoCollision}
 use Rattle.definitions.specs.WindowAudit.{WindowsShow}
 use Rattle.audit_ground.specs.Law.{KnownTo}
 use Rattle.replica.specs.Steps.{Held}
+use Rattle.locked_replica.specs.Kept.{KeptState}
 use Rattle.audit.specs.Judged.{judged, AreEnough}
 use Rattle.audit.specs.Verdicts.{verdict_of, window_verdict_of}
 use Rattle.audit.specs.declared.verdict.Verdict.{Verdict}
 use Rattle.audit.specs.declared.verdict.WindowVerdict.{WindowVerdict}
 use Rattle.audit.specs.declared.verdict.WindowVerdict.TheVariants.{Agree}
 use Rattle.server.specs.declared.ending.EndAudit.{EndAudit}
-use Rattle.server.specs.declared.ending.EndAudit.TheVariants.{Whole, Windows}
+use Rattle.server.specs.declared.ending.EndAudit.TheVariants.{Whole, Part, Windows}
 
--- what an audit says of some replicas of the same sizes, a quorum of them at least, each once
-pub record IsOfAudit (verdict : Verdict) : Type 0 where
-  pub replicas : List (Bor Held)
-  pub enough : AreEnough replicas
-  pub is : IsVerdict (judged replicas) (verdict_of verdict)
+-- what a kept replica is to those who judge it
+abbrev pub held_of : KeptState → Held
+held_of kept = record { keys = kept.keys; replica = kept.replica }
 
--- What the windows of some replicas of the same sizes show, a quorum of them at least, each once. Where they
--- agree, and no two cores that these replicas ever knew collide, the histories agree.
-pub record IsOfWindows (verdict : WindowVerdict) : Type 0 where
-  pub replicas : List (Bor Held)
-  pub enough : AreEnough replicas
-  pub is : WindowsShow (judged replicas) (window_verdict_of verdict)
-  pub agree : verdict ≡ Agree → NoCollision (KnownTo (judged replicas)) → HistoriesAgree (judged replicas)
+-- it has all its past: it was never given leave to prune
+abbrev pub is_whole : Held → Bool
+is_whole r = not (was_pruned r.replica.chronicle)
 
--- either
-abbrev pub IsEndAudit : EndAudit → Type 0
-IsEndAudit (Whole verdict) = IsOfAudit verdict
-IsEndAudit (Windows verdict) = IsOfWindows verdict
+-- these kept replicas, in order
+abbrev pub all_of : List KeptState → List Held
+all_of kept = map held_of kept
 
--- it is an audit's
-abbrev pub IsWhole : EndAudit → Type 0
-IsWhole (Whole verdict) = ⊤
-IsWhole (Windows verdict) = ⊥
+-- those of them that have all their past, in order
+abbrev pub whole_of : List KeptState → List Held
+whole_of kept = filter is_whole (all_of kept)
+
+-- these replicas are lent, in order
+abbrev pub AreLent : List Held → List (Bor Held) → Type 0
+AreLent replicas lent = map (λ (r : Bor Held). r.now) lent ≡ replicas
+
+-- a row has at each place the replica of that place, as far as there is one
+pub record Shows (row : List (Option Held)) (replicas : List Held) : Type 0 where
+  pub room : length replicas ≤ MOST_REPLICAS
+  pub at : (k : ℕ) → k < length replicas → slice_get row k ≡ Some (slice_get replicas k)
+
+-- what the audit says of exactly these replicas, which are of the same sizes, at least a quorum, each once
+pub record IsOfAudit (replicas : List Held) (verdict : Verdict) : Type 0 where
+  pub lent : List (Bor Held)
+  pub these : AreLent replicas lent
+  pub enough : AreEnough lent
+  pub is : IsVerdict (judged lent) (verdict_of verdict)
+
+-- What the windows of exactly these replicas show, which are of the same sizes, at least a quorum, each once. Where
+-- they agree, and no two cores that these replicas ever knew collide, the histories agree.
+pub record IsOfWindows (replicas : List Held) (verdict : WindowVerdict) : Type 0 where
+  pub lent : List (Bor Held)
+  pub these : AreLent replicas lent
+  pub enough : AreEnough lent
+  pub is : WindowsShow (judged lent) (window_verdict_of verdict)
+  pub agree : verdict ≡ Agree → NoCollision (KnownTo (judged lent)) → HistoriesAgree (judged lent)
+
+-- these replicas can't be judged
+pub record AreFew (replicas : List Held) : Type 0 where
+  pub lent : List (Bor Held)
+  pub these : AreLent replicas lent
+  pub few : AreEnough lent → ⊥
+
+-- What is said of these kept replicas: the audit's verdict on all of them; or its verdict on those that have all
+-- their past, which are so many, with what the windows of all show; or what these show alone.
+abbrev pub IsEndAudit : List KeptState → EndAudit → Type 0
+IsEndAudit kept (Whole verdict) = (length (whole_of kept) ≡ length kept) × IsOfAudit (whole_of kept) verdict
+IsEndAudit kept (Part count verdict windows) =
+    (length (whole_of kept) ≡ count) × (count < length kept) × IsOfAudit (whole_of kept) verdict
+    × IsOfWindows (all_of kept) windows
+IsEndAudit kept (Windows windows) = AreFew (whole_of kept) × IsOfWindows (all_of kept) windows
+
+-- it is said of so many replicas
+pub record IsEndOf (count : ℕ) (audit : EndAudit) : Type 0 where
+  pub kept : List KeptState
+  pub all : length kept ≡ count
+  pub is : IsEndAudit kept audit
+
+-- it is said of the replicas of a deployment, of which none is left out but the first, which were to lie
+abbrev pub IsEnd : EndAudit → Type 0
+IsEnd audit = (count : ℕ) × IsEndOf count audit
+
+-- an audit's verdict is among what is said
+abbrev pub IsAudited : EndAudit → Type 0
+IsAudited (Whole verdict) = ⊤
+IsAudited (Part count verdict windows) = ⊤
+IsAudited (Windows windows) = ⊥
 
 -- Why there was no deployment: memory was refused, or there is no second handle of the listener; or there
 -- was an end too few; or too few replicas could be judged.

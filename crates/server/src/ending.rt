@@ -1,16 +1,17 @@
 //! What is said of the replicas of a deployment at its end.
 
-ghost use Rattle.std.specs.Prelude.{◌≡◌, IfOk, None, OnErr, Err};
+ghost use Rattle.std.specs.Prelude.{◌≡◌, ◌<◌, ◌≤◌, ◌-◌, ◌⊎◌, [], length, vec_len, vec_capacity, IfOk, None, OnErr, Err};
 ghost use Rattle.ids.specs.declared.fault.Fault.TheVariants.{TooFew};
-ghost use Rattle.server.specs.Ends.{IsOfAudit, IsOfWindows, IsEndAudit, IsWhole};
+ghost use Rattle.ids.specs.declared.limits.TheConstants.{MOST_REPLICAS};
+ghost use Rattle.server.specs.Ends.{IsEndAudit, IsEndOf, IsAudited, AreFew, all_of};
+ghost use Rattle.server.specs.Workers.{liar_count};
 
+use crate::judging::{count_whole, judge_shown, judge_whole};
 use crate::stations::Station;
 use crate::terms::Terms;
-use audit::{Verdict, WindowVerdict, judge, judge_windows};
+use audit::{Verdict, WindowVerdict};
 use ids::{Fault, MOST_REPLICAS};
 use locked_replica::Kept;
-use replica::Whole;
-use std::array;
 
 /// Room for the replicas of all stations, taken before a thread begins.
 pub(crate) type Room<'a> = Vec<Kept<'a>>;
@@ -18,86 +19,77 @@ pub(crate) type Room<'a> = Vec<Kept<'a>>;
 /// What is said of the replicas of a deployment at its end.
 #[derive(Clone, Copy, Debug)]
 pub enum EndAudit {
-    /// What the audit says of a quorum or more that have all their past.
+    /// What the audit says of all of them: each has all its past.
     Whole(Verdict),
-    /// What the windows show of a quorum or more, where too few have all their past.
+    /// Some have forgotten. What the audit says of the others, which are a quorum or more, and what the windows of
+    /// all of them show.
+    Part {
+        /// How many have all their past.
+        judged: usize,
+        verdict: Verdict,
+        windows: WindowVerdict,
+    },
+    /// What the windows of all of them show, where too few have all their past for an audit.
     Windows(WindowVerdict),
 }
 
-/// What the audit of these replicas says. It takes no memory. `TooFew` where it can't judge them.
-fn judge_all(replicas: &[Option<Whole<'_>>]) -> Result<Verdict, Fault>
-    ensures verdict { IfOk result IsOfAudit }
-    ensures few { OnErr result (result ≡ Err TooFew) }
+/// What is said of kept replicas: all of them are judged, none is left out.
+///
+/// An audit judges those that have all their past, that is, that were never given leave to prune; where some
+/// haven't, the windows of all are held against each other, too. It takes no memory. `TooFew` where there are
+/// fewer than a quorum, more than `MOST_REPLICAS`, one twice, or replicas of other sizes.
+pub fn judge_kept(kept: &[Kept<'_>]) -> Result<EndAudit, Fault>
+    ensures verdict { IfOk result (IsEndAudit kept.now) }
+    ensures few { OnErr result (AreFew (all_of kept.now) ⊎ (MOST_REPLICAS < length kept.now)) }
+    ensures refused { OnErr result (result ≡ Err TooFew) }
 {
-    let Some(first) = replicas.iter().flatten().next() else {
+    if kept.len() > MOST_REPLICAS {
         return Err(Fault::TooFew);
-    };
-    let mut row = [first; MOST_REPLICAS];
-    for (place, one) in row.iter_mut().zip(replicas.iter().flatten()) {
-        *place = one;
     }
-    let count = replicas.iter().flatten().count().min(MOST_REPLICAS);
-    judge(&row[..count])
+    let windows = judge_shown(kept)?;
+    let judged = count_whole(kept);
+    match judge_whole(kept) {
+        Ok(verdict) if judged == kept.len() => Ok(EndAudit::Whole(verdict)),
+        Ok(verdict) => Ok(EndAudit::Part {
+            judged,
+            verdict,
+            windows,
+        }),
+        Err(_) => Ok(EndAudit::Windows(windows)),
+    }
 }
 
-/// What the audit of kept replicas says, without those that were given leave to prune. `TooFew` where it
-/// can't judge them.
-fn judge_kept(kept: &[Kept<'_>]) -> Result<Verdict, Fault>
-    ensures verdict { IfOk result IsOfAudit }
-    ensures few { OnErr result (result ≡ Err TooFew) }
+/// The replicas of stations at which nobody works any more, in order, without the first so many.
+fn kept_of<'a>(stations: Vec<Station<'a>>, skipped: usize, room: Room<'a>) -> Room<'a>
+    requires empty { room.items ≡ [] }
+    requires room { vec_len stations ≤ vec_capacity room }
+    ensures { vec_len result ≡ vec_len stations.entry - skipped }
 {
-    let whole: [Option<Whole<'_>>; MOST_REPLICAS] = array::from_fn(|i| kept
-        .get(i)
-        .and_then(|one| one.replica().whole()));
-    judge_all(&whole)
-}
-
-/// What the windows of kept replicas show. It takes no memory. `TooFew` where they can't be judged.
-fn judge_shown(kept: &[Kept<'_>]) -> Result<WindowVerdict, Fault>
-    ensures verdict { IfOk result IsOfWindows }
-    ensures few { OnErr result (result ≡ Err TooFew) }
-{
-    let Some(first) = kept.first() else {
-        return Err(Fault::TooFew);
-    };
-    let mut row = [first.replica().replica(); MOST_REPLICAS];
-    for (place, one) in row.iter_mut().zip(kept) {
-        *place = one.replica().replica();
+    let mut kept = room;
+    for (number, station) in stations.into_iter().enumerate() {
+        if number >= skipped {
+            kept.push_reserved(station.into_kept());
+        }
     }
-    judge_windows(&row[..kept.len().min(MOST_REPLICAS)])
-}
-
-/// What is said of kept replicas, where these were the terms: what the audit says, or where it can't judge
-/// replicas with a window, what their windows show.
-fn judge_both(kept: &[Kept<'_>], terms: Terms) -> Result<EndAudit, Fault>
-    ensures verdict { IfOk result IsEndAudit }
-    ensures whole { IfOk result (λ audit. terms.window ≡ None → IsWhole audit) }
-    ensures few { OnErr result (result ≡ Err TooFew) }
-{
-    match judge_kept(kept) {
-        Ok(verdict) => Ok(EndAudit::Whole(verdict)),
-        Err(fault) if terms.window.is_none() => Err(fault),
-        Err(_) => Ok(EndAudit::Windows(judge_shown(kept)?)),
-    }
+    kept
 }
 
 /// What is said of the replicas of stations at which nobody works any more, without those that were to lie.
-/// `TooFew` where they can't be judged.
+/// `TooFew` where they can't be judged, or where an audit can't though none was to forget.
 pub(crate) fn judge_by_terms<'a>(
     stations: Vec<Station<'a>>,
     terms: Terms,
     room: Room<'a>,
 ) -> Result<EndAudit, Fault>
-    ensures verdict { IfOk result IsEndAudit }
-    ensures whole { IfOk result (λ audit. terms.window ≡ None → IsWhole audit) }
+    requires empty { room.items ≡ [] }
+    requires room { vec_len stations ≤ vec_capacity room }
+    ensures verdict { IfOk result (IsEndOf (vec_len stations.entry - liar_count terms.liars)) }
+    ensures audited { IfOk result (λ audit. terms.window ≡ None → IsAudited audit) }
     ensures few { OnErr result (result ≡ Err TooFew) }
 {
-    let mut kept = room;
-    let skipped = usize::from(terms.liars());
-    for station in stations.into_iter().skip(skipped) {
-        if kept.len() < kept.capacity() {
-            kept.push_reserved(station.into_kept());
-        }
+    let kept = kept_of(stations, usize::from(terms.liars()), room);
+    match judge_kept(&kept)? {
+        EndAudit::Windows(_) if terms.window.is_none() => Err(Fault::TooFew),
+        audit => Ok(audit),
     }
-    judge_both(&kept, terms)
 }

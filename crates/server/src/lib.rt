@@ -7,6 +7,7 @@ mod doubts;
 mod ending;
 mod floods;
 mod guarded;
+mod judging;
 mod laggards;
 mod link;
 mod lying;
@@ -20,6 +21,6 @@ mod views;
 mod watching;
 mod worker;
 
-pub use ending::EndAudit;
+pub use ending::{EndAudit, judge_kept};
 pub use running::{Ended, run};
 pub use terms::{Liars, Terms, Workers};
