@@ -6,11 +6,12 @@
 mod faults;
 mod options;
 mod serving;
+mod words;
 
 use crate::faults::MainFault;
 use crate::options::{Options, matches_of};
 use crate::serving::serve;
-use audit::{Verdict, WindowVerdict};
+use crate::words::words_of;
 use clap::Error;
 use clap::error::ErrorKind;
 use ids::Fault;
@@ -35,15 +36,14 @@ fn fail(rt: &HostRuntime, fault: MainFault) -> io::Result<ExitCode> {
     Ok(ExitCode::FAILURE)
 }
 
-/// What is said of the replicas, in words.
-fn words_of(audit: &EndAudit) -> &'static str {
-    match audit {
-        EndAudit::Whole(Verdict::Agree) => "agree",
-        EndAudit::Whole(Verdict::Fork(_)) => "fork",
-        EndAudit::Windows(WindowVerdict::Agree) => "windows agree",
-        EndAudit::Windows(WindowVerdict::Fork { .. }) => "windows fork",
-        EndAudit::Windows(WindowVerdict::Unmet { .. }) => "windows unmet",
+/// Tells how many replicas the audit left out, where it did: the windows of all were judged beside it.
+fn tell_part(rt: &HostRuntime, audit: &EndAudit) -> io::Result<()> {
+    if let EndAudit::Part { judged, .. } = audit {
+        eprintln!(rt;
+            "mcbft: the audit judged {judged} replicas; the others have forgotten, and only their windows were judged"
+        )?;
     }
+    Ok(())
 }
 
 /// Tells how it ended.
@@ -52,6 +52,7 @@ fn end(rt: &HostRuntime, ended: &Ended) -> io::Result<ExitCode> {
         println!(rt; "served {served} connections")?;
     }
     println!(rt; "audit {}", words_of(&ended.audit))?;
+    tell_part(rt, &ended.audit)?;
     match ended.served {
         Ok(_) => Ok(ExitCode::SUCCESS),
         Err(fault) => fail(rt, MainFault::from(fault)),

@@ -99,10 +99,17 @@ fn keys(alloc: Global, config: Config) -> Result<PairKeys> {
 
 /// Whether replicas were seen to fork.
 fn is_fork(audit: EndAudit) -> bool {
-    matches!(
-        audit,
-        EndAudit::Whole(Verdict::Fork(_)) | EndAudit::Windows(WindowVerdict::Fork { .. })
-    )
+    match audit {
+        EndAudit::Whole(verdict) => matches!(verdict, Verdict::Fork(_)),
+        EndAudit::Part {
+            verdict,
+            windows,
+            ..
+        } => {
+            matches!(verdict, Verdict::Fork(_)) || matches!(windows, WindowVerdict::Fork { .. })
+        }
+        EndAudit::Windows(windows) => matches!(windows, WindowVerdict::Fork { .. }),
+    }
 }
 
 /// A deployment that is run.
