@@ -182,11 +182,13 @@ module _ (sizes : Sizes) (start : World) (all : List Happening) (b : Block) (par
         let reach = p.1.reach in
         let more = with-more w mid x made (λ i c n. kept i c n) in
         let many = p.1.many in
-        let s = ap (λ (z : Sizes). z.faults) made.sizes in (
-          place-told (self_of w r) (chronicle_of w r) (chronicle_of mid r) b parent (asked r m) p.0,
+        let s = ap (λ (z : Sizes). z.faults) made.sizes in
+        let there = place-told (self_of w r) (chronicle_of w r) (chronicle_of mid r) b parent (asked r m) p.0 in (
+          there,
           record {
             above = omega (arith, above, f);
             reach = omega (arith, reach, f);
+            uncrowded = there.uncrowded;
             many = omega (arith, more, many, s);
           },
         );
@@ -324,7 +326,6 @@ may-parent b parent w below may = record {
   taken = (may.taken.0, may.taken.1, below may.taken.0 may.taken.1 may.taken.2);
   each = λ r c x y e k. may.each r c x y (longer-extends b parent (x ∷ y) e) k;
   trees = λ r c. (let t = may.trees r c in omega (arith, t));
-  heights = may.heights;
   low = (let l = may.low in omega (arith, l));
 }
 
@@ -358,7 +359,7 @@ module _ (sizes : Sizes) (start : World) (all : List Happening) where
         let t = may.trees u c in
         let l = gain.longer in
         let high = gain.above (suc (length parent)) (omega arith) in
-        let few = may.heights u c (suc (length parent)) in (
+        let few = get.uncrowded in (
           record {
             stands = h.stands u c parent ([], refl) (omega (arith, above, f));
             below = may.branch.0;
@@ -370,6 +371,7 @@ module _ (sizes : Sizes) (start : World) (all : List Happening) where
           record {
             above = omega (arith, above, f);
             reach = omega (arith, reach, f);
+            uncrowded = omega (arith, high, few);
             many = omega (arith, more, many, s);
           },
         );

@@ -120,9 +120,11 @@ module _ (Known : Core → Type 0) (w : World) (g : IsReached Known w) (kept : N
         | inl above ↦ (elim kept [
           | inl nobody ↦
               let z = nobody r c in
+              let few = room.heights r c (suc (length y)) above in
               inr (record {
                 above = omega (arith, z);
                 reach = omega (arith, z);
+                uncrowded = omega (arith, few);
                 many = ground-among w fam window
                     (λ i ci n q. subst (λ (xs : List Branch). Among n xs) (sym (window-all _ (nobody i ci))) q)
                     (x ∷ y) e;
@@ -133,7 +135,13 @@ module _ (Known : Core → Type 0) (w : World) (g : IsReached Known w) (kept : N
                 let h = low.0 in
                 let j = none-justifies-below (correct_family w) b (executed ch) (x ∷ y) fam pruned.careful certified
                 (r, c, executed-decided ch) e above in
-                inr (record { above = omega (arith, h, above); reach = omega (arith, h, j); many = many })
+                let few = room.heights r c (suc (length y)) above in
+                inr (record {
+                  above = omega (arith, h, above);
+                  reach = omega (arith, h, j);
+                  uncrowded = omega (arith, few);
+                  many = many;
+                })
           ])
         ])
         | inr below ↦ (
@@ -176,9 +184,12 @@ module _ (Known : Core → Type 0) (w : World) (g : IsReached Known w) (kept : N
               let more = with-more w w1 (x ∷ y) made (λ i ci n. subst (λ (l : List Branch). Among (x ∷ y) l)
               (sym (same i (same-correct w w1 made i ∙ ci))) n) in
               let s = ap (λ (z : Sizes). z.faults) made.sizes in
+              let few = get.uncrowded in
+              let n = ap (λ (l : List Branch). count_by (λ z. length z == suc (length y)) l) (same r c) in
               inr (record {
                 above = omega (arith, above, h);
                 reach = omega (arith, reach, h);
+                uncrowded = omega (arith, few, n);
                 many = omega (arith, more, many, s);
               })
         ];
@@ -187,10 +198,6 @@ module _ (Known : Core → Type 0) (w : World) (g : IsReached Known w) (kept : N
         let h = (came.rest r c).forgotten in
         let n = ap (λ (l : List Branch). length l) (same r c) in
         omega (arith, t, n, h);
-    heights = λ r c h.
-        let t = room.heights r (was r c) h in
-        let n = ap (λ (l : List Branch). count_by (λ y. length y == h) l) (same r c) in
-        omega (arith, t, n);
     low = (sound-of Known w g led_by (healer-highest w fam).0).heights b (ground-own w fam).1;
   }
     where
@@ -307,7 +314,7 @@ module _ (Known : Core → Type 0) (w : World) (g : IsReached Known w) (kept : N
                 heights = λ n k.
                     let one = gain.heights n in
                     let same1 = ap (λ (l : List Branch). count_by (λ y. length y == n) l) same in
-                    let few = room.heights r cw n in
+                    let few = room.heights r cw n (omega (arith, k, a1)) in
                     omega (arith, one, same1, few);
               };
           low = λ r c.

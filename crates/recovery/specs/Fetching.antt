@@ -110,15 +110,16 @@ pub record OnlyGained (self : Identity) (x : Branch) (before now : Chronicle) : 
 abbrev pub IsInReach : Chronicle → Branch → Type 0
 IsInReach c x = horizon c ≤ length x + BELOW_HORIZON
 
--- A replica can get this block over this parent by asking: the parent and what it justifies aren't pruned with it, and
--- more than f correct replicas have it.
+-- A replica can get this block over this parent by asking: the parent and what it justifies aren't pruned with it, nor
+-- is its height crowded there; and more than f correct replicas have it.
 pub record CanGet (w : World) (c : Chronicle) (b : Block) (parent : Branch) : Type 0 where
   pub above : horizon c ≤ length parent
   pub reach : horizon c ≤ b.justify
+  pub uncrowded : count_by (λ x. length x == suc (length parent)) (window c) < MOST_OF_HEIGHT
   pub many : w.sizes.faults < correct_with w window (b ∷ parent)
 
 -- What is known where a branch is brought to all: a correct replica took it, each has a block of it that is in its
--- reach, or can get it, and there is room for it with each.
+-- reach, or can get it, and there is room for so many with each.
 pub record MayBring (w : World) (x : Branch) : Type 0 where
   pub keys : ShareKeys w
   pub goes : AllGoOn w
@@ -129,8 +130,6 @@ pub record MayBring (w : World) (x : Branch) : Type 0 where
       → Among (b ∷ parent) (window (chronicle_of w r)) ⊎ CanGet w (chronicle_of w r) b parent)
   pub trees : OfCorrect w (λ r.
       length (window (chronicle_of w r)) + (length x - horizon (chronicle_of w r)) ≤ MOST_BLOCKS)
-  pub heights : OfCorrect w (λ r. (h : ℕ)
-      → count_by (λ y. length y == h) (window (chronicle_of w r)) < MOST_OF_HEIGHT)
   pub low : length x < HEIGHT_LIMIT
 
 -- a replica has each block of this branch that is in its reach
