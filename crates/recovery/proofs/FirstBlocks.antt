@@ -11,7 +11,7 @@ use Rattle.definitions.specs.Checks.{Identity}
 use Rattle.definitions.specs.Chronicles.{Chronicle, Step.noted, Note.beat, Note.led_from, taken_blocks, voted_blocks}
 use Rattle.definitions.specs.Chronicles.{Admitted, IsLawful, horizon, window, lock}
 use Rattle.definitions.specs.Digests.{digest_of, AllKnown}
-use Rattle.definitions.specs.Frames.{Core}
+use Rattle.definitions.specs.Frames.{Core, Frame}
 use Rattle.definitions.specs.Grounds.{may_lead_from}
 use Rattle.definitions.specs.Replicas.{MemorySupply.ample, Replica, Standing.running}
 use Rattle.definitions.specs.Rulings.{Input.lead_in, Input.beat_in, Ruling.refusing, lead, ruling}
@@ -289,8 +289,8 @@ module _ (sizes : Sizes) (start : World) (all : List Happening) where
           on1.well.good.answers in
           let own = row-own mid next l (noted beat) st in
           let ownc : chronicle_of next l ≡ noted beat ∷ d = ap (λ (x : Replica). x.chronicle) own in
-          let msg : Sent =
-          record { event = mid.now; sender = l; to = to_all; frame = proposal_frame self (view mid.sizes d) f.made } in (
+          let frame : Frame = proposal_frame self (view mid.sizes d) f.made in
+          let msg : Sent = record { event = mid.now; sender = l; to = to_all; frame = frame } in (
             ok,
             record {
               made_as = made-both w mid next led.made st.made;
