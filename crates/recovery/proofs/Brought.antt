@@ -11,7 +11,7 @@ use Rattle.definitions.specs.Bytes.{Bytes}
 use Rattle.definitions.specs.Lists.{Among, AreDistinct, count_below}
 use Rattle.definitions.specs.Branches.{Block, Branch, Extends, branch_eq}
 use Rattle.definitions.specs.Checks.{Identity}
-use Rattle.definitions.specs.Chronicles.{Chronicle, tree, window, horizon}
+use Rattle.definitions.specs.Chronicles.{Chronicle, tree, window, horizon, executed}
 use Rattle.definitions.specs.Digests.{digest_of, AllKnown}
 use Rattle.definitions.specs.Frames.{Core}
 use Rattle.definitions.specs.States.{find_block, is_known}
@@ -19,7 +19,7 @@ use Rattle.definitions.specs.Worlds.{World, Happening, new_world, is_correct, se
 use Rattle.definitions.specs.Runs.{after}
 use Rattle.definitions.proofs.Branches.{extends-cases, length-extends}
 use Rattle.definitions.proofs.Counts.{count-mono}
-use Rattle.definitions.proofs.Horizons.{window-tree, window-genesis, window-cases}
+use Rattle.definitions.proofs.Horizons.{window-tree, window-genesis, window-cases, horizon-low}
 use Rattle.definitions.proofs.Chronicles.{tree-parent}
 use Rattle.definitions.proofs.Lists.{Among-filter, Among-kept}
 use Rattle.definitions.proofs.Sound.{found-standing}
@@ -102,7 +102,8 @@ module _ (sizes : Sizes) (start : World) (all : List Happening) (b : Block) (par
     correct : (u : ℕ) → Among u us → is_correct w u ≡ true
     lacks : (u : ℕ) → Among u us → Among x (window (chronicle_of w u)) → ⊥
     place : (u : ℕ) → Among u us → IsInReach (chronicle_of w u) x
-        → HasPlace (chronicle_of w u) b parent × CanGet w (chronicle_of w u) b parent
+        → HasPlace (chronicle_of w u) b parent × (horizon (chronicle_of w u) ≤ length parent)
+        × (w.sizes.faults < correct_with w window x)
 
   -- it got the block, or it is out of its reach
   abbrev IsGot : Identity → Chronicle → Chronicle → Type 0
@@ -148,16 +149,16 @@ module _ (sizes : Sizes) (start : World) (all : List Happening) (b : Block) (par
               correct = may.correct u m;
               place = p.0;
               lacks = may.lacks u m;
-              many = p.1.many;
+              many = p.2;
             }) in
             record {
               ran = one.ran;
               going_on = one.going_on;
               own = inl (
                 took-gains (self_of w u) b parent (chronicle_of w u)
-                    (chronicle_of (after w (fetch_block (digest_of x) u w)) u) p.1.above one.own,
+                    (chronicle_of (after w (fetch_block (digest_of x) u w)) u) p.1 one.own,
                 one.stands,
-                p.1.above,
+                p.1,
               );
               others = one.others;
               session = one.session;
@@ -178,17 +179,13 @@ module _ (sizes : Sizes) (start : World) (all : List Happening) (b : Block) (par
     place = λ r m k.
         let f = (asked r m).0.forgotten in
         let p = may.place r (inr m) (omega (arith, k, f)) in
-        let above = p.1.above in
-        let reach = p.1.reach in
+        let above = p.1 in
         let more = with-more w mid x made (λ i c n. kept i c n) in
-        let many = p.1.many in
+        let many = p.2 in
         let s = ap (λ (z : Sizes). z.faults) made.sizes in (
           place-told (self_of w r) (chronicle_of w r) (chronicle_of mid r) b parent (asked r m) p.0,
-          record {
-            above = omega (arith, above, f);
-            reach = omega (arith, reach, f);
-            many = omega (arith, more, many, s);
-          },
+          omega (arith, above, f),
+          omega (arith, more, many, s),
         );
   }
     where
@@ -305,8 +302,8 @@ pub record BroughtAll (w last : World) (x : Branch) : Type 0 where
   pub going_on : AllGoOn last
   pub session : last.session ≡ w.session
   pub stands : OfCorrect w (λ r. HasReached (chronicle_of last r) x)
-  pub gained : OfCorrect w (λ r. Gains (self_of w r) (least (horizon (chronicle_of w r)) x) x (chronicle_of w r)
-      (chronicle_of last r))
+  pub gained : OfCorrect w (λ r. Gains (self_of w r) (least (length (executed (chronicle_of w r))) x) x
+      (chronicle_of w r) (chronicle_of last r))
   pub had : OfCorrect w (λ r. HasReached (chronicle_of w r) x
       → OnlyAsked (self_of w r) (chronicle_of w r) (chronicle_of last r))
 
@@ -324,7 +321,6 @@ may-parent b parent w below may = record {
   taken = (may.taken.0, may.taken.1, below may.taken.0 may.taken.1 may.taken.2);
   each = λ r c x y e k. may.each r c x y (longer-extends b parent (x ∷ y) e) k;
   trees = λ r c. (let t = may.trees r c in omega (arith, t));
-  heights = may.heights;
   low = (let l = may.low in omega (arith, l));
 }
 
@@ -351,6 +347,7 @@ module _ (sizes : Sizes) (start : World) (all : List Happening) where
           | inr n ↦ n
         ]) in
         let above = get.above in
+        let low = horizon-low (chronicle_of w u) in
         let reach = get.reach in
         let many = get.many in
         let more = with-more w mid (b ∷ parent) made (λ r i n. (h.gained r i).kept (b ∷ parent) n) in
@@ -358,20 +355,17 @@ module _ (sizes : Sizes) (start : World) (all : List Happening) where
         let t = may.trees u c in
         let l = gain.longer in
         let high = gain.above (suc (length parent)) (omega arith) in
-        let few = may.heights u c (suc (length parent)) in (
+        let few = get.uncrowded in (
           record {
-            stands = h.stands u c parent ([], refl) (omega (arith, above, f));
+            stands = h.stands u c parent ([], refl) (omega (arith, above, low, f));
             below = may.branch.0;
             reach = omega (arith, f, reach);
-            room = omega (arith, t, l);
+            room = omega (arith, t, l, above);
             uncrowded = omega (arith, high, few);
             low = may.low;
           },
-          record {
-            above = omega (arith, above, f);
-            reach = omega (arith, reach, f);
-            many = omega (arith, more, many, s);
-          },
+          omega (arith, above, low, f),
+          omega (arith, more, many, s),
         );
   }
     where
@@ -470,22 +464,29 @@ module _ (sizes : Sizes) (start : World) (all : List Happening) where
         ])
       ]
 
-      -- below its horizon a replica gains nothing
-      below : (r : ℕ) → is_correct w r ≡ true → length parent < horizon (chronicle_of w r)
+      -- up to what it had executed a replica gains nothing
+      below : (r : ℕ) → is_correct w r ≡ true → length parent < length (executed (chronicle_of w r))
           → OnlyAsked (self_of w r) (chronicle_of mid r) (chronicle_of last r)
       below r c low = elim (cases_Bool (is_known d (chronicle_of mid r))) [
         | inl t ↦ asked r c (knows r c t)
         | inr n ↦ (elim (got r c (listed r c (ap not n))) [
-          | inl o ↦ absurd (let f = (h.gained r c).forgotten in let above = o.2 in omega (arith, f, above, low))
+          | inl o ↦
+              let now = (h.gained r c).forgotten in
+              let reach = o.2 in
+              absurd (elim (may.each r c b parent ([], refl) (omega (arith, now, reach))) [
+                | inl there ↦ lacks-it (KnownAt sizes start all) mid g (b ∷ parent) known r (inm r c) (ap not n)
+                    ((h.gained r c).kept (b ∷ parent) there)
+                | inr get ↦ (let above = get.above in omega (arith, above, low))
+              ])
           | inr o ↦ o.0
         ])
       ]
 
       gained : (r : ℕ) → is_correct w r ≡ true
-          → Gains (self_of w r) (least (horizon (chronicle_of w r)) (b ∷ parent)) (b ∷ parent) (chronicle_of w r)
-          (chronicle_of last r)
+          → Gains (self_of w r) (least (length (executed (chronicle_of w r))) (b ∷ parent)) (b ∷ parent)
+          (chronicle_of w r) (chronicle_of last r)
       gained r c =
-          let z : ℕ = horizon (chronicle_of w r) in
+          let z : ℕ = length (executed (chronicle_of w r)) in
           elim (cases_lt (length parent) z) [
             | inl low ↦ subst (λ (k : ℕ). Gains (self_of w r) k (b ∷ parent) (chronicle_of w r) (chronicle_of last r))
                 (let e : length (b ∷ parent) ≡ least z (b ∷ parent) = omega (arith, low) in e)
@@ -520,9 +521,8 @@ module _ (sizes : Sizes) (start : World) (all : List Happening) where
           session = refl;
           stands = λ r c y e k. subst (λ (z : Branch). Among z (window (chronicle_of w r))) (sym (nothing-below y e))
               (window-genesis (chronicle_of w r));
-          gained = λ r c. asked-gains (self_of w r) (least (horizon (chronicle_of w r)) []) [] (chronicle_of w r)
-              (chronicle_of w r) (omega arith)
-              (asked-none (self_of w r) (chronicle_of w r));
+          gained = λ r c. asked-gains (self_of w r) (least (length (executed (chronicle_of w r))) []) []
+              (chronicle_of w r) (chronicle_of w r) (omega arith) (asked-none (self_of w r) (chronicle_of w r));
           had = λ r c k. asked-none (self_of w r) (chronicle_of w r);
         }),
       )

@@ -103,7 +103,8 @@ raised-votes s voter v y c p e =
     (λ (o : Option Justified). o ≡ Some p → 0 < length p.certificate.votes)
     (λ t i.
     let k : record { block = y; certificate = record { digest = digest_of y; votes = by_voter bs } } ≡ p = cc in
-    let n : length bs ≡ quorum s = eqb-true (length bs) (quorum s) (and_parts _ _ t).1 in
+    let n = eqb-true (length bs) (quorum s)
+    (and_parts (nat_lt (length (votes s y c)) (quorum s)) (length bs == quorum s) t).1 in
     let l = length-by_voter bs in
     let m = ap (λ (j : Justified). length j.certificate.votes) k in
     omega (arith, n, l, m))
@@ -260,7 +261,9 @@ votes-few s x (noted (got_vote voter v y) ∷ c) = by (branch_eq y x) (votes-few
         (record { voter = voter; vector = v } ∷ old) old) ≤ quorum s
     by true h = cond_both (not (list_any (λ z. z.voter == voter) old) && nat_lt (length old) (quorum s))
         (record { voter = voter; vector = v } ∷ old) old (λ (l : List Vote). length l ≤ quorum s)
-        (λ t. let l = ltb-true (length old) (quorum s) (and_parts _ _ t).1 in omega (arith, l)) (λ t. h)
+        (λ t. let l = ltb-true (length old) (quorum s)
+        (and_parts (not (list_any (λ z. z.voter == voter) old)) (nat_lt (length old) (quorum s)) t).1 in
+        omega (arith, l)) (λ t. h)
     by false h = h
 votes-few s x (noted (led_from b) ∷ c) = omega arith
 votes-few s x (took_block a ∷ c) = votes-few s x c

@@ -17,7 +17,7 @@ use Rattle.definitions.specs.Bytes.{Bytes}
 use Rattle.definitions.specs.Lists.{Among, AreDistinct, count_below}
 use Rattle.definitions.specs.Branches.{Block, Branch, branch_eq, just2, highest}
 use Rattle.definitions.specs.Chronicles.{Admitted, Chronicle, Step.took_block, taken_blocks, window, horizon, lock}
-use Rattle.definitions.specs.Chronicles.{standing_blocks, stored_blocks, stored_block}
+use Rattle.definitions.specs.Chronicles.{standing_blocks, stored_blocks, stored_block, executed, decided, decided_by}
 use Rattle.definitions.specs.Digests.{digest_of, AllKnown}
 use Rattle.definitions.specs.Frames.{Core, Frame}
 use Rattle.definitions.specs.Checks.{Identity}
@@ -282,10 +282,14 @@ pub window-told : (c d : Chronicle) → taken_blocks d ≡ taken_blocks c → ho
 unfolding window standing_blocks stored_blocks
 window-told c d t h = λ k. blocks (standing (h k) (map stored_block (t k)))
 
--- so is the lock by what was taken
+-- so are the lock, and what was executed, by what was taken
 pub lock-told : (c d : Chronicle) → taken_blocks d ≡ taken_blocks c → lock d ≡ lock c
 unfolding lock
 lock-told c d t = ap (λ (l : List Admitted). highest (map (λ (a : Admitted). just2 a.branch) l)) t
+
+pub executed-told : (c d : Chronicle) → taken_blocks d ≡ taken_blocks c → executed d ≡ executed c
+unfolding executed decided
+executed-told c d t = ap (λ (l : List Admitted). highest (decided_by l ++ [] ∷ [])) t
 
 -- a place stays one
 pub place-told : (self : Identity) (c d : Chronicle) (b : Block) (parent : Branch) → OnlyAsked self c d

@@ -11,7 +11,7 @@ use Rattle.definitions.specs.Checks.{Identity}
 use Rattle.definitions.specs.Chronicles.{Chronicle, Step.noted, Note.beat, Note.led_from, taken_blocks, voted_blocks}
 use Rattle.definitions.specs.Chronicles.{Admitted, IsLawful, horizon, window, lock}
 use Rattle.definitions.specs.Digests.{digest_of, AllKnown}
-use Rattle.definitions.specs.Frames.{Core}
+use Rattle.definitions.specs.Frames.{Core, Frame}
 use Rattle.definitions.specs.Grounds.{may_lead_from}
 use Rattle.definitions.specs.Replicas.{MemorySupply.ample, Replica, Standing.running}
 use Rattle.definitions.specs.Rulings.{Input.lead_in, Input.beat_in, Ruling.refusing, lead, ruling}
@@ -234,22 +234,14 @@ module _ (sizes : Sizes) (start : World) (all : List Happening) where
             ))
       ]
 
-  -- the beat
-  first-beat : (w mid : World) (rest : List Happening) (l v : ℕ) → HasLed w mid l
-      → IsOnWay sizes start all mid ((beat l, ample) ∷ rest) → ShareKeys mid → is_correct mid l ≡ true
-      → leader mid.sizes v ≡ l → view_of mid l ≡ v
-      → (refusal mid (beat l) ≡ None) × HasFirstMade w (happens mid (beat l, ample)) l v
-  unfolding ruling leads
-  first-beat w mid rest l v led on keys c leading_is in_view =
+  -- what it makes is a first block
+  makes-first : (w mid : World) (l : ℕ) → HasLed w mid l → IsReached (KnownAt sizes start all) mid
+      → is_correct mid l ≡ true → leads (self_of mid l) (chronicle_of mid l) ≡ true
+      → IsFirst (self_of mid l) (chronicle_of mid l)
+  makes-first w mid l led g c leading =
       let Known = KnownAt sizes start all in
       let self : Identity = self_of mid l in
       let d : Chronicle = chronicle_of mid l in
-      let next : World = happens mid (beat l, ample) in
-      let g = on-way sizes start all mid ((beat l, ample) ∷ rest) on in
-      let number = keys.numbers l (correct-party mid l c) (member-faulty mid l c) in
-      let leading : leads self d ≡ true =
-      eq-eqb (leader mid.sizes (view mid.sizes d)) (me self)
-      (ap (leader mid.sizes) in_view ∙ (leading_is ∙ sym number)) in
       let fresh : leaf self d ≡ [] → IsFirst self d = λ e.
       first-new self d leading (genesis-known Known mid g l c) e (stored-of Known mid g l c) led.high in
       let lost : taken_blocks d ≡ [] → IsLost self d → IsFirst self d = λ none h.
@@ -262,38 +254,62 @@ module _ (sizes : Sizes) (start : World) (all : List Happening) where
             (subst (AllKnown Known) h.leaf_is (g.well.framed.leaves l c led.goes).known)
             (ap digest_of (sym z) ∙ (y.2 ∙ ap digest_of h.leaf_is)))
       ]) in
-      let f : IsFirst self d = elim led.leaf_is [
+      elim led.leaf_is [
         | inl e ↦ fresh e
         | inr none ↦ (elim (g.firsts l c led.goes none) [ inl e ↦ fresh e | inr h ↦ lost none h ])
-      ] in
-      let ok : refusal mid (beat l) ≡ None =
-      named mid (beat l) (and_parts (is_replica mid l) (not (mid.is_faulty l)) c).0 refl refl in
-      let on1 = way-on sizes start all mid (beat l, ample) rest on ok in
-      let st = step-stood mid (beat l) l beat_in (noted beat) (beat-hands mid l c led.goes) refl
-      on1.well.good.answers in
-      let own = row-own mid next l (noted beat) st in
-      let ownc : chronicle_of next l ≡ noted beat ∷ d = ap (λ (x : Replica). x.chronicle) own in
-      let msg : Sent =
-      record { event = mid.now; sender = l; to = to_all; frame = proposal_frame self (view mid.sizes d) f.made } in (
-        ok,
-        record {
-          made_as = made-both w mid next led.made st.made;
-          session = st.session ∙ led.session;
-          others = λ j n. row-other mid next l (noted beat) st j n ∙ led.others j n;
-          goes = ap (λ (x : Replica). x.standing) own;
-          alike = subst (IsAlike (self_of w l) (chronicle_of w l)) (sym ownc)
-              (alike-beat (self_of w l) (chronicle_of w l) d led.alike);
-          block = f.block;
-          made = f.made;
-          msg = msg;
-          sent = st.sent ∙ (ap (λ (o : List Sending). mid.sent ++ outs mid l o) (first-sent self d leading f)
-              ∙ ap (λ (x : List Sent). x ++ msg ∷ []) led.sent);
-          frame_is = (λ i. proposal_frame (sym (same-self mid next st.made l) i) (in_view i) f.made);
-          block_is = f.block_is;
-          justify = f.justify;
-          plain = f.plain;
-        },
-      )
+      ]
+
+  -- the beat
+  first-beat : (w mid : World) (rest : List Happening) (l v : ℕ) → HasLed w mid l
+      → IsOnWay sizes start all mid ((beat l, ample) ∷ rest) → ShareKeys mid → is_correct mid l ≡ true
+      → leader mid.sizes v ≡ l → view_of mid l ≡ v
+      → (refusal mid (beat l) ≡ None) × HasFirstMade w (happens mid (beat l, ample)) l v
+  unfolding ruling leads
+  first-beat w mid rest l v led on keys c leading_is in_view =
+      by (makes-first w mid l led (on-way sizes start all mid ((beat l, ample) ∷ rest) on) c leading)
+    where
+      number : me (self_of mid l) ≡ l
+      number = keys.numbers l (correct-party mid l c) (member-faulty mid l c)
+
+      leading : leads (self_of mid l) (chronicle_of mid l) ≡ true
+      leading =
+          eq-eqb (leader mid.sizes (view mid.sizes (chronicle_of mid l))) (me (self_of mid l))
+          (ap (leader mid.sizes) in_view ∙ (leading_is ∙ sym number))
+
+      by : IsFirst (self_of mid l) (chronicle_of mid l)
+          → (refusal mid (beat l) ≡ None) × HasFirstMade w (happens mid (beat l, ample)) l v
+      by f =
+          let self : Identity = self_of mid l in
+          let d : Chronicle = chronicle_of mid l in
+          let next : World = happens mid (beat l, ample) in
+          let ok : refusal mid (beat l) ≡ None =
+          named mid (beat l) (and_parts (is_replica mid l) (not (mid.is_faulty l)) c).0 refl refl in
+          let on1 = way-on sizes start all mid (beat l, ample) rest on ok in
+          let st = step-stood mid (beat l) l beat_in (noted beat) (beat-hands mid l c led.goes) refl
+          on1.well.good.answers in
+          let own = row-own mid next l (noted beat) st in
+          let ownc : chronicle_of next l ≡ noted beat ∷ d = ap (λ (x : Replica). x.chronicle) own in
+          let frame : Frame = proposal_frame self (view mid.sizes d) f.made in
+          let msg : Sent = record { event = mid.now; sender = l; to = to_all; frame = frame } in (
+            ok,
+            record {
+              made_as = made-both w mid next led.made st.made;
+              session = st.session ∙ led.session;
+              others = λ j n. row-other mid next l (noted beat) st j n ∙ led.others j n;
+              goes = ap (λ (x : Replica). x.standing) own;
+              alike = subst (IsAlike (self_of w l) (chronicle_of w l)) (sym ownc)
+                  (alike-beat (self_of w l) (chronicle_of w l) d led.alike);
+              block = f.block;
+              made = f.made;
+              msg = msg;
+              sent = st.sent ∙ (ap (λ (o : List Sending). mid.sent ++ outs mid l o) (first-sent self d leading f)
+                  ∙ ap (λ (x : List Sent). x ++ msg ∷ []) led.sent);
+              frame_is = (λ i. proposal_frame (sym (same-self mid next st.made l) i) (in_view i) f.made);
+              block_is = f.block_is;
+              justify = f.justify;
+              plain = f.plain;
+            },
+          )
 
   -- both
   pub first-made : (w : World) (rest : List Happening) (l v : ℕ)

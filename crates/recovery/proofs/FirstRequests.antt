@@ -125,7 +125,7 @@ module _ (sizes : Sizes) (is_faulty : ℕ → Bool) (ring : ℕ → Keyring) (cl
             let n = ap (λ (x : Chronicle). length (window x)) (none-yet r)
             ∙ ap (λ (x : List Branch). length x) window-first in
             omega (arith, v, g, l, n);
-        heights = λ r c h.
+        heights = λ r c h up.
             let n = ap (λ (x : Chronicle). count_by (λ y. length y == h) (window x)) (none-yet r)
             ∙ ap (λ (x : List Branch). count_by (λ y. length y == h) x) window-first in
             let k = one h in

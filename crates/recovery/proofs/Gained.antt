@@ -9,7 +9,7 @@ use Rattle.definitions.specs.Lists.{Among}
 use Rattle.definitions.specs.Branches.{Block, Branch, Extends}
 use Rattle.definitions.specs.Checks.{Identity}
 use Rattle.definitions.specs.Chronicles.{Admitted, Chronicle, Step.took_block, taken_blocks, voted_blocks, window}
-use Rattle.definitions.specs.Chronicles.{horizon}
+use Rattle.definitions.specs.Chronicles.{horizon, executed}
 use Rattle.definitions.specs.States.{view}
 use Rattle.definitions.proofs.Branches.{length-extends}
 use Rattle.recovery.specs.Fetching.{OnlyAsked, OnlyTook, OnlyGained}
@@ -202,12 +202,12 @@ gains-up self b y before now g =
       heights = g.heights;
     }
 
--- how high a replica that pruned below a horizon lacks nothing of a branch
+-- how high a replica that executed so high lacks nothing of a branch
 abbrev pub least : ℕ → Branch → ℕ
 least h x = min h (length x)
 
 pub gains-only : (self : Identity) (x : Branch) (before now : Chronicle)
-    → Gains self (least (horizon before) x) x before now → OnlyGained self x before now
+    → Gains self (least (length (executed before)) x) x before now → OnlyGained self x before now
 gains-only self x before now g = record {
   in_view = g.in_view;
   voted = g.voted;

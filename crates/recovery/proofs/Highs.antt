@@ -187,7 +187,8 @@ module _ (Known : Core → Type 0) (w : World) (g : IsReached Known w) (r : ℕ)
       (λ t i.
       let k : record { block = b; certificate = record { digest = digest_of b; votes = by_voter bs } } ≡ p = cc in
       let block : b ≡ p.block = ap (λ (j : Justified). j.block) k in
-      let many = eqb-true (length bs) (quorum w.sizes) (and_parts _ _ t).1 in
+      let many = eqb-true (length bs) (quorum w.sizes)
+      (and_parts (nat_lt (length (votes w.sizes b d)) (quorum w.sizes)) (length bs == quorum w.sizes) t).1 in
       let long = length-by_voter bs in
       elim (cases_lt 0 (length p.block)) [
         | inl h ↦ (elim (is.kept h) [

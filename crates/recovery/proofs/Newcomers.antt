@@ -163,7 +163,7 @@ module _ (sizes : Sizes) (start : World) (all : List Happening) (k v : ℕ) (b :
 -- what it takes
 climbs-first : (self : Identity) (v room : ℕ) (c : Chronicle) → view self.sizes c ≡ v → is_justified [] c ≡ true
     → horizon c ≡ 0 → (lock c ≡ []) ⊎ (length (lock c) < 0) → length (window c) + room ≤ MOST_BLOCKS
-    → ((h : ℕ) → of_height h c < MOST_OF_HEIGHT) → Climbs self v [] [] room c
+    → ((h : ℕ) → 0 < h → of_height h c < MOST_OF_HEIGHT) → Climbs self v [] [] room c
 climbs-first self v room c in_view ground reach low trees heights = record {
   in_view = in_view;
   stands = window-genesis c;
@@ -173,13 +173,13 @@ climbs-first self v room c in_view ground reach low trees heights = record {
   safe = low;
   clear = clear-own [] _;
   trees = trees;
-  heights = λ h l. heights h;
+  heights = λ h l. heights h l;
 }
 
 -- whoever took a block may, where its lock is genesis
 old-climbs : (self : Identity) (v room : ℕ) (c : Chronicle) → IsLawful self.sizes c → (taken_blocks c ≡ [] → ⊥)
     → view self.sizes c ≡ v → horizon c ≡ 0 → lock c ≡ [] → length (window c) + room ≤ MOST_BLOCKS
-    → ((h : ℕ) → of_height h c < MOST_OF_HEIGHT) → Climbs self v [] [] room c
+    → ((h : ℕ) → 0 < h → of_height h c < MOST_OF_HEIGHT) → Climbs self v [] [] room c
 old-climbs self v room c law some in_view reach low trees heights =
     let a = over-some c some in
     climbs-first self v room c in_view
@@ -190,7 +190,7 @@ old-climbs self v room c law some in_view reach low trees heights =
 new-climbs : (self : Identity) (v room : ℕ) (c : Chronicle) (b : Block) (a : Admitted) → a.branch ≡ b ∷ []
     → b.justify ≡ 0 → (a.new ≡ true) ⊎ ((a.new ≡ false) × Among (b ∷ []) (window c)) → view self.sizes c ≡ v
     → horizon c ≡ 0 → lock c ≡ [] → length (window c) + suc room ≤ MOST_BLOCKS
-    → ((h : ℕ) → suc (of_height h c) < MOST_OF_HEIGHT) → Climbs self v [] [] room (took_block a ∷ c)
+    → ((h : ℕ) → 0 < h → suc (of_height h c) < MOST_OF_HEIGHT) → Climbs self v [] [] room (took_block a ∷ c)
 new-climbs self v room c b a e j fresh in_view reach low trees heights =
     let long = ap (λ (x : Branch). length x) e in
     let near : horizon c ≤ length a.branch + 2 = omega (arith, reach, long) in
@@ -201,7 +201,7 @@ new-climbs self v room c b a e j fresh in_view reach low trees heights =
     (stands-justifies [] (b ∷ []) (took_block a ∷ c)
     (took-stands c a (b ∷ []) e (omega (arith, near, long)) fresh) (omega arith) over)
     (horizon-took a c ∙ reach) (lock-more [] c a tt (ap just1 e ∙ over) (inl low)) (omega (arith, trees, more))
-    (λ h. let k = took-heights c a near n h in let l = heights h in omega (arith, k, l))
+    (λ h up. let k = took-heights c a near n h in let l = heights h up in omega (arith, k, l))
 
 first-lock : (a : Admitted) (c : Chronicle) (b : Block) → a.branch ≡ b ∷ [] → b.justify ≡ 0 → lock c ≡ []
     → lock (took_block a ∷ c) ≡ []
@@ -431,7 +431,7 @@ module _ (sizes : Sizes) (start : World) (all : List Happening) (w : World)
       forgotten : horizon c ≡ 0
       unlocked : lock c ≡ []
       trees : length (window c) + suc (room_above top []) ≤ MOST_BLOCKS
-      heights : (h : ℕ) → suc (of_height h c) < MOST_OF_HEIGHT
+      heights : (h : ℕ) → 0 < h → suc (of_height h c) < MOST_OF_HEIGHT
       voted_low : vheight c < top
       taken : taken_blocks c ≡ taken_blocks (chronicle_of w r)
 
@@ -454,8 +454,10 @@ module _ (sizes : Sizes) (start : World) (all : List Happening) (w : World)
           forgotten = f ∙ nobody r cr;
           unlocked = lock-told before d t ∙ locks-nil r cr;
           trees = omega (arith, trees, n, zero, nolock);
-          heights = λ h.
-              let few = room.heights r cr h in
+          heights = λ h up.
+              let done = executed-locked before in
+              let own = ap (λ (x : Branch). length x) (locks-nil r cr) in
+              let few = room.heights r cr h (omega (arith, done, own, up)) in
               let k = ap (λ (x : List Branch). count_by (λ y. length y == h) x) win in
               omega (arith, few, k);
           voted_low = omega (arith, v1, voted, high);
@@ -467,7 +469,7 @@ module _ (sizes : Sizes) (start : World) (all : List Happening) (w : World)
         → HasPlace c b []
     settled-place self v r c b s j =
         let t = s.trees in
-        let few = s.heights 1 in
+        let few = s.heights 1 (omega arith) in
         let high = room.low in
         let zero = s.forgotten in
         record {
@@ -502,7 +504,7 @@ module _ (sizes : Sizes) (start : World) (all : List Happening) (w : World)
         let is = ap vheight e in (
           subst (Climbs self v [] [] (room_above top [])) (sym e)
               (old-climbs self v (room_above top []) c (subst (IsLawful self.sizes) e law) some s.in_view s.forgotten
-              s.unlocked (let t = s.trees in omega (arith, t)) (λ n. let h = s.heights n in omega (arith, h))),
+              s.unlocked (let t = s.trees in omega (arith, t)) (λ n up. let h = s.heights n up in omega (arith, h))),
           ap lock e ∙ s.unlocked,
           omega (arith, q, is),
         )

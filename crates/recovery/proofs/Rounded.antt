@@ -1,12 +1,13 @@
 -- Rounds, one after the other, decide.
 use Rattle.ids.specs.declared.limits.TheConstants.{HEIGHT_LIMIT}
-use Rattle.std.proofs.Common.{ℕ, suc, ◌≡◌, ◌<◌, ◌+◌, List, [], ◌∷◌, ◌++◌, length, sym, ap, subst, ◌∙◌}
+use Rattle.std.proofs.Common.{ℕ, suc, ◌≡◌, ◌<◌, ◌+◌, true, List, [], ◌∷◌, ◌++◌, length, sym, ap, subst, ◌∙◌}
 use Rattle.std.proofs.Common.{arith, inl, inr, Ok}
 use Rattle.std.proofs.lemmas.List.{append-nil, length-append, nil_from_length}
 use Rattle.ids.specs.Sizes.{Sizes}
+use Rattle.definitions.specs.Lists.{Among}
 use Rattle.definitions.specs.Branches.{Branch, IsBranch, Extends, just1, justify_height}
-use Rattle.definitions.specs.Chronicles.{vheight}
-use Rattle.definitions.specs.Worlds.{World, Happening, new_world}
+use Rattle.definitions.specs.Chronicles.{vheight, window, executed}
+use Rattle.definitions.specs.Worlds.{World, Happening, new_world, is_correct}
 use Rattle.definitions.specs.Runs.{after}
 use Rattle.definitions.proofs.Branches.{extends-cases, justify_height-just1}
 use Rattle.definitions.proofs.Chronicles.{tree-taken}
@@ -18,7 +19,7 @@ use Rattle.recovery.proofs.Decided.{third-executes}
 use Rattle.recovery.proofs.Rounds.{round-certified}
 use Rattle.recovery.proofs.Ways.{IsOnWay, KnownAt, on-way-from, on-way, way-past, turn-on, turn-passes}
 use Rattle.recovery.proofs.Ways.{turn-after, turns-none}
-use Rattle.recovery.proofs.Wells.{sound-of, family-of}
+use Rattle.recovery.proofs.Wells.{IsReached, sound-of, family-of}
 
 -- a block one higher than what it goes through and justifies stands on it
 next-is : (m x : Branch) → IsBranch x → length x ≡ suc (length m) → Extends x m → just1 x ≡ m → IsNext m x
@@ -67,6 +68,15 @@ module _ (sizes : Sizes) (start : World) (all : List Happening) where
       (climbing.climbs l climbing.correct).stands in
       let h = c.height in
       (r.0, record { certified = c; next = next-is x r.0 br (omega (arith, h)) c.over c.justifies })
+
+  -- who knows the last of three more blocks executed the first
+  known-executes : (w : World) → IsReached (KnownAt sizes start all) w → (r : ℕ) → is_correct w r ≡ true
+      → (x y z last : Branch) → IsNext x y → IsNext y z → IsNext z last → 0 < length last
+      → Among last (window (chronicle_of w r)) → Extends (executed (chronicle_of w r)) x
+  known-executes w g r c x y z last n1 n2 n3 up there =
+      let ch = chronicle_of w r in
+      let a = tree-taken ch last (window-tree ch last there) up in
+      third-executes w (family-of (KnownAt sizes start all) w g) r c x y z a.0 n1 n2 (subst (IsNext z) (sym a.2) n3) a.1
 
   pub rounds-decided : (w : World) (rest : List Happening) (l v n room : ℕ) (m : Branch)
       → IsOnWay sizes start all w (rounds n l w ++ rest) → MayBurst w l v n (3 + room) m
@@ -119,11 +129,8 @@ module _ (sizes : Sizes) (start : World) (all : List Happening) where
           height = c0.height;
           over = c0.over;
           carries = c0.carries;
-          decided = λ r c.
-              let ch = chronicle_of end r in
-              let a = tree-taken ch r3.0 (window-tree ch r3.0 (c3.climbing.climbs r c).stands) (omega (arith, h3)) in
-              third-executes end (family-of (KnownAt sizes start all) end ge) r c r0.0 r1.0 r2.0 a.0 r1.1.next r2.1.next
-              (subst (IsNext r2.0) (sym a.2) r3.1.next) a.1;
+          decided = λ r c. known-executes end ge r c r0.0 r1.0 r2.0 r3.0 r1.1.next r2.1.next r3.1.next
+              (omega (arith, h3)) (c3.climbing.climbs r c).stands;
           session = c3.session ∙ (c2.session ∙ (c1.session ∙ c0.session));
         }),
       )

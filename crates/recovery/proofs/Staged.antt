@@ -32,7 +32,7 @@ use Rattle.recovery.specs.Rounds.{Climbs}
 use Rattle.recovery.proofs.Brought.{BroughtAll, with-more}
 use Rattle.recovery.proofs.Climbing.{stands-justifies}
 use Rattle.recovery.proofs.Correct.{correct-listed}
-use Rattle.recovery.proofs.Fetched.{window-told, lock-told}
+use Rattle.recovery.proofs.Fetched.{window-told, lock-told, executed-told}
 use Rattle.recovery.proofs.Grounds.{ground-own, ground-among, ground-cases}
 use Rattle.recovery.proofs.Highs.{highest-voted-above}
 use Rattle.recovery.proofs.Locks.{healer-highest, locks-one}
@@ -120,9 +120,11 @@ module _ (Known : Core → Type 0) (w : World) (g : IsReached Known w) (kept : N
         | inl above ↦ (elim kept [
           | inl nobody ↦
               let z = nobody r c in
+              let few = room.heights r c (suc (length y)) above in
               inr (record {
-                above = omega (arith, z);
+                above = omega (arith, above);
                 reach = omega (arith, z);
+                uncrowded = omega (arith, few);
                 many = ground-among w fam window
                     (λ i ci n q. subst (λ (xs : List Branch). Among n xs) (sym (window-all _ (nobody i ci))) q)
                     (x ∷ y) e;
@@ -133,7 +135,13 @@ module _ (Known : Core → Type 0) (w : World) (g : IsReached Known w) (kept : N
                 let h = low.0 in
                 let j = none-justifies-below (correct_family w) b (executed ch) (x ∷ y) fam pruned.careful certified
                 (r, c, executed-decided ch) e above in
-                inr (record { above = omega (arith, h, above); reach = omega (arith, h, j); many = many })
+                let few = room.heights r c (suc (length y)) above in
+                inr (record {
+                  above = omega (arith, above);
+                  reach = omega (arith, h, j);
+                  uncrowded = omega (arith, few);
+                  many = many;
+                })
           ])
         ])
         | inr below ↦ (
@@ -176,21 +184,21 @@ module _ (Known : Core → Type 0) (w : World) (g : IsReached Known w) (kept : N
               let more = with-more w w1 (x ∷ y) made (λ i ci n. subst (λ (l : List Branch). Among (x ∷ y) l)
               (sym (same i (same-correct w w1 made i ∙ ci))) n) in
               let s = ap (λ (z : Sizes). z.faults) made.sizes in
+              let few = get.uncrowded in
+              let done = done-as r c in
+              let n = ap (λ (l : List Branch). count_by (λ z. length z == suc (length y)) l) (same r c) in
               inr (record {
-                above = omega (arith, above, h);
+                above = omega (arith, above, done);
                 reach = omega (arith, reach, h);
+                uncrowded = omega (arith, few, n);
                 many = omega (arith, more, many, s);
               })
         ];
     trees = λ r c.
         let t = room.trees r (was r c) in
-        let h = (came.rest r c).forgotten in
+        let done = done-as r c in
         let n = ap (λ (l : List Branch). length l) (same r c) in
-        omega (arith, t, n, h);
-    heights = λ r c h.
-        let t = room.heights r (was r c) h in
-        let n = ap (λ (l : List Branch). count_by (λ y. length y == h) l) (same r c) in
-        omega (arith, t, n);
+        omega (arith, t, n, done);
     low = (sound-of Known w g led_by (healer-highest w fam).0).heights b (ground-own w fam).1;
   }
     where
@@ -199,6 +207,11 @@ module _ (Known : Core → Type 0) (w : World) (g : IsReached Known w) (kept : N
 
       same : (r : ℕ) → is_correct w1 r ≡ true → window (chronicle_of w1 r) ≡ window (chronicle_of w r)
       same r c = moved-window (self_of w r) (chronicle_of w r) (chronicle_of w1 r) (came.rest r c)
+
+      done-as : (r : ℕ) → is_correct w1 r ≡ true
+          → length (executed (chronicle_of w1 r)) ≡ length (executed (chronicle_of w r))
+      done-as r c = ap (λ (x : Branch). length x) (executed-told (chronicle_of w r) (chronicle_of w1 r)
+          (came.rest r c).taken)
 
   -- ---- what was brought
 
@@ -292,6 +305,8 @@ module _ (Known : Core → Type 0) (w : World) (g : IsReached Known w) (kept : N
               let same = moved-window (self_of w r) (chronicle_of w r) (chronicle_of w1 r) (came.rest r (in1 r cw)) in
               let long1 = ap (λ (l : List Branch). length l) same in
               let more = gain.longer in
+              let done = ap (λ (x : Branch). length x) (executed-told (chronicle_of w r) (chronicle_of w1 r)
+              (came.rest r (in1 r cw)).taken) in
               let trees = room.trees r cw in
               record {
                 in_view = ap (λ (s : Sizes). view s (chronicle_of w3 r)) made3.sizes
@@ -303,11 +318,11 @@ module _ (Known : Core → Type 0) (w : World) (g : IsReached Known w) (kept : N
                 reach = omega (arith, h, h1, a0, a1);
                 safe = locks-safe r c cw;
                 clear = clear-own m _;
-                trees = omega (arith, trees, long1, more, h, h1);
+                trees = omega (arith, trees, long1, more, done);
                 heights = λ n k.
                     let one = gain.heights n in
                     let same1 = ap (λ (l : List Branch). count_by (λ y. length y == n) l) same in
-                    let few = room.heights r cw n in
+                    let few = room.heights r cw n (omega (arith, k, a1)) in
                     omega (arith, one, same1, few);
               };
           low = λ r c.

@@ -9,7 +9,7 @@ use Rattle.definitions.specs.Admission.{Checked, passes, check_gathered}
 use Rattle.definitions.specs.Branches.{Block, Branch, IsBranch, Extends}
 use Rattle.definitions.specs.Checks.{Identity}
 use Rattle.definitions.specs.Chronicles.{Admitted, Chronicle, voted_blocks, taken_blocks, tree, window}
-use Rattle.definitions.specs.Chronicles.{Step.took_block, horizon}
+use Rattle.definitions.specs.Chronicles.{Step.took_block, horizon, executed}
 use Rattle.definitions.specs.Digests.{digest_of}
 use Rattle.definitions.specs.Rulings.{Input, ruling, due}
 use Rattle.definitions.specs.Runs.{run, after}
@@ -94,15 +94,15 @@ MissingBlocksAreFetched =
     (u : ℕ) (b : Block) (parent : Branch) → AheadOf (fetch_block (digest_of (b ∷ parent)) u) (λ w.
     MayFetch w u b parent → IsFetched w (after w (fetch_block (digest_of (b ∷ parent)) u w)) u (b ∷ parent))
 
--- A replica gained blocks of this branch alone, above its horizon, one of a height at most; but for what follows from
--- these, it is as it was.
+-- A replica gained blocks of this branch alone, above all that it had executed, one of a height at most; but for what
+-- follows from these, it is as it was.
 pub record OnlyGained (self : Identity) (x : Branch) (before now : Chronicle) : Type 0 where
   pub in_view : view self.sizes now ≡ view self.sizes before
   pub voted : voted_blocks now ≡ voted_blocks before
   pub forgotten : horizon now ≡ horizon before
   pub kept : (y : Branch) → Among y (window before) → Among y (window now)
   pub taken : (a : Admitted) → Among a (taken_blocks now) → Among a (taken_blocks before) ⊎ Extends x a.branch
-  pub longer : length (window now) ≤ length (window before) + (length x - horizon before)
+  pub longer : length (window now) ≤ length (window before) + (length x - length (executed before))
   pub heights : (h : ℕ)
       → count_by (λ y. length y == h) (window now) ≤ suc (count_by (λ y. length y == h) (window before))
 
@@ -110,15 +110,16 @@ pub record OnlyGained (self : Identity) (x : Branch) (before now : Chronicle) : 
 abbrev pub IsInReach : Chronicle → Branch → Type 0
 IsInReach c x = horizon c ≤ length x + BELOW_HORIZON
 
--- A replica can get this block over this parent by asking: the parent and what it justifies aren't pruned with it, and
--- more than f correct replicas have it.
+-- A replica can get this block over this parent by asking: it is above all that the replica executed, what it justifies
+-- isn't pruned there, nor its height crowded; and more than f correct replicas have it.
 pub record CanGet (w : World) (c : Chronicle) (b : Block) (parent : Branch) : Type 0 where
-  pub above : horizon c ≤ length parent
+  pub above : length (executed c) ≤ length parent
   pub reach : horizon c ≤ b.justify
+  pub uncrowded : count_by (λ x. length x == suc (length parent)) (window c) < MOST_OF_HEIGHT
   pub many : w.sizes.faults < correct_with w window (b ∷ parent)
 
 -- What is known where a branch is brought to all: a correct replica took it, each has a block of it that is in its
--- reach, or can get it, and there is room for it with each.
+-- reach, or can get it, and there is room for so many with each.
 pub record MayBring (w : World) (x : Branch) : Type 0 where
   pub keys : ShareKeys w
   pub goes : AllGoOn w
@@ -128,9 +129,7 @@ pub record MayBring (w : World) (x : Branch) : Type 0 where
       → IsInReach (chronicle_of w r) (b ∷ parent)
       → Among (b ∷ parent) (window (chronicle_of w r)) ⊎ CanGet w (chronicle_of w r) b parent)
   pub trees : OfCorrect w (λ r.
-      length (window (chronicle_of w r)) + (length x - horizon (chronicle_of w r)) ≤ MOST_BLOCKS)
-  pub heights : OfCorrect w (λ r. (h : ℕ)
-      → count_by (λ y. length y == h) (window (chronicle_of w r)) < MOST_OF_HEIGHT)
+      length (window (chronicle_of w r)) + (length x - length (executed (chronicle_of w r))) ≤ MOST_BLOCKS)
   pub low : length x < HEIGHT_LIMIT
 
 -- a replica has each block of this branch that is in its reach

@@ -8,7 +8,7 @@ use Rattle.ids.specs.Sizes.{Sizes, AreSizes, replicas, client_party}
 use Rattle.definitions.specs.Lists.{Among}
 use Rattle.definitions.specs.Branches.{Branch, Extends}
 use Rattle.definitions.specs.Careful.{AreCareful}
-use Rattle.definitions.specs.Chronicles.{window, horizon}
+use Rattle.definitions.specs.Chronicles.{window, horizon, executed}
 use Rattle.definitions.specs.Frames.{Command}
 use Rattle.definitions.specs.Frames as frame
 use Rattle.definitions.specs.Keyrings.{Keyring}
@@ -45,13 +45,14 @@ HasViews w = OfCorrect w (λ r. view_of w r + replicas w.sizes < 2 ^ 64)
 abbrev pub blocks_made : World → ℕ
 blocks_made w = (highest_voted w (correct_replicas w) - length (lock_of w (healer w))) + 6
 
--- There is room in each correct replica's tree for the blocks that healing brings, above its horizon, and makes: two of
--- each height, and none too high.
+-- There is room in each correct replica's tree, above all that it executed, for the blocks that healing brings and
+-- makes: two of each height, and none too high.
 pub record HasRoom (w : World) : Type 0 where
   pub trees : OfCorrect w (λ r.
-      length (window (chronicle_of w r)) + ((length (ground_of w) - horizon (chronicle_of w r)) + blocks_made w)
+      length (window (chronicle_of w r))
+      + ((length (ground_of w) - length (executed (chronicle_of w r))) + blocks_made w)
       ≤ MOST_BLOCKS)
-  pub heights : OfCorrect w (λ r. (h : ℕ)
+  pub heights : OfCorrect w (λ r. (h : ℕ) → length (executed (chronicle_of w r)) < h
       → count_by (λ x. length x == h) (window (chronicle_of w r)) + 2 ≤ MOST_OF_HEIGHT)
   pub low : length (lock_of w (healer w)) + blocks_made w < HEIGHT_LIMIT
 
