@@ -1,6 +1,6 @@
 //! A deployment and its clients in one process: with no liar, and with each that is as plain; one whose replicas forget what
-//! is a few heights below; one whose replicas have one worker each; one of seven replicas; and one whose replicas
-//! may hold few blocks.
+//! is a few heights below; one whose replicas have one worker each; one of seven replicas; one with a client that lies;
+//! and one whose replicas may hold few blocks.
 //! What each client reads is printed.
 #![tactic(auto)]
 
@@ -73,6 +73,16 @@ fn clients<R: Net<Stream = TcpStream> + AllocGlobal>(
     Ok(read)
 }
 
+/// What the clients of a deployment read, of whose clients the first lies: it asks, and isn't waited for.
+fn clients_beside_one_that_lies<R: Net<Stream = TcpStream> + AllocGlobal>(
+    rt: &R,
+    at: SocketAddr,
+) -> Result<Vec<String>> {
+    let liar = TcpStream::connect(rt, at)?;
+    (&mut &liar).write_all("set a 0 0 1\r\nz\r\n".as_bytes())?;
+    clients(rt, at)
+}
+
 /// Appends the line of two parties, whose key is of their numbers.
 fn write_line(alloc: Global, text: &mut String, one: u16, other: u16) -> Result<()> {
     let [a, b] = one.to_be_bytes();
@@ -84,7 +94,7 @@ fn write_line(alloc: Global, text: &mut String, one: u16, other: u16) -> Result<
     Ok(())
 }
 
-/// The keys of the replicas of these sizes and one client, which anyone can compute, by way of their file.
+/// The keys of the replicas and clients of these sizes, which anyone can compute, by way of their file.
 fn keys(alloc: Global, config: Config) -> Result<PairKeys> {
     let replicas = u16::from(config.n());
     let mut text = String::new(alloc);
@@ -92,7 +102,9 @@ fn keys(alloc: Global, config: Config) -> Result<PairKeys> {
         for other in one..replicas {
             write_line(alloc, &mut text, one, other)?;
         }
-        write_line(alloc, &mut text, one, 256)?;
+        for client in 0..u16::from(config.clients()) {
+            write_line(alloc, &mut text, one, 256 + client)?;
+        }
     }
     Ok(PairKeys::read(alloc, config, text.as_bytes())?)
 }
@@ -123,10 +135,12 @@ enum Trial {
     OneWorker,
     /// Two of seven replicas may lie, and do.
     TwoFaults(Lie),
+    /// One of two clients sends each replica what is right for that one alone.
+    LiarClient,
 }
 
 /// The deployments, in the order in which they are told.
-const TRIALS: [Trial; 13] = [
+const TRIALS: [Trial; 14] = [
     Trial::Liar(None),
     Trial::Liar(Some(Liar::Plain(Lie::Mute))),
     Trial::Liar(Some(Liar::Plain(Lie::TwoFaced))),
@@ -140,6 +154,7 @@ const TRIALS: [Trial; 13] = [
     Trial::Window(4),
     Trial::OneWorker,
     Trial::TwoFaults(Lie::BadReply),
+    Trial::LiarClient,
 ];
 
 /// So many replicas that lie so to the end.
@@ -159,6 +174,7 @@ impl Trial {
             Trial::Window(heights) => Ok(format!(in alloc; "a window of {heights} heights")?),
             Trial::OneWorker => Ok(format!(in alloc; "one worker")?),
             Trial::TwoFaults(lie) => Ok(format!(in alloc; "seven replicas, {lie:?} of two")?),
+            Trial::LiarClient => Ok(format!(in alloc; "one of two clients lies")?),
         }
     }
 
@@ -170,12 +186,32 @@ impl Trial {
         }
     }
 
+    /// How many of its clients lie. One doesn't.
+    fn liar_clients(self) -> u8 {
+        match self {
+            Trial::LiarClient => 1,
+            _ => 0,
+        }
+    }
+
+    /// What its clients read.
+    fn clients<R: Net<Stream = TcpStream> + AllocGlobal>(
+        self,
+        rt: &R,
+        at: SocketAddr,
+    ) -> Result<Vec<String>> {
+        match self {
+            Trial::LiarClient => clients_beside_one_that_lies(rt, at),
+            _ => clients(rt, at),
+        }
+    }
+
     /// How it runs.
     fn terms(self, hasher: RandomState) -> Terms {
         let usual = Terms {
             liars: None,
-            liar_clients: 0,
-            most: CONNECTIONS,
+            liar_clients: self.liar_clients(),
+            most: CONNECTIONS + u64::from(self.liar_clients()),
             blocks: None,
             window: None,
             window_most: None,
@@ -200,6 +236,7 @@ impl Trial {
                 liars: Some(to_the_end(Liar::Plain(lie), 2)),
                 ..usual
             },
+            Trial::LiarClient => usual,
         }
     }
 }
@@ -207,14 +244,15 @@ impl Trial {
 fn main(rt: HostRuntime) -> Result<()> {
     for trial in TRIALS {
         println!(rt; "{}", trial.name(rt.alloc())?)?;
-        let keys = keys(rt.alloc(), Config::new(trial.faults(), 1)?)?;
+        let clients = 1 + trial.liar_clients();
+        let keys = keys(rt.alloc(), Config::new(trial.faults(), clients)?)?;
         let listener = TcpListener::bind(&rt, "127.0.0.1:0")?;
         let at = listener.local_addr()?;
         let terms = trial.terms(RandomState::new(&rt)?);
         let (ended, read) = join(
             &rt,
             || run(&rt, &keys, &listener, terms),
-            || clients(&rt, at),
+            || trial.clients(&rt, at),
         );
         for text in &read? {
             println!(rt; "{:?}", text.as_str())?;
