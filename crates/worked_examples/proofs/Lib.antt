@@ -16,3 +16,4 @@ mod LiarTags
 mod LiarWorlds
 mod LiarRun
 mod Healing
+mod Waiting

@@ -12,4 +12,5 @@ pub mod Rounds
 pub mod Runs
 pub mod Tags
 pub mod Views
+pub mod Waiting
 pub mod Windows

@@ -6,6 +6,7 @@ ghost use Rattle.worked_examples.specs.Healing.{IsWedged, IsOffered, IsGathered}
 ghost use Rattle.worked_examples.specs.Healing.{CopiesPass, OffersPass};
 ghost use Rattle.worked_examples.specs.Grounds.{ALeadKeepsIt, AWholeOneFills, VotesFillNothing};
 ghost use Rattle.worked_examples.specs.Grounds.{AsksAnyone, ItsViewCounts};
+ghost use Rattle.worked_examples.specs.Waiting.{WedgedMayHeal};
 
 /// A block is taken where an earlier one justifies the same block, or f + 1 replicas sent it; else not.
 pub fn a_block_is_taken_on_grounds()
@@ -44,4 +45,9 @@ pub fn a_half_vote_wedges_and_grounds_heal()
 pub fn offers_and_copies_need_their_own_tags()
     ensures copies { CopiesPass }
     ensures offers { OffersPass }
+{}
+
+/// Where a half vote wedged a run, and a client waits: all that healing asks of a world holds.
+pub fn a_wedged_world_may_heal()
+    ensures { WedgedMayHeal }
 {}
