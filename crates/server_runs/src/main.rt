@@ -186,11 +186,19 @@ impl Trial {
         }
     }
 
-    /// How many of its clients lie. One doesn't.
+    /// How many of its clients lie.
     fn liar_clients(self) -> u8 {
         match self {
             Trial::LiarClient => 1,
             _ => 0,
+        }
+    }
+
+    /// How many clients it has: one that doesn't lie beside those.
+    fn clients_in_all(self) -> u8 {
+        match self {
+            Trial::LiarClient => 2,
+            _ => 1,
         }
     }
 
@@ -244,8 +252,8 @@ impl Trial {
 fn main(rt: HostRuntime) -> Result<()> {
     for trial in TRIALS {
         println!(rt; "{}", trial.name(rt.alloc())?)?;
-        let clients = 1 + trial.liar_clients();
-        let keys = keys(rt.alloc(), Config::new(trial.faults(), clients)?)?;
+        let config = Config::new(trial.faults(), trial.clients_in_all())?;
+        let keys = keys(rt.alloc(), config)?;
         let listener = TcpListener::bind(&rt, "127.0.0.1:0")?;
         let at = listener.local_addr()?;
         let terms = trial.terms(RandomState::new(&rt)?);
