@@ -13,7 +13,7 @@ capped n = min n (2 ^ 64 - 1)
 
 -- nothing is known of a client
 abbrev pub fresh : Standing
-fresh = record { cleared_in = 0; failures = 0; barred_until = 0 }
+fresh = record { cleared_in = 0; vain = 0; failures = 0; barred_until = 0 }
 
 abbrev pub standing_of : Suspects → ℕ → Standing
 standing_of s client = slice_index_or s.standings client fresh
@@ -25,10 +25,10 @@ with_standing client x s = record s { standings = slice_set s.standings client x
 abbrev pub bar_of : ℕ → ℕ
 bar_of failures = BAR_MILLIS * 2 ^ min failures MOST_DOUBLINGS
 
--- it passed its trial since the replica began anew, or wasn't the last one on trial where all others are cleared
+-- it passed its trial since the replica began anew, or was never tried in vain where all such ones are cleared
 abbrev pub is_cleared : Suspects → ℕ → Bool
 is_cleared s client =
-    (s.clears_others && not (s.last == client)) || ((standing_of s client).cleared_in == s.round)
+    (s.clears_others && ((standing_of s client).vain == 0)) || ((standing_of s client).cleared_in == s.round)
 
 abbrev pub is_on_trial : Option Trial → ℕ → Bool
 is_on_trial None client = false
@@ -49,36 +49,39 @@ may_try s now = s.is_on && is_none s.trial && nat_le s.pause_until now
 abbrev pub is_due : Suspects → (client now : ℕ) → Bool
 is_due s client now = not (nat_lt now (standing_of s client).barred_until) && not (is_cleared s client)
 
--- its place among those that do: each is the first in some round
+-- its place among those that do: behind those that were tried in vain less often, and of others another one each round
 abbrev pub place_of : Suspects → (client : ℕ) → ℕ
-place_of s client = (client + s.round % 256) * TRIAL_STRIDE % 256
+place_of s client = (standing_of s client).vain * 256 + (client + s.round % 256) * TRIAL_STRIDE % 256
 
 abbrev pub tried : Suspects → (client seq now : ℕ) → Suspects
 tried s client seq now =
-    record s { trial = Some (record { client = client; seq = seq; since = now; waits = false }); last = client }
+    record s { trial = Some (record { client = client; seq = seq; since = now; waits = false }) }
 
 -- it wasn't answered at once
 abbrev pub waiting : Trial → Trial
 waiting trial = record trial { waits = true }
 
--- The next trial waits three times as long as this one lasted, so that a view in which the others are served doesn't end
--- of trials.
-abbrev pub paused : Suspects → Trial → (now : ℕ) → Suspects
-paused s trial now = record s { pause_until = capped (now + capped ((now - trial.since) * LAG_WEIGHT)) }
+-- A trial was in vain. The next one waits three times as long as it lasted, so that a view in which the others are served
+-- doesn't end of trials.
+abbrev pub tried_in_vain : Suspects → Trial → (now : ℕ) → Suspects
+tried_in_vain s trial now = with_standing trial.client
+    (record (standing_of s trial.client) { vain = min ((standing_of s trial.client).vain + 1) (2 ^ 32 - 1) })
+    (record s { pause_until = capped (now + capped ((now - trial.since) * LAG_WEIGHT)) })
 
--- a trial failed: its client is barred
-abbrev pub failed : Suspects → Trial → (now : ℕ) → Suspects
-failed s trial now = with_standing trial.client (record (standing_of s trial.client) {
-  failures = min ((standing_of s trial.client).failures + 1) (2 ^ 32 - 1);
-  barred_until = capped (now + bar_of (standing_of s trial.client).failures);
-}) (paused s trial now)
+-- a client's trial failed: it is barred
+abbrev pub failed : Suspects → (client now : ℕ) → Suspects
+failed s client now = with_standing client (record (standing_of s client) {
+  failures = min ((standing_of s client).failures + 1) (2 ^ 32 - 1);
+  barred_until = capped (now + bar_of (standing_of s client).failures);
+}) s
 
--- a trial that goes on failed, where another client was cleared before it
-abbrev judged : Option Trial → Suspects → (now : ℕ) → Suspects
+-- a trial that goes on was in vain, and failed where another client was cleared before it
+abbrev pub judged : Option Trial → Suspects → (now : ℕ) → Suspects
 judged None s now = s
-judged (Some trial) s now = if s.has_cleared then failed s trial now else s
+judged (Some trial) s now =
+    if s.has_cleared then failed (tried_in_vain s trial now) trial.client now else tried_in_vain s trial now
 
--- the replica begins anew, and all are suspects, or only who was on trial
+-- the replica begins anew, and all are suspects, or only who was tried in vain
 abbrev again : Suspects → (clears_others : Bool) → Suspects
 again s clears_others =
     record s {
@@ -93,17 +96,14 @@ again s clears_others =
 abbrev pub begun : Suspects → (now : ℕ) → Suspects
 begun s now = again (judged s.trial s now) false
 
-abbrev paused_for : Option Trial → Suspects → (now : ℕ) → Suspects
-paused_for None s now = s
-paused_for (Some trial) s now = paused s trial now
-
--- it begins anew from its lock: only who was on trial is suspected still
+-- it begins anew from its lock: only who was tried in vain is suspected still
 abbrev pub begun_with_others : Suspects → (now : ℕ) → Suspects
-begun_with_others s now = again (paused_for s.trial s now) true
+begun_with_others s now = again (judged s.trial s now) true
 
 abbrev cleared : Trial → Suspects → (client : ℕ) → Suspects
 cleared trial s client = with_standing client (record (standing_of s client) {
   cleared_in = s.round;
+  vain = 0;
   failures = (standing_of s client).failures - 1;
 }) (record s { trial = None; has_cleared = s.has_cleared || trial.waits })
 

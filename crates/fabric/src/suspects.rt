@@ -2,7 +2,7 @@
 
 ghost use Rattle.std.specs.Prelude.{◌≡◌, None, false, option_map};
 ghost use Rattle.fabric.specs.Suspecting.{bar_of, begun, begun_with_others, failed, is_cleared, is_due, is_let_in};
-ghost use Rattle.fabric.specs.Suspecting.{may_try, paused, place_of, served, standing_of, tried, waiting};
+ghost use Rattle.fabric.specs.Suspecting.{judged, may_try, place_of, served, standing_of, tried, tried_in_vain, waiting};
 
 use ids::{ClientId, Seq};
 use tuning::{BAR_MILLIS, LAG_WEIGHT, MOST_DOUBLINGS, TRIAL_STRIDE};
@@ -12,6 +12,8 @@ use tuning::{BAR_MILLIS, LAG_WEIGHT, MOST_DOUBLINGS, TRIAL_STRIDE};
 struct Standing {
     /// The round in which it passed its trial last.
     cleared_in: u64,
+    /// How often it was tried in vain since it passed a trial.
+    vain: u32,
     /// How many of its trials failed, less one for each that it passed since.
     failures: u32,
     /// In milliseconds.
@@ -33,10 +35,10 @@ struct Trial {
 /// request is voted for by nobody.
 ///
 /// Where it begins anew as leader for want of certificates all clients are suspects. One request of theirs is let in at a
-/// time, and who had one executed is cleared. Where the replica has to begin anew while one is on trial, its client is
-/// barred for a while, twice as long each time; but only where another one was cleared before, since a block finds no
-/// certificate for other reasons, too. Where it leads from its lock, as its certificates may be at fault, who was on
-/// trial alone stays a suspect.
+/// time, first of who was tried in vain least often, and who had one executed is cleared. Where the replica has to begin
+/// anew while one is on trial, its client is barred for a while, twice as long each time; but only where another one was
+/// cleared before, since a block finds no certificate for other reasons, too. Where it leads from its lock, as its
+/// certificates may be at fault, those alone stay suspects that were tried in vain.
 #[derive(Drop)]
 pub(crate) struct Suspects {
     /// Whether anybody is suspected.
@@ -45,11 +47,9 @@ pub(crate) struct Suspects {
     round: u64,
     /// Whether a client was cleared since, by a block.
     has_cleared: bool,
-    /// Whether all are cleared but the client that was on trial last.
+    /// Whether all are cleared that weren't tried in vain.
     clears_others: bool,
     trial: Option<Trial>,
-    /// The client that was on trial last.
-    last: ClientId,
     /// When the next trial may begin, in milliseconds.
     pause_until: u64,
     /// One for each number that a client may have.
@@ -71,6 +71,7 @@ impl Suspects {
     {
         let fresh = Standing {
             cleared_in: 0,
+            vain: 0,
             failures: 0,
             barred_until: 0,
         };
@@ -80,7 +81,6 @@ impl Suspects {
             has_cleared: false,
             clears_others: false,
             trial: None,
-            last: ClientId(0),
             pause_until: 0,
             standings: [fresh; 256],
         }
@@ -97,8 +97,9 @@ impl Suspects {
     fn is_cleared(&self, client: ClientId) -> bool
         ensures { result ≡ is_cleared self.now client }
     {
-        let is_other = self.clears_others && self.last.0 != client.0;
-        is_other || self.standing(client).cleared_in == self.round
+        let standing = self.standing(client);
+        let is_other = self.clears_others && standing.vain == 0;
+        is_other || standing.cleared_in == self.round
     }
 
     /// Whether a client's requests are let in at a moment: none while it is barred, and where the replica leads and began
@@ -129,11 +130,13 @@ impl Suspects {
         !is_barred && !self.is_cleared(client)
     }
 
-    /// The place of a client among those that wait for their trials. Each is the first in some round.
+    /// The place of a client among those that wait for their trials: behind those that were tried in vain less often. Of
+    /// others each is the first in some round.
     pub(crate) fn place(&self, client: ClientId) -> u64
         ensures { result ≡ place_of self.now client }
     {
-        (u64::from(client.0) + self.round % 256) * TRIAL_STRIDE % 256
+        let turn = (u64::from(client.0) + self.round % 256) * TRIAL_STRIDE % 256;
+        u64::from(self.standing(client).vain) * 256 + turn
     }
 
     /// A client's request is let in for its trial.
@@ -146,7 +149,6 @@ impl Suspects {
             since: now,
             waits: false,
         });
-        self.last = client;
     }
 
     /// What is on trial wasn't answered at once.
@@ -158,34 +160,53 @@ impl Suspects {
         }
     }
 
-    /// The next trial waits, three times as long as this one lasted: then no view ends of trials.
-    fn pause(&mut self, trial: Trial, now: u64)
-        ensures { self.new ≡ paused self.old trial now }
-    {
-        let lasted = now.saturating_sub(trial.since);
-        self.pause_until = now.saturating_add(lasted.saturating_mul(LAG_WEIGHT));
-    }
-
-    /// A trial failed. Its client is barred for a while.
-    fn fail(&mut self, trial: Trial, now: u64)
-        ensures { self.new ≡ failed self.old trial now }
+    /// A trial was in vain. The next one waits, three times as long as this one lasted: then no view ends of trials.
+    fn note_vain(&mut self, trial: Trial, now: u64)
+        ensures { self.new ≡ tried_in_vain self.old trial now }
     {
         let standing = self.standing(trial.client);
         self.standings[usize::from(trial.client.0)] = Standing {
             cleared_in: standing.cleared_in,
+            vain: standing.vain.saturating_add(1),
+            failures: standing.failures,
+            barred_until: standing.barred_until,
+        };
+        let lasted = now.saturating_sub(trial.since);
+        self.pause_until = now.saturating_add(lasted.saturating_mul(LAG_WEIGHT));
+    }
+
+    /// A client's trial failed. It is barred for a while.
+    fn fail(&mut self, client: ClientId, now: u64)
+        ensures { self.new ≡ failed self.old client now }
+    {
+        let standing = self.standing(client);
+        self.standings[usize::from(client.0)] = Standing {
+            cleared_in: standing.cleared_in,
+            vain: standing.vain,
             failures: standing.failures.saturating_add(1),
             barred_until: now.saturating_add(bar_of(standing.failures)),
         };
-        self.pause(trial, now);
+    }
+
+    /// What is on trial was in vain, if anything is.
+    fn judge(&mut self, now: u64)
+        ensures { self.new ≡ judged self.old.trial self.old now }
+    {
+        let Some(trial) = self.trial else {
+            return;
+        };
+        let client = trial.client;
+        self.note_vain(trial, now);
+        if self.has_cleared {
+            self.fail(client, now);
+        }
     }
 
     /// The replica begins anew, with what it certified: all are suspects.
     pub(crate) fn begin(&mut self, now: u64)
         ensures { self.new ≡ begun self.old now }
     {
-        if let (Some(trial), true) = (self.trial, self.has_cleared) {
-            self.fail(trial, now);
-        }
+        self.judge(now);
         self.trial = None;
         self.has_cleared = false;
         self.clears_others = false;
@@ -193,13 +214,11 @@ impl Suspects {
         self.is_on = true;
     }
 
-    /// It begins anew from its lock: only who was on trial, if anybody was, is suspected still.
+    /// It begins anew from its lock: only who was tried in vain is suspected still.
     pub(crate) fn begin_with_others(&mut self, now: u64)
         ensures { self.new ≡ begun_with_others self.old now }
     {
-        if let Some(trial) = self.trial {
-            self.pause(trial, now);
-        }
+        self.judge(now);
         self.trial = None;
         self.has_cleared = false;
         self.clears_others = true;
@@ -228,6 +247,7 @@ impl Suspects {
         let standing = self.standing(client);
         self.standings[usize::from(client.0)] = Standing {
             cleared_in: self.round,
+            vain: 0,
             failures: standing.failures.saturating_sub(1),
             barred_until: standing.barred_until,
         };
