@@ -17,3 +17,4 @@ mod LiarWorlds
 mod LiarRun
 mod Healing
 mod Waiting
+mod WaitingRun
