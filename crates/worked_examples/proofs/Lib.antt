@@ -16,5 +16,6 @@ mod LiarTags
 mod LiarWorlds
 mod LiarRun
 mod Healing
+mod Ready
 mod Waiting
 mod WaitingRun

@@ -1,6 +1,5 @@
 -- The run that ends where a client waits in a wedged world, computed, and its premises.
-use Rattle.std.proofs.Common.{◌≡◌, ◌⊎◌, ◌++◌, ℕ, true, List, [], ◌∷◌, refl, inl, inr, arith, length}
-use Rattle.definitions.specs.Branches.{Branch}
+use Rattle.std.proofs.Common.{◌≡◌, ◌⊎◌, true, List, [], ◌∷◌, refl, inl, inr, arith, length}
 use Rattle.definitions.specs.Digests.{NoCollision, core_of}
 use Rattle.definitions.specs.FrameLimits.{Spells}
 use Rattle.definitions.specs.Frames.{Core, spelling, genesis_core}
