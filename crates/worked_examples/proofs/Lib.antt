@@ -15,6 +15,7 @@ mod Snapshots
 mod LiarTags
 mod LiarWorlds
 mod LiarRun
+mod HalfRequest
 mod Healing
 mod Ready
 mod Waiting
