@@ -15,5 +15,8 @@ mod Snapshots
 mod LiarTags
 mod LiarWorlds
 mod LiarRun
+mod HalfRequest
 mod Healing
+mod Ready
 mod Waiting
+mod WaitingRun

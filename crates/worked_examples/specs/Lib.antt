@@ -2,6 +2,7 @@ pub mod Cache
 pub mod Chains
 pub mod Frames
 pub mod Grounds
+pub mod HalfRequest
 pub mod Healing
 pub mod Histories
 pub mod Liar

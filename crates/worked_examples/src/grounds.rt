@@ -6,7 +6,9 @@ ghost use Rattle.worked_examples.specs.Healing.{IsWedged, IsOffered, IsGathered}
 ghost use Rattle.worked_examples.specs.Healing.{CopiesPass, OffersPass};
 ghost use Rattle.worked_examples.specs.Grounds.{ALeadKeepsIt, AWholeOneFills, VotesFillNothing};
 ghost use Rattle.worked_examples.specs.Grounds.{AsksAnyone, ItsViewCounts};
-ghost use Rattle.worked_examples.specs.Waiting.{WedgedMayHeal};
+ghost use Rattle.worked_examples.specs.Waiting.{IsTakenWhole, PremisesHold, WedgedMayHeal};
+ghost use Rattle.worked_examples.specs.HalfRequest.{OneVotes, MayHealIt};
+ghost use Rattle.worked_examples.specs.HalfRequest.{PremisesHold as PremisesHoldOfIt};
 
 /// A block is taken where an earlier one justifies the same block, or f + 1 replicas sent it; else not.
 pub fn a_block_is_taken_on_grounds()
@@ -47,7 +49,16 @@ pub fn offers_and_copies_need_their_own_tags()
     ensures offers { OffersPass }
 {}
 
-/// Where a half vote wedged a run, and a client waits: all that healing asks of a world holds.
+/// Where a half vote wedged a run, and a client waits: the premises of runs hold, and all that healing asks of a world.
 pub fn a_wedged_world_may_heal()
-    ensures { WedgedMayHeal }
+    ensures whole { IsTakenWhole }
+    ensures premises { PremisesHold }
+    ensures may { WedgedMayHeal }
+{}
+
+/// So it is where no replica is faulty, and a client's request was right for the leader alone.
+pub fn a_half_request_wedges_and_may_heal()
+    ensures votes { OneVotes }
+    ensures premises { PremisesHoldOfIt }
+    ensures may { MayHealIt }
 {}
