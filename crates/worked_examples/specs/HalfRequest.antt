@@ -12,7 +12,8 @@ use Rattle.definitions.specs.Replicas.{ample}
 use Rattle.definitions.specs.Runs.{run}
 use Rattle.definitions.specs.Tags.{tag_len}
 use Rattle.definitions.specs.Worlds.{World, Event, Happening, submit, relay, inject, beat, new_world}
-use Rattle.recovery.specs.NeverWedged.{MayHeal, IsAsked}
+use Rattle.recovery.specs.Healing.{heal}
+use Rattle.recovery.specs.NeverWedged.{MayHeal, IsAsked, IsAnswered}
 use Rattle.worked_examples.specs.Replicas.{payload}
 use Rattle.worked_examples.specs.Rounds.{play}
 use Rattle.worked_examples.specs.Runs.{ring}
@@ -63,3 +64,8 @@ PremisesHold = ArePremises start schedule
 -- client 0's request is frame 2 of the record
 abbrev pub MayHealIt : Type 0
 MayHealIt = MayHeal waiting × IsAsked waiting 2 0
+
+-- where the premises hold of healing too, client 0 has its receipt
+abbrev pub IsHealed : Type 0
+IsHealed = ArePremises start (schedule ++ heal 2 waiting)
+    → (last : World) × (run waiting (heal 2 waiting) ≡ Ok last) × IsAnswered last 0 1

@@ -6,9 +6,11 @@ ghost use Rattle.worked_examples.specs.Healing.{IsWedged, IsOffered, IsGathered}
 ghost use Rattle.worked_examples.specs.Healing.{CopiesPass, OffersPass};
 ghost use Rattle.worked_examples.specs.Grounds.{ALeadKeepsIt, AWholeOneFills, VotesFillNothing};
 ghost use Rattle.worked_examples.specs.Grounds.{AsksAnyone, ItsViewCounts};
-ghost use Rattle.worked_examples.specs.Waiting.{IsTakenWhole, PremisesHold, WedgedMayHeal};
+ghost use Rattle.worked_examples.specs.Waiting.{IsTakenWhole, PremisesHold, WedgedMayHeal, IsHealed};
 ghost use Rattle.worked_examples.specs.HalfRequest.{OneVotes, MayHealIt};
-ghost use Rattle.worked_examples.specs.HalfRequest.{PremisesHold as PremisesHoldOfIt};
+ghost use Rattle.worked_examples.specs.HalfRequest.{PremisesHold as PremisesHoldOfIt, IsHealed as IsHealedOfIt};
+
+use recovery::never_wedged;
 
 /// A block is taken where an earlier one justifies the same block, or f + 1 replicas sent it; else not.
 pub fn a_block_is_taken_on_grounds()
@@ -62,3 +64,11 @@ pub fn a_half_request_wedges_and_may_heal()
     ensures premises { PremisesHoldOfIt }
     ensures may { MayHealIt }
 {}
+
+/// So healing brings the clients of these two worlds their receipts, where the premises hold of healing, too.
+pub fn wedged_worlds_are_healed()
+    ensures half_vote { IsHealed }
+    ensures half_request { IsHealedOfIt }
+{
+    never_wedged();
+}
