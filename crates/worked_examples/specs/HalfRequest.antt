@@ -7,7 +7,8 @@ use Rattle.definitions.specs.Branches.{Branch}
 use Rattle.definitions.specs.Frames.{Command, Frame, command_content, spelling}
 use Rattle.definitions.specs.Frames as frame
 use Rattle.definitions.specs.Keyrings.{vector_for}
-use Rattle.definitions.specs.Premises.{ArePremises}
+use Rattle.definitions.specs.Digests.{NoCollision}
+use Rattle.definitions.specs.Premises.{ArePremises, NoForgery, CoreOfRun}
 use Rattle.definitions.specs.Replicas.{ample}
 use Rattle.definitions.specs.Runs.{run}
 use Rattle.definitions.specs.Tags.{tag_len}
@@ -65,7 +66,7 @@ PremisesHold = ArePremises start schedule
 abbrev pub MayHealIt : Type 0
 MayHealIt = MayHeal waiting × IsAsked waiting 2 0
 
--- where the premises hold of healing too, client 0 has its receipt
+-- where no tag is forged in healing too, and no two cores collide, client 0 has its receipt
 abbrev pub IsHealed : Type 0
-IsHealed = ArePremises start (schedule ++ heal 2 waiting)
+IsHealed = NoForgery start (schedule ++ heal 2 waiting) → NoCollision (CoreOfRun start (schedule ++ heal 2 waiting))
     → (last : World) × (run waiting (heal 2 waiting) ≡ Ok last) × IsAnswered last 0 1

@@ -1,6 +1,7 @@
 -- A client waits in a world that a half vote wedged: all that healing asks of a world holds there.
 use Rattle.std.specs.Prelude.{◌≡◌, ◌++◌, ◌∷◌, [], List, Ok, map}
-use Rattle.definitions.specs.Premises.{ArePremises}
+use Rattle.definitions.specs.Digests.{NoCollision}
+use Rattle.definitions.specs.Premises.{ArePremises, NoForgery, CoreOfRun}
 use Rattle.definitions.specs.Replicas.{ample}
 use Rattle.definitions.specs.Runs.{run}
 use Rattle.definitions.specs.Worlds.{World, Event, Happening, submit}
@@ -33,7 +34,7 @@ PremisesHold = ArePremises start schedule
 abbrev pub WedgedMayHeal : Type 0
 WedgedMayHeal = MayHeal waiting × IsAsked waiting 6 0
 
--- where the premises hold of healing too, the client has its receipt
+-- where no tag is forged in healing too, and no two cores collide, the client has its receipt
 abbrev pub IsHealed : Type 0
-IsHealed = ArePremises start (schedule ++ heal 6 waiting)
+IsHealed = NoForgery start (schedule ++ heal 6 waiting) → NoCollision (CoreOfRun start (schedule ++ heal 6 waiting))
     → (last : World) × (run waiting (heal 6 waiting) ≡ Ok last) × IsAnswered last 0 1

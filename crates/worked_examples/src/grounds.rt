@@ -51,7 +51,8 @@ pub fn offers_and_copies_need_their_own_tags()
     ensures offers { OffersPass }
 {}
 
-/// Where a half vote wedged a run, and a client waits: the premises of runs hold, and all that healing asks of a world.
+/// Where a half vote wedged a run, and a client waits, the premises of runs hold, and all that healing asks of a
+/// world.
 pub fn a_wedged_world_may_heal()
     ensures whole { IsTakenWhole }
     ensures premises { PremisesHold }
@@ -65,7 +66,8 @@ pub fn a_half_request_wedges_and_may_heal()
     ensures may { MayHealIt }
 {}
 
-/// So healing brings the clients of these two worlds their receipts, where the premises hold of healing, too.
+/// So healing brings the clients of these two worlds their receipts, where in all of it no tag is forged, and no two
+/// cores collide.
 pub fn wedged_worlds_are_healed()
     ensures half_vote { IsHealed }
     ensures half_request { IsHealedOfIt }
