@@ -1,6 +1,7 @@
 -- The run that a request wedges, computed: its premises, and what healing asks of its end.
 use Rattle.std.specs.Prelude.{Ok}
-use Rattle.std.proofs.Common.{◌++◌, ℕ, subst, ◌==◌, ◌≡◌, ◌≤◌, ◌⊎◌, true, List, [], ◌∷◌, refl, inl, inr, arith, length, map}
+use Rattle.std.proofs.Common.{◌++◌, ℕ, subst, ◌==◌, ◌≡◌, ◌≤◌, ◌⊎◌, true}
+use Rattle.std.proofs.Common.{List, [], ◌∷◌, refl, inl, inr, arith, length, map}
 use Rattle.ids.specs.Sizes.{AreSizes, client_party, replicas}
 use Rattle.definitions.specs.Chronicles.{window, horizon}
 use Rattle.definitions.specs.Digests.{NoCollision, core_of}
@@ -179,5 +180,6 @@ is_healed law honest apart_all =
       no_forgery = honest;
       no_collision = apart_all;
     } in
-    let x = law 2 0 sizes (λ p. p == client_party 1) ring schedule waiting met taken are (may-heal waiting small) asks in
+    let x = law 2 0 sizes (λ p. p == client_party 1) ring schedule waiting met taken are
+    (may-heal waiting small) asks in
     (x.0, x.1, subst (λ (n : ℕ). IsAnswered x.0 0 n) first_of_it x.3)

@@ -98,5 +98,6 @@ is_healed law honest apart_all =
       no_forgery = honest;
       no_collision = apart_all;
     } in
-    let x = law 6 0 sizes (λ p. p == 3) ring schedule waiting met taken are (may-heal waiting small) asks in
+    let x = law 6 0 sizes (λ p. p == 3) ring schedule waiting met taken are
+    (may-heal waiting small) asks in
     (x.0, x.1, subst (λ (n : ℕ). IsAnswered x.0 0 n) first_of_it x.3)
