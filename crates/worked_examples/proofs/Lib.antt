@@ -17,6 +17,7 @@ mod LiarWorlds
 mod LiarRun
 mod HalfRequest
 mod Healing
+mod ReadHealing
 mod Ready
 mod Waiting
 mod WaitingRun

@@ -23,7 +23,8 @@ same_key p q =
 -- what holds of each number below four holds of the correct replicas
 pub of_four : (w : World) → replicas w.sizes ≡ 4 → (P : ℕ → Type 0) → P 0 → P 1 → P 2 → P 3 → OfCorrect w P
 of_four w four P p0 p1 p2 p3 r c =
-    below r (subst (λ (n : ℕ). r < n) four (ltb-true r (replicas w.sizes) (and_parts (nat_lt r (replicas w.sizes)) _ c).0))
+    below r (subst (λ (n : ℕ). r < n) four
+    (ltb-true r (replicas w.sizes) (and_parts (nat_lt r (replicas w.sizes)) _ c).0))
   where
     below : (r : ℕ) → r < 4 → P r
     below zero l = p0

@@ -6,9 +6,11 @@ ghost use Rattle.worked_examples.specs.Healing.{IsWedged, IsOffered, IsGathered}
 ghost use Rattle.worked_examples.specs.Healing.{CopiesPass, OffersPass};
 ghost use Rattle.worked_examples.specs.Grounds.{ALeadKeepsIt, AWholeOneFills, VotesFillNothing};
 ghost use Rattle.worked_examples.specs.Grounds.{AsksAnyone, ItsViewCounts};
-ghost use Rattle.worked_examples.specs.Waiting.{IsTakenWhole, PremisesHold, WedgedMayHeal};
+ghost use Rattle.worked_examples.specs.Waiting.{IsTakenWhole, PremisesHold, WedgedMayHeal, IsHealed};
 ghost use Rattle.worked_examples.specs.HalfRequest.{OneVotes, MayHealIt};
-ghost use Rattle.worked_examples.specs.HalfRequest.{PremisesHold as PremisesHoldOfIt};
+ghost use Rattle.worked_examples.specs.HalfRequest.{PremisesHold as PremisesHoldOfIt, IsHealed as IsHealedOfIt};
+
+use recovery::never_wedged;
 
 /// A block is taken where an earlier one justifies the same block, or f + 1 replicas sent it; else not.
 pub fn a_block_is_taken_on_grounds()
@@ -49,7 +51,8 @@ pub fn offers_and_copies_need_their_own_tags()
     ensures offers { OffersPass }
 {}
 
-/// Where a half vote wedged a run, and a client waits: the premises of runs hold, and all that healing asks of a world.
+/// Where a half vote wedged a run, and a client waits, the premises of runs hold, and all that healing asks of a
+/// world.
 pub fn a_wedged_world_may_heal()
     ensures whole { IsTakenWhole }
     ensures premises { PremisesHold }
@@ -62,3 +65,12 @@ pub fn a_half_request_wedges_and_may_heal()
     ensures premises { PremisesHoldOfIt }
     ensures may { MayHealIt }
 {}
+
+/// So healing brings the clients of these two worlds their receipts, where in all of it no tag is forged, and no two
+/// cores collide.
+pub fn wedged_worlds_are_healed()
+    ensures half_vote { IsHealed }
+    ensures half_request { IsHealedOfIt }
+{
+    never_wedged();
+}
