@@ -1,6 +1,6 @@
 -- The run that a request wedges, computed: its premises, and what healing asks of its end.
 use Rattle.std.specs.Prelude.{Ok}
-use Rattle.std.proofs.Common.{◌++◌, ℕ, subst, ◌==◌, ◌≡◌, ◌≤◌, ◌⊎◌, true}
+use Rattle.std.proofs.Common.{◌==◌, ◌≡◌, ◌≤◌, ◌⊎◌, true}
 use Rattle.std.proofs.Common.{List, [], ◌∷◌, refl, inl, inr, arith, length, map}
 use Rattle.ids.specs.Sizes.{AreSizes, client_party, replicas}
 use Rattle.definitions.specs.Chronicles.{window, horizon}
@@ -9,23 +9,22 @@ use Rattle.definitions.specs.FrameLimits.{Spells}
 use Rattle.definitions.specs.Frames.{Core, spelling, genesis_core}
 use Rattle.definitions.specs.Frames as frame
 use Rattle.definitions.specs.Lists.{Among, count_below}
-use Rattle.definitions.specs.Premises.{CoreOfRun, ArePremises}
+use Rattle.definitions.specs.Premises.{CoreOfRun}
 use Rattle.definitions.specs.Replicas.{Standing.running}
 use Rattle.definitions.specs.Runs.{run}
 use Rattle.definitions.specs.Sendings.{To.to_all}
 use Rattle.definitions.specs.Sessions.{request_frame}
 use Rattle.definitions.specs.Worlds.{client_of, new_world}
 use Rattle.recovery.specs.Correct.{chronicle_of, view_of, correct_below}
-use Rattle.recovery.specs.Healing.{highest_locked, highest_voted, heal}
-use Rattle.recovery.specs.NeverWedged.{IsAsked, IsAnswered, NeverWedged, ground_of, blocks_made}
+use Rattle.recovery.specs.Healing.{highest_locked, highest_voted}
+use Rattle.recovery.specs.NeverWedged.{IsAsked, NeverWedged, ground_of, blocks_made}
 use Rattle.worked_examples.specs.HalfRequest.{sizes, start, half, unclear, schedule, waiting}
 use Rattle.worked_examples.specs.HalfRequest.{OneVotes, PremisesHold, MayHealIt, IsHealed}
-use Rattle.worked_examples.specs.Runs.{ring}
 use Rattle.worked_examples.specs.Replicas.{payload, command}
 use Rattle.worked_examples.proofs.Computed.{of_steps, of_runs}
 use Rattle.worked_examples.proofs.Forgery.{Facts, facts, seen, taken-whole, forges-nothing, cores-are}
 use Rattle.worked_examples.proofs.Forgery.{all_differ, none-collides}
-use Rattle.worked_examples.proofs.ReadHealing.{read-with}
+use Rattle.worked_examples.proofs.Healed.{healed}
 use Rattle.worked_examples.proofs.Ready.{Small, may-heal, of_four, in_row}
 
 -- ---- the run
@@ -172,14 +171,5 @@ first_of_it = refl
 
 -- so the law of healing says what it comes to
 pub is_healed : NeverWedged → IsHealed
-is_healed law honest apart_all =
-    let met : ArePremises start (schedule ++ heal 2 waiting) = record {
-      few = premises.few;
-      keys = premises.keys;
-      read = read-with start.sizes 2 waiting schedule premises.read;
-      no_forgery = honest;
-      no_collision = apart_all;
-    } in
-    let x = law 2 0 sizes (λ p. p == client_party 1) ring schedule waiting met taken are
-    (may-heal waiting small) asks in
-    (x.0, x.1, subst (λ (n : ℕ). IsAnswered x.0 0 n) first_of_it x.3)
+is_healed =
+    healed sizes (λ p. p == client_party 1) schedule 2 waiting premises taken are (may-heal waiting small) asks first_of_it

@@ -16,6 +16,7 @@ mod LiarTags
 mod LiarWorlds
 mod LiarRun
 mod HalfRequest
+mod Healed
 mod Healing
 mod ReadHealing
 mod Ready

@@ -1,22 +1,21 @@
 -- The world in which a client waits, computed as far as healing asks.
-use Rattle.std.proofs.Common.{◌++◌, ℕ, subst, ◌==◌, ◌≡◌, ◌≤◌, [], ◌∷◌, length, map, refl, arith}
+use Rattle.std.proofs.Common.{◌==◌, ◌≡◌, ◌≤◌, [], ◌∷◌, length, map, refl, arith}
 use Rattle.ids.specs.Sizes.{AreSizes, client_party, replicas}
 use Rattle.definitions.specs.Chronicles.{window, horizon}
-use Rattle.definitions.specs.Premises.{ArePremises}
 use Rattle.definitions.specs.Replicas.{Standing.running}
 use Rattle.definitions.specs.Sendings.{To.to_all}
 use Rattle.definitions.specs.Sessions.{request_frame}
 use Rattle.definitions.specs.Worlds.{client_of}
 use Rattle.recovery.specs.Correct.{chronicle_of, view_of, correct_below}
-use Rattle.recovery.specs.Healing.{highest_locked, highest_voted, heal}
-use Rattle.recovery.specs.NeverWedged.{IsAsked, IsAnswered, NeverWedged, ground_of, blocks_made}
+use Rattle.recovery.specs.Healing.{highest_locked, highest_voted}
+use Rattle.recovery.specs.NeverWedged.{IsAsked, NeverWedged, ground_of, blocks_made}
 use Rattle.worked_examples.specs.Liar.{start}
 use Rattle.worked_examples.specs.Replicas.{payload, command}
-use Rattle.worked_examples.specs.Runs.{sizes, ring}
+use Rattle.worked_examples.specs.Runs.{sizes}
 use Rattle.worked_examples.specs.Waiting.{schedule, waiting, WedgedMayHeal, IsHealed}
 use Rattle.worked_examples.proofs.Computed.{of_steps}
 use Rattle.worked_examples.proofs.WaitingRun.{taken, premises}
-use Rattle.worked_examples.proofs.ReadHealing.{read-with}
+use Rattle.worked_examples.proofs.Healed.{healed}
 use Rattle.worked_examples.proofs.Ready.{Small, may-heal, of_four, in_row}
 
 four : replicas waiting.sizes ≡ 4
@@ -90,14 +89,5 @@ first_of_it = refl
 
 -- so the law of healing says what it comes to
 pub is_healed : NeverWedged → IsHealed
-is_healed law honest apart_all =
-    let met : ArePremises start (schedule ++ heal 6 waiting) = record {
-      few = premises.few;
-      keys = premises.keys;
-      read = read-with start.sizes 6 waiting schedule premises.read;
-      no_forgery = honest;
-      no_collision = apart_all;
-    } in
-    let x = law 6 0 sizes (λ p. p == 3) ring schedule waiting met taken are
-    (may-heal waiting small) asks in
-    (x.0, x.1, subst (λ (n : ℕ). IsAnswered x.0 0 n) first_of_it x.3)
+is_healed =
+    healed sizes (λ p. p == 3) schedule 6 waiting premises taken are (may-heal waiting small) asks first_of_it

@@ -7,14 +7,13 @@ use Rattle.definitions.specs.Branches.{Branch}
 use Rattle.definitions.specs.Frames.{Command, Frame, command_content, spelling}
 use Rattle.definitions.specs.Frames as frame
 use Rattle.definitions.specs.Keyrings.{vector_for}
-use Rattle.definitions.specs.Digests.{NoCollision}
-use Rattle.definitions.specs.Premises.{ArePremises, NoForgery, CoreOfRun}
+use Rattle.definitions.specs.Premises.{ArePremises}
 use Rattle.definitions.specs.Replicas.{ample}
 use Rattle.definitions.specs.Runs.{run}
 use Rattle.definitions.specs.Tags.{tag_len}
 use Rattle.definitions.specs.Worlds.{World, Event, Happening, submit, relay, inject, beat, new_world}
-use Rattle.recovery.specs.Healing.{heal}
-use Rattle.recovery.specs.NeverWedged.{MayHeal, IsAsked, IsAnswered}
+use Rattle.recovery.specs.NeverWedged.{MayHeal, IsAsked}
+use Rattle.worked_examples.specs.Healed.{IsHealedFrom}
 use Rattle.worked_examples.specs.Replicas.{payload}
 use Rattle.worked_examples.specs.Rounds.{play}
 use Rattle.worked_examples.specs.Runs.{ring}
@@ -66,7 +65,6 @@ PremisesHold = ArePremises start schedule
 abbrev pub MayHealIt : Type 0
 MayHealIt = MayHeal waiting × IsAsked waiting 2 0
 
--- where no tag is forged in healing too, and no two cores collide, client 0 has its receipt
+-- client 0 has its receipt
 abbrev pub IsHealed : Type 0
-IsHealed = NoForgery start (schedule ++ heal 2 waiting) → NoCollision (CoreOfRun start (schedule ++ heal 2 waiting))
-    → (last : World) × (run waiting (heal 2 waiting) ≡ Ok last) × IsAnswered last 0 1
+IsHealed = IsHealedFrom start schedule 2 waiting

@@ -3,6 +3,7 @@ pub mod Chains
 pub mod Frames
 pub mod Grounds
 pub mod HalfRequest
+pub mod Healed
 pub mod Healing
 pub mod Histories
 pub mod Liar

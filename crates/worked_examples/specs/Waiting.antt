@@ -1,12 +1,11 @@
 -- A client waits in a world that a half vote wedged: all that healing asks of a world holds there.
 use Rattle.std.specs.Prelude.{◌≡◌, ◌++◌, ◌∷◌, [], List, Ok, map}
-use Rattle.definitions.specs.Digests.{NoCollision}
-use Rattle.definitions.specs.Premises.{ArePremises, NoForgery, CoreOfRun}
+use Rattle.definitions.specs.Premises.{ArePremises}
 use Rattle.definitions.specs.Replicas.{ample}
 use Rattle.definitions.specs.Runs.{run}
 use Rattle.definitions.specs.Worlds.{World, Event, Happening, submit}
-use Rattle.recovery.specs.Healing.{heal}
-use Rattle.recovery.specs.NeverWedged.{MayHeal, IsAsked, IsAnswered}
+use Rattle.recovery.specs.NeverWedged.{MayHeal, IsAsked}
+use Rattle.worked_examples.specs.Healed.{IsHealedFrom}
 use Rattle.worked_examples.specs.Healing.{wedged}
 use Rattle.worked_examples.specs.Liar.{start}
 use Rattle.worked_examples.specs.Replicas.{payload}
@@ -34,7 +33,6 @@ PremisesHold = ArePremises start schedule
 abbrev pub WedgedMayHeal : Type 0
 WedgedMayHeal = MayHeal waiting × IsAsked waiting 6 0
 
--- where no tag is forged in healing too, and no two cores collide, the client has its receipt
+-- the client has its receipt
 abbrev pub IsHealed : Type 0
-IsHealed = NoForgery start (schedule ++ heal 6 waiting) → NoCollision (CoreOfRun start (schedule ++ heal 6 waiting))
-    → (last : World) × (run waiting (heal 6 waiting) ≡ Ok last) × IsAnswered last 0 1
+IsHealed = IsHealedFrom start schedule 6 waiting
