@@ -1,5 +1,4 @@
-ghost use Rattle.std.specs.Prelude.{◌≡◌, ◌==◌, ◌&&◌, find, option_map, Option, if◌then◌else◌};
-ghost use Rattle.key_file.specs.KeyFile.{found_key};
+ghost use Rattle.std.specs.Prelude.{◌≡◌, Option, if◌then◌else◌};
 ghost use Rattle.handshake.specs.Judging.{admitted, admitted_by, dialled, link_key};
 ghost use Rattle.handshake.specs.Texts.{ask_in};
 
@@ -14,7 +13,7 @@ use crate::texts::{
 };
 use crate::words::{Life, Nonce};
 use ids::{Config, PartyId};
-use key_file::PairKey;
+use key_file::{PairKey, find_key};
 use std::marker::Model;
 
 /// A party at its handshakes, with the keys that it shares with others.
@@ -32,24 +31,6 @@ impl Model for Endpoint {
     ghost Value = { judging.Endpoint };
 
     ghost view = { λ e. record { sizes = e.config; party = e.party; life = e.life; keys = e.keys.items } };
-}
-
-/// The first of some keys that is of these two parties, in this order.
-fn find_pair(keys: &[PairKey], one: PartyId, other: PartyId) -> Option<&PairKey>
-    ensures { option_map (λ k. k.now) result ≡ find (λ k. (k.one == one) && (k.other == other)) keys.now }
-{
-    keys.iter().find(|key| key.one == one && key.other == other)
-}
-
-/// The key of two parties.
-fn find_key(keys: &[PairKey], a: PartyId, b: PartyId) -> Option<[u8; 32]>
-    ensures { result ≡ found_key keys.now a b }
-{
-    let one = PartyId(a.0.min(b.0));
-    let other = PartyId(a.0.max(b.0));
-    let found = find_pair(keys, one, other)?;
-    let key = found.key;
-    Some(key)
 }
 
 impl Endpoint {

@@ -68,8 +68,8 @@ fn find_pair(keys: &[PairKey], one: PartyId, other: PartyId) -> Option<&PairKey>
     keys.iter().find(|key| key.one == one && key.other == other)
 }
 
-/// The key that is shared by two parties.
-fn find_key(keys: &[PairKey], a: PartyId, b: PartyId) -> Option<[u8; 32]>
+/// The key among some that is of two parties, in whichever order these are named; of several the first.
+pub fn find_key(keys: &[PairKey], a: PartyId, b: PartyId) -> Option<[u8; 32]>
     ensures { result ≡ found_key keys.now a b }
 {
     let one = PartyId(a.0.min(b.0));

@@ -11,5 +11,5 @@ mod line;
 mod pair_key;
 mod rows;
 
-pub use key_file::{KeyFileFault, PairKeys};
+pub use key_file::{KeyFileFault, PairKeys, find_key};
 pub use pair_key::PairKey;
