@@ -61,29 +61,26 @@ tried s client seq now =
 abbrev pub waiting : Trial → Trial
 waiting trial = record trial { waits = true }
 
--- A trial was in vain. The next one waits three times as long as it lasted, so that a view in which the others are served
--- doesn't end of trials.
-abbrev pub tried_in_vain : Suspects → Trial → (now : ℕ) → Suspects
-tried_in_vain s trial now = with_standing trial.client
-    (record (standing_of s trial.client) { vain = min ((standing_of s trial.client).vain + 1) (2 ^ 32 - 1) })
-    (record s { pause_until = capped (now + capped ((now - trial.since) * LAG_WEIGHT)) })
+-- a client was tried in vain
+abbrev pub tried_in_vain : Suspects → (client : ℕ) → Suspects
+tried_in_vain s client = with_standing client
+    (record (standing_of s client) { vain = min ((standing_of s client).vain + 1) (2 ^ 32 - 1) }) s
 
--- a client's trial failed: it is barred
-abbrev pub failed : Suspects → (client now : ℕ) → Suspects
-failed s client now = with_standing client (record (standing_of s client) {
+-- it is barred
+abbrev pub barred : Suspects → (client now : ℕ) → Suspects
+barred s client now = with_standing client (record (standing_of s client) {
   failures = min ((standing_of s client).failures + 1) (2 ^ 32 - 1);
   barred_until = capped (now + bar_of (standing_of s client).failures);
 }) s
 
--- a trial that goes on was in vain, and failed where another client was cleared before it
-abbrev pub judged : Option Trial → Suspects → (now : ℕ) → Suspects
-judged None s now = s
-judged (Some trial) s now =
-    if s.has_cleared then failed (tried_in_vain s trial now) trial.client now else tried_in_vain s trial now
+-- The next trial waits three times as long as one that began then lasted, so that a view in which the others are served
+-- doesn't end of trials.
+abbrev pub paused : Suspects → (since now : ℕ) → Suspects
+paused s since now = record s { pause_until = capped (now + capped ((now - since) * LAG_WEIGHT)) }
 
--- the replica begins anew, and all are suspects, or only who was tried in vain
-abbrev again : Suspects → (clears_others : Bool) → Suspects
-again s clears_others =
+-- all are suspected anew, or only who was tried in vain
+abbrev pub suspecting : Suspects → (clears_others : Bool) → Suspects
+suspecting s clears_others =
     record s {
       is_on = true;
       trial = None;
@@ -92,13 +89,29 @@ again s clears_others =
       round = capped (s.round + 1);
     }
 
--- it begins anew with what it certified: all are suspects
+-- a client that is on trial since then failed it, and the others stay cleared
+abbrev pub convicted : Suspects → (client since now : ℕ) → Suspects
+convicted s client since now =
+    record (paused (barred (tried_in_vain s client) client now) since now) { trial = None; has_cleared = false }
+
+-- The replica begins anew with what it certified: who is on trial failed it, where another client was cleared since the
+-- last failure; else all are suspects.
+abbrev begun_from : Option Trial → Suspects → (now : ℕ) → Suspects
+begun_from None s now = suspecting s false
+begun_from (Some trial) s now =
+    if s.has_cleared then convicted s trial.client trial.since now
+    else suspecting (tried_in_vain s trial.client) false
+
 abbrev pub begun : Suspects → (now : ℕ) → Suspects
-begun s now = again (judged s.trial s now) false
+begun s now = begun_from s.trial s now
+
+abbrev judged : Option Trial → Suspects → (now : ℕ) → Suspects
+judged None s now = s
+judged (Some trial) s now = paused (tried_in_vain s trial.client) trial.since now
 
 -- it begins anew from its lock: only who was tried in vain is suspected still
 abbrev pub begun_with_others : Suspects → (now : ℕ) → Suspects
-begun_with_others s now = again (judged s.trial s now) true
+begun_with_others s now = suspecting (judged s.trial s now) true
 
 abbrev cleared : Trial → Suspects → (client : ℕ) → Suspects
 cleared trial s client = with_standing client (record (standing_of s client) {

@@ -1,8 +1,9 @@
 //! Whose requests a leader lets in, where what it proposes finds no certificate.
 
 ghost use Rattle.std.specs.Prelude.{◌≡◌, None, false, option_map};
-ghost use Rattle.fabric.specs.Suspecting.{bar_of, begun, begun_with_others, failed, is_cleared, is_due, is_let_in};
-ghost use Rattle.fabric.specs.Suspecting.{judged, may_try, place_of, served, standing_of, tried, tried_in_vain, waiting};
+ghost use Rattle.fabric.specs.Suspecting.{bar_of, barred, begun, begun_with_others, convicted, is_cleared, is_due};
+ghost use Rattle.fabric.specs.Suspecting.{is_let_in, may_try, paused, place_of, served, standing_of, suspecting, tried};
+ghost use Rattle.fabric.specs.Suspecting.{tried_in_vain, waiting};
 
 use ids::{ClientId, Seq};
 use tuning::{BAR_MILLIS, LAG_WEIGHT, MOST_DOUBLINGS, TRIAL_STRIDE};
@@ -36,16 +37,17 @@ struct Trial {
 ///
 /// Where it begins anew as leader for want of certificates all clients are suspects. One request of theirs is let in at a
 /// time, first of who was tried in vain least often, and who had one executed is cleared. Where the replica has to begin
-/// anew while one is on trial, its client is barred for a while, twice as long each time; but only where another one was
-/// cleared before, since a block finds no certificate for other reasons, too. Where it leads from its lock, as its
-/// certificates may be at fault, those alone stay suspects that were tried in vain.
+/// anew while one is on trial, and another one was cleared before, the client on trial is barred for a while, twice as
+/// long each time, and the others stay cleared. Where none was, all are suspects anew: a block finds no certificate for
+/// other reasons, too. Where it leads from its lock, as its certificates may be at fault, those alone stay suspects that
+/// were tried in vain.
 #[derive(Drop)]
 pub(crate) struct Suspects {
     /// Whether anybody is suspected.
     is_on: bool,
     /// How often the replica began anew.
     round: u64,
-    /// Whether a client was cleared since, by a block.
+    /// Whether a client was cleared since, or since the last trial that failed, by a block.
     has_cleared: bool,
     /// Whether all are cleared that weren't tried in vain.
     clears_others: bool,
@@ -160,24 +162,22 @@ impl Suspects {
         }
     }
 
-    /// A trial was in vain. The next one waits, three times as long as this one lasted: then no view ends of trials.
-    fn note_vain(&mut self, trial: Trial, now: u64)
-        ensures { self.new ≡ tried_in_vain self.old trial now }
+    /// A client was tried in vain.
+    fn note_vain(&mut self, client: ClientId)
+        ensures { self.new ≡ tried_in_vain self.old client }
     {
-        let standing = self.standing(trial.client);
-        self.standings[usize::from(trial.client.0)] = Standing {
+        let standing = self.standing(client);
+        self.standings[usize::from(client.0)] = Standing {
             cleared_in: standing.cleared_in,
             vain: standing.vain.saturating_add(1),
             failures: standing.failures,
             barred_until: standing.barred_until,
         };
-        let lasted = now.saturating_sub(trial.since);
-        self.pause_until = now.saturating_add(lasted.saturating_mul(LAG_WEIGHT));
     }
 
     /// A client's trial failed. It is barred for a while.
-    fn fail(&mut self, client: ClientId, now: u64)
-        ensures { self.new ≡ failed self.old client now }
+    fn bar(&mut self, client: ClientId, now: u64)
+        ensures { self.new ≡ barred self.old client now }
     {
         let standing = self.standing(client);
         self.standings[usize::from(client.0)] = Standing {
@@ -188,42 +188,65 @@ impl Suspects {
         };
     }
 
-    /// What is on trial was in vain, if anything is.
-    fn judge(&mut self, now: u64)
-        ensures { self.new ≡ judged self.old.trial self.old now }
+    /// The next trial waits, three times as long as one that began then lasted: while the others are served meanwhile, no
+    /// view ends of trials.
+    fn pause(&mut self, since: u64, now: u64)
+        ensures { self.new ≡ paused self.old since now }
     {
-        let Some(trial) = self.trial else {
-            return;
-        };
-        let client = trial.client;
-        self.note_vain(trial, now);
-        if self.has_cleared {
-            self.fail(client, now);
-        }
+        let lasted = now.saturating_sub(since);
+        self.pause_until = now.saturating_add(lasted.saturating_mul(LAG_WEIGHT));
     }
 
-    /// The replica begins anew, with what it certified: all are suspects.
+    /// All are suspected anew, or only who was tried in vain.
+    fn suspect(&mut self, clears_others: bool)
+        ensures { self.new ≡ suspecting self.old clears_others }
+    {
+        self.is_on = true;
+        self.trial = None;
+        self.has_cleared = false;
+        self.clears_others = clears_others;
+        self.round = self.round.saturating_add(1);
+    }
+
+    /// A client that is on trial since then failed it, as others were cleared: these stay so.
+    fn convict(&mut self, client: ClientId, since: u64, now: u64)
+        ensures { self.new ≡ convicted self.old client since now }
+    {
+        self.note_vain(client);
+        self.bar(client, now);
+        self.pause(since, now);
+        self.trial = None;
+        self.has_cleared = false;
+    }
+
+    /// The replica begins anew, with what it certified. Who is on trial failed it where another one was cleared since the
+    /// last failure; else all are suspects.
     pub(crate) fn begin(&mut self, now: u64)
         ensures { self.new ≡ begun self.old now }
     {
-        self.judge(now);
-        self.trial = None;
-        self.has_cleared = false;
-        self.clears_others = false;
-        self.round = self.round.saturating_add(1);
-        self.is_on = true;
+        let Some(trial) = self.trial else {
+            self.suspect(false);
+            return;
+        };
+        let (client, since) = (trial.client, trial.since);
+        if self.has_cleared {
+            self.convict(client, since, now);
+        } else {
+            self.note_vain(client);
+            self.suspect(false);
+        }
     }
 
     /// It begins anew from its lock: only who was tried in vain is suspected still.
     pub(crate) fn begin_with_others(&mut self, now: u64)
         ensures { self.new ≡ begun_with_others self.old now }
     {
-        self.judge(now);
-        self.trial = None;
-        self.has_cleared = false;
-        self.clears_others = true;
-        self.round = self.round.saturating_add(1);
-        self.is_on = true;
+        if let Some(trial) = self.trial {
+            let (client, since) = (trial.client, trial.since);
+            self.note_vain(client);
+            self.pause(since, now);
+        }
+        self.suspect(true);
     }
 
     /// Trouble is over, or the replica leads no more: nobody is suspected.

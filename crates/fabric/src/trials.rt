@@ -70,15 +70,13 @@ impl<'a, G: Gate, O: Outgoing + Questioned> Worker<'a, G, O> {
     )
         ensures { HasGrown share.old share.new }
     {
+        let Some(block) = lock.or(self.blocks.certified()) else {
+            return;
+        };
         let now = self.out.millis(rt);
-        if let Some(lock) = lock {
-            let others = self.room.begin_with_others(rt, now);
-            self.step(rt, steps, share, Input::Lead(lock));
-            self.bring_all(rt, steps, share, others);
-        } else if let Some(certified) = self.blocks.certified() {
-            self.room.begin_trials(rt, now);
-            self.step(rt, steps, share, Input::Lead(certified));
-        }
+        let others = self.room.begin_trials(rt, lock.is_some(), now);
+        self.step(rt, steps, share, Input::Lead(block));
+        self.bring_all(rt, steps, share, others);
     }
 
     /// Brings frames that were kept.

@@ -266,16 +266,15 @@ impl WaitingRoom {
             .is_let_in(client, leads, now)
     }
 
-    /// The replica begins anew as leader, with what it certified.
-    pub(crate) fn begin_trials<R: Wait>(&self, rt: &R, now: u64) {
-        self.requests.lock(rt).suspects.begin(now);
-        self.suspects_any.store(true, SeqCst);
-    }
-
-    /// It begins anew from its lock. The requests that were kept, of clients that aren't suspected.
-    pub(crate) fn begin_with_others<R: Wait>(&self, rt: &R, now: u64) -> Vec<Bytes> {
+    /// The replica begins anew as leader, from its lock or with what it certified. The requests that were kept, of clients
+    /// that aren't suspected.
+    pub(crate) fn begin_trials<R: Wait>(&self, rt: &R, from_lock: bool, now: u64) -> Vec<Bytes> {
         let mut requests = self.requests.lock(rt);
-        requests.suspects.begin_with_others(now);
+        if from_lock {
+            requests.suspects.begin_with_others(now);
+        } else {
+            requests.suspects.begin(now);
+        }
         self.suspects_any.store(true, SeqCst);
         requests.let_in(self.alloc, true, now)
     }
