@@ -255,7 +255,7 @@ abbrev pub IsClaimed : Identity → Frame → Bytes → Vote → Type 0
 IsClaimed self f d b = vote_verifies self d b ≡ true → Among (vote_claim self d b) (accepted_tags self f)
 
 -- what holds of each among them holds of all
-all-from : {A : Type 0} (P : A → Type 0) (xs : List A) → ((x : A) → Among x xs → P x) → AllByRecursion P xs
+pub all-from : {A : Type 0} (P : A → Type 0) (xs : List A) → ((x : A) → Among x xs → P x) → AllByRecursion P xs
 all-from P [] h = tt
 all-from P (x ∷ xs) h = (h x (inl refl), all-from P xs (λ y m. h y (inr m)))
 
