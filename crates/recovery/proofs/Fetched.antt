@@ -113,7 +113,7 @@ answer-holds Known w g x known u r c =
         let own = known-of Known w g r c y (window-tree (chronicle_of w r) y f.0) in
         copied y _ (one-branch Known w g y x own known f.1) refl
 
-all-both : {A : Type 0} (P : A → Type 0) (xs ys : List A) → AllByRecursion P xs → AllByRecursion P ys
+pub all-both : {A : Type 0} (P : A → Type 0) (xs ys : List A) → AllByRecursion P xs → AllByRecursion P ys
     → AllByRecursion P (xs ++ ys)
 all-both P [] ys h k = k
 all-both P (x ∷ xs) ys h k = (h.0, all-both P xs ys h.1 k)

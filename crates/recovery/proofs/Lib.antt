@@ -48,3 +48,7 @@ mod Replying
 mod Hearing
 mod Wedged
 mod FirstRequests
+mod Inventions
+mod Handed
+mod Asking
+mod Forging

@@ -6,3 +6,4 @@ pub mod Views
 pub mod Fetching
 pub mod Rounds
 pub mod Requests
+pub mod Inventions

@@ -100,12 +100,17 @@ abbrev pub IsAnswered : World → ℕ → ℕ → Type 0
 IsAnswered w client seq =
     (r : AcceptedBy) × Among r w.receipts × (r.client ≡ client) × (r.receipt.seq ≡ seq)
 
+-- healing is refused no event, all go on, and the client has its receipt
+abbrev pub HealingAnswers : (k client : ℕ) → World → Type 0
+HealingAnswers k client w =
+    (last : World) × (run w (heal k w) ≡ Ok last) × AllGoOn last × IsAnswered last client (w.session client).used
+
 -- After any run whose premises hold, and hold of what heals it: where each correct replica goes on, views and room
--- are left, and nobody pruned what others lack, healing is refused no event, all go on, and the client has its receipt.
+-- are left, and nobody pruned what others lack, healing answers the client.
 abbrev pub NeverWedged : Type 0
 NeverWedged =
     (k client : ℕ) → AheadOf (heal k) (λ w. AreSizes w.sizes → MayHeal w → IsAsked w k client
-    → (last : World) × (run w (heal k w) ≡ Ok last) × AllGoOn last × IsAnswered last client (w.session client).used)
+    → HealingAnswers k client w)
 
 -- What it asks of a world can be met: so it is where a correct client made the first request of all, whoever is faulty.
 abbrev pub FirstRequestsMayHeal : Type 0

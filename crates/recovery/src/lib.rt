@@ -10,6 +10,7 @@ ghost use Rattle.recovery.specs.Rounds.{ProposalsAreTaken, ThreeMoreDecide, Burs
 ghost use Rattle.recovery.specs.Rounds.{RoundsDecide};
 ghost use Rattle.recovery.specs.Requests.{RequestsAreExecuted, RepliesConvince};
 ghost use Rattle.recovery.specs.NeverWedged.{NeverWedged, FirstRequestsMayHeal, WaitingClientsAsked};
+ghost use Rattle.recovery.specs.Inventions.{HealingForgesNothing, RunsAreHealed};
 
 /// Timeouts alone bring all correct replicas into any view that none of them passed; nothing else changes.
 pub fn timeouts_bring_together()
@@ -112,6 +113,16 @@ pub fn replies_convince()
 /// receipt, whatever at most f faulty replicas and any clients did before.
 pub fn never_wedged()
     ensures { NeverWedged }
+{}
+
+/// Healing reads no bytes and forges no tag, if nothing was invented before that is forged for anybody.
+pub fn healing_forges_nothing()
+    ensures { HealingForgesNothing }
+{}
+
+/// So the premises of the run are enough, if no two cores collide in healing.
+pub fn runs_are_healed()
+    ensures { RunsAreHealed }
 {}
 
 /// What that asks of a world can be met: it holds after the first request of all.
