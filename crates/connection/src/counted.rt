@@ -62,7 +62,7 @@ impl<D> Counted<D> {
 
 impl<R: Read> Counted<R> {
     /// Reads once. `ReadFailed` where the device failed in this call.
-    pub(crate) fn read(&mut self, piece: &mut [u8]) -> Result<usize, Fault>
+    pub fn read(&mut self, piece: &mut [u8]) -> Result<usize, Fault>
         ensures bound { ReadsAtMost result piece.new }
         ensures bytes { ReadConsumes (R.remaining self.old.device) (R.remaining self.new.device) result
             piece.new }
@@ -114,7 +114,7 @@ impl<W: Write> Counted<W> {
 
     /// Writes all these bytes. `WriteFailed` where the device failed in this call; a part of them
     /// was written then.
-    pub(crate) fn write(&mut self, bytes: &[u8]) -> Result<(), Fault>
+    pub fn write(&mut self, bytes: &[u8]) -> Result<(), Fault>
         ensures written { OnOk result
             (Appends (W.contents self.old.device) (W.contents self.new.device) bytes.now) }
         ensures part { OnErr result
