@@ -23,6 +23,9 @@ class Edge:
         self.questions, self.leading = Questions(self), Leading(self)
         self.trouble_until = self.careful_until = -1
         self.requests = {}                                      # client -> (item, frame) of its last request
+        self.vouchers = {}                                      # client -> who else has that request
+        self.questions_for = {}                                 # (client, replica) -> the request that it passed on
+        self.passed_on = {}                                     # client -> when its request was passed on last
         self.claims = {}                                        # replica -> the digest that it announced last
         self.votes_kept = collections.defaultdict(dict)         # voter -> digest -> item
         self.vote = None                                        # to be sent at the end of this tick, to all
@@ -218,15 +221,50 @@ class Edge:
             self.town.send(self.me, self.announcement, sender)
 
     def _on_request(self, source, item, frame):
-        """From its client's own link alone. It's handed in by a leader; what was answered is answered again."""
+        """From its client's own link alone. It's handed in by a leader; what was answered is answered again. Another
+        replica passes a request on, and says by that alone that it has it."""
         command = frame.command
+        if source < self.n:
+            self._on_passed(source, item, frame)
         if source != FIRST_CLIENT + command.client or not self._is_its_own(item):
             return
         if command.seq <= self.replica.executor.last_seq(command.client):
             self.do(self._coming(item))
+            return
+        if not self.has_request(frame):
+            self.vouchers[command.client] = set()
+            self.passed_on.pop(command.client, None)
+        self.requests[command.client] = item, frame
+        self.served.setdefault(command.client, self.now)
+        for other in range(self.n):
+            if self.questions_for.get((command.client, other)) == frame:
+                del self.questions_for[command.client, other]
+                self.town.pass_on(self.me, item, other)
+
+    def has_request(self, frame):
+        """Whether a client's last request came so, tags and all."""
+        _, kept = self.requests.get(frame.command.client, (None, None))
+        return kept == frame
+
+    def _on_passed(self, source, item, frame):
+        """A leader counts who has a request; others pass it back, as soon as they have it."""
+        if self.view % self.n == self.me:
+            if self.has_request(frame):
+                self.vouchers[frame.command.client].add(source)
+        elif self.has_request(frame):
+            self.town.pass_on(self.me, item, source)
         else:
-            self.requests[command.client] = item, frame
-            self.served.setdefault(command.client, self.now)
+            self.questions_for[frame.command.client, source] = frame
+
+    def pass_on(self, clients):
+        """A leader asks by that who has their requests, again and again, until a quorum has."""
+        for client in clients:
+            if self.now - self.passed_on.get(client, -self.times.again) >= self.times.again:
+                self.passed_on[client] = self.now
+                self.town.pass_on(self.me, self.requests[client][0], ALL)
+
+    def is_vouched(self, client):
+        return len(self.vouchers[client]) + 1 >= self.config.quorum
 
     def hand_in(self, client):
         self.do(self._coming(self.requests[client][0]))

@@ -120,17 +120,31 @@ class Leading:
     # ---- requests
 
     def _give_requests(self, waiting):
-        """All that wait; or, behind a block with commands that found no certificate, one client's alone, and none
-        before all certified commands are executed."""
-        if not self.edge.is_careful():
+        """All that wait. Behind a block with commands that found no certificate all that a quorum has; behind one more
+        one client's alone of these. None before all certified commands are executed."""
+        edge = self.edge
+        if not edge.is_careful():
             for client in waiting:
-                self.edge.hand_in(client)
+                edge.hand_in(client)
             return
-        self.edge.do(Lead(self.edge.me, self.edge.replica.leaf))
-        if not self.edge.has("flush") or not self._has_unexecuted():
-            client = policy.next_client(waiting, self.failures, self.turns)
-            self.turns[client] = self.edge.now
-            self.edge.hand_in(client)
+        edge.do(Lead(edge.me, edge.replica.leaf))
+        known = self._known(waiting)
+        if known and not (edge.has("flush") and self._has_unexecuted()):
+            for client in known if self._trusts() else [policy.next_client(known, self.failures, self.turns)]:
+                self.turns[client] = edge.now
+                edge.hand_in(client)
+
+    def _known(self, waiting):
+        """Those whose requests a quorum has; for others it asks."""
+        if not self.edge.has("vouchers"):
+            return waiting
+        known = [client for client in waiting if self.edge.is_vouched(client)]
+        self.edge.pass_on([client for client in waiting if client not in known])
+        return known
+
+    def _trusts(self):
+        """What a quorum has didn't fail yet."""
+        return self.edge.has("vouchers") and self.failed <= policy.MOST_FAILED
 
     def _has_unexecuted(self):
         replica = self.edge.replica

@@ -17,6 +17,7 @@ SPARE = 64                      # heights that may come in from a sender at once
 MOST_PARKED = 256               # proposals of a view that wait for grounds or a parent
 MOST_VOTES_KEPT = 64            # votes of a voter for blocks that aren't there
 MOST_PADDING = 4096             # blocks whose digests are computed before they come
+MOST_FAILED = 2                 # blocks without a certificate in a row until those vouched for come one at a time
 MOST_QUESTIONS = 12             # times that a block is asked for on one frame's account
 
 
@@ -58,7 +59,7 @@ class Times:
 
 # What can be left out of the policy, by its name.
 RULES = ("offers", "copies", "digests", "votes to all", "lasting trouble", "beginnings", "padding", "lock first",
-         "claims", "turns", "flush", "fairness")
+         "claims", "turns", "flush", "fairness", "vouchers")
 
 
 # ---- whom a block is charged to

@@ -74,6 +74,13 @@ class Town:
             elif receiver in self.edges or receiver - FIRST_CLIENT in self.world.sessions:
                 self.links.send(self.now, source, receiver, number)
 
+    def pass_on(self, source, item, to):
+        """A replica passes a client's request on: to another, or to all others."""
+        for receiver in range(self.config.n) if to == ALL else [to]:
+            if receiver != source and receiver in self.edges:
+                self.count["requests passed on"] += 1
+                self.links.send(self.now, source, receiver, item)
+
     def to_self(self, receiver, source, item):
         self.to_themselves.append((receiver, source, item))
 
