@@ -4,3 +4,4 @@ pub mod Parcels
 pub mod Orders
 pub mod Proposed
 pub mod Suspecting
+pub mod Vouching

@@ -1,5 +1,5 @@
 -- Whose requests a leader lets in, where what it proposes finds no certificate.
-use Rattle.std.specs.Prelude.{ℕ, ◌+◌, ◌-◌, ◌*◌, ◌^◌, ◌%◌, ◌==◌, ◌&&◌, ◌||◌, Bool, true, false, not, min, Option, Some, None}
+use Rattle.std.specs.Prelude.{ℕ, ◌+◌, ◌-◌, ◌*◌, ◌^◌, ◌%◌, ◌==◌, ◌&&◌, ◌||◌, Bool, true, false, not, max, min, Option, Some, None}
 use Rattle.std.specs.Prelude.{if◌then◌else◌, is_none, nat_le, nat_lt, slice_index_or, slice_set}
 use Rattle.tuning.specs.declared.clocks.TheConstants.{LAG_WEIGHT}
 use Rattle.tuning.specs.declared.clients.TheConstants.{BAR_MILLIS, MOST_DOUBLINGS, TRIAL_STRIDE}
@@ -13,7 +13,7 @@ capped n = min n (2 ^ 64 - 1)
 
 -- nothing is known of a client
 abbrev pub fresh : Standing
-fresh = record { cleared_in = 0; vain = 0; failures = 0; barred_until = 0 }
+fresh = record { cleared_in = 0; vain = 0; failures = 0; barred_until = 0; doubts = 0; doubted_until = 0 }
 
 abbrev pub standing_of : Suspects → ℕ → Standing
 standing_of s client = slice_index_or s.standings client fresh
@@ -21,31 +21,51 @@ standing_of s client = slice_index_or s.standings client fresh
 abbrev with_standing : ℕ → Standing → Suspects → Suspects
 with_standing client x s = record s { standings = slice_set s.standings client x }
 
--- the milliseconds for which it is barred after so many failures: twice as long each time, up to so often
+-- the milliseconds for which it is barred or doubted that was so often before: twice as long each time, up to so often
 abbrev pub bar_of : ℕ → ℕ
 bar_of failures = BAR_MILLIS * 2 ^ min failures MOST_DOUBLINGS
 
--- it passed its trial since the replica began anew, or was never tried in vain where all such ones are cleared
+-- it was vouched for, or passed its trial, since the replica began anew
+abbrev pub has_passed : Suspects → ℕ → Bool
+has_passed s client = (standing_of s client).cleared_in == s.round
+
+-- it is suspected, if nobody vouches for it
+abbrev pub is_suspected : Suspects → ℕ → Bool
+is_suspected s client = s.is_on && not (has_passed s client)
+
+-- it passed, or was never tried in vain where all such ones are cleared that are vouched for
 abbrev pub is_cleared : Suspects → ℕ → Bool
-is_cleared s client =
-    (s.clears_others && ((standing_of s client).vain == 0)) || ((standing_of s client).cleared_in == s.round)
+is_cleared s client = (s.clears_others && ((standing_of s client).vain == 0)) || has_passed s client
 
 abbrev pub is_on_trial : Option Trial → ℕ → Bool
 is_on_trial None client = false
 is_on_trial (Some trial) client = trial.client == client
 
--- A client's requests are let in: where the replica leads and suspects anybody, only if it is cleared or on trial, and
--- nowhere while it is barred.
+-- A client's requests are let in though nobody vouches for them: nowhere while it is barred; where the replica leads not
+-- while it is doubted, and while anybody is suspected only if it is cleared or on trial.
 abbrev pub is_let_in : Suspects → (client : ℕ) → (leads : Bool) → (now : ℕ) → Bool
 is_let_in s client leads now =
-    (not leads || not s.is_on || is_on_trial s.trial client || is_cleared s client)
+    (not leads
+    || ((not s.is_on || is_on_trial s.trial client || has_passed s client)
+    && nat_le (standing_of s client).doubted_until now))
     && nat_le (standing_of s client).barred_until now
+
+-- A leader lets in a request of it for which enough others vouch: not while it is barred, and where trials are needed
+-- only if it is cleared or on trial.
+abbrev pub is_let_in_vouched : Suspects → (client : ℕ) → (now : ℕ) → Bool
+is_let_in_vouched s client now =
+    (not (s.is_on && s.by_trial) || is_on_trial s.trial client || is_cleared s client)
+    && nat_le (standing_of s client).barred_until now
+
+-- some client isn't let in as others are
+abbrev pub is_wary : Suspects → (now : ℕ) → Bool
+is_wary s now = s.is_on || nat_lt now s.wary_until
 
 -- another trial may begin
 abbrev pub may_try : Suspects → (now : ℕ) → Bool
-may_try s now = s.is_on && is_none s.trial && nat_le s.pause_until now
+may_try s now = s.is_on && s.by_trial && is_none s.trial && nat_le s.pause_until now
 
--- a client waits for its trial
+-- a client waits for its trial, if others vouch for its request
 abbrev pub is_due : Suspects → (client now : ℕ) → Bool
 is_due s client now = not (nat_lt now (standing_of s client).barred_until) && not (is_cleared s client)
 
@@ -66,12 +86,35 @@ abbrev pub tried_in_vain : Suspects → (client : ℕ) → Suspects
 tried_in_vain s client = with_standing client
     (record (standing_of s client) { vain = min ((standing_of s client).vain + 1) (2 ^ 32 - 1) }) s
 
+-- a moment so long from now
+abbrev until : (now times : ℕ) → ℕ
+until now times = capped (now + bar_of times)
+
+-- some client isn't let in as others are, at least until this moment
+abbrev wary : (until : ℕ) → Suspects → Suspects
+wary until s = record s { wary_until = max s.wary_until until }
+
 -- it is barred
 abbrev pub barred : Suspects → (client now : ℕ) → Suspects
-barred s client now = with_standing client (record (standing_of s client) {
-  failures = min ((standing_of s client).failures + 1) (2 ^ 32 - 1);
-  barred_until = capped (now + bar_of (standing_of s client).failures);
-}) s
+barred s client now =
+    wary (until now (standing_of s client).failures) (with_standing client (record (standing_of s client) {
+      failures = min ((standing_of s client).failures + 1) (2 ^ 32 - 1);
+      barred_until = until now (standing_of s client).failures;
+    }) s)
+
+-- it is doubted
+abbrev pub doubted : Suspects → (client now : ℕ) → Suspects
+doubted s client now =
+    wary (until now (standing_of s client).doubts) (with_standing client (record (standing_of s client) {
+      doubts = min ((standing_of s client).doubts + 1) (2 ^ 32 - 1);
+      doubted_until = until now (standing_of s client).doubts;
+    }) s)
+
+-- enough others vouch for its request: it is cleared, but where trials are needed
+abbrev pub vouched : Suspects → (client : ℕ) → Suspects
+vouched s client =
+    if s.by_trial then s
+    else with_standing client (record (standing_of s client) { cleared_in = s.round }) s
 
 -- The next trial waits three times as long as one that began then lasted, so that a view in which the others are served
 -- doesn't end of trials.
@@ -95,9 +138,9 @@ convicted s client since now =
     record (paused (barred (tried_in_vain s client) client now) since now) { trial = None; has_cleared = false }
 
 -- The replica begins anew with what it certified: who is on trial failed it, where another client was cleared since the
--- last failure; else all are suspects.
+-- last failure; else all are suspects. Where they were before, trials are needed.
 abbrev begun_from : Option Trial → Suspects → (now : ℕ) → Suspects
-begun_from None s now = suspecting s false
+begun_from None s now = suspecting (record s { by_trial = s.is_on }) false
 begun_from (Some trial) s now =
     if s.has_cleared then convicted s trial.client trial.since now
     else suspecting (tried_in_vain s trial.client) false
@@ -112,6 +155,10 @@ judged (Some trial) s now = paused (tried_in_vain s trial.client) trial.since no
 -- it begins anew from its lock: only who was tried in vain is suspected still
 abbrev pub begun_with_others : Suspects → (now : ℕ) → Suspects
 begun_with_others s now = suspecting (judged s.trial s now) true
+
+-- nobody is suspected
+abbrev pub ended : Suspects → Suspects
+ended s = record s { is_on = false; by_trial = false; trial = None }
 
 abbrev cleared : Trial → Suspects → (client : ℕ) → Suspects
 cleared trial s client = with_standing client (record (standing_of s client) {

@@ -16,6 +16,7 @@ mod suspects;
 mod taking;
 mod trials;
 mod unfounded;
+mod vouchers;
 mod waiting;
 mod worker;
 

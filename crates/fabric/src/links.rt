@@ -284,7 +284,19 @@ impl Links {
     fn hand_in<R: Wait>(&self, rt: &R, to: ReplicaId, parcel: Parcel) -> Result<(), Fault>
         ensures { OnErr result ((result ≡ Err Fault.Memory) ⊎ (result ≡ Err Fault.NoSuchParty)) }
     {
-        let row = self.clock_row();
+        self.hand_in_row(rt, self.clock_row(), to, parcel)
+    }
+
+    /// Hands in at a replica's link a parcel of this row, which is no frame.
+    fn hand_in_row<R: Wait>(
+        &self,
+        rt: &R,
+        row: Row,
+        to: ReplicaId,
+        parcel: Parcel,
+    ) -> Result<(), Fault>
+        ensures { OnErr result ((result ≡ Err Fault.Memory) ⊎ (result ≡ Err Fault.NoSuchParty)) }
+    {
         match self.replicas.get(usize::from(to.0)) {
             Some(inbox) => self.handed(row, inbox.hand_in(rt, row, parcel)),
             None => Err(Fault::NoSuchParty),
@@ -390,6 +402,42 @@ impl Links {
             }
             To::Client(client) => self.to_client(rt, from, client, frame),
         }
+    }
+
+    /// Hands in a client's request at another replica's link, or at all others', as passed on by this replica.
+    pub(crate) fn pass_request<R: Wait>(
+        &self,
+        rt: &R,
+        from: ReplicaId,
+        to: Option<ReplicaId>,
+        frame: Bytes,
+    ) -> Result<(), Fault>
+        ensures { OnErr result ((result ≡ Err Fault.Memory) ⊎ (result ≡ Err Fault.NoSuchParty)) }
+    {
+        let Some(to) = to else {
+            return self.pass_to_all(rt, from, &frame);
+        };
+        let parcel = Parcel::Passed { from, bytes: frame };
+        self.hand_in_row(rt, self.replica_row(from), to, parcel)
+    }
+
+    /// Hands it in at all others' links. One that can't take it doesn't keep it from the others.
+    fn pass_to_all<R: Wait>(&self, rt: &R, from: ReplicaId, frame: &Bytes) -> Result<(), Fault>
+        ensures { OnErr result ((result ≡ Err Fault.Memory) ⊎ (result ≡ Err Fault.NoSuchParty)) }
+    {
+        let mut all = Ok(());
+        for number in 0..self.config.n() {
+            let to = ReplicaId(number);
+            if to == from {
+                continue;
+            }
+            let bytes = frame.clone()?;
+            let parcel = Parcel::Passed { from, bytes };
+            if let Err(fault) = self.hand_in_row(rt, self.replica_row(from), to, parcel) {
+                all = Err(fault);
+            }
+        }
+        all
     }
 
     /// Hands in a frame of a replica at a client's link.

@@ -4,7 +4,7 @@ ghost use Rattle.std.specs.Prelude.{◌≡◌, ◌+◌, length};
 ghost use Rattle.tuning.specs.declared.links.TheConstants.{PARCEL_SIZE};
 
 use bytes::Bytes;
-use ids::{Digest, View};
+use ids::{Digest, ReplicaId, View};
 use tuning::PARCEL_SIZE;
 
 /// How much a frame takes of its sender's share, at a replica's link and at a client's.
@@ -22,6 +22,11 @@ pub enum Parcel {
         /// The frames that are handed to one replica's link are numbered from 1. At 2^64 - 1 the
         /// number stays.
         number: u64,
+        bytes: Bytes,
+    },
+    /// A client's request, as it came to another replica, which passes it on. It comes to no replica as a frame.
+    Passed {
+        from: ReplicaId,
         bytes: Bytes,
     },
     /// Leave to make a proposal.
@@ -44,7 +49,7 @@ impl Parcel {
         ensures { result ≡ size_of self.now }
     {
         match self {
-            Parcel::Frame { bytes, .. } => frame_size(bytes),
+            Parcel::Frame { bytes, .. } | Parcel::Passed { bytes, .. } => frame_size(bytes),
             _ => PARCEL_SIZE,
         }
     }

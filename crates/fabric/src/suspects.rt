@@ -1,9 +1,10 @@
 //! Whose requests a leader lets in, where what it proposes finds no certificate.
 
 ghost use Rattle.std.specs.Prelude.{◌≡◌, None, false, option_map};
-ghost use Rattle.fabric.specs.Suspecting.{bar_of, barred, begun, begun_with_others, convicted, is_cleared, is_due};
-ghost use Rattle.fabric.specs.Suspecting.{is_let_in, may_try, paused, place_of, served, standing_of, suspecting, tried};
-ghost use Rattle.fabric.specs.Suspecting.{tried_in_vain, waiting};
+ghost use Rattle.fabric.specs.Suspecting.{bar_of, barred, begun, begun_with_others, convicted, doubted, ended};
+ghost use Rattle.fabric.specs.Suspecting.{has_passed, is_cleared, is_due, is_let_in, is_let_in_vouched, is_on_trial, is_suspected};
+ghost use Rattle.fabric.specs.Suspecting.{is_wary, may_try, paused, place_of, served, standing_of, suspecting, tried};
+ghost use Rattle.fabric.specs.Suspecting.{tried_in_vain, vouched, waiting};
 
 use ids::{ClientId, Seq};
 use tuning::{BAR_MILLIS, LAG_WEIGHT, MOST_DOUBLINGS, TRIAL_STRIDE};
@@ -11,7 +12,7 @@ use tuning::{BAR_MILLIS, LAG_WEIGHT, MOST_DOUBLINGS, TRIAL_STRIDE};
 /// What is known of a client.
 #[derive(Clone, Copy, Debug, PartialEq, Eq)]
 struct Standing {
-    /// The round in which it passed its trial last.
+    /// The round in which it was vouched for or passed its trial last.
     cleared_in: u64,
     /// How often it was tried in vain since it passed a trial.
     vain: u32,
@@ -19,6 +20,10 @@ struct Standing {
     failures: u32,
     /// In milliseconds.
     barred_until: u64,
+    /// How often nobody vouched for its request.
+    doubts: u32,
+    /// Until when its requests are let in only where others vouch for them, in milliseconds.
+    doubted_until: u64,
 }
 
 /// A request that is let in for its client to be cleared.
@@ -32,33 +37,41 @@ struct Trial {
     waits: bool,
 }
 
-/// What a replica knows of clients, since a request may be right for it and for no other replica: a block with such a
-/// request is voted for by nobody.
+/// What a replica knows of clients, since a request may be right for it and not for others: a block with such a request
+/// is voted for by too few.
 ///
-/// Where it begins anew as leader for want of certificates all clients are suspects. One request of theirs is let in at a
-/// time, first of who was tried in vain least often, and who had one executed is cleared. Where the replica has to begin
-/// anew while one is on trial, and another one was cleared before, the client on trial is barred for a while, twice as
-/// long each time, and the others stay cleared. Where none was, all are suspects anew: a block finds no certificate for
-/// other reasons, too. Where it leads from its lock, as its certificates may be at fault, those alone stay suspects that
-/// were tried in vain.
+/// Where it begins anew as leader for want of certificates all clients are suspects. A client is cleared once so many
+/// others vouch for its request that a quorum has it. Who isn't by the time that nobody is suspected any more is doubted for
+/// a while, twice as long each time: of such a client this leader lets in only what others vouch for.
+///
+/// Others may vouch and then not vote. So where the replica begins anew while clients are suspected, those that are
+/// vouched for go on trial: one request is let in at a time, first of who was tried in vain least often, and who had one
+/// executed is cleared. Where the replica has to begin anew while one is on trial, and another one was cleared before, the
+/// client on trial is barred for a while, twice as long each time, and the others stay cleared. Where none was, all are
+/// suspects anew: a block finds no certificate for other reasons, too. Where it leads from its lock, as its certificates may
+/// be at fault, who is vouched for is let in but for those that were tried in vain.
 #[derive(Drop)]
 pub(crate) struct Suspects {
     /// Whether anybody is suspected.
     is_on: bool,
+    /// Whether a client that is vouched for is let in for its trial alone.
+    by_trial: bool,
     /// How often the replica began anew.
     round: u64,
     /// Whether a client was cleared since, or since the last trial that failed, by a block.
     has_cleared: bool,
-    /// Whether all are cleared that weren't tried in vain.
+    /// Whether all that are vouched for are cleared but who was tried in vain.
     clears_others: bool,
     trial: Option<Trial>,
     /// When the next trial may begin, in milliseconds.
     pause_until: u64,
+    /// Until when some client is barred or doubted, in milliseconds.
+    wary_until: u64,
     /// One for each number that a client may have.
     standings: [Standing; 256],
 }
 
-/// For how many milliseconds a client is barred of which so many trials failed before.
+/// For how many milliseconds a client is barred or doubted that was so often before.
 fn bar_of(failures: u32) -> u64
     ensures { result ≡ bar_of failures }
 {
@@ -70,20 +83,25 @@ impl Suspects {
     pub(crate) fn new() -> Suspects
         ensures on { result.is_on ≡ false }
         ensures trial { result.trial ≡ None }
+        ensures wary { result.wary_until ≡ 0 }
     {
         let fresh = Standing {
             cleared_in: 0,
             vain: 0,
             failures: 0,
             barred_until: 0,
+            doubts: 0,
+            doubted_until: 0,
         };
         Suspects {
             is_on: false,
+            by_trial: false,
             round: 0,
             has_cleared: false,
             clears_others: false,
             trial: None,
             pause_until: 0,
+            wary_until: 0,
             standings: [fresh; 256],
         }
     }
@@ -95,36 +113,74 @@ impl Suspects {
         self.standings[usize::from(client.0)]
     }
 
-    /// Whether a client isn't suspected since the replica began anew.
+    /// Whether a client was vouched for or passed its trial since the replica began anew.
+    fn has_passed(&self, client: ClientId) -> bool
+        ensures { result ≡ has_passed self.now client }
+    {
+        self.standing(client).cleared_in == self.round
+    }
+
+    /// Whether a client is suspected for which nobody vouches.
+    pub(crate) fn is_suspected(&self, client: ClientId) -> bool
+        ensures { result ≡ is_suspected self.now client }
+    {
+        self.is_on && !self.has_passed(client)
+    }
+
+    /// Whether a client that is vouched for isn't suspected since the replica began anew.
     fn is_cleared(&self, client: ClientId) -> bool
         ensures { result ≡ is_cleared self.now client }
     {
-        let standing = self.standing(client);
-        let is_other = self.clears_others && standing.vain == 0;
-        is_other || standing.cleared_in == self.round
+        let is_other = self.clears_others && self.standing(client).vain == 0;
+        is_other || self.has_passed(client)
     }
 
-    /// Whether a client's requests are let in at a moment: none while it is barred, and where the replica leads and began
-    /// anew, those of clients that are cleared or on trial.
+    /// Whether a client is on trial.
+    fn is_on_trial(&self, client: ClientId) -> bool
+        ensures { result ≡ is_on_trial self.now.trial client }
+    {
+        match self.trial {
+            Some(trial) => trial.client.0 == client.0,
+            None => false,
+        }
+    }
+
+    /// Whether a client's requests are let in at a moment though nobody vouches for them: none while it is barred, and
+    /// where the replica leads none while it is doubted, and while anybody is suspected those of clients that are cleared or
+    /// on trial.
     pub(crate) fn is_let_in(&self, client: ClientId, leads: bool, now: u64) -> bool
         ensures { result ≡ is_let_in self.now client leads now }
     {
-        let on_trial = match self.trial {
-            Some(trial) => trial.client.0 == client.0,
-            None => false,
-        };
-        let is_free = !leads || !self.is_on || on_trial || self.is_cleared(client);
+        let is_free = !self.is_on || self.is_on_trial(client) || self.has_passed(client);
+        let standing = self.standing(client);
+        let may = !leads || (is_free && now >= standing.doubted_until);
+        may && now >= standing.barred_until
+    }
+
+    /// Whether a leader lets in a client's request at a moment for which enough others vouch.
+    pub(crate) fn is_let_in_vouched(&self, client: ClientId, now: u64) -> bool
+        ensures { result ≡ is_let_in_vouched self.now client now }
+    {
+        let needs_trial = self.is_on && self.by_trial;
+        let is_free = !needs_trial || self.is_on_trial(client) || self.is_cleared(client);
         is_free && now >= self.standing(client).barred_until
+    }
+
+    /// Whether some client isn't let in at a moment as others are.
+    pub(crate) fn is_wary(&self, now: u64) -> bool
+        ensures { result ≡ is_wary self.now now }
+    {
+        self.is_on || now < self.wary_until
     }
 
     /// Whether another trial may begin.
     pub(crate) fn may_try(&self, now: u64) -> bool
         ensures { result ≡ may_try self.now now }
     {
-        self.is_on && self.trial.is_none() && now >= self.pause_until
+        self.is_on && self.by_trial && self.trial.is_none() && now >= self.pause_until
     }
 
-    /// Whether a client waits for its trial, if it has a request.
+    /// Whether a client waits for its trial, if others vouch for its request.
     pub(crate) fn is_due(&self, client: ClientId, now: u64) -> bool
         ensures { result ≡ is_due self.now client now }
     {
@@ -168,10 +224,8 @@ impl Suspects {
     {
         let standing = self.standing(client);
         self.standings[usize::from(client.0)] = Standing {
-            cleared_in: standing.cleared_in,
             vain: standing.vain.saturating_add(1),
-            failures: standing.failures,
-            barred_until: standing.barred_until,
+            ..standing
         };
     }
 
@@ -180,11 +234,39 @@ impl Suspects {
         ensures { self.new ≡ barred self.old client now }
     {
         let standing = self.standing(client);
+        let until = now.saturating_add(bar_of(standing.failures));
         self.standings[usize::from(client.0)] = Standing {
-            cleared_in: standing.cleared_in,
-            vain: standing.vain,
             failures: standing.failures.saturating_add(1),
-            barred_until: now.saturating_add(bar_of(standing.failures)),
+            barred_until: until,
+            ..standing
+        };
+        self.wary_until = self.wary_until.max(until);
+    }
+
+    /// Not enough others vouched for a client's request. It is doubted for a while.
+    pub(crate) fn doubt(&mut self, client: ClientId, now: u64)
+        ensures { self.new ≡ doubted self.old client now }
+    {
+        let standing = self.standing(client);
+        let until = now.saturating_add(bar_of(standing.doubts));
+        self.standings[usize::from(client.0)] = Standing {
+            doubts: standing.doubts.saturating_add(1),
+            doubted_until: until,
+            ..standing
+        };
+        self.wary_until = self.wary_until.max(until);
+    }
+
+    /// Enough others vouch for a client's request. Where that is enough the client is cleared.
+    pub(crate) fn vouch(&mut self, client: ClientId)
+        ensures { self.new ≡ vouched self.old client }
+    {
+        if self.by_trial {
+            return;
+        }
+        self.standings[usize::from(client.0)] = Standing {
+            cleared_in: self.round,
+            ..self.standing(client)
         };
     }
 
@@ -220,11 +302,12 @@ impl Suspects {
     }
 
     /// The replica begins anew, with what it certified. Who is on trial failed it where another one was cleared since the
-    /// last failure; else all are suspects.
+    /// last failure; else all are suspects. Where they were before, that others vouch isn't enough any more.
     pub(crate) fn begin(&mut self, now: u64)
         ensures { self.new ≡ begun self.old now }
     {
         let Some(trial) = self.trial else {
+            self.by_trial = self.is_on;
             self.suspect(false);
             return;
         };
@@ -251,9 +334,10 @@ impl Suspects {
 
     /// Trouble is over, or the replica leads no more: nobody is suspected.
     pub(crate) fn end(&mut self)
-        ensures { self.new ≡ record self.old { is_on = false; trial = None } }
+        ensures { self.new ≡ ended self.old }
     {
         self.is_on = false;
+        self.by_trial = false;
         self.trial = None;
     }
 
@@ -272,7 +356,7 @@ impl Suspects {
             cleared_in: self.round,
             vain: 0,
             failures: standing.failures.saturating_sub(1),
-            barred_until: standing.barred_until,
+            ..standing
         };
         self.trial = None;
         self.has_cleared = self.has_cleared || trial.waits;

@@ -4,47 +4,110 @@ ghost use Rattle.fabric.specs.Shares.{HasGrown};
 
 use crate::links::is_request;
 use crate::questioned::Questioned;
+use crate::requests::{Again, Entry};
 use crate::worker::{OWN, Outgoing, Worker};
 use admission::{Input, admit};
 use bytes::Bytes;
 use frames_view::{Frame, read};
-use ids::{Digest, Kind};
+use ids::{ClientId, Config, Digest, Kind, ReplicaId, Seq};
 use signed_frames::Sending;
 use std::sync::Wait;
 use std::time::Clock;
 use turns::{Gate, Share, Steps};
 
+/// Whose request a frame is, and its number, if it is one.
+fn request_of(config: &Config, bytes: &Bytes) -> Option<(ClientId, Seq)> {
+    if !is_request(bytes.as_slice()) {
+        return None;
+    }
+    match read(config, bytes.as_slice()) {
+        Ok(Frame::Request(command)) => Some((command.client(), command.seq())),
+        _ => None,
+    }
+}
+
 impl<'a, G: Gate, O: Outgoing + Questioned> Worker<'a, G, O> {
-    /// Keeps a frame that is a request.
+    /// Keeps a frame that is a request. Who asked for it before it came has an answer.
     pub(crate) fn keep_request<R: Wait>(&self, rt: &R, bytes: &Bytes) {
-        if !is_request(bytes.as_slice()) {
+        let Some((client, seq)) = request_of(&self.keyring.config(), bytes) else {
             return;
-        }
-        if let Ok(Frame::Request(command)) = read(&self.keyring.config(), bytes.as_slice()) {
-            self.room
-                .keep_request(rt, command.client(), command.seq(), bytes);
+        };
+        self.room.keep_request(rt, client, seq, bytes);
+        if self.room.has_questions() {
+            self.answer_all(rt, client, bytes);
         }
     }
 
-    /// Whether a request's client is let in now.
-    fn is_let_in<R: Wait + Clock>(&self, rt: &R, bytes: &Bytes) -> bool {
-        match read(&self.keyring.config(), bytes.as_slice()) {
-            Ok(Frame::Request(command)) => {
-                let (leads, now) = (self.out.leads(), self.out.millis(rt));
-                self.room.lets_in(rt, command.client(), leads, now)
+    /// Passes a request on to all who asked for it before it came.
+    fn answer_all<R: Wait>(&self, rt: &R, client: ClientId, bytes: &Bytes) {
+        for number in 0..self.keyring.config().n() {
+            let from = ReplicaId(number);
+            if self.room.answers(rt, client, from, bytes) {
+                self.pass_on(rt, Some(from), bytes);
             }
-            _ => true,
         }
     }
 
-    /// Whether a frame is let in: in trouble a request is where its client is. Another one is kept, where its tag is
-    /// right.
+    /// Passes a request on to another replica, or to all others. What can't be taken is lost, as on any network.
+    fn pass_on<R: Wait>(&self, rt: &R, to: Option<ReplicaId>, bytes: &Bytes) {
+        if let Ok(bytes) = bytes.clone() {
+            self.out.pass_on(rt, self.keyring.replica(), to, bytes);
+        }
+    }
+
+    /// Another replica passed a request on. A leader learns by that who has it. Others pass it back, as soon as they have
+    /// it.
+    pub(crate) fn hear<R: Wait + Clock, S: Steps>(
+        &mut self,
+        rt: &R,
+        steps: &mut S,
+        share: &mut Share,
+        from: ReplicaId,
+        bytes: Bytes,
+    )
+        ensures { HasGrown share.old share.new }
+    {
+        let Some((client, _seq)) = request_of(&self.keyring.config(), &bytes) else {
+            return;
+        };
+        if self.out.leads() {
+            let now = self.out.millis(rt);
+            if self.room.vouch(rt, client, from, &bytes, now) {
+                let _answer = self.bring(rt, steps, share, OWN, bytes.as_slice());
+            }
+        } else if self.room.has_request(rt, client, &bytes) {
+            self.pass_on(rt, Some(from), &bytes);
+        } else {
+            self.room.wait_for_request(rt, client, from, bytes);
+        }
+    }
+
+    /// What is to be done with a request now.
+    fn entry<R: Wait + Clock>(&self, rt: &R, bytes: &Bytes) -> Entry {
+        match request_of(&self.keyring.config(), bytes) {
+            Some((client, _seq)) => {
+                let (leads, now) = (self.out.leads(), self.out.millis(rt));
+                self.room.entry(rt, client, bytes, leads, now)
+            }
+            None => Entry::LetIn,
+        }
+    }
+
+    /// Whether a frame is let in. A request that isn't is kept, where its tag is right, and if need be others are asked for
+    /// it.
     pub(crate) fn lets_in<R: Wait + Clock>(&self, rt: &R, bytes: &Bytes) -> bool {
-        if !self.out.in_trouble() || !is_request(bytes.as_slice()) || self.is_let_in(rt, bytes) {
+        if !self.room.is_wary() {
+            return true;
+        }
+        let entry = self.entry(rt, bytes);
+        if entry == Entry::LetIn {
             return true;
         }
         if admit(self.keyring.verifying(), bytes.as_slice()).is_ok() {
             self.keep_request(rt, bytes);
+            if entry == Entry::AskedFor {
+                self.pass_on(rt, None, bytes);
+            }
         }
         false
     }
@@ -74,9 +137,26 @@ impl<'a, G: Gate, O: Outgoing + Questioned> Worker<'a, G, O> {
             return;
         };
         let now = self.out.millis(rt);
-        let others = self.room.begin_trials(rt, lock.is_some(), now);
+        let again = self.room.begin_trials(rt, lock.is_some(), now);
         self.step(rt, steps, share, Input::Lead(block));
-        self.bring_all(rt, steps, share, others);
+        self.take_again(rt, steps, share, again);
+    }
+
+    /// Brings requests that were kept, and asks others for some.
+    fn take_again<R: Wait + Clock, S: Steps>(
+        &mut self,
+        rt: &R,
+        steps: &mut S,
+        share: &mut Share,
+        again: Again,
+    )
+        ensures { HasGrown share.old share.new }
+    {
+        let Again { let_in, asked_for } = again;
+        for bytes in &asked_for {
+            self.pass_on(rt, None, bytes);
+        }
+        self.bring_all(rt, steps, share, let_in);
     }
 
     /// Brings frames that were kept.
@@ -94,8 +174,8 @@ impl<'a, G: Gate, O: Outgoing + Questioned> Worker<'a, G, O> {
         }
     }
 
-    /// A leader in trouble lets in the next suspect's request. Once trouble is over, or it leads no more, nobody is
-    /// suspected: it takes what it kept as others do, so that its clock sees who waits.
+    /// A leader in trouble lets in the next suspect's request, where trials are needed. Once trouble is over, or it leads no
+    /// more, nobody is suspected: it takes what it kept as others do, so that its clock sees who waits.
     pub(crate) fn try_suspect<R: Wait + Clock, S: Steps>(
         &mut self,
         rt: &R,
@@ -105,12 +185,12 @@ impl<'a, G: Gate, O: Outgoing + Questioned> Worker<'a, G, O> {
         ensures { HasGrown share.old share.new }
     {
         if self.room.suspects_any() {
-            let now = self.out.millis(rt);
-            if self.out.in_trouble() && self.out.leads() {
+            let (leads, now) = (self.out.leads(), self.out.millis(rt));
+            if self.out.in_trouble() && leads {
                 self.try_next(rt, steps, share, now);
             } else {
-                let kept = self.room.end_trials(rt, now);
-                self.bring_all(rt, steps, share, kept);
+                let again = self.room.end_trials(rt, leads, now);
+                self.take_again(rt, steps, share, again);
             }
         }
     }

@@ -1,7 +1,7 @@
 //! Frames that wait for a block.
 
 use crate::queue::{Question, Queue};
-use crate::requests::Requests;
+use crate::requests::{Again, Entry, Requests};
 use crate::unfounded::{Unfounded, UnfoundedList};
 use admission::missing_of;
 use bytes::Bytes;
@@ -132,11 +132,15 @@ pub struct WaitingRoom {
     requests: Mutex<Requests>,
     /// Whether anybody is suspected.
     suspects_any: AtomicBool,
+    /// Whether some client may not be let in as others are.
+    is_wary: AtomicBool,
+    /// How many questions for requests are kept.
+    questions: AtomicU64,
 }
 
 impl WaitingRoom {
-    /// A room in which nothing waits, for so many workers.
-    pub fn new(alloc: Global, workers: usize) -> WaitingRoom {
+    /// A room in which nothing waits, for so many workers of a replica among these parties.
+    pub fn new(alloc: Global, config: Config, workers: usize) -> WaitingRoom {
         WaitingRoom {
             queue: Mutex::new(Queue::new(alloc)),
             workers,
@@ -147,8 +151,10 @@ impl WaitingRoom {
             lacking_grounds: AtomicU64::new(0),
             news: AtomicU64::new(0),
             alloc,
-            requests: Mutex::new(Requests::new(alloc)),
+            requests: Mutex::new(Requests::new(alloc, config)),
             suspects_any: AtomicBool::new(false),
+            is_wary: AtomicBool::new(false),
+            questions: AtomicU64::new(0),
         }
     }
 
@@ -258,17 +264,77 @@ impl WaitingRoom {
         self.requests.lock(rt).keep(client, seq, bytes);
     }
 
-    /// Whether a client's requests are let in at a moment, by a replica that leads or doesn't.
-    pub(crate) fn lets_in<R: Wait>(&self, rt: &R, client: ClientId, leads: bool, now: u64) -> bool {
-        self.requests
-            .lock(rt)
-            .suspects
-            .is_let_in(client, leads, now)
+    /// Whether a client's last request came with these bytes.
+    pub(crate) fn has_request<R: Wait>(&self, rt: &R, client: ClientId, bytes: &Bytes) -> bool {
+        self.requests.lock(rt).has(client, bytes)
     }
 
-    /// The replica begins anew as leader, from its lock or with what it certified. The requests that were kept, of clients
-    /// that aren't suspected.
-    pub(crate) fn begin_trials<R: Wait>(&self, rt: &R, from_lock: bool, now: u64) -> Vec<Bytes> {
+    /// Keeps a replica's question for a client's request, which may come yet.
+    pub(crate) fn wait_for_request<R: Wait>(
+        &self,
+        rt: &R,
+        client: ClientId,
+        from: ReplicaId,
+        bytes: Bytes,
+    ) {
+        let mut requests = self.requests.lock(rt);
+        let questions = requests.wait_for(client, from, bytes);
+        self.questions.store(questions as u64, SeqCst);
+    }
+
+    /// Whether questions for requests are kept.
+    pub(crate) fn has_questions(&self) -> bool {
+        self.questions.load(SeqCst) > 0
+    }
+
+    /// Whether a replica asked for a client's request of these bytes, and has no answer. It has one now.
+    pub(crate) fn answers<R: Wait>(
+        &self,
+        rt: &R,
+        client: ClientId,
+        from: ReplicaId,
+        bytes: &Bytes,
+    ) -> bool {
+        let mut requests = self.requests.lock(rt);
+        let (is_asked, questions) = requests.answer(client, from, bytes);
+        self.questions.store(questions as u64, SeqCst);
+        is_asked
+    }
+
+    /// Whether some client may not be let in as others are.
+    pub(crate) fn is_wary(&self) -> bool {
+        self.is_wary.load(SeqCst)
+    }
+
+    /// What is to be done at a moment with a client's request, by a replica that leads or doesn't.
+    pub(crate) fn entry<R: Wait>(
+        &self,
+        rt: &R,
+        client: ClientId,
+        bytes: &Bytes,
+        leads: bool,
+        now: u64,
+    ) -> Entry {
+        let requests = self.requests.lock(rt);
+        self.is_wary.store(requests.suspects.is_wary(now), SeqCst);
+        requests.entry(client, bytes, leads, now)
+    }
+
+    /// A replica vouches for a client's request. Whether it is to be let in now.
+    pub(crate) fn vouch<R: Wait>(
+        &self,
+        rt: &R,
+        client: ClientId,
+        from: ReplicaId,
+        bytes: &Bytes,
+        now: u64,
+    ) -> bool {
+        self.requests.lock(rt).vouch(client, from, bytes, now)
+    }
+
+    /// The replica begins anew as leader, from its lock or with what it certified. What is to be done with the requests that
+    /// were kept.
+    pub(crate) fn begin_trials<R: Wait>(&self, rt: &R, from_lock: bool, now: u64) -> Again {
         let mut requests = self.requests.lock(rt);
         if from_lock {
             requests.suspects.begin_with_others(now);
@@ -276,7 +342,8 @@ impl WaitingRoom {
             requests.suspects.begin(now);
         }
         self.suspects_any.store(true, SeqCst);
-        requests.let_in(self.alloc, true, now)
+        self.is_wary.store(true, SeqCst);
+        requests.again(self.alloc, true, now)
     }
 
     /// The request of the next trial, which begins now, if one may.
@@ -299,11 +366,12 @@ impl WaitingRoom {
         self.suspects_any.load(SeqCst)
     }
 
-    /// Nobody is suspected. The requests that were kept, of clients that aren't barred.
-    pub(crate) fn end_trials<R: Wait>(&self, rt: &R, now: u64) -> Vec<Bytes> {
+    /// Nobody is suspected any more. What is to be done with the requests that were kept, by a replica that leads or doesn't.
+    pub(crate) fn end_trials<R: Wait>(&self, rt: &R, leads: bool, now: u64) -> Again {
         let mut requests = self.requests.lock(rt);
-        requests.suspects.end();
+        requests.end(now);
         self.suspects_any.store(false, SeqCst);
-        requests.let_in(self.alloc, false, now)
+        self.is_wary.store(requests.suspects.is_wary(now), SeqCst);
+        requests.again(self.alloc, leads, now)
     }
 }

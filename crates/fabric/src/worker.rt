@@ -60,6 +60,9 @@ pub trait Outgoing {
         0
     }
 
+    /// Passes a client's request on to another replica, or to all others. They don't take it as the client's frame.
+    fn pass_on<R: Wait>(&self, _rt: &R, _from: ReplicaId, _to: Option<ReplicaId>, _frame: Bytes) {}
+
     /// Is told of a frame whose certificate isn't good for this keyring's replica, where the frame's own tag is right.
     fn doubted<R: Wait>(&self, _rt: &R, _keyring: &VerifyingKeyring, _bytes: &[u8]) {}
 }
@@ -76,6 +79,12 @@ impl Outgoing for Links {
             return;
         };
         if self.send_from(rt, from, to, bytes).is_err() {
+            self.lose();
+        }
+    }
+
+    fn pass_on<R: Wait>(&self, rt: &R, from: ReplicaId, to: Option<ReplicaId>, frame: Bytes) {
+        if self.pass_request(rt, from, to, frame).is_err() {
             self.lose();
         }
     }
@@ -282,6 +291,7 @@ impl<'a, G: Gate, O: Outgoing + Questioned> Worker<'a, G, O> {
                 Parcel::Frame { number, bytes } => {
                     self.take(rt, steps, &mut share, number, bytes);
                 }
+                Parcel::Passed { from, bytes } => self.hear(rt, steps, &mut share, from, bytes),
                 Parcel::Beat => self.step(rt, steps, &mut share, Input::Beat),
                 Parcel::Timeout(view) => self.time_out(rt, steps, &mut share, view),
                 Parcel::Lead(block) => self.lead(rt, steps, &mut share, block),

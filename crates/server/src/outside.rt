@@ -61,6 +61,10 @@ impl Outgoing for Outside<'_, '_> {
         self.links.send(rt, from, sending);
     }
 
+    fn pass_on<R: Wait>(&self, rt: &R, from: ReplicaId, to: Option<ReplicaId>, frame: Bytes) {
+        self.links.pass_on(rt, from, to, frame);
+    }
+
     fn in_trouble(&self) -> bool {
         self.station.trouble().is_on()
     }

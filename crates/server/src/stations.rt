@@ -350,7 +350,7 @@ fn build_station<'a>(
         doubts: Doubts::none(),
         trouble: TroubleSign::none(),
         inbox,
-        room: WaitingRoom::new(alloc, terms.workers.count()),
+        room: WaitingRoom::new(alloc, keys.config(), terms.workers.count()),
     };
     Ok((station, workers))
 }
