@@ -107,7 +107,7 @@ hear = refl
 -- ---- the whole of it
 
 -- the schedule, with the liar's frames as they are
-abbrev played : List Happening
+abbrev pub played : List Happening
 played = schedule_with (vote_of_liar round1) (vote_of_liar round2) (vote_of_liar round3) lied
 
 vote1_is : vote_frame liar first ≡ vote_of_liar round1
@@ -126,7 +126,7 @@ lie_is : lie ≡ lied
 unfolding of_runs
 lie_is = refl
 
-as_played : schedule ≡ played
+pub as_played : schedule ≡ played
 as_played =
     ap (λ (f : Frame). schedule_with f (vote_frame liar second) (vote_frame liar third) lie) vote1_is
     ∙ (ap (λ (f : Frame). schedule_with (vote_of_liar round1) f (vote_frame liar third) lie) vote2_is
@@ -144,7 +144,7 @@ cores3 = core_twice round3 ++ cores4
 abbrev cores2 : List Core
 cores2 = core_twice round2 ++ cores3
 
-abbrev cores1 : List Core
+abbrev pub cores1 : List Core
 cores1 = core_twice round1 ++ cores2
 
 abbrev from_round3 : List Happening
@@ -180,13 +180,13 @@ sees1 =
     goes_on accepted requested after1 (round 1 (vote_of_liar round1)) from_round2
     (core_twice round1) cores2 refl part1 sees2
 
-sees : seen start played ≡ ends accepted cores1
+pub sees : seen start played ≡ ends accepted cores1
 sees =
     ap (λ (w : World). seen w played) start-restored
     ∙ goes_on accepted (snapshot start) requested asking from_round1 [] cores1 refl ask sees1
 
 -- what is told of it
-found : Facts
+unfoldable pub found : Facts
 found = record {
   taken = true;
   honest = true;
@@ -274,7 +274,7 @@ lie_read = (
   inr (tt, refl),
 )
 
-all_read : AllRead sizes schedule
+pub all_read : AllRead sizes schedule
 all_read = (
   tt,
   (
@@ -329,14 +329,14 @@ all_read = (
 )
 
 -- genesis's core and those of the four blocks
-abbrev cores : List Core
+abbrev pub cores : List Core
 cores = genesis_core ∷ round1.core ∷ round2.core ∷ round3.core ∷ round4.core ∷ []
 
-apart : all_differ cores ≡ true
+pub apart : all_differ cores ≡ true
 unfolding of_steps
 apart = refl
 
-one_of : (c : Core) → (c ≡ genesis_core) ⊎ (Among c found.sent ⊎ Among c found.brought) → Among c cores
+pub one_of : (c : Core) → (c ≡ genesis_core) ⊎ (Among c found.sent ⊎ Among c found.brought) → Among c cores
 unfolding found
 one_of c (inl e) = inl e
 one_of c (inr (inl m)) = inr m

@@ -70,7 +70,7 @@ is_near (relay k to) = is_these to
 is_near (inject to bytes read) = is_these to
 is_near (timeout r) = false
 is_near (beat r) = r == 0
-is_near (prune r height) = false
+is_near (prune r height) = r == 0
 is_near (offer to source) = false
 is_near (gather to sources) = false
 is_near (lead r d) = false
@@ -162,7 +162,7 @@ acts-leave s (relay k to) m t = these-leave s to m (recorded (restored s) k) t
 acts-leave s (inject to bytes read) m t = these-leave s to m read t
 acts-leave s (timeout r) m t = absurd (true≢false (sym t))
 acts-leave s (beat r) m t = stepped-leaves (restored s) r m _ (inl (eqb-true r 0 t))
-acts-leave s (prune r height) m t = absurd (true≢false (sym t))
+acts-leave s (prune r height) m t = stepped-leaves (restored s) r m _ (inl (eqb-true r 0 t))
 acts-leave s (offer to source) m t = absurd (true≢false (sym t))
 acts-leave s (gather to sources) m t = absurd (true≢false (sym t))
 acts-leave s (lead r d) m t = absurd (true≢false (sym t))
@@ -256,7 +256,7 @@ seen-over w h a b =
         (record { taken = t'; honest = n'; brought = l'; last = b.last })
     made_alike p q r = λ i. record { taken = p i; honest = q i; brought = r i; last = b.last }
 
-seen-append : (hs rest : List Happening) (w : World)
+pub seen-append : (hs rest : List Happening) (w : World)
     → seen w (hs ++ rest) ≡ then_see (part_of (seen w hs)) (seen (after w hs) rest)
 unfolding after
 seen-append [] rest w = refl
