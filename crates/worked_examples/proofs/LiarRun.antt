@@ -42,11 +42,11 @@ ask : part_of (seen (restored (snapshot start)) (happen asking)) ≡ shows [] re
 unfolding of_runs
 ask = refl
 
-abbrev vote_of_liar : Round → Frame
+abbrev pub vote_of_liar : Round → Frame
 vote_of_liar r = vote_by 3 r r.by_liar
 
 -- the core of a round comes to replicas 0 and 1
-abbrev core_twice : Round → List Core
+abbrev pub core_twice : Round → List Core
 core_twice r = r.core ∷ r.core ∷ []
 
 part1 : part_of (seen (restored requested) (happen (round 1 (vote_of_liar round1))))
@@ -186,7 +186,7 @@ sees =
     ∙ goes_on accepted (snapshot start) requested asking from_round1 [] cores1 refl ask sees1
 
 -- what is told of it
-unfoldable pub found : Facts
+found : Facts
 found = record {
   taken = true;
   honest = true;
@@ -253,7 +253,7 @@ of_the_cache = (
 -- ---- the premises
 
 -- the liar's frames are frames, so they are read as these
-vote_read : (b : Branch) → Spells sizes (spelling (vote_frame liar b)) (vote_frame liar b)
+pub vote_read : (b : Branch) → Spells sizes (spelling (vote_frame liar b)) (vote_frame liar b)
 unfolding vote_frame
 vote_read b = (
   (IsDigest-digest_of b, record { voter = omega arith; vector = IsVector-vector_for sizes _ _ _ }),
@@ -328,30 +328,30 @@ all_read = (
   ),
 )
 
+-- each of these twice
+abbrev pub doubled : List Core → List Core
+doubled [] = []
+doubled (c ∷ cs) = c ∷ c ∷ doubled cs
+
+pub once : (c : Core) (cs : List Core) → Among c (doubled cs) → Among c cs
+once c [] m = absurd m
+once c (x ∷ cs) (inl e) = inl e
+once c (x ∷ cs) (inr (inl e)) = inl e
+once c (x ∷ cs) (inr (inr m)) = inr (once c cs m)
+
 -- genesis's core and those of the four blocks
-abbrev pub cores : List Core
+abbrev cores : List Core
 cores = genesis_core ∷ round1.core ∷ round2.core ∷ round3.core ∷ round4.core ∷ []
 
-pub apart : all_differ cores ≡ true
+apart : all_differ cores ≡ true
 unfolding of_steps
 apart = refl
 
-pub one_of : (c : Core) → (c ≡ genesis_core) ⊎ (Among c found.sent ⊎ Among c found.brought) → Among c cores
+one_of : (c : Core) → (c ≡ genesis_core) ⊎ (Among c found.sent ⊎ Among c found.brought) → Among c cores
 unfolding found
 one_of c (inl e) = inl e
 one_of c (inr (inl m)) = inr m
-one_of c (inr (inr m)) = inr (twice m)
-  where
-    twice : Among c found.brought → Among c found.sent
-    twice (inl e) = inl e
-    twice (inr (inl e)) = inl e
-    twice (inr (inr (inl e))) = inr (inl e)
-    twice (inr (inr (inr (inl e)))) = inr (inl e)
-    twice (inr (inr (inr (inr (inl e))))) = inr (inr (inl e))
-    twice (inr (inr (inr (inr (inr (inl e)))))) = inr (inr (inl e))
-    twice (inr (inr (inr (inr (inr (inr (inl e))))))) = inr (inr (inr (inl e)))
-    twice (inr (inr (inr (inr (inr (inr (inr (inl e)))))))) = inr (inr (inr (inl e)))
-    twice (inr (inr (inr (inr (inr (inr (inr (inr n)))))))) = absurd n
+one_of c (inr (inr m)) = inr (once c found.sent m)
 
 no_collision : NoCollision (CoreOfRun start played)
 no_collision a b ka kb h =
