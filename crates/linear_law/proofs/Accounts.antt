@@ -64,7 +64,7 @@ sends-not self st c o (its_block to a m) x h = let k : block_frame self to a ≡
 sends-not self st c o (its_proposal j l e) x h =
     let k : proposal_frame self (view self.sizes c) j ≡ frame.request x = h in cc
 
-outcome-not : (self : Identity) (m : MemorySupply) (v : Ruling) (old : Replica) (r : Replica × Reaction)
+pub outcome-not : (self : Identity) (m : MemorySupply) (v : Ruling) (old : Replica) (r : Replica × Reaction)
     → Outcome self old.chronicle v old r → (o : Sending) → Among o (out_of self m r.1) → NotRequest o
 outcome-not self m v old r (unchanged n l) o k = none-not o k
 outcome-not self m v old r (refused s n u l) o k = none-not o k

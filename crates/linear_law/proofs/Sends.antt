@@ -1,7 +1,7 @@
 -- What each frame is that a step sends.
 use Rattle.definitions.proofs.Histories.{numbered-is}
 use Rattle.definitions.proofs.Lists.{Among-take, Among-either, Among-map, Among-reverse, find_some}
-use Rattle.std.proofs.Common.{ℕ, ◌≡◌, ◌-◌, ◌==◌, Bool, true, List, [], ◌∷◌, length, cond, refl, sym, subst}
+use Rattle.std.proofs.Common.{ℕ, ◌≡◌, ◌-◌, ◌==◌, ◌&&◌, not, Bool, true, List, [], ◌∷◌, length, cond, refl, sym, subst}
 use Rattle.std.proofs.Common.{inl, inr, Option, Some, None, nat_lt, reverse, take}
 use Rattle.std.proofs.lemmas.Bool.{cond_both}
 use Rattle.definitions.specs.Lists.{Among}
@@ -14,10 +14,18 @@ use Rattle.definitions.specs.Chronicles.{Note.timed_out, Note.beat, Note.pruned,
 use Rattle.definitions.specs.Chronicles.{Note.led_from, Chronicle, taken_blocks}
 use Rattle.definitions.specs.Chronicles.{history}
 use Rattle.definitions.specs.Checks.{Identity}
+use Rattle.definitions.specs.Bytes.{Bytes}
+use Rattle.definitions.specs.Events.{out_of}
+use Rattle.definitions.specs.Replicas.{MemorySupply, MemorySupply.ample, MemorySupply.refused_at_once, Replica, Reaction}
+use Rattle.definitions.specs.Replicas.{MemorySupply.refused_after, Reaction.fails, Standing, Standing.running}
+use Rattle.definitions.specs.Replicas.{Standing.stopped, Standing.cut_short, executes, on_step, on_ruling, step}
+use Rattle.definitions.specs.Rulings.{Input, Ruling, Ruling.due, Ruling.missing, Ruling.refusing, ruling, conflicts}
+use Rattle.definitions.specs.Sessions.{is_ample}
+use Rattle.ids.specs.declared.fault.Fault.TheVariants as fault
 use Rattle.definitions.specs.States.{Justified, view, leads, proposed}
 use Rattle.definitions.specs.Sendings.{To, To.to_all, To.to_party, Sending, sendings, vote_frame}
 use Rattle.definitions.specs.Sendings.{proposal_frame, new_view_frame, reply_to, block_frame, new_replies}
-use Rattle.definitions.specs.Sendings.{as_taken, supplies, again, proposes}
+use Rattle.definitions.specs.Sendings.{as_taken, supplies, again, proposes, fetch_frame}
 
 -- the vote for a block, a reply that is new or was given before, the view, a block that was taken, or a
 -- proposal
@@ -125,3 +133,53 @@ sends self (noted (led_from b)) c o m = absurd m
 sends self (noted beat) c o m =
     sent-if self (noted beat) c (leads self c) _ o
     (λ e n. proposal-sent self (noted beat) c (proposed self (noted beat ∷ c)) o e refl n) m
+
+-- ---- what goes out
+
+module _ (self : Identity) (m : MemorySupply) (P : Sending → Type 0) where
+  -- P holds of all that goes out, if it holds of what the step sends, and of a question
+  step-out : (st : Step) (c : Chronicle) → ((o : Sending) → Among o (sendings self st c) → P o)
+      → (o : Sending) → Among o (out_of self m (on_step self m st c).1) → P o
+  unfolding on_step
+  step-out st c h o = by m
+    where
+      by : (s : MemorySupply) → Among o (out_of self s (on_step self s st c).1) → P o
+      by ample =
+          cond_both (conflicts st c) _ _ (λ (x : Replica × Reaction). Among o (out_of self ample x.1) → P o)
+          (λ e k. absurd k) (λ e k. h o k)
+      by refused_at_once = λ k. absurd k
+      by (refused_after n) =
+          cond_both (conflicts st c) _ _ (λ (x : Replica × Reaction). Among o (out_of self (refused_after n) x.1) → P o)
+          (λ e k. absurd k)
+          (λ e. cond_both (executes st c) _ _
+          (λ (x : Replica × Reaction). Among o (out_of self (refused_after n) x.1) → P o) (λ f k. absurd k)
+          (λ f k. absurd k))
+
+  ruling-out : (v : Ruling) (c : Chronicle)
+      → ((st : Step) → v ≡ due st → (o : Sending) → Among o (sendings self st c) → P o)
+      → ((to : ℕ) (d : Bytes) → v ≡ missing to d → P (to_party to, fetch_frame self to d))
+      → (o : Sending) → Among o (out_of self m (on_ruling self m v c).1) → P o
+  unfolding on_ruling
+  ruling-out (due st) c h g o k = step-out st c (h st refl) o k
+  ruling-out (missing to d) c h g o k =
+      cond_both (is_ample m && not (to == self.ring.party)) ((to_party to, fetch_frame self to d) ∷ []) []
+      (λ (l : List Sending). Among o l → P o)
+      (λ e n. elim n [ inl i ↦ subst P (sym i) (g to d refl) | inr z ↦ absurd z ]) (λ e n. absurd n) k
+  ruling-out (refusing n) c h g o k = absurd k
+
+  pub input-out : (i : Input) (r : Replica)
+      → ((st : Step) → ruling self i r.chronicle ≡ due st → (o : Sending)
+      → Among o (sendings self st r.chronicle) → P o)
+      → ((to : ℕ) (d : Bytes) → ruling self i r.chronicle ≡ missing to d → P (to_party to, fetch_frame self to d))
+      → (o : Sending) → Among o (out_of self m (step self m i r).1) → P o
+  unfolding step
+  input-out i r h g o = by r.standing
+    where
+      by : (s : Standing) → Among o (out_of self m (elim s as (λ x. Replica × Reaction) [
+        | running ↦ on_ruling self m (ruling self i r.chronicle) r.chronicle
+        | stopped ↦ (r, fails fault.Stopped)
+        | cut_short held ↦ (r, fails fault.Stopped)
+      ]).1) → P o
+      by running k = ruling-out (ruling self i r.chronicle) r.chronicle h g o k
+      by stopped k = absurd k
+      by (cut_short held) k = absurd k

@@ -11,7 +11,7 @@ use Rattle.definitions.proofs.Lists.{Among-either, Among-map, Among-mapped, Amon
 use Rattle.linear_law.proofs.Accounts.{NotRequest, none-not, fetch-not, sends-not, put-session}
 use Rattle.linear_law.proofs.Accounts.{put-session-own, submit-party, on_reply-used}
 use Rattle.linear_law.proofs.Final.{same-client}
-use Rattle.linear_law.proofs.Sends.{sends}
+use Rattle.linear_law.proofs.Sends.{sends, input-out}
 use Rattle.linear_law.proofs.Linear.{run-step}
 use Rattle.linear_law.specs.Law.{NoSeqIsGivenTwice, NamesOneCommand, ReceiptsNameCommands, RequestsDiffer}
 use Rattle.definitions.specs.Lists.{Among}
@@ -20,16 +20,12 @@ use Rattle.definitions.specs.Frames.{Command, Frame, command_content, reply_cont
 use Rattle.ids.specs.Sizes.{Sizes, client_party}
 use Rattle.definitions.specs.Keyrings.{Keyring, client_at, verify, vector_for}
 use Rattle.definitions.specs.Histories.{Entry}
-use Rattle.definitions.specs.Chronicles.{Step, Chronicle}
 use Rattle.definitions.specs.Checks.{Identity}
-use Rattle.definitions.specs.Rulings.{Input, Input.timeout_in, Input.beat_in, Input.prune_in, Ruling}
-use Rattle.definitions.specs.Rulings.{Input.lead_in, Input.ask_in, Ruling.due}
-use Rattle.definitions.specs.Rulings.{Ruling.missing, Ruling.refusing, ruling, conflicts}
+use Rattle.definitions.specs.Rulings.{Input, Input.timeout_in, Input.beat_in, Input.prune_in}
+use Rattle.definitions.specs.Rulings.{Input.lead_in, Input.ask_in}
 use Rattle.definitions.specs.Sendings.{To.to_all, To.to_party, Sending, fetch_frame}
-use Rattle.definitions.specs.Replicas.{MemorySupply, MemorySupply.ample, MemorySupply.refused_at_once}
-use Rattle.definitions.specs.Replicas.{MemorySupply.refused_after}
-use Rattle.definitions.specs.Replicas.{Replica, Reaction, Reaction.fails, Standing, Standing.running}
-use Rattle.definitions.specs.Replicas.{Standing.stopped, Standing.cut_short, executes, on_step, on_ruling}
+use Rattle.definitions.specs.Replicas.{MemorySupply}
+use Rattle.definitions.specs.Replicas.{Replica}
 use Rattle.definitions.specs.Replicas.{step}
 use Rattle.definitions.specs.Sessions.{Client, Session, Heard, Receipt, Submitted, Submitted.not_sent}
 use Rattle.definitions.specs.Sessions.{is_ample, submission, request_frame, on_reply, count_reply}
@@ -49,47 +45,11 @@ use Rattle.definitions.specs.Frames as frame
 
 -- ---- a replica's step sends no request, whatever it holds
 
-on_step-not : (self : Identity) (m : MemorySupply) (st : Step) (c : Chronicle) (o : Sending)
-    → Among o (out_of self m (on_step self m st c).1) → NotRequest o
-unfolding on_step
-on_step-not self ample st c o =
-    cond_both (conflicts st c) _ _
-    (λ (x : Replica × Reaction). Among o (out_of self ample x.1) → NotRequest o) (λ e k. none-not o k)
-    (λ e k. sends-not self st c o (sends self st c o k))
-on_step-not self refused_at_once st c o = λ k. none-not o k
-on_step-not self (refused_after n) st c o =
-    cond_both (conflicts st c) _ _
-    (λ (x : Replica × Reaction). Among o (out_of self (refused_after n) x.1) → NotRequest o)
-    (λ e k. none-not o k)
-    (λ e. cond_both (executes st c) _ _
-    (λ (x : Replica × Reaction). Among o (out_of self (refused_after n) x.1) → NotRequest o)
-    (λ f k. none-not o k) (λ f k. none-not o k))
-
-on_ruling-not : (self : Identity) (m : MemorySupply) (v : Ruling) (c : Chronicle) (o : Sending)
-    → Among o (out_of self m (on_ruling self m v c).1) → NotRequest o
-unfolding on_ruling
-on_ruling-not self m (due st) c o k = on_step-not self m st c o k
-on_ruling-not self m (missing sender d) c o k =
-    cond_both (is_ample m && not (sender == self.ring.party))
-    ((to_party sender, fetch_frame self sender d) ∷ []) []
-    (λ (l : List Sending). Among o l → NotRequest o) (λ e y. fetch-not self sender d o y)
-    (λ e y. none-not o y) k
-on_ruling-not self m (refusing n) c o k = none-not o k
-
 step-not : (self : Identity) (m : MemorySupply) (i : Input) (r : Replica) (o : Sending)
     → Among o (out_of self m (step self m i r).1) → NotRequest o
-unfolding step
-step-not self m i r o = by r.standing
-  where
-    by : (s : Standing)
-        → Among o (out_of self m (elim s as (λ x. Replica × Reaction) [
-          | running ↦ on_ruling self m (ruling self i r.chronicle) r.chronicle
-          | stopped ↦ (r, fails fault.Stopped)
-          | cut_short held ↦ (r, fails fault.Stopped)
-        ]).1) → NotRequest o
-    by running k = on_ruling-not self m (ruling self i r.chronicle) r.chronicle o k
-    by stopped k = none-not o k
-    by (cut_short held) k = none-not o k
+step-not self m i r =
+    input-out self m NotRequest i r (λ st e o k. sends-not self st r.chronicle o (sends self st r.chronicle o k))
+    (λ to d e. fetch-not self to d (to_party to, fetch_frame self to d) (inl refl))
 
 -- ---- what an event is to the sessions
 
@@ -150,9 +110,9 @@ effect-tells w e m = cond_both (w.is_faulty (party_of e)) (nothing w None) (acts
 -- ---- one session
 
 -- what is heard leaves the number, and a receipt is of the outstanding one
-record IsHeard (s : Session) (x : Session × Heard) : Type 0 where
-  waits : x.0.waiting ≡ true → s.waiting ≡ true
-  accepted : (r : Receipt) → Among r (accepted_of x.1) → (s.waiting ≡ true) × (r.seq ≡ s.used)
+pub record IsHeard (s : Session) (x : Session × Heard) : Type 0 where
+  pub waits : x.0.waiting ≡ true → s.waiting ≡ true
+  pub accepted : (r : Receipt) → Among r (accepted_of x.1) → (s.waiting ≡ true) × (r.seq ≡ s.used)
 
 unheard : (n : Fault) (s : Session) → IsHeard s (s, Heard.not_counted n)
 unheard n s = record { waits = λ h. h; accepted = λ r k. absurd k }
@@ -161,7 +121,7 @@ one-receipt : (seq : ℕ) (a r : Receipt) → a.seq ≡ seq → Among r (a ∷ [
 one-receipt seq a r e (inl i) = ap (λ (x : Receipt). x.seq) i ∙ e
 one-receipt seq a r e (inr k) = absurd k
 
-on_reply-heard : (me : Client) (m : MemorySupply) (f : Frame) (s : Session) → IsHeard s (on_reply me m f s)
+pub on_reply-heard : (me : Client) (m : MemorySupply) (f : Frame) (s : Session) → IsHeard s (on_reply me m f s)
 unfolding on_reply count_reply
 on_reply-heard me m (frame.reply r cl q pl tx g) s =
     cond_both (not (cl == me.number)) _ _ (IsHeard s) (λ k. unheard fault.NotMine s) (λ mine.

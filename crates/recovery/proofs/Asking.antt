@@ -1,6 +1,6 @@
 -- What comes of a replica's questions: questions of its own, and copies for it alone.
 use Rattle.ids.specs.declared.fault.Fault.TheVariants as fault
-use Rattle.std.proofs.Common.{ℕ, ◌≡◌, ◌==◌, ◌&&◌, not, true, false, List, [], ◌∷◌, ◌++◌, drop, length}
+use Rattle.std.proofs.Common.{ℕ, ◌≡◌, true, false, List, [], ◌∷◌, ◌++◌, drop, length}
 use Rattle.std.proofs.Common.{refl, sym, ap, subst, ◌∙◌, inl, inr, Option, Some, None, slice_get, option_map}
 use Rattle.std.specs.Bool.{⊤}
 use Rattle.std.specs.List.{AllByRecursion}
@@ -9,19 +9,17 @@ use Rattle.std.proofs.lemmas.List.{append-nil, append_assoc}
 use Rattle.std.proofs.Math.Seq.{drop-append_seam}
 use Rattle.definitions.specs.Lists.{Among}
 use Rattle.definitions.specs.Bytes.{Bytes}
-use Rattle.definitions.specs.Chronicles.{Admitted, Chronicle, Step, Step.noted, Note.got_fetch}
+use Rattle.definitions.specs.Chronicles.{Admitted, Step, Step.noted, Note.got_fetch}
 use Rattle.definitions.specs.Checks.{Identity}
 use Rattle.definitions.specs.Frames.{Frame}
 use Rattle.definitions.specs.Frames as frame
 use Rattle.ids.specs.Sizes.{Sizes}
 use Rattle.definitions.specs.Keyrings.{Keyring, client_at, is_replica_of}
-use Rattle.definitions.specs.Rulings.{Input, Input.ask_in, Input.fetch_in, Ruling, Ruling.due, Ruling.missing}
-use Rattle.definitions.specs.Rulings.{Ruling.refusing, ruling, conflicts}
-use Rattle.definitions.specs.Replicas.{MemorySupply, MemorySupply.ample, MemorySupply.refused_at_once, Replica, Reaction}
-use Rattle.definitions.specs.Replicas.{MemorySupply.refused_after, Reaction.fails, Standing, Standing.running}
-use Rattle.definitions.specs.Replicas.{Standing.stopped, Standing.cut_short, executes, on_step, on_ruling, step}
+use Rattle.definitions.specs.Rulings.{Input.ask_in, Input.fetch_in, Ruling.due, Ruling.missing}
+use Rattle.definitions.specs.Rulings.{ruling}
+use Rattle.definitions.specs.Replicas.{MemorySupply, MemorySupply.ample, Replica}
+use Rattle.definitions.specs.Replicas.{step}
 use Rattle.definitions.specs.Sendings.{To, To.to_party, Sending, sendings, supplies, as_taken, fetch_frame, block_frame}
-use Rattle.definitions.specs.Sessions.{is_ample}
 use Rattle.definitions.specs.States.{me, find_block}
 use Rattle.definitions.specs.Admission.{Checked, Checked.passes, Checked.rejected, check}
 use Rattle.definitions.specs.Worlds.{World, Sent, Event, Event.submit, Event.relay, Event.inject, Event.timeout}
@@ -33,65 +31,13 @@ use Rattle.definitions.specs.Runs.{after}
 use Rattle.definitions.proofs.Certificates.{all-implied}
 use Rattle.definitions.proofs.Lists.{Among-either, Among-map}
 use Rattle.linear_law.specs.Law.{HaveOwnKeys}
+use Rattle.linear_law.proofs.Sends.{input-out}
 use Rattle.recovery.specs.Correct.{amply}
 use Rattle.recovery.specs.Healing.{is_question, delivered_since, ask_one, ask_each}
 use Rattle.recovery.proofs.Handed.{deliveries-hold}
 use Rattle.recovery.proofs.Offers.{sent-later}
 use Rattle.recovery.proofs.Ways.{turn-after, turns-none}
 use Rattle.recovery.proofs.Worlds.{made-after, after-append, same-correct}
-
--- ---- what a step sends
-
-module _ (self : Identity) (m : MemorySupply) (P : Sending → Type 0) where
-  none-out : (o : Sending) → Among o [] → P o
-  none-out o k = absurd k
-
-  -- P holds of all that goes out, if it holds of what the step sends, and of a question
-  step-out : (st : Step) (c : Chronicle) → ((o : Sending) → Among o (sendings self st c) → P o)
-      → (o : Sending) → Among o (out_of self m (on_step self m st c).1) → P o
-  unfolding on_step
-  step-out st c h o = by m
-    where
-      by : (s : MemorySupply) → Among o (out_of self s (on_step self s st c).1) → P o
-      by ample =
-          cond_both (conflicts st c) _ _ (λ (x : Replica × Reaction). Among o (out_of self ample x.1) → P o)
-          (λ e k. absurd k) (λ e k. h o k)
-      by refused_at_once = λ k. absurd k
-      by (refused_after n) =
-          cond_both (conflicts st c) _ _ (λ (x : Replica × Reaction). Among o (out_of self (refused_after n) x.1) → P o)
-          (λ e k. absurd k)
-          (λ e. cond_both (executes st c) _ _
-          (λ (x : Replica × Reaction). Among o (out_of self (refused_after n) x.1) → P o) (λ f k. absurd k)
-          (λ f k. absurd k))
-
-  ruling-out : (v : Ruling) (c : Chronicle)
-      → ((st : Step) → v ≡ due st → (o : Sending) → Among o (sendings self st c) → P o)
-      → ((to : ℕ) (d : Bytes) → v ≡ missing to d → P (to_party to, fetch_frame self to d))
-      → (o : Sending) → Among o (out_of self m (on_ruling self m v c).1) → P o
-  unfolding on_ruling
-  ruling-out (due st) c h g o k = step-out st c (h st refl) o k
-  ruling-out (missing to d) c h g o k =
-      cond_both (is_ample m && not (to == self.ring.party)) ((to_party to, fetch_frame self to d) ∷ []) []
-      (λ (l : List Sending). Among o l → P o)
-      (λ e n. elim n [ inl i ↦ subst P (sym i) (g to d refl) | inr z ↦ absurd z ]) (λ e n. absurd n) k
-  ruling-out (refusing n) c h g o k = absurd k
-
-  input-out : (i : Input) (r : Replica)
-      → ((st : Step) → ruling self i r.chronicle ≡ due st → (o : Sending)
-      → Among o (sendings self st r.chronicle) → P o)
-      → ((to : ℕ) (d : Bytes) → ruling self i r.chronicle ≡ missing to d → P (to_party to, fetch_frame self to d))
-      → (o : Sending) → Among o (out_of self m (step self m i r).1) → P o
-  unfolding step
-  input-out i r h g o = by r.standing
-    where
-      by : (s : Standing) → Among o (out_of self m (elim s as (λ x. Replica × Reaction) [
-        | running ↦ on_ruling self m (ruling self i r.chronicle) r.chronicle
-        | stopped ↦ (r, fails fault.Stopped)
-        | cut_short held ↦ (r, fails fault.Stopped)
-      ]).1) → P o
-      by running k = ruling-out (ruling self i r.chronicle) r.chronicle h g o k
-      by stopped k = absurd k
-      by (cut_short held) k = absurd k
 
 -- ---- questions
 

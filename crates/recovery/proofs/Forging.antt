@@ -12,7 +12,7 @@ use Rattle.definitions.specs.Digests.{digest_of}
 use Rattle.definitions.specs.Frames.{Command, Frame}
 use Rattle.definitions.specs.Frames as frame
 use Rattle.definitions.specs.Keyrings.{is_replica_of}
-use Rattle.definitions.specs.Premises.{IsFor, AllRead, NoForgery}
+use Rattle.definitions.specs.Premises.{IsFor, IsReadIn, NoForgery}
 use Rattle.definitions.specs.Sendings.{To, To.to_party}
 use Rattle.definitions.specs.Worlds.{World, Sent, Event.beat, Event.relay, Event.lead, Event.ask}
 use Rattle.definitions.specs.Worlds.{Event.gather, Source.of_record, Happening, is_replica, new_world}
@@ -30,6 +30,7 @@ use Rattle.recovery.specs.Healing.{lead_with, ask_again, agree_on, heal}
 use Rattle.recovery.specs.Inventions.{HealingForgesNothing, RunsAreHealed}
 use Rattle.recovery.proofs.Asking.{GoesBack, back-each}
 use Rattle.recovery.proofs.Correct.{among-correct, highest-locked}
+use Rattle.recovery.proofs.Fetched.{all-both}
 use Rattle.recovery.proofs.Handed.{IsThere, MayCome, AllHanded, handed-both, handed-passed, handed-forges}
 use Rattle.recovery.proofs.Handed.{handed-read, all-come, since-hold, deliveries-hold, comes-come, offered-come}
 use Rattle.recovery.proofs.Handed.{sources-there}
@@ -348,10 +349,6 @@ module _ (sizes : Sizes) (k : ℕ) where
 
 -- ---- the law
 
-read-both : (sizes : Sizes) (xs ys : List Happening) → AllRead sizes xs → AllRead sizes ys → AllRead sizes (xs ++ ys)
-read-both sizes [] ys a b = b
-read-both sizes (x ∷ xs) ys a b = (a.0, read-both sizes xs ys a.1 b)
-
 forges-both : (w : World) (xs ys : List Happening) → NoForgery w xs → NoForgery (after w xs) ys → NoForgery w (xs ++ ys)
 unfolding after
 forges-both w [] ys a b = b
@@ -371,7 +368,7 @@ healing-forges-nothing k client sizes is_faulty ring hs w met honest e asked =
       recorded = asked.recorded;
       request = asked.request;
     }) in (
-      read-both sizes hs (heal k w) met.read (handed-read sizes w (heal k w) handed),
+      all-both (λ h. IsReadIn sizes h.0) hs (heal k w) met.read (handed-read sizes w (heal k w) handed),
       forges-both start hs (heal k w) met.no_forgery
           (subst (λ (z : World). NoForgery z (heal k w)) (sym ends) (handed-forges w (heal k w) passed handed)),
     )

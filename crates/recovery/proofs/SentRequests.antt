@@ -1,31 +1,26 @@
 -- A request that a client sent is one that it makes with its keys.
-use Rattle.std.proofs.Common.{ℕ, suc, ◌≡◌, ◌==◌, ◌&&◌, not, List, [], ◌∷◌, refl, sym, ap, subst, ◌∙◌, inl, inr}
+use Rattle.std.proofs.Common.{ℕ, suc, ◌≡◌, List, refl, sym, ap, subst, ◌∙◌, inl, inr}
 use Rattle.std.proofs.Common.{None, ◌<◌, arith}
-use Rattle.std.proofs.lemmas.Bool.{cond_both}
 use Rattle.ids.specs.Sizes.{client_party}
 use Rattle.definitions.specs.Bytes.{Bytes}
 use Rattle.definitions.specs.Lists.{Among}
-use Rattle.definitions.specs.Checks.{Identity}
 use Rattle.definitions.specs.Frames.{Command, Core, Frame}
 use Rattle.definitions.specs.Frames as frame
-use Rattle.definitions.specs.Replicas.{MemorySupply, Replica, Reaction}
-use Rattle.definitions.specs.Rulings.{Ruling, ruling}
-use Rattle.definitions.specs.Sendings.{Sending, To.to_party, fetch_frame}
-use Rattle.definitions.specs.Sessions.{Client, Session, Submitted, is_ample}
+use Rattle.definitions.specs.Replicas.{MemorySupply}
+use Rattle.definitions.specs.Rulings.{ruling}
+use Rattle.definitions.specs.Sendings.{Sending}
+use Rattle.definitions.specs.Sessions.{Client, Session, Submitted}
 use Rattle.definitions.specs.Worlds.{World, Sent, Event, Happening, self_of, client_of}
 use Rattle.definitions.specs.Runs.{refusal}
 use Rattle.definitions.specs.Events.{Effect, party_of, effect, happens, nothing, stepped, told, submitted}
 use Rattle.definitions.specs.Events.{submitted_out}
-use Rattle.definitions.specs.Events.{out_of}
 use Rattle.definitions.proofs.Lists.{Among-either, Among-map}
-use Rattle.definitions.proofs.Sound.{Outcome, Outcome.unchanged, Outcome.refused, Outcome.lacks}
-use Rattle.definitions.proofs.Sound.{Outcome.conflict, Outcome.stood, Outcome.cut, step-outcome}
-use Rattle.linear_law.proofs.Accounts.{NotRequest, none-not, fetch-not, sends-not, submit-party}
+use Rattle.definitions.proofs.Sound.{step-outcome}
+use Rattle.linear_law.proofs.Accounts.{outcome-not, submit-party}
 use Rattle.linear_law.proofs.Effects.{ComesFramed, Effects, Effects.idle, Effects.step_by, Effects.hearing}
 use Rattle.linear_law.proofs.Effects.{Effects.submitting, effects}
 use Rattle.linear_law.proofs.Final.{same-client}
 use Rattle.linear_law.proofs.Runs.{arises-checked}
-use Rattle.linear_law.proofs.Sends.{sends}
 use Rattle.linear_law.proofs.Submissions.{asked, IsAsked, IsAsked.kept, IsAsked.given, submission-asked, same-command}
 use Rattle.linear_law.proofs.WholeRuns.{IsWell}
 use Rattle.recovery.proofs.Steps.{outs}
@@ -39,18 +34,6 @@ abbrev pub AreOwn : World → List Sent → Type 0
 AreOwn w sent =
     (s : Sent) → Among s sent → (c : Command) → s.frame ≡ frame.request c → (cl : ℕ) → s.sender ≡ client_party cl
     → IsOwn w cl c
-
--- a replica sends no request
-outcome-not : (self : Identity) (m : MemorySupply) (v : Ruling) (old : Replica) (r : Replica × Reaction)
-    → Outcome self old.chronicle v old r → (o : Sending) → Among o (out_of self m r.1) → NotRequest o
-outcome-not self m v old r (unchanged n l) o k = none-not o k
-outcome-not self m v old r (refused s n u l) o k = none-not o k
-outcome-not self m v old r (lacks sender d u) o k =
-    cond_both (is_ample m && not (sender == self.ring.party)) ((to_party sender, fetch_frame self sender d) ∷ []) []
-    (λ (l : List Sending). Among o l → NotRequest o) (λ e y. fetch-not self sender d o y) (λ e y. none-not o y) k
-outcome-not self m v old r (conflict st u e h) o k = none-not o k
-outcome-not self m v old r (stood st u e h) o k = sends-not self st old.chronicle o (sends self st old.chronicle o k)
-outcome-not self m v old r (cut st n u e h) o k = none-not o k
 
 -- what a client submits is its own
 submitted-own : (me : Client) (payload : Bytes) (s : Session) (x : Session × Submitted) → IsAsked me payload s x

@@ -1,18 +1,14 @@
 -- A client that waits sent the request of its number.
-use Rattle.ids.specs.declared.kind.Kind.TheVariants as kind
-use Rattle.std.proofs.Common.{ℕ, ◌≡◌, ◌==◌, ◌&&◌, not, true, List, [], ◌∷◌, ◌++◌, filter, length, refl, sym, subst}
-use Rattle.std.proofs.Common.{inl, nat_lt, None}
-use Rattle.std.specs.List.{list_any}
-use Rattle.std.proofs.lemmas.Bool.{cond_both, and_parts, not-false}
+use Rattle.std.proofs.Common.{ℕ, ◌≡◌, true, List, [], ◌++◌, refl, sym, subst}
+use Rattle.std.proofs.Common.{inl, None}
 use Rattle.ids.specs.Sizes.{client_party}
 use Rattle.definitions.specs.Bytes.{Bytes}
 use Rattle.definitions.specs.Lists.{Among}
 use Rattle.definitions.specs.Frames.{Command, Frame, reply_content}
 use Rattle.definitions.specs.Frames as frame
-use Rattle.definitions.specs.Keyrings.{verify, client_at}
+use Rattle.definitions.specs.Keyrings.{client_at}
 use Rattle.definitions.specs.Replicas.{MemorySupply}
-use Rattle.definitions.specs.Sessions.{Client, Session, Submitted, Heard, on_reply, count_reply, submission, is_ample}
-use Rattle.definitions.specs.Tally.{agrees}
+use Rattle.definitions.specs.Sessions.{Session, Submitted, on_reply, submission}
 use Rattle.definitions.specs.Worlds.{World, Sent, Event, Happening, client_of}
 use Rattle.definitions.specs.Runs.{refusal}
 use Rattle.definitions.specs.Events.{Effect, party_of, effect, happens, nothing, stepped, told, submitted}
@@ -21,7 +17,7 @@ use Rattle.definitions.proofs.Lists.{Among-before, Among-after}
 use Rattle.linear_law.proofs.Accounts.{put-session, on_reply-used, submit-party}
 use Rattle.linear_law.proofs.Effects.{ComesFramed, Effects, Effects.idle, Effects.step_by, Effects.hearing}
 use Rattle.linear_law.proofs.Effects.{Effects.submitting, effects}
-use Rattle.linear_law.proofs.Submissions.{IsAsked, IsAsked.kept, IsAsked.given, submission-asked}
+use Rattle.linear_law.proofs.Submissions.{IsAsked, IsAsked.kept, IsAsked.given, submission-asked, on_reply-heard}
 use Rattle.recovery.proofs.Steps.{outs}
 
 -- a request of this number stands in the record, from this client
@@ -39,30 +35,6 @@ HaveAsked w = (cl : ℕ) → HasAsked w.sent cl (w.session cl)
 
 asked-more : (xs ys : List Sent) (cl : ℕ) (s : Session) → HasAsked xs cl s → HasAsked (xs ++ ys) cl s
 asked-more xs ys cl s h = λ w. (let r = h w in (r.0, r.1, Among-before r.0 xs ys r.2, r.3, r.4, r.5))
-
--- whoever waits after a reply waited before it
-reply-waits : (me : Client) (m : MemorySupply) (f : Frame) (s : Session) → (on_reply me m f s).0.waiting ≡ true
-    → s.waiting ≡ true
-unfolding on_reply count_reply
-reply-waits me m (frame.reply r cl q pl tx g) s =
-    cond_both (not (cl == me.number)) _ _ P (λ k w. w) (λ mine.
-    cond_both (not (verify me.ring kind.Reply r (reply_content r cl q pl tx) g)) _ _ P (λ k w. w) (λ good.
-    cond_both (not (s.waiting && (q == s.used))) _ _ P (λ k w. w) (λ now.
-    let waits = (and_parts s.waiting (q == s.used) (not-false _ now)).0 in
-    cond_both (list_any (λ x. x.replica == r) s.tally) _ _ P (λ k w. w) (λ new.
-    cond_both (not (is_ample m)) _ _ P (λ k w. w) (λ k.
-    cond_both (nat_lt me.sizes.faults
-    (length (filter (agrees pl tx) (record { replica = r; place = pl; text = tx } ∷ s.tally)))) _ _ P
-    (λ e w. waits) (λ e w. waits))))))
-  where
-    P : Session × Heard → Type 0
-    P x = x.0.waiting ≡ true → s.waiting ≡ true
-reply-waits me m (frame.request c) s = λ w. w
-reply-waits me m (frame.proposal v c q t) s = λ w. w
-reply-waits me m (frame.vote d x) s = λ w. w
-reply-waits me m (frame.new_view v r q t) s = λ w. w
-reply-waits me m (frame.fetch r d t) s = λ w. w
-reply-waits me m (frame.block r c q t) s = λ w. w
 
 -- a submission sends it
 submitted-asked : (w : World) (p c : ℕ) (payload : Bytes) (s : Session) (x : Session × Submitted)
@@ -84,7 +56,7 @@ effect-asked w e m f h (hearing x b a n k l) cl =
     (λ i. subst (λ (j : ℕ). HasAsked (w.sent ++ outs w (party_of e) []) j r.0) (sym i)
     (λ t. subst (HasRequest (w.sent ++ outs w (party_of e) []) me)
     (sym (on_reply-used (client_of w me) m x (w.session me)))
-    (asked-more w.sent [] me (w.session me) (h me) (reply-waits (client_of w me) m x (w.session me) t))))
+    (asked-more w.sent [] me (w.session me) (h me) ((on_reply-heard (client_of w me) m x (w.session me)).waits t))))
     (asked-more w.sent [] cl (w.session cl) (h cl))
 effect-asked w e m f h (submitting c payload n k) cl =
     let x = submission (client_of w c) m payload (w.session c) in

@@ -1,5 +1,6 @@
--- What is assumed of a run so that its healing forges nothing. A replica relies on the tags for itself alone, but it
--- passes on those for others as they came.
+-- What is assumed of a run so that its healing forges nothing. A replica relies on the tags for itself alone, but passes
+-- on those for others as they came: a block that came to one replica may hold a command whose tag is forged for another
+-- one, which healing brings it to.
 use Rattle.std.specs.Prelude.{ℕ, ◌≡◌, false, Bool, List, [], ◌∷◌, ◌++◌, map, filter, Ok, ⊤}
 use Rattle.ids.specs.Sizes.{Sizes, AreSizes}
 use Rattle.definitions.specs.Checks.{Identity, command_verifies}

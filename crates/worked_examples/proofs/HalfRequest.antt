@@ -1,9 +1,8 @@
 -- The run that a request wedges, computed: its premises, and what healing asks of its end.
 use Rattle.std.specs.Prelude.{Ok}
-use Rattle.std.proofs.Common.{◌==◌, ◌≡◌, ◌≤◌, ◌⊎◌, true}
-use Rattle.std.proofs.Common.{List, [], ◌∷◌, refl, inl, inr, arith, length, map}
+use Rattle.std.proofs.Common.{◌==◌, ◌≡◌, ◌⊎◌, true, List, [], ◌∷◌, refl, sym, subst, inl, inr, arith, length}
 use Rattle.ids.specs.Sizes.{AreSizes, client_party, replicas}
-use Rattle.definitions.specs.Chronicles.{window, horizon}
+use Rattle.definitions.specs.Chronicles.{horizon}
 use Rattle.definitions.specs.Digests.{NoCollision, core_of}
 use Rattle.definitions.specs.FrameLimits.{Spells}
 use Rattle.definitions.specs.Frames.{Core, spelling, genesis_core}
@@ -15,9 +14,10 @@ use Rattle.definitions.specs.Runs.{run}
 use Rattle.definitions.specs.Sendings.{To.to_all}
 use Rattle.definitions.specs.Sessions.{request_frame}
 use Rattle.definitions.specs.Worlds.{client_of, new_world}
-use Rattle.recovery.specs.Correct.{chronicle_of, view_of, correct_below}
+use Rattle.recovery.specs.Correct.{chronicle_of, correct_below}
 use Rattle.recovery.specs.Healing.{highest_locked, highest_voted}
-use Rattle.recovery.specs.NeverWedged.{IsAsked, NeverWedged, ground_of, blocks_made}
+use Rattle.recovery.specs.Inventions.{NothingForgedInvented, RunsAreHealed}
+use Rattle.recovery.specs.NeverWedged.{IsAsked}
 use Rattle.worked_examples.specs.HalfRequest.{sizes, start, half, unclear, schedule, waiting}
 use Rattle.worked_examples.specs.HalfRequest.{OneVotes, PremisesHold, MayHealIt, IsHealed}
 use Rattle.worked_examples.specs.Replicas.{payload, command}
@@ -25,7 +25,8 @@ use Rattle.worked_examples.proofs.Computed.{of_steps, of_runs}
 use Rattle.worked_examples.proofs.Forgery.{Facts, facts, seen, taken-whole, forges-nothing, cores-are}
 use Rattle.worked_examples.proofs.Forgery.{all_differ, none-collides}
 use Rattle.worked_examples.proofs.Healed.{healed}
-use Rattle.worked_examples.proofs.Ready.{Small, may-heal, of_four, in_row}
+use Rattle.worked_examples.proofs.Invented.{IsOfFaulty, of-faulty}
+use Rattle.worked_examples.proofs.Ready.{Small, is_small, may-heal, of_four}
 
 -- ---- the run
 
@@ -104,38 +105,19 @@ four : replicas waiting.sizes ≡ 4
 unfolding of_steps
 four = refl
 
-windows : map (λ r. length (window (chronicle_of waiting r))) (0 ∷ 1 ∷ 2 ∷ 3 ∷ []) ≡ 2 ∷ 2 ∷ 2 ∷ 2 ∷ []
-unfolding of_steps
-windows = refl
-
-grounds : length (ground_of waiting) ≡ 0
-unfolding of_steps highest_locked correct_below
-grounds = refl
-
-made : blocks_made waiting ≡ 7
+-- replicas' numbers, and those of healing
+low : is_small waiting ≡ true
 unfolding of_steps highest_locked highest_voted correct_below
-made = refl
-
-few_made : blocks_made waiting ≤ 8
-few_made = let m = made in omega (arith, m)
-
-views : map (view_of waiting) (0 ∷ 1 ∷ 2 ∷ 3 ∷ []) ≡ 0 ∷ 0 ∷ 0 ∷ 0 ∷ []
-unfolding of_steps
-views = refl
+low = refl
 
 small : Small waiting
-unfolding of_steps highest_locked correct_below
+unfolding of_steps
 small = record {
   four = four;
   rings = refl;
   goes = of_four waiting four (λ r. (waiting.replica r).standing ≡ running) refl refl refl refl;
-  views = in_row waiting four (view_of waiting) 0 0 0 0 1 views (omega arith, omega arith, omega arith, omega arith);
-  few = in_row waiting four (λ r. length (window (chronicle_of waiting r))) 2 2 2 2 3 windows
-      (omega arith, omega arith, omega arith, omega arith);
-  kept = of_four waiting four (λ r. horizon (chronicle_of waiting r) ≡ 0) refl refl refl refl;
-  grounds = grounds;
-  locks = refl;
-  made = few_made;
+  few = low;
+  kept = inl (of_four waiting four (λ r. horizon (chronicle_of waiting r) ≡ 0) refl refl refl refl);
 }
 
 asks : IsAsked waiting 2 0
@@ -169,7 +151,16 @@ first_of_it : (waiting.session 0).used ≡ 1
 unfolding of_steps
 first_of_it = refl
 
+-- the half request is the faulty client's own
+honest : NothingForgedInvented start schedule
+unfolding new_world
+honest = of-faulty schedule start (λ f m. elim m [
+  | inl e ↦ subst (IsOfFaulty start.is_faulty) (sym e) refl
+  | inr n ↦ absurd n
+])
+
 -- so the law of healing says what it comes to
-pub is_healed : NeverWedged → IsHealed
+pub is_healed : RunsAreHealed → IsHealed
 is_healed =
-    healed sizes (λ p. p == client_party 1) schedule 2 waiting premises taken are (may-heal waiting small) asks first_of_it
+    healed sizes (λ p. p == client_party 1) schedule 2 1 waiting premises honest taken are (may-heal waiting small) asks
+    first_of_it

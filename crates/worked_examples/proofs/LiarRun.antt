@@ -42,11 +42,11 @@ ask : part_of (seen (restored (snapshot start)) (happen asking)) ≡ shows [] re
 unfolding of_runs
 ask = refl
 
-abbrev vote_of_liar : Round → Frame
+abbrev pub vote_of_liar : Round → Frame
 vote_of_liar r = vote_by 3 r r.by_liar
 
 -- the core of a round comes to replicas 0 and 1
-abbrev core_twice : Round → List Core
+abbrev pub core_twice : Round → List Core
 core_twice r = r.core ∷ r.core ∷ []
 
 part1 : part_of (seen (restored requested) (happen (round 1 (vote_of_liar round1))))
@@ -107,7 +107,7 @@ hear = refl
 -- ---- the whole of it
 
 -- the schedule, with the liar's frames as they are
-abbrev played : List Happening
+abbrev pub played : List Happening
 played = schedule_with (vote_of_liar round1) (vote_of_liar round2) (vote_of_liar round3) lied
 
 vote1_is : vote_frame liar first ≡ vote_of_liar round1
@@ -126,7 +126,7 @@ lie_is : lie ≡ lied
 unfolding of_runs
 lie_is = refl
 
-as_played : schedule ≡ played
+pub as_played : schedule ≡ played
 as_played =
     ap (λ (f : Frame). schedule_with f (vote_frame liar second) (vote_frame liar third) lie) vote1_is
     ∙ (ap (λ (f : Frame). schedule_with (vote_of_liar round1) f (vote_frame liar third) lie) vote2_is
@@ -144,7 +144,7 @@ cores3 = core_twice round3 ++ cores4
 abbrev cores2 : List Core
 cores2 = core_twice round2 ++ cores3
 
-abbrev cores1 : List Core
+abbrev pub cores1 : List Core
 cores1 = core_twice round1 ++ cores2
 
 abbrev from_round3 : List Happening
@@ -180,7 +180,7 @@ sees1 =
     goes_on accepted requested after1 (round 1 (vote_of_liar round1)) from_round2
     (core_twice round1) cores2 refl part1 sees2
 
-sees : seen start played ≡ ends accepted cores1
+pub sees : seen start played ≡ ends accepted cores1
 sees =
     ap (λ (w : World). seen w played) start-restored
     ∙ goes_on accepted (snapshot start) requested asking from_round1 [] cores1 refl ask sees1
@@ -253,7 +253,7 @@ of_the_cache = (
 -- ---- the premises
 
 -- the liar's frames are frames, so they are read as these
-vote_read : (b : Branch) → Spells sizes (spelling (vote_frame liar b)) (vote_frame liar b)
+pub vote_read : (b : Branch) → Spells sizes (spelling (vote_frame liar b)) (vote_frame liar b)
 unfolding vote_frame
 vote_read b = (
   (IsDigest-digest_of b, record { voter = omega arith; vector = IsVector-vector_for sizes _ _ _ }),
@@ -274,7 +274,7 @@ lie_read = (
   inr (tt, refl),
 )
 
-all_read : AllRead sizes schedule
+pub all_read : AllRead sizes schedule
 all_read = (
   tt,
   (
@@ -328,6 +328,17 @@ all_read = (
   ),
 )
 
+-- each of these twice
+abbrev pub doubled : List Core → List Core
+doubled [] = []
+doubled (c ∷ cs) = c ∷ c ∷ doubled cs
+
+pub once : (c : Core) (cs : List Core) → Among c (doubled cs) → Among c cs
+once c [] m = absurd m
+once c (x ∷ cs) (inl e) = inl e
+once c (x ∷ cs) (inr (inl e)) = inl e
+once c (x ∷ cs) (inr (inr m)) = inr (once c cs m)
+
 -- genesis's core and those of the four blocks
 abbrev cores : List Core
 cores = genesis_core ∷ round1.core ∷ round2.core ∷ round3.core ∷ round4.core ∷ []
@@ -340,18 +351,7 @@ one_of : (c : Core) → (c ≡ genesis_core) ⊎ (Among c found.sent ⊎ Among c
 unfolding found
 one_of c (inl e) = inl e
 one_of c (inr (inl m)) = inr m
-one_of c (inr (inr m)) = inr (twice m)
-  where
-    twice : Among c found.brought → Among c found.sent
-    twice (inl e) = inl e
-    twice (inr (inl e)) = inl e
-    twice (inr (inr (inl e))) = inr (inl e)
-    twice (inr (inr (inr (inl e)))) = inr (inl e)
-    twice (inr (inr (inr (inr (inl e))))) = inr (inr (inl e))
-    twice (inr (inr (inr (inr (inr (inl e)))))) = inr (inr (inl e))
-    twice (inr (inr (inr (inr (inr (inr (inl e))))))) = inr (inr (inr (inl e)))
-    twice (inr (inr (inr (inr (inr (inr (inr (inl e)))))))) = inr (inr (inr (inl e)))
-    twice (inr (inr (inr (inr (inr (inr (inr (inr n)))))))) = absurd n
+one_of c (inr (inr m)) = inr (once c found.sent m)
 
 no_collision : NoCollision (CoreOfRun start played)
 no_collision a b ka kb h =

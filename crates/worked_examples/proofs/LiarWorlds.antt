@@ -82,9 +82,18 @@ round2 = round_over round1 tags.digest2 tags.proposal2 tags.vote2_0 tags.vote2_1
 abbrev pub round3 : Round
 round3 = round_over round2 tags.digest3 tags.proposal3 tags.vote3_0 tags.vote3_1 tags.vote3_3
 
--- no vote of the liar's comes in the last round
 abbrev pub round4 : Round
-round4 = round_over round3 tags.digest4 tags.proposal4 tags.vote4_0 tags.vote4_1 []
+round4 = round_over round3 tags.digest4 tags.proposal4 tags.vote4_0 tags.vote4_1 tags.vote4_3
+
+-- three more, which come after the receipt; no vote of the liar's comes in the last one
+abbrev pub round5 : Round
+round5 = round_over round4 tags.digest5 tags.proposal5 tags.vote5_0 tags.vote5_1 tags.vote5_3
+
+abbrev pub round6 : Round
+round6 = round_over round5 tags.digest6 tags.proposal6 tags.vote6_0 tags.vote6_1 tags.vote6_3
+
+abbrev pub round7 : Round
+round7 = round_over round6 tags.digest7 tags.proposal7 tags.vote7_0 tags.vote7_1 []
 
 -- ---- frames
 
@@ -128,7 +137,7 @@ sent4 reply_0 reply_1 =
 
 -- ---- what parties hold
 
-abbrev took : Round → Step
+abbrev pub took : Round → Step
 took r = took_block (record {
   branch = r.branch;
   core = r.core;
@@ -166,6 +175,7 @@ abbrev snapshot_at : (now : ℕ) → (c0 c1 : Chronicle) → List Sent → Snaps
 snapshot_at now c0 c1 sent = record {
   r0 = runs_with c0;
   r1 = runs_with c1;
+  r2 = runs_with [];
   client = waiting;
   sent = sent;
   receipts = [];
@@ -209,6 +219,7 @@ abbrev pub accepted : Snapshot
 accepted = record {
   r0 = runs_with (took round4 ∷ noted beat ∷ led3);
   r1 = runs_with (took round4 ∷ followed3);
+  r2 = runs_with [];
   client =
       record { used = 1; waiting = false; tally = told 1 stored ∷ told 0 stored ∷ told 3 not_stored ∷ [] };
   sent = sent4 reply_0 reply_1;
@@ -216,3 +227,45 @@ accepted = record {
   answers = replicate 26 None;
   now = 27;
 }
+
+-- ---- after the receipt
+
+abbrev led4 : Chronicle
+led4 = leads round4 led3
+
+abbrev led5 : Chronicle
+led5 = leads round5 led4
+
+abbrev followed5 : Chronicle
+followed5 = took round5 ∷ took round4 ∷ followed3
+
+-- the client waits for nothing
+abbrev answered_at : (now : ℕ) → (c0 c1 : Chronicle) → List Sent → Snapshot
+answered_at now c0 c1 sent = record {
+  r0 = runs_with c0;
+  r1 = runs_with c1;
+  r2 = runs_with [];
+  client = accepted.client;
+  sent = sent;
+  receipts = accepted.receipts;
+  answers = replicate (now - 1) None;
+  now = now;
+}
+
+abbrev sent5 : List Sent
+sent5 = accepted.sent ++ proposed 30 round5 ∷ votes_sent 30 round5 []
+
+abbrev sent6 : List Sent
+sent6 = sent5 ++ proposed 36 round6 ∷ votes_sent 36 round6 []
+
+-- after each of these rounds
+abbrev pub after5 : Snapshot
+after5 = answered_at 33 (took round5 ∷ noted beat ∷ led4) followed5 sent5
+
+abbrev pub after6 : Snapshot
+after6 = answered_at 39 (took round6 ∷ noted beat ∷ led5) (took round6 ∷ followed5) sent6
+
+abbrev pub after7 : Snapshot
+after7 =
+    answered_at 45 (took round7 ∷ noted beat ∷ leads round6 led5) (took round7 ∷ took round6 ∷ followed5)
+    (sent6 ++ proposed 42 round7 ∷ votes_sent 42 round7 [])

@@ -15,10 +15,12 @@ mod Snapshots
 mod LiarTags
 mod LiarWorlds
 mod LiarRun
+mod PrunedRun
+mod AfterPruning
 mod HalfRequest
 mod Healed
 mod Healing
-mod ReadHealing
+mod Invented
 mod Ready
 mod Waiting
 mod WaitingRun

@@ -1,7 +1,8 @@
 -- What healing asks of a world with these four replicas' keys, from what is computed of it.
 use Rattle.std.specs.Prelude.{nat_lt}
-use Rattle.std.proofs.Common.{ℕ, zero, suc, ◌≡◌, ◌≤◌, ◌<◌, ◌==◌, ◌++◌, List, [], ◌∷◌, length, map}
-use Rattle.std.proofs.Common.{refl, sym, ap, ap₂, subst, ◌∙◌, arith, inl, get_or}
+use Rattle.std.proofs.Common.{ℕ, zero, suc, ◌≡◌, ◌<◌, ◌==◌, ◌++◌, ◌&&◌, ◌⊎◌, Bool, true, List, [], ◌∷◌, length}
+use Rattle.std.proofs.Common.{refl, sym, ap, ap₂, subst, ◌∙◌, arith, inl, inr}
+use Rattle.std.specs.List.{list_all}
 use Rattle.std.specs.Int.{w16, to_be_bytes}
 use Rattle.std.proofs.lemmas.Bool.{and_parts, ltb-true}
 use Rattle.std.proofs.lemmas.List.Sums.{count_by-le-length}
@@ -10,9 +11,11 @@ use Rattle.ids.specs.Sizes.{replicas}
 use Rattle.definitions.specs.Branches.{Branch}
 use Rattle.definitions.specs.Chronicles.{window}
 use Rattle.definitions.specs.Keyrings.{Keyring}
+use Rattle.definitions.specs.Lists.{Among}
 use Rattle.definitions.specs.Worlds.{World}
+use Rattle.definitions.proofs.Lists.{all-passes}
 use Rattle.recovery.specs.Correct.{OfCorrect, AllGoOn, chronicle_of, lock_of, view_of}
-use Rattle.recovery.specs.NeverWedged.{MayHeal, HasRoom, NobodyPruned, healer, ground_of, blocks_made}
+use Rattle.recovery.specs.NeverWedged.{MayHeal, NobodyPruned, PrunedWell, healer, ground_of, blocks_made}
 use Rattle.worked_examples.specs.Runs.{ring}
 
 -- the key of two parties is the same for both
@@ -33,42 +36,30 @@ of_four w four P p0 p1 p2 p3 r c =
     below (suc (suc (suc zero))) l = p3
     below (suc (suc (suc (suc n)))) l = absurd (omega (arith, l))
 
--- so it is of four numbers that were computed in a row
-pub in_row : (w : World) → replicas w.sizes ≡ 4 → (f : ℕ → ℕ) (a b c d most : ℕ)
-    → map f (0 ∷ 1 ∷ 2 ∷ 3 ∷ []) ≡ a ∷ b ∷ c ∷ d ∷ [] → (a ≤ most) × (b ≤ most) × (c ≤ most) × (d ≤ most)
-    → OfCorrect w (λ r. f r ≤ most)
-in_row w four f a b c d most e l =
-    of_four w four (λ r. f r ≤ most) (at 0 a refl l.0) (at 1 b refl l.1) (at 2 c refl l.2) (at 3 d refl l.3)
-  where
-    at : (i x : ℕ) → get_or (a ∷ b ∷ c ∷ d ∷ []) i 0 ≡ x → x ≤ most
-        → get_or (map f (0 ∷ 1 ∷ 2 ∷ 3 ∷ [])) i 0 ≤ most
-    at i x is le = let k = ap (λ (row : List ℕ). get_or row i 0) e ∙ is in omega (arith, k, le)
+-- what healing asks about is below nine: views, blocks of windows, the ground's and the lock's heights, blocks to make
+abbrev pub is_small : World → Bool
+is_small w =
+    list_all (λ r. nat_lt (view_of w r) 9) (0 ∷ 1 ∷ 2 ∷ 3 ∷ [])
+    && (list_all (λ r. nat_lt (length (window (chronicle_of w r))) 9) (0 ∷ 1 ∷ 2 ∷ 3 ∷ [])
+    && list_all (λ n. nat_lt n 9) (length (ground_of w) ∷ length (lock_of w (healer w)) ∷ blocks_made w ∷ []))
 
--- what is computed of a world with few blocks, in which nobody executed a block, nor has a lock
+-- so it is of each of four
+all_below : (w : World) → replicas w.sizes ≡ 4 → (f : ℕ → ℕ)
+    → list_all (λ r. nat_lt (f r) 9) (0 ∷ 1 ∷ 2 ∷ 3 ∷ []) ≡ true → OfCorrect w (λ r. f r < 9)
+all_below w four f e =
+    of_four w four (λ r. f r < 9) (at 0 (inl refl)) (at 1 (inr (inl refl))) (at 2 (inr (inr (inl refl))))
+    (at 3 (inr (inr (inr (inl refl)))))
+  where
+    at : (r : ℕ) → Among r (0 ∷ 1 ∷ 2 ∷ 3 ∷ []) → f r < 9
+    at r m = ltb-true (f r) 9 (all-passes (λ i. nat_lt (f i) 9) (0 ∷ 1 ∷ 2 ∷ 3 ∷ []) r e m)
+
+-- what is computed of a small world
 pub record Small (w : World) : Type 0 where
   pub four : replicas w.sizes ≡ 4
   pub rings : w.ring ≡ ring
   pub goes : AllGoOn w
-  pub views : OfCorrect w (λ r. view_of w r ≤ 1)
-  pub few : OfCorrect w (λ r. length (window (chronicle_of w r)) ≤ 3)
-  pub kept : NobodyPruned w
-  pub grounds : length (ground_of w) ≡ 0
-  pub locks : length (lock_of w (healer w)) ≡ 0
-  pub made : blocks_made w ≤ 8
-
-room : (w : World) → Small w → HasRoom w
-room w s =
-    let g = s.grounds in
-    let m = s.made in
-    let l = s.locks in
-    record {
-      trees = λ r c. let f = s.few r c in omega (arith, g, m, f);
-      heights = λ r c h up.
-          let f = s.few r c in
-          let k = count_by-le-length (λ (x : Branch). length x == h) (window (chronicle_of w r)) in
-          omega (arith, f, k);
-      low = omega (arith, m, l);
-    }
+  pub few : is_small w ≡ true
+  pub kept : NobodyPruned w ⊎ PrunedWell w
 
 pub may-heal : (w : World) → Small w → MayHeal w
 may-heal w s = record {
@@ -79,7 +70,41 @@ may-heal w s = record {
         ∙ (same_key r p ∙ sym (ap (λ (k : ℕ → Keyring). (k p).key r) s.rings));
   };
   goes = s.goes;
-  views = λ r c. let v = s.views r c in let f = s.four in omega (arith, v, f);
-  room = room w s;
-  kept = inl s.kept;
+  views = λ r c. let v = all_below w s.four (view_of w) parts.0 r c in let f = s.four in omega (arith, v, f);
+  room = record {
+    trees = λ r c. let f = windows r c in omega (arith, g, m, f);
+    heights = λ r c h up.
+        let f = windows r c in
+        let k = count_by-le-length (λ (x : Branch). length x == h) (window (chronicle_of w r)) in
+        omega (arith, f, k);
+    low = omega (arith, m, l);
+  };
+  kept = s.kept;
 }
+  where
+    heights : List ℕ
+    heights = length (ground_of w) ∷ length (lock_of w (healer w)) ∷ blocks_made w ∷ []
+
+    parts : (list_all (λ r. nat_lt (view_of w r) 9) (0 ∷ 1 ∷ 2 ∷ 3 ∷ []) ≡ true)
+        × ((list_all (λ r. nat_lt (length (window (chronicle_of w r))) 9) (0 ∷ 1 ∷ 2 ∷ 3 ∷ [])
+        && list_all (λ n. nat_lt n 9) heights) ≡ true)
+    parts = and_parts _ _ s.few
+
+    rest : (list_all (λ r. nat_lt (length (window (chronicle_of w r))) 9) (0 ∷ 1 ∷ 2 ∷ 3 ∷ []) ≡ true)
+        × (list_all (λ n. nat_lt n 9) heights ≡ true)
+    rest = and_parts _ _ parts.1
+
+    windows : OfCorrect w (λ r. length (window (chronicle_of w r)) < 9)
+    windows = all_below w s.four (λ r. length (window (chronicle_of w r))) rest.0
+
+    low_one : (n : ℕ) → Among n heights → n < 9
+    low_one n i = ltb-true n 9 (all-passes (λ j. nat_lt j 9) heights n rest.1 i)
+
+    g : length (ground_of w) < 9
+    g = low_one (length (ground_of w)) (inl refl)
+
+    l : length (lock_of w (healer w)) < 9
+    l = low_one (length (lock_of w (healer w))) (inr (inl refl))
+
+    m : blocks_made w < 9
+    m = low_one (blocks_made w) (inr (inr (inl refl)))

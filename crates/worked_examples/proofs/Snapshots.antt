@@ -1,4 +1,4 @@
--- Worlds in which only replicas 0 and 1 and client 0 did something are told by what these hold. So a run is
+-- Worlds in which only replicas 0 to 2 and client 0 did something are told by what these hold. So a run is
 -- computed part by part, from one such world to the next.
 use Rattle.std.proofs.Common.{ℕ, ◌≡◌, ◌==◌, ◌&&◌, ◌||◌, ◌⊎◌, Bool, true, false, List, [], ◌∷◌, ◌++◌}
 use Rattle.std.proofs.Common.{map, refl, sym, ap, ap₂, subst, ◌∙◌, inl, inr, true≢false, Option, Some, None, append_assoc}
@@ -26,6 +26,7 @@ use Rattle.worked_examples.proofs.Forgery.{none_forged_in, cores_in}
 pub record Snapshot : Type 0 where
   pub r0 : Replica
   pub r1 : Replica
+  pub r2 : Replica
   pub client : Session
   pub sent : List Sent
   pub receipts : List AcceptedBy
@@ -36,6 +37,7 @@ abbrev pub snapshot : World → Snapshot
 snapshot w = record {
   r0 = w.replica 0;
   r1 = w.replica 1;
+  r2 = w.replica 2;
   client = w.session 0;
   sent = w.sent;
   receipts = w.receipts;
@@ -49,7 +51,7 @@ restored s = record {
   sizes = start.sizes;
   is_faulty = start.is_faulty;
   ring = start.ring;
-  replica = put 0 s.r0 (put 1 s.r1 start.replica);
+  replica = put 0 s.r0 (put 1 s.r1 (put 2 s.r2 start.replica));
   session = put 0 s.client start.session;
   sent = s.sent;
   receipts = s.receipts;
@@ -59,9 +61,9 @@ restored s = record {
 
 -- ---- what an event leaves alone
 
--- one of the three parties
+-- one of these parties
 abbrev is_these : ℕ → Bool
-is_these p = (p == 0) || ((p == 1) || (p == 256))
+is_these p = (p == 0) || ((p == 1) || ((p == 2) || (p == 256)))
 
 -- an event of such runs that names one of them
 abbrev is_near : Event → Bool
@@ -70,7 +72,7 @@ is_near (relay k to) = is_these to
 is_near (inject to bytes read) = is_these to
 is_near (timeout r) = false
 is_near (beat r) = r == 0
-is_near (prune r height) = false
+is_near (prune r height) = r == 0
 is_near (offer to source) = false
 is_near (gather to sources) = false
 is_near (lead r d) = false
@@ -82,7 +84,7 @@ all_near (h ∷ hs) = is_near h.0 && all_near hs
 
 -- the others are as they were
 record LeavesOthers (w : World) (e : Effect) : Type 0 where
-  replicas : (j : ℕ) → (j == 0) ≡ false → (j == 1) ≡ false → e.replica j ≡ w.replica j
+  replicas : (j : ℕ) → (j == 0) ≡ false → (j == 1) ≡ false → (j == 2) ≡ false → e.replica j ≡ w.replica j
   sessions : (c : ℕ) → (c == 0) ≡ false → e.session c ≡ w.session c
 
 put-other : {A : Type 0} (i j : ℕ) (x : A) (row : ℕ → A) → (j == i) ≡ false → put i x row j ≡ row j
@@ -90,28 +92,29 @@ put-other i j x row e = cond-false _ _ _ e
 
 nothing-leaves : (w : World) (a : Option Fault) → LeavesOthers w (nothing w a)
 unfolding nothing
-nothing-leaves w a = record { replicas = λ j e0 e1. refl; sessions = λ c e. refl }
+nothing-leaves w a = record { replicas = λ j e0 e1 e2. refl; sessions = λ c e. refl }
 
--- replica 0 or 1
+-- replica 0, 1 or 2
 IsLow : ℕ → Type 0
-IsLow p = (p ≡ 0) ⊎ (p ≡ 1)
+IsLow p = (p ≡ 0) ⊎ ((p ≡ 1) ⊎ (p ≡ 2))
 
 put-low : (p j : ℕ) (x : Replica) (row : ℕ → Replica) → IsLow p → (j == 0) ≡ false → (j == 1) ≡ false
-    → put p x row j ≡ row j
+    → (j == 2) ≡ false → put p x row j ≡ row j
 unfolding IsLow
-put-low p j x row (inl e) e0 e1 = put-other p j x row (subst (λ (i : ℕ). (j == i) ≡ false) (sym e) e0)
-put-low p j x row (inr e) e0 e1 = put-other p j x row (subst (λ (i : ℕ). (j == i) ≡ false) (sym e) e1)
+put-low p j x row (inl e) e0 e1 e2 = put-other p j x row (subst (λ (i : ℕ). (j == i) ≡ false) (sym e) e0)
+put-low p j x row (inr (inl e)) e0 e1 e2 = put-other p j x row (subst (λ (i : ℕ). (j == i) ≡ false) (sym e) e1)
+put-low p j x row (inr (inr e)) e0 e1 e2 = put-other p j x row (subst (λ (i : ℕ). (j == i) ≡ false) (sym e) e2)
 
 stepped-leaves : (w : World) (p : ℕ) (m : MemorySupply) (r : Replica × Reaction) → IsLow p
     → LeavesOthers w (stepped w p m r)
 unfolding stepped
 stepped-leaves w p m r low =
-    record { replicas = λ j e0 e1. put-low p j r.0 w.replica low e0 e1; sessions = λ c e. refl }
+    record { replicas = λ j e0 e1 e2. put-low p j r.0 w.replica low e0 e1 e2; sessions = λ c e. refl }
 
 told-leaves : (w : World) (c : ℕ) (r : Session × Heard) → c ≡ 0 → LeavesOthers w (told w c r)
 unfolding told
 told-leaves w c r z = record {
-  replicas = λ j e0 e1. refl;
+  replicas = λ j e0 e1 e2. refl;
   sessions = λ i e. put-other c i r.0 w.session (subst (λ (n : ℕ). (i == n) ≡ false) (sym z) e);
 }
 
@@ -119,7 +122,7 @@ submits-leaves : (w : World) (c : ℕ) (m : MemorySupply) (payload : List ℕ) �
     → LeavesOthers w (submits c m payload w)
 unfolding submitted
 submits-leaves w c m payload z = record {
-  replicas = λ j e0 e1. refl;
+  replicas = λ j e0 e1 e2. refl;
   sessions = λ i e. put-other c i _ w.session (subst (λ (n : ℕ). (i == n) ≡ false) (sym z) e);
 }
 
@@ -143,8 +146,11 @@ unfolding IsLow new_world
 these-leave s p m o t = elim (or_cases _ _ t) [
   | inl e ↦ at 0 (λ k. inl refl) refl (eqb-true p 0 e)
   | inr h ↦ (elim (or_cases _ _ h) [
-    | inl e ↦ at 1 (λ k. inr refl) refl (eqb-true p 1 e)
-    | inr e ↦ at 256 (λ k. absurd (true≢false (sym k))) refl (eqb-true p 256 e)
+    | inl e ↦ at 1 (λ k. inr (inl refl)) refl (eqb-true p 1 e)
+    | inr i ↦ (elim (or_cases _ _ i) [
+      | inl e ↦ at 2 (λ k. inr (inr refl)) refl (eqb-true p 2 e)
+      | inr e ↦ at 256 (λ k. absurd (true≢false (sym k))) refl (eqb-true p 256 e)
+    ])
   ])
 ]
   where
@@ -162,7 +168,7 @@ acts-leave s (relay k to) m t = these-leave s to m (recorded (restored s) k) t
 acts-leave s (inject to bytes read) m t = these-leave s to m read t
 acts-leave s (timeout r) m t = absurd (true≢false (sym t))
 acts-leave s (beat r) m t = stepped-leaves (restored s) r m _ (inl (eqb-true r 0 t))
-acts-leave s (prune r height) m t = absurd (true≢false (sym t))
+acts-leave s (prune r height) m t = stepped-leaves (restored s) r m _ (inl (eqb-true r 0 t))
 acts-leave s (offer to source) m t = absurd (true≢false (sym t))
 acts-leave s (gather to sources) m t = absurd (true≢false (sym t))
 acts-leave s (lead r d) m t = absurd (true≢false (sym t))
@@ -177,16 +183,18 @@ effect-leaves s h t =
 
 -- ---- a world after such events is that of its snapshot
 
-replicas-restored : (f row : ℕ → Replica) → ((j : ℕ) → (j == 0) ≡ false → (j == 1) ≡ false → f j ≡ row j)
-    → f ≡ put 0 (f 0) (put 1 (f 1) row)
+replicas-restored : (f row : ℕ → Replica)
+    → ((j : ℕ) → (j == 0) ≡ false → (j == 1) ≡ false → (j == 2) ≡ false → f j ≡ row j)
+    → f ≡ put 0 (f 0) (put 1 (f 1) (put 2 (f 2) row))
 replicas-restored f row others = fun_ext (λ j. at j)
   where
-    at : (j : ℕ) → f j ≡ put 0 (f 0) (put 1 (f 1) row) j
+    at : (j : ℕ) → f j ≡ put 0 (f 0) (put 1 (f 1) (put 2 (f 2) row)) j
     at j =
-        cond_both (j == 0) (f 0) (put 1 (f 1) row j) (λ (x : Replica). f j ≡ x)
+        cond_both (j == 0) (f 0) (put 1 (f 1) (put 2 (f 2) row) j) (λ (x : Replica). f j ≡ x)
         (λ e. ap f (eqb-true j 0 e))
-        (λ e0. cond_both (j == 1) (f 1) (row j) (λ (x : Replica). f j ≡ x) (λ e. ap f (eqb-true j 1 e))
-        (λ e1. others j e0 e1))
+        (λ e0. cond_both (j == 1) (f 1) (put 2 (f 2) row j) (λ (x : Replica). f j ≡ x) (λ e. ap f (eqb-true j 1 e))
+        (λ e1. cond_both (j == 2) (f 2) (row j) (λ (x : Replica). f j ≡ x) (λ e. ap f (eqb-true j 2 e))
+        (λ e2. others j e0 e1 e2)))
 
 sessions-restored : (f row : ℕ → Session) → ((c : ℕ) → (c == 0) ≡ false → f c ≡ row c) → f ≡ put 0 (f 0) row
 sessions-restored f row others = fun_ext (λ c. at c)
@@ -199,7 +207,7 @@ sessions-restored f row others = fun_ext (λ c. at c)
 pub start-restored : start ≡ restored (snapshot start)
 start-restored =
     ap₂ (λ (r : ℕ → Replica) (s : ℕ → Session). record start { replica = r; session = s })
-    (replicas-restored start.replica start.replica (λ j e0 e1. refl))
+    (replicas-restored start.replica start.replica (λ j e0 e1 e2. refl))
     (sessions-restored start.session start.session (λ c e. refl))
 
 happens-restored : (s : Snapshot) (h : Happening) → is_near h.0 ≡ true
@@ -208,8 +216,9 @@ unfolding happens
 happens-restored s h t =
     let l = effect-leaves s h t in
     ap₂ (λ (r : ℕ → Replica) (c : ℕ → Session). record (happens (restored s) h) { replica = r; session = c })
-    (replicas-restored (effect (restored s) h).replica start.replica (λ j e0 e1. l.replicas j e0 e1
-    ∙ (put-other 0 j s.r0 (put 1 s.r1 start.replica) e0 ∙ put-other 1 j s.r1 start.replica e1)))
+    (replicas-restored (effect (restored s) h).replica start.replica (λ j e0 e1 e2. l.replicas j e0 e1 e2
+    ∙ (put-other 0 j s.r0 (put 1 s.r1 (put 2 s.r2 start.replica)) e0
+    ∙ (put-other 1 j s.r1 (put 2 s.r2 start.replica) e1 ∙ put-other 2 j s.r2 start.replica e2))))
     (sessions-restored (effect (restored s) h).session start.session
     (λ c e. l.sessions c e ∙ put-other 0 c s.client start.session e))
 
@@ -256,7 +265,7 @@ seen-over w h a b =
         (record { taken = t'; honest = n'; brought = l'; last = b.last })
     made_alike p q r = λ i. record { taken = p i; honest = q i; brought = r i; last = b.last }
 
-seen-append : (hs rest : List Happening) (w : World)
+pub seen-append : (hs rest : List Happening) (w : World)
     → seen w (hs ++ rest) ≡ then_see (part_of (seen w hs)) (seen (after w hs) rest)
 unfolding after
 seen-append [] rest w = refl

@@ -1,14 +1,15 @@
 -- The world in which a client waits, computed as far as healing asks.
-use Rattle.std.proofs.Common.{◌==◌, ◌≡◌, ◌≤◌, [], ◌∷◌, length, map, refl, arith}
+use Rattle.std.proofs.Common.{◌==◌, ◌≡◌, true, [], ◌∷◌, refl, sym, subst, arith, inl, inr}
 use Rattle.ids.specs.Sizes.{AreSizes, client_party, replicas}
-use Rattle.definitions.specs.Chronicles.{window, horizon}
+use Rattle.definitions.specs.Chronicles.{horizon}
 use Rattle.definitions.specs.Replicas.{Standing.running}
 use Rattle.definitions.specs.Sendings.{To.to_all}
 use Rattle.definitions.specs.Sessions.{request_frame}
-use Rattle.definitions.specs.Worlds.{client_of}
-use Rattle.recovery.specs.Correct.{chronicle_of, view_of, correct_below}
+use Rattle.definitions.specs.Worlds.{client_of, new_world}
+use Rattle.recovery.specs.Correct.{chronicle_of, correct_below}
 use Rattle.recovery.specs.Healing.{highest_locked, highest_voted}
-use Rattle.recovery.specs.NeverWedged.{IsAsked, NeverWedged, ground_of, blocks_made}
+use Rattle.recovery.specs.Inventions.{NothingForgedInvented, RunsAreHealed}
+use Rattle.recovery.specs.NeverWedged.{IsAsked}
 use Rattle.worked_examples.specs.Liar.{start}
 use Rattle.worked_examples.specs.Replicas.{payload, command}
 use Rattle.worked_examples.specs.Runs.{sizes}
@@ -16,44 +17,26 @@ use Rattle.worked_examples.specs.Waiting.{schedule, waiting, WedgedMayHeal, IsHe
 use Rattle.worked_examples.proofs.Computed.{of_steps}
 use Rattle.worked_examples.proofs.WaitingRun.{taken, premises}
 use Rattle.worked_examples.proofs.Healed.{healed}
-use Rattle.worked_examples.proofs.Ready.{Small, may-heal, of_four, in_row}
+use Rattle.worked_examples.proofs.Invented.{IsOfFaulty, of-faulty}
+use Rattle.worked_examples.proofs.Ready.{Small, is_small, may-heal, of_four}
 
 four : replicas waiting.sizes ≡ 4
 unfolding of_steps
 four = refl
 
-windows : map (λ r. length (window (chronicle_of waiting r))) (0 ∷ 1 ∷ 2 ∷ 3 ∷ []) ≡ 3 ∷ 2 ∷ 2 ∷ 1 ∷ []
-unfolding of_steps
-windows = refl
-
-grounds : length (ground_of waiting) ≡ 0
-unfolding of_steps highest_locked correct_below
-grounds = refl
-
-made : blocks_made waiting ≡ 8
+-- replicas' numbers, and those of healing
+low : is_small waiting ≡ true
 unfolding of_steps highest_locked highest_voted correct_below
-made = refl
-
-views : map (view_of waiting) (0 ∷ 1 ∷ 2 ∷ 3 ∷ []) ≡ 0 ∷ 0 ∷ 0 ∷ 0 ∷ []
-unfolding of_steps
-views = refl
-
-few_made : blocks_made waiting ≤ 8
-few_made = let m = made in omega (arith, m)
+low = refl
 
 small : Small waiting
-unfolding of_steps highest_locked correct_below
+unfolding of_steps
 small = record {
   four = four;
   rings = refl;
   goes = of_four waiting four (λ r. (waiting.replica r).standing ≡ running) refl refl refl refl;
-  views = in_row waiting four (view_of waiting) 0 0 0 0 1 views (omega arith, omega arith, omega arith, omega arith);
-  few = in_row waiting four (λ r. length (window (chronicle_of waiting r))) 3 2 2 1 3 windows
-      (omega arith, omega arith, omega arith, omega arith);
-  kept = of_four waiting four (λ r. horizon (chronicle_of waiting r) ≡ 0) refl refl refl refl;
-  grounds = grounds;
-  locks = refl;
-  made = few_made;
+  few = low;
+  kept = inl (of_four waiting four (λ r. horizon (chronicle_of waiting r) ≡ 0) refl refl refl refl);
 }
 
 asks : IsAsked waiting 6 0
@@ -87,7 +70,15 @@ first_of_it : (waiting.session 0).used ≡ 1
 unfolding of_steps
 first_of_it = refl
 
+-- the half vote is the faulty replica's own
+honest : NothingForgedInvented start schedule
+unfolding new_world
+honest = of-faulty schedule start (λ f m. elim m [
+  | inl e ↦ subst (IsOfFaulty start.is_faulty) (sym e) refl
+  | inr n ↦ absurd n
+])
+
 -- so the law of healing says what it comes to
-pub is_healed : NeverWedged → IsHealed
+pub is_healed : RunsAreHealed → IsHealed
 is_healed =
-    healed sizes (λ p. p == 3) schedule 6 waiting premises taken are (may-heal waiting small) asks first_of_it
+    healed sizes (λ p. p == 3) schedule 6 1 waiting premises honest taken are (may-heal waiting small) asks first_of_it

@@ -67,4 +67,4 @@ MayHealIt = MayHeal waiting × IsAsked waiting 2 0
 
 -- client 0 has its receipt
 abbrev pub IsHealed : Type 0
-IsHealed = IsHealedFrom start schedule 2 waiting
+IsHealed = IsHealedFrom start schedule 2 1 waiting

@@ -1,3 +1,4 @@
+pub mod AfterPruning
 pub mod Cache
 pub mod Chains
 pub mod Frames

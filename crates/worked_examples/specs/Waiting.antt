@@ -35,4 +35,4 @@ WedgedMayHeal = MayHeal waiting × IsAsked waiting 6 0
 
 -- the client has its receipt
 abbrev pub IsHealed : Type 0
-IsHealed = IsHealedFrom start schedule 6 waiting
+IsHealed = IsHealedFrom start schedule 6 1 waiting

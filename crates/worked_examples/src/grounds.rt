@@ -7,10 +7,12 @@ ghost use Rattle.worked_examples.specs.Healing.{CopiesPass, OffersPass};
 ghost use Rattle.worked_examples.specs.Grounds.{ALeadKeepsIt, AWholeOneFills, VotesFillNothing};
 ghost use Rattle.worked_examples.specs.Grounds.{AsksAnyone, ItsViewCounts};
 ghost use Rattle.worked_examples.specs.Waiting.{IsTakenWhole, PremisesHold, WedgedMayHeal, IsHealed};
+ghost use Rattle.worked_examples.specs.AfterPruning.{OnePruned, PrunedMayHeal};
+ghost use Rattle.worked_examples.specs.AfterPruning.{PremisesHold as PremisesHoldAfterIt, IsHealed as IsHealedAfterIt};
 ghost use Rattle.worked_examples.specs.HalfRequest.{OneVotes, MayHealIt};
 ghost use Rattle.worked_examples.specs.HalfRequest.{PremisesHold as PremisesHoldOfIt, IsHealed as IsHealedOfIt};
 
-use recovery::never_wedged;
+use recovery::runs_are_healed;
 
 /// A block is taken where an earlier one justifies the same block, or f + 1 replicas sent it; else not.
 pub fn a_block_is_taken_on_grounds()
@@ -66,11 +68,18 @@ pub fn a_half_request_wedges_and_may_heal()
     ensures may { MayHealIt }
 {}
 
-/// So healing brings the clients of these two worlds their receipts, where in all of it no tag is forged, and no two
-/// cores collide.
+/// So it is where a replica pruned, after careful votes, and another one never took a block.
+pub fn a_world_after_a_pruning_may_heal()
+    ensures pruned { OnePruned }
+    ensures premises { PremisesHoldAfterIt }
+    ensures may { PrunedMayHeal }
+{}
+
+/// So healing brings the clients of these three worlds their receipts, where no two cores collide in it.
 pub fn wedged_worlds_are_healed()
     ensures half_vote { IsHealed }
     ensures half_request { IsHealedOfIt }
+    ensures pruning { IsHealedAfterIt }
 {
-    never_wedged();
+    runs_are_healed();
 }
