@@ -1,20 +1,20 @@
 """Brings a waiting client its receipt by events of correct parties alone, whatever faulty ones did before.
 
-The correct replica with the highest lock leads from that lock. Before that all correct replicas get the block that
-justifies the lock, with all below it: so the lock has grounds with each of them. The leader makes blocks until one is
-above all heights for which correct replicas voted, before any vote for them is counted. Votes go to all, so each
-correct replica has a certificate of its own for the last one. Three more blocks decide it.
+A correct replica of the highest lock, the first of them, leads from that lock. Before that all correct replicas come
+into a view of it, and get the block that justifies the lock, with all below it: so the lock has grounds with each of
+them. The leader makes blocks until one is above all heights for which correct replicas voted, before any vote for them
+is counted. Votes go to all, so each correct replica has a certificate of its own for the last one. Three more blocks
+decide it. Then the request comes to all, and their replies to the client.
 
-No correct replica may have stopped or pruned, and there has to be room for the blocks.
+The leader must not have pruned (21), and a block that is asked for has to come (13). For a receipt no correct replica
+may have stopped, and there has to be room for the blocks.
 """
-from itertools import product
-
-from .frames import Kind, kind_of
+from .frames import GENESIS, Kind, kind_of
 from .own_frames import ALL
-from .sizes import FIRST_CLIENT, Fault
+from .sizes import FIRST_CLIENT, Fault, Refusal
 from .world import Ask, Beat, Gather, Lead, Offer, Relay, Timeout
 
-MORE_BLOCKS = 3
+MORE_ROUNDS = 3
 
 
 class Healer:
@@ -24,96 +24,123 @@ class Healer:
         self.world = world
         self.correct = sorted(world.replicas)
         self.events = []
+        self.receipt = None
 
     def do(self, event):
-        """(refusal or None, numbers of the frames that were sent, receipt or None)"""
-        first = len(self.world.record)
-        refused, _, receipt = self.world.happen(event)
+        _, _, receipt = self.world.happen(event)
         self.events.append(event)
-        return refused, range(first, len(self.world.record)), receipt
+        self.receipt = receipt or self.receipt
 
     def heal(self, client):
         """The receipt, or None."""
-        leader = self._highest_locked()
-        self._go_to_view_of(leader)
-        self._make_block_on_genesis(leader)
-        for block in self._branch_over_lock(leader):
-            for replica in self.correct:
-                if self.world.replicas[replica].tree.get(block.digest) is None:
-                    self._bring_block(replica, block.digest)
-        self.do(Lead(leader, self.world.replicas[leader].lock.digest))
         request = self._request_of(client)
+        leader = self._highest_locked()
+        replica = self.world.replicas[leader]
+        if replica.tree.horizon > 0:
+            raise Refusal(Fault.PRUNED)
+        lock, over = replica.lock, self._over(replica)
+        self._come_to_view_of(leader)
+        if not over.core:
+            self._make_first(leader)
+        for block in over.above(0):
+            self._bring_to_all(block.digest)
+        self.do(Lead(leader, lock.digest))
         self.do(Relay(request, leader))
-        self._round(leader, self._padding(leader))
-        for _ in range(MORE_BLOCKS):
+        self._round(leader, self._to_climb(leader))
+        for _ in range(MORE_ROUNDS):
             self._round(leader, 1)
-        return self._bring_replies(request, client)
+        self._ask_again(request)
+        return self.receipt
+
+    def heal_all(self):
+        """Each correct client that waits, one after the other."""
+        for client in sorted(self.world.sessions):
+            if self.world.sessions[client].outstanding:
+                self.heal(client)
+
+    # ---- frames of the record
+
+    def _sent_since(self, before, kind):
+        """The numbers of the frames of a kind that were sent since there were so many."""
+        numbers = range(before, len(self.world.record))
+        return [number for number in numbers if kind_of(self.world.record[number].data) == kind]
+
+    def _deliver_since(self, before, kind):
+        """They come to whom they go."""
+        for number in self._sent_since(before, kind):
+            to = self.world.record[number].to
+            for party in self.correct if to == ALL else [to]:
+                self.do(Relay(number, party))
+
+    def _bring(self, parties, numbers):
+        for party in parties:
+            for number in numbers:
+                self.do(Relay(number, party))
+
+    def _offer(self, replicas, numbers):
+        for replica in replicas:
+            for number in numbers:
+                self.do(Offer(replica, number))
 
     # ---- before the leader proposes
 
     def _highest_locked(self):
         return max(self.correct, key=lambda number: (self.world.replicas[number].lock.height, -number))
 
-    def _go_to_view_of(self, leader):
+    def _come_to_view_of(self, leader):
         view = max(replica.pacemaker.view for replica in self.world.replicas.values()) + 1
         view += (leader - view) % self.world.config.n
         for number in self.correct:
             while self.world.replicas[number].pacemaker.view < view:
                 self.do(Timeout(number))
 
-    def _make_block_on_genesis(self, leader):
-        """A leader without any block takes one of its own: only then does genesis have grounds with it."""
-        if len(self.world.replicas[leader].tree.blocks) == 1:
-            _, [proposal], _ = self.do(Beat(leader))
-            self.do(Relay(proposal, leader))
+    def _over(self, replica):
+        """A certified block that justifies the replica's lock: by the oldest block that it took over such a one."""
+        taken = [block for block in replica.tree.blocks.values() if block.core]
+        over = [block.justified for block in taken if block.justified.justified is replica.lock]
+        return over[0] if over else replica.tree.genesis
 
-    def _branch_over_lock(self, leader):
-        """A certified block that justifies the leader's lock, with all below it, the lowest first."""
-        replica = self.world.replicas[leader]
-        blocks = [block.justified for block in replica.tree.blocks.values() if block.core]
-        over = [block for block in blocks if block.core and block.justified is replica.lock]
-        return over[0].above(0) if replica.lock.core else []
+    def _make_first(self, leader):
+        """Genesis has grounds with who took any block. So the leader makes one there, for all that never took one."""
+        before = len(self.world.record)
+        self.do(Lead(leader, GENESIS))
+        self.do(Beat(leader))
+        newcomers = [number for number in self.correct if len(self.world.replicas[number].tree.blocks) == 1]
+        self._bring(newcomers, self._sent_since(before, Kind.PROPOSAL))
+
+    def _bring_to_all(self, digest):
+        for replica in [number for number in self.correct if self.world.replicas[number].tree.get(digest) is None]:
+            self._bring_block(replica, digest)
 
     def _bring_block(self, replica, digest):
-        """It asks each other one, and takes the block from one, or from several together."""
-        copies = []
+        """It asks each, and gathers what they answer."""
+        before = len(self.world.record)
         for other in self.correct:
-            if other == replica:
-                continue
-            _, [question], _ = self.do(Ask(replica, other, digest))
-            for copy in self.do(Relay(question, other))[1]:
-                copies.append(copy)
-                if self._show(copy, replica)[0] is None:
-                    return
-        if copies:
-            self.do(Gather(replica, tuple(copies)))
-
-    def _show(self, number, replica):
-        """A frame comes, and is offered where its certificate isn't good there: the refusal, and what was sent."""
-        refused, sent, _ = self.do(Relay(number, replica))
-        if refused == Fault.BAD_TAG:
-            refused, sent, _ = self.do(Offer(replica, number))
-        return refused, list(sent)
+            asked = len(self.world.record)
+            self.do(Ask(replica, other, digest))
+            self._deliver_since(asked, Kind.FETCH)
+        copies = self._sent_since(before, Kind.BLOCK)
+        if not copies:
+            raise Refusal(Fault.UNKNOWN_PARENT)
+        self.do(Gather(replica, tuple(copies)))
 
     # ---- blocks
 
-    def _padding(self, leader):
+    def _to_climb(self, leader):
         """How many blocks it takes to be above all heights that correct replicas voted for."""
         voted = max(replica.voted_height for replica in self.world.replicas.values())
         return max(0, voted - self.world.replicas[leader].leaf_height) + 1
 
     def _round(self, leader, count):
         """So many blocks, which the leader takes one by one; then all to the others, and all votes to all."""
-        proposals, sent = [], []
+        before = len(self.world.record)
         for _ in range(count):
-            _, [proposal], _ = self.do(Beat(leader))
-            proposals.append(proposal)
-            sent += self._show(proposal, leader)[1]
-        for replica, proposal in product(self.correct, proposals):
-            sent += self._show(proposal, replica)[1] if replica != leader else []
-        for vote, replica in product(sent, self.correct):
-            if kind_of(self.world.record[vote].data) == Kind.VOTE:
-                self.do(Relay(vote, replica))
+            beaten = len(self.world.record)
+            self.do(Beat(leader))
+            self._offer([leader], self._sent_since(beaten, Kind.PROPOSAL))
+        others = [number for number in self.correct if number != leader]
+        self._offer(others, self._sent_since(before, Kind.PROPOSAL))
+        self._bring(self.correct, self._sent_since(before, Kind.VOTE))
 
     # ---- the client
 
@@ -121,11 +148,8 @@ class Healer:
         frame = self.world.sessions[client].frame
         return next(number for number, sent in enumerate(self.world.record) if sent.data == frame and sent.to == ALL)
 
-    def _bring_replies(self, request, client):
+    def _ask_again(self, request):
         """The request comes to all again, and their replies to the client."""
-        for replica in self.correct:
-            for reply in self.do(Relay(request, replica))[1]:
-                _, _, receipt = self.do(Relay(reply, FIRST_CLIENT + client))
-                if receipt:
-                    return receipt
-        return None
+        before = len(self.world.record)
+        self._bring(self.correct, [request])
+        self._deliver_since(before, Kind.REPLY)

@@ -43,11 +43,17 @@ def try_in_vain(run):
     assert run.world.replicas[leader].highest == before
 
 
-def healed(run, client=0):
-    """The run goes on, up to the client's receipt."""
+def wedge(run, client=0):
+    """A client waits, and no leader brings it its receipt."""
     if not run.world.sessions[client].outstanding:
         run.do(Submit(client, SET_A))
     try_in_vain(run)
+    run.wedged = len(run.events)
+
+
+def healed(run, client=0):
+    """The run goes on, up to the client's receipt."""
+    wedge(run, client)
     healer = Healer(run.world)
     assert healer.heal(client)
     run.events += healer.events
