@@ -57,7 +57,7 @@ use Rattle.linear_law.specs.Law.{HaveOwnKeys, IsDeliveredFrom, IsDelivered, AllD
 use Rattle.definitions.specs.Frames as frame
 use Rattle.linear_law.proofs.HeldVotes.{AllVotes}
 use Rattle.linear_law.proofs.Made.{Brought, IsAddressed, Passed, IsMadeInput, AreMade, made-more, passed-more}
-use Rattle.linear_law.proofs.MadeSteps.{IsMadeAfter, step-made, check-made, offer-made-of, gathered-made}
+use Rattle.linear_law.proofs.MadeSteps.{IsMadeAfter, step-made, check-made, offered-made, gathered-made}
 
 -- ---- what an event does
 
@@ -308,7 +308,7 @@ input-made : (w : World) (e : Event) (i : Input) → ((f : Frame) → Among f (b
 input-made w e i h (by_check f b g) =
     check-made (VoteHolds w w.sent) (CommandHolds w w.sent) (self_of w (party_of e)) f i (h f b) g
 input-made w e i h (by_offer f b g) =
-    offer-made-of (VoteHolds w w.sent) (CommandHolds w w.sent) (self_of w (party_of e)) f i (h f b) g
+    offered-made (VoteHolds w w.sent) (CommandHolds w w.sent) (self_of w (party_of e)) f i (h f b) g
 input-made w e i h (by_copies g) =
     gathered-made (VoteHolds w w.sent) (CommandHolds w w.sent) (self_of w (party_of e)) (brought w e) i h g
 input-made w e i h (by_none k) = bare-made (VoteHolds w w.sent) (CommandHolds w w.sent) i k

@@ -239,11 +239,11 @@ module _ (IsVote : Bytes → Vote → Type 0) (IsCommand : Command → Type 0) w
   check-made self (frame.reply r c q p t g) i h e = absurd (not_mine i e)
 
   -- one that is offered
-  pub offer-made-of : (self : Identity) (f : Frame) (i : Input) → Brought IsVote IsCommand f → IsOffered self f i
+  pub offered-made : (self : Identity) (f : Frame) (i : Input) → Brought IsVote IsCommand f → IsOffered self f i
       → IsMadeInput IsVote IsCommand i
-  offer-made-of self f i h (by_proposal view core q v) = h.0
-  offer-made-of self f i h (by_block sender core q t) = h.0
-  offer-made-of self f i h (by_view view sender q v) = tt
+  offered-made self f i h (by_proposal view core q v) = h.0
+  offered-made self f i h (by_block sender core q t) = h.0
+  offered-made self f i h (by_view view sender q v) = tt
 
   -- copies of a block
   pub gathered-made : (self : Identity) (fs : List Frame) (i : Input)

@@ -1,6 +1,5 @@
 -- The world after a pruning, computed as far as healing asks.
-use Rattle.std.specs.Prelude.{Ok}
-use Rattle.std.proofs.Common.{ℕ, ◌≡◌, ◌∙◌, ◌<◌, ◌++◌, ◌==◌, true, List, [], ◌∷◌, length, map, refl, sym, ap, subst, arith}
+use Rattle.std.proofs.Common.{◌≡◌, ◌∙◌, ◌++◌, ◌==◌, true, List, [], ◌∷◌, length, map, refl, sym, ap, subst, arith}
 use Rattle.std.proofs.Common.{inr}
 use Rattle.std.specs.Prelude.{nat_lt}
 use Rattle.std.proofs.lemmas.Bool.{ltb-true}
@@ -10,12 +9,12 @@ use Rattle.definitions.specs.Careful.{AreCareful, is_careful, justifies_from}
 use Rattle.definitions.specs.Chronicles.{window}
 use Rattle.definitions.specs.Frames.{Frame}
 use Rattle.definitions.specs.Frames as frame
-use Rattle.definitions.specs.Lists.{Among, IsBeginning, count_below}
+use Rattle.definitions.specs.Lists.{IsBeginning}
 use Rattle.definitions.specs.Replicas.{Standing.running}
 use Rattle.definitions.specs.Sendings.{To.to_all, vote_frame, reply_to}
 use Rattle.definitions.specs.Worlds.{World, new_world}
 use Rattle.linear_law.proofs.Inputs.{all-among}
-use Rattle.recovery.specs.Correct.{OfCorrect, chronicle_of, correct_below, correct_with}
+use Rattle.recovery.specs.Correct.{chronicle_of, correct_below, correct_with}
 use Rattle.recovery.specs.Healing.{highest_locked, highest_voted}
 use Rattle.recovery.specs.Inventions.{NothingForgedInvented, RunsAreHealed}
 use Rattle.recovery.specs.NeverWedged.{IsAsked, MayHeal, PrunedWell, ground_of}

@@ -21,6 +21,7 @@ mod HalfRequest
 mod Healed
 mod Healing
 mod Invented
+mod ForgedForOne
 mod Ready
 mod Waiting
 mod WaitingRun

@@ -1,5 +1,5 @@
 -- The world in which a client waits, computed as far as healing asks.
-use Rattle.std.proofs.Common.{◌==◌, ◌≡◌, true, [], ◌∷◌, refl, sym, subst, arith, inl, inr}
+use Rattle.std.proofs.Common.{◌==◌, ◌≡◌, true, refl, sym, subst, arith, inl, inr}
 use Rattle.ids.specs.Sizes.{AreSizes, client_party, replicas}
 use Rattle.definitions.specs.Chronicles.{horizon}
 use Rattle.definitions.specs.Replicas.{Standing.running}

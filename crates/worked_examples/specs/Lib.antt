@@ -1,6 +1,7 @@
 pub mod AfterPruning
 pub mod Cache
 pub mod Chains
+pub mod ForgedForOne
 pub mod Frames
 pub mod Grounds
 pub mod HalfRequest

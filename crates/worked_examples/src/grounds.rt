@@ -9,6 +9,7 @@ ghost use Rattle.worked_examples.specs.Grounds.{AsksAnyone, ItsViewCounts};
 ghost use Rattle.worked_examples.specs.Waiting.{IsTakenWhole, PremisesHold, WedgedMayHeal, IsHealed};
 ghost use Rattle.worked_examples.specs.AfterPruning.{OnePruned, PrunedMayHeal};
 ghost use Rattle.worked_examples.specs.AfterPruning.{PremisesHold as PremisesHoldAfterIt, IsHealed as IsHealedAfterIt};
+ghost use Rattle.worked_examples.specs.ForgedForOne.{IsRefused, IsForgedForOne};
 ghost use Rattle.worked_examples.specs.HalfRequest.{OneVotes, MayHealIt};
 ghost use Rattle.worked_examples.specs.HalfRequest.{PremisesHold as PremisesHoldOfIt, IsHealed as IsHealedOfIt};
 
@@ -73,6 +74,12 @@ pub fn a_world_after_a_pruning_may_heal()
     ensures pruned { OnePruned }
     ensures premises { PremisesHoldAfterIt }
     ensures may { PrunedMayHeal }
+{}
+
+/// A frame with a tag that is forged for a replica to which it doesn't come is one that no run may invent.
+pub fn a_tag_is_forged_for_one()
+    ensures refused { IsRefused }
+    ensures forged { IsForgedForOne }
 {}
 
 /// So healing brings the clients of these three worlds their receipts, where no two cores collide in it.
