@@ -52,6 +52,29 @@ pub(crate) fn justifies_below(tree: &Tree, core: &CoreView<'_>, least: Height) -
     !tree.justifies_from(&parent, justified, least)
 }
 
+/// The block that this one of the tree justifies, with its height, where that justifies the lower one.
+fn justified_over(tree: &Tree, block: &Digest, lower: &Digest) -> Option<(Digest, Height)> {
+    let (first, height) = tree.justified(block)?;
+    let (second, _) = tree.justified(&first)?;
+    if second == *lower {
+        Some((first, height))
+    } else {
+        None
+    }
+}
+
+/// A block that justifies the one of this digest and is itself justified, with its height: by the oldest block of the
+/// tree over such a one.
+pub(crate) fn over_block(tree: &Tree, lower: &Digest) -> Option<(Digest, Height)> {
+    for newer in (0..tree.len() - 1).rev() {
+        let over = justified_over(tree, &tree.nth_newest(newer).digest(), lower);
+        if over.is_some() {
+            return over;
+        }
+    }
+    None
+}
+
 /// Puts the client and number of each command last.
 fn put_keys(commands: Commands<'_>, keys: &mut Vec<RequestId>) -> Result<(), AllocError>
     ensures { OnOk result (keys.new.items ≡ keys.old.items ++ map key_of (commands_left commands.entry)) }

@@ -12,7 +12,9 @@ ghost use Rattle.definitions.specs.Digests.{digest_of};
 ghost use Rattle.definitions.specs.Frames.{spelling};
 ghost use Rattle.definitions.specs.Replicas.{running, held_history, held_pending};
 ghost use Rattle.definitions.specs.Sendings.{fetch_frame};
-ghost use Rattle.definitions.specs.States.{view};
+ghost use Rattle.definitions.specs.States.{find_block, is_known, leaf, view};
+ghost use Rattle.replica.specs.Execution.{seen_at};
+ghost use Rattle.std.specs.Option.{option_and_then};
 ghost use Rattle.definitions.specs.WindowAudit.{shown_at};
 ghost use Rattle.frames_view.specs.Views.{core_of};
 ghost use Rattle.replica.specs.Careful.{is_careless};
@@ -31,6 +33,7 @@ ghost use Rattle.replica.specs.Replay.{is_pruning, replay};
 use crate::announce::{decide_new_view, decide_seen_view, decide_timeout};
 use crate::beat::{decide_beat, leads};
 use crate::blocks::decide_block;
+use crate::branch::over_block;
 use crate::change::Change;
 use crate::chronicle::ChronicleView;
 use crate::execution::execute;
@@ -395,6 +398,42 @@ impl Replica {
         ensures { result ≡ digest_of (lock self.now.replica.chronicle) }
     {
         self.state.rules.lock().digest
+    }
+
+    /// The height of the block that it is locked on.
+    pub fn lock_height(&self) -> Height
+        ensures { result ≡ length (lock self.now.replica.chronicle) }
+    {
+        self.state.rules.lock().height
+    }
+
+    /// The height of the block that its next proposal stands on.
+    pub fn leaf_height(&self) -> Height
+        ensures { result ≡ length (leaf (identity_of self.now.keys) self.now.replica.chronicle) }
+    {
+        self.state.leaf.height
+    }
+
+    /// Whether the block of a digest stands in its window.
+    pub fn knows(&self, block: &Digest) -> bool
+        ensures { result ≡ is_known block.now self.now.replica.chronicle }
+    {
+        self.state.knows(block)
+    }
+
+    /// A block of the window that justifies its lock and is justified itself, with its height: by the oldest block over
+    /// such a one. None where no block of the window stands so over the lock.
+    pub fn over_lock(&self) -> Option<(Digest, Height)> {
+        over_block(&self.state.tree, &self.state.rules.lock().digest)
+    }
+
+    /// The digest of the block of a height on the branch of a block of its window, as far as the window reaches.
+    pub fn block_below(&self, block: &Digest, height: Height) -> Option<Digest>
+        ensures { result ≡ option_map digest_of
+            (option_and_then (seen_at (horizon self.now.replica.chronicle) height)
+            (find_block block.now self.now.replica.chronicle)) }
+    {
+        self.state.block_below(block, height)
     }
 
     /// The digest of the last block that was decided.

@@ -1,6 +1,7 @@
 //! What a replica keeps beside its keys.
 
 ghost use Rattle.std.specs.Prelude.{◌≡◌, ◌≤◌, false, length, reverse, option_map, IfOk, OnOk, OnErr};
+ghost use Rattle.std.specs.Prelude.{◌↔◌, IsTrue, IsSome};
 ghost use Rattle.std.specs.Option.{unwrap_or, option_and_then};
 ghost use Rattle.definitions.specs.Chronicles.{stored_blocks};
 ghost use Rattle.definitions.specs.Digests.{digest_of};
@@ -178,6 +179,24 @@ impl State {
     {
         let last = self.rules.executed();
         digest_at(&self.tree, &last.digest, height)
+    }
+
+    /// Whether the block of a digest stands in the tree.
+    pub(crate) fn knows(&self, block: &Digest) -> bool
+        ensures { IsTrue result ↔ IsSome (find_in block.now (blocks self.now.variables.stored)) }
+    {
+        self.tree.contains(block)
+    }
+
+    /// The digest of the block of a height on the branch of a block of the tree, as far as it is in reach.
+    pub(crate) fn block_below(&self, block: &Digest, height: Height) -> Option<Digest>
+        ensures { (
+            let v = self.now.variables in
+            result
+            ≡ option_map digest_of
+            (option_and_then (seen_at v.horizon height) (find_in block.now (blocks v.stored)))) }
+    {
+        digest_at(&self.tree, block, height)
     }
 
     /// Whether the block of a core, on its parent in the tree, or one between it and the block that it justifies,

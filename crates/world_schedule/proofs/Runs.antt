@@ -4,13 +4,13 @@ use Rattle.ids.specs.declared.fault.Fault.TheVariants as fault
 use Rattle.std.proofs.Common.{ℕ, IfOk, OnOk, OnErr, MatchResult, take, zero, suc, ◌≡◌, ◌⊎◌, ◌+◌, ◌<◌, ◌≤◌}
 use Rattle.std.proofs.Common.{◌^◌, not, ◌&&◌, Bool, true, false, List, [], ◌∷◌, ◌++◌, length, map, drop}
 use Rattle.std.proofs.Common.{reverse, refl, sym, ap, subst, ◌∙◌, inl, inr, arith, Option, Some, None}
-use Rattle.std.proofs.Common.{Result, Ok, Err, nat_lt, length-append, slice_get, option_map}
+use Rattle.std.proofs.Common.{Result, Ok, Err, nat_lt, length-append, slice_get, option_map, MatchOption}
 use Rattle.std.specs.Prelude.{slice_index_or}
 use Rattle.std.specs.Option.{option_to_list}
 use Rattle.std.proofs.lemmas.Bool.{and_parts, not-false, ltb-true, or_left, cond_both, cond-true, cond-false}
 use Rattle.std.proofs.lemmas.List.{length-map, map-append, reverse-append, take-append-drop, take_more}
 use Rattle.std.proofs.lemmas.List.{drop_more, take_all}
-use Rattle.ids.specs.Sizes.{Sizes, AreSizes, replicas}
+use Rattle.ids.specs.Sizes.{Sizes, AreSizes, replicas, client_party}
 use Rattle.definitions.specs.Bytes.{Bytes}
 use Rattle.definitions.specs.Lists.{Among}
 use Rattle.definitions.specs.Frames.{Frame, spelling}
@@ -61,8 +61,9 @@ use Rattle.world_schedule.specs.Outcomes.{Shown, shown_frame, shown_sent, accept
 use Rattle.world_schedule.specs.Told.{Told}
 use Rattle.world_schedule.specs.Turns.{Tells}
 use Rattle.world_schedule.specs.Seats.{with_effect, AreOf, Brings, Offers, Gathers, gathers, Hands, Moves, Acts}
-use Rattle.world_schedule.specs.Seats.{Does}
-use Rattle.world_schedule.specs.Progress.{IsJournalOf, IsAt, GoesOn, HasRun}
+use Rattle.world_schedule.specs.Seats.{Does, HasKeysOf}
+use Rattle.world_schedule.specs.Progress.{IsJournalOf, IsAt, GoesOn, ComesTo, HasCome, Stand, StandsAt, Happened}
+use Rattle.world_schedule.specs.Progress.{HasRun, IsReplicaOf, IsSessionOf}
 use Rattle.world_schedule.specs.Running.{IsRunOf}
 
 -- ---- which events are refused
@@ -527,23 +528,6 @@ these-read sizes (x ∷ events) (h ∷ hs) a =
 these-read sizes [] (h ∷ hs) a = absurd a
 these-read sizes (x ∷ events) [] a = absurd a
 
--- nothing happened yet
-pub first-run : (s : Setting) (state : State) → IsAt s state (start_of s) → HasRun s [] state
-unfolding run
-first-run s state at =
-    record { happenings = []; are_these = tt; world = start_of s; ends = refl; now_at = at }
-
--- one event more
-pub next-run : (s : Setting) (these : List Event) (event : Event) (old new : State) (r : HasRun s these old)
-    → GoesOn s r.world event new → HasRun s (these ++ event ∷ []) new
-next-run s these event old new r g = record {
-  happenings = r.happenings ++ g.happening ∷ [];
-  are_these = these-more s.sizes these r.happenings event g.happening r.are_these g.is_event;
-  world = happens r.world g.happening;
-  ends = run-more r.happenings (start_of s) r.world g.happening r.ends g.allowed;
-  now_at = g.now_at;
-}
-
 -- a correct party's keys
 own-keys : (s : Setting) → Holds s → (p : ℕ) → is_correct (start_of s) p ≡ true
     → ((start_of s).ring p).party ≡ p
@@ -554,39 +538,182 @@ own-keys s holds p c =
     (and_parts (is_replica_of s.sizes p) (not (is_faulty_in s p)) k).0)
 
 -- what was sent so far are frames
-pub frames-so-far : (s : Setting) (these : List Event) (state : State) → Holds s
-    → length state.journal.answers.items < 2 ^ 63 → (r : HasRun s these state) → SentAreFrames r.world
+pub sent-so-far : (s : Setting) (state : State) (hs : List Happening) (w : World) → Holds s
+    → length state.journal.answers.items < 2 ^ 63 → ComesTo s state hs w → SentAreFrames w
 unfolding new_world
-frames-so-far s these state holds few r =
-    any-sent-are-frames s.sizes (is_faulty_in s) (ring_in s) r.happenings r.world
+sent-so-far s state hs w holds few c =
+    any-sent-are-frames s.sizes (is_faulty_in s) (ring_in s) hs w
     (let n =
-    run-now r.happenings (start_of s) r.world r.ends in let k =
-    r.now_at.told.now in let o : (start_of s).now ≡ 1 = refl in omega (arith, n, k, o, few))
-    (own-keys s holds) (these-read s.sizes these r.happenings r.are_these) r.ends
+    run-now hs (start_of s) w c.ends in let k =
+    c.now_at.told.now in let o : (start_of s).now ≡ 1 = refl in omega (arith, n, k, o, few))
+    (own-keys s holds) c.read c.ends
+
+-- nothing happened yet
+pub comes-first : (s : Setting) (state : State) → IsAt s state (start_of s) → ComesTo s state [] (start_of s)
+unfolding run
+comes-first s state at = record { read = tt; ends = refl; now_at = at }
+
+-- the bytes of one more are read rightly
+read-more : (sizes : Sizes) (hs : List Happening) (h : Happening) → AllRead sizes hs → IsReadIn sizes h.0
+    → AllRead sizes (hs ++ h ∷ [])
+read-more sizes [] h a r = (r, tt)
+read-more sizes (g ∷ hs) h a r = (a.0, read-more sizes hs h a.1 r)
+
+-- one event more
+pub comes-more : (s : Setting) (event : Event) (old new : State) (hs : List Happening) (w : World)
+    → ComesTo s old hs w → (g : GoesOn s w event new)
+    → ComesTo s new (hs ++ g.happening ∷ []) (happens w g.happening)
+comes-more s event old new hs w c g = record {
+  read = read-more s.sizes hs g.happening c.read (subst (IsReadIn s.sizes) (sym g.is_event.2) g.is_event.1);
+  ends = run-more hs (start_of s) w g.happening c.ends g.allowed;
+  now_at = g.now_at;
+}
+
+-- so a run that goes on has one event more
+pub next-stand : (s : Setting) (event : Event) (old new : State) (hs : List Happening) (w : World)
+    → ComesTo s old hs w → GoesOn s w event new
+    → Happened s hs w event (record { setting = s; state = Some new })
+next-stand s event old new hs w c g = record {
+  happening = g.happening;
+  is_event = g.is_event;
+  allowed = g.allowed;
+  stands = record { state = new; goes = refl; comes = comes-more s event old new hs w c g };
+}
+
+-- and has come to where it stands
+pub next-come : (s : Setting) (event : Event) (old new : State) (hs : List Happening) (w : World)
+    → ComesTo s old hs w → GoesOn s w event new → HasCome s new
+next-come s event old new hs w c g = record {
+  happenings = hs ++ g.happening ∷ [];
+  world = happens w g.happening;
+  comes = comes-more s event old new hs w c g;
+}
+
+-- which state it is
+same-state : (old new : State) → Some old ≡ Some new → old ≡ new
+same-state old new e = cc
+
+pub stand-comes : (s : Setting) (old : State) (r : Stand) (hs : List Happening) (w : World)
+    → r ≡ record { setting = s; state = Some old } → StandsAt r hs w → ComesTo s old hs w
+stand-comes s old r hs w is t =
+    let e : Some t.state ≡ Some old = sym t.goes ∙ ap (λ (x : Stand). x.state) is in
+    subst (λ (x : State). ComesTo s x hs w) (same-state t.state old e)
+    (subst (λ (z : Setting). ComesTo z t.state hs w) (ap (λ (x : Stand). x.setting) is) t.comes)
+
+-- one that was refused stands nowhere
+pub no-stand : (s : Setting) (r : Stand) (hs : List Happening) (w : World)
+    → r ≡ record { setting = s; state = None } → StandsAt r hs w → ⊥
+no-stand s r hs w is t = none (sym t.goes ∙ ap (λ (x : Stand). x.state) is)
+  where
+    none : Some t.state ≡ None → ⊥
+    none e = cc
+
+-- ---- what stands where
+
+got : {A : Type 0} (xs : List A) (i : ℕ) → i < length xs
+    → (x : A) × (slice_get xs i ≡ Some x) × ((d : A) → slice_index_or xs i d ≡ x)
+got [] i l = absurd (omega (arith, l))
+got (x ∷ xs) zero l = (x, refl, λ d. refl)
+got (x ∷ xs) (suc i) l = got xs i (omega (arith, l))
+
+-- a replica
+pub replica-found : (s : Setting) (state : State) (w : World) (i : ℕ) (o : Option (Bor steps.Held))
+    → IsAt s state w → i < replicas s.sizes
+    → option_map (λ (r : Bor steps.Held). r.now) o ≡ slice_get state.parties.replicas.items i
+    → MatchOption o ⊥ (λ r. IsReplicaOf s w i r.now)
+replica-found s state w i None at l e =
+    let n = at.parties.seated.replica_count in
+    let g = got state.parties.replicas.items i (omega (arith, n, l)) in absurd (none g.0 (e ∙ g.1))
+  where
+    none : (x : steps.Held) → None ≡ Some x → ⊥
+    none x h = cc
+replica-found s state w i (Some r) at l e =
+    let n = at.parties.seated.replica_count in
+    let g = got state.parties.replicas.items i (omega (arith, n, l)) in
+    let is : slice_index_or state.parties.replicas.items i r.now ≡ r.now = g.2 r.now ∙ sym (same g.0 (e ∙ g.1)) in
+    record {
+      keys = subst (λ (h : steps.Held). HasKeysOf s i h.keys) is (at.parties.seated.replica_keys i r.now l);
+      state = ap (λ (h : steps.Held). h.replica) (sym is) ∙ at.parties.replicas_are i r.now l;
+    }
+  where
+    same : (x : steps.Held) → Some r.now ≡ Some x → r.now ≡ x
+    same x h = cc
+
+-- a client's session
+pub session-found : (s : Setting) (state : State) (w : World) (i : ℕ) (o : Option (Bor sessions.Held))
+    → IsAt s state w → i < s.sizes.clients
+    → option_map (λ (r : Bor sessions.Held). r.now) o ≡ slice_get state.parties.sessions.items i
+    → MatchOption o ⊥ (λ r. IsSessionOf s w i r.now)
+session-found s state w i None at l e =
+    let n = at.parties.seated.session_count in
+    let g = got state.parties.sessions.items i (omega (arith, n, l)) in absurd (none g.0 (e ∙ g.1))
+  where
+    none : (x : sessions.Held) → None ≡ Some x → ⊥
+    none x h = cc
+session-found s state w i (Some r) at l e =
+    let n = at.parties.seated.session_count in
+    let g = got state.parties.sessions.items i (omega (arith, n, l)) in
+    let is : slice_index_or state.parties.sessions.items i r.now ≡ r.now = g.2 r.now ∙ sym (same g.0 (e ∙ g.1)) in
+    record {
+      keys = subst (λ (h : sessions.Held). HasKeysOf s (client_party i) h.keys) is
+          (at.parties.seated.session_keys i r.now l);
+      state = ap (λ (h : sessions.Held). h.session) (sym is) ∙ at.parties.sessions_are i r.now l;
+    }
+  where
+    same : (x : sessions.Held) → Some r.now ≡ Some x → r.now ≡ x
+    same x h = cc
+
+-- ---- a whole run
+
+-- nothing happened yet
+pub first-run : (s : Setting) (r : Stand) → r.setting ≡ s → StandsAt r [] (start_of s) → HasRun s [] r
+first-run s r is t = record {
+  setting = is;
+  happenings = [];
+  are_these = tt;
+  world = start_of s;
+  stands = t;
+}
+
+-- one event more
+pub next-run : (s : Setting) (these : List Event) (event : Event) (old new : Stand) (r : HasRun s these old)
+    → new.setting ≡ old.setting → Happened old.setting r.happenings r.world event new
+    → HasRun s (these ++ event ∷ []) new
+next-run s these event old new r is g = record {
+  setting = is ∙ r.setting;
+  happenings = r.happenings ++ g.happening ∷ [];
+  are_these = these-more s.sizes these r.happenings event g.happening r.are_these
+      (subst (λ (z : Setting). IsEventOf z.sizes event g.happening.0) r.setting g.is_event);
+  world = happens r.world g.happening;
+  stands = g.stands;
+}
 
 -- the whole run
-pub whole-run : (s : Setting) (events : List Event) (state : State) (o : Outcome) → Holds s
-    → (r : HasRun s events state) → TellsOf r.world o → IsRunOf s events o
+pub whole-run : (s : Setting) (events : List Event) (r : Stand) (o : Outcome) → Holds s
+    → (ran : HasRun s events r) → TellsOf ran.world o → IsRunOf s events o
 unfolding new_world
-whole-run s events state o holds r t = record {
-  happenings = r.happenings;
-  are_these = r.are_these;
-  last = r.world;
-  ends = r.ends;
+whole-run s events r o holds ran t = record {
+  happenings = ran.happenings;
+  are_these = ran.are_these;
+  last = ran.world;
+  ends = ends;
   tells = t;
   linear = λ honest apart.
-      let met : ArePremises (start_of s) r.happenings =
+      let met : ArePremises (start_of s) ran.happenings =
       record {
         few = holds.few;
         keys = own-keys s holds;
-        read = these-read s.sizes events r.happenings r.are_these;
+        read = these-read s.sizes events ran.happenings ran.are_these;
         no_forgery = honest;
         no_collision = apart;
       } in (
-        every-run-linear s.sizes (is_faulty_in s) (ring_in s) r.happenings r.world met r.ends,
-        none-conflicts s.sizes (is_faulty_in s) (ring_in s) r.happenings r.world met r.ends,
+        every-run-linear s.sizes (is_faulty_in s) (ring_in s) ran.happenings ran.world met ends,
+        none-conflicts s.sizes (is_faulty_in s) (ring_in s) ran.happenings ran.world met ends,
       );
 }
+  where
+    ends : run (start_of s) ran.happenings ≡ Ok ran.world
+    ends = subst (λ (z : Setting). run (start_of z) ran.happenings ≡ Ok ran.world) ran.setting ran.stands.comes.ends
 
 -- ---- where there is an effect
 
@@ -769,7 +896,7 @@ first-at s state p f a r = record {
 }
 
 -- an event is refused
-pub ends-refused : (s : Setting) (events : List Event) (i : ℕ) (d event : Event) (old : State) (n : Fault)
+pub ends-refused : (s : Setting) (events : List Event) (i : ℕ) (d event : Event) (old : Stand) (n : Fault)
     → i < length events → event ≡ slice_index_or events i d → (r : HasRun s (take i events) old)
     → (n ≡ fault.Memory) ⊎ (refusal r.world (event_of [] event) ≡ Some n)
     → (n ≡ fault.Memory) ⊎ IsRefusedFor s events n
@@ -785,27 +912,29 @@ ends-refused s events i d event old n l is r (inr h) = inr (record {
   happenings = r.happenings;
   are_these = r.are_these;
   world = r.world;
-  ends = r.ends;
+  ends = subst (λ (z : Setting). run (start_of z) r.happenings ≡ Ok r.world) r.setting r.stands.comes.ends;
   refused = h;
 })
 
 -- one event more of the schedule
-pub goes-further : (s : Setting) (events : List Event) (i : ℕ) (d event : Event) (old new : State)
+pub goes-further : (s : Setting) (events : List Event) (i : ℕ) (d event : Event) (old new : Stand)
     → i < length events → event ≡ slice_index_or events i d → (r : HasRun s (take i events) old)
-    → GoesOn s r.world event new → HasRun s (take (i + 1) events) new
-goes-further s events i d event old new l is r g =
+    → new.setting ≡ old.setting → Happened old.setting r.happenings r.world event new
+    → HasRun s (take (i + 1) events) new
+goes-further s events i d event old new l is r same g =
     subst (λ (es : List Event). HasRun s es new)
     (ap (λ (x : Event). take i events ++ x ∷ []) is ∙ sym (take_more events i d l))
-    (next-run s (take i events) event old new r g)
+    (next-run s (take i events) event old new r same g)
 
 -- the end of the schedule
-pub ends-whole : (s : Setting) (events : List Event) (i : ℕ) (state : State) (o : Result Outcome Fault)
-    → Holds s → length events ≤ i → (r : HasRun s (take i events) state)
-    → IfOk o (λ x. (w : World) → IsAt s state w → TellsOf w x) → IfOk o (IsRunOf s events)
-ends-whole s events i state (Ok x) holds l r t =
+pub ends-whole : (s : Setting) (events : List Event) (i : ℕ) (r : Stand) (o : Result Outcome Fault)
+    → Holds s → length events ≤ i → (ran : HasRun s (take i events) r)
+    → IfOk o (λ x. (hs : List Happening) (w : World) → StandsAt r hs w → TellsOf w x)
+    → IfOk o (IsRunOf s events)
+ends-whole s events i r (Ok x) holds l ran t =
     subst (λ (es : List Event). IsRunOf s es x) (take_all i events l)
-    (whole-run s (take i events) state x holds r (t r.world r.now_at))
-ends-whole s events i state (Err n) holds l r t = tt
+    (whole-run s (take i events) r x holds ran (t ran.happenings ran.world ran.stands))
+ends-whole s events i r (Err n) holds l ran t = tt
 
 -- what it came to
 pub tells-of : (s : Setting) (state : State) (o : Outcome) (histories : List Told)

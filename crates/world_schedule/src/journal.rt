@@ -16,7 +16,7 @@ use std::alloc::Global;
 #[derive(Drop)]
 pub(crate) struct Journal {
     pub(crate) frames: Vec<SentFrame>,
-    answers: Vec<Option<Fault>>,
+    pub(crate) answers: Vec<Option<Fault>>,
     receipts: Vec<Accepted>,
 }
 

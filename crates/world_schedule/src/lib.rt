@@ -16,5 +16,5 @@ mod world;
 
 pub use event::{Event, Source};
 pub use outcome::{Accepted, History, Outcome, SentFrame};
-pub use running::run;
+pub use running::{Running, run};
 pub use world::World;

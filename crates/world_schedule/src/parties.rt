@@ -1,7 +1,7 @@
 //! The parties of a run.
 
 ghost use Rattle.std.specs.Prelude.{◌≡◌, ◌<◌, ℕ, List, [], ◌∷◌, ◌++◌, None, length, map, IsTrue, IfOk, OnOk};
-ghost use Rattle.std.specs.Prelude.{OnErr};
+ghost use Rattle.std.specs.Prelude.{OnErr, option_map, slice_get};
 ghost use Rattle.ids.specs.Sizes.{client_party, replicas};
 ghost use Rattle.definitions.specs.Keyrings.{is_party_of};
 ghost use Rattle.definitions.specs.Canonical.{is_canonical};
@@ -29,7 +29,7 @@ use crate::world::World;
 use crate::{client, replica_turn};
 use client_accept::Session;
 use ids::{ClientId, Fault, PartyId, ReplicaId};
-use replica::Input;
+use replica::{Archived, Input};
 
 /// All replicas and clients, also the faulty ones, which no event changes.
 #[derive(Drop)]
@@ -265,6 +265,23 @@ impl Parties {
                 Input::Ask(*to, *block),
             ),
         }
+    }
+
+    /// A replica.
+    pub(crate) fn replica(&self, number: ReplicaId) -> Option<&Archived>
+        ensures { option_map (λ r. r.now) result ≡ slice_get self.now.replicas.items number }
+    {
+        match self.replicas.get(usize::from(number.0)) {
+            Some(party) => Some(party.archived()),
+            None => None,
+        }
+    }
+
+    /// The session of a client.
+    pub(crate) fn session(&self, client: ClientId) -> Option<&Session>
+        ensures { option_map (λ s. s.now) result ≡ slice_get self.now.sessions.items client }
+    {
+        self.sessions.get(usize::from(client.0))
     }
 
     /// What the correct replicas executed, by their numbers.

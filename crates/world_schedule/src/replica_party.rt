@@ -66,6 +66,13 @@ impl ReplicaParty {
         self.replica.replica()
     }
 
+    /// The replica with its archive.
+    pub(crate) fn archived(&self) -> &Archived
+        ensures { result.now ≡ self.now }
+    {
+        &self.replica
+    }
+
     /// The replica itself.
     pub(crate) fn into_replica(self) -> Archived
         ensures { result ≡ self }

@@ -14,7 +14,10 @@ ghost use Rattle.world_schedule.specs.Schedules.{source_of, sources_of};
 ghost use Rattle.world_schedule.specs.Schedules.{IsRefusedFor};
 ghost use Rattle.world_schedule.specs.Outcomes.{shown_frame, shown_sent, TellsOf};
 ghost use Rattle.world_schedule.specs.Seats.{AreSeated, AreOf, Does};
-ghost use Rattle.world_schedule.specs.Progress.{IsAt, GoesOn, HasRun};
+ghost use Rattle.world_schedule.specs.Progress.{IsAt, GoesOn, StandsAt, Happened, IsReplicaOf, IsSessionOf};
+ghost use Rattle.ids.specs.Sizes.{replicas};
+ghost use Rattle.definitions.specs.Worlds.{Happening};
+ghost use Rattle.std.specs.Prelude.{Some, IsSome, IsOk, MatchOption, ◌<◌, reverse};
 ghost use Rattle.world_schedule.specs.Running.{IsRunOf};
 
 use crate::effect::Effect;
@@ -24,9 +27,12 @@ use crate::outcome::{Outcome, SentFrame};
 use crate::parties::Parties;
 use crate::sources::{are_there, is_there};
 use crate::world::{World, has_party};
+use client_accept::Session;
 use frames_view::read;
-use ids::{Config, Fault};
+use ids::{ClientId, Config, Fault, ReplicaId};
 use mc_lines::read_canonical;
+use replica::Archived;
+use std::marker::Model;
 
 /// Whether the party that an event names is there.
 fn names_party(config: &Config, event: &Event) -> bool
@@ -204,6 +210,129 @@ impl State {
     }
 }
 
+/// A run that goes on one event at a time: all parties of a world, and what was told so far.
+///
+/// The first refusal ends it: then it has no parties and frames any more, and each further call answers `Memory`.
+#[derive(Drop)]
+pub struct Running<'a> {
+    world: &'a World,
+    state: Option<State>,
+}
+
+impl<'a> Model for Running<'a> {
+    ghost use Rattle.std.specs.Prelude.{IfSome};
+    ghost use Rattle.world_schedule.specs.Progress.{Stand, HasCome};
+
+    ghost Value = { Stand };
+
+    ghost view = { λ r. record { setting = r.world.now; state = r.state } };
+
+    ghost invariant = { λ r. IfSome r.state (HasCome r.world.now) };
+}
+
+impl<'a> Running<'a> {
+    /// Nothing has happened yet.
+    pub fn new(world: &'a World) -> Result<Running<'a>, Fault>
+        ensures made { IfOk result (λ r. StandsAt r [] (start_of world.entry.now)) }
+        ensures setting { IfOk result (λ r. r.setting ≡ world.entry.now) }
+        ensures memory { OnErr result (result ≡ Err Fault.Memory) }
+    {
+        let state = State::new(world)?;
+        Ok(Running {
+            world,
+            state: Some(state),
+        })
+    }
+
+    /// Lets an event happen, or answers why it is refused, as `run` does.
+    pub fn happen(&mut self, event: &Event) -> Result<(), Fault>
+        ensures same { self.new.setting ≡ self.old.setting }
+        ensures goes { IsOk result → IsSome self.old.state }
+        ensures over { OnErr result (self.new.state ≡ None) }
+        ensures happened { (hs : List Happening) (w : worlds.World) → StandsAt self.old hs w
+            → MatchResult result (λ _. Happened self.old.setting hs w event.now self.new)
+            (λ n. (n ≡ Fault.Memory) ⊎ (refusal w (event_of [] event.now) ≡ Some n)) }
+    {
+        // For the proof: the world's keyrings are its parties'.
+        self.world.holds();
+        let Some(mut state) = self.state.take() else {
+            return Err(Fault::Memory);
+        };
+        if let Err(fault) = state.happen(self.world, event) {
+            return Err(fault);
+        }
+        self.state = Some(state);
+        Ok(())
+    }
+
+    /// The world that it is of.
+    pub fn world(&self) -> &'a World
+        ensures { result.now ≡ self.now.setting }
+    {
+        self.world
+    }
+
+    /// The record so far: what correct parties sent, in its order.
+    pub fn frames(&self) -> &[SentFrame]
+        ensures { (hs : List Happening) (w : worlds.World) → StandsAt self.now hs w
+            → map shown_frame result.now ≡ map shown_sent w.sent }
+    {
+        match &self.state {
+            Some(state) => state.journal.frames.as_slice(),
+            None => &[],
+        }
+    }
+
+    /// A replica as it stands now. That of a faulty party has done nothing.
+    pub fn replica(&self, number: ReplicaId) -> Option<&Archived>
+        ensures { (hs : List Happening) (w : worlds.World) → StandsAt self.now hs w
+            → number < replicas self.now.setting.sizes
+            → MatchOption result ⊥ (λ r. IsReplicaOf self.now.setting w number r.now) }
+    {
+        match &self.state {
+            Some(state) => state.parties.replica(number),
+            None => None,
+        }
+    }
+
+    /// The session of a client as it stands now.
+    pub fn session(&self, client: ClientId) -> Option<&Session>
+        ensures { (hs : List Happening) (w : worlds.World) → StandsAt self.now hs w
+            → client < self.now.setting.sizes.clients
+            → MatchOption result ⊥ (λ s. IsSessionOf self.now.setting w client s.now) }
+    {
+        match &self.state {
+            Some(state) => state.parties.session(client),
+            None => None,
+        }
+    }
+
+    /// What each event so far was answered: a refusal, or none.
+    pub fn answers(&self) -> &[Option<Fault>]
+        ensures { (hs : List Happening) (w : worlds.World) → StandsAt self.now hs w
+            → result.now ≡ reverse w.answers }
+    {
+        match &self.state {
+            Some(state) => state.journal.answers.as_slice(),
+            None => &[],
+        }
+    }
+
+    /// What it came to.
+    pub fn into_outcome(self) -> Result<Outcome, Fault>
+        ensures told { IfOk result
+            (λ o. (hs : List Happening) (w : worlds.World) → StandsAt self.entry hs w → TellsOf w o) }
+        ensures goes { IsOk result → IsSome self.entry.state }
+        ensures memory { OnErr result (result ≡ Err Fault.Memory) }
+    {
+        let Running { world, state } = self;
+        match state {
+            Some(state) => state.into_outcome(world),
+            None => Err(Fault::Memory),
+        }
+    }
+}
+
 /// Runs a schedule in a world whose parties have done nothing yet.
 ///
 /// The first event that names no party is refused with `NoSuchParty`, one that names no frame of
@@ -217,11 +346,11 @@ pub fn run(world: &World, events: &[Event]) -> Result<Outcome, Fault>
 {
     // For the proof: the world's keyrings are its parties'.
     world.holds();
-    let mut state = State::new(world)?;
+    let mut running = Running::new(world)?;
     for event in events {
-        if let Err(fault) = state.happen(world, event) {
+        if let Err(fault) = running.happen(event) {
             return Err(fault);
         }
     }
-    state.into_outcome(world)
+    running.into_outcome()
 }

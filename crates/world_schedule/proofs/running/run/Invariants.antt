@@ -3,4 +3,4 @@ use Rattle.world_schedule.specs.Progress.{HasRun}
 use Rattle.world_schedule.proofs.running.run.Given as goal
 
 abbrev pub invariant-loop-event : goal.invariant-loop-event
-invariant-loop-event l = HasRun l.world (take l.event-index l.events) l.state
+invariant-loop-event l = HasRun l.world (take l.event-index l.events) l.running
