@@ -46,6 +46,20 @@ impl Endpoint {
         }
     }
 
+    /// The sizes of its deployment.
+    pub fn config(&self) -> &Config
+        ensures { result.now ≡ self.now.sizes }
+    {
+        &self.config
+    }
+
+    /// Its number.
+    pub fn party(&self) -> PartyId
+        ensures { result ≡ self.now.party }
+    {
+        self.party
+    }
+
     /// The key of a dialler and an acceptor, where they have one.
     fn link_key(&self, dialler: PartyId, acceptor: PartyId) -> Option<[u8; 32]>
         ensures { result ≡ link_key self.now.keys dialler acceptor }

@@ -1,0 +1,32 @@
+//! Links between processes: frames over TCP.
+
+/// Milliseconds that a connection has for its handshake, in all; and for being made. Fewer: peers far away stay out.
+/// More: who says nothing holds a place longer.
+pub const HANDSHAKE_MILLIS: u64 = 2000;
+
+/// Milliseconds of nothing to send behind which a ping goes out. More: a silence is noticed later.
+pub const PING_MILLIS: u64 = 1000;
+
+/// Milliseconds in which nothing comes, not even a ping, behind which a connection ends. Fewer than a few pings: one
+/// that is alive ends. More: what goes to a peer that is gone is lost longer.
+pub const SILENCE_MILLIS: u64 = 5000;
+
+/// Milliseconds in which a write moves nothing, behind which a connection ends. Fewer: a peer that is slow for a moment
+/// loses what is under way.
+pub const STUCK_MILLIS: u64 = 2000;
+
+/// Milliseconds before a peer is dialled again, the first time; twice as many each further time.
+pub const REDIAL_MILLIS: u64 = 50;
+
+/// Milliseconds before a peer is dialled again, at most. More: one that came back is found later.
+pub const MOST_REDIAL_MILLIS: u64 = 2000;
+
+/// Milliseconds between two looks whether a full row has room again, and whether a handshake goes on.
+pub const ROOM_LOOK_MILLIS: u64 = 2;
+
+/// Bytes that are read from a socket, and written to one, at once. Fewer: more calls of the system.
+pub const WIRE_PIECE_BYTES: usize = 65_536;
+
+/// Connections of one named address, or of all strangers together, that may be at their handshakes. Fewer: a crowd
+/// drives out a peer of the same address. More: more sockets are held.
+pub const WIRE_PLACES: usize = 32;
