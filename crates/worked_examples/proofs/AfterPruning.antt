@@ -73,9 +73,9 @@ of_beginnings {A = A} P g x h (added, e) = by g h added e
     by (z ∷ l) h (y ∷ more) e = let t : more ++ x ≡ l = cc in by l h.1 more t
 
 -- the leader's lock is justified by the sixth block
-ground : ground_of world ≡ round6.branch
+ground_is : ground_of world ≡ round6.branch
 unfolding of_steps highest_locked correct_below
-ground = refl
+ground_is = refl
 
 -- more than one correct replica has it, and all below it
 kept_by : OfBeginnings (λ x. nat_lt 1 (correct_with world window x) ≡ true) round6.branch
@@ -90,7 +90,7 @@ well = record {
       ((λ e. refl), ((λ e. refl), ((λ e. refl), ((λ e. refl), ((λ e. refl), ((λ e. refl), ((λ e. refl), tt))))))) ((λ e. refl), tt) tt;
   held = λ r c x e l. inr (ltb-true 1 (correct_with world window x)
       (of_beginnings (λ y. nat_lt 1 (correct_with world window y) ≡ true) round6.branch x kept_by
-      (subst (λ (g : Branch). IsBeginning x g) ground e)));
+      (subst (λ (g : Branch). IsBeginning x g) ground_is e)));
 }
 
 -- ---- what healing asks
