@@ -1,4 +1,5 @@
-//! `hsim [FILE]` runs the schedule of a file, or of standard input, and prints what happened.
+//! `hsim [FILE]` runs the schedule of a file, or of standard input, and prints what happened. `hsim heal [FILE]` prints
+//! the schedule itself, with events behind it that bring each correct client that waits its receipt.
 //!
 //! Its exit status is 0; or 1 with one line on standard error, where the schedule has no outcome;
 //! or 2 for bad words on the command line.
@@ -7,7 +8,7 @@
 use clap::error::ErrorKind;
 use clap::{Arg, ArgMatches, Command, Error};
 use ids::Fault;
-use simulator::{SimFault, read_fault, simulate};
+use simulator::{SimFault, heal, read_fault, simulate};
 use std::alloc::Global;
 use std::hash::RandomState;
 use std::process::ExitCode;
@@ -37,6 +38,10 @@ An example: client 0 asks for a get, replica 0 proposes it, and replica 1 votes.
 /// What the words of a command line say.
 fn matches_of(alloc: Global, words: &[String]) -> Result<ArgMatches<'_>, Error> {
     let file = Arg::new(alloc, "FILE").help("The schedule; standard input where it is left out");
+    let healed = Arg::new(alloc, "FILE").help("The schedule; standard input where it is left out");
+    let heal = Command::new(alloc, "heal")
+        .about("Prints the schedule with events that bring each waiting correct client its receipt")
+        .arg(healed)?;
     let command = Command::new(alloc, "hsim")
         .bin_name("hsim")?
         .about(
@@ -44,14 +49,39 @@ fn matches_of(alloc: Global, words: &[String]) -> Result<ArgMatches<'_>, Error> 
         )
         .version("0.1.0")
         .after_help(SCHEDULES)
-        .arg(file)?;
+        .arg(file)?
+        .subcommand(heal)?;
     command.try_get_matches_from(words)
 }
 
-/// Runs the schedule of a file, or of standard input.
+/// What becomes of a schedule.
+#[derive(Clone, Copy)]
+enum Task {
+    /// It is run.
+    Run,
+    /// It is healed.
+    Heal,
+}
+
+/// Does it with the schedule that a reader gives.
+fn do_task<I: io::Read, O: io::Write>(
+    alloc: Global,
+    hasher: RandomState,
+    task: Task,
+    reader: &mut I,
+    writer: &mut O,
+) -> Result<(), SimFault> {
+    match task {
+        Task::Run => simulate(alloc, hasher, reader, writer),
+        Task::Heal => heal(alloc, hasher, reader, writer),
+    }
+}
+
+/// Does it with the schedule of a file, or of standard input.
 fn run<R: Files + Input + Print + AllocGlobal>(
     rt: &R,
     hasher: RandomState,
+    task: Task,
     file: Option<&str>,
 ) -> Result<(), SimFault> {
     let mut writer = io::writer(rt);
@@ -59,9 +89,9 @@ fn run<R: Files + Input + Print + AllocGlobal>(
         Some(path) => {
             let opened = fs::open(rt, path);
             let mut reader = opened.map_err(|error| read_fault(&error))?;
-            simulate(rt.alloc(), hasher, &mut reader, &mut writer)
+            do_task(rt.alloc(), hasher, task, &mut reader, &mut writer)
         }
-        None => simulate(rt.alloc(), hasher, &mut rt.reader(), &mut writer),
+        None => do_task(rt.alloc(), hasher, task, &mut rt.reader(), &mut writer),
     }
 }
 
@@ -88,8 +118,11 @@ fn main(rt: HostRuntime) -> io::Result<ExitCode> {
             return Ok(ExitCode::from(error.exit_code() as u8));
         }
     };
-    let file = matches.get_str("FILE");
-    match run(&rt, RandomState::new(&rt)?, file) {
+    let (task, file) = match matches.subcommand() {
+        Some((_, heal)) => (Task::Heal, heal.get_str("FILE")),
+        None => (Task::Run, matches.get_str("FILE")),
+    };
+    match run(&rt, RandomState::new(&rt)?, task, file) {
         Ok(()) => Ok(ExitCode::SUCCESS),
         Err(fault) => {
             tell(&rt, file, fault)?;

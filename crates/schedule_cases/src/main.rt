@@ -2,6 +2,7 @@
 //! that names its subject:
 //!
 //! - `#runs`: schedules that are run as `hsim` runs them (`runs.rt`).
+//! - `#heals`: schedules that are healed as `hsim heal` does (`heals.rt`).
 //! - `#judged`: schedules whose runs are judged here, also without memory (`judged.rt`).
 //! - `#audits`: replicas that are audited, and reasons that are checked (`audits.rt`).
 //!
@@ -9,6 +10,7 @@
 #![tactic(auto)]
 
 mod audits;
+mod heals;
 mod judged;
 mod runs;
 
@@ -20,6 +22,9 @@ use std::io::Read as _;
 fn tell_part(rt: &HostRuntime, hasher: RandomState, part: &[u8]) -> Result<()> {
     if let Some(cases) = part.strip_prefix(b"runs\n") {
         return runs::tell_all(rt, hasher, cases);
+    }
+    if let Some(cases) = part.strip_prefix(b"heals\n") {
+        return heals::tell_all(rt, hasher, cases);
     }
     if let Some(cases) = part.strip_prefix(b"judged\n") {
         return judged::judge_all(rt, hasher, cases);

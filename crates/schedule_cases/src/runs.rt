@@ -7,7 +7,7 @@
 //! the name, what is written of the run and, where there is no outcome, the line that `hsim` prints
 //! on standard error.
 
-mod cases;
+pub(crate) mod cases;
 mod failing;
 
 use crate::runs::cases::{Case, Trouble, parse};

@@ -1,6 +1,7 @@
 -- What is read and told, where the reader's bytes are known.
 use Rattle.std.proofs.Common.{◌≡◌, Option, Some, None, IfSome, Result, Ok, Err, OnOk, Vec, Global, ℕ}
-use Rattle.std.proofs.Common.{inl, inr, refl, subst}
+use Rattle.std.proofs.Common.{inl, inr, refl, subst, ◌++◌}
+use Rattle.std.specs.List.{flat_map}
 use Rattle.std.specs.Prelude.{IfOk, IfErr, MatchResult, List, is_ok}
 use Rattle.ids.specs.Sizes.{Sizes, AreSizes}
 use Rattle.definitions.specs.Keyrings.{Keys}
@@ -9,11 +10,15 @@ use Rattle.std.specs.Io.KnownBytes.{Appends}
 use Rattle.ids.specs.declared.fault.Fault as refusal
 use Rattle.definitions.specs.Bytes.{Bytes}
 use Rattle.world_schedule.specs.Running.{IsRunOf}
+use Rattle.world_schedule.specs.declared.event.Event.{Event}
 use Rattle.world_schedule.specs.declared.outcome.Outcome.{Outcome}
 use Rattle.simulator.specs.Faults.{IsWhyNot, IsWhyNoOutcome, IsWhyNoRun, IsWhyNoWorld}
 use Rattle.run_report.specs.Reports.{outcome_text}
 use Rattle.simulator.specs.Schedules.{IsTextOf}
+use Rattle.simulator.specs.Lines.{event_text}
+use Rattle.simulator.specs.Schedules.{ended}
 use Rattle.simulator.specs.Simulations.{sizes_of, setting_of, all_keys, IsWorldOf, IsTextOfRun, IsToldOf}
+use Rattle.simulator.specs.Simulations.{HasHealed, IsHealedFrom}
 use Rattle.simulator.specs.declared.lines.Heading.{Heading}
 use Rattle.simulator.specs.declared.schedule.Schedule.{Schedule}
 use Rattle.simulator.specs.declared.sim_fault.SimFault.{SimFault}
@@ -76,3 +81,22 @@ on_ok (Ok x) (Ok y) same q then = then q
 on_ok (Ok x) (Err e) same q then = tt
 on_ok (Err e) (Ok y) same q then = let no : ⊥ = cc (same) in absurd no
 on_ok (Err e) (Err d) same q then = tt
+
+-- a text with the lines of healing
+pub healed_told : (r : Result (Unit {0}) refusal.Fault) (s : Schedule) (added : List Event) (o : Outcome)
+    (old new : Bytes) → OnOk r (new ≡ old ++ flat_map (λ e. ended (event_text e)) added)
+    → IsRunOf (setting_of s.heading) (s.events.items ++ added) o → OnOk r (HasHealed s old new)
+healed_told (Ok x) s added o old new is ran = record { added = added; longer = is; outcome = o; ran = ran }
+healed_told (Err e) s added o old new is ran = tt
+
+pub healed_from : (known old new : Option Bytes) (input text : Bytes) (s : Schedule)
+    → IfSome known (λ xs. input ≡ xs) → IsTextOf s input → HasHealed s input text → Appends old new text
+    → IfSome known (IsHealedFrom old new)
+healed_from None old new input text s read is healed written = tt
+healed_from (Some xs) old new input text s read is healed written = record {
+  schedule = s;
+  read = rw (← read) is;
+  text = text;
+  healed = subst (λ (x : Bytes). HasHealed s x text) read healed;
+  written = written;
+}

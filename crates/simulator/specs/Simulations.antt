@@ -1,6 +1,6 @@
 -- What simulating a schedule tells.
 use Rattle.std.specs.Prelude.{◌≡◌, List, ◌++◌, map, Option, None}
-use Rattle.std.specs.List.{range_with_len}
+use Rattle.std.specs.List.{flat_map, range_with_len}
 use Rattle.std.specs.Io.KnownBytes.{Appends}
 use Rattle.ids.specs.declared.limits.TheConstants.{MOST_KEYS}
 use Rattle.ids.specs.Sizes.{Sizes, AreSizes, replicas, client_party}
@@ -9,9 +9,11 @@ use Rattle.definitions.specs.Keyrings.{Keys}
 use Rattle.simulated_keys.specs.Keys.{simulated_keys}
 use Rattle.world_schedule.specs.Settings.{Setting, why_not}
 use Rattle.world_schedule.specs.Running.{IsRunOf}
+use Rattle.world_schedule.specs.declared.event.Event.{Event}
 use Rattle.world_schedule.specs.declared.outcome.Outcome.{Outcome}
 use Rattle.run_report.specs.Reports.{outcome_text}
-use Rattle.simulator.specs.Schedules.{IsTextOf}
+use Rattle.simulator.specs.Lines.{event_text}
+use Rattle.simulator.specs.Schedules.{IsTextOf, ended}
 use Rattle.simulator.specs.declared.lines.Heading.{Heading}
 use Rattle.simulator.specs.declared.schedule.Schedule.{Schedule}
 
@@ -46,4 +48,19 @@ pub record IsToldOf (old new : Option Bytes) (input : Bytes) : Type 0 where
   pub read : IsTextOf schedule input
   pub text : Bytes
   pub told : IsTextOfRun schedule text
+  pub written : Appends old new text
+
+-- a schedule's text became longer by the lines of more events, and the run of all has an outcome
+pub record HasHealed (s : Schedule) (old new : Bytes) : Type 0 where
+  pub added : List Event
+  pub longer : new ≡ old ++ flat_map (λ e. ended (event_text e)) added
+  pub outcome : Outcome
+  pub ran : IsRunOf (setting_of s.heading) (s.events.items ++ added) outcome
+
+-- the input is a schedule, and its text with more events was appended to what was written before
+pub record IsHealedFrom (old new : Option Bytes) (input : Bytes) : Type 0 where
+  pub schedule : Schedule
+  pub read : IsTextOf schedule input
+  pub text : Bytes
+  pub healed : HasHealed schedule input text
   pub written : Appends old new text

@@ -2,12 +2,15 @@
 #![tactic(auto)]
 
 mod ground_lines;
+mod healing;
 mod lines;
 mod schedule;
 mod sim_fault;
 mod simulation;
 mod words;
+mod written;
 
+pub use healing::heal;
 pub use lines::Heading;
 pub use schedule::{Schedule, parse};
 pub use sim_fault::SimFault;

@@ -50,7 +50,7 @@ pub fn simulate<R: Read, W: Write>(
 }
 
 /// What a reader gives up to its end.
-fn read_all<R: Read>(alloc: Global, reader: &mut R) -> Result<Vec<u8>, Fault>
+pub(crate) fn read_all<R: Read>(alloc: Global, reader: &mut R) -> Result<Vec<u8>, Fault>
     ensures read { IfOk result (λ bytes. IfSome (R.remaining reader.old) (λ text. bytes.items ≡ text)) }
     ensures failed { OnErr result ((result ≡ Err Fault.Memory) ⊎ (result ≡ Err Fault.ReadFailed)) }
 {

@@ -1,0 +1,13 @@
+use Rattle.std.proofs.Common.{arith}
+use Rattle.world_schedule.proofs.Runs.{first-run, goes-further}
+use Rattle.healer.proofs.Courses.{begins}
+use Rattle.healer.proofs.healer.Healer.new.Goals as goal
+
+pub loop-event-init : goal.loop-event-init
+loop-event-init c = first-run _ _ c.in_ok-running.ensures.setting c.in_ok-running.ensures.made
+
+pub loop-event-preserved : goal.loop-event-preserved
+loop-event-preserved c =
+    let r = c.loop-event.invariant in
+    goes-further _ _ c.loop-event.event-index c.event-item.result c.event-item.result _ _ (omega arith)
+    c.event-item.is r c.happen.ensures.same (c.in_ok-happen.ensures.happened r.happenings r.world r.stands)

@@ -1,0 +1,73 @@
+//! All of it.
+
+ghost use Rattle.std.specs.Prelude.{◌≡◌, ◌++◌, IfOk};
+ghost use Rattle.world_schedule.specs.Running.{IsRunOf};
+
+use crate::blocks::{rounds, to_climb};
+use crate::fetching::fetch_all;
+use crate::healer::Healer;
+use crate::leading::{highest_locked, lead_with, lock_of, make_first, over_lock};
+use crate::requests::{ask_again, request_of};
+use crate::views::{come_to, view_to_come};
+use ids::{ClientId, Fault, ReplicaId};
+use std::alloc::Global;
+use world_schedule::{Event, Outcome, World};
+
+/// Frame k is a client's request. A replica of the highest lock brings all into a view that it leads. All get what
+/// justifies its lock. It leads from its lock, with that request alone, above all that was voted for; and three more
+/// blocks decide.
+fn agree_on(healer: &mut Healer<'_>, correct: &[ReplicaId], request: u64) -> Result<(), Fault>
+    ensures { healer.new.origin ≡ healer.old.origin }
+{
+    let leader = highest_locked(healer, correct);
+    let (over, height) = over_lock(healer, leader)?;
+    let lock = lock_of(healer, leader);
+    let view = view_to_come(healer, correct, leader)?;
+    come_to(healer, correct, view)?;
+    make_first(healer, correct, leader, height)?;
+    fetch_all(healer, correct, leader, &over, height)?;
+    lead_with(healer, request, leader, lock)?;
+    let count = to_climb(healer, correct, leader)?;
+    rounds(healer, correct, count, leader)
+}
+
+impl<'a> Healer<'a> {
+    /// Brings the client of a request its receipt: frame k of the record is that request.
+    pub fn heal(&mut self, request: u64) -> Result<(), Fault>
+        ensures { self.new.origin ≡ self.old.origin }
+    {
+        let correct = self.correct_replicas()?;
+        agree_on(self, &correct, request)?;
+        ask_again(self, &correct, request)
+    }
+
+    /// The same of a client, if it is correct and waits.
+    fn heal_client(&mut self, client: ClientId) -> Result<(), Fault>
+        ensures { self.new.origin ≡ self.old.origin }
+    {
+        match request_of(self, client) {
+            Some(request) => self.heal(request),
+            None => Ok(()),
+        }
+    }
+}
+
+/// What healing added to a schedule, and what the run of both came to.
+#[derive(Drop)]
+pub struct Healed {
+    /// The events behind those of the schedule.
+    pub events: Vec<Event>,
+    pub outcome: Outcome,
+}
+
+/// Runs a schedule, and brings each correct client that waits its receipt, one after the other.
+pub fn heal_all(alloc: Global, world: &World, schedule: &[Event]) -> Result<Healed, Fault>
+    ensures { IfOk result (λ h. IsRunOf world.now (schedule.now ++ h.events.items) h.outcome) }
+{
+    let mut healer = Healer::new(alloc, world, schedule)?;
+    for client in 0..world.config().clients() {
+        healer.heal_client(ClientId(client))?;
+    }
+    let (events, outcome) = healer.finish()?;
+    Ok(Healed { events, outcome })
+}
