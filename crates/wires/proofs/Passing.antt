@@ -80,3 +80,16 @@ module _ {A : Type 0} (takes : A → ℕ → Bytes → A → Type 0) (from : ℕ
     Passes-trans a b c (read ++ more.read) (before.held ++ more.read) after.held
         (Passes-more a b read before.held more.read q) more.passed,
   )
+
+  -- some came, and then more
+  pub ReceivesMore-trans : (a b c : A) (source mid rest : Option Bytes) (before between after : Holding)
+      → ReceivesMore takes from a b source mid before between → ReceivesMore takes from b c mid rest between after
+      → ReceivesMore takes from a c source rest before after
+  ReceivesMore-trans a b c source mid rest before between after p q = record {
+    read = p.read ++ q.read;
+    consumed = Consumes-trans source mid rest p.read q.read p.consumed q.consumed;
+    passed = subst (λ (l : Bytes). Passes takes from a c l after.held)
+        (append_assoc before.held p.read q.read)
+        (Passes-trans a b c ((before.held ++ p.read) ++ q.read) (between.held ++ q.read) after.held
+        (Passes-more a b (before.held ++ p.read) between.held q.read p.passed) q.passed);
+  }
