@@ -26,7 +26,12 @@ fn start_peer<'s, E, R, A>(
     rows: A,
 ) -> bool
 where
-    R: Wait + Clock + Sync + AllocGlobal + RandomSource + Net<Stream = TcpStream>,
+    R: Wait
+        + Clock
+        + Sync
+        + AllocGlobal
+        + RandomSource
+        + Net<Listener = TcpListener, Stream = TcpStream>,
     A: Arrivals + Send + Drop + 's,
 {
     let reader = scope.spawn(move || keep_reading(rt, wires, slot, rows));
@@ -43,7 +48,12 @@ fn start_all<'s, E, R, A>(
     rows: Vec<A>,
 ) -> bool
 where
-    R: Wait + Clock + Sync + AllocGlobal + RandomSource + Net<Stream = TcpStream>,
+    R: Wait
+        + Clock
+        + Sync
+        + AllocGlobal
+        + RandomSource
+        + Net<Listener = TcpListener, Stream = TcpStream>,
     A: Arrivals + Send + Drop + 's,
 {
     let mut all_started = true;
@@ -69,7 +79,13 @@ pub fn run<R, A>(
     rows: Vec<A>,
 ) -> Result<(), Fault>
 where
-    R: Threads + Wait + Clock + Sync + AllocGlobal + RandomSource + Net<Stream = TcpStream>,
+    R: Threads
+        + Wait
+        + Clock
+        + Sync
+        + AllocGlobal
+        + RandomSource
+        + Net<Listener = TcpListener, Stream = TcpStream>,
     A: Arrivals + Send + Drop,
     ensures { OnErr result (result ≡ Err Memory) }
 {
