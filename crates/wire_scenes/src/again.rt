@@ -25,7 +25,13 @@ const PART: u64 = 200;
 /// All send to all, and then the two end.
 fn first_lives<R>(rt: &R, staying: &[Station], leaving: &[Station]) -> Result<bool>
 where
-    R: Threads + Wait + Clock + Sync + AllocGlobal + RandomSource + Net<Stream = TcpStream>,
+    R: Threads
+        + Wait
+        + Clock
+        + Sync
+        + AllocGlobal
+        + RandomSource
+        + Net<Listener = TcpListener, Stream = TcpStream>,
 {
     thread::scope(thread::scope_env(), rt, |scope| {
         for station in leaving {
@@ -57,7 +63,13 @@ fn meanwhile<R: Wait + Clock + AllocGlobal>(rt: &R, staying: &[Station]) -> Resu
 /// The two are there again, and all send to all.
 fn second_lives<R>(rt: &R, staying: &[Station], coming: &[Station]) -> Result<bool>
 where
-    R: Threads + Wait + Clock + Sync + AllocGlobal + RandomSource + Net<Stream = TcpStream>,
+    R: Threads
+        + Wait
+        + Clock
+        + Sync
+        + AllocGlobal
+        + RandomSource
+        + Net<Listener = TcpListener, Stream = TcpStream>,
 {
     thread::scope(thread::scope_env(), rt, |scope| {
         for station in coming {

@@ -67,7 +67,7 @@ fn is_linked_so<R: Wait + Clock>(rt: &R, victim: &Station, linked: bool) -> bool
 /// What comes of asks that aren't right.
 fn false_asks<R>(rt: &R, villain: &Villain<'_, R>, victim: &Station) -> Result<()>
 where
-    R: Wait + Clock + AllocGlobal + Print + Net<Stream = TcpStream>,
+    R: Wait + Clock + AllocGlobal + Print + Net<Listener = TcpListener, Stream = TcpStream>,
 {
     println!(rt; "another's number: closed {}", villain.takes_a_number()?)?;
     let closed = villain.has_other_sizes()?;
@@ -82,7 +82,7 @@ where
 /// What comes of a handshake and a stream that are played again.
 fn old_words<R>(rt: &R, villain: &Villain<'_, R>, count: &Count) -> Result<()>
 where
-    R: Wait + Clock + AllocGlobal + Print + Net<Stream = TcpStream>,
+    R: Wait + Clock + AllocGlobal + Print + Net<Listener = TcpListener, Stream = TcpStream>,
 {
     let visit = villain.link()?;
     (&mut &visit.stream).write_all(&villain.frames(0, 3)?)?;
@@ -99,7 +99,7 @@ where
 /// What comes of streams that are none.
 fn false_streams<R>(rt: &R, villain: &Villain<'_, R>) -> Result<()>
 where
-    R: Wait + Clock + AllocGlobal + Print + Net<Stream = TcpStream>,
+    R: Wait + Clock + AllocGlobal + Print + Net<Listener = TcpListener, Stream = TcpStream>,
 {
     println!(rt;
         "a length that is none: closed {}",
@@ -115,7 +115,7 @@ where
 /// Whether a peer comes in behind a thousand connections that say nothing.
 fn crowds<R>(rt: &R, villain: &Villain<'_, R>) -> Result<()>
 where
-    R: Wait + Clock + AllocGlobal + Print + Net<Stream = TcpStream>,
+    R: Wait + Clock + AllocGlobal + Print + Net<Listener = TcpListener, Stream = TcpStream>,
 {
     let mut came = 0;
     for _ in 0..5 {
@@ -131,7 +131,7 @@ where
 /// What comes of more frames than there is room for.
 fn floods<R>(rt: &R, villain: &Villain<'_, R>, victim: &Station, count: &Count) -> Result<()>
 where
-    R: Wait + Clock + AllocGlobal + Print + Net<Stream = TcpStream>,
+    R: Wait + Clock + AllocGlobal + Print + Net<Listener = TcpListener, Stream = TcpStream>,
 {
     count.make_room(300);
     let visit = villain.link()?;
@@ -150,7 +150,7 @@ where
 /// What comes of a peer that never reads, for whom 35 MB wait.
 fn never_reads<R>(rt: &R, villain: &Villain<'_, R>, victim: &Station) -> Result<()>
 where
-    R: Wait + Clock + AllocGlobal + Print + Net<Stream = TcpStream>,
+    R: Wait + Clock + AllocGlobal + Print + Net<Listener = TcpListener, Stream = TcpStream>,
 {
     let visit = villain.link()?;
     let linked = is_linked_so(rt, victim, true);
@@ -169,7 +169,7 @@ where
 /// All that the villain does.
 fn besiege<R>(rt: &R, at: SocketAddr, victim: &Station) -> Result<()>
 where
-    R: Wait + Clock + AllocGlobal + Print + Net<Stream = TcpStream>,
+    R: Wait + Clock + AllocGlobal + Print + Net<Listener = TcpListener, Stream = TcpStream>,
 {
     let villain = Villain { rt, at };
     let count = victim.count(VILLAIN).context("no such peer")?;

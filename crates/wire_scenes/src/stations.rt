@@ -175,11 +175,18 @@ impl Station {
     /// Keeps its links until it is closed.
     pub(crate) fn run<R>(&self, rt: &R) -> Result<()>
     where
-        R: Threads + Wait + Clock + Sync + AllocGlobal + RandomSource + Net<Stream = TcpStream>,
+        R: Threads
+            + Wait
+            + Clock
+            + Sync
+            + AllocGlobal
+            + RandomSource
+            + Net<Listener = TcpListener, Stream = TcpStream>,
     {
         let mut rows = Vec::new(rt.alloc());
         for (count, from) in self.counts.iter().zip(self.peers.iter()) {
-            rows.push(Row { count, from: *from })?;
+            rows.reserve(1)?;
+            rows.push_reserved(Row { count, from: *from });
         }
         wires::run(rt, &self.wires, self.listener.as_ref(), rows)?;
         Ok(())
