@@ -1,0 +1,241 @@
+//! What there is of one peer: the frames that wait for it, and its connection.
+
+use crate::link::{Link, settle};
+use crate::pace::Pace;
+use bytes::Bytes;
+use handshake::Peer;
+use ids::PartyId;
+use outbox::{Outbox, Refusal};
+use std::alloc::Global;
+use std::net::{SocketAddr, TcpStream};
+use std::sync::{Arc, Condvar, Mutex, Wait};
+use std::time::{Clock, Duration};
+
+/// What one end of a link knows of the other before they meet.
+#[derive(Clone, Copy)]
+pub struct PeerTerms {
+    pub party: PartyId,
+    /// Where it is dialled, if it is this end that dials. Connections from there have places of their own at the door.
+    pub address: Option<SocketAddr>,
+    /// What the frames that wait for it may cost (`outbox`).
+    pub backlog: usize,
+    /// Whether frames wait for it while it is away. Where they don't, they are lost.
+    pub is_kept: bool,
+}
+
+/// What lies under a slot's lock.
+#[derive(Drop)]
+struct Inside {
+    outbox: Outbox,
+    link: Option<Arc<Link>>,
+    /// How many links there were.
+    links: u64,
+    is_over: bool,
+    /// Whether the writer sleeps, and nobody has rung for it since.
+    writer_sleeps: bool,
+}
+
+/// A place for one peer. Threads share it by reference: a reader, a writer, who sends, and who lets connections in.
+#[derive(Drop)]
+pub(crate) struct Slot {
+    terms: PeerTerms,
+    inside: Mutex<Inside>,
+    /// Rung where there is something to write, or to write to.
+    to_write: Condvar,
+    /// Rung where there is a connection to read.
+    to_read: Condvar,
+}
+
+impl Inside {
+    /// Whether the writer has something to do.
+    fn has_turn(&self) -> bool {
+        self.is_over || (self.link.is_some() && !self.outbox.is_empty())
+    }
+
+    /// The present link, if it is a later one than that.
+    fn later_link(&self, number: u64) -> Option<Arc<Link>> {
+        let link = self.link.as_ref()?;
+        if link.number <= number {
+            return None;
+        }
+        Arc::try_clone(link).ok()
+    }
+
+    /// Ends the present link, if there is one.
+    fn drop_link(&mut self) {
+        if let Some(link) = self.link.take() {
+            link.end();
+        }
+    }
+}
+
+impl Slot {
+    /// A place for this peer, who isn't there yet.
+    pub(crate) fn new(alloc: Global, terms: PeerTerms) -> Slot {
+        let mut outbox = Outbox::new(alloc, terms.backlog);
+        if !terms.is_kept {
+            outbox.close();
+        }
+        Slot {
+            terms,
+            inside: Mutex::new(Inside {
+                outbox,
+                link: None,
+                links: 0,
+                is_over: false,
+                writer_sleeps: false,
+            }),
+            to_write: Condvar::new(),
+            to_read: Condvar::new(),
+        }
+    }
+
+    /// What was known before.
+    pub(crate) fn terms(&self) -> &PeerTerms {
+        &self.terms
+    }
+
+    /// A frame waits for the peer, or is lost. It waits for nobody but those that use this slot just then.
+    pub(crate) fn put<R: Wait>(&self, rt: &R, frame: Bytes) -> Result<(), Refusal> {
+        let mut inside = self.inside.lock(rt);
+        inside.outbox.put(frame)?;
+        let wakes = inside.writer_sleeps && inside.link.is_some();
+        if wakes {
+            inside.writer_sleeps = false;
+        }
+        drop(inside);
+        if wakes {
+            self.to_write.notify_one();
+        }
+        Ok(())
+    }
+
+    /// How many frames for the peer were lost.
+    pub(crate) fn lost<R: Wait>(&self, rt: &R) -> u64 {
+        self.inside.lock(rt).outbox.lost()
+    }
+
+    /// Whether there is a connection.
+    pub(crate) fn is_linked<R: Wait>(&self, rt: &R) -> bool {
+        self.inside.lock(rt).link.is_some()
+    }
+
+    /// A handshake named this peer: the connection is its link now, and a former one ends. False where that can't be.
+    pub(crate) fn enter<R: Wait>(
+        &self,
+        rt: &R,
+        alloc: Global,
+        pace: &Pace,
+        peer: Peer,
+        stream: TcpStream,
+    ) -> bool {
+        if !settle(&stream, pace) {
+            return false;
+        }
+        let mut inside = self.inside.lock(rt);
+        let number = inside.links.saturating_add(1);
+        let Ok(link) = Arc::new(alloc, Link::new(number, peer, stream)) else {
+            return false;
+        };
+        if inside.is_over {
+            return false;
+        }
+        inside.drop_link();
+        inside.links = number;
+        inside.link = Some(link);
+        inside.outbox.reopen();
+        drop(inside);
+        self.ring();
+        true
+    }
+
+    /// A link has ended. Where it is the present one, there is none.
+    pub(crate) fn leave<R: Wait>(&self, rt: &R, link: &Link) {
+        link.end();
+        let mut inside = self.inside.lock(rt);
+        if inside.links != link.number {
+            return;
+        }
+        inside.drop_link();
+        if !self.terms.is_kept {
+            inside.outbox.close();
+        }
+    }
+
+    /// Both threads look again.
+    fn ring(&self) {
+        self.to_write.notify_all();
+        self.to_read.notify_all();
+    }
+
+    /// Ends the peer's threads, and its link.
+    pub(crate) fn close<R: Wait>(&self, rt: &R) {
+        let mut inside = self.inside.lock(rt);
+        inside.is_over = true;
+        inside.drop_link();
+        drop(inside);
+        self.ring();
+    }
+
+    /// Waits for a link that comes later than that one. None where it is told to end.
+    pub(crate) fn next_link<R: Wait>(&self, rt: &R, number: u64) -> Option<Arc<Link>> {
+        let mut inside = self.inside.lock(rt);
+        for _ in rt.forever() {
+            if inside.is_over {
+                break;
+            }
+            if let Some(link) = inside.later_link(number) {
+                return Some(link);
+            }
+            inside = self.to_read.wait(rt, inside);
+        }
+        None
+    }
+
+    /// Waits so long. False where it is told to end.
+    pub(crate) fn pause<R: Wait + Clock>(&self, rt: &R, pause: Duration) -> bool {
+        let inside = self.inside.lock(rt);
+        if inside.is_over {
+            return false;
+        }
+        if pause.is_zero() {
+            return true;
+        }
+        let (inside, _) = self.to_read.wait_timeout(rt, inside, pause);
+        !inside.is_over
+    }
+
+    /// Waits until there is a link and something to write: frames, which are put into the batch; or none where nothing
+    /// was written for so long, so that a ping is due. None where it is told to end.
+    pub(crate) fn next_turn<R: Wait + Clock>(
+        &self,
+        rt: &R,
+        ping: Duration,
+        most: usize,
+        batch: &mut Vec<Bytes>,
+    ) -> Option<Arc<Link>> {
+        let mut is_due = false;
+        let mut inside = self.inside.lock(rt);
+        for _ in rt.forever() {
+            if inside.is_over {
+                break;
+            }
+            if is_due || inside.has_turn() {
+                if let Some(link) = inside.later_link(0) {
+                    let _ = inside.outbox.take(most, batch);
+                    return Some(link);
+                }
+            }
+            inside.writer_sleeps = true;
+            if inside.link.is_some() {
+                let (woken, waited) = self.to_write.wait_timeout(rt, inside, ping);
+                inside = woken;
+                is_due = waited.timed_out();
+            } else {
+                inside = self.to_write.wait(rt, inside);
+            }
+            inside.writer_sleeps = false;
+        }
+        None
+    }
+}
