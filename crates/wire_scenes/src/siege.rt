@@ -117,11 +117,11 @@ fn crowds<R>(rt: &R, villain: &Villain<'_, R>) -> Result<()>
 where
     R: Wait + Clock + AllocGlobal + Print + Net<Listener = TcpListener, Stream = TcpStream>,
 {
-    let mut came = 0;
+    let mut came = 0u32;
     for _ in 0..5 {
         let _crowd = villain.crowd(200)?;
         if villain.link().is_ok() {
-            came += 1;
+            came = came.saturating_add(1);
         }
     }
     println!(rt; "a thousand connections: came in {came} of 5 times")?;
