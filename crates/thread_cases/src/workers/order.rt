@@ -102,7 +102,7 @@ fn voters_of<R: Wait + Clock>(
     let Some(inbox) = ends.replicas.first() else {
         bail!("no link of replica 0");
     };
-    let room = WaitingRoom::new(alloc, 1);
+    let room = WaitingRoom::new(alloc, keyring.config(), 1);
     let keyring = WorkerKeyring::new(keyring);
     let mut sender = Sender {
         out: Some(out),

@@ -79,7 +79,7 @@ fn make_station<'a>(
     Ok(Station {
         number,
         locked: Mutex::new(kept),
-        room: WaitingRoom::new(alloc, 2),
+        room: WaitingRoom::new(alloc, config, 2),
         shares: Mutex::new(shares),
     })
 }
