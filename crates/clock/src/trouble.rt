@@ -23,9 +23,6 @@ pub struct Trouble {
     lasts: u64,
 }
 
-/// The longest that it lasts, behind what was met last.
-const MOST_MILLIS: u64 = TROUBLE_MILLIS << MOST_DOUBLINGS;
-
 impl Trouble {
     /// None was met.
     pub fn none() -> Trouble
@@ -47,7 +44,8 @@ impl Trouble {
         if now < self.until {
             self.lasts
         } else if now - self.until < self.lasts {
-            self.lasts.saturating_mul(2).min(MOST_MILLIS)
+            let most = TROUBLE_MILLIS << MOST_DOUBLINGS;
+            self.lasts.saturating_mul(2).min(most)
         } else {
             TROUBLE_MILLIS
         }

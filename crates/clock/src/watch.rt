@@ -7,8 +7,8 @@ ghost use Rattle.clock.specs.Watching.{patience_of, pause_after, rests, served_a
 
 use ids::{Fault, Height, View};
 use tuning::{
-    COMMAND_SHARE, LAG_WEIGHT, LEAD_PART, LEAST_BEAT_MILLIS, LEAST_COMMAND_MILLIS, MOST_CLIMB,
-    MOST_COUNTED, MOST_UNDECIDED, VIEW_LIMIT,
+    COMMAND_SHARE, LAG_WEIGHT, LEAD_PART, LEAST_BEAT_MILLIS, LEAST_COMMAND_MILLIS, MOST_COUNTED,
+    MOST_DOUBLINGS, MOST_UNDECIDED, VIEW_LIMIT,
 };
 
 /// What is seen of a replica at one moment.
@@ -110,12 +110,12 @@ fn patience_of(replicas: u8) -> u64
     (replicas * replicas * replicas / COMMAND_SHARE).max(LEAST_COMMAND_MILLIS)
 }
 
-/// How many proposals a leader makes on one that has waited through such a pause: one for each of the least pauses in it,
-/// and no more than a view's leader may climb. So it climbs as fast as before while pauses grow.
-fn beats_after(pause: u64) -> u64
-    ensures { result ≡ beats_after pause }
+/// How many proposals a leader makes on one that has waited through the whole pause: twice as many after each view in vain,
+/// so that it comes above all that the leaders before it had voted for.
+fn beats_after(vain: u64) -> u64
+    ensures { result ≡ beats_after vain }
 {
-    (pause / LEAST_BEAT_MILLIS).min(MOST_CLIMB)
+    1 << vain.min(u64::from(MOST_DOUBLINGS))
 }
 
 /// How long a proposal may wait for votes from now on, where the replica has got on, or has waited so long.
@@ -248,15 +248,15 @@ impl Watch {
         !self.rests(pulse) && now.saturating_sub(self.asked) >= self.pause
     }
 
-    /// How many proposals it is to make: one where it wants to at once; where one has waited through the whole pause, so many
-    /// that the last may stand above all that others voted for.
-    fn beats(&self, overdue: bool, pulse: Pulse) -> u64
-        ensures { result ≡ beats_due self.now overdue pulse }
+    /// How many proposals it is to make after so many views in vain: one where it wants to at once, more where one is
+    /// overdue.
+    fn beats(&self, overdue: bool, vain: u64, pulse: Pulse) -> u64
+        ensures { result ≡ beats_due overdue vain pulse }
     {
         if pulse.wants_beat_now {
             1
         } else if overdue {
-            beats_after(self.pause)
+            beats_after(vain)
         } else {
             0
         }
@@ -316,7 +316,7 @@ impl Watch {
         let counts_anew = self.is_settled(pulse) || over;
         let stuck = !moved && self.lags(now, pulse);
         let lead = self.lead(now, limit, pulse, stuck);
-        let beats = self.beats(overdue, pulse);
+        let beats = self.beats(overdue, vain, pulse);
         *self = Watch {
             view: pulse.view,
             executed: pulse.executed,
