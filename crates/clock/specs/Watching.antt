@@ -3,7 +3,6 @@ use Rattle.std.specs.Prelude.{ℕ, ◌+◌, ◌*◌, ◌/◌, ◌-◌, ◌^◌, 
 use Rattle.std.specs.Prelude.{if◌then◌else◌, nat_lt, false, Option, Some, None}
 use Rattle.std.specs.Option.{option_or}
 use Rattle.tuning.specs.declared.clocks.TheConstants.{COMMAND_SHARE, LAG_WEIGHT, LEAD_PART, LEAST_BEAT_MILLIS}
-use Rattle.tuning.specs.declared.clients.TheConstants.{MOST_DOUBLINGS}
 use Rattle.tuning.specs.declared.clocks.TheConstants.{LEAST_COMMAND_MILLIS, MOST_COUNTED, MOST_UNDECIDED, VIEW_LIMIT}
 use Rattle.clock.specs.declared.watch.LeadFrom.{LeadFrom}
 use Rattle.clock.specs.declared.watch.LeadFrom.TheVariants.{Certified, Lock}
@@ -127,18 +126,10 @@ lead_where w now limit p is_stuck =
 abbrev pub lead_of : Watch → ℕ → Pulse → Option LeadFrom
 lead_of w now p = lead_where w now (limit_after w p) p (is_stuck w now p)
 
--- how many proposals a leader makes on one that is overdue: twice as many after each view in vain, up to so often
-abbrev pub beats_after : (vain : ℕ) → ℕ
-beats_after vain = 1 * 2 ^ min vain MOST_DOUBLINGS
-
--- how many are due: one where it wants to at once, and so many where one is overdue
-abbrev pub beats_due : (is_overdue : Bool) → (vain : ℕ) → Pulse → ℕ
-beats_due is_overdue vain p = if p.wants_beat_now then 1 else if is_overdue then beats_after vain else 0
-
 -- what is due
 abbrev pub due_of : Watch → ℕ → Pulse → Due
 due_of w now p = record {
-  beats = beats_due (is_overdue w now p) (vain_after w p) p;
+  beat = p.wants_beat_now || is_overdue w now p;
   timeout = if is_due w now p then Some p.view else None;
   lead = lead_of w now p;
 }

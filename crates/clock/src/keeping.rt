@@ -22,7 +22,7 @@ pub trait Watched {
     /// Is told whether there is trouble around it, and the view that it is in.
     fn tell_trouble(&self, is_on: bool, view: View);
 
-    /// Hands in beats, a timeout or a lead, or several of them.
+    /// Hands in a beat, a timeout or a lead, or several of them.
     fn hand_in<R: Wait>(&self, rt: &R, due: Due);
 
     /// Shows all replicas the height up to which it has executed, or that it goes on no more.

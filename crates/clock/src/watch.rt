@@ -1,14 +1,14 @@
 //! What is due to one replica.
 
 ghost use Rattle.std.specs.Prelude.{◌≡◌, ◌-◌, if◌then◌else◌};
-ghost use Rattle.clock.specs.Watching.{beats_after, beats_due, climbs, due_of, is_over, is_overdue, lags, lead_after, lead_where, limit_of};
+ghost use Rattle.clock.specs.Watching.{climbs, due_of, is_over, is_overdue, lags, lead_after, lead_where, limit_of};
 ghost use Rattle.clock.specs.Watching.{looked, most_undecided, moved, next_lead, settled, stuck_for};
 ghost use Rattle.clock.specs.Watching.{patience_of, pause_after, rests, served_after, slow_after, unseen, vain_after};
 
 use ids::{Fault, Height, View};
 use tuning::{
     COMMAND_SHARE, LAG_WEIGHT, LEAD_PART, LEAST_BEAT_MILLIS, LEAST_COMMAND_MILLIS, MOST_COUNTED,
-    MOST_DOUBLINGS, MOST_UNDECIDED, VIEW_LIMIT,
+    MOST_UNDECIDED, VIEW_LIMIT,
 };
 
 /// What is seen of a replica at one moment.
@@ -46,8 +46,8 @@ pub enum LeadFrom {
 /// What is due to a replica.
 #[derive(Clone, Copy, Debug, PartialEq, Eq)]
 pub struct Due {
-    /// Leave to make so many proposals.
-    pub beats: u64,
+    /// Leave to make a proposal.
+    pub beat: bool,
     /// A timeout of this view: it was slow for too long, or brought too much that was never decided.
     pub timeout: Option<View>,
     /// Leave to begin anew: what it proposes finds no certificate.
@@ -108,14 +108,6 @@ fn patience_of(replicas: u8) -> u64
 {
     let replicas = u64::from(replicas);
     (replicas * replicas * replicas / COMMAND_SHARE).max(LEAST_COMMAND_MILLIS)
-}
-
-/// How many proposals a leader makes on one that has waited through the whole pause: twice as many after each view in vain,
-/// so that it comes above all that the leaders before it had voted for.
-fn beats_after(vain: u64) -> u64
-    ensures { result ≡ beats_after vain }
-{
-    1 << vain.min(u64::from(MOST_DOUBLINGS))
 }
 
 /// How long a proposal may wait for votes from now on, where the replica has got on, or has waited so long.
@@ -248,20 +240,6 @@ impl Watch {
         !self.rests(pulse) && now.saturating_sub(self.asked) >= self.pause
     }
 
-    /// How many proposals it is to make after so many views in vain: one where it wants to at once, more where one is
-    /// overdue.
-    fn beats(&self, overdue: bool, vain: u64, pulse: Pulse) -> u64
-        ensures { result ≡ beats_due overdue vain pulse }
-    {
-        if pulse.wants_beat_now {
-            1
-        } else if overdue {
-            beats_after(vain)
-        } else {
-            0
-        }
-    }
-
     /// How much the time since it got stuck counts, by the weight of lagging.
     fn stuck_for(&self, now: u64) -> u64
         ensures { result ≡ stuck_for self.now now }
@@ -316,7 +294,6 @@ impl Watch {
         let counts_anew = self.is_settled(pulse) || over;
         let stuck = !moved && self.lags(now, pulse);
         let lead = self.lead(now, limit, pulse, stuck);
-        let beats = self.beats(overdue, vain, pulse);
         *self = Watch {
             view: pulse.view,
             executed: pulse.executed,
@@ -333,7 +310,7 @@ impl Watch {
             served: self.served_after(pulse),
         };
         Due {
-            beats,
+            beat: pulse.wants_beat_now || overdue,
             timeout: over.then_some(pulse.view),
             lead,
         }

@@ -161,7 +161,7 @@ impl<'s, 'a> Watched for Timed<'s, 'a> {
     }
 
     fn hand_in<R: Wait>(&self, rt: &R, due: Due) {
-        for _ in 0..due.beats {
+        if due.beat {
             let _ = self.links.beat(rt, self.station.number);
         }
         if let Some(view) = due.timeout {
