@@ -3,6 +3,7 @@
 ghost use Rattle.fabric.specs.Shares.{HasGrown};
 
 use crate::links::is_request;
+use crate::parcel::Base;
 use crate::questioned::Questioned;
 use crate::requests::{Again, Entry};
 use crate::worker::{OWN, Outgoing, Worker};
@@ -14,6 +15,9 @@ use signed_frames::Sending;
 use std::sync::Wait;
 use std::time::Clock;
 use turns::{Gate, Share, Steps};
+
+/// How many frames a replica sends to itself by one proposal of its own, and what comes of that, at most.
+const MOST_OWN: usize = 4;
 
 /// Whose request a frame is, and its number, if it is one.
 fn request_of(config: &Config, bytes: &Bytes) -> Option<(ClientId, Seq)> {
@@ -122,24 +126,56 @@ impl<'a, G: Gate, O: Outgoing + Questioned> Worker<'a, G, O> {
         }
     }
 
-    /// The replica is to begin anew as leader, from its lock, which has this digest, or from the block that its last
-    /// proposal certifies. It forgets by that what is pending.
+    /// The replica is to begin anew as leader, from its lock, or from the block that its last proposal certifies. It forgets
+    /// by that what is pending.
     pub(crate) fn lead<R: Wait + Clock, S: Steps>(
         &mut self,
         rt: &R,
         steps: &mut S,
         share: &mut Share,
-        lock: Option<Digest>,
+        base: Option<Base>,
     )
         ensures { HasGrown share.old share.new }
     {
+        let lock = base.map(|base| base.lock);
         let Some(block) = lock.or(self.blocks.certified()) else {
             return;
         };
         let now = self.out.millis(rt);
         let again = self.room.begin_trials(rt, lock.is_some(), now);
         self.step(rt, steps, share, Input::Lead(block));
+        self.climb(rt, steps, share, base.map_or(0, |base| base.climb));
         self.take_again(rt, steps, share, again);
+    }
+
+    /// Proposes so many empty blocks, one on the other. The same ones stand on a lock whoever leads from it, and however
+    /// often: so others' heights aren't filled by them.
+    fn climb<R: Wait + Clock, S: Steps>(
+        &mut self,
+        rt: &R,
+        steps: &mut S,
+        share: &mut Share,
+        climb: u64,
+    )
+        ensures { HasGrown share.old share.new }
+    {
+        for _ in 0..climb {
+            self.step(rt, steps, share, Input::Beat);
+            self.take_own(rt, steps, share);
+        }
+    }
+
+    /// Takes what the replica sent to itself: a proposal, and the vote for it.
+    fn take_own<R: Wait + Clock, S: Steps>(&mut self, rt: &R, steps: &mut S, share: &mut Share)
+        ensures { HasGrown share.old share.new }
+    {
+        for _ in 0..MOST_OWN {
+            self.own.link_had_its_turn();
+            let Some(bytes) = self.own.take() else {
+                break;
+            };
+            self.take(rt, steps, share, OWN, bytes);
+        }
     }
 
     /// Brings requests that were kept, and asks others for some.

@@ -21,8 +21,8 @@ use asking::Questions;
 use authenticators::ReplicaKeyring;
 use clock::{Due, Keep, LeadFrom, Pulse, Watched, keep_time};
 use doorkeeper::Doorkeeper;
-use fabric::{Inbox, Links, WaitingRoom, Worker};
-use ids::{Digest, Fault, Height, MOST_REPLICAS, ReplicaId, View};
+use fabric::{Base, Inbox, Links, WaitingRoom, Worker};
+use ids::{Fault, Height, MOST_REPLICAS, ReplicaId, View};
 use key_file::PairKeys;
 use liars::Lying;
 use locked_replica::Kept;
@@ -35,6 +35,7 @@ use std::sync::atomic::Ordering::SeqCst;
 use std::sync::atomic::{AtomicBool, AtomicU64};
 use std::sync::{Arc, Mutex, MutexGuard, Wait};
 use std::time::Clock;
+use tuning::{LEAD_CLIMB, MOST_CLIMB};
 use turns::Open;
 
 /// A replica under its lock, behind its doorkeeper, and where what is for it comes out.
@@ -125,11 +126,20 @@ struct Timed<'s, 'a> {
 }
 
 impl<'s, 'a> Timed<'s, 'a> {
-    /// The block from which the replica is to begin anew. None for the one that its last proposal certifies.
-    fn base<R: Wait>(&self, rt: &R, from: LeadFrom) -> Option<Digest> {
+    /// From where the replica is to begin anew: from its lock it climbs above all that it voted for, and further, since
+    /// others may have voted for more. None for the block that its last proposal certifies.
+    fn base<R: Wait>(&self, rt: &R, from: LeadFrom) -> Option<Base> {
         match from {
             LeadFrom::Certified => None,
-            LeadFrom::Lock => Some(self.station.locked.lock(rt).replica().lock()),
+            LeadFrom::Lock => {
+                let guarded = self.station.locked.lock(rt);
+                let replica = guarded.replica();
+                let above = replica.voted().0.saturating_sub(replica.lock_height().0);
+                Some(Base {
+                    lock: replica.lock(),
+                    climb: above.saturating_add(LEAD_CLIMB).min(MOST_CLIMB),
+                })
+            }
         }
     }
 }
@@ -170,8 +180,8 @@ impl<'s, 'a> Watched for Timed<'s, 'a> {
         }
         if let Some(from) = due.lead {
             self.station.trouble.raise();
-            let block = self.base(rt, from);
-            let _ = self.links.lead(rt, self.station.number, block);
+            let base = self.base(rt, from);
+            let _ = self.links.lead(rt, self.station.number, base);
         }
     }
 
