@@ -16,9 +16,6 @@ use std::sync::Wait;
 use std::time::Clock;
 use turns::{Gate, Share, Steps};
 
-/// How many frames a replica sends to itself by one proposal of its own, and what comes of that, at most.
-const MOST_OWN: usize = 4;
-
 /// Whose request a frame is, and its number, if it is one.
 fn request_of(config: &Config, bytes: &Bytes) -> Option<(ClientId, Seq)> {
     if !is_request(bytes.as_slice()) {
@@ -169,7 +166,7 @@ impl<'a, G: Gate, O: Outgoing + Questioned> Worker<'a, G, O> {
     fn take_own<R: Wait + Clock, S: Steps>(&mut self, rt: &R, steps: &mut S, share: &mut Share)
         ensures { HasGrown share.old share.new }
     {
-        for _ in 0..MOST_OWN {
+        for _ in rt.forever() {
             self.own.link_had_its_turn();
             let Some(bytes) = self.own.take() else {
                 break;
