@@ -479,8 +479,8 @@ impl Links {
         self.hand_in(rt, to, Parcel::Timeout(view))
     }
 
-    /// Gives a replica leave to begin anew as leader, from its lock, or from the block that its last proposal certifies.
-    pub fn lead<R: Wait>(&self, rt: &R, to: ReplicaId, base: Option<Base>) -> Result<(), Fault>
+    /// Gives a replica leave to begin anew as leader.
+    pub fn lead<R: Wait>(&self, rt: &R, to: ReplicaId, base: Base) -> Result<(), Fault>
         ensures { OnErr result ((result ≡ Err Fault.Memory) ⊎ (result ≡ Err Fault.NoSuchParty)) }
     {
         self.hand_in(rt, to, Parcel::Lead(base))

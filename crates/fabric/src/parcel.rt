@@ -14,10 +14,11 @@ pub(crate) fn frame_size(frame: &Bytes) -> usize
     frame.len() + PARCEL_SIZE
 }
 
-/// From where a leader begins anew: its lock, and how many empty blocks are to stand on that before a request does.
+/// From where a leader begins anew, and how many empty blocks are to stand on that before a request does.
 #[derive(Clone, Copy, Debug, PartialEq, Eq)]
 pub struct Base {
-    pub lock: Digest,
+    /// Its lock. None for the block that its last proposal certifies.
+    pub lock: Option<Digest>,
     pub climb: u64,
 }
 
@@ -40,8 +41,8 @@ pub enum Parcel {
     Beat,
     /// This view has lasted too long.
     Timeout(View),
-    /// Leave to begin anew as leader, from the lock, or from the block that its last proposal certifies.
-    Lead(Option<Base>),
+    /// Leave to begin anew as leader.
+    Lead(Base),
     /// Leave to prune the tree up to this height.
     Prune(u64),
     /// The worker that takes it ends.

@@ -130,22 +130,21 @@ impl<'a, G: Gate, O: Outgoing + Questioned> Worker<'a, G, O> {
         rt: &R,
         steps: &mut S,
         share: &mut Share,
-        base: Option<Base>,
+        base: Base,
     )
         ensures { HasGrown share.old share.new }
     {
-        let lock = base.map(|base| base.lock);
-        let Some(block) = lock.or(self.blocks.certified()) else {
+        let Some(block) = base.lock.or(self.blocks.certified()) else {
             return;
         };
         let now = self.out.millis(rt);
-        let again = self.room.begin_trials(rt, lock.is_some(), now);
+        let again = self.room.begin_trials(rt, base.lock.is_some(), now);
         self.step(rt, steps, share, Input::Lead(block));
-        self.climb(rt, steps, share, base.map_or(0, |base| base.climb));
+        self.climb(rt, steps, share, base.climb);
         self.take_again(rt, steps, share, again);
     }
 
-    /// Proposes so many empty blocks, one on the other. The same ones stand on a lock whoever leads from it, and however
+    /// Proposes so many empty blocks, one on the other. The same ones stand on a block whoever leads from it, and however
     /// often: so others' heights aren't filled by them.
     fn climb<R: Wait + Clock, S: Steps>(
         &mut self,

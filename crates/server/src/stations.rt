@@ -126,25 +126,23 @@ struct Timed<'s, 'a> {
 }
 
 impl<'s, 'a> Timed<'s, 'a> {
-    /// From where the replica is to begin anew: from its lock it climbs above all that it voted for, and further, since
-    /// others may have voted for more, as far as blocks of its view may. None for the block that its last proposal certifies.
-    fn base<R: Wait>(&self, rt: &R, from: LeadFrom) -> Option<Base> {
-        match from {
-            LeadFrom::Certified => None,
-            LeadFrom::Lock => {
-                let guarded = self.station.locked.lock(rt);
-                let replica = guarded.replica();
-                let above = replica.voted().0.saturating_sub(replica.lock_height().0);
-                let most = replica
-                    .view()
-                    .0
-                    .saturating_add(1)
-                    .saturating_mul(MOST_CLIMB);
-                Some(Base {
-                    lock: replica.lock(),
-                    climb: above.saturating_add(LEAD_CLIMB).min(most),
-                })
-            }
+    /// From where the replica is to begin anew. It climbs above all that it voted for, and further, since others may have voted
+    /// for more, as far as blocks of its view may.
+    fn base<R: Wait>(&self, rt: &R, from: LeadFrom) -> Base {
+        let guarded = self.station.locked.lock(rt);
+        let replica = guarded.replica();
+        let above = replica.voted().0.saturating_sub(replica.lock_height().0);
+        let most = replica
+            .view()
+            .0
+            .saturating_add(1)
+            .saturating_mul(MOST_CLIMB);
+        Base {
+            lock: match from {
+                LeadFrom::Certified => None,
+                LeadFrom::Lock => Some(replica.lock()),
+            },
+            climb: above.saturating_add(LEAD_CLIMB).min(most),
         }
     }
 }
